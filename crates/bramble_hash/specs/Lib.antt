@@ -1,0 +1,2 @@
+pub mod Blake2b
+pub mod Parts
