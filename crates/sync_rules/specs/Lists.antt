@@ -25,3 +25,17 @@ without id (x ∷ xs) = cond (same_id x id) (without id xs) (x ∷ without id xs
 pub record IsDepList (ids : List (List ℕ)) : Type 0 where
   pub few : length ids ≤ 255
   pub distinct : has_repeat ids ≡ false
+
+-- an id before a list, where it is not in the earlier ones
+abbrev pub unless_among : Bool → List ℕ → List (List ℕ) → List (List ℕ)
+unless_among true id rest = rest
+unless_among false id rest = id ∷ rest
+
+-- the ids that are not among the earlier ones, each once, in the order of their first places
+abbrev pub firsts_after : List (List ℕ) → List (List ℕ) → List (List ℕ)
+firsts_after earlier [] = []
+firsts_after earlier (id ∷ ids) = unless_among (is_among earlier id) id (firsts_after (id ∷ earlier) ids)
+
+-- the ids of a list, each once, in the order of their first places
+abbrev pub firsts : List (List ℕ) → List (List ℕ)
+firsts ids = firsts_after [] ids
