@@ -1,0 +1,17 @@
+//! The values of the Bramble Synchronisation Protocol: identifiers, the definition of a group,
+//! messages, and records as values within their limits.
+#![tactic(auto)]
+
+mod def;
+mod fixed;
+mod ids;
+mod lists;
+mod post;
+mod records;
+
+pub use def::{DefFault, GroupDef, MAX_DESCRIPTOR, MAX_NAME};
+pub use fixed::{Fixed, GroupId, MessageId, Nonce, NotHex};
+pub use ids::{group_id, message_id};
+pub use lists::{IdList, ListFault, MAX_VERSIONS, VersionList};
+pub use post::{MAX_BODY, MAX_TIMESTAMP, Message, MessageFault};
+pub use records::Record;

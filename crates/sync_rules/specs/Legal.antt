@@ -1,0 +1,108 @@
+-- Which batch may follow which journal, by the facts of the journal alone, and which journals are legal.
+use Rattle.std.specs.Prelude.{◌≡◌, ℕ, ◌<◌, ◌≤◌, Bool, true, false, not, ◌&&◌, ◌||◌, List, [], ◌∷◌, length, Option, Some, None, IsSome, is_some, is_none, IsTrue}
+use Rattle.std.specs.List.{list_all}
+use Rattle.sync_ids.specs.Values.{GroupValue, MessageValue}
+use Rattle.sync_ids.specs.Ids.{group_id_of, message_id_of}
+use Rattle.sync_ids.specs.Records.{IsRecord}
+use Rattle.sync_ids.specs.declared.records.Record.{Record}
+use Rattle.sync_rules.specs.declared.answers.Judgement.{Judgement}
+use Rattle.sync_rules.specs.declared.answers.Judgement.TheVariants as judgement
+use Rattle.sync_rules.specs.declared.entries.Entry.{Entry}
+use Rattle.sync_rules.specs.declared.entries.Entry.TheVariants as entry
+use Rattle.sync_rules.specs.declared.entries.Mode.{Mode}
+use Rattle.sync_rules.specs.declared.entries.Mode.TheVariants as mode_kind
+use Rattle.sync_rules.specs.declared.entries.Out.{Out}
+use Rattle.sync_rules.specs.declared.entries.Session.{Session}
+use Rattle.sync_rules.specs.Clients.{Meaning}
+use Rattle.sync_rules.specs.Facts.{Facts, Id, group_at, held_at, session_at, takes_of, after, after_all, nothing}
+use Rattle.sync_rules.specs.Steps.{IsSettled, next, verdict_in, kind_of_def, is_served}
+use Rattle.sync_rules.specs.Sessions.{taken, due}
+
+-- a nonce only in interactive mode
+abbrev pub suits_nonce : Mode → Option Id → Bool
+suits_nonce mode_kind.Interactive given = true
+suits_nonce mode_kind.Batch given = is_none given
+
+-- a session that may begin: it has the next number, its contact is known, its latency is at least 1, and it has a nonce
+-- only in interactive mode
+pub record MayBegin (f : Facts) (s : Session) : Type 0 where
+  pub numbered : s.number ≡ length f.sessions
+  pub known_contact : s.contact < f.contacts
+  pub some_latency : 1 ≤ s.latency
+  pub suited_nonce : suits_nonce s.mode s.nonce ≡ true
+
+-- the judgement is Accept, and each dependency is a delivered message of the group
+abbrev pub accepts_served : Facts → Id → Judgement → Bool
+accepts_served f group judgement.Refuse = false
+accepts_served f group (judgement.Accept deps share) = list_all (is_served f group) deps
+
+-- a message that may be written: its group is known, its id is not held, its client accepts it, and each dependency is a
+-- delivered message of the same group
+pub record MayAuthor (clients : Meaning) (f : Facts) (m : MessageValue) : Type 0 where
+  pub known_group : is_some (group_at f.groups m.group) ≡ true
+  pub new : is_some (held_at f.held (message_id_of m)) ≡ false
+  pub accepted : accepts_served f m.group (verdict_in clients f.groups m) ≡ true
+
+-- a group that may be added: its client is known, its id is new, and fewer than 1,024 groups are known
+pub record MayAddGroup (clients : Meaning) (f : Facts) (def : GroupValue) : Type 0 where
+  pub known_client : is_some (kind_of_def clients def) ≡ true
+  pub new : is_some (group_at f.groups (group_id_of def)) ≡ false
+  pub few : length f.groups < 1024
+
+-- what follows a Take: the session exists, the record has the session's next number, and the rest is what some record is
+-- taken as
+pub record MayTake (f : Facts) (session k : ℕ) (rest : List Entry) : Type 0 where
+  pub known_session : is_some (session_at f.sessions session) ≡ true
+  pub numbered : k ≡ takes_of f.takes session
+  pub read : Record
+  pub within : IsRecord read
+  pub taken_so : rest ≡ taken f session read
+
+-- each entry of a list is the next step after those before it
+abbrev pub IsSettling : Meaning → Facts → List Entry → Type 0
+IsSettling clients f [] = Unit {0}
+IsSettling clients f (e ∷ es) = (next clients f ≡ Some e) × IsSettling clients (after f e) es
+
+-- a settling batch: 1 to 256 entries, each the next step
+abbrev pub IsSettlingBatch : Meaning → Facts → List Entry → Type 0
+IsSettlingBatch clients f es = (1 ≤ length es) × (length es ≤ 256) × IsSettling clients f es
+
+-- what a session may send: exactly what is due on it
+abbrev pub IsDue : Meaning → Facts → Option Session → ℕ → Out → Type 0
+IsDue clients f None now what = ⊥
+IsDue clients f (Some s) now what = due clients f s now ≡ Some what
+
+-- the batches that may follow a journal of these facts. Before any batch but a settling one the journal is settled
+abbrev pub Allowed : Meaning → Facts → List Entry → Type 0
+Allowed clients f [] = ⊥
+Allowed clients f (entry.Contact c ∷ rest) = (rest ≡ []) × IsSettled clients f × (c ≡ f.contacts) × (c < 256)
+Allowed clients f (entry.Group def ∷ rest) = (rest ≡ []) × IsSettled clients f × MayAddGroup clients f def
+Allowed clients f (entry.Level c g l ∷ rest) =
+    (rest ≡ []) × IsSettled clients f × (c < f.contacts) × (is_some (group_at f.groups g) ≡ true)
+Allowed clients f (entry.Session s ∷ rest) = (rest ≡ []) × IsSettled clients f × MayBegin f s
+Allowed clients f (entry.Take s k ∷ rest) = IsSettled clients f × MayTake f s k rest
+Allowed clients f (entry.Author m ∷ rest) = (rest ≡ []) × IsSettled clients f × MayAuthor clients f m
+Allowed clients f (entry.Arrive s m ∷ rest) = ⊥
+Allowed clients f (entry.Judged id ∷ rest) = IsSettlingBatch clients f (entry.Judged id ∷ rest)
+Allowed clients f (entry.Deliver id ∷ rest) = IsSettlingBatch clients f (entry.Deliver id ∷ rest)
+Allowed clients f (entry.Invalid id ∷ rest) = IsSettlingBatch clients f (entry.Invalid id ∷ rest)
+Allowed clients f (entry.Again s id ∷ rest) = ⊥
+Allowed clients f (entry.Offered s id ∷ rest) = ⊥
+Allowed clients f (entry.Seen s id ∷ rest) = ⊥
+Allowed clients f (entry.Asked s id ∷ rest) = ⊥
+Allowed clients f (entry.Out s now what ∷ rest) =
+    (rest ≡ []) × IsSettled clients f × IsDue clients f (session_at f.sessions s) now what
+
+-- batches of which each is allowed after those before it
+abbrev pub GoesOn : Meaning → Facts → List (List Entry) → Type 0
+GoesOn clients f [] = Unit {0}
+GoesOn clients f (b ∷ bs) = Allowed clients f b × GoesOn clients (after_all f b) bs
+
+-- a legal journal
+abbrev pub Legal : Meaning → List (List Entry) → Type 0
+Legal clients journal = GoesOn clients nothing journal
+
+-- batches of settling alone
+abbrev pub AllSettling : Meaning → Facts → List (List Entry) → Type 0
+AllSettling clients f [] = Unit {0}
+AllSettling clients f (b ∷ bs) = IsSettlingBatch clients f b × AllSettling clients (after_all f b) bs

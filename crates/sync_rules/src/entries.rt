@@ -1,0 +1,138 @@
+//! The entries of a journal, and its batches.
+ghost use Rattle.std.specs.Prelude.{◌≡◌, ◌≤◌, ◌↔◌, [], length, IfOk, IsErr};
+
+use std::marker::Model;
+use sync_ids::{GroupDef, GroupId, IdList, Message, MessageId, Nonce};
+
+/// How far a contact sees a group (BSP, "Group visibility").
+#[derive(Clone, Copy, Debug, PartialEq, Eq)]
+pub enum Level {
+    /// Nothing is accepted from the contact and nothing is sent.
+    Invisible,
+    /// Messages are accepted from the contact and not sent to it.
+    Visible,
+    /// Messages are accepted and sent.
+    Shared,
+}
+
+/// How a session sends (BSP, "Sync modes").
+#[derive(Clone, Copy, Debug, PartialEq, Eq)]
+pub enum Mode {
+    /// Offers, and sends what was requested.
+    Interactive,
+    /// Sends without an offer.
+    Batch,
+}
+
+/// One use of one link with one contact. Sessions are numbered from 0 over the life of a store.
+#[derive(Clone, Copy, Debug, PartialEq, Eq)]
+pub struct Session {
+    /// The session's number.
+    pub number: u32,
+    /// The contact at the other end.
+    pub contact: u8,
+    /// How it sends.
+    pub mode: Mode,
+    /// The greatest expected time of one way, in milliseconds, at least 1.
+    pub latency: u32,
+    /// The nonce of an interactive session whose link was dialled.
+    pub nonce: Option<Nonce>,
+}
+
+/// What one output of a session is made of; it is committed before its bytes are sent.
+#[derive(Debug, Drop)]
+pub enum Out {
+    /// Acknowledges these messages.
+    Acks(IdList<1536>),
+    /// Requests these messages.
+    Requests(IdList<1536>),
+    /// Offers these messages.
+    Offers(IdList<1536>),
+    /// Sends this message.
+    Send(MessageId),
+}
+
+/// An entry of a journal.
+#[derive(Debug, Drop)]
+pub enum Entry {
+    /// A contact was added, with this number.
+    Contact(u8),
+    /// A group was added.
+    Group(GroupDef),
+    /// A group's level for a contact was set.
+    Level(u8, GroupId, Level),
+    /// A session began.
+    Session(Session),
+    /// On this session the record of this number, from 0, was taken.
+    Take(u32, u64),
+    /// A message was written on this device.
+    Author(Message),
+    /// A message arrived on this session.
+    Arrive(u32, Message),
+    /// A held message was judged by its client.
+    Judged(MessageId),
+    /// A message was handed to its client.
+    Deliver(MessageId),
+    /// A message is invalid.
+    Invalid(MessageId),
+    /// On this session a held message was sent or offered again.
+    Again(u32, MessageId),
+    /// On this session a message that is not held was offered.
+    Offered(u32, MessageId),
+    /// On this session a held message was acknowledged.
+    Seen(u32, MessageId),
+    /// On this session a held message was requested.
+    Asked(u32, MessageId),
+    /// On this session, at this time in milliseconds, this was sent.
+    Out(u32, u64, Out),
+}
+
+/// What is committed to a journal at once: a list of one or more entries. Contracts see that list.
+#[derive(Debug, Drop)]
+pub struct Batch {
+    entries: Vec<Entry>,
+}
+
+impl Model for Batch {
+    ghost use Rattle.std.specs.Prelude.{◌≤◌, List, length};
+    ghost use Rattle.sync_rules.specs.declared.entries.Entry.{Entry};
+
+    ghost Value = { List Entry };
+
+    ghost view = { λ b. b.entries.items };
+
+    ghost invariant = { λ b. 1 ≤ length b.entries.items };
+}
+
+/// A batch has at least one entry.
+#[derive(Clone, Copy, Debug, PartialEq, Eq)]
+pub struct EmptyBatch;
+
+impl Batch {
+    /// A batch of these entries. `EmptyBatch` comes exactly where there are none. It takes no memory.
+    pub fn new(entries: Vec<Entry>) -> Result<Batch, EmptyBatch>
+        ensures made { IfOk result (λ b. b ≡ entries.items) }
+        ensures empty { IsErr result ↔ (entries.items ≡ []) }
+    {
+        if entries.is_empty() {
+            return Err(EmptyBatch);
+        }
+        Ok(Batch { entries })
+    }
+
+    /// The entries.
+    pub fn entries(&self) -> &[Entry]
+        ensures value { result.now ≡ self.now }
+        ensures some { 1 ≤ length self.now }
+    {
+        self.entries.as_slice()
+    }
+
+    /// The entries, given back without taking memory.
+    pub fn into_entries(self) -> Vec<Entry>
+        ensures value { result.items ≡ self }
+        ensures some { 1 ≤ length self }
+    {
+        self.entries
+    }
+}

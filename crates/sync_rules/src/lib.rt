@@ -1,0 +1,12 @@
+//! The rules of a node of the Bramble Synchronisation Protocol over its journal: what an entry says,
+//! what a journal makes known, when a message may be delivered, what is sent, and which batch may
+//! follow which journal. The definitions stand in `specs/`, and their laws in the module `laws`.
+#![tactic(auto)]
+
+mod answers;
+mod entries;
+mod states;
+
+pub use answers::{Clients, DepFault, DepList, Judgement, MAX_DEPS};
+pub use entries::{Batch, EmptyBatch, Entry, Level, Mode, Out, Session};
+pub use states::{Fate, Origin, Refused};
