@@ -1,0 +1,31 @@
+use Rattle.std.proofs.Common.{◌≡◌, List, ℕ, length, take, drop, ◌+◌, ◌-◌, arith, refl, sym, ap, ◌∙◌, length-drop}
+use Rattle.std.proofs.lemmas.List.{length-take-le}
+use Rattle.record_grammar.specs.declared.front.Front.{Front}
+use Rattle.record_grammar.specs.Reading.{found_at, found_in, found_payload, front_in, kind_of}
+use Rattle.record_grammar.proofs.reading.read_one.Goals as goal
+
+pub record_of-requires-clause-decided : goal.record_of-requires-clause-decided
+record_of-requires-clause-decided c =
+    let len : ℕ = c.in-Whole.len in
+    let back = c.in-Whole.ensures.backed in
+    let width : 4 + len - 4 ≡ len = omega arith in
+    let long : length (take len (drop 4 c.args.bytes.now)) ≡ len = length-take-le len (drop 4 c.args.bytes.now) (omega (arith, back.fits, length-drop 4 c.args.bytes.now)) in
+    rw (width, long) back.decided
+
+pub returns-in-More : goal.returns-in-More
+unfolding found_in
+returns-in-More c = record { exact = ap (λ (f : Front). found_at f c.args.bytes.now) c.in-More.ensures.value }
+
+pub returns-in-Bad : goal.returns-in-Bad
+unfolding found_in
+returns-in-Bad c = record { exact = ap (λ (f : Front). found_at f c.args.bytes.now) c.in-Bad.ensures.value }
+
+pub returns-in-Whole : goal.returns-in-Whole
+unfolding found_in
+returns-in-Whole c =
+    let len : ℕ = c.in-Whole.len in
+    let t : ℕ = c.in-Whole.type_byte in
+    let width : 4 + len - 4 ≡ len = omega arith in
+    let e : found_payload (kind_of t) t (take (4 + len - 4) (drop 4 c.args.bytes.now)) ≡ found_at (front_in c.args.bytes.now) c.args.bytes.now =
+        rw width (ap (λ (f : Front). found_at f c.args.bytes.now) c.in-Whole.ensures.value) in
+    record { exact = rw (← e) c.record_of.ensures }
