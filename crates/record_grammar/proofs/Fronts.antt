@@ -3,7 +3,7 @@ use Rattle.std.proofs.Common.{◌≡◌, ◌≢◌, ◌⊎◌, inl, inr, ℕ, �
 use Rattle.std.specs.Prelude.{Option, Some, None, ◌==◌, nat_lt, if◌then◌else◌}
 use Rattle.std.proofs.lemmas.List.{length-take-le}
 use Rattle.std.proofs.lemmas.Bool.Decides.{nat_tests}
-use Rattle.record_grammar.specs.Reading.{Backs, HasWhole, decided_by, decided_header, decided_payload, front_in, kind_of, refused_for, refused_length, timestamp_in}
+use Rattle.record_grammar.specs.Reading.{Backs, HasWhole, decided_by, decided_header, decided_payload, decided_rest, front_in, kind_of, refused_for, refused_length, timestamp_in}
 use Rattle.record_grammar.specs.declared.front.Front.{Front}
 use Rattle.record_grammar.specs.declared.front.Front.TheVariants as front
 use Rattle.record_grammar.specs.declared.front.Kind.{Kind}
@@ -82,3 +82,15 @@ header_backs b t len whole = go (refused_length (kind_of t) len) refl (nat_lt (l
   go None e false f =
       let fits : len ≤ length (drop 4 b) = grind (arith, nat_tests) in
       whole_backs b t len (omega (arith, length-drop 4 b)) e
+
+-- the answer for any bytes
+pub front_backs : (b : List ℕ) → Backs b (front_in b)
+unfolding front_in
+front_backs [] = omega arith
+front_backs (v ∷ b) = go (v == 0) b where
+  go : (w : Bool) (b : List ℕ) → Backs (v ∷ b) (if w then decided_rest b else front.Bad reason.WrongVersion)
+  go false b = tt
+  go true [] = omega arith
+  go true (t ∷ []) = omega arith
+  go true (t ∷ h ∷ []) = omega arith
+  go true (t ∷ h ∷ l ∷ rest) = header_backs (v ∷ t ∷ h ∷ l ∷ rest) t (h * 256 + l) (omega arith)

@@ -1,2 +1,5 @@
+mod Complete
 mod Fronts
+mod TypeBytes
 mod Lists
+mod Sound

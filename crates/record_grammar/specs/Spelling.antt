@@ -3,6 +3,7 @@
 use Rattle.std.specs.Prelude.{◌≡◌, ℕ, ◌<◌, ◌≤◌, List, [], ◌∷◌, ◌++◌, length}
 use Rattle.std.specs.Int.{w16, w64, to_be_bytes}
 use Rattle.std.specs.List.{AllByRecursion, flat_map}
+use Rattle.sync_ids.specs.Values.{MessageValue}
 use Rattle.sync_ids.specs.Records.{IsRecord}
 use Rattle.sync_ids.specs.declared.records.Record.{Record}
 use Rattle.sync_ids.specs.declared.records.Record.TheVariants as record_kind
@@ -24,10 +25,14 @@ type_of (record_kind.Priority nonce) = 5
 abbrev pub joined : List (List ℕ) → List ℕ
 joined ids = flat_map (λ id. id) ids
 
--- what follows the header: ids; or a group's id, a time in eight bytes and a body; or version bytes; or a nonce
+-- what follows the header of a message: its group's id, its time in eight bytes and its body
+abbrev pub message_payload : MessageValue → List ℕ
+message_payload message = message.group ++ (to_be_bytes w64 message.timestamp ++ message.body)
+
+-- what follows the header: ids, or the parts of a message, or version bytes, or a nonce
 abbrev pub payload_of : Record → List ℕ
 payload_of (record_kind.Ack ids) = joined ids
-payload_of (record_kind.Message message) = message.group ++ (to_be_bytes w64 message.timestamp ++ message.body)
+payload_of (record_kind.Message message) = message_payload message
 payload_of (record_kind.Offer ids) = joined ids
 payload_of (record_kind.Request ids) = joined ids
 payload_of (record_kind.Versions versions) = versions
@@ -65,3 +70,7 @@ pub record Skips (type_byte : ℕ) (bytes : List ℕ) : Type 0 where
   pub other : 5 < type_byte
   pub short : length payload ≤ 49152
   pub is : bytes ≡ framed type_byte payload
+
+-- new is old with some bytes at its end
+abbrev pub AddsTo : List ℕ → List ℕ → Type 0
+AddsTo old new = (more : List ℕ) × (new ≡ old ++ more)

@@ -3,9 +3,13 @@
 #![tactic(auto)]
 
 mod front;
+mod laws;
 mod reading;
-
+mod writing;
 
 pub use front::{Front, Kind, MAX_PAYLOAD, Reason, front_of};
+pub use laws::{
+    decisions_stay, none_begins_another, skipped_read_back, spellings_are_exact,
+    spellings_read_back,
+};
 pub use reading::{Found, read_one};
-
