@@ -1,1 +1,2 @@
 mod Absorbing
+mod Apart

@@ -1,7 +1,7 @@
 // The digest of several parts.
 
 ghost use Rattle.std.specs.Prelude.{◌≡◌, ℕ, ◌+◌, ◌-◌, ◌^◌, ◌<◌, ◌++◌, List, [], ◌∷◌, length};
-ghost use Rattle.bramble_hash.specs.Parts.{HoldsParts, hash};
+ghost use Rattle.bramble_hash.specs.Parts.{HoldsParts, PreimagesDiffer, hash};
 
 use crate::hasher::Blake2b;
 use std::marker::Model;
@@ -51,3 +51,8 @@ impl Parts {
         self.hasher.finalize()
     }
 }
+
+/// No two lists of parts, each part below 2^32 bytes, have the same bytes hashed.
+pub fn parts_have_one_reading()
+    ensures { PreimagesDiffer }
+{}
