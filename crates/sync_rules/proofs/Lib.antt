@@ -4,3 +4,6 @@ pub mod StepLaws
 pub mod Sound
 pub mod Kept
 pub mod Runs
+pub mod Flags
+pub mod Coming
+pub mod Settling

@@ -5,3 +5,5 @@ pub mod Steps
 pub mod Rounds
 pub mod Sessions
 pub mod Legal
+pub mod Tests
+pub mod Laws
