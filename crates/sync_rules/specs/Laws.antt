@@ -91,3 +91,7 @@ pub record IsKeptBy (clients : Meaning) (f later : Facts) : Type 0 where
   pub good : (k : ℕ) (id : Id) → good (graph_of clients f) k id ≡ true → good (graph_of clients later) k id ≡ true
   pub bad : (k : ℕ) (id : Id) → bad (graph_of clients f) k id ≡ true → bad (graph_of clients later) k id ≡ true
   pub held : length f.held ≤ length later.held
+
+-- each held message of a journal shows its origin
+abbrev pub HasOwnOrigin : List (List Entry) → Type 0
+HasOwnOrigin journal = (id : Id) (h : Held) → held_at (facts journal).held id ≡ Some h → HasOrigin (entries_of journal) h

@@ -5,6 +5,7 @@
 
 mod answers;
 mod entries;
+pub mod laws;
 mod states;
 
 pub use answers::{Clients, DepFault, DepList, Judgement, MAX_DEPS};
