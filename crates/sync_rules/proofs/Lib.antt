@@ -7,3 +7,4 @@ pub mod Runs
 pub mod Flags
 pub mod Coming
 pub mod Settling
+pub mod ScanLaws

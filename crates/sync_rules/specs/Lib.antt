@@ -7,3 +7,4 @@ pub mod Sessions
 pub mod Legal
 pub mod Tests
 pub mod Laws
+pub mod Scans
