@@ -8,8 +8,10 @@ mod entries;
 pub mod laws;
 mod scans;
 mod states;
+mod steps;
 
 pub use answers::{Clients, DepFault, DepList, Judgement, MAX_DEPS};
 pub use entries::{Batch, EmptyBatch, Entry, Level, Mode, Out, Session};
 pub use scans::{fate_in, id_of, level_in};
 pub use states::{Fate, Origin, Refused};
+pub use steps::next_step_in;

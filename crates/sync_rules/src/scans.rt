@@ -46,8 +46,8 @@ fn entry_invalidates(entry: &Entry, id: &MessageId) -> bool
     }
 }
 
-/// The message that an entry brings.
-fn message_in(entry: &Entry) -> Option<&Message>
+// The message that an entry brings.
+pub(crate) fn message_in(entry: &Entry) -> Option<&Message>
     ensures { option_copied result ≡ message_of entry.now }
 {
     match entry {
@@ -234,21 +234,21 @@ fn last_level_over(j: &[Batch], contact: u8, group: &GroupId) -> Level
 // ---- the facts
 
 #[tactic(auto, using(crate::proofs::ScanLaws::judged_found))]
-fn is_judged_in(j: &[Batch], id: &MessageId) -> bool
+pub(crate) fn is_judged_in(j: &[Batch], id: &MessageId) -> bool
     ensures { result ≡ fin_set.contains (facts j.now).judged id.now }
 {
     any_judged(j, id)
 }
 
 #[tactic(auto, using(crate::proofs::ScanLaws::delivered_found))]
-fn is_delivered_in(j: &[Batch], id: &MessageId) -> bool
+pub(crate) fn is_delivered_in(j: &[Batch], id: &MessageId) -> bool
     ensures { result ≡ is_among (facts j.now).delivered id.now }
 {
     any_delivered(j, id)
 }
 
 #[tactic(auto, using(crate::proofs::ScanLaws::invalid_found))]
-fn is_invalid_in(j: &[Batch], id: &MessageId) -> bool
+pub(crate) fn is_invalid_in(j: &[Batch], id: &MessageId) -> bool
     ensures { result ≡ fin_set.contains (facts j.now).invalid id.now }
 {
     any_invalid(j, id)
@@ -256,7 +256,7 @@ fn is_invalid_in(j: &[Batch], id: &MessageId) -> bool
 
 // The first held message of this id.
 #[tactic(auto, using(crate::proofs::ScanLaws::held_found))]
-fn held_in<'a>(j: &'a [Batch], id: &MessageId) -> Option<&'a Message>
+pub(crate) fn held_in<'a>(j: &'a [Batch], id: &MessageId) -> Option<&'a Message>
     ensures { option_copied result ≡ message_at (held_at (facts j.now).held id.now) }
 {
     find_message_in(j, id)
@@ -264,7 +264,7 @@ fn held_in<'a>(j: &'a [Batch], id: &MessageId) -> Option<&'a Message>
 
 // The first known definition of this group id.
 #[tactic(auto, using(crate::proofs::ScanLaws::group_found))]
-fn group_in<'a>(j: &'a [Batch], id: &GroupId) -> Option<&'a GroupDef>
+pub(crate) fn group_in<'a>(j: &'a [Batch], id: &GroupId) -> Option<&'a GroupDef>
     ensures { option_copied result ≡ def_at (group_at (facts j.now).groups id.now) }
 {
     find_def_in(j, id)
