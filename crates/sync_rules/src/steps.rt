@@ -185,7 +185,6 @@ fn first_step_over<C: Clients>(
 
 /// The next step of a list of batches: that of the first held message, in order of arrival, that has one. `Ok(None)` comes
 /// exactly where the list is settled. It fails only for want of memory.
-#[tactic(auto, using(crate::proofs::ScanLaws::next_found))]
 pub fn next_step_in<C: Clients>(
     alloc: Global,
     j: &[Batch],
