@@ -8,3 +8,4 @@ pub mod Flags
 pub mod Coming
 pub mod Settling
 pub mod ScanLaws
+pub mod WorkLaws

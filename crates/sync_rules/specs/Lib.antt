@@ -8,3 +8,4 @@ pub mod Legal
 pub mod Tests
 pub mod Laws
 pub mod Scans
+pub mod Hearing
