@@ -9,3 +9,4 @@ pub mod Coming
 pub mod Settling
 pub mod ScanLaws
 pub mod WorkLaws
+pub mod HearLaws
