@@ -15,3 +15,6 @@ pub use ids::{group_id, message_id};
 pub use lists::{IdList, ListFault, MAX_VERSIONS, VersionList};
 pub use post::{MAX_BODY, MAX_TIMESTAMP, Message, MessageFault};
 pub use records::Record;
+
+#[cfg(test)]
+mod tests;

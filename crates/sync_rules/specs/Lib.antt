@@ -5,3 +5,7 @@ pub mod Steps
 pub mod Rounds
 pub mod Sessions
 pub mod Legal
+pub mod Tests
+pub mod Laws
+pub mod Scans
+pub mod Hearing

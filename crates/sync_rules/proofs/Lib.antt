@@ -1,0 +1,12 @@
+pub mod Tests
+pub mod RoundLaws
+pub mod StepLaws
+pub mod Sound
+pub mod Kept
+pub mod Runs
+pub mod Flags
+pub mod Coming
+pub mod Settling
+pub mod ScanLaws
+pub mod WorkLaws
+pub mod HearLaws
