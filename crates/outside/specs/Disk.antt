@@ -1,5 +1,5 @@
 -- What each call on a disk does to the two files.
-use Rattle.std.specs.Prelude.{◌≡◌, ◌⊎◌, ℕ, ◌+◌, ◌-◌, ◌≤◌, min, max, List, ◌∷◌, ◌++◌, length, take, drop, Option, None, Some, Result, Ok, Err}
+use Rattle.std.specs.Prelude.{◌≡◌, ◌⊎◌, ℕ, ◌+◌, ◌-◌, ◌≤◌, min, max, List, [], ◌∷◌, ◌++◌, length, take, drop, Option, None, Some, Result, Ok, Err}
 use Rattle.outside.specs.declared.failed.Failed.{Failed}
 use Rattle.outside.specs.Files.{Two, File, file_of, with_file, settled}
 
@@ -30,7 +30,7 @@ pub record IsTorn (at n : ℕ) (old new : List ℕ) : Type 0 where
 abbrev pub after_write : File → ℕ → ℕ → List ℕ → File
 after_write file at n bytes = record file {
   now = bytes;
-  written = record { at = at; size = n } ∷ file.written;
+  written = file.written ++ (at, n) ∷ [];
   greatest = max file.greatest (at + n);
 }
 

@@ -15,17 +15,12 @@ abbrev pub with_file : {A : Type 0} → Two A → ℕ → A → Two A
 with_file two zero a = record { first = a; second = two.second }
 with_file two (suc _) a = record { first = two.first; second = a }
 
--- some places in a row
-pub record Range : Type 0 where
-  pub at : ℕ
-  pub size : ℕ
-
 -- a file: its bytes as a read gives them, its bytes at its last successful sync, and since that sync the
--- ranges that were written and the least and the greatest length
+-- ranges that were written, each by its first place and its length, and the least and the greatest length
 pub record File : Type 0 where
   pub now : List ℕ
   pub synced : List ℕ
-  pub written : List Range
+  pub written : List (ℕ × ℕ)
   pub least : ℕ
   pub greatest : ℕ
 
@@ -33,10 +28,11 @@ pub record File : Type 0 where
 abbrev pub settled : List ℕ → File
 settled bytes = record { now = bytes; synced = bytes; written = []; least = length bytes; greatest = length bytes }
 
-abbrev pub is_within : Range → ℕ → Bool
-is_within range place = nat_le range.at place && nat_lt place (range.at + range.size)
+-- a place is in a range, or in some range of a list
+abbrev pub is_within : ℕ × ℕ → ℕ → Bool
+is_within range place = nat_le range.0 place && nat_lt place (range.0 + range.1)
 
-abbrev pub is_written : List Range → ℕ → Bool
+abbrev pub is_written : List (ℕ × ℕ) → ℕ → Bool
 is_written ranges place = list_any (λ range. is_within range place) ranges
 
 -- What a crash may leave of a file: the length is any from the least to the greatest; the places below the

@@ -7,3 +7,6 @@ pub mod Outside
 pub mod Disk
 pub mod Host
 pub mod Silent
+pub mod Images
+pub mod MemDisk
+pub mod MemTold
