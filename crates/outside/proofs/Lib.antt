@@ -1,0 +1,3 @@
+pub mod StreamSteps
+pub mod MemCalls
+pub mod MemSteps

@@ -1,0 +1,13 @@
+use Rattle.std.proofs.Common.{◌+◌, ◌-◌, ◌≤◌, ◌<◌, ◌^◌, ◌≡◌, vec_len}
+use Rattle.outside.specs.Input.{ReadsPart}
+use Rattle.outside.proofs.input.read_input.Given as goal
+
+abbrev pub invariant-pieces : goal.invariant-pieces
+invariant-pieces g l =
+    ReadsPart l.most (g.S.Source.left l.initial.input) (g.S.Source.left l.input) l.to.items
+    × (g.S.Source.source_faults l.initial.input ≤ g.S.Source.source_faults l.input)
+    × (l.most ≡ l.fn.limit)
+    × (l.fn.limit < 2 ^ 32)
+
+abbrev pub decreases-pieces : goal.decreases-pieces
+decreases-pieces g l = l.most + 1 - vec_len l.to

@@ -1,0 +1,26 @@
+-- Counts of faults: they never fall, and a call answers a failure only where its count rose.
+use Rattle.std.specs.Prelude.{◌≡◌, ℕ, ◌+◌, ◌-◌, ◌^◌, ◌≤◌, ◌==◌, min, List, Bool, false, Result, OnErr, MatchResult}
+use Rattle.std.specs.List.{list_any}
+
+-- a count after one more; a count of 64 bits stands still at its end
+abbrev pub one_more : ℕ → ℕ
+one_more n = min (n + 1) (2 ^ 64 - 1)
+
+-- the count rose, or stands at its end
+abbrev pub Rose : ℕ → ℕ → Type 0
+Rose before after = one_more before ≤ after
+
+-- the count did not fall, and rose where the call failed
+pub record HasCause {T E : Type 0} (before after : ℕ) (result : Result T E) : Type 0 where
+  pub later : before ≤ after
+  pub failed : OnErr result (Rose before after)
+
+-- a list of calls, by their numbers, has this one
+abbrev pub is_listed : List ℕ → ℕ → Bool
+is_listed calls call = list_any (λ c. c == call) calls
+
+-- the call failed exactly where the list has it or there was no memory for it, which the count `starved` tells
+abbrev pub FailsAsListed : {T E : Type 0} → List ℕ → ℕ → ℕ → ℕ → Result T E → Type 0
+FailsAsListed failing call starved starved' result =
+    MatchResult result (λ _. (is_listed failing call ≡ false) × (starved' ≡ starved))
+    (λ _. is_listed failing call ≡ false → Rose starved starved')

@@ -1,0 +1,12 @@
+pub mod Faults
+pub mod Streams
+pub mod Input
+pub mod Files
+pub mod Links
+pub mod Outside
+pub mod Disk
+pub mod Host
+pub mod Silent
+pub mod Images
+pub mod MemDisk
+pub mod MemTold

@@ -1,0 +1,147 @@
+-- A disk in memory as the list of all calls that changed it, from the two files at its begin on.
+use Rattle.std.specs.Prelude.{◌≡◌, ◌⊎◌, ℕ, ◌-◌, ◌≤◌, min, true, false, List, [], ◌∷◌, ◌++◌, length, take, replicate, Option, Result, MatchResult}
+use Rattle.std.specs.Option.{option_to_list}
+use Rattle.outside.specs.declared.call.Call.{Call}
+use Rattle.outside.specs.declared.call.Call.TheVariants as code
+use Rattle.outside.specs.Faults.{one_more, is_listed}
+use Rattle.outside.specs.Files.{Two, File, file_of, with_file, settled}
+use Rattle.outside.specs.Disk.{after_write, after_cut, overwritten}
+use Rattle.outside.specs.Links.{Link, with_sent}
+
+-- a call that changed something: a write or a cut of a file, one that failed, a sync, a dial, bytes sent on a link
+pub data Change : Type 0 where
+  wrote : ℕ → ℕ → List ℕ → Change
+  wrote_not : ℕ → ℕ → List ℕ → Change
+  cut : ℕ → ℕ → Change
+  cut_not : ℕ → ℕ → Change
+  synced : ℕ → Change
+  dialled : List ℕ → Change
+  sent : ℕ → List ℕ → Change
+
+abbrev pub change_of : Call → Change
+change_of (code.Wrote file at bytes) = wrote file at bytes.items
+change_of (code.WroteNot file at bytes) = wrote_not file at bytes.items
+change_of (code.Cut file len) = cut file len
+change_of (code.CutNot file len) = cut_not file len
+change_of (code.Synced file) = synced file
+change_of (code.Dialled spec) = dialled spec.items
+change_of (code.Sent link bytes) = sent link bytes.items
+
+abbrev pub two_of : {A : Type 0} → A → A → Two A
+two_of a b = record { first = a; second = b }
+
+-- a file of a disk in memory, with what it would be had all its writes and cuts since the last sync been made, the failed ones too
+pub record Kept : Type 0 where
+  pub file : File
+  pub whole : List ℕ
+
+abbrev pub kept : List ℕ → Kept
+kept bytes = record { file = settled bytes; whole = bytes }
+
+-- bytes over the bytes from a place on, with zeros up to that place where the list ends before it
+abbrev pub padded : List ℕ → ℕ → List ℕ
+padded old at = old ++ replicate (at - length old) 0
+
+abbrev pub put : List ℕ → ℕ → List ℕ → List ℕ
+put old at bytes = overwritten (padded old at) at bytes
+
+-- No write begins past the end.
+abbrev pub after_wrote : Kept → ℕ → List ℕ → Kept
+after_wrote k at bytes =
+    let a = min at (length k.file.now) in
+    record { file = after_write k.file a (length bytes) (overwritten k.file.now a bytes); whole = put k.whole a bytes }
+
+abbrev pub after_wrote_not : Kept → ℕ → List ℕ → Kept
+after_wrote_not k at bytes =
+    let a = min at (length k.file.now) in
+    record { file = after_write k.file a (length bytes) k.file.now; whole = put k.whole a bytes }
+
+abbrev pub changed : Two Kept → Change → Two Kept
+changed two (wrote file at bytes) = with_file two file (after_wrote (file_of two file) at bytes)
+changed two (wrote_not file at bytes) = with_file two file (after_wrote_not (file_of two file) at bytes)
+changed two (cut file n) =
+    let k = file_of two file in
+    with_file two file (record { file = after_cut k.file n (take n k.file.now); whole = take n k.whole })
+changed two (cut_not file n) =
+    let k = file_of two file in
+    with_file two file (record { file = after_cut k.file n k.file.now; whole = take n k.whole })
+changed two (synced file) = with_file two file (kept (file_of two file).file.now)
+changed two (dialled _) = two
+changed two (sent _ _) = two
+
+-- both files after these calls
+abbrev pub kept_after : Two Kept → List Change → Two Kept
+kept_after two [] = two
+kept_after two (c ∷ calls) = kept_after (changed two c) calls
+
+abbrev pub both_kept : Two (List ℕ) → Two Kept
+both_kept start = record { first = kept start.first; second = kept start.second }
+
+abbrev pub files_of : Two Kept → Two File
+files_of two = record { first = two.first.file; second = two.second.file }
+
+-- as a read gives them
+abbrev pub bytes_of : Two Kept → Two (List ℕ)
+bytes_of two = record { first = two.first.file.now; second = two.second.file.now }
+
+-- the links after these calls
+abbrev pub link_changed : List Link → Change → List Link
+link_changed links (wrote _ _ _) = links
+link_changed links (wrote_not _ _ _) = links
+link_changed links (cut _ _) = links
+link_changed links (cut_not _ _) = links
+link_changed links (synced _) = links
+link_changed links (dialled spec) = links ++ record { spec = spec; sent = [] } ∷ []
+link_changed links (sent link bytes) = with_sent link bytes links
+
+abbrev pub links_after : List Link → List Change → List Link
+links_after links [] = links
+links_after links (c ∷ calls) = links_after (link_changed links c) calls
+
+-- A disk in memory: its files at the begin, what changed them since, how many calls of a disk were made, which are to
+-- fail, how many failed, and how many of these for want of memory.
+pub record MemDiskValue : Type 0 where
+  pub start : Two (List ℕ)
+  pub calls : List Change
+  pub made : ℕ
+  pub failing : List ℕ
+  pub faults : ℕ
+  pub starved : ℕ
+
+-- both files now
+abbrev pub disk_files : MemDiskValue → Two Kept
+disk_files disk = kept_after (both_kept disk.start) disk.calls
+
+-- what stays at every call of a disk, and that it counts
+pub record Counts (old new : MemDiskValue) : Type 0 where
+  pub start : new.start ≡ old.start
+  pub failing : new.failing ≡ old.failing
+  pub made : new.made ≡ one_more old.made
+
+-- a call that is not to fail and was made, with this change
+pub record WasMade (fine : Option Change) (old new : MemDiskValue) : Type 0 where
+  pub unlisted : is_listed old.failing old.made ≡ false
+  pub calls : new.calls ≡ old.calls ++ option_to_list fine
+  pub starved : new.starved ≡ old.starved
+  pub faults : new.faults ≡ old.faults
+
+-- a call that failed as the list says, and stands among the changes as it does then
+pub record FailedAsListed (failed : Option Change) (old new : MemDiskValue) : Type 0 where
+  pub listed : is_listed old.failing old.made ≡ true
+  pub calls : new.calls ≡ old.calls ++ option_to_list failed
+  pub starved : new.starved ≡ old.starved
+
+-- a call that found no memory
+pub record Starved (old new : MemDiskValue) : Type 0 where
+  pub calls : new.calls ≡ old.calls
+  pub starved : new.starved ≡ one_more old.starved
+
+pub record HasFailed (failed : Option Change) (old new : MemDiskValue) : Type 0 where
+  pub faults : new.faults ≡ one_more old.faults
+  pub later : old.faults ≤ new.faults
+  pub outcome : FailedAsListed failed old new ⊎ Starved old new
+
+-- a call that makes the one change at Ok and the other at a failure
+pub record Makes {T E : Type 0} (fine failed : Option Change) (result : Result T E) (old new : MemDiskValue) : Type 0 where
+  pub counts : Counts old new
+  pub outcome : MatchResult result (λ _. WasMade fine old new) (λ _. HasFailed failed old new)

@@ -1,0 +1,31 @@
+//! The outside of a node as traits: a disk, a host with links, a source and a sink; and objects in
+//! memory that meet them.
+#![tactic(auto)]
+
+mod call;
+mod counts;
+mod disk;
+mod failed;
+mod host;
+mod input;
+mod mem_disk;
+mod mem_sink;
+mod mem_source;
+mod output;
+mod stream;
+
+pub use call::Call;
+pub use disk::{Disk, Place};
+pub use failed::Failed;
+pub use host::{Heard, Host};
+pub use input::{InputFault, read_input};
+pub use mem_disk::MemDisk;
+pub use mem_sink::MemSink;
+pub use mem_source::MemSource;
+pub use output::write_all;
+pub use stream::{Sink, Source};
+
+#[cfg(test)]
+mod silent_tests;
+#[cfg(test)]
+mod stream_tests;
