@@ -34,7 +34,7 @@ parts_at : (bytes : List ℕ) (m : MessageValue) (rest : List ℕ) → length m.
 parts_at bytes m rest whole e =
     let behind_header : drop 4 bytes ≡ m.group ++ (to_be_bytes w64 m.timestamp ++ (m.body ++ rest)) = ap (drop 4) e in
     let behind_group : drop 32 (drop 4 bytes) ≡ to_be_bytes w64 m.timestamp ++ (m.body ++ rest) =
-        ap (drop 32) behind_header ∙ drop_first 32 m.group _ whole in
+    ap (drop 32) behind_header ∙ drop_first 32 m.group _ whole in
     record {
       header = ap (take 4) e;
       group = ap (take 32) behind_header ∙ take_first 32 m.group _ whole;
@@ -59,7 +59,7 @@ same_length a b a_few b_few e =
     let a_fits : 40 + a < 2 ^ 16 = omega arith in
     let b_fits : 40 + b < 2 ^ 16 = omega arith in
     let sums : 40 + a ≡ 40 + b =
-        sym (from_be_bytes-to_be_bytes_2 (40 + a) a_fits) ∙ ap (from_be_bytes w16) bytes ∙ from_be_bytes-to_be_bytes_2 (40 + b) b_fits in
+    sym (from_be_bytes-to_be_bytes_2 (40 + a) a_fits) ∙ ap (from_be_bytes w16) bytes ∙ from_be_bytes-to_be_bytes_2 (40 + b) b_fits in
     omega arith
 
 -- the time that a record's eight bytes tell is its message's
@@ -103,15 +103,15 @@ pub front_of : (bytes time : List ℕ) (m : MessageValue) (len : ℕ) → IsMess
 front_of bytes time m len h header group time_is stamp body body_len = record {
   message = h;
   joined =
-    let rest = drop (44 + length m.body) bytes in
-    let d1 = drop 4 bytes in
-    let d2 = drop 32 d1 in
-    let d3 = drop 8 d2 in
-    let behind : rest ≡ drop (length m.body) d3 = dropped (length m.body) bytes in
-    let body_whole : m.body ++ rest ≡ d3 = rest_joined m.body rest (length m.body) d3 (subst (λ n. m.body ≡ take n d3) (sym body_len) body) behind in
-    let time_whole : to_be_bytes w64 m.timestamp ++ (m.body ++ rest) ≡ d2 = rest_joined _ _ 8 d2 (stamp ∙ time_is) body_whole in
-    let group_whole : m.group ++ (to_be_bytes w64 m.timestamp ++ (m.body ++ rest)) ≡ d1 = rest_joined _ _ 32 d1 group time_whole in
-    let head : 0 ∷ 1 ∷ to_be_bytes w16 (40 + length m.body) ≡ take 4 bytes =
-        subst (λ n. 0 ∷ 1 ∷ to_be_bytes w16 (40 + n) ≡ take 4 bytes) (sym body_len) (sym header) in
-    sym (spelled m rest ∙ rest_joined _ _ 4 bytes head group_whole);
+      let rest = drop (44 + length m.body) bytes in
+      let d1 = drop 4 bytes in
+      let d2 = drop 32 d1 in
+      let d3 = drop 8 d2 in
+      let behind : rest ≡ drop (length m.body) d3 = dropped (length m.body) bytes in
+      let body_whole : m.body ++ rest ≡ d3 = rest_joined m.body rest (length m.body) d3 (subst (λ n. m.body ≡ take n d3) (sym body_len) body) behind in
+      let time_whole : to_be_bytes w64 m.timestamp ++ (m.body ++ rest) ≡ d2 = rest_joined _ _ 8 d2 (stamp ∙ time_is) body_whole in
+      let group_whole : m.group ++ (to_be_bytes w64 m.timestamp ++ (m.body ++ rest)) ≡ d1 = rest_joined _ _ 32 d1 group time_whole in
+      let head : 0 ∷ 1 ∷ to_be_bytes w16 (40 + length m.body) ≡ take 4 bytes =
+      subst (λ n. 0 ∷ 1 ∷ to_be_bytes w16 (40 + n) ≡ take 4 bytes) (sym body_len) (sym header) in
+      sym (spelled m rest ∙ rest_joined _ _ 4 bytes head group_whole);
 }

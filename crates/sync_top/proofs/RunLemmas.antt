@@ -25,7 +25,7 @@ printed_first : (verdict : MessageValue → Judgement) (group bytes text : List 
     IsPrinted verdict group bytes text place → IsPrinted verdict group (take limit (bytes ++ byte ∷ [])) text place
 printed_first verdict group bytes text place byte full printed =
     let first : take limit (bytes ++ byte ∷ []) ≡ bytes =
-        subst (λ n. take n (bytes ++ byte ∷ []) ≡ bytes) full (take-append_seam bytes (byte ∷ [])) in
+    subst (λ n. take n (bytes ++ byte ∷ []) ≡ bytes) full (take-append_seam bytes (byte ∷ [])) in
     subst (λ (bs : List ℕ). IsPrinted verdict group bs text place) (sym first) printed
 
 pub tries_of : (read : Result (Unit {0}) InputFault) (verdict : MessageValue → Judgement) (group : List ℕ) (input out : Flow)

@@ -12,6 +12,7 @@ pub gets_of : {T E : Type 0} (result : Result T E) (flow : Flow) (text : List â„
     HasCause flow.faults flow.faults' result â†’ Gets flow text
 gets_of (Ok x) flow text ok err cause =
     (record { got = text; rest = []; front = sym (append-nil text); appended = ok }, inl ok)
-gets_of (Err e) flow text ok err cause =
-    (record { got = take err.count text; rest = drop err.count text; front = sym (take-append-drop err.count text); appended = err.appended },
-     inr cause.failed)
+gets_of (Err e) flow text ok err cause = (
+  record { got = take err.count text; rest = drop err.count text; front = sym (take-append-drop err.count text); appended = err.appended },
+  inr cause.failed,
+)

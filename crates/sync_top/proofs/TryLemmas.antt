@@ -90,10 +90,10 @@ printing_more verdict group bytes place place' keys keys' text text' m printing 
     let so_far = printing.messages in
     let is = is_fresh group keys m in
     let pushed : fresh group [] (so_far ++ m ∷ []) ≡ fresh group [] so_far ++ (if is then m ∷ [] else []) =
-        fresh_push group [] so_far m ∙ ap (λ l. fresh group [] so_far ++ if_fresh group l m) (sym printing.keys_are) in
+    fresh_push group [] so_far m ∙ ap (λ l. fresh group [] so_far ++ if_fresh group l m) (sym printing.keys_are) in
     let long : 44 + length m.body ≤ length (drop place bytes) = front_long _ _ _ front in
     let behind : drop (44 + length m.body) (drop place bytes) ≡ drop place' bytes =
-        drop-drop (44 + length m.body) place bytes ∙ ap (λ n. drop n bytes) (sym place_is) in
+    drop-drop (44 + length m.body) place bytes ∙ ap (λ n. drop n bytes) (sym place_is) in
     record {
       messages = so_far ++ m ∷ [];
       messages_fit = All-push IsMessage so_far m printing.messages_fit front.message;

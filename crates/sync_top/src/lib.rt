@@ -1,11 +1,14 @@
-//! The commands of a Bramble Sync node: what they read, what they print, and their status.
+//! The commands of a node: what they read, what they print, and their status.
 #![tactic(auto)]
 
-pub mod front;
-pub mod lines;
-pub mod printed;
-pub mod run;
-pub mod status;
-pub mod text;
-pub mod try_command;
-pub mod words;
+mod front;
+mod lines;
+mod printed;
+mod program;
+mod status;
+mod text;
+mod try_command;
+mod words;
+
+pub use program::{report, run};
+pub use status::{Outcome, Status};

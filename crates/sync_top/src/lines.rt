@@ -26,9 +26,7 @@ pub fn add_line(
     len: usize,
     text: &mut String,
 ) -> Result<(), AllocError>
-    ensures {
-        OnOk result (string_bytes text.new ≡ string_bytes text.old ++ line_of_parts word.now id.now timestamp len)
-    }
+    ensures { OnOk result (string_bytes text.new ≡ string_bytes text.old ++ line_of_parts word.now id.now timestamp len) }
 {
     let id = id.to_hex(alloc)?;
     writeln!(text, "{word} {id} {timestamp} {len}")

@@ -28,9 +28,7 @@ pub fn print_messages<C: Clients>(
     group: &GroupId,
     bytes: &[u8],
 ) -> Result<Printed, AllocError>
-    ensures {
-        IfOk result (λ p. IsPrinted ((C.meaning clients.now).verdict kind) group.now bytes.now (string_bytes p.text) p.place)
-    }
+    ensures { IfOk result (λ p. IsPrinted ((C.meaning clients.now).verdict kind) group.now bytes.now (string_bytes p.text) p.place) }
 {
     let mut seen = IndexSet::new(alloc);
     let mut text = String::new(alloc);
@@ -54,9 +52,7 @@ fn print_front<C: Clients>(
 ) -> Result<(), AllocError>
     requires { IsMessage (message_of front.now) }
     ensures seen { OnOk result (seen.new.keys ≡ ids_after group.now seen.old.keys (message_of front.now)) }
-    ensures text {
-        OnOk result (string_bytes text.new ≡ text_after ((C.meaning clients.now).verdict kind) group.now seen.old.keys (string_bytes text.old) (message_of front.now))
-    }
+    ensures text { OnOk result (string_bytes text.new ≡ text_after ((C.meaning clients.now).verdict kind) group.now seen.old.keys (string_bytes text.old) (message_of front.now)) }
 {
     if front.group != *group {
         return Ok(());

@@ -27,12 +27,10 @@ pub fn try_group<S: Source, W: Sink, C: Clients>(
     requires some_name { 1 ≤ length name.now }
     requires short_name { length name.now ≤ 255 }
     requires short_descriptor { length descriptor.now ≤ 16384 }
-    ensures {
-        TriesClient (C.meaning clients.now) name.now descriptor.now ((C.meaning clients.now).kind_of name.now 0)
-            (record { before = S.left input.old; after = S.left input.new; faults = S.source_faults input.old; faults' = S.source_faults input.new })
-            (record { before = W.written out.old; after = W.written out.new; faults = W.sink_faults out.old; faults' = W.sink_faults out.new })
-            result
-    }
+    ensures { TriesClient (C.meaning clients.now) name.now descriptor.now ((C.meaning clients.now).kind_of name.now 0)
+        (record { before = S.left input.old; after = S.left input.new; faults = S.source_faults input.old; faults' = S.source_faults input.new })
+        (record { before = W.written out.old; after = W.written out.new; faults = W.sink_faults out.old; faults' = W.sink_faults out.new })
+        result }
 {
     let Some(kind) = clients.kind_of(name, 0) else {
         return Outcome::UnknownClient;
@@ -48,9 +46,7 @@ fn group_of(alloc: Global, name: &str, descriptor: &str) -> Result<GroupId, Allo
     requires some_name { 1 ≤ length name.now }
     requires short_name { length name.now ≤ 255 }
     requires short_descriptor { length descriptor.now ≤ 16384 }
-    ensures {
-        IfOk result (λ id. id ≡ group_id_of (record { name = name.now; major = 0; descriptor = descriptor.now }))
-    }
+    ensures { IfOk result (λ id. id ≡ group_id_of (record { name = name.now; major = 0; descriptor = descriptor.now })) }
 {
     let name = String::from_str(alloc, name)?;
     let descriptor = descriptor.as_bytes().to_vec(alloc)?;
@@ -69,12 +65,10 @@ fn try_input<S: Source, W: Sink, C: Clients>(
     out: &mut W,
     clients: &C,
 ) -> Outcome
-    ensures {
-        Tries ((C.meaning clients.now).verdict kind) group.now
-            (record { before = S.left input.old; after = S.left input.new; faults = S.source_faults input.old; faults' = S.source_faults input.new })
-            (record { before = W.written out.old; after = W.written out.new; faults = W.sink_faults out.old; faults' = W.sink_faults out.new })
-            result
-    }
+    ensures { Tries ((C.meaning clients.now).verdict kind) group.now
+        (record { before = S.left input.old; after = S.left input.new; faults = S.source_faults input.old; faults' = S.source_faults input.new })
+        (record { before = W.written out.old; after = W.written out.new; faults = W.sink_faults out.old; faults' = W.sink_faults out.new })
+        result }
 {
     let mut bytes = Vec::new(alloc);
     let read = read_input(input, LIMIT, &mut bytes);
@@ -95,11 +89,9 @@ fn print<W: Sink>(
     len: usize,
     out: &mut W,
 ) -> Outcome
-    ensures {
-        PrintEnds read (string_bytes printed.now.text) printed.now.place len
-            (record { before = W.written out.old; after = W.written out.new; faults = W.sink_faults out.old; faults' = W.sink_faults out.new })
-            result
-    }
+    ensures { PrintEnds read (string_bytes printed.now.text) printed.now.place len
+        (record { before = W.written out.old; after = W.written out.new; faults = W.sink_faults out.old; faults' = W.sink_faults out.new })
+        result }
 {
     match read {
         Err(InputFault::Memory) => Outcome::Memory,

@@ -25,7 +25,10 @@ fn read_name(words: &[String]) -> Words<'_>
     ensures { asked_of result ≡ asked_name (texts words.now) }
 {
     match words {
-        [name, words @ ..] if (1..=255).contains(&name.len()) => read_descriptor(name.as_str(), words),
+        [name, words @ ..] if (1..=255).contains(&name.len()) => read_descriptor(
+            name.as_str(),
+            words,
+        ),
         _ => Words::Usage(1),
     }
 }

@@ -17,21 +17,20 @@ use sync_rules::Clients;
 pub fn run<H: Host, S: Source, W: Sink, E: Sink, C: Clients>(
     alloc: Global,
     words: &[String],
-    _host: &mut H,
+    host: &mut H,
     input: &mut S,
     out: &mut W,
     err: &mut E,
     clients: &C,
 ) -> Status
-    ensures ran {
-        Ran (C.meaning clients.now) (asked (texts words.now))
-            (record { before = S.left input.old; after = S.left input.new; faults = S.source_faults input.old; faults' = S.source_faults input.new })
-            (record { before = W.written out.old; after = W.written out.new; faults = W.sink_faults out.old; faults' = W.sink_faults out.new })
-            (record { before = E.written err.old; after = E.written err.new; faults = E.sink_faults err.old; faults' = E.sink_faults err.new })
-            result
-    }
-    ensures host { _host.new ≡ _host.old }
+    ensures ran { Ran (C.meaning clients.now) (asked (texts words.now))
+        (record { before = S.left input.old; after = S.left input.new; faults = S.source_faults input.old; faults' = S.source_faults input.new })
+        (record { before = W.written out.old; after = W.written out.new; faults = W.sink_faults out.old; faults' = W.sink_faults out.new })
+        (record { before = E.written err.old; after = E.written err.new; faults = E.sink_faults err.old; faults' = E.sink_faults err.new })
+        result }
+    ensures host { host.new ≡ host.old }
 {
+    let _ = host;
     let outcome = command(alloc, words, input, out, clients);
     report(alloc, outcome, err)
 }
@@ -44,12 +43,10 @@ fn command<S: Source, W: Sink, C: Clients>(
     out: &mut W,
     clients: &C,
 ) -> Outcome
-    ensures {
-        Comes (C.meaning clients.now) (asked (texts words.now))
-            (record { before = S.left input.old; after = S.left input.new; faults = S.source_faults input.old; faults' = S.source_faults input.new })
-            (record { before = W.written out.old; after = W.written out.new; faults = W.sink_faults out.old; faults' = W.sink_faults out.new })
-            result
-    }
+    ensures { Comes (C.meaning clients.now) (asked (texts words.now))
+        (record { before = S.left input.old; after = S.left input.new; faults = S.source_faults input.old; faults' = S.source_faults input.new })
+        (record { before = W.written out.old; after = W.written out.new; faults = W.sink_faults out.old; faults' = W.sink_faults out.new })
+        result }
 {
     match read_words(words) {
         Words::Usage(place) => Outcome::Usage(place),
@@ -57,13 +54,11 @@ fn command<S: Source, W: Sink, C: Clients>(
     }
 }
 
-// Writes the line of an outcome.
-fn report<E: Sink>(alloc: Global, outcome: Outcome, err: &mut E) -> Status
-    ensures {
-        Reports outcome
-            (record { before = E.written err.old; after = E.written err.new; faults = E.sink_faults err.old; faults' = E.sink_faults err.new })
-            result
-    }
+/// Writes the line of an outcome, and says its status: `Memory` where memory is wanting for the line.
+pub fn report<E: Sink>(alloc: Global, outcome: Outcome, err: &mut E) -> Status
+    ensures { Reports outcome
+        (record { before = E.written err.old; after = E.written err.new; faults = E.sink_faults err.old; faults' = E.sink_faults err.new })
+        result }
 {
     match outcome.line(alloc) {
         Ok(line) => {
