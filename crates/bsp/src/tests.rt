@@ -1,0 +1,242 @@
+// The command `try` through `run`. Expected ids are those of an independent program.
+ghost use Rattle.std.specs.Prelude.{◌<◌, ◌≤◌, length};
+
+use crate::file_host::FileHost;
+use crate::note::Bundle;
+use outside::{MemSink, MemSource};
+use std::alloc::{AllocError, Global};
+use std::process::Abort;
+use std::test::Fail;
+use sync_ids::{Fixed, GroupId, MAX_BODY};
+use sync_top::{Status, run};
+
+const GROUP: &str = "76ff4980d3b5f63962cee45401b6b1bb92efe989c27de4629aac92b18163e6e0";
+
+const OTHER: &str = "f18047a15b1b3a1f78be0e024a5c97a470d496106a97e648913359802f573b26";
+
+const EMPTY: &str = "0ada50e60812e63ce2e5091237bee5d271a63a3ecf58a41709959bdf0f46fe7e";
+
+const X_LINE: &str =
+    "deliver 3443418c0382800e42ae01fb9d676b7b25405d2875809cf8d6808f04741c96a4 0 1\n";
+
+const FF_LINE: &str =
+    "invalid f3c078734405d1e3152fc6548e466217931d53878072075aaa1919563f46b353 0 1\n";
+
+const LATE_LINE: &str =
+    "deliver bf732d2a6c496988001c86803dc467d4f2b738820c121a34ea55beeb59c1ff30 9223372036854775807 5\n";
+
+const LONG_LINE: &str =
+    "deliver 9b602c220eadc59dfe12e8edf740e7efa1459e04b5f1cf83ae6931f39c9ef10c 7 32768\n";
+
+const EMPTY_LINE: &str =
+    "deliver bc4e14694e92c13e93c98a2d4563920a030b330a8adbf33ecf3a27eaeb85d1de 0 1\n";
+
+// Adds the bytes of a MESSAGE record.
+fn add_record(bytes: &mut Vec<u8>, group: &str, time: u64, body: &[u8]) -> Result<(), Fail> {
+    let group: GroupId = Fixed::from_hex(group).map_err(|_| "no group")?;
+    let len = u16::try_from(body.len()).map_err(|_| "a long body")?;
+    bytes.extend_from_slice(&[0, 1])?;
+    bytes.extend_from_slice(&len.saturating_add(40).to_be_bytes())?;
+    bytes.extend_from_slice(group.as_bytes())?;
+    bytes.extend_from_slice(&time.to_be_bytes())?;
+    bytes.extend_from_slice(body)?;
+    Ok(())
+}
+
+// What a run came to, with all that it wrote.
+#[derive(Drop)]
+struct Came {
+    status: Status,
+    out: MemSink,
+    err: MemSink,
+}
+
+// Runs a command over streams of which the calls in these lists fail.
+fn play(
+    alloc: Global,
+    words: &[&str],
+    input: &[u8],
+    failing: [&[u64]; 3],
+) -> Result<Came, AllocError> {
+    let mut texts = Vec::new(alloc);
+    for word in words {
+        texts.push(String::from_str(alloc, word)?)?;
+    }
+    let mut source = MemSource::new(input.to_vec(alloc)?, failing[0].to_vec(alloc)?);
+    let mut out = MemSink::new(alloc, failing[1].to_vec(alloc)?);
+    let mut err = MemSink::new(alloc, failing[2].to_vec(alloc)?);
+    let mut host = FileHost::new();
+    let status = run(
+        alloc,
+        texts.as_slice(),
+        &mut host,
+        &mut source,
+        &mut out,
+        &mut err,
+        &Bundle,
+    );
+    Ok(Came { status, out, err })
+}
+
+const TRY: [&str; 3] = ["try", "note", "d"];
+
+const NONE: [&[u64]; 3] = [&[], &[], &[]];
+
+#[test]
+fn lines_of_messages(rt: HostRuntime) -> Result<(), Fail> {
+    let alloc = rt.alloc();
+    let long = vec![in alloc; b'x'; MAX_BODY]?;
+    let mut input = Vec::new(alloc);
+    add_record(&mut input, GROUP, 0, b"x")?;
+    assert_eq!(rt; input.len(), 45);
+    add_record(&mut input, GROUP, 0, b"x")?;
+    add_record(&mut input, OTHER, 0, b"x")?;
+    add_record(&mut input, GROUP, 0, b"\xff")?;
+    add_record(&mut input, GROUP, u64::MAX / 2, b"hello")?;
+    add_record(&mut input, GROUP, 7, long.as_slice())?;
+    add_record(&mut input, EMPTY, 0, b"x")?;
+    add_record(&mut input, GROUP, 0, b"\xff")?;
+    let mut lines = String::from_str(alloc, X_LINE)?;
+    lines.push_str(FF_LINE)?;
+    lines.push_str(LATE_LINE)?;
+    lines.push_str(LONG_LINE)?;
+    let came = play(alloc, &TRY, input.as_slice(), NONE)?;
+    assert_eq!(rt; came.status, Status::Done);
+    assert_eq!(rt; came.out.bytes(), lines.as_bytes());
+    assert_eq!(rt; came.err.bytes(), b"".as_slice());
+    let came = play(alloc, &["try", "note", ""], input.as_slice(), NONE)?;
+    assert_eq!(rt; came.status, Status::Done);
+    assert_eq!(rt; came.out.bytes(), EMPTY_LINE.as_bytes());
+    Ok(())
+}
+
+// Runs a command on one byte that begins no record, and compares its status and its line.
+fn expect_line(
+    rt: &impl Abort,
+    alloc: Global,
+    words: &[&str],
+    status: Status,
+    line: &str,
+) -> Result<(), Fail> {
+    let came = play(alloc, words, &[1], NONE)?;
+    assert_eq!(rt; came.status, status, "at {line}");
+    assert_eq!(rt; came.out.bytes(), b"".as_slice());
+    assert_eq!(rt; came.err.bytes(), line.as_bytes());
+    Ok(())
+}
+
+#[test]
+fn words_of_a_command(rt: HostRuntime) -> Result<(), Fail> {
+    let alloc = rt.alloc();
+    let cases: [(&[&str], &str); 8] = [
+        (&[], "usage: word 0\n"),
+        (&["Try", "note", "d"], "usage: word 0\n"),
+        (&["show"], "usage: word 0\n"),
+        (&["try"], "usage: word 1\n"),
+        (&["try", "", "d"], "usage: word 1\n"),
+        (&["try", "note"], "usage: word 2\n"),
+        (&["try", "note", "d", "e"], "usage: word 3\n"),
+        (&["try", "note", "d", "e", "f"], "usage: word 3\n"),
+    ];
+    for (words, line) in cases {
+        expect_line(&rt, alloc, words, Status::Usage, line)?;
+    }
+    Ok(())
+}
+
+#[test]
+fn long_words_and_clients(rt: HostRuntime) -> Result<(), Fail> {
+    let alloc = rt.alloc();
+    let name = "n".repeat(alloc, 256)?;
+    let shorter = "n".repeat(alloc, 255)?;
+    let descriptor = "d".repeat(alloc, 16_385)?;
+    let most = "d".repeat(alloc, 16_384)?;
+    let usage = Status::Usage;
+    expect_line(
+        &rt,
+        alloc,
+        &["try", name.as_str(), "d"],
+        usage,
+        "usage: word 1\n",
+    )?;
+    let words = ["try", "note", descriptor.as_str()];
+    expect_line(&rt, alloc, &words, usage, "usage: word 2\n")?;
+    let unknown = "refused: unknown client\n";
+    expect_line(
+        &rt,
+        alloc,
+        &["try", shorter.as_str(), "d"],
+        Status::Refused,
+        unknown,
+    )?;
+    expect_line(&rt, alloc, &["try", "chat", "d"], Status::Refused, unknown)?;
+    let words = ["try", "note", most.as_str()];
+    expect_line(&rt, alloc, &words, Status::NotYet, "not yet: record at 0\n")?;
+    expect_line(&rt, alloc, &TRY, Status::NotYet, "not yet: record at 0\n")
+}
+
+#[test]
+fn cut_and_other_records(rt: HostRuntime) -> Result<(), Fail> {
+    let alloc = rt.alloc();
+    let mut record = Vec::new(alloc);
+    add_record(&mut record, GROUP, 0, b"x")?;
+    let mut late = Vec::new(alloc);
+    add_record(&mut late, GROUP, 1 << 63, b"x")?;
+    for n in 0..record.len() {
+        let mut input = record.clone()?;
+        input.extend_from_slice(&record.as_slice()[..n])?;
+        let came = play(alloc, &TRY, input.as_slice(), NONE)?;
+        let (status, line) = if n == 0 {
+            (Status::Done, "")
+        } else {
+            (Status::NotYet, "not yet: record at 45\n")
+        };
+        assert_eq!(rt; came.status, status, "after {n} bytes");
+        assert_eq!(rt; came.out.bytes(), X_LINE.as_bytes());
+        assert_eq!(rt; came.err.bytes(), line.as_bytes());
+    }
+    let others: [&[u8]; 7] = [
+        &[0, 4, 0, 1, 0],
+        &[0, 9, 0, 0],
+        &[0, 1, 0, 40],
+        &[0, 1, 0x80, 0x29],
+        &[1],
+        &[0, 0, 0, 0],
+        late.as_slice(),
+    ];
+    for other in others {
+        let mut input = record.clone()?;
+        input.extend_from_slice(other)?;
+        input.extend_from_slice(record.as_slice())?;
+        let came = play(alloc, &TRY, input.as_slice(), NONE)?;
+        assert_eq!(rt; came.status, Status::NotYet, "at {other:?}");
+        assert_eq!(rt; came.out.bytes(), X_LINE.as_bytes());
+        assert_eq!(rt; came.err.bytes(), b"not yet: record at 45\n".as_slice());
+    }
+    Ok(())
+}
+
+#[test]
+fn failing_streams(rt: HostRuntime) -> Result<(), Fail> {
+    let alloc = rt.alloc();
+    let mut input = Vec::new(alloc);
+    add_record(&mut input, GROUP, 0, b"x")?;
+    input.push(1)?;
+    let input = input.as_slice();
+    // The first read fails: nothing was read. The second fails: all was, and its end is not known.
+    let cases: [([&[u64]; 3], Status, &str, &str); 6] = [
+        ([&[0], &[], &[]], Status::ReadFault, "", "read fault\n"),
+        ([&[1], &[], &[]], Status::ReadFault, X_LINE, "read fault\n"),
+        ([&[], &[0], &[]], Status::WriteFault, "", "write fault\n"),
+        ([&[], &[], &[0]], Status::NotYet, X_LINE, ""),
+        ([&[1], &[0], &[]], Status::ReadFault, "", "read fault\n"),
+        ([&[], &[0], &[0]], Status::WriteFault, "", ""),
+    ];
+    for (failing, status, out, err) in cases {
+        let came = play(alloc, &TRY, input, failing)?;
+        assert_eq!(rt; came.status, status, "at {failing:?}");
+        assert_eq!(rt; came.out.bytes(), out.as_bytes());
+        assert_eq!(rt; came.err.bytes(), err.as_bytes());
+    }
+    Ok(())
+}

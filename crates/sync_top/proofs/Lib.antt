@@ -1,0 +1,4 @@
+pub mod FrontLemmas
+pub mod TryLemmas
+pub mod TextLemmas
+pub mod RunLemmas

@@ -1,0 +1,73 @@
+// A command from its words to its status.
+ghost use Rattle.std.specs.Prelude.{◌≡◌};
+ghost use Rattle.sync_top.specs.Run.{Comes, Flow, Ran, Reports};
+ghost use Rattle.sync_top.specs.Words.{asked, texts};
+
+use crate::status::{Outcome, Status};
+use crate::text::write_text;
+use crate::try_command::try_group;
+use crate::words::{Words, read_words};
+use outside::{Host, Sink, Source};
+use std::alloc::Global;
+use sync_rules::Clients;
+
+/// Runs the command that the words ask for: it reads `input`, writes its text to `out` and its line,
+/// if it has one, to `err`, and says what it came to. The words are those after the program's name.
+/// A failing `err` never changes the status.
+pub fn run<H: Host, S: Source, W: Sink, E: Sink, C: Clients>(
+    alloc: Global,
+    words: &[String],
+    host: &mut H,
+    input: &mut S,
+    out: &mut W,
+    err: &mut E,
+    clients: &C,
+) -> Status
+    ensures ran { Ran (C.meaning clients.now) (asked (texts words.now))
+        (record { before = S.left input.old; after = S.left input.new; faults = S.source_faults input.old; faults' = S.source_faults input.new })
+        (record { before = W.written out.old; after = W.written out.new; faults = W.sink_faults out.old; faults' = W.sink_faults out.new })
+        (record { before = E.written err.old; after = E.written err.new; faults = E.sink_faults err.old; faults' = E.sink_faults err.new })
+        result }
+    ensures host { host.new ≡ host.old }
+{
+    let _ = host;
+    let outcome = command(alloc, words, input, out, clients);
+    report(alloc, outcome, err)
+}
+
+// Does what the words ask for.
+fn command<S: Source, W: Sink, C: Clients>(
+    alloc: Global,
+    words: &[String],
+    input: &mut S,
+    out: &mut W,
+    clients: &C,
+) -> Outcome
+    ensures { Comes (C.meaning clients.now) (asked (texts words.now))
+        (record { before = S.left input.old; after = S.left input.new; faults = S.source_faults input.old; faults' = S.source_faults input.new })
+        (record { before = W.written out.old; after = W.written out.new; faults = W.sink_faults out.old; faults' = W.sink_faults out.new })
+        result }
+{
+    match read_words(words) {
+        Words::Usage(place) => Outcome::Usage(place),
+        Words::Try { name, descriptor } => try_group(alloc, name, descriptor, input, out, clients),
+    }
+}
+
+/// Writes the line of an outcome, and says its status: `Memory` where memory is wanting for the line.
+pub fn report<E: Sink>(alloc: Global, outcome: Outcome, err: &mut E) -> Status
+    ensures { Reports outcome
+        (record { before = E.written err.old; after = E.written err.new; faults = E.sink_faults err.old; faults' = E.sink_faults err.new })
+        result }
+{
+    match outcome.line(alloc) {
+        Ok(line) => {
+            let _ = write_text(err, line.as_str());
+            outcome.status()
+        }
+        Err(_) => {
+            let _ = write_text(err, "out of memory\n");
+            Status::Memory
+        }
+    }
+}
