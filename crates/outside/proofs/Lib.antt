@@ -1,3 +1,5 @@
 pub mod StreamSteps
 pub mod MemCalls
 pub mod MemSteps
+pub mod ImageSteps
+pub mod Pictured

@@ -5,9 +5,10 @@ use Rattle.outside.specs.declared.failed.Failed.{Failed}
 use Rattle.outside.specs.Faults.{HasCause}
 use Rattle.outside.specs.Files.{Two, File, file_of, with_file, settled}
 use Rattle.outside.specs.Disk.{Writes, Cuts, Syncs, IsTorn, after_write, after_cut, overwritten}
+use Rattle.outside.specs.Links.{Links, Link, HeardOn, sent_of, no_links}
 use Rattle.outside.specs.Outside.{Moment, DiskCall}
 use Rattle.outside.specs.MemDisk.{Change, wrote, wrote_not, cut, cut_not, synced, Kept, changed, kept_after, both_kept, files_of, bytes_of, MemDiskValue, disk_files, Makes}
-use Rattle.outside.specs.MemTold.{WasAt, was_before, was_kept, disk_told, kept_after-push}
+use Rattle.outside.specs.MemTold.{WasAt, was_before, was_kept, mem_told, disk_told, no_links_told, no_links_heard, kept_after-push}
 
 -- ---- one file of two
 
@@ -67,15 +68,23 @@ change_made fine failed (Ok _) old new makes = (fine, makes.outcome.calls)
 change_made fine failed (Err _) old new makes =
     elim makes.outcome.outcome [ inl listed ↦ (failed, listed.calls) | inr starved ↦ (None, starved.calls ∙ sym (append-nil old.calls)) ]
 
+pub makes_told : {T E : Type 0} (sent_by : List Change → List (List ℕ)) (fine failed : Option Change) (result : Result T E) (old new : MemDiskValue) → Makes fine failed result old new
+    → (links links' : Links) → links' ≡ links
+    → (s : sent_by old.calls ≡ sent_of links.told) (t : (ls : List Link) → links.told ≡ Some ls → length ls ≡ links.dialled) (h : (hs : List HeardOn) → links.heard ≡ Some hs → length hs ≡ links.dialled)
+    → (s' : sent_by new.calls ≡ sent_of links'.told) (t' : (ls : List Link) → links'.told ≡ Some ls → length ls ≡ links'.dialled) (h' : (hs : List HeardOn) → links'.heard ≡ Some hs → length hs ≡ links'.dialled)
+    → DiskCall (mem_told sent_by old.start old.calls links old.faults s t h) (mem_told sent_by new.start new.calls links' new.faults s' t' h')
+makes_told sent_by fine failed result old new makes links links' same s t h s' t' h' =
+    let more = change_made fine failed result old new makes in
+    let pass = passes sent_by old.start new.start old.calls new.calls more.0 makes.counts.start more.1 in
+    record {
+      same_links = same;
+      same_told = refl;
+      time = record { later = pass.later; nothing_else = λ u m _ w. pass.nothing_else u m w; keeps = λ u m _ w. pass.keeps u m w };
+    }
+
 pub makes_call : {T E : Type 0} (fine failed : Option Change) (result : Result T E) (old new : MemDiskValue) → Makes fine failed result old new → DiskCall (disk_told old) (disk_told new)
 makes_call fine failed result old new makes =
-    let more = change_made fine failed result old new makes in
-    let pass = passes (λ _. []) old.start new.start old.calls new.calls more.0 makes.counts.start more.1 in
-    record {
-      same_links = refl;
-      same_told = refl;
-      time = record { later = pass.later; nothing_else = λ t m _ w. pass.nothing_else t m w; keeps = λ t m _ w. pass.keeps t m w };
-    }
+    makes_told (λ _. []) fine failed result old new makes no_links no_links refl refl no_links_told no_links_heard refl no_links_told no_links_heard
 
 pub makes_cause : {T E : Type 0} (fine failed : Option Change) (result : Result T E) (old new : MemDiskValue) → Makes fine failed result old new → HasCause old.faults new.faults result
 makes_cause fine failed (Ok _) old new makes = record { later = omega (arith, makes.outcome.faults); failed = tt }

@@ -10,3 +10,6 @@ pub mod Silent
 pub mod Images
 pub mod MemDisk
 pub mod MemTold
+pub mod MemImage
+pub mod Steps
+pub mod Frames

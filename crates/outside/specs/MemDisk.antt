@@ -145,3 +145,7 @@ pub record HasFailed (failed : Option Change) (old new : MemDiskValue) : Type 0 
 pub record Makes {T E : Type 0} (fine failed : Option Change) (result : Result T E) (old new : MemDiskValue) : Type 0 where
   pub counts : Counts old new
   pub outcome : MatchResult result (λ _. WasMade fine old new) (λ _. HasFailed failed old new)
+
+-- a disk of which no call was made
+abbrev pub fresh : Two (List ℕ) → MemDiskValue
+fresh start = record { start = start; calls = []; made = 0; failing = []; faults = 0; starved = 0 }

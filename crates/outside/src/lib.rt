@@ -7,11 +7,14 @@ mod counts;
 mod disk;
 mod failed;
 mod host;
+mod image;
 mod input;
 mod mem_disk;
 mod mem_sink;
 mod mem_source;
 mod output;
+mod pick;
+mod replay;
 mod stream;
 
 pub use call::Call;
@@ -23,8 +26,11 @@ pub use mem_disk::MemDisk;
 pub use mem_sink::MemSink;
 pub use mem_source::MemSource;
 pub use output::write_all;
+pub use pick::Pick;
 pub use stream::{Sink, Source};
 
+#[cfg(test)]
+mod disk_tests;
 #[cfg(test)]
 mod silent_tests;
 #[cfg(test)]

@@ -1,11 +1,13 @@
 //! A disk in memory.
 ghost use Rattle.std.specs.Prelude.{◌≡◌, ◌<◌, ◌≤◌, [], ◌++◌, ◌∷◌, None, Some, length, take, vec_len, vec_capacity, IfOk, OnOk, OnErr, if◌then◌else◌};
 ghost use Rattle.outside.specs.Faults.{is_listed, one_more};
-ghost use Rattle.outside.specs.Files.{file_of, with_file};
+ghost use Rattle.outside.specs.Files.{file_of, with_file, IsImage};
 ghost use Rattle.outside.specs.Disk.{Reads, overwritten};
-ghost use Rattle.outside.specs.MemDisk.{two_of, disk_files, bytes_of, wrote, wrote_not, cut, cut_not, synced, Makes};
+ghost use Rattle.outside.specs.MemDisk.{two_of, fresh, disk_files, files_of, bytes_of, wrote, wrote_not, cut, cut_not, synced, Makes};
+ghost use Rattle.outside.specs.MemImage.{Pictures};
 
-use crate::{Call, Disk, Failed};
+use crate::image::image_of;
+use crate::{Call, Disk, Failed, Pick};
 use std::alloc::{AllocError, Global};
 use std::marker::Model;
 
@@ -38,7 +40,7 @@ impl Model for MemDisk {
 impl MemDisk {
     /// A disk with these two files, nothing pending in them.
     pub fn new(alloc: Global, file0: Vec<u8>, file1: Vec<u8>) -> Result<MemDisk, AllocError>
-        ensures { IfOk result (λ d. d ≡ record { start = two_of file0.items file1.items; calls = []; made = 0; failing = []; faults = 0; starved = 0 }) }
+        ensures { IfOk result (λ d. d ≡ fresh (two_of file0.items file1.items)) }
     {
         Ok(MemDisk {
             alloc,
@@ -90,6 +92,16 @@ impl MemDisk {
         ensures { result ≡ self.now.starved }
     {
         self.starved
+    }
+
+    /// A fresh disk with one of the images that a crash now may leave.
+    pub fn image(&self, pick: Pick) -> Result<MemDisk, AllocError>
+        ensures picked { IfOk result (λ d. Pictures pick (disk_files self.now) d) }
+        ensures image { IfOk result (λ d. IsImage (files_of (disk_files self.now)) d.start) }
+    {
+        let first = image_of(self.alloc, &self.start0, &self.calls, 0, pick)?;
+        let second = image_of(self.alloc, &self.start1, &self.calls, 1, pick)?;
+        MemDisk::new(self.alloc, first, second)
     }
 }
 
@@ -265,8 +277,8 @@ fn read_from(bytes: &[u8], at: usize, buf: &mut [u8]) -> usize
     n
 }
 
-// Puts bytes over those from a place on.
-fn put_bytes(to: &mut Vec<u8>, at: usize, bytes: &[u8]) -> Result<(), AllocError>
+/// Puts bytes over those from a place on.
+pub fn put_bytes(to: &mut Vec<u8>, at: usize, bytes: &[u8]) -> Result<(), AllocError>
     requires { at ≤ vec_len to.old }
     ensures ok { OnOk result (to.new.items ≡ overwritten to.old.items at bytes.now) }
     ensures err { OnErr result (to.new.items ≡ to.old.items) }

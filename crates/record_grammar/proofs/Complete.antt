@@ -1,6 +1,6 @@
 -- What is spelled is read so, whatever follows.
 use Rattle.std.proofs.Common.{◌≡◌, ◌≢◌, ◌⊎◌, inl, inr, ℕ, zero, suc, ◌+◌, ◌-◌, ◌*◌, ◌/◌, ◌%◌, ◌^◌, ◌<◌, ◌≤◌, Bool, true, false, List, [], ◌∷◌, ◌++◌, length, take, drop, refl, sym, ap, ◌∙◌, arith, length-append, length-drop}
-use Rattle.std.specs.Prelude.{Option, Some, None, ◌==◌, nat_lt, if◌then◌else◌}
+use Rattle.std.specs.Prelude.{Option, Some, None, Result, Ok, Err, OnOk, ◌==◌, nat_lt, if◌then◌else◌}
 use Rattle.std.specs.Int.{w16, w64, from_be_bytes, to_be_bytes}
 use Rattle.std.proofs.lemmas.List.{append_assoc, append-nil, drop_at, drop-append-le, drop-drop, take_at, take-append-le}
 use Rattle.std.proofs.lemmas.Bool.{eqb-true, eqb-false, ltb-true, ltb-false}
@@ -10,7 +10,7 @@ use Rattle.sync_ids.specs.Values.{IsMessage, MessageValue}
 use Rattle.sync_ids.specs.Records.{IsRecord}
 use Rattle.sync_ids.specs.declared.records.Record.{Record}
 use Rattle.sync_ids.specs.declared.records.Record.TheVariants as record_kind
-use Rattle.record_grammar.specs.Spelling.{AreIds, HasWholeIds, Skips, Spells, framed, joined, payload_of, spelling, type_of}
+use Rattle.record_grammar.specs.Spelling.{AreIds, HasWholeIds, Skips, Spells, framed, header, joined, payload_of, spelling, type_of}
 use Rattle.record_grammar.specs.Reading.{Backs, HasWhole, decided_by, decided_header, decided_payload, decided_rest, found_at, found_in, found_payload, front_in, ids_in, ids_of, kind_of, message_of, refused_for, refused_ids, refused_length, timestamp_in}
 use Rattle.record_grammar.specs.Laws.{IsWhole}
 use Rattle.record_grammar.specs.declared.front.Front.{Front}
@@ -192,7 +192,7 @@ header_stays k t len rest x = go (refused_length k len) (nat_lt (length rest) le
   go : (o : Option Reason) (w : Bool) → nat_lt (length rest) len ≡ w
       → (decided_by o (if nat_lt (length rest) len then front.More else decided_payload k t (take len rest)) ≡ front.More)
       ⊎ (decided_by o (if nat_lt (length (rest ++ x)) len then front.More else decided_payload k t (take len (rest ++ x)))
-          ≡ decided_by o (if nat_lt (length rest) len then front.More else decided_payload k t (take len rest)))
+      ≡ decided_by o (if nat_lt (length rest) len then front.More else decided_payload k t (take len rest)))
   go (Some why) w e = inr refl
   go None true e = inl (rw e refl)
   go None false e =
@@ -226,3 +226,11 @@ found_stays b x decided = go (front_in b) refl (front_stays b x) (front_backs b)
       let tail : drop 4 (b ++ x) ≡ drop 4 b ++ x = drop-append-le 4 b x (omega (arith, whole.fits)) in
       let front : take len (drop 4 b ++ x) ≡ take len (drop 4 b) = take-append-le len (drop 4 b) x (omega (arith, whole.fits, length-drop 4 b)) in
       rw (same, e, tail, front) refl
+
+-- ids behind their header are framed
+pub list_framed : {T E : Type 0} → (r : Result T E) (old mid new : List ℕ) (t : ℕ) (ids xs : List (List ℕ)) → OnOk r (new ≡ mid ++ joined xs)
+    → OnOk r (AreIds xs) → mid ≡ old ++ header t (32 * length xs) → xs ≡ ids → OnOk r (new ≡ old ++ framed t (joined ids))
+list_framed (Ok x) old mid new t ids xs e whole em es =
+    e ∙ ap (λ (m : List ℕ). m ++ joined xs) em ∙ append_assoc old (header t (32 * length xs)) (joined xs)
+    ∙ ap (λ (n : ℕ). old ++ (header t n ++ joined xs)) (sym (joined_length xs whole)) ∙ ap (λ (ys : List (List ℕ)). old ++ framed t (joined ys)) es
+list_framed (Err x) old mid new t ids xs e whole em es = tt

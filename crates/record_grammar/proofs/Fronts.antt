@@ -45,7 +45,8 @@ pub payload_cases : (k : Kind) (t : ℕ) (p : List ℕ) → (decided_payload k t
 payload_cases kind.Ack t p = inl refl
 payload_cases kind.Message t p =
     elim (nat_lt (timestamp_in p) (2 ^ 63)) as (λ b. ((if b then front.Whole t (length p) else front.Bad reason.BadTimestamp) ≡ front.Whole t (length p)) ⊎ ((if b then front.Whole t (length p) else front.Bad reason.BadTimestamp) ≡ front.Bad reason.BadTimestamp)) [
-      true ↦ inl refl | false ↦ inr refl
+      | true ↦ inl refl
+      | false ↦ inr refl
     ]
 payload_cases kind.Offer t p = inl refl
 payload_cases kind.Request t p = inl refl

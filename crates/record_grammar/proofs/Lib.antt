@@ -1,5 +1,7 @@
 mod Complete
 mod Fronts
-mod TypeBytes
 mod Lists
+mod Parts
 mod Sound
+mod Streams
+mod TypeBytes

@@ -195,9 +195,9 @@ found_sound (v ∷ b) bytes = go (v == 0) refl b bytes where
   go true e (t ∷ h ∷ l ∷ rest) bytes =
       header_sound (v ∷ t ∷ h ∷ l ∷ rest) rest t (h * 256 + l) (λ i. bytes (suc (suc (suc (suc i))))) refl (omega arith)
       (λ p len_p is.
-          let more : 4 + (h * 256 + l) ≡ suc (suc (suc (suc (h * 256 + l)))) = omega arith in
-          let right : v ≡ 0 = eqb-true v 0 e in
-          rw (more, right, ← is) (sym (framed_is t h l p (bytes 2) (bytes 3) len_p)))
+      let more : 4 + (h * 256 + l) ≡ suc (suc (suc (suc (h * 256 + l)))) = omega arith in
+      let right : v ≡ 0 = eqb-true v 0 e in
+      rw (more, right, ← is) (sym (framed_is t h l p (bytes 2) (bytes 3) len_p)))
 
 -- the same of an answer that may not have come
 pub IsSpelled-IfOk : (b : List ℕ) (r : Result Found AllocError) → IsBytes b → IfOk r (λ f. f ≡ found_in b) → IfOk r (λ f. IsSpelled b f)

@@ -1,14 +1,12 @@
 -- Where held messages came from.
-use Rattle.std.proofs.Common.{◌≡◌, ℕ, Bool, true, false, ◌⊎◌, List, [], ◌∷◌, ◌++◌, refl, sym, ◌∙◌, ap, subst, inl, inr, Option, Some, None, is_some}
-use Rattle.sync_ids.specs.Values.{MessageValue}
-use Rattle.sync_ids.specs.Ids.{message_id_of}
+use Rattle.std.proofs.Common.{◌≡◌, ◌⊎◌, List, [], ◌∷◌, ◌++◌, refl, sym, ap, subst, inl, inr}
 use Rattle.sync_rules.specs.declared.entries.Entry.{Entry}
 use Rattle.sync_rules.specs.declared.entries.Entry.TheVariants as entry
 use Rattle.sync_rules.specs.Clients.{Meaning}
-use Rattle.sync_rules.specs.Facts.{Facts, Held, Id, after, after_all, nothing, facts, entries_of, session_at, contact_of, level_at, is_invisible, authored, arrived, after_batches}
+use Rattle.sync_rules.specs.Facts.{Facts, Held, after, after_all, nothing, facts, entries_of, contact_of, authored, arrived}
 use Rattle.sync_rules.specs.Legal.{Legal}
-use Rattle.sync_rules.specs.Laws.{HasOrigin, IsAuthored, IsFrom}
-use Rattle.sync_rules.proofs.Tests.{In, In-push_cases}
+use Rattle.sync_rules.specs.Laws.{HasOrigin}
+use Rattle.sync_rules.proofs.Elements.{In, In-push_cases}
 use Rattle.sync_rules.proofs.Kept.{Fits, AllFit, MayArrive, after_batches-is}
 use Rattle.sync_rules.proofs.Runs.{legal_fits}
 
@@ -46,12 +44,12 @@ came clients f (e ∷ es) fit h inside =
     elim (came clients (after f e) es fit.1 h inside) [
       | inl was ↦ came_or_was clients f e es fit.0 h was
       | inr later ↦ inr (record {
-          before = e ∷ later.before;
-          behind = later.behind;
-          by = later.by;
-          stands = ap (λ (xs : List Entry). e ∷ xs) later.stands;
-          brings = later.brings;
-        })
+        before = e ∷ later.before;
+        behind = later.behind;
+        by = later.by;
+        stands = ap (λ (xs : List Entry). e ∷ xs) later.stands;
+        brings = later.brings;
+      })
     ]
 
 -- the origin that an entry shows
@@ -82,7 +80,7 @@ origin_shown before behind es _ h stands b = absurd b
 pub has_origin : (clients : Meaning) (j : List (List Entry)) → Legal clients j → (h : Held) → In h (facts j).held → HasOrigin (entries_of j) h
 has_origin clients j l h inside =
     elim (came clients nothing (entries_of j) (legal_fits clients j l) h
-        (subst (λ (f : Facts). In h f.held) (after_batches-is nothing j) inside)) [
+    (subst (λ (f : Facts). In h f.held) (after_batches-is nothing j) inside)) [
       | inl none ↦ absurd none
       | inr c ↦ origin_shown c.before c.behind (entries_of j) c.by h c.stands c.brings
     ]

@@ -1,24 +1,24 @@
 -- Facts that are set once: an entry of a legal journal sets one only where it is not set.
-use Rattle.std.proofs.Common.{◌≡◌, ℕ, zero, suc, ◌+◌, ◌<◌, ◌≤◌, Bool, true, false, cond, ◌&&◌, ◌||◌, ◌⊎◌, List, [], ◌∷◌, ◌++◌, length, refl, sym, ◌∙◌, ap, subst, inl, inr, arith, Option, Some, None, is_some, count_by}
-use Rattle.std.specs.List.{list_any, list_all}
+use Rattle.std.proofs.Common.{◌≡◌, ℕ, ◌+◌, ◌≤◌, Bool, true, false, cond, ◌&&◌, ◌||◌, List, [], ◌∷◌, ◌++◌, refl, sym, ◌∙◌, ap, subst, arith, Some, None, is_some, count_by}
+use Rattle.std.specs.List.{list_any}
 use Rattle.std.specs.FinSet as fin_set
 use Rattle.std.specs.Cmp.Lexicographic.{slice_cmp}
 use Rattle.std.specs.Ordering.{nat_cmp}
-use Rattle.std.proofs.lemmas.Bool.{false≢true, and_parts, and_from, or_parts}
+use Rattle.std.proofs.lemmas.Bool.{false≢true, and_parts, and_from}
 use Rattle.sync_rules.specs.declared.entries.Entry.{Entry}
 use Rattle.sync_rules.specs.declared.entries.Entry.TheVariants as entry
 use Rattle.sync_ids.specs.Ids.{message_id_of}
 use Rattle.sync_rules.specs.Clients.{Meaning}
 use Rattle.sync_rules.specs.Lists.{same_id, is_among}
-use Rattle.sync_rules.specs.Facts.{Facts, Held, Id, after, after_all, nothing, facts, entries_of, held_at, is_held, authored, arrived, contact_of, after_batches}
+use Rattle.sync_rules.specs.Facts.{Facts, Held, Id, after, after_all, nothing, entries_of, held_at, is_held, authored, arrived, contact_of}
 use Rattle.sync_rules.specs.Steps.{is_ended, is_served, is_beside}
 use Rattle.sync_rules.specs.Legal.{Legal}
-use Rattle.sync_rules.specs.Tests.{brings, judges, delivers, invalidates, ends}
-use Rattle.sync_rules.specs.Laws.{BringsOnce, JudgesOnce, EndsOnce, IsRightly, IsInOrder}
-use Rattle.sync_rules.proofs.Tests.{same_id-is, among-push, tally, tally-is, all_weaker}
-use Rattle.sync_rules.proofs.StepLaws.{Delivers, Judges, HasStep, first_step_some, told_some}
+use Rattle.sync_rules.specs.EntryTests.{brings, judges, delivers, invalidates, ends}
+use Rattle.sync_rules.specs.Laws.{BringsOnce, JudgesOnce, EndsOnce, IsInOrder}
+use Rattle.sync_rules.proofs.Elements.{same_id-is, among-push, tally, tally-is, all_weaker}
+use Rattle.sync_rules.proofs.StepLaws.{Judges, first_step_some, told_some}
 use Rattle.sync_rules.proofs.Sound.{SoundFacts, contains-more}
-use Rattle.sync_rules.proofs.Kept.{Fits, AllFit, AllFit_front, AllFit_back, IsDelivery, delivery, refusal, sound_all, after_batches-is}
+use Rattle.sync_rules.proofs.Kept.{Fits, AllFit, AllFit_front, AllFit_back, IsDelivery, delivery, refusal, sound_all}
 use Rattle.sync_rules.proofs.Runs.{legal_fits, sound_nothing}
 
 -- a fact that some entries set, and that stays
@@ -182,13 +182,13 @@ delivers_in_order clients j l before behind id stands =
       message = d.of;
       held = ap (held_at f.held) d.same ∙ s.names d.of d.inside;
       judged = came_with (judges id) (λ f. fin_set.contains f.judged id) (judged_scan id) (fin_set.contains-empty (slice_cmp nat_cmp) id) before
-        (ap (fin_set.contains f.judged) d.same ∙ d.delivers.still_open.judged);
+          (ap (fin_set.contains f.judged) d.same ∙ d.delivers.still_open.judged);
       deps = accepted.deps;
       share = accepted.share;
       accepted = accepted.verdict;
       served = all_weaker (is_served f d.of.message.group) (λ x. is_beside d.of.message.group (held_at f.held x) && list_any (delivers x) before)
-        (λ x t. let both = and_parts (is_beside d.of.message.group (held_at f.held x)) (is_among f.delivered x) t in
-            and_from (is_beside d.of.message.group (held_at f.held x)) (list_any (delivers x) before) both.0
-              (came_with (delivers x) (λ f. is_among f.delivered x) (delivered_scan x) refl before both.1))
-        accepted.deps d.delivers.served;
+          (λ x t. let both = and_parts (is_beside d.of.message.group (held_at f.held x)) (is_among f.delivered x) t in
+          and_from (is_beside d.of.message.group (held_at f.held x)) (list_any (delivers x) before) both.0
+          (came_with (delivers x) (λ f. is_among f.delivered x) (delivered_scan x) refl before both.1))
+          accepted.deps d.delivers.served;
     }

@@ -1,24 +1,22 @@
 -- A journal that hears a message and settles goes on hearing.
-use Rattle.std.proofs.Common.{◌≡◌, ℕ, ◌+◌, ◌<◌, ◌≤◌, Bool, true, false, not, cond, ◌&&◌, List, [], ◌∷◌, ◌++◌, length, refl, sym, ◌∙◌, ap, subst, arith, Option, Some, None, is_some, nat_eq, lit<, lit≤}
+use Rattle.std.proofs.Common.{◌≡◌, ℕ, ◌+◌, true, false, not, cond, List, [], ◌∷◌, ◌++◌, refl, sym, ◌∙◌, ap, subst, arith, Option, Some, None, is_some, nat_eq}
 use Rattle.std.specs.FinMap as fin_map
 use Rattle.std.specs.Cmp.{nat_cmp_total, unsigned_tied, nat_eq_equiv}
-use Rattle.std.specs.Ordering.{nat_cmp, eq_by_cmp}
+use Rattle.std.specs.Ordering.{nat_cmp}
 use Rattle.sync_ids.specs.Values.{GroupValue, MessageValue}
 use Rattle.sync_ids.specs.Ids.{group_id_of, message_id_of}
 use Rattle.sync_ids.specs.Records.{IsRecord}
-use Rattle.sync_ids.specs.declared.records.Record.{Record}
 use Rattle.sync_ids.specs.declared.records.Record.TheVariants as record_kind
 use Rattle.sync_rules.specs.declared.entries.Entry.{Entry}
 use Rattle.sync_rules.specs.declared.entries.Entry.TheVariants as entry
-use Rattle.sync_rules.specs.declared.entries.Level.TheVariants as level
 use Rattle.sync_rules.specs.declared.entries.Session.{Session}
 use Rattle.sync_rules.specs.Clients.{Meaning}
-use Rattle.sync_rules.specs.Facts.{Facts, Held, Id, after, after_all, after_batches, nothing, facts, held_at, session_at, contact_of, contact_in, takes_of, count_or, level_at, is_invisible, group_at, known_of}
-use Rattle.sync_rules.specs.Steps.{IsSettled, kind_of_def}
-use Rattle.sync_rules.specs.Sessions.{taken, taken_message, taken_message_of, is_welcome, one_if}
-use Rattle.sync_rules.specs.Legal.{Allowed, IsSettling, AllSettling, GoesOn, Legal, MayTake}
-use Rattle.sync_rules.specs.Hearing.{Settles, Hears, IsHearing, take_batch, one_session}
-use Rattle.sync_rules.proofs.Tests.{same_id_itself}
+use Rattle.sync_rules.specs.Facts.{Facts, after, after_all, after_batches, nothing, facts, held_at, session_at, contact_of, contact_in, takes_of, count_or, level_at, is_invisible, known_of}
+use Rattle.sync_rules.specs.Steps.{kind_of_def}
+use Rattle.sync_rules.specs.Sessions.{taken_message, taken_message_of, is_welcome, one_if}
+use Rattle.sync_rules.specs.Legal.{IsSettling, AllSettling, Legal}
+use Rattle.sync_rules.specs.Hearing.{Hears, IsHearing, take_batch, one_session}
+use Rattle.sync_rules.proofs.Elements.{same_id_itself}
 use Rattle.sync_rules.proofs.StepLaws.{IsSettlingEntry, next_is_settling}
 use Rattle.sync_rules.proofs.Settling.{goes_on_both, after_batches-append}
 use Rattle.sync_rules.proofs.WorkLaws.{facts-push, settles_legal}
@@ -109,14 +107,19 @@ module _ (clients : Meaning) (old : List (List Entry)) (session contact k : ℕ)
 
   pub take_legal : Legal clients (old ++ take_batch old session k (record_kind.Message m) ∷ [])
   take_legal =
-      goes_on_both clients nothing old (take_batch old session k (record_kind.Message m) ∷ []) h.legal
-        ((h.settled, record {
+      goes_on_both clients nothing old (take_batch old session k (record_kind.Message m) ∷ []) h.legal (
+        (
+          h.settled,
+          record {
             known_session = h.known_session;
             numbered = h.numbered;
             read = record_kind.Message m;
             within = within;
             taken_so = refl;
-          }), tt)
+          },
+        ),
+        tt,
+      )
 
   pub hears_on : (new : List (List Entry)) → Hears clients old session k (record_kind.Message m) new → IsHearing clients new session contact (k + 1)
   hears_on new is =
@@ -130,17 +133,17 @@ module _ (clients : Meaning) (old : List (List Entry)) (session contact k : ℕ)
       let last : Stays (after_all f taking) (after_batches (after_all f taking) more) session = stays_batches (after_all f taking) more session first.known in
       let settling : AllSettling clients (after_all f taking) more = subst (λ (g : Facts). AllSettling clients g more) mid is.settles.settling in
       let same : (after_batches (after_all f taking) more).takes ≡ (after f (entry.Take session k)).takes =
-          all_settling_takes clients (after_all f taking) more settling
-          ∙ message_takes f (after f (entry.Take session k)) session (contact_of f.sessions session) m in
+      all_settling_takes clients (after_all f taking) more settling
+      ∙ message_takes f (after f (entry.Take session k)) session (contact_of f.sessions session) m in
       record {
         legal = settles_legal clients (old ++ taking ∷ []) new is.settles take_legal;
         settled = is.settled;
         known_session = ap (λ (g : Facts). is_some (session_at g.sessions session)) whole ∙ last.known;
         same_contact = ap (λ (g : Facts). contact_of g.sessions session) whole ∙ (last.contact ∙ (first.contact ∙ h.same_contact));
         numbered =
-          ap (λ (n : ℕ). n + 1) h.numbered
-          ∙ (sym (one_more_take f.takes session)
-          ∙ sym (ap (λ (g : Facts). takes_of g.takes session) whole ∙ ap (λ t. takes_of t session) same));
+            ap (λ (n : ℕ). n + 1) h.numbered
+            ∙ (sym (one_more_take f.takes session)
+            ∙ sym (ap (λ (g : Facts). takes_of g.takes session) whole ∙ ap (λ t. takes_of t session) same));
       }
 
 -- ---- the beginning
@@ -149,10 +152,16 @@ pub one_session_hears : (clients : Meaning) (def : GroupValue) → is_some (kind
 one_session_hears clients def known = record {
   legal = (
     (refl, refl, refl, omega arith),
-    ((refl, refl, record { known_client = known; new = refl; few = omega arith }),
-    ((refl, refl, omega arith, ap (λ b. is_some (cond b (Some (known_of def)) None)) (same_id_itself (group_id_of def))),
-    ((refl, refl, record { numbered = refl; known_contact = omega arith; some_latency = omega arith; suited_nonce = refl }),
-    tt))),
+    (
+      (refl, refl, record { known_client = known; new = refl; few = omega arith }),
+      (
+        (refl, refl, omega arith, ap (λ b. is_some (cond b (Some (known_of def)) None)) (same_id_itself (group_id_of def))),
+        (
+          (refl, refl, record { numbered = refl; known_contact = omega arith; some_latency = omega arith; suited_nonce = refl }),
+          tt,
+        ),
+      ),
+    ),
   );
   settled = refl;
   known_session = refl;

@@ -1,17 +1,16 @@
 -- What each entry of a legal journal meets, and that every such entry keeps the invariant.
-use Rattle.std.proofs.Common.{◌≡◌, ℕ, Bool, true, false, not, ◌⊎◌, List, [], ◌∷◌, ◌++◌, refl, sym, ◌∙◌, ap, subst, inl, inr, Option, Some, None, is_some}
-use Rattle.std.specs.FinSet as fin_set
+use Rattle.std.proofs.Common.{◌≡◌, ℕ, true, false, List, [], ◌∷◌, ◌++◌, refl, sym, ◌∙◌, subst, Some, is_some}
 use Rattle.sync_ids.specs.Values.{MessageValue}
 use Rattle.sync_ids.specs.Ids.{message_id_of}
 use Rattle.sync_rules.specs.declared.entries.Entry.{Entry}
 use Rattle.sync_rules.specs.declared.entries.Entry.TheVariants as entry
 use Rattle.sync_rules.specs.Clients.{Meaning}
-use Rattle.sync_rules.specs.Facts.{Facts, Held, Known, Id, after, after_all, after_batches, entries_of, group_at, is_held, session_at, contact_of, level_at, is_invisible, known_of, authored, arrived}
-use Rattle.sync_rules.specs.Steps.{next, verdict_in}
-use Rattle.sync_rules.specs.Legal.{IsDue, accepts_served}
-use Rattle.sync_rules.proofs.Tests.{In}
-use Rattle.sync_rules.proofs.StepLaws.{Delivers, Invalidates, HasStep, first_step_some, told_some}
-use Rattle.sync_rules.proofs.Sound.{Sound, SoundFacts, Sound-group, Sound-held, delivered_stays_good, invalid_stays_bad}
+use Rattle.sync_rules.specs.Facts.{Facts, Held, Id, after, after_all, after_batches, entries_of, group_at, is_held, session_at, contact_of, level_at, is_invisible, known_of, authored, arrived}
+use Rattle.sync_rules.specs.Steps.{next}
+use Rattle.sync_rules.specs.Legal.{IsDue}
+use Rattle.sync_rules.proofs.Elements.{In}
+use Rattle.sync_rules.proofs.StepLaws.{Delivers, Invalidates, first_step_some, told_some}
+use Rattle.sync_rules.proofs.Sound.{SoundFacts, Sound-group, Sound-held, delivered_stays_good, invalid_stays_bad}
 
 -- a message that may come to be held: its group is known and its id is new
 pub record IsNew (f : Facts) (m : MessageValue) : Type 0 where

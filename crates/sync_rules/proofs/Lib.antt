@@ -1,4 +1,4 @@
-pub mod Tests
+pub mod Elements
 pub mod RoundLaws
 pub mod StepLaws
 pub mod Sound
@@ -10,3 +10,5 @@ pub mod Settling
 pub mod ScanLaws
 pub mod WorkLaws
 pub mod HearLaws
+pub mod RowLaws
+pub mod PeerFacts

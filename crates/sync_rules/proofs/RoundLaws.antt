@@ -1,14 +1,12 @@
 -- The rounds: both grow from round to round and with the held messages, and no message is good and bad.
-use Rattle.std.proofs.Common.{◌≡◌, ℕ, zero, suc, ◌+◌, ◌<◌, ◌≤◌, Bool, true, false, cond, ◌&&◌, ◌||◌, ◌⊎◌, List, refl, sym, ◌∙◌, ap, subst, inl, inr, arith, Option, Some, None}
-use Rattle.std.specs.List.{list_any, list_all}
-use Rattle.std.proofs.lemmas.Bool.{and_parts, and_from, or_cases, or_left, or_right, false≢true, both_ways, cases_eq}
+use Rattle.std.proofs.Common.{◌≡◌, ℕ, zero, suc, ◌≤◌, Bool, true, false, cond, ◌&&◌, refl, ◌∙◌, ap, subst, inl, inr, arith, Option, Some, None}
+use Rattle.std.proofs.lemmas.Bool.{and_parts, and_from, or_cases, or_left, or_right, false≢true, cases_eq}
 use Rattle.sync_rules.specs.declared.answers.Judgement.{Judgement}
 use Rattle.sync_rules.specs.declared.answers.Judgement.TheVariants as judgement
-use Rattle.sync_rules.specs.Lists.{same_id}
 use Rattle.sync_rules.specs.Facts.{Held, Id, held_at}
 use Rattle.sync_rules.specs.Steps.{is_beside, is_elsewhere}
 use Rattle.sync_rules.specs.Rounds.{Graph, good, good_by, good_next, bad, bad_by, bad_first, bad_more, worse_by}
-use Rattle.sync_rules.proofs.Tests.{all_weaker, any_weaker, all_not_any}
+use Rattle.sync_rules.proofs.Elements.{all_weaker, any_weaker, all_not_any}
 
 -- a message is not held in a group and in another one
 pub beside_or_elsewhere : (group : Id) (o : Option Held) → is_beside group o ≡ true → is_elsewhere group o ≡ true → ⊥
@@ -27,8 +25,8 @@ good_weaker g was now up (Some x) h =
       | judgement.Refuse ↦ λ r. absurd (false≢true r)
       | judgement.Accept deps share ↦ λ r.
           all_weaker (λ d. is_beside x.message.group (held_at g.held d) && was d) (λ d. is_beside x.message.group (held_at g.held d) && now d)
-            (λ d t. let both = and_parts (is_beside x.message.group (held_at g.held d)) (was d) t in
-                and_from (is_beside x.message.group (held_at g.held d)) (now d) both.0 (up d both.1)) deps r
+          (λ d t. let both = and_parts (is_beside x.message.group (held_at g.held d)) (was d) t in
+          and_from (is_beside x.message.group (held_at g.held d)) (now d) both.0 (up d both.1)) deps r
     ] h
 
 pub good_up : (g : Graph) (k : ℕ) (id : Id) → good g k id ≡ true → good g (suc k) id ≡ true
@@ -68,8 +66,8 @@ apart_first g was (Some x) h b =
       | judgement.Refuse ↦ λ r s. false≢true r
       | judgement.Accept deps share ↦ λ r s.
           all_not_any (λ d. is_beside x.message.group (held_at g.held d) && was d) (λ d. is_elsewhere x.message.group (held_at g.held d))
-            (λ d t e. beside_or_elsewhere x.message.group (held_at g.held d) (and_parts (is_beside x.message.group (held_at g.held d)) (was d) t).0 e)
-            deps r s
+          (λ d t e. beside_or_elsewhere x.message.group (held_at g.held d) (and_parts (is_beside x.message.group (held_at g.held d)) (was d) t).0 e)
+          deps r s
     ] h b
 
 apart_more : (g : Graph) (was worse : Id → Bool) → ((d : Id) → was d ≡ true → worse d ≡ true → ⊥)
@@ -80,8 +78,8 @@ apart_more g was worse apart (Some x) h b =
       | judgement.Refuse ↦ λ r s. false≢true r
       | judgement.Accept deps share ↦ λ r s.
           all_not_any (λ d. is_beside x.message.group (held_at g.held d) && was d) worse
-            (λ d t e. apart d (and_parts (is_beside x.message.group (held_at g.held d)) (was d) t).1 e)
-            deps r s
+          (λ d t e. apart d (and_parts (is_beside x.message.group (held_at g.held d)) (was d) t).1 e)
+          deps r s
     ] h b
 
 apart_next : (g : Graph) (k : ℕ) → ((l : ℕ) (d : Id) → good g k d ≡ true → bad g l d ≡ true → ⊥)
@@ -123,8 +121,8 @@ module _ (g n : Graph) (grows : Grows g n) where
   good_by_grows was now up group judgement.Refuse h = h
   good_by_grows was now up group (judgement.Accept deps share) h =
       all_weaker (λ d. is_beside group (held_at g.held d) && was d) (λ d. is_beside group (held_at n.held d) && now d)
-        (λ d t. let both = and_parts (is_beside group (held_at g.held d)) (was d) t in
-            and_from (is_beside group (held_at n.held d)) (now d) (beside_grows group d (held_at g.held d) refl both.0) (up d both.1)) deps h
+      (λ d t. let both = and_parts (is_beside group (held_at g.held d)) (was d) t in
+      and_from (is_beside group (held_at n.held d)) (now d) (beside_grows group d (held_at g.held d) refl both.0) (up d both.1)) deps h
 
   good_next_grows : (was now : Id → Bool) → ((d : Id) → was d ≡ true → now d ≡ true) → (id : Id) (o : Option Held) → held_at g.held id ≡ o
       → good_next g was o ≡ true → good_next n now (held_at n.held id) ≡ true
@@ -141,7 +139,7 @@ module _ (g n : Graph) (grows : Grows g n) where
   bad_by_grows group judgement.Refuse h = h
   bad_by_grows group (judgement.Accept deps share) h =
       any_weaker (λ d. is_elsewhere group (held_at g.held d)) (λ d. is_elsewhere group (held_at n.held d))
-        (λ d t. elsewhere_grows group d (held_at g.held d) refl t) deps h
+      (λ d t. elsewhere_grows group d (held_at g.held d) refl t) deps h
 
   bad_first_grows : (id : Id) (o : Option Held) → held_at g.held id ≡ o → bad_first g o ≡ true → bad_first n (held_at n.held id) ≡ true
   bad_first_grows id None e h = absurd (false≢true h)

@@ -1,8 +1,7 @@
 -- Each entry of an allowed batch meets what it must, so a legal journal keeps the invariant.
-use Rattle.std.proofs.Common.{◌≡◌, ℕ, ◌≤◌, Bool, true, false, not, cond, ◌&&◌, ◌⊎◌, List, [], ◌∷◌, ◌++◌, length, refl, sym, ◌∙◌, ap, subst, inl, inr, Option, Some, None, is_some}
+use Rattle.std.proofs.Common.{◌≡◌, ℕ, Bool, true, false, not, cond, List, [], ◌∷◌, ◌++◌, refl, sym, ◌∙◌, ap, subst, Option, Some, None, is_some}
 use Rattle.std.specs.FinSet as fin_set
-use Rattle.std.specs.FinMap as fin_map
-use Rattle.std.specs.Cmp.Lexicographic.{slice_cmp, nat_list_cmp_total}
+use Rattle.std.specs.Cmp.Lexicographic.{slice_cmp}
 use Rattle.std.specs.Ordering.{nat_cmp}
 use Rattle.std.proofs.lemmas.Bool.{and_parts, false≢true, not-true}
 use Rattle.sync_ids.specs.Values.{MessageValue}
@@ -12,15 +11,14 @@ use Rattle.sync_ids.specs.declared.records.Record.TheVariants as record_kind
 use Rattle.sync_rules.specs.declared.entries.Entry.{Entry}
 use Rattle.sync_rules.specs.declared.entries.Entry.TheVariants as entry
 use Rattle.sync_rules.specs.Clients.{Meaning}
-use Rattle.sync_rules.specs.Lists.{firsts, is_among}
-use Rattle.sync_rules.specs.Facts.{Facts, Held, Id, Ids, after, after_all, after_batches, nothing, facts, entries_of, group_at, held_at, contact_of, session_at, level_at, is_invisible, wanted_from}
-use Rattle.sync_rules.specs.Steps.{IsSettled, next}
-use Rattle.sync_rules.specs.Sessions.{taken, taken_from, taken_message, taken_message_of, taken_acks, taken_requests, taken_offers, taken_offer, one_if, is_welcome, is_shown, is_remembered, room_after, wants_limit}
-use Rattle.sync_rules.specs.Legal.{Allowed, IsSettling, GoesOn, Legal, MayTake, IsDue}
-use Rattle.sync_rules.proofs.Tests.{In, tally}
+use Rattle.sync_rules.specs.Lists.{firsts}
+use Rattle.sync_rules.specs.Facts.{Facts, Held, Id, after, after_all, after_batches, nothing, facts, entries_of, group_at, held_at, contact_of, session_at, level_at, is_invisible}
+use Rattle.sync_rules.specs.Steps.{next}
+use Rattle.sync_rules.specs.Sessions.{taken, taken_message, taken_message_of, taken_acks, taken_requests, taken_offers, taken_offer, one_if, is_welcome, is_remembered, room_after}
+use Rattle.sync_rules.specs.Legal.{Allowed, IsSettling, GoesOn, Legal}
 use Rattle.sync_rules.proofs.StepLaws.{next_is_settling}
-use Rattle.sync_rules.proofs.Sound.{Sound, SoundFacts}
-use Rattle.sync_rules.proofs.Kept.{Fits, AllFit, IsNew, MayArrive, sound_all, AllFit-append, after_all-append}
+use Rattle.sync_rules.proofs.Sound.{SoundFacts}
+use Rattle.sync_rules.proofs.Kept.{Fits, AllFit, sound_all, AllFit-append}
 
 -- ---- the entries of a Take
 
@@ -51,8 +49,8 @@ fits_offers : (clients : Meaning) (was : Facts) (session contact room : ℕ) (id
 fits_offers clients was session contact room [] f = tt
 fits_offers clients was session contact room (id ∷ ids) f =
     AllFit-append clients f (taken_offer was session contact room id) _
-      (fits_offer clients session id _ _ f)
-      (fits_offers clients was session contact (room_after (is_remembered was contact room id) room) ids (after_all f (taken_offer was session contact room id)))
+    (fits_offer clients session id _ _ f)
+    (fits_offers clients was session contact (room_after (is_remembered was contact room id) room) ids (after_all f (taken_offer was session contact room id)))
 
 some_or_none : (o : Option Held) → o ≡ None → is_some o ≡ false
 some_or_none o e = ap is_some e
@@ -64,18 +62,18 @@ fits_message clients f session k m known =
     let contact : ℕ = contact_of f.sessions session in
     let g : Facts = after f (entry.Take session k) in
     elim (is_welcome f contact m.group) as (λ b. is_welcome f contact m.group ≡ b
-        → AllFit clients g (cond b (taken_message_of f session contact m (held_at f.held (message_id_of m))) [])) [
+    → AllFit clients g (cond b (taken_message_of f session contact m (held_at f.held (message_id_of m))) [])) [
       | true ↦ λ w.
           let both = and_parts (is_some (group_at f.groups m.group)) (not (is_invisible (level_at f.levels contact m.group))) w in
           elim (held_at f.held (message_id_of m)) as (λ o. held_at f.held (message_id_of m) ≡ o → AllFit clients g (taken_message_of f session contact m o)) [
             | None ↦ λ e. (
-                record {
-                  is_new = record { known = both.0; new = some_or_none (held_at f.held (message_id_of m)) e };
-                  shown = not-true (is_invisible (level_at f.levels contact m.group)) both.1;
-                  known_session = known;
-                },
-                tt,
-              )
+              record {
+                is_new = record { known = both.0; new = some_or_none (held_at f.held (message_id_of m)) e };
+                shown = not-true (is_invisible (level_at f.levels contact m.group)) both.1;
+                known_session = known;
+              },
+              tt,
+            )
             | Some h ↦ λ e.
                 elim (not (is_invisible (level_at f.levels contact h.message.group))) as (λ b. AllFit clients g (one_if b (entry.Again session (message_id_of m)))) [
                   | true ↦ (tt, tt)

@@ -1,5 +1,5 @@
 -- What the plain functions find is what the facts say.
-use Rattle.std.proofs.Common.{◌≡◌, ℕ, Bool, true, false, cond, ◌&&◌, ◌||◌, nat_eq, List, [], ◌∷◌, ◌++◌, refl, sym, ◌∙◌, ap, subst, Option, Some, None, option_map, is_some}
+use Rattle.std.proofs.Common.{◌≡◌, ℕ, Bool, true, false, cond, ◌&&◌, ◌||◌, nat_eq, List, [], ◌∷◌, ◌++◌, refl, sym, ◌∙◌, ap, Option, Some, None, is_some}
 use Rattle.std.specs.List.{list_any}
 use Rattle.std.specs.FinSet as fin_set
 use Rattle.std.specs.FinMap as fin_map
@@ -8,19 +8,17 @@ use Rattle.std.specs.Cmp.Lexicographic.{slice_cmp, nat_list_cmp_total, texts_tie
 use Rattle.std.specs.Ordering.{nat_cmp, eq_by_cmp}
 use Rattle.std.proofs.lemmas.Cmp.{on_total, then_total}
 use Rattle.sync_ids.specs.Values.{GroupValue, MessageValue}
-use Rattle.sync_ids.specs.Ids.{group_id_of, message_id_of}
 use Rattle.sync_rules.specs.declared.entries.Entry.{Entry}
 use Rattle.sync_rules.specs.declared.entries.Entry.TheVariants as entry
 use Rattle.sync_rules.specs.declared.entries.Level.{Level}
 use Rattle.sync_rules.specs.declared.entries.Level.TheVariants as level
-use Rattle.sync_rules.specs.declared.states.Fate.{Fate}
 use Rattle.sync_rules.specs.Clients.{Meaning}
 use Rattle.sync_rules.specs.Lists.{same_id, is_among}
 use Rattle.sync_rules.specs.Facts.{Facts, Held, Known, Id, Pair, Levels, pair_cmp, after, after_all, after_batches, nothing, facts, entries_of, held_at, group_at, level_at, level_or, put_level, authored, arrived, known_of, contact_of}
-use Rattle.sync_rules.specs.Steps.{step, first_step, first_or_next, next, is_ended, verdict_in, verdict_for, verdict_by, kind_of_def, is_beside, is_elsewhere}
-use Rattle.sync_rules.specs.Tests.{judges, delivers, invalidates}
+use Rattle.sync_rules.specs.Steps.{step, first_step, first_or_next, next, verdict_for, verdict_by, kind_of_def, is_beside, is_elsewhere}
+use Rattle.sync_rules.specs.EntryTests.{judges, delivers, invalidates}
 use Rattle.sync_rules.specs.Scans.{message_at, def_at, is_beside_message, is_elsewhere_message, message_of, def_of, message_named, def_named, first_of_two, first_message, first_message_in, first_def, first_def_in, any_entry, level_then, last_level, last_level_in, step_brought, first_step_of, first_step_in}
-use Rattle.sync_rules.proofs.Tests.{any-append}
+use Rattle.sync_rules.proofs.Elements.{any-append}
 use Rattle.sync_rules.proofs.Kept.{after_batches-is}
 use Rattle.sync_rules.proofs.Flags.{IsScan, scanned, judged_scan, invalid_scan, delivered_scan}
 
@@ -62,7 +60,7 @@ held_at-append : (held : List Held) (x : Held) (id : Id)
 held_at-append [] x id = elim (same_id x.id id) as (λ b. message_at (cond b (Some x) None) ≡ cond b (Some x.message) None) [ true ↦ refl | false ↦ refl ]
 held_at-append (y ∷ held) x id =
     elim (same_id y.id id) as (λ b. message_at (cond b (Some y) (held_at (held ++ x ∷ []) id))
-        ≡ first_of_two (message_at (cond b (Some y) (held_at held id))) (cond (same_id x.id id) (Some x.message) None)) [
+    ≡ first_of_two (message_at (cond b (Some y) (held_at held id))) (cond (same_id x.id id) (Some x.message) None)) [
       | true ↦ refl
       | false ↦ held_at-append held x id
     ]
@@ -72,7 +70,7 @@ group_at-append : (groups : List Known) (x : Known) (id : Id)
 group_at-append [] x id = elim (same_id x.id id) as (λ b. def_at (cond b (Some x) None) ≡ cond b (Some x.def) None) [ true ↦ refl | false ↦ refl ]
 group_at-append (y ∷ groups) x id =
     elim (same_id y.id id) as (λ b. def_at (cond b (Some y) (group_at (groups ++ x ∷ []) id))
-        ≡ first_of_two (def_at (cond b (Some y) (group_at groups id))) (cond (same_id x.id id) (Some x.def) None)) [
+    ≡ first_of_two (def_at (cond b (Some y) (group_at groups id))) (cond (same_id x.id id) (Some x.def) None)) [
       | true ↦ refl
       | false ↦ group_at-append groups x id
     ]

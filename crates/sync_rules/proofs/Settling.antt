@@ -1,9 +1,8 @@
 -- The settled law.
-use Rattle.std.proofs.Common.{◌≡◌, ℕ, zero, suc, ◌+◌, ◌<◌, ◌≤◌, Bool, true, false, cond, ◌&&◌, ◌||◌, ◌⊎◌, ◌↔◌, List, [], ◌∷◌, ◌++◌, length, refl, sym, ◌∙◌, ap, subst, inl, inr, arith, Option, Some, None, is_some, length-append}
+use Rattle.std.proofs.Common.{◌≡◌, ℕ, zero, suc, ◌+◌, ◌≤◌, Bool, true, false, cond, ◌&&◌, List, [], ◌∷◌, ◌++◌, length, refl, sym, ◌∙◌, ap, subst, inl, inr, arith, Option, Some, None, is_some, length-append}
 use Rattle.std.specs.List.{list_any, list_all}
 use Rattle.std.specs.FinSet as fin_set
-use Rattle.std.proofs.lemmas.Bool.{and_parts, and_from, or_cases, or_left, or_right, or_parts, false≢true, both_ways, false_from_ne_true}
-use Rattle.sync_rules.specs.declared.answers.Judgement.{Judgement}
+use Rattle.std.proofs.lemmas.Bool.{and_parts, and_from, or_cases, or_left, or_right, false≢true, both_ways}
 use Rattle.sync_rules.specs.declared.answers.Judgement.TheVariants as judgement
 use Rattle.sync_rules.specs.declared.entries.Entry.{Entry}
 use Rattle.sync_rules.specs.declared.entries.Entry.TheVariants as entry
@@ -11,16 +10,16 @@ use Rattle.sync_rules.specs.declared.states.Fate.{Fate}
 use Rattle.sync_rules.specs.declared.states.Fate.TheVariants as fate_kind
 use Rattle.sync_rules.specs.Clients.{Meaning}
 use Rattle.sync_rules.specs.Lists.{is_among}
-use Rattle.sync_rules.specs.Facts.{Facts, Held, Id, after, after_all, after_batches, nothing, facts, entries_of, held_at, is_held, known_of, authored, arrived, contact_of, Extends}
-use Rattle.sync_rules.specs.Steps.{IsSettled, verdict_in, is_beside, is_elsewhere, is_failing, is_served, is_ended, fate, fate_held}
-use Rattle.sync_rules.specs.Rounds.{Graph, graph_of, good, good_by, good_next, bad, bad_by, bad_first, bad_more, worse_by}
+use Rattle.sync_rules.specs.Facts.{Facts, Held, Id, after, after_all, after_batches, nothing, facts, held_at, is_held, known_of, authored, arrived, contact_of, Extends}
+use Rattle.sync_rules.specs.Steps.{IsSettled, verdict_in, is_beside, is_elsewhere, is_failing, is_served, fate, fate_held}
+use Rattle.sync_rules.specs.Rounds.{graph_of, good, good_by, good_next, bad, bad_by, bad_first, bad_more, worse_by}
 use Rattle.sync_rules.specs.Legal.{Legal, GoesOn}
 use Rattle.sync_rules.specs.Laws.{IsDecided, Decides, IsKeptBy}
-use Rattle.sync_rules.proofs.Tests.{In, all_weaker, any_weaker, tally, tally_le}
+use Rattle.sync_rules.proofs.Elements.{all_weaker, any_weaker, tally, tally_le}
 use Rattle.sync_rules.proofs.RoundLaws.{good_le, bad_le, disjoint, good_grows, bad_grows}
 use Rattle.sync_rules.proofs.StepLaws.{Rests, Waits, first_step_none, told_some}
 use Rattle.sync_rules.proofs.Sound.{SoundFacts, has_delivery, has_refusal, held_at-In, held_at-id, groups_grow, held_grow}
-use Rattle.sync_rules.proofs.Kept.{Fits, AllFit, sound_after, sound_all}
+use Rattle.sync_rules.proofs.Kept.{AllFit, sound_after, sound_all}
 use Rattle.sync_rules.proofs.Runs.{legal_sound, allowed_fits}
 
 module _ (clients : Meaning) (f : Facts) (s : SoundFacts clients f) where
@@ -28,12 +27,12 @@ module _ (clients : Meaning) (f : Facts) (s : SoundFacts clients f) where
   pub good_if_delivered : (id : Id) → is_among f.delivered id ≡ true → good (graph_of clients f) (length f.held) id ≡ true
   good_if_delivered id e =
       good_le (graph_of clients f) (length f.held) (tally (has_delivery f.delivered) f.held) id
-        (tally_le (has_delivery f.delivered) f.held) (s.delivered_good id e)
+      (tally_le (has_delivery f.delivered) f.held) (s.delivered_good id e)
 
   pub bad_if_invalid : (id : Id) → fin_set.contains f.invalid id ≡ true → bad (graph_of clients f) (length f.held) id ≡ true
   bad_if_invalid id e =
       bad_le (graph_of clients f) (length f.held) (tally (has_refusal f.invalid) f.held) id
-        (tally_le (has_refusal f.invalid) f.held) (s.invalid_bad id e)
+      (tally_le (has_refusal f.invalid) f.held) (s.invalid_bad id e)
 
   -- a good message is not invalid, and a bad one is not delivered
   good_not_invalid : (k : ℕ) (id : Id) → good (graph_of clients f) k id ≡ true → fin_set.contains f.invalid id ≡ true → ⊥
@@ -53,12 +52,12 @@ module _ (clients : Meaning) (f : Facts) (s : SoundFacts clients f) where
     waits_not_good k before h w g =
         let test : Id → Bool = good (graph_of clients f) k in
         let at : good_by (graph_of clients f) test h.message.group (judgement.Accept w.accepted.deps w.accepted.share) ≡ true =
-            ap (good_by (graph_of clients f) test h.message.group) (sym w.accepted.verdict) ∙ g in
+        ap (good_by (graph_of clients f) test h.message.group) (sym w.accepted.verdict) ∙ g in
         let served : list_all (is_served f h.message.group) w.accepted.deps ≡ true =
-            all_weaker (λ d. is_beside h.message.group (held_at f.held d) && test d) (is_served f h.message.group)
-              (λ d t. let both = and_parts (is_beside h.message.group (held_at f.held d)) (test d) t in
-                  and_from (is_beside h.message.group (held_at f.held d)) (is_among f.delivered d) both.0 (before d both.1))
-              w.accepted.deps at in
+        all_weaker (λ d. is_beside h.message.group (held_at f.held d) && test d) (is_served f h.message.group)
+        (λ d t. let both = and_parts (is_beside h.message.group (held_at f.held d)) (test d) t in
+        and_from (is_beside h.message.group (held_at f.held d)) (is_among f.delivered d) both.0 (before d both.1))
+        w.accepted.deps at in
         both_ways (list_all (is_served f h.message.group) w.accepted.deps) w.not_served served
 
     good_is_delivered_at : (k : ℕ) → ((d : Id) → good (graph_of clients f) k d ≡ true → is_among f.delivered d ≡ true)
@@ -86,20 +85,20 @@ module _ (clients : Meaning) (f : Facts) (s : SoundFacts clients f) where
     waits_not_bad : (h : Held) → Waits clients f h → bad_by (graph_of clients f) h.message.group (verdict_in clients f.groups h.message) ≡ true → ⊥
     waits_not_bad h w b =
         let at : bad_by (graph_of clients f) h.message.group (judgement.Accept w.accepted.deps w.accepted.share) ≡ true =
-            ap (bad_by (graph_of clients f) h.message.group) (sym w.accepted.verdict) ∙ b in
+        ap (bad_by (graph_of clients f) h.message.group) (sym w.accepted.verdict) ∙ b in
         let failing : list_any (is_failing f h.message.group) w.accepted.deps ≡ true =
-            any_weaker (λ d. is_elsewhere h.message.group (held_at f.held d)) (is_failing f h.message.group)
-              (λ d t. or_left (is_elsewhere h.message.group (held_at f.held d)) (fin_set.contains f.invalid d) t) w.accepted.deps at in
+        any_weaker (λ d. is_elsewhere h.message.group (held_at f.held d)) (is_failing f h.message.group)
+        (λ d t. or_left (is_elsewhere h.message.group (held_at f.held d)) (fin_set.contains f.invalid d) t) w.accepted.deps at in
         both_ways (list_any (is_failing f h.message.group) w.accepted.deps) w.none_fails failing
 
     waits_not_worse : (k : ℕ) → ((d : Id) → bad (graph_of clients f) k d ≡ true → fin_set.contains f.invalid d ≡ true)
         → (h : Held) → Waits clients f h → worse_by (bad (graph_of clients f) k) (verdict_in clients f.groups h.message) ≡ true → ⊥
     waits_not_worse k before h w b =
         let at : worse_by (bad (graph_of clients f) k) (judgement.Accept w.accepted.deps w.accepted.share) ≡ true =
-            ap (worse_by (bad (graph_of clients f) k)) (sym w.accepted.verdict) ∙ b in
+        ap (worse_by (bad (graph_of clients f) k)) (sym w.accepted.verdict) ∙ b in
         let failing : list_any (is_failing f h.message.group) w.accepted.deps ≡ true =
-            any_weaker (bad (graph_of clients f) k) (is_failing f h.message.group)
-              (λ d t. or_right (is_elsewhere h.message.group (held_at f.held d)) (fin_set.contains f.invalid d) (before d t)) w.accepted.deps at in
+        any_weaker (bad (graph_of clients f) k) (is_failing f h.message.group)
+        (λ d t. or_right (is_elsewhere h.message.group (held_at f.held d)) (fin_set.contains f.invalid d) (before d t)) w.accepted.deps at in
         both_ways (list_any (is_failing f h.message.group) w.accepted.deps) w.none_fails failing
 
     bad_is_invalid_by : (k : ℕ) (id : Id) (h : Held) → held_at f.held id ≡ Some h → bad (graph_of clients f) k id ≡ true
@@ -147,9 +146,9 @@ module _ (clients : Meaning) (f : Facts) (s : SoundFacts clients f) where
     fate_in_time id held b d eb ed =
         ap (λ t. cond t (Some (fate_held f id)) None) held
         ∙ ap (λ (x : Fate). Some x)
-          ((λ i. cond (eb i) fate_kind.Invalid (cond (ed i) fate_kind.Delivered (cond (fin_set.contains f.judged id) fate_kind.Pending fate_kind.Unknown)))
-          ∙ ap (λ t. cond b fate_kind.Invalid (cond d fate_kind.Delivered (cond t fate_kind.Pending fate_kind.Unknown)))
-            (held_is_judged id (held_at f.held id) refl held))
+        ((λ i. cond (eb i) fate_kind.Invalid (cond (ed i) fate_kind.Delivered (cond (fin_set.contains f.judged id) fate_kind.Pending fate_kind.Unknown)))
+        ∙ ap (λ t. cond b fate_kind.Invalid (cond d fate_kind.Delivered (cond t fate_kind.Pending fate_kind.Unknown)))
+        (held_is_judged id (held_at f.held id) refl held))
 
     pub decided : Decides clients f
     decided id held =
@@ -222,7 +221,7 @@ kept_all : (clients : Meaning) (f : Facts) (es : List Entry) → AllFit clients 
 kept_all clients f [] fit s = kept_itself clients f
 kept_all clients f (e ∷ es) fit s =
     kept_then clients f (after f e) (after_all (after f e) es) (kept_after clients f e s)
-      (kept_all clients (after f e) es fit.1 (sound_after clients f e fit.0 s))
+    (kept_all clients (after f e) es fit.1 (sound_after clients f e fit.0 s))
 
 -- ---- prefixes
 
@@ -247,7 +246,7 @@ kept_batches clients f [] g s = kept_itself clients f
 kept_batches clients f (b ∷ bs) g s =
     let fit = allowed_fits clients f b g.0 in
     kept_then clients f (after_all f b) (after_batches (after_all f b) bs) (kept_all clients f b fit s)
-      (kept_batches clients (after_all f b) bs g.1 (sound_all clients f b fit s))
+    (kept_batches clients (after_all f b) bs g.1 (sound_all clients f b fit s))
 
 pub prefix_legal : (clients : Meaning) (j before : List (List Entry)) → Extends j before → Legal clients j → Legal clients before
 prefix_legal clients j before e l = goes_on_front clients nothing before e.0 (subst (Legal clients) e.1 l)

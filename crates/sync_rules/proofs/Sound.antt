@@ -1,21 +1,20 @@
 -- What every legal journal keeps: a delivered message is good and an invalid one is bad, each at a round that counts the
 -- held messages with that end.
-use Rattle.std.proofs.Common.{◌≡◌, ℕ, zero, suc, ◌+◌, ◌<◌, ◌≤◌, Bool, true, false, cond, ◌&&◌, ◌||◌, ◌⊎◌, List, [], ◌∷◌, ◌++◌, length, refl, sym, ◌∙◌, ap, subst, inl, inr, arith, Option, Some, None, is_some}
+use Rattle.std.proofs.Common.{◌≡◌, ℕ, zero, suc, ◌+◌, ◌≤◌, Bool, true, false, cond, ◌&&◌, ◌||◌, ◌⊎◌, List, [], ◌∷◌, ◌++◌, refl, sym, ◌∙◌, ap, subst, inl, inr, arith, Option, Some, None, is_some}
 use Rattle.std.specs.List.{list_any, list_all}
 use Rattle.std.specs.FinSet as fin_set
 use Rattle.std.specs.Cmp.Lexicographic.{nat_list_cmp_total, texts_ties}
-use Rattle.std.proofs.lemmas.Bool.{and_parts, and_from, or_cases, or_left, or_right, or_parts, false≢true, both_ways}
+use Rattle.std.proofs.lemmas.Bool.{and_parts, and_from, or_cases, or_left, or_right, or_parts, false≢true}
 use Rattle.sync_ids.specs.Values.{MessageValue}
-use Rattle.sync_rules.specs.declared.answers.Judgement.{Judgement}
 use Rattle.sync_rules.specs.declared.answers.Judgement.TheVariants as judgement
 use Rattle.sync_rules.specs.Clients.{Meaning}
 use Rattle.sync_rules.specs.Lists.{same_id, is_among}
 use Rattle.sync_rules.specs.Facts.{Facts, Held, Known, Id, Ids, held_at, group_at, is_held}
-use Rattle.sync_rules.specs.Steps.{verdict_in, verdict_for, is_beside, is_elsewhere, is_failing, is_served, is_ended}
+use Rattle.sync_rules.specs.Steps.{verdict_in, verdict_for, is_beside, is_elsewhere, is_failing, is_served}
 use Rattle.sync_rules.specs.Rounds.{Graph, good, good_by, good_next, bad, bad_by, bad_first, bad_more, worse_by}
-use Rattle.sync_rules.proofs.Tests.{same_id-is, same_id_itself, same_id_swap, In, In-push_cases, In-append_left, In-append_right, all_weaker, any_weaker, tally, tally_up, tally_more, tally-append, among-push}
+use Rattle.sync_rules.proofs.Elements.{same_id-is, same_id_itself, same_id_swap, In, In-push_cases, all_weaker, any_weaker, tally, tally_more, tally-append, among-push}
 use Rattle.sync_rules.proofs.RoundLaws.{good_le, bad_le, Grows, good_grows, bad_grows}
-use Rattle.sync_rules.proofs.StepLaws.{Accepts, Delivers, Invalidates, Fails}
+use Rattle.sync_rules.proofs.StepLaws.{Delivers, Invalidates, Fails}
 
 -- ---- look-ups in longer lists
 
@@ -31,7 +30,7 @@ pub held_at-push_new : (held : List Held) (x : Held) (id : Id) → held_at held 
 held_at-push_new [] x id e = refl
 held_at-push_new (y ∷ held) x id e =
     elim (same_id y.id id) as (λ b. cond b (Some y) (held_at held id) ≡ None
-        → cond b (Some y) (held_at (held ++ x ∷ []) id) ≡ cond (same_id x.id id) (Some x) None) [
+    → cond b (Some y) (held_at (held ++ x ∷ []) id) ≡ cond (same_id x.id id) (Some x) None) [
       | true ↦ λ e. cc
       | false ↦ λ e. held_at-push_new held x id e
     ] e
@@ -40,7 +39,7 @@ pub group_at-push : (groups : List Known) (x : Known) (id : Id) → is_some (gro
 group_at-push [] x id e = absurd (false≢true e)
 group_at-push (y ∷ groups) x id e =
     elim (same_id y.id id) as (λ b. is_some (cond b (Some y) (group_at groups id)) ≡ true
-        → cond b (Some y) (group_at (groups ++ x ∷ []) id) ≡ cond b (Some y) (group_at groups id)) [
+    → cond b (Some y) (group_at (groups ++ x ∷ []) id) ≡ cond b (Some y) (group_at groups id)) [
       | true ↦ λ e. refl
       | false ↦ λ e. group_at-push groups x id e
     ] e
@@ -105,9 +104,9 @@ good_from_served clients f h k deps share v at was served =
     let g : Graph = graph clients f.groups f.held in
     let test : Id → Bool = good g k in
     let by : good_by g test h.message.group (judgement.Accept deps share) ≡ true =
-        all_weaker (is_served f h.message.group) (λ d. is_beside h.message.group (held_at f.held d) && test d)
-          (λ d t. let both = and_parts (is_beside h.message.group (held_at f.held d)) (is_among f.delivered d) t in
-              and_from (is_beside h.message.group (held_at f.held d)) (test d) both.0 (was d both.1)) deps served in
+    all_weaker (is_served f h.message.group) (λ d. is_beside h.message.group (held_at f.held d) && test d)
+    (λ d t. let both = and_parts (is_beside h.message.group (held_at f.held d)) (is_among f.delivered d) t in
+    and_from (is_beside h.message.group (held_at f.held d)) (test d) both.0 (was d both.1)) deps served in
     ap (good_next g test) at ∙ (ap (good_by g test h.message.group) v ∙ by)
 
 pub delivered_stays_good : (clients : Meaning) (f : Facts) (h : Held) → SoundFacts clients f → In h f.held → Delivers clients f h h.id
@@ -119,17 +118,17 @@ delivered_stays_good clients f h s inside d id among =
     let old : ℕ = tally (has_delivery f.delivered) f.held in
     let open_now = or_parts (is_among f.delivered h.id) (fin_set.contains f.invalid h.id) d.still_open.no_end in
     let more : 1 + old ≤ tally (has_delivery now) f.held =
-        tally_more (has_delivery f.delivered) (has_delivery now)
-          (λ x e. among-push f.delivered h.id x.id ∙ or_right (same_id h.id x.id) (is_among f.delivered x.id) e)
-          f.held h inside open_now.0
-          (among-push f.delivered h.id h.id ∙ or_left (same_id h.id h.id) (is_among f.delivered h.id) (same_id_itself h.id)) in
+    tally_more (has_delivery f.delivered) (has_delivery now)
+    (λ x e. among-push f.delivered h.id x.id ∙ or_right (same_id h.id x.id) (is_among f.delivered x.id) e)
+    f.held h inside open_now.0
+    (among-push f.delivered h.id h.id ∙ or_left (same_id h.id h.id) (is_among f.delivered h.id) (same_id_itself h.id)) in
     elim (or_cases (same_id h.id id) (is_among f.delivered id) (sym (among-push f.delivered h.id id) ∙ among)) [
       | inl e ↦
           let new : good g (suc old) h.id ≡ true =
-              good_from_served clients f h old d.accepted.deps d.accepted.share d.accepted.verdict (s.names h inside) s.delivered_good d.served in
+          good_from_served clients f h old d.accepted.deps d.accepted.share d.accepted.verdict (s.names h inside) s.delivered_good d.served in
           let le : suc old ≤ tally (has_delivery now) f.held = omega arith in
           subst (λ (x : Id). good g (tally (has_delivery now) f.held) x ≡ true) (same_id-is h.id id e)
-            (good_le g (tally (has_delivery now) f.held) (suc old) h.id le new)
+          (good_le g (tally (has_delivery now) f.held) (suc old) h.id le new)
       | inr was ↦
           let le : old ≤ tally (has_delivery now) f.held = omega arith in
           good_le g (tally (has_delivery now) f.held) old id le (s.delivered_good id was)
@@ -152,8 +151,8 @@ bad_from_failing clients f h k deps share v at was failing =
           bad_le g (suc k) zero h.id le first
       | inr refused ↦
           let more : bad_more g (bad g k) (held_at f.held h.id) ≡ true =
-              ap (bad_more g (bad g k)) at ∙ (ap (worse_by (bad g k)) v
-                ∙ any_weaker (λ d. fin_set.contains f.invalid d) (bad g k) was deps refused) in
+          ap (bad_more g (bad g k)) at ∙ (ap (worse_by (bad g k)) v
+          ∙ any_weaker (λ d. fin_set.contains f.invalid d) (bad g k) was deps refused) in
           or_right (bad g k h.id) (bad_more g (bad g k) (held_at f.held h.id)) more
     ]
   where
@@ -162,13 +161,13 @@ bad_from_failing clients f h k deps share v at was failing =
     any_parts p q (x ∷ xs) h =
         elim (or_cases (p x || q x) (list_any (λ d. p d || q d) xs) h) [
           | inl here ↦ elim (or_cases (p x) (q x) here) [
-              | inl a ↦ inl (or_left (p x) (list_any p xs) a)
-              | inr b ↦ inr (or_left (q x) (list_any q xs) b)
-            ]
+            | inl a ↦ inl (or_left (p x) (list_any p xs) a)
+            | inr b ↦ inr (or_left (q x) (list_any q xs) b)
+          ]
           | inr later ↦ elim (any_parts p q xs later) [
-              | inl a ↦ inl (or_right (p x) (list_any p xs) a)
-              | inr b ↦ inr (or_right (q x) (list_any q xs) b)
-            ]
+            | inl a ↦ inl (or_right (p x) (list_any p xs) a)
+            | inr b ↦ inr (or_right (q x) (list_any q xs) b)
+          ]
         ]
 
 bad_from_cause : (clients : Meaning) (f : Facts) (h : Held) → SoundFacts clients f → In h f.held
@@ -180,7 +179,7 @@ bad_from_cause clients f h s inside cause =
     elim cause [
       | inl refused ↦
           let first : bad g zero h.id ≡ true =
-              ap (bad_first g) (s.names h inside) ∙ ap (bad_by g h.message.group) refused in
+          ap (bad_first g) (s.names h inside) ∙ ap (bad_by g h.message.group) refused in
           let le : zero ≤ suc old = omega arith in
           bad_le g (suc old) zero h.id le first
       | inr fails ↦
@@ -196,15 +195,15 @@ invalid_stays_bad clients f h s inside d id among =
     let old : ℕ = tally (has_refusal f.invalid) f.held in
     let open_now = or_parts (is_among f.delivered h.id) (fin_set.contains f.invalid h.id) d.still_open.no_end in
     let more : 1 + old ≤ tally (has_refusal now) f.held =
-        tally_more (has_refusal f.invalid) (has_refusal now)
-          (λ x e. contains-more f.invalid h.id x.id ∙ or_right (same_id h.id x.id) (fin_set.contains f.invalid x.id) e)
-          f.held h inside open_now.1
-          (contains-more f.invalid h.id h.id ∙ or_left (same_id h.id h.id) (fin_set.contains f.invalid h.id) (same_id_itself h.id)) in
+    tally_more (has_refusal f.invalid) (has_refusal now)
+    (λ x e. contains-more f.invalid h.id x.id ∙ or_right (same_id h.id x.id) (fin_set.contains f.invalid x.id) e)
+    f.held h inside open_now.1
+    (contains-more f.invalid h.id h.id ∙ or_left (same_id h.id h.id) (fin_set.contains f.invalid h.id) (same_id_itself h.id)) in
     elim (or_cases (same_id h.id id) (fin_set.contains f.invalid id) (sym (contains-more f.invalid h.id id) ∙ among)) [
       | inl e ↦
           let le : suc old ≤ tally (has_refusal now) f.held = omega arith in
           subst (λ (x : Id). bad g (tally (has_refusal now) f.held) x ≡ true) (same_id-is h.id id e)
-            (bad_le g (tally (has_refusal now) f.held) (suc old) h.id le (bad_from_cause clients f h s inside d.cause))
+          (bad_le g (tally (has_refusal now) f.held) (suc old) h.id le (bad_from_cause clients f h s inside d.cause))
       | inr was ↦
           let le : old ≤ tally (has_refusal now) f.held = omega arith in
           bad_le g (tally (has_refusal now) f.held) old id le (s.invalid_bad id was)
@@ -240,9 +239,9 @@ Sound-group clients groups held invalid delivered x s =
       names = s.names;
       known = λ h inside. ap is_some (group_at-push groups x h.message.group (s.known h inside)) ∙ s.known h inside;
       delivered_good = λ id e. good_grows (graph clients groups held) (graph clients (groups ++ x ∷ []) held) grows
-        (tally (has_delivery delivered) held) id (s.delivered_good id e);
+          (tally (has_delivery delivered) held) id (s.delivered_good id e);
       invalid_bad = λ id e. bad_grows (graph clients groups held) (graph clients (groups ++ x ∷ []) held) grows
-        (tally (has_refusal invalid) held) id (s.invalid_bad id e);
+          (tally (has_refusal invalid) held) id (s.invalid_bad id e);
     }
 
 tally_push : (p : Held → Bool) (held : List Held) (x : Held) → tally p held ≤ tally p (held ++ x ∷ [])
@@ -265,7 +264,7 @@ Sound-held clients groups held invalid delivered x known new s =
         | inl was ↦ held_at-push held x h.id h (s.names h was)
         | inr e ↦
             let at : held_at (held ++ x ∷ []) x.id ≡ Some x =
-                held_at-push_new held x x.id none ∙ ap (λ b. cond b (Some x) None) (same_id_itself x.id) in
+            held_at-push_new held x x.id none ∙ ap (λ b. cond b (Some x) None) (same_id_itself x.id) in
             subst (λ (w : Held). held_at (held ++ x ∷ []) w.id ≡ Some w) (sym e) at
       ];
       known = λ h inside. elim (In-push_cases h x held inside) [
@@ -273,9 +272,9 @@ Sound-held clients groups held invalid delivered x known new s =
         | inr e ↦ subst (λ (w : Held). is_some (group_at groups w.message.group) ≡ true) (sym e) known
       ];
       delivered_good = λ id e.
-        good_le n (tally (has_delivery delivered) (held ++ x ∷ [])) (tally (has_delivery delivered) held) id (tally_push (has_delivery delivered) held x)
+          good_le n (tally (has_delivery delivered) (held ++ x ∷ [])) (tally (has_delivery delivered) held) id (tally_push (has_delivery delivered) held x)
           (good_grows g n grows (tally (has_delivery delivered) held) id (s.delivered_good id e));
       invalid_bad = λ id e.
-        bad_le n (tally (has_refusal invalid) (held ++ x ∷ [])) (tally (has_refusal invalid) held) id (tally_push (has_refusal invalid) held x)
+          bad_le n (tally (has_refusal invalid) (held ++ x ∷ [])) (tally (has_refusal invalid) held) id (tally_push (has_refusal invalid) held x)
           (bad_grows g n grows (tally (has_refusal invalid) held) id (s.invalid_bad id e));
     }

@@ -1,16 +1,15 @@
 -- What the step of a message tells, and what the next step of a journal tells.
-use Rattle.std.proofs.Common.{◌≡◌, ℕ, Bool, true, false, cond, ◌&&◌, ◌||◌, ◌⊎◌, List, [], ◌∷◌, refl, sym, ◌∙◌, ap, subst, inl, inr, Option, Some, None, is_some}
+use Rattle.std.proofs.Common.{◌≡◌, Bool, true, false, cond, ◌⊎◌, List, [], ◌∷◌, refl, ◌∙◌, ap, subst, inl, inr, Option, Some, None}
 use Rattle.std.specs.List.{list_any, list_all}
 use Rattle.std.specs.FinSet as fin_set
-use Rattle.std.proofs.lemmas.Bool.{false≢true}
 use Rattle.sync_rules.specs.declared.answers.Judgement.{Judgement}
 use Rattle.sync_rules.specs.declared.answers.Judgement.TheVariants as judgement
 use Rattle.sync_rules.specs.declared.entries.Entry.{Entry}
 use Rattle.sync_rules.specs.declared.entries.Entry.TheVariants as entry
 use Rattle.sync_rules.specs.Clients.{Meaning}
 use Rattle.sync_rules.specs.Facts.{Facts, Held, Id}
-use Rattle.sync_rules.specs.Steps.{verdict_in, answer_of, is_failing, is_served, is_ended, step, step_by, step_open, step_accepted, first_step, first_or_next, next}
-use Rattle.sync_rules.proofs.Tests.{In}
+use Rattle.sync_rules.specs.Steps.{verdict_in, is_failing, is_served, is_ended, step, step_by, step_open, step_accepted, first_step, first_or_next, next}
+use Rattle.sync_rules.proofs.Elements.{In}
 
 -- a message that is to be judged
 pub record Judges (f : Facts) (h : Held) (id : Id) : Type 0 where
@@ -69,20 +68,20 @@ module _ (clients : Meaning) (f : Facts) (h : Held) where
       → Told clients f h (step_accepted f h deps)
   tells_accepted deps share v o =
       elim (list_any (is_failing f h.message.group) deps) as (λ b. list_any (is_failing f h.message.group) deps ≡ b
-          → Told clients f h (cond b (Some (entry.Invalid h.id)) (cond (list_all (is_served f h.message.group) deps) (Some (entry.Deliver h.id)) None))) [
+      → Told clients f h (cond b (Some (entry.Invalid h.id)) (cond (list_all (is_served f h.message.group) deps) (Some (entry.Deliver h.id)) None))) [
         | true ↦ λ e. record {
-            same = refl;
-            still_open = o;
-            cause = inr (record { accepted = record { deps = deps; share = share; verdict = v }; failing = e });
-          }
+          same = refl;
+          still_open = o;
+          cause = inr (record { accepted = record { deps = deps; share = share; verdict = v }; failing = e });
+        }
         | false ↦ λ e.
             elim (list_all (is_served f h.message.group) deps) as (λ b. list_all (is_served f h.message.group) deps ≡ b
-                → Told clients f h (cond b (Some (entry.Deliver h.id)) None)) [
+            → Told clients f h (cond b (Some (entry.Deliver h.id)) None)) [
               | true ↦ λ s. record { same = refl; still_open = o; accepted = record { deps = deps; share = share; verdict = v }; served = s }
               | false ↦ λ s. record {
-                  judged = o.judged;
-                  rest = inr (record { accepted = record { deps = deps; share = share; verdict = v }; none_fails = e; not_served = s });
-                }
+                judged = o.judged;
+                rest = inr (record { accepted = record { deps = deps; share = share; verdict = v }; none_fails = e; not_served = s });
+              }
             ] refl
       ] refl
 
@@ -93,10 +92,10 @@ module _ (clients : Meaning) (f : Facts) (h : Held) where
   pub step_tells : Told clients f h (step clients f h)
   step_tells =
       elim (fin_set.contains f.judged h.id) as (λ b. fin_set.contains f.judged h.id ≡ b
-          → Told clients f h (step_by f h (cond b (Some (verdict_in clients f.groups h.message)) None))) [
+      → Told clients f h (step_by f h (cond b (Some (verdict_in clients f.groups h.message)) None))) [
         | true ↦ λ j.
             elim (is_ended f h.id) as (λ b. is_ended f h.id ≡ b
-                → Told clients f h (cond b None (step_open f h (verdict_in clients f.groups h.message)))) [
+            → Told clients f h (cond b None (step_open f h (verdict_in clients f.groups h.message)))) [
               | true ↦ λ e. record { judged = j; rest = inl e }
               | false ↦ λ e. tells_open (verdict_in clients f.groups h.message) refl (record { judged = j; no_end = e })
             ] refl

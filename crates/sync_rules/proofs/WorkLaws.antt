@@ -1,20 +1,20 @@
 -- Settling ends: each step leaves fewer messages without a judgement or without an end. And what settling makes of a
 -- journal.
-use Rattle.std.proofs.Common.{◌≡◌, ℕ, ◌+◌, ◌<◌, ◌≤◌, Bool, true, false, not, ◌||◌, List, [], ◌∷◌, ◌++◌, length, refl, sym, ◌∙◌, ap, subst, arith, Option, Some, None, append_assoc, append-nil}
+use Rattle.std.proofs.Common.{◌≡◌, ℕ, ◌+◌, ◌<◌, ◌≤◌, Bool, true, false, not, ◌||◌, List, [], ◌∷◌, ◌++◌, refl, sym, ◌∙◌, ap, subst, arith, Some, append_assoc, append-nil}
 use Rattle.std.specs.FinSet as fin_set
 use Rattle.sync_rules.specs.declared.entries.Entry.{Entry}
 use Rattle.sync_rules.specs.declared.entries.Entry.TheVariants as entry
 use Rattle.sync_rules.specs.Clients.{Meaning}
 use Rattle.sync_rules.specs.Lists.{same_id}
 use Rattle.sync_rules.specs.Facts.{Facts, Held, Id, after, after_all, after_batches, nothing, facts}
-use Rattle.sync_rules.specs.Steps.{next, is_ended, IsSettled}
-use Rattle.sync_rules.specs.Legal.{Allowed, IsSettling, IsSettlingBatch, AllSettling, GoesOn, Legal}
+use Rattle.sync_rules.specs.Steps.{next, is_ended}
+use Rattle.sync_rules.specs.Legal.{Allowed, IsSettlingBatch, AllSettling, GoesOn, Legal}
 use Rattle.sync_rules.specs.Hearing.{Settles}
-use Rattle.sync_rules.specs.Tests.{judges, ends, delivers, invalidates}
-use Rattle.sync_rules.proofs.Tests.{In, same_id_itself, tally, tally_more, tally_up}
+use Rattle.sync_rules.specs.EntryTests.{judges, ends}
+use Rattle.sync_rules.proofs.Elements.{In, same_id_itself, tally, tally_more, tally_up}
 use Rattle.sync_rules.proofs.StepLaws.{Judges, IsSettlingEntry, first_step_some, told_some, next_is_settling}
 use Rattle.sync_rules.proofs.Kept.{delivery, refusal}
-use Rattle.sync_rules.proofs.Flags.{IsScan, judged_scan, ended_scan}
+use Rattle.sync_rules.proofs.Flags.{judged_scan, ended_scan}
 use Rattle.sync_rules.proofs.Settling.{goes_on_both, after_batches-append}
 
 -- what is left to do: a judgement and an end for each held message
@@ -50,8 +50,8 @@ less_judged : (f : Facts) (e : Entry) (hs : List Held) (h : Held) → In h hs �
     → tally (unjudged (after f e)) hs + tally (unended (after f e)) hs < tally (unjudged f) hs + tally (unended f) hs
 less_judged f e hs h inside was is =
     let fewer : 1 + tally (unjudged (after f e)) hs ≤ tally (unjudged f) hs =
-        tally_more (unjudged (after f e)) (unjudged f) (judged_up f e) hs h inside
-          (set_not (judges h.id e) (fin_set.contains f.judged h.id) (fin_set.contains (after f e).judged h.id) (judged_scan h.id f e) is) was in
+    tally_more (unjudged (after f e)) (unjudged f) (judged_up f e) hs h inside
+    (set_not (judges h.id e) (fin_set.contains f.judged h.id) (fin_set.contains (after f e).judged h.id) (judged_scan h.id f e) is) was in
     let rest : tally (unended (after f e)) hs ≤ tally (unended f) hs = tally_up (unended (after f e)) (unended f) (ended_up f e) hs in
     omega arith
 
@@ -59,8 +59,8 @@ less_ended : (f : Facts) (e : Entry) (hs : List Held) (h : Held) → In h hs →
     → tally (unjudged (after f e)) hs + tally (unended (after f e)) hs < tally (unjudged f) hs + tally (unended f) hs
 less_ended f e hs h inside was is =
     let fewer : 1 + tally (unended (after f e)) hs ≤ tally (unended f) hs =
-        tally_more (unended (after f e)) (unended f) (ended_up f e) hs h inside
-          (set_not (ends h.id e) (is_ended f h.id) (is_ended (after f e) h.id) (ended_scan h.id f e) is) was in
+    tally_more (unended (after f e)) (unended f) (ended_up f e) hs h inside
+    (set_not (ends h.id e) (is_ended f h.id) (is_ended (after f e) h.id) (ended_scan h.id f e) is) was in
     let rest : tally (unjudged (after f e)) hs ≤ tally (unjudged f) hs = tally_up (unjudged (after f e)) (unjudged f) (judged_up f e) hs in
     omega arith
 
@@ -76,7 +76,7 @@ less_by clients f (entry.Judged id) k n =
 less_by clients f (entry.Deliver id) k n =
     let d = delivery clients f id n in
     let sets : ends d.of.id (entry.Deliver id) ≡ true =
-        ap (λ b. b || false) (ap (λ (x : Id). same_id x d.of.id) d.same ∙ same_id_itself d.of.id) in
+    ap (λ b. b || false) (ap (λ (x : Id). same_id x d.of.id) d.same ∙ same_id_itself d.of.id) in
     less_ended f (entry.Deliver id) f.held d.of d.inside (ap not d.delivers.still_open.no_end) sets
 less_by clients f (entry.Invalid id) k n =
     let d = refusal clients f id n in
@@ -112,7 +112,7 @@ settles_step clients old j e s n =
       more = s.more ++ (e ∷ []) ∷ [];
       extends = ap (λ (x : List (List Entry)). x ++ (e ∷ []) ∷ []) s.extends ∙ append_assoc old s.more ((e ∷ []) ∷ []);
       settling = all_settling-append clients (facts old) s.more ((e ∷ []) ∷ []) s.settling
-        (subst (λ (f : Facts). AllSettling clients f ((e ∷ []) ∷ [])) whole (one_step_batch clients (facts j) e n, tt));
+          (subst (λ (f : Facts). AllSettling clients f ((e ∷ []) ∷ [])) whole (one_step_batch clients (facts j) e n, tt));
     }
 
 allowed_by : (clients : Meaning) (f : Facts) (e : Entry) (es : List Entry) → IsSettlingEntry e → IsSettlingBatch clients f (e ∷ es) → Allowed clients f (e ∷ es)

@@ -1,5 +1,5 @@
 -- The laws of legal journals.
-use Rattle.std.specs.Prelude.{◌≡◌, ◌↔◌, ℕ, ◌≤◌, Bool, true, false, ◌&&◌, List, [], ◌∷◌, ◌++◌, length, count_by, Option, Some, None, is_some}
+use Rattle.std.specs.Prelude.{◌≡◌, ◌↔◌, ℕ, ◌≤◌, Bool, true, false, ◌&&◌, List, ◌∷◌, ◌++◌, length, count_by, Some, is_some}
 use Rattle.std.specs.List.{list_any, list_all}
 use Rattle.sync_ids.specs.Values.{MessageValue}
 use Rattle.sync_ids.specs.Ids.{message_id_of}
@@ -13,7 +13,7 @@ use Rattle.sync_rules.specs.Clients.{Meaning}
 use Rattle.sync_rules.specs.Facts.{Facts, Held, Id, facts, nothing, after_all, entries_of, held_at, is_held, session_at, contact_of, level_at, is_invisible}
 use Rattle.sync_rules.specs.Steps.{is_beside, verdict_in, fate}
 use Rattle.sync_rules.specs.Rounds.{good, bad, graph_of}
-use Rattle.sync_rules.specs.Tests.{brings, judges, delivers, ends}
+use Rattle.sync_rules.specs.EntryTests.{brings, judges, delivers, ends}
 
 -- ---- once
 

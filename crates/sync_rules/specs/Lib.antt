@@ -5,7 +5,8 @@ pub mod Steps
 pub mod Rounds
 pub mod Sessions
 pub mod Legal
-pub mod Tests
+pub mod EntryTests
 pub mod Laws
 pub mod Scans
 pub mod Hearing
+pub mod PeerLaws

@@ -1,7 +1,5 @@
 -- What a record is taken as, and what is due on a session.
-use Rattle.std.specs.Prelude.{◌≡◌, ℕ, ◌+◌, ◌-◌, Bool, true, false, not, cond, ◌&&◌, ◌||◌, nat_le, nat_lt, List, [], ◌∷◌, ◌++◌, length, take, Option, Some, None, is_some}
-use Rattle.std.specs.List.{filter}
-use Rattle.std.specs.FinSet as fin_set
+use Rattle.std.specs.Prelude.{ℕ, ◌-◌, Bool, true, false, not, cond, ◌&&◌, ◌||◌, nat_le, nat_lt, List, [], ◌∷◌, ◌++◌, length, take, Option, Some, None, is_some}
 use Rattle.sync_ids.specs.Values.{MessageValue}
 use Rattle.sync_ids.specs.Ids.{message_id_of}
 use Rattle.sync_ids.specs.declared.records.Record.{Record}
@@ -18,7 +16,7 @@ use Rattle.sync_rules.specs.declared.entries.Session.{Session}
 use Rattle.sync_rules.specs.declared.states.Origin.{Origin}
 use Rattle.sync_rules.specs.declared.states.Origin.TheVariants as origin
 use Rattle.sync_rules.specs.Clients.{Meaning}
-use Rattle.sync_rules.specs.Lists.{same_id, is_among, firsts}
+use Rattle.sync_rules.specs.Lists.{is_among, firsts}
 use Rattle.sync_rules.specs.Facts.{Facts, Held, Id, Row, held_at, group_at, contact_of, level_at, is_invisible, is_level_shared, row_at, wanted_from}
 use Rattle.sync_rules.specs.Steps.{answer_of}
 
@@ -163,8 +161,8 @@ send_of f shared contact mode now =
 abbrev pub offers_of : Facts → List Id → ℕ → ℕ → List Id
 offers_of f shared contact now =
     take ids_limit
-      (ids_where (λ h. is_sendable f shared contact h
-        && (not (row_at f.rows contact h.id).asked && nat_le (row_at f.rows contact h.id).expiry now)) f.held)
+    (ids_where (λ h. is_sendable f shared contact h
+    && (not (row_at f.rows contact h.id).asked && nat_le (row_at f.rows contact h.id).expiry now)) f.held)
 
 -- the first of two outputs that exists
 abbrev pub out_or : Option Out → Option Out → Option Out

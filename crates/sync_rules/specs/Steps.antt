@@ -1,6 +1,6 @@
 -- The one step that is open to a held message, the next step of a journal, and when a journal is settled.
-use Rattle.std.specs.Prelude.{◌≡◌, ℕ, Bool, true, false, cond, ◌&&◌, ◌||◌, List, [], ◌∷◌, Option, Some, None, is_some}
-use Rattle.std.specs.List.{list_any, list_all, filter}
+use Rattle.std.specs.Prelude.{◌≡◌, ℕ, Bool, true, false, cond, ◌&&◌, ◌||◌, List, [], ◌∷◌, Option, Some, None}
+use Rattle.std.specs.List.{list_any, list_all}
 use Rattle.std.specs.FinSet as fin_set
 use Rattle.sync_ids.specs.Values.{GroupValue, MessageValue}
 use Rattle.sync_rules.specs.declared.answers.Judgement.{Judgement}

@@ -17,3 +17,6 @@ pub use hearing::{begin_session, hear_message, settle_in, take_message};
 pub use scans::{fate_in, id_of, level_in};
 pub use states::{Fate, Origin, Refused};
 pub use steps::next_step_in;
+
+#[cfg(test)]
+mod tests;

@@ -9,7 +9,7 @@ ghost use Rattle.sync_rules.specs.Facts.{authored, facts, group_at, held_at, lev
 ghost use Rattle.sync_rules.specs.Lists.{is_among};
 ghost use Rattle.sync_rules.specs.Scans.{any_entry, def_at, def_named, def_of, first_def, first_def_in, first_message, first_message_in, first_step_in, first_step_of, last_level, last_level_in, level_then, message_at, message_named, message_of};
 ghost use Rattle.sync_rules.specs.Steps.{fate, fate_held, is_failing, is_served, next, step, step_accepted, step_open, verdict_in};
-ghost use Rattle.sync_rules.specs.Tests.{delivers, invalidates, judges};
+ghost use Rattle.sync_rules.specs.EntryTests.{delivers, invalidates, judges};
 
 use crate::answers::{Clients, Judgement};
 use crate::entries::{Batch, Entry, Level};

@@ -9,7 +9,9 @@ ghost use Rattle.sync_rules.specs.Steps.{is_beside, is_elsewhere, is_ended, is_f
 
 use crate::answers::{Clients, Judgement};
 use crate::entries::{Batch, Entry};
-use crate::scans::{group_in, held_in, id_of, is_delivered_in, is_invalid_in, is_judged_in, message_in};
+use crate::scans::{
+    group_in, held_in, id_of, is_delivered_in, is_invalid_in, is_judged_in, message_in,
+};
 use std::alloc::{AllocError, Global};
 use sync_ids::{GroupId, Message, MessageId};
 
@@ -52,13 +54,15 @@ fn is_served_in(j: &[Batch], group: &GroupId, dependency: &MessageId) -> bool
 fn any_failing_in(j: &[Batch], group: &GroupId, deps: &[MessageId]) -> bool
     ensures { result ≡ list_any (is_failing (facts j.now) group.now) deps.now }
 {
-    deps.iter().any(|dependency| is_failing_in(j, group, dependency))
+    deps.iter()
+        .any(|dependency| is_failing_in(j, group, dependency))
 }
 
 fn all_served_in(j: &[Batch], group: &GroupId, deps: &[MessageId]) -> bool
     ensures { result ≡ list_all (is_served (facts j.now) group.now) deps.now }
 {
-    deps.iter().all(|dependency| is_served_in(j, group, dependency))
+    deps.iter()
+        .all(|dependency| is_served_in(j, group, dependency))
 }
 
 // ---- one message

@@ -1,5 +1,5 @@
 -- Each turn of the loop appends one next step.
-use Rattle.std.proofs.Common.{◌≡◌, ◌<◌, List, [], ◌∷◌, ◌++◌, Option, Some, sym, ◌∙◌, ap, subst}
+use Rattle.std.proofs.Common.{◌≡◌, ◌<◌, List, Some, sym, ◌∙◌, ap, subst}
 use Rattle.sync_rules.specs.declared.entries.Entry.{Entry}
 use Rattle.sync_rules.specs.Facts.{facts}
 use Rattle.sync_rules.specs.Hearing.{Settles}
@@ -27,9 +27,9 @@ steps-preserved g c =
     let j : List (List Entry) = c.steps.j.items in
     let e : Entry = c.in-Some.step in
     let n : next clients (facts j) ≡ Some e =
-        ap (λ (x : List (List Entry)). next clients (facts x)) (sym c.as_slice.ensures.value) ∙ (sym c.in_ok-step.ensures ∙ c.in-Some.is) in
+    ap (λ (x : List (List Entry)). next clients (facts x)) (sym c.as_slice.ensures.value) ∙ (sym c.in_ok-step.ensures ∙ c.in-Some.is) in
     subst (Settles clients c.args.j.now.items) (sym c.in_ok-push_one.ensures.ok)
-      (settles_step clients c.args.j.now.items j e c.steps.invariant n)
+    (settles_step clients c.args.j.now.items j e c.steps.invariant n)
 
 pub steps-smaller : goal.steps-smaller
 steps-smaller g c =
@@ -37,6 +37,6 @@ steps-smaller g c =
     let j : List (List Entry) = c.steps.j.items in
     let e : Entry = c.in-Some.step in
     let n : next clients (facts j) ≡ Some e =
-        ap (λ (x : List (List Entry)). next clients (facts x)) (sym c.as_slice.ensures.value) ∙ (sym c.in_ok-step.ensures ∙ c.in-Some.is) in
+    ap (λ (x : List (List Entry)). next clients (facts x)) (sym c.as_slice.ensures.value) ∙ (sym c.in_ok-step.ensures ∙ c.in-Some.is) in
     let P : List (List Entry) → Type 0 = λ x. work (facts x) < work (facts j) in
     subst P (sym c.in_ok-push_one.ensures.ok) (less_after_step clients j e n)

@@ -1,0 +1,9 @@
+pub mod Positions
+pub mod Linked
+pub mod Marks
+pub mod Counts
+pub mod Missing
+pub mod Named
+pub mod Steps
+pub mod Changes
+pub mod Kept

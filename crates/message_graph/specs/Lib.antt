@@ -1,0 +1,4 @@
+pub mod Nodes
+pub mod Waits
+pub mod Links
+pub mod Whole

@@ -1,0 +1,165 @@
+//! Names, who holds each, and who waits for each.
+ghost use Rattle.std.specs.Prelude.{◌≡◌, ◌+◌, ◌-◌, ◌<◌, ◌≤◌, ◌++◌, ◌∷◌, [], IfOk, OnOk, OnErr, IfSome, Some, None, ℕ, List, length, if◌then◌else◌, slice_get};
+ghost use Rattle.message_graph.specs.Nodes.{same_name};
+ghost use Rattle.message_graph.specs.Links.{place_of, holder_of, edge_at, last_before};
+
+use indexmap::IndexSet;
+use std::alloc::{AllocError, Global};
+use std::marker::Model;
+
+/// What is kept for a name: the number of the node that holds it, and the last edge of those who wait for it.
+#[derive(Clone, Copy)]
+pub(crate) struct Slot {
+    pub(crate) holder: Option<u32>,
+    pub(crate) last: Option<usize>,
+}
+
+/// One node that waits for one name: the name's place, the node's number, and the edge before it of the same name.
+#[derive(Clone, Copy)]
+pub(crate) struct Edge {
+    pub(crate) place: usize,
+    pub(crate) waiter: u32,
+    pub(crate) before: Option<usize>,
+}
+
+/// Names, also those that no node holds yet, with their holders and waiters.
+#[derive(Drop)]
+pub(crate) struct Index {
+    names: IndexSet<[u8; 32]>,
+    slots: Vec<Slot>,
+    edges: Vec<Edge>,
+}
+
+impl Model for Index {
+    ghost use Rattle.std.specs.Prelude.{◌-◌, length, map, min, vec_capacity};
+    ghost use Rattle.indexmap.specs.IndexSet.{spare};
+    ghost use Rattle.message_graph.specs.Links.{Links, named, IsLinked};
+
+    ghost Value = { Links };
+
+    ghost view = { λ i. record {
+      names = i.names.keys;
+      holders = map (λ slot. slot.holder) i.slots.items;
+      edges = map (named i.names.keys) i.edges.items;
+      room = min (spare i.names) (vec_capacity i.slots - length i.slots.items);
+      edge_room = vec_capacity i.edges - length i.edges.items;
+    } };
+
+    ghost invariant = { λ i. IsLinked i.names.keys i.slots.items i.edges.items };
+}
+
+impl Index {
+    /// No names.
+    pub(crate) fn new(alloc: Global) -> Index
+        ensures names { result.names ≡ [] }
+        ensures edges { result.edges ≡ [] }
+    {
+        Index {
+            names: IndexSet::new(alloc),
+            slots: Vec::new(alloc),
+            edges: Vec::new(alloc),
+        }
+    }
+
+    /// Makes room for that many more names and edges.
+    pub(crate) fn reserve(&mut self, names: usize, edges: usize) -> Result<(), AllocError>
+        ensures names { self.new.names ≡ self.old.names }
+        ensures holders { self.new.holders ≡ self.old.holders }
+        ensures edges { self.new.edges ≡ self.old.edges }
+        ensures room { self.old.room ≤ self.new.room }
+        ensures ok { OnOk result (names ≤ self.new.room) }
+        ensures edge_room { OnOk result (edges ≤ self.new.edge_room) }
+    {
+        self.names.reserve(names)?;
+        self.slots.reserve(names)?;
+        self.edges.reserve(edges)
+    }
+
+    /// The number of the node that holds the name.
+    pub(crate) fn holder(&self, name: &[u8; 32]) -> Option<u32>
+        ensures { result ≡ holder_of self.now name.now }
+    {
+        let place = self.names.get_index_of(name)?;
+        self.slots[place].holder
+    }
+
+    /// The last edge of those who wait for the name.
+    pub(crate) fn last(&self, name: &[u8; 32]) -> Option<usize>
+        ensures { result ≡ last_before self.now.edges name.now (length self.now.edges) }
+    {
+        let place = self.names.get_index_of(name)?;
+        self.slots[place].last
+    }
+
+    /// The number of the node that waits by the edge.
+    pub(crate) fn waiter(&self, edge: usize) -> u32
+        requires { edge < length self.now.edges }
+        ensures { result ≡ (edge_at self.now.edges edge).1 }
+    {
+        self.edges[edge].waiter
+    }
+
+    /// The edge before this one of the same name.
+    pub(crate) fn before(&self, edge: usize) -> Option<usize>
+        requires { edge < length self.now.edges }
+        ensures { result ≡ last_before self.now.edges (edge_at self.now.edges edge).0 edge }
+    {
+        self.edges[edge].before
+    }
+
+    /// The place of a name, which is added where it is new.
+    fn place(&mut self, name: [u8; 32]) -> usize
+        requires { 0 < self.old.room }
+        ensures place { place_of self.new.names name ≡ Some result }
+        ensures edges { self.new.edges ≡ self.old.edges }
+        ensures holders { (other : List ℕ) → holder_of self.new other ≡ holder_of self.old other }
+        ensures room { self.old.room ≤ self.new.room + 1 }
+        ensures edge_room { self.new.edge_room ≡ self.old.edge_room }
+    {
+        if let Some(place) = self.names.get_index_of(&name) {
+            return place;
+        }
+        let place = self.names.len();
+        let slot = Slot {
+            holder: None,
+            last: None,
+        };
+        self.names.insert_full(name).unwrap();
+        self.slots.push(slot).unwrap();
+        place
+    }
+
+    /// A node holds the name from now on.
+    pub(crate) fn hold(&mut self, name: [u8; 32], number: u32)
+        requires { 0 < self.old.room }
+        ensures holders { (other : List ℕ) → holder_of self.new other ≡ (if same_name other name then Some number else holder_of self.old other) }
+        ensures edges { self.new.edges ≡ self.old.edges }
+        ensures room { self.old.room ≤ self.new.room + 1 }
+    {
+        let place = self.place(name);
+        let slot = &mut self.slots[place];
+        slot.holder = Some(number);
+    }
+
+    /// A node waits for the name from now on.
+    pub(crate) fn wait(&mut self, name: [u8; 32], waiter: u32)
+        requires room { 0 < self.old.room }
+        requires edge_room { 0 < self.old.edge_room }
+        ensures holders { (other : List ℕ) → holder_of self.new other ≡ holder_of self.old other }
+        ensures edges { self.new.edges ≡ self.old.edges ++ (name, waiter) ∷ [] }
+        ensures room { self.old.room ≤ self.new.room + 1 }
+        ensures edge_room { self.old.edge_room ≤ self.new.edge_room + 1 }
+    {
+        let place = self.place(name);
+        let edge = self.edges.len();
+        let before = self.slots[place].last;
+        let edge_to = Edge {
+            place,
+            waiter,
+            before,
+        };
+        self.edges.push(edge_to).unwrap();
+        let slot = &mut self.slots[place];
+        slot.last = Some(edge);
+    }
+}

@@ -1,0 +1,143 @@
+//! What each node waits for, and the set of those that have a step.
+ghost use Rattle.std.specs.Prelude.{◌≡◌, ◌+◌, ◌-◌, ◌<◌, ◌≤◌, ◌++◌, ◌∷◌, [], IfOk, OnOk, OnErr, length, slice_set, slice_get};
+ghost use Rattle.std.specs.List.{position_from};
+ghost use Rattle.message_graph.specs.Waits.{has_step, told, missing_after, from_missing};
+
+use due_tree::DueTree;
+use std::alloc::{AllocError, Global};
+use std::marker::Model;
+
+/// What a node waits for: its judgement; nothing, since it can only become invalid; that many dependencies that are not delivered;
+/// or nothing, since it has ended.
+#[derive(Clone, Copy)]
+pub(crate) enum Waiting {
+    Unjudged,
+    Doomed,
+    Missing(usize),
+    Ended,
+}
+
+/// What a node hears of one that it depends on: it came in this group; it is invalid; it is delivered.
+#[derive(Clone, Copy)]
+pub(crate) enum News {
+    Arrived(u32),
+    Failed,
+    Delivered,
+}
+
+/// What the nodes wait for, by number.
+#[derive(Drop)]
+pub(crate) struct States {
+    waits: Vec<Waiting>,
+    ready: DueTree,
+}
+
+impl Model for States {
+    ghost use Rattle.std.specs.Prelude.{◌≡◌, ◌-◌, ◌≤◌, ◌++◌, length, map, replicate, None, vec_capacity};
+    ghost use Rattle.message_graph.specs.Waits.{Waits, mark};
+
+    ghost Value = { Waits };
+
+    ghost view = { λ s. record { waits = s.waits.items; room = length s.ready - length s.waits.items } };
+
+    ghost invariant = { λ s. (s.ready ≡ map mark s.waits.items ++ replicate (length s.ready - length s.waits.items) None) × (length s.ready ≤ vec_capacity s.waits) };
+}
+
+/// Whether a node that waits for this has a step.
+fn has_step(waiting: Waiting) -> bool
+    ensures { result ≡ has_step waiting }
+{
+    match waiting {
+        Waiting::Unjudged | Waiting::Doomed => true,
+        Waiting::Missing(count) => count == 0,
+        Waiting::Ended => false,
+    }
+}
+
+/// What a node of the group waits for, after news of one that it waits for.
+pub(crate) fn told(news: News, group: u32, waiting: Waiting) -> Waiting
+    ensures { result ≡ told news group waiting }
+{
+    match (waiting, news) {
+        (Waiting::Missing(count), News::Arrived(other)) => {
+            if other == group {
+                Waiting::Missing(count)
+            } else {
+                Waiting::Doomed
+            }
+        }
+        (Waiting::Missing(_), News::Failed) => Waiting::Doomed,
+        (Waiting::Missing(count), News::Delivered) => Waiting::Missing(count.saturating_sub(1)),
+        (other, _) => other,
+    }
+}
+
+impl States {
+    /// No nodes.
+    pub(crate) fn new(alloc: Global) -> Result<States, AllocError>
+        ensures { IfOk result (λ s. s ≡ record { waits = []; room = 0 }) }
+    {
+        let ready = DueTree::new(alloc)?;
+        Ok(States {
+            waits: Vec::new(alloc),
+            ready,
+        })
+    }
+
+    /// Makes room for that many more nodes.
+    pub(crate) fn reserve(&mut self, more: usize) -> Result<(), AllocError>
+        ensures waits { self.new.waits ≡ self.old.waits }
+        ensures room { self.old.room ≤ self.new.room }
+        ensures ok { OnOk result (more ≤ self.new.room) }
+    {
+        let places = match self.waits.len().checked_add(more) {
+            None => return Err(AllocError),
+            Some(places) => places,
+        };
+        if places <= self.ready.len() {
+            return Ok(());
+        }
+        self.waits.reserve(more)?;
+        self.ready.reserve(places)?;
+        Ok(())
+    }
+
+    /// One more node, which is not judged.
+    pub(crate) fn push(&mut self)
+        requires { 0 < self.old.room }
+        ensures waits { self.new.waits ≡ self.old.waits ++ Waiting.Unjudged ∷ [] }
+        ensures room { self.new.room + 1 ≡ self.old.room }
+    {
+        let place = self.waits.len();
+        self.waits.push(Waiting::Unjudged).unwrap();
+        self.ready.set(place, 0);
+    }
+
+    /// What a node waits for.
+    pub(crate) fn get(&self, number: usize) -> Waiting
+        requires { number < length self.now.waits }
+        ensures { slice_get self.now.waits number ≡ Some result }
+    {
+        self.waits[number]
+    }
+
+    /// Changes what a node waits for.
+    pub(crate) fn set(&mut self, number: usize, waiting: Waiting)
+        requires { number < length self.old.waits }
+        ensures { self.new ≡ record self.old { waits = slice_set self.old.waits number waiting } }
+    {
+        self.waits[number] = waiting;
+        if has_step(waiting) {
+            self.ready.set(number, 0);
+        } else {
+            self.ready.clear(number);
+        }
+    }
+
+    /// The first node that has a step.
+    pub(crate) fn first(&self) -> Option<usize>
+        ensures { result ≡ position_from has_step 0 self.now.waits }
+    {
+        self.ready.first_at_most(0)
+    }
+}

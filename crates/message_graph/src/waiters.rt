@@ -1,0 +1,118 @@
+//! Telling those who wait, and noting who waits.
+ghost use Rattle.std.specs.Prelude.{◌≡◌, ℕ, List, ◌+◌, ◌<◌, ◌≤◌, ◌++◌, length, map, option_copied, IfOk, OnOk, OnErr, Some};
+ghost use Rattle.message_graph.specs.Nodes.{node_named, number_of};
+ghost use Rattle.message_graph.specs.Waits.{missing, from_missing, waiting_open, told_times, wait_at, group_at};
+ghost use Rattle.message_graph.specs.Links.{holder_of, edge_at, count_before};
+ghost use Rattle.message_graph.specs.Whole.{dependencies};
+
+use crate::index::Index;
+use crate::nodes::{Judged, Node, fails, serves};
+use crate::states::{News, States, Waiting, told};
+use std::alloc::AllocError;
+
+/// Tells each node that waits for the name.
+pub(crate) fn tell(states: &mut States, index: &Index, nodes: &[Node], name: &[u8; 32], news: News)
+    requires many { length states.old.waits ≡ length nodes.now }
+    requires waiters { (edge : ℕ) → edge < length index.now.edges → (edge_at index.now.edges edge).1 < length nodes.now }
+    ensures many { length states.new.waits ≡ length states.old.waits }
+    ensures room { states.new.room ≡ states.old.room }
+    ensures waits { (number : ℕ) → wait_at states.new.waits number ≡ told_times news (group_at nodes.now number) (count_before index.now.edges name.now number (length index.now.edges)) (wait_at states.old.waits number) }
+{
+    let mut cursor = index.last(name);
+    while let Some(edge) = cursor {
+        let waiter = index.waiter(edge) as usize;
+        let waiting = told(news, nodes[waiter].group, states.get(waiter));
+        states.set(waiter, waiting);
+        cursor = index.before(edge);
+    }
+}
+
+/// The node that holds the name.
+fn held<'a>(nodes: &'a [Node], index: &Index, name: &[u8; 32]) -> Option<&'a Node>
+    requires { (other : List ℕ) → holder_of index.now other ≡ number_of nodes.now other }
+    ensures { option_copied result ≡ node_named nodes.now name.now }
+{
+    let number = index.holder(name)?;
+    Some(&nodes[number as usize])
+}
+
+/// What an accepted node of the group waits for.
+pub(crate) fn missing(nodes: &[Node], index: &Index, group: u32, names: &[[u8; 32]]) -> Waiting
+    requires { (other : List ℕ) → holder_of index.now other ≡ number_of nodes.now other }
+    ensures { result ≡ from_missing (missing (node_named nodes.now) group names.now) }
+{
+    let mut count = 0;
+    for name in names {
+        let held = held(nodes, index, name);
+        if fails(held, group) {
+            return Waiting::Doomed;
+        }
+        if !serves(held, group) {
+            count += 1;
+        }
+    }
+    Waiting::Missing(count)
+}
+
+/// Notes that a node waits for each of the names.
+pub(crate) fn enlist(index: &mut Index, names: &[[u8; 32]], waiter: u32)
+    requires room { length names.now ≤ index.old.room }
+    requires edge_room { length names.now ≤ index.old.edge_room }
+    ensures holders { (other : List ℕ) → holder_of index.new other ≡ holder_of index.old other }
+    ensures edges { index.new.edges ≡ index.old.edges ++ map (λ name. (name, waiter)) names.now }
+    ensures room { index.old.room ≤ index.new.room + length names.now }
+{
+    for name in names {
+        index.wait(*name, waiter);
+    }
+}
+
+/// What an accepted node of the group waits for, noted with each of the names; `spare` more nodes can still be held after it.
+fn accepted(
+    index: &mut Index,
+    nodes: &[Node],
+    spare: usize,
+    n: u32,
+    group: u32,
+    names: &[[u8; 32]],
+) -> Result<Waiting, AllocError>
+    requires holders { (other : List ℕ) → holder_of index.old other ≡ number_of nodes.now other }
+    requires room { spare ≤ index.old.room }
+    ensures waiting { IfOk result (λ waiting. waiting ≡ from_missing (missing (node_named nodes.now) group names.now)) }
+    ensures edges { OnOk result (index.new.edges ≡ index.old.edges ++ map (λ name. (name, n)) names.now) }
+    ensures err { OnErr result (index.new.edges ≡ index.old.edges) }
+    ensures holders { (other : List ℕ) → holder_of index.new other ≡ holder_of index.old other }
+    ensures room { spare ≤ index.new.room }
+{
+    let room = match spare.checked_add(names.len()) {
+        None => return Err(AllocError),
+        Some(room) => room,
+    };
+    index.reserve(room, names.len())?;
+    let waiting = missing(nodes, index, group, names);
+    enlist(index, names, n);
+    Ok(waiting)
+}
+
+/// What a node of the group waits for after its answer, noted with each name that it depends on.
+pub(crate) fn answered(
+    index: &mut Index,
+    nodes: &[Node],
+    spare: usize,
+    n: u32,
+    group: u32,
+    answer: &Judged,
+) -> Result<Waiting, AllocError>
+    requires holders { (other : List ℕ) → holder_of index.old other ≡ number_of nodes.now other }
+    requires room { spare ≤ index.old.room }
+    ensures waiting { IfOk result (λ waiting. waiting ≡ waiting_open (node_named nodes.now) group answer.now) }
+    ensures edges { OnOk result (index.new.edges ≡ index.old.edges ++ map (λ name. (name, n)) (dependencies (Some answer.now))) }
+    ensures err { OnErr result (index.new.edges ≡ index.old.edges) }
+    ensures holders { (other : List ℕ) → holder_of index.new other ≡ holder_of index.old other }
+    ensures room { spare ≤ index.new.room }
+{
+    match answer {
+        Judged::Refused => Ok(Waiting::Doomed),
+        Judged::Accepted(names) => accepted(index, nodes, spare, n, group, names.as_slice()),
+    }
+}

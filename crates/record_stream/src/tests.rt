@@ -1,0 +1,20 @@
+// One stream, whole and by its calls. Its cuts stand in the crate of vectors.
+
+use super::*;
+use std::test::Fail;
+
+const VERSIONS_AND_MORE: &[u8; 9] = b"\x00\x04\x00\x01\x00\x00\x09\x00\x02";
+
+#[test]
+fn calls_of_a_reader(rt: HostRuntime) -> Result<(), Fail> {
+    let mut reader = Reader::new(rt.alloc())?;
+    assert_eq!(rt; reader.feed(VERSIONS_AND_MORE), 9);
+    assert!(rt; matches!(reader.next()?, Next::One(0, _)));
+    assert!(rt; matches!(reader.next()?, Next::More));
+    assert_eq!(rt; reader.feed(b"ab\x01"), 3);
+    assert!(rt; matches!(reader.next()?, Next::Skipped(5, 9, 2)));
+    assert!(rt; matches!(reader.next()?, Next::Bad(11, Reason::WrongVersion)));
+    assert_eq!(rt; reader.feed(b"\x00"), 0);
+    assert!(rt; matches!(reader.next()?, Next::Bad(11, Reason::WrongVersion)));
+    Ok(())
+}

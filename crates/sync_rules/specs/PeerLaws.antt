@@ -1,0 +1,162 @@
+-- The facts about a contact in the words of entries: an entry is there; the last entry that names the pair; the count after
+-- the last Asked. A session's contact is read at the place of the entry; a session that is not known there counts as one
+-- with contact 0, and a legal journal names no such session.
+use Rattle.std.specs.Prelude.{◌≡◌, ◌↔◌, ◌⊎◌, ℕ, ◌+◌, min, Bool, true, false, cond, ◌&&◌, nat_eq, List, [], ◌∷◌, ◌++◌}
+use Rattle.sync_ids.specs.Ids.{message_id_of}
+use Rattle.sync_rules.specs.declared.entries.Entry.{Entry}
+use Rattle.sync_rules.specs.declared.entries.Entry.TheVariants as entry
+use Rattle.sync_rules.specs.declared.entries.Out.{Out}
+use Rattle.sync_rules.specs.declared.entries.Out.TheVariants as out
+use Rattle.sync_rules.specs.Lists.{same_id, is_among}
+use Rattle.sync_rules.specs.Facts.{Facts, Id, after, after_all, nothing, contact_of, latency_of, is_held, row_at, wanted_from, expiry_after}
+
+-- a test of an entry at its place: of the facts before it, and of the entry
+abbrev pub Test : Type 0
+Test = Facts → Entry → Bool
+
+-- ---- entries of a pair
+
+-- the session is one with this contact
+abbrev pub is_with : ℕ → Facts → ℕ → Bool
+is_with contact f session = nat_eq contact (contact_of f.sessions session)
+
+-- the entry names the pair: an Arrive or Again entry of the message on a session with the contact
+abbrev pub is_heard : ℕ → Id → Test
+is_heard contact id f (entry.Arrive s m) = is_with contact f s && same_id (message_id_of m) id
+is_heard contact id f (entry.Again s x) = is_with contact f s && same_id x id
+is_heard contact id f _ = false
+
+-- an Arrive, Again or Seen entry
+abbrev pub is_shown_seen : ℕ → Id → Test
+is_shown_seen contact id f (entry.Arrive s m) = is_with contact f s && same_id (message_id_of m) id
+is_shown_seen contact id f (entry.Again s x) = is_with contact f s && same_id x id
+is_shown_seen contact id f (entry.Seen s x) = is_with contact f s && same_id x id
+is_shown_seen contact id f _ = false
+
+-- an Asked entry
+abbrev pub is_asked : ℕ → Id → Test
+is_asked contact id f (entry.Asked s x) = is_with contact f s && same_id x id
+is_asked contact id f _ = false
+
+-- an Offered entry
+abbrev pub is_offered : ℕ → Id → Test
+is_offered contact id f (entry.Offered s x) = is_with contact f s && same_id x id
+is_offered contact id f _ = false
+
+-- what acknowledges, requests, sends, and sends or offers the message
+abbrev pub acks : Id → Out → Bool
+acks id (out.Acks ids) = is_among ids id
+acks id _ = false
+
+abbrev pub requests : Id → Out → Bool
+requests id (out.Requests ids) = is_among ids id
+requests id _ = false
+
+abbrev pub sends : Id → Out → Bool
+sends id (out.Send x) = same_id x id
+sends id _ = false
+
+abbrev pub tries : Id → Out → Bool
+tries id (out.Send x) = same_id x id
+tries id (out.Offers ids) = is_among ids id
+tries id _ = false
+
+-- an Out entry to the contact that passes a test
+abbrev pub is_out : ℕ → (Out → Bool) → Test
+is_out contact test f (entry.Out s now what) = is_with contact f s && test what
+is_out contact test f _ = false
+
+-- ---- places
+
+-- no entry of these passes at its place, the facts before the first being given
+abbrev pub NonePasses : Test → Facts → List Entry → Type 0
+NonePasses test f entries = (before behind : List Entry) (e : Entry) → entries ≡ before ++ e ∷ behind → test (after_all f before) e ≡ false
+
+-- the last entry that passes one of two tests passes the first: some entry passes it, and no later one the second
+pub record IsLast (first second : Test) (f : Facts) (entries : List Entry) : Type 0 where
+  pub before : List Entry
+  pub of : Entry
+  pub behind : List Entry
+  pub stands : entries ≡ before ++ of ∷ behind
+  pub passes : first (after_all f before) of ≡ true
+  pub then : NonePasses second (after (after_all f before) of) behind
+
+-- how many of these entries pass at their places
+abbrev pub count_at : Test → Facts → List Entry → ℕ
+count_at test f [] = 0
+count_at test f (e ∷ es) = cond (test f e) (1 + count_at test (after f e) es) (count_at test (after f e) es)
+
+-- a test that nothing passes
+abbrev pub never : Test
+never f e = false
+
+-- entries end with one that passes at its place
+pub record EndsWith (test : Test) (entries : List Entry) : Type 0 where
+  pub before : List Entry
+  pub of : Entry
+  pub stands : entries ≡ before ++ of ∷ []
+  pub passes : test (after_all nothing before) of ≡ true
+
+-- the entries are cut behind the last one that passes, or before all where none does
+pub record IsCutBehind (test : Test) (entries before behind : List Entry) : Type 0 where
+  pub stands : entries ≡ before ++ behind
+  pub starts : (before ≡ []) ⊎ EndsWith test before
+  pub then : NonePasses test (after_all nothing before) behind
+
+-- ---- the six facts
+
+-- seen: there is an Arrive, Again or Seen entry of the message on a session with the contact
+abbrev pub SeenLaw : List Entry → Type 0
+SeenLaw entries = (contact : ℕ) (id : Id)
+    → ((row_at (after_all nothing entries).rows contact id).seen ≡ true) ↔ IsLast (is_shown_seen contact id) never nothing entries
+
+-- owed: the last entry among the Arrive and Again entries of the message on sessions with the contact and the Out entries
+-- to it whose Acks name the message is an Arrive or Again
+abbrev pub OwedLaw : List Entry → Type 0
+OwedLaw entries = (contact : ℕ) (id : Id)
+    → ((row_at (after_all nothing entries).rows contact id).owed ≡ true) ↔ IsLast (is_heard contact id) (is_out contact (acks id)) nothing entries
+
+-- asked: the last entry among the Asked entries of the message on sessions with the contact and the Out entries to it that
+-- send the message is an Asked
+abbrev pub AskedLaw : List Entry → Type 0
+AskedLaw entries = (contact : ℕ) (id : Id)
+    → ((row_at (after_all nothing entries).rows contact id).asked ≡ true) ↔ IsLast (is_asked contact id) (is_out contact (sends id)) nothing entries
+
+-- wanted: the id is not held, and the last entry among the Offered entries of the id on sessions with the contact and the
+-- Out entries to it whose Requests name the id is an Offered
+abbrev pub WantedLaw : List Entry → Type 0
+WantedLaw entries = (contact : ℕ) (id : Id)
+    → (is_among (wanted_from (after_all nothing entries).wanted contact) id ≡ true)
+    ↔ ((is_held (after_all nothing entries).held id ≡ false) × IsLast (is_offered contact id) (is_out contact (requests id)) nothing entries)
+
+-- tries: the number of the Out entries to the contact that send or offer the message after the last Asked entry of the
+-- pair, or of all where there is none, cut at 64
+abbrev pub TriesLaw : List Entry → Type 0
+TriesLaw entries = (contact : ℕ) (id : Id) (before behind : List Entry) → IsCutBehind (is_asked contact id) entries before behind
+    → (row_at (after_all nothing entries).rows contact id).tries ≡ min 64 (count_at (is_out contact (tries id)) (after_all nothing before) behind)
+
+-- expiry: 0 where nothing counts for tries
+abbrev pub NoExpiryLaw : List Entry → Type 0
+NoExpiryLaw entries = (contact : ℕ) (id : Id) (before behind : List Entry) → IsCutBehind (is_asked contact id) entries before behind
+    → NonePasses (is_out contact (tries id)) (after_all nothing before) behind
+    → (row_at (after_all nothing entries).rows contact id).expiry ≡ 0
+
+-- expiry: otherwise the time of the last Out entry that counts, and twice the latency of its session, doubled with each try
+-- but the first; the cut of tries at 64 changes no expiry where the latency is at least 1, since it stops at 2^64 - 1
+abbrev pub ExpiryLaw : List Entry → Type 0
+ExpiryLaw entries = (contact : ℕ) (id : Id) (before behind : List Entry) → IsCutBehind (is_asked contact id) entries before behind
+    → (earlier later : List Entry) (session now : ℕ) (what : Out) → behind ≡ earlier ++ entry.Out session now what ∷ later
+    → is_out contact (tries id) (after_all (after_all nothing before) earlier) (entry.Out session now what) ≡ true
+    → NonePasses (is_out contact (tries id)) (after (after_all (after_all nothing before) earlier) (entry.Out session now what)) later
+    → (row_at (after_all nothing entries).rows contact id).expiry
+    ≡ expiry_after now (latency_of (after_all (after_all nothing before) earlier).sessions session)
+    (min 64 (count_at (is_out contact (tries id)) (after_all nothing before) behind))
+
+-- there is such a cut for every test
+pub record HasCut (test : Test) (entries : List Entry) : Type 0 where
+  pub before : List Entry
+  pub behind : List Entry
+  pub cut : IsCutBehind test entries before behind
+
+abbrev pub CutLaw : List Entry → Type 0
+CutLaw entries = (contact : ℕ) (id : Id) → HasCut (is_asked contact id) entries
