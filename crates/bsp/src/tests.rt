@@ -16,6 +16,10 @@ const OTHER: &str = "f18047a15b1b3a1f78be0e024a5c97a470d496106a97e648913359802f5
 
 const EMPTY: &str = "0ada50e60812e63ce2e5091237bee5d271a63a3ecf58a41709959bdf0f46fe7e";
 
+const X_ID: &str = "3443418c0382800e42ae01fb9d676b7b25405d2875809cf8d6808f04741c96a4";
+
+const FF_ID: &str = "f3c078734405d1e3152fc6548e466217931d53878072075aaa1919563f46b353";
+
 const X_LINE: &str =
     "deliver 3443418c0382800e42ae01fb9d676b7b25405d2875809cf8d6808f04741c96a4 0 1\n";
 
@@ -128,9 +132,10 @@ fn expect_line(
 #[test]
 fn words_of_a_command(rt: HostRuntime) -> Result<(), Fail> {
     let alloc = rt.alloc();
-    let cases: [(&[&str], &str); 8] = [
+    let cases: [(&[&str], &str); 9] = [
         (&[], "usage: word 0\n"),
         (&["Try", "note", "d"], "usage: word 0\n"),
+        (&["records", "x"], "usage: word 1\n"),
         (&["show"], "usage: word 0\n"),
         (&["try"], "usage: word 1\n"),
         (&["try", "", "d"], "usage: word 1\n"),
@@ -171,48 +176,154 @@ fn long_words_and_clients(rt: HostRuntime) -> Result<(), Fail> {
     )?;
     expect_line(&rt, alloc, &["try", "chat", "d"], Status::Refused, unknown)?;
     let words = ["try", "note", most.as_str()];
-    expect_line(&rt, alloc, &words, Status::NotYet, "not yet: record at 0\n")?;
-    expect_line(&rt, alloc, &TRY, Status::NotYet, "not yet: record at 0\n")
+    expect_line(
+        &rt,
+        alloc,
+        &words,
+        Status::BadStream,
+        "bad record at 0: wrong version\n",
+    )?;
+    expect_line(
+        &rt,
+        alloc,
+        &TRY,
+        Status::BadStream,
+        "bad record at 0: wrong version\n",
+    )
+}
+
+// Runs `try` on a record, these bytes and the record again, and compares its status and its line.
+fn expect_after(
+    rt: &impl Abort,
+    alloc: Global,
+    other: &[u8],
+    status: Status,
+    line: &str,
+) -> Result<(), Fail> {
+    let mut record = Vec::new(alloc);
+    add_record(&mut record, GROUP, 0, b"x")?;
+    let mut input = record.clone()?;
+    input.extend_from_slice(other)?;
+    input.extend_from_slice(record.as_slice())?;
+    let came = play(alloc, &TRY, input.as_slice(), NONE)?;
+    assert_eq!(rt; came.status, status, "at {other:?}");
+    assert_eq!(rt; came.out.bytes(), X_LINE.as_bytes());
+    assert_eq!(rt; came.err.bytes(), line.as_bytes());
+    Ok(())
 }
 
 #[test]
-fn cut_and_other_records(rt: HostRuntime) -> Result<(), Fail> {
+fn other_records(rt: HostRuntime) -> Result<(), Fail> {
+    let alloc = rt.alloc();
+    let mut late = Vec::new(alloc);
+    add_record(&mut late, GROUP, 1 << 63, b"x")?;
+    expect_after(&rt, alloc, &[0, 4, 0, 1, 0], Status::Done, "")?;
+    expect_after(&rt, alloc, &[0, 9, 0, 2, 1, 1], Status::Done, "")?;
+    let cases: [(&[u8], &str); 11] = [
+        (&[1], "bad record at 45: wrong version\n"),
+        (&[0, 9, 0xc0, 1], "bad record at 45: too long\n"),
+        (&[0, 0, 0, 0], "bad record at 45: empty id list\n"),
+        (&[0, 3, 0, 33], "bad record at 45: ragged id list\n"),
+        (&[0, 1, 0, 40], "bad record at 45: short message\n"),
+        (&[0, 1, 0x80, 0x29], "bad record at 45: body too long\n"),
+        (&[0, 4, 0, 0], "bad record at 45: bad versions\n"),
+        (&[0, 4, 0, 11], "bad record at 45: bad versions\n"),
+        (&[0, 5, 0, 15], "bad record at 45: bad nonce\n"),
+        (&[0, 5, 0, 17], "bad record at 45: bad nonce\n"),
+        (&[0, 2, 0, 64], "ended inside a record at 45\n"),
+    ];
+    for (other, line) in cases {
+        expect_after(&rt, alloc, other, Status::BadStream, line)?;
+    }
+    let line = "bad record at 45: bad timestamp\n";
+    expect_after(&rt, alloc, late.as_slice(), Status::BadStream, line)
+}
+
+#[test]
+fn cut_records(rt: HostRuntime) -> Result<(), Fail> {
     let alloc = rt.alloc();
     let mut record = Vec::new(alloc);
     add_record(&mut record, GROUP, 0, b"x")?;
-    let mut late = Vec::new(alloc);
-    add_record(&mut late, GROUP, 1 << 63, b"x")?;
-    for n in 0..record.len() {
+    for n in 1..record.len() {
         let mut input = record.clone()?;
         input.extend_from_slice(&record.as_slice()[..n])?;
         let came = play(alloc, &TRY, input.as_slice(), NONE)?;
-        let (status, line) = if n == 0 {
-            (Status::Done, "")
-        } else {
-            (Status::NotYet, "not yet: record at 45\n")
-        };
-        assert_eq!(rt; came.status, status, "after {n} bytes");
+        assert_eq!(rt; came.status, Status::BadStream, "after {n} bytes");
         assert_eq!(rt; came.out.bytes(), X_LINE.as_bytes());
-        assert_eq!(rt; came.err.bytes(), line.as_bytes());
+        assert_eq!(rt;
+            came.err.bytes(),
+            b"ended inside a record at 45\n".as_slice()
+        );
     }
-    let others: [&[u8]; 7] = [
-        &[0, 4, 0, 1, 0],
-        &[0, 9, 0, 0],
-        &[0, 1, 0, 40],
-        &[0, 1, 0x80, 0x29],
-        &[1],
-        &[0, 0, 0, 0],
-        late.as_slice(),
+    Ok(())
+}
+
+const MIXED: [u8; 31] = [
+    0, 4, 0, 1, 0, 0, 9, 0, 2, 0xaa, 0xbb, 0, 5, 0, 16, 0, 1, 2, 3, 4, 5, 6, 7, 8, 9, 10, 11, 12,
+    13, 14, 15,
+];
+
+const MIXED_LINES: &str =
+    "0 VERSIONS 00\n5 SKIPPED 9 2\n11 PRIORITY 000102030405060708090a0b0c0d0e0f\n";
+
+#[test]
+fn records_of_a_stream(rt: HostRuntime) -> Result<(), Fail> {
+    let alloc = rt.alloc();
+    let mut worse = MIXED.to_vec(alloc)?;
+    worse.push(1)?;
+    let cases: [(&[u8], Status, &str, &str); 5] = [
+        (&[], Status::Done, "", ""),
+        (&MIXED, Status::Done, MIXED_LINES, ""),
+        (
+            &[1],
+            Status::BadStream,
+            "",
+            "bad record at 0: wrong version\n",
+        ),
+        (
+            &[0, 4, 0],
+            Status::BadStream,
+            "",
+            "ended inside a record at 0\n",
+        ),
+        (
+            &[0, 4],
+            Status::BadStream,
+            "",
+            "ended inside a record at 0\n",
+        ),
     ];
-    for other in others {
-        let mut input = record.clone()?;
-        input.extend_from_slice(other)?;
-        input.extend_from_slice(record.as_slice())?;
-        let came = play(alloc, &TRY, input.as_slice(), NONE)?;
-        assert_eq!(rt; came.status, Status::NotYet, "at {other:?}");
-        assert_eq!(rt; came.out.bytes(), X_LINE.as_bytes());
-        assert_eq!(rt; came.err.bytes(), b"not yet: record at 45\n".as_slice());
+    for (input, status, out, err) in cases {
+        let came = play(alloc, &["records"], input, NONE)?;
+        assert_eq!(rt; came.status, status, "at {input:?}");
+        assert_eq!(rt; came.out.bytes(), out.as_bytes());
+        assert_eq!(rt; came.err.bytes(), err.as_bytes());
     }
+    let came = play(alloc, &["records"], worse.as_slice(), NONE)?;
+    assert_eq!(rt; came.status, Status::BadStream);
+    assert_eq!(rt; came.out.bytes(), MIXED_LINES.as_bytes());
+    assert_eq!(rt;
+        came.err.bytes(),
+        b"bad record at 31: wrong version\n".as_slice()
+    );
+    Ok(())
+}
+
+const ACK_LINE: &str =
+    "0 ACK 3443418c0382800e42ae01fb9d676b7b25405d2875809cf8d6808f04741c96a4 f3c078734405d1e3152fc6548e466217931d53878072075aaa1919563f46b353\n68 MESSAGE 3443418c0382800e42ae01fb9d676b7b25405d2875809cf8d6808f04741c96a4 76ff4980d3b5f63962cee45401b6b1bb92efe989c27de4629aac92b18163e6e0 0 1\n";
+
+#[test]
+fn ids_and_messages(rt: HostRuntime) -> Result<(), Fail> {
+    let alloc = rt.alloc();
+    let mut input = [0, 0, 0, 64].to_vec(alloc)?;
+    for id in [X_ID, FF_ID] {
+        let id: GroupId = Fixed::from_hex(id).map_err(|_| "no id")?;
+        input.extend_from_slice(id.as_bytes())?;
+    }
+    add_record(&mut input, GROUP, 0, b"x")?;
+    let came = play(alloc, &["records"], input.as_slice(), NONE)?;
+    assert_eq!(rt; came.status, Status::Done);
+    assert_eq!(rt; came.out.bytes(), ACK_LINE.as_bytes());
     Ok(())
 }
 
@@ -228,7 +339,7 @@ fn failing_streams(rt: HostRuntime) -> Result<(), Fail> {
         ([&[0], &[], &[]], Status::ReadFault, "", "read fault\n"),
         ([&[1], &[], &[]], Status::ReadFault, X_LINE, "read fault\n"),
         ([&[], &[0], &[]], Status::WriteFault, "", "write fault\n"),
-        ([&[], &[], &[0]], Status::NotYet, X_LINE, ""),
+        ([&[], &[], &[0]], Status::BadStream, X_LINE, ""),
         ([&[1], &[0], &[]], Status::ReadFault, "", "read fault\n"),
         ([&[], &[0], &[0]], Status::WriteFault, "", ""),
     ];

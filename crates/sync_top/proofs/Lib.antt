@@ -1,4 +1,4 @@
-pub mod FrontLemmas
 pub mod TryLemmas
 pub mod TextLemmas
-pub mod RunLemmas
+pub mod PieceLemmas
+pub mod StreamLemmas

@@ -1,11 +1,11 @@
 -- What writing a text whole leaves of a sink.
-use Rattle.std.proofs.Common.{◌≡◌, ℕ, List, [], ◌++◌, take, drop, sym, append-nil, inl, inr, Result, Ok, Err}
+use Rattle.std.proofs.Common.{ℕ, List, [], take, drop, sym, append-nil, inl, inr, Result, Ok, Err}
 use Rattle.std.proofs.lemmas.List.{take-append-drop}
 use Rattle.std.specs.Prelude.{OnOk, OnErr}
 use Rattle.std.specs.Io.KnownBytes.{Appends}
 use Rattle.outside.specs.Faults.{HasCause}
 use Rattle.outside.specs.Streams.{AppendsPart}
-use Rattle.sync_top.specs.Run.{Flow, Gets, GetsFront}
+use Rattle.sync_top.specs.Flow.{Flow, Gets}
 
 pub gets_of : {T E : Type 0} (result : Result T E) (flow : Flow) (text : List ℕ) →
     OnOk result (Appends flow.before flow.after text) → OnErr result (AppendsPart flow.before flow.after text) →

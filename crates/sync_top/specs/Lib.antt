@@ -1,6 +1,7 @@
 pub mod Words
 pub mod Outcomes
-pub mod Messages
-pub mod Fronts
 pub mod TryText
+pub mod Flow
+pub mod Pieces
 pub mod Run
+pub mod RecordText

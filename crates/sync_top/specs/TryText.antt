@@ -1,9 +1,12 @@
 -- What `try` prints: a line for each message of the group, in order, whose id no earlier one has.
-use Rattle.std.specs.Prelude.{ℕ, ◌∷◌, ◌++◌, List, [], Bool, not, ◌&&◌, codes, length, map, if◌then◌else◌}
+use Rattle.std.specs.Prelude.{◌≡◌, ℕ, ◌∷◌, ◌++◌, List, [], Bool, not, ◌&&◌, codes, length, map, if◌then◌else◌}
 use Rattle.std.specs.List.{flat_map, list_any}
 use Rattle.std.specs.Fmt.{decimal}
 use Rattle.hex.specs.Hex.{encode_lower}
+use Rattle.record_grammar.specs.declared.stream.Item.{Item}
+use Rattle.record_grammar.specs.declared.stream.Item.TheVariants as item
 use Rattle.sync_ids.specs.Values.{MessageValue}
+use Rattle.sync_ids.specs.declared.records.Record.TheVariants as record_kind
 use Rattle.sync_ids.specs.Ids.{message_id_of}
 use Rattle.sync_rules.specs.Lists.{same_id}
 use Rattle.sync_rules.specs.declared.answers.Judgement.{Judgement}
@@ -47,3 +50,14 @@ ids_after group ids m = if is_fresh group ids m then ids ++ message_id_of m ∷ 
 
 abbrev pub text_after : (MessageValue → Judgement) → List ℕ → List (List ℕ) → List ℕ → MessageValue → List ℕ
 text_after verdict group ids text m = if is_fresh group ids m then text ++ line_of (word_of (verdict m)) m else text
+
+-- the messages among the items of a stream
+abbrev pub messages_of : List Item → List MessageValue
+messages_of [] = []
+messages_of (item.One place (record_kind.Message m) ∷ items) = m ∷ messages_of items
+messages_of (_ ∷ items) = messages_of items
+
+-- the ids seen and the text are those of the messages among these items
+pub record IsNoted (verdict : MessageValue → Judgement) (group : List ℕ) (ids : List (List ℕ)) (text : List ℕ) (items : List Item) : Type 0 where
+  pub ids_are : ids ≡ map message_id_of (fresh group [] (messages_of items))
+  pub text_is : text ≡ try_text verdict group (messages_of items)

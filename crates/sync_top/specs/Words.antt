@@ -1,5 +1,5 @@
 -- What the words of a command line ask for: a command with its parts, or the place of the first wrong word.
-use Rattle.std.specs.Prelude.{ℕ, ◌+◌, List, [], ◌∷◌, Bool, false, ◌&&◌, map, length, nat_le, codes, String, if◌then◌else◌}
+use Rattle.std.specs.Prelude.{ℕ, List, [], ◌∷◌, Bool, ◌&&◌, map, length, nat_le, codes, String, if◌then◌else◌}
 use Rattle.std.specs.Str.{bytes_eq}
 use Rattle.std.specs.String.{string_bytes}
 use Rattle.std.specs.declared.alloc.Global.{Global}
@@ -10,6 +10,7 @@ use Rattle.sync_top.specs.declared.words.Words.TheVariants as read
 pub data Asked : Type 0 where
   Usage : ℕ → Asked
   Try : List ℕ → List ℕ → Asked
+  Records : Asked
 
 -- the words as bytes
 abbrev pub texts : List (String Global) → List (List ℕ)
@@ -38,12 +39,21 @@ abbrev pub asked_name : List (List ℕ) → Asked
 asked_name [] = Usage 1
 asked_name (word ∷ words) = if is_name word then asked_descriptor word words else Usage 1
 
+-- nothing follows the word `records`
+abbrev pub asked_records : List (List ℕ) → Asked
+asked_records [] = Records
+asked_records (word ∷ words) = Usage 1
+
 -- the first word is the command's
 abbrev pub asked : List (List ℕ) → Asked
 asked [] = Usage 0
-asked (word ∷ words) = if bytes_eq word (codes "try") then asked_name words else Usage 0
+asked (word ∷ words) =
+    if bytes_eq word (codes "try") then asked_name words
+    else if bytes_eq word (codes "records") then asked_records words
+    else Usage 0
 
 -- what the program read of the words
 abbrev pub asked_of : Words → Asked
 asked_of (read.Usage place) = Usage place
 asked_of (read.Try name descriptor) = Try name.now descriptor.now
+asked_of read.Records = Records

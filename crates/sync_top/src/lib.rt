@@ -1,13 +1,15 @@
 //! The commands of a node: what they read, what they print, and their status.
 #![tactic(auto)]
 
-mod front;
 mod lines;
-mod printed;
+mod listener;
+mod notes;
+mod pieces;
 mod program;
+mod record_lines;
 mod status;
+mod streams;
 mod text;
-mod try_command;
 mod words;
 
 pub use program::{report, run};

@@ -1,11 +1,12 @@
 // A command from its words to its status.
 ghost use Rattle.std.specs.Prelude.{◌≡◌};
-ghost use Rattle.sync_top.specs.Run.{Comes, Flow, Ran, Reports};
+ghost use Rattle.sync_top.specs.Flow.{Flow};
+ghost use Rattle.sync_top.specs.Run.{Comes, Ran, Reports};
 ghost use Rattle.sync_top.specs.Words.{asked, texts};
 
 use crate::status::{Outcome, Status};
+use crate::streams::{list_records, try_group};
 use crate::text::write_text;
-use crate::try_command::try_group;
 use crate::words::{Words, read_words};
 use outside::{Host, Sink, Source};
 use std::alloc::Global;
@@ -51,6 +52,7 @@ fn command<S: Source, W: Sink, C: Clients>(
     match read_words(words) {
         Words::Usage(place) => Outcome::Usage(place),
         Words::Try { name, descriptor } => try_group(alloc, name, descriptor, input, out, clients),
+        Words::Records => list_records(alloc, input, out),
     }
 }
 

@@ -1,8 +1,10 @@
 // How a command ended: its status, and the line that the error output gets.
-ghost use Rattle.std.specs.Prelude.{◌≡◌, IfOk};
+ghost use Rattle.std.specs.Prelude.{◌≡◌, [], ◌∷◌, ◌++◌, codes, IfOk};
+ghost use Rattle.std.specs.Fmt.{decimal};
 ghost use Rattle.std.specs.String.{string_bytes};
-ghost use Rattle.sync_top.specs.Outcomes.{status_of, line_of};
+ghost use Rattle.sync_top.specs.Outcomes.{status_of, line_of, reason_text};
 
+use record_grammar::Reason;
 use std::alloc::{AllocError, Global};
 
 /// What a run of a command came to. Its number is the exit status of `bsp`.
@@ -40,8 +42,6 @@ pub enum Status {
     TooMuch = 14,
     /// A script of several devices has a bad line.
     BadScript = 15,
-    /// The input goes on with something else than a MESSAGE record.
-    NotYet = 16,
 }
 
 /// What a command came to, with what its line on the error output names.
@@ -61,8 +61,10 @@ pub enum Outcome {
     WriteFault,
     /// The input is too long.
     TooMuch,
-    /// The place in the input where something else than a MESSAGE record stands.
-    NotYet(usize),
+    /// At this place of the input something begins that is no record.
+    Bad(u64, Reason),
+    /// The input ends inside a record that begins at this place.
+    Inside(u64),
 }
 
 impl Outcome {
@@ -78,7 +80,8 @@ impl Outcome {
             Outcome::Memory => Status::Memory,
             Outcome::WriteFault => Status::WriteFault,
             Outcome::TooMuch => Status::TooMuch,
-            Outcome::NotYet(_) => Status::NotYet,
+            Outcome::Bad(_, _) => Status::BadStream,
+            Outcome::Inside(_) => Status::BadStream,
         }
     }
 
@@ -97,7 +100,32 @@ impl Outcome {
             Outcome::Memory => String::from_str(alloc, "out of memory\n"),
             Outcome::WriteFault => String::from_str(alloc, "write fault\n"),
             Outcome::TooMuch => String::from_str(alloc, "input too long\n"),
-            Outcome::NotYet(place) => format!(in alloc; "not yet: record at {place}\n"),
+            Outcome::Bad(place, reason) => bad_line(alloc, place, reason_text(reason)),
+            Outcome::Inside(place) => format!(in alloc; "ended inside a record at {place}\n"),
         }
+    }
+}
+
+// The line of a bad record, with the reason in words.
+fn bad_line(alloc: Global, place: u64, reason: &str) -> Result<String, AllocError>
+    ensures { IfOk result (λ line. string_bytes line ≡ codes "bad record at " ++ (decimal place ++ (codes ": " ++ (reason.now ++ 10 ∷ [])))) }
+{
+    format!(in alloc; "bad record at {place}: {reason}\n")
+}
+
+// A reason in words.
+fn reason_text(reason: Reason) -> &'static str
+    ensures { result.now ≡ reason_text reason }
+{
+    match reason {
+        Reason::WrongVersion => "wrong version",
+        Reason::TooLong => "too long",
+        Reason::EmptyIds => "empty id list",
+        Reason::RaggedIds => "ragged id list",
+        Reason::ShortMessage => "short message",
+        Reason::BodyTooLong => "body too long",
+        Reason::BadTimestamp => "bad timestamp",
+        Reason::BadVersions => "bad versions",
+        Reason::BadNonce => "bad nonce",
     }
 }

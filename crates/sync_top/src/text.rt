@@ -2,7 +2,7 @@
 ghost use Rattle.std.specs.Prelude.{◌≡◌, OnOk, OnErr};
 ghost use Rattle.std.specs.Io.KnownBytes.{Appends};
 ghost use Rattle.outside.specs.Faults.{Rose};
-ghost use Rattle.sync_top.specs.Run.{Flow, Gets, GetsFront};
+ghost use Rattle.sync_top.specs.Flow.{Flow, Gets, GetsFront};
 
 use outside::{Failed, Sink, write_all};
 

@@ -1,6 +1,6 @@
 // The words of a command line, read by hand.
 ghost use Rattle.std.specs.Prelude.{◌≡◌};
-ghost use Rattle.sync_top.specs.Words.{asked, asked_name, asked_descriptor, asked_of, texts};
+ghost use Rattle.sync_top.specs.Words.{asked, asked_records, asked_name, asked_descriptor, asked_of, texts};
 
 /// What the words of a command line ask for.
 pub enum Words<'a> {
@@ -8,6 +8,8 @@ pub enum Words<'a> {
     Usage(usize),
     /// `try NAME DESCRIPTOR`.
     Try { name: &'a str, descriptor: &'a str },
+    /// `records`.
+    Records,
 }
 
 /// Reads the words of a command line, from left to right.
@@ -17,7 +19,18 @@ pub fn read_words(words: &[String]) -> Words<'_>
     match words {
         [] => Words::Usage(0),
         [command, words @ ..] if command.as_str() == "try" => read_name(words),
+        [command, words @ ..] if command.as_str() == "records" => read_records(words),
         _ => Words::Usage(0),
+    }
+}
+
+fn read_records(words: &[String]) -> Words<'_>
+    ensures { asked_of result ≡ asked_records (texts words.now) }
+{
+    if words.is_empty() {
+        Words::Records
+    } else {
+        Words::Usage(1)
     }
 }
 

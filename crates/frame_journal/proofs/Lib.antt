@@ -1,0 +1,6 @@
+pub mod Torn
+pub mod AppendSteps
+pub mod Calm
+pub mod CreateSteps
+pub mod ClearSteps
+pub mod Read

@@ -1,0 +1,44 @@
+use Rattle.std.proofs.Common.{◌∙◌, sym, ap, refl, length}
+use Rattle.outside.specs.Files.{read_files}
+use Rattle.outside.specs.Steps.{looks_then, looks_call}
+use Rattle.frame_journal.proofs.Read.{read_files_of}
+use Rattle.frame_journal.specs.Journal.{JournalValue}
+use Rattle.frame_journal.proofs.journal.Journal.start.Goals as goal
+
+pub returns-in_default-clause-start : goal.returns-in_default-clause-start
+returns-in_default-clause-start g c two told =
+    let told1 = c.read_header.ensures.looks.same_files ∙ told in
+    c.in_default.ensures.file (read_files two) (c.in_ok-first.ensures.header two told) (c.in_ok-second.ensures.header two told1)
+
+pub returns-then-format-ne1-clause-start : goal.returns-then-format-ne1-clause-start
+returns-then-format-ne1-clause-start g c two told =
+    let told1 = c.read_header.ensures.looks.same_files ∙ told in
+    let h1 = c.in_ok-first.ensures.header two told in
+    let h2 = c.in_ok-second.ensures.header two told1 in
+    (c.in-Some.ensures.file (read_files two) h1 h2, λ e. c.if-format-ne1.true (c.in-Some.ensures.format (read_files two) h1 h2 ∙ e), refl)
+
+pub returns-in_err-len-clause-looks : goal.returns-in_err-len-clause-looks
+returns-in_err-len-clause-looks g c =
+    let o0 = g.D.Disk.tells c.args.disk.now in
+    let o1 = g.D.Disk.tells c.read_header.new.disk in
+    let o2 = g.D.Disk.tells c.read_header-2.new.disk in
+    looks_call o0 o2 (g.D.Disk.tells c.len.new.self) (looks_then o0 o1 o2 c.read_header.ensures.looks c.read_header-2.ensures.looks) c.len.ensures.call c.len.ensures.same c.len.ensures.cause.later
+
+pub returns-clause-start : goal.returns-clause-start
+returns-clause-start g c two told =
+    let told1 = c.read_header.ensures.looks.same_files ∙ told in
+    let told2 = c.read_header-2.ensures.looks.same_files ∙ told1 in
+    let h1 = c.in_ok-first.ensures.header two told in
+    let h2 = c.in_ok-second.ensures.header two told1 in
+    let long = c.in_ok-len.ensures.length two told2 ∙ sym (ap length (read_files_of two c.in-Some.file)) in (
+      c.in-Some.ensures.file (read_files two) h1 h2,
+      sym (c.in-Some.ensures.format (read_files two) h1 h2) ∙ c.if-format-ne1.false,
+      ap (λ n. let j : JournalValue = record { file = c.in-Some.file; end = 15; len = n; last = 0 } in j) long,
+    )
+
+pub returns-clause-looks : goal.returns-clause-looks
+returns-clause-looks g c =
+    let o0 = g.D.Disk.tells c.args.disk.now in
+    let o1 = g.D.Disk.tells c.read_header.new.disk in
+    let o2 = g.D.Disk.tells c.read_header-2.new.disk in
+    looks_call o0 o2 (g.D.Disk.tells c.len.new.self) (looks_then o0 o1 o2 c.read_header.ensures.looks c.read_header-2.ensures.looks) c.len.ensures.call c.len.ensures.same c.len.ensures.cause.later

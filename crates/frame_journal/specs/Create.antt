@@ -1,0 +1,56 @@
+-- A file emptied for a journal, and a journal begun in it.
+use Rattle.std.specs.Prelude.{◌≡◌, ◌≢◌, ◌⊎◌, ℕ, false, List, [], ◌∷◌, ◌++◌, take}
+use Rattle.outside.specs.Files.{Two, File, file_of, settled, NothingPending}
+use Rattle.outside.specs.Frames.{is_open, header_of, IsAtRest}
+use Rattle.outside.specs.Steps.{other_of}
+
+-- the file is one byte long, which is no open gate, and nothing is pending in it
+pub record IsCleared (files : Two File) (file : ℕ) : Type 0 where
+  pub gate : ℕ
+  pub closed : gate ≢ 1
+  pub bytes : file_of files file ≡ settled (gate ∷ [])
+
+-- the file as it was, or one with no open header
+abbrev pub BeforeOrShut : List ℕ → List ℕ → Type 0
+BeforeOrShut bytes left = (left ≡ bytes) ⊎ (is_open left ≡ false)
+
+-- the bytes of a journal with no frame
+abbrev pub begun_bytes : ℕ → List ℕ
+begun_bytes generation = header_of 1 generation ++ 0 ∷ []
+
+-- A journal with no frame, and nothing pending in its file; the other file is as before.
+pub record Creates (file generation : ℕ) (old new : Two File) : Type 0 where
+  pub bytes : file_of new file ≡ settled (begun_bytes generation)
+  pub other : other_of new file ≡ other_of old file
+  pub at_rest : IsAtRest new file 15
+
+-- no open header, or the journal that was asked for
+abbrev pub ShutOrBegun : ℕ → List ℕ → Type 0
+ShutOrBegun generation left = (is_open left ≡ false) ⊎ (left ≡ begun_bytes generation)
+
+-- the first byte of a file is there and is no open gate
+pub record HasShutGate (bytes : List ℕ) : Type 0 where
+  pub gate : ℕ
+  pub rest : List ℕ
+  pub closed : gate ≢ 1
+  pub shape : bytes ≡ gate ∷ rest
+
+-- a file's first byte becomes or stays a closed gate; where nothing was pending in it nothing is
+pub record ShutsGate (file : ℕ) (old new : Two File) : Type 0 where
+  pub shut : HasShutGate (file_of new file).now
+  pub still : NothingPending old file → NothingPending new file
+  pub other : other_of new file ≡ other_of old file
+
+-- a file is cut to its first byte
+pub record Shortens (file : ℕ) (old new : Two File) : Type 0 where
+  pub reads : (file_of new file).now ≡ take 1 (file_of old file).now
+  pub still : NothingPending old file → NothingPending new file
+  pub other : other_of new file ≡ other_of old file
+
+-- The file reads as one byte, which is no open gate; where nothing was pending in it, it is cleared.
+pub record Clears (file : ℕ) (old new : Two File) : Type 0 where
+  pub gate : ℕ
+  pub closed : gate ≢ 1
+  pub reads : (file_of new file).now ≡ gate ∷ []
+  pub cleared : NothingPending old file → IsCleared new file
+  pub other : other_of new file ≡ other_of old file

@@ -1,0 +1,25 @@
+-- What a read of a header answers, and which file a journal is found in.
+use Rattle.std.specs.Prelude.{◌≡◌, ◌≢◌, ℕ, true, false, List, length, Option, None, Some, Result, Ok, Err}
+use Rattle.outside.specs.Files.{Two, file_of}
+use Rattle.outside.specs.Frames.{is_open, format_in, generation_in, journal_file}
+use Rattle.frame_journal.specs.declared.header.Header.{Header}
+use Rattle.frame_journal.specs.declared.fault.StartFault.{StartFault}
+use Rattle.frame_journal.specs.declared.fault.StartFault.TheVariants as start
+use Rattle.frame_journal.specs.Journal.{JournalValue}
+
+-- the header of these bytes: none where it is not open
+abbrev pub IsHeaderOf : List ℕ → Option Header → Type 0
+IsHeaderOf bytes None = is_open bytes ≡ false
+IsHeaderOf bytes (Some header) = (is_open bytes ≡ true) × (header.format ≡ format_in bytes) × (header.generation ≡ generation_in bytes)
+
+-- The journal of two files begins behind the header of the journal's file, where that has format 1; else it is damaged
+-- there, and where no header is open there is none.
+abbrev pub Starts : Two (List ℕ) → Result JournalValue StartFault → Type 0
+Starts files (Ok journal) =
+    (journal_file files ≡ Some journal.file)
+    × (format_in (file_of files journal.file) ≡ 1)
+    × (journal ≡ record { file = journal.file; end = 15; len = length (file_of files journal.file); last = 0 })
+Starts files (Err start.NoStore) = journal_file files ≡ None
+Starts files (Err (start.Damaged place)) =
+    (journal_file files ≡ Some place.file) × (format_in (file_of files place.file) ≢ 1) × (place.at ≡ 5)
+Starts files (Err start.DiskFault) = Unit {0}

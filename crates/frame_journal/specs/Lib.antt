@@ -1,0 +1,6 @@
+pub mod Gates
+pub mod Journal
+pub mod Append
+pub mod Create
+pub mod Header
+pub mod Next

@@ -1,0 +1,77 @@
+//! The header of a journal's file.
+ghost use Rattle.std.specs.Prelude.{◌≡◌, ◌<◌, ◌≤◌, ℕ, List, take, IfOk, IfSome};
+ghost use Rattle.std.specs.Option.{ForSome, option_map};
+ghost use Rattle.outside.specs.Faults.{HasCause};
+ghost use Rattle.outside.specs.Files.{Two, file_of};
+ghost use Rattle.outside.specs.Frames.{is_open, format_in, journal_file};
+ghost use Rattle.outside.specs.Outside.{Looks};
+
+use crate::DiskFault;
+use outside::Disk;
+
+/// What an open header says.
+#[derive(Clone, Copy, Debug, PartialEq, Eq)]
+pub struct Header {
+    /// The format of the frames; this program's is 1.
+    pub format: u8,
+    /// Of two open headers the one with the greater generation counts.
+    pub generation: u64,
+}
+
+impl Header {
+    ghost use Rattle.frame_journal.specs.Header.{IsHeaderOf};
+
+    // The header in 14 bytes, of which so many were read.
+    fn of(bytes: [u8; 14], n: usize) -> Option<Header>
+        requires { n ≤ 14 }
+        ensures { IsHeaderOf (take n bytes) result }
+    {
+        if !is_open(&bytes, n) {
+            return None;
+        }
+        let [_, _, _, _, _, format, a, b, c, d, e, f, g, h] = bytes;
+        let generation = u64::from_be_bytes([a, b, c, d, e, f, g, h]);
+        Some(Header { format, generation })
+    }
+}
+
+// Whether all were read, and the gate and the mark are there.
+fn is_open(bytes: &[u8; 14], n: usize) -> bool
+    requires { n ≤ 14 }
+    ensures { result ≡ is_open (take n bytes.now) }
+{
+    n >= 14
+        && bytes[0] == 1
+        && bytes[1] == b'B'
+        && bytes[2] == b'S'
+        && bytes[3] == b'P'
+        && bytes[4] == b'J'
+}
+
+ghost use Rattle.frame_journal.specs.Header.{IsHeaderOf};
+
+/// Reads the header of a file: `None` exactly where it is not open.
+pub fn read_header<D: Disk>(disk: &mut D, file: u8) -> Result<Option<Header>, DiskFault>
+    requires { file < 2 }
+    ensures header { IfOk result (λ h. ForSome (D.tells disk.old).files (λ two. IsHeaderOf (file_of two file).now h)) }
+    ensures looks { Looks (D.tells disk.old) (D.tells disk.new) }
+    ensures fault { HasCause (D.tells disk.old).disk_faults (D.tells disk.new).disk_faults result }
+{
+    let mut bytes = [0u8; 14];
+    let n = disk.read_at(file, 0, &mut bytes)?;
+    Ok(Header::of(bytes, n))
+}
+
+// The journal's file by both headers, and its format.
+pub fn journal_of(first: Option<Header>, second: Option<Header>) -> Option<(u8, u8)>
+    ensures file { (two : Two (List ℕ)) → IsHeaderOf two.first first → IsHeaderOf two.second second → journal_file two ≡ option_map (λ found. found.0) result }
+    ensures format { (two : Two (List ℕ)) → IsHeaderOf two.first first → IsHeaderOf two.second second → IfSome result (λ found. found.1 ≡ format_in (file_of two found.0)) }
+    ensures two_files { IfSome result (λ found. found.0 < 2) }
+{
+    match (first, second) {
+        (Some(a), Some(b)) if a.generation < b.generation => Some((1, b.format)),
+        (Some(a), _) => Some((0, a.format)),
+        (None, Some(b)) => Some((1, b.format)),
+        (None, None) => None,
+    }
+}

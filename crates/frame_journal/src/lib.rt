@@ -1,0 +1,16 @@
+//! Frames of a journal in one of the two files of a disk: each is added whole or not at all.
+#![tactic(auto)]
+
+mod fault;
+mod frame;
+mod gates;
+mod header;
+mod journal;
+
+pub use fault::{DiskFault, FrameFault, StartFault};
+pub use gates::{barrier, clear, create};
+pub use header::{Header, read_header};
+pub use journal::Journal;
+
+#[cfg(test)]
+mod tests;

@@ -1,0 +1,67 @@
+//! A disk in memory seen as a real one is.
+use outside::{Disk, Failed, MemDisk};
+
+/// A disk in memory that tells nothing but its count, as a real one.
+#[derive(Drop)]
+pub struct Untold {
+    pub disk: MemDisk,
+    pub faults: u64,
+}
+
+impl Untold {
+    ghost use Rattle.outside.specs.Faults.{HasCause};
+
+    // Counts a failure.
+    fn counted<T>(&mut self, answer: Result<T, Failed>) -> Result<T, Failed>
+        ensures { HasCause self.old.faults self.new.faults result }
+    {
+        match answer {
+            Ok(value) => Ok(value),
+            Err(fault) => {
+                self.faults = self.faults.saturating_add(1);
+                Err(fault)
+            }
+        }
+    }
+}
+
+impl Disk for Untold {
+    ghost use Rattle.std.specs.Prelude.{[]};
+    ghost use Rattle.outside.specs.Silent.{silent};
+
+    ghost tells = { λ d. silent d.faults 0 [] };
+
+    fn len(&mut self, file: u8) -> Result<u64, Failed> {
+        let answer = self.disk.make_len(file);
+        self.counted(answer)
+    }
+
+    fn read_at(&mut self, file: u8, at: u64, buf: &mut [u8]) -> Result<usize, Failed> {
+        match self.disk.make_read(file, at, buf) {
+            Ok(n) => Ok(n),
+            Err(fault) => {
+                self.faults = self.faults.saturating_add(1);
+                Err(fault)
+            }
+        }
+    }
+
+    fn write_at(&mut self, file: u8, at: u64, bytes: &[u8]) -> Result<(), Failed> {
+        let answer = if at <= self.disk.file(file).len() as u64 {
+            self.disk.make_write(file, at, bytes)
+        } else {
+            Err(Failed)
+        };
+        self.counted(answer)
+    }
+
+    fn cut(&mut self, file: u8, len: u64) -> Result<(), Failed> {
+        let answer = self.disk.make_cut(file, len);
+        self.counted(answer)
+    }
+
+    fn sync(&mut self, file: u8) -> Result<(), Failed> {
+        let answer = self.disk.make_sync(file);
+        self.counted(answer)
+    }
+}

@@ -1,0 +1,9 @@
+pub mod Same
+pub mod Changes
+pub mod Texts
+pub mod Steps
+pub mod Takes
+pub mod Finish
+pub mod Says
+pub mod Work
+pub mod Calls

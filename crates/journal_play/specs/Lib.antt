@@ -1,0 +1,4 @@
+pub mod Texts
+pub mod Playing
+pub mod Fates
+pub mod Keeping

@@ -1,0 +1,70 @@
+-- What a journal of one session is shown as: a line for each entry that delivers a message or says that it is invalid, and
+-- then a line for each held message that has no such entry.
+use Rattle.std.specs.Prelude.{ℕ, cond, List, [], ◌∷◌, ◌++◌, Option, Some, None, length, codes}
+use Rattle.std.specs.Fmt.{decimal}
+use Rattle.hex.specs.Hex.{encode_lower}
+use Rattle.sync_ids.specs.Values.{MessageValue}
+use Rattle.sync_rules.specs.declared.entries.Entry.{Entry}
+use Rattle.sync_rules.specs.declared.entries.Entry.TheVariants as entry
+use Rattle.sync_rules.specs.declared.states.Fate.{Fate}
+use Rattle.sync_rules.specs.declared.states.Fate.TheVariants as fate_kind
+use Rattle.sync_rules.specs.Facts.{Facts, Held, Id, facts, entries_of, held_at}
+use Rattle.sync_rules.specs.Steps.{is_ended}
+
+-- what a line says: the state of the message of an id
+abbrev pub Line : Type 0
+Line = Fate × Id
+
+-- what an entry says of the end of a message
+abbrev pub told_by : Entry → List Line
+told_by (entry.Deliver id) = (fate_kind.Delivered, id) ∷ []
+told_by (entry.Invalid id) = (fate_kind.Invalid, id) ∷ []
+told_by _ = []
+
+-- what the entries say, in their order
+abbrev pub told : List Entry → List Line
+told [] = []
+told (e ∷ es) = told_by e ++ told es
+
+-- the messages that have no end, in order of arrival
+abbrev pub unended : Facts → List Held → List Line
+unended f [] = []
+unended f (h ∷ hs) = cond (is_ended f h.id) (unended f hs) ((fate_kind.Pending, h.id) ∷ unended f hs)
+
+-- all that is shown of a journal
+abbrev pub lines_of : List (List Entry) → List Line
+lines_of journal = told (entries_of journal) ++ unended (facts journal) (facts journal).held
+
+-- ---- as text
+
+-- the word of a state; a message that is not judged is shown as one that waits
+abbrev pub word_of : Fate → List ℕ
+word_of fate_kind.Delivered = codes "deliver"
+word_of fate_kind.Invalid = codes "invalid"
+word_of fate_kind.Pending = codes "pending"
+word_of fate_kind.Unknown = codes "pending"
+
+-- a line: the word, the id in lower-case digits, the time, the length of the body
+abbrev pub line_of_parts : (word id : List ℕ) (timestamp len : ℕ) → List ℕ
+line_of_parts word id timestamp len =
+    word ++ (32 ∷ encode_lower id ++ (32 ∷ decimal timestamp ++ (32 ∷ decimal len ++ 10 ∷ [])))
+
+-- the line of a message under this id
+abbrev pub line_of : Fate → Id → MessageValue → List ℕ
+line_of state id m = line_of_parts (word_of state) id m.timestamp (length m.body)
+
+abbrev pub line_at : Fate → Id → Option Held → List ℕ
+line_at state id None = []
+line_at state id (Some h) = line_of state id h.message
+
+abbrev pub line_in : List Held → Line → List ℕ
+line_in held line = line_at line.0 line.1 (held_at held line.1)
+
+-- the lines as text
+abbrev pub text_of : List Held → List Line → List ℕ
+text_of held [] = []
+text_of held (line ∷ lines) = line_in held line ++ text_of held lines
+
+-- what is printed of a journal
+abbrev pub play_text : List (List Entry) → List ℕ
+play_text journal = text_of (facts journal).held (lines_of journal)

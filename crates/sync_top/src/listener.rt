@@ -1,0 +1,38 @@
+// What hears the items of a stream.
+ghost use Rattle.std.specs.Prelude.{◌≡◌, [], ◌∷◌, ◌++◌, List, ℕ, IfOk, OnOk};
+ghost use Rattle.std.specs.String.{string_bytes};
+ghost use Rattle.record_grammar.specs.declared.stream.Item.{Item};
+ghost use Rattle.sync_top.specs.RecordText.{items_text};
+
+use crate::record_lines::{add_record_line, add_skipped_line};
+use record_grammar::Item;
+use std::alloc::{AllocError, Global};
+
+/// What is handed the items of a stream, one after the other.
+pub trait Listener {
+    /// It has been handed these items since it was made, and its text for them is what this function gives.
+    ghost heard: { Self → (List Item → List ℕ) → List Item → Type 0 };
+
+    /// Takes one item more. It fails only for want of memory, and then nothing is said of it.
+    fn hear(&mut self, alloc: Global, item: Item) -> Result<(), AllocError>
+        ensures { OnOk result ((text_of : List Item → List ℕ) (items : List Item) → heard self.old text_of items → heard self.new text_of (items ++ item ∷ [])) };
+}
+
+/// Lists the items of a stream, a line each.
+#[derive(Drop)]
+pub struct Lister {
+    pub text: String,
+}
+
+impl Listener for Lister {
+    ghost heard = { λ l text_of items. (text_of ≡ items_text) × (string_bytes l.text ≡ items_text items) };
+
+    fn hear(&mut self, alloc: Global, item: Item) -> Result<(), AllocError> {
+        match item {
+            Item::One(place, record) => add_record_line(alloc, place, &record, &mut self.text),
+            Item::Skipped(place, type_byte, len) => {
+                add_skipped_line(place, type_byte, len, &mut self.text)
+            }
+        }
+    }
+}
