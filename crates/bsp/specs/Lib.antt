@@ -1,2 +1,1 @@
-pub mod Note
 pub mod FileHost

@@ -3,11 +3,10 @@
 
 mod arguments;
 mod file_host;
-mod note;
 mod streams;
 
+use client_basic::Bundle;
 use file_host::FileHost;
-use note::Bundle;
 use std::process::ExitCode;
 use streams::{StdSink, StdSource};
 use sync_top::{Outcome, Status, run};
@@ -27,7 +26,7 @@ fn main(rt: HostRuntime) -> ExitCode {
                 &mut input,
                 &mut out,
                 &mut err,
-                &Bundle,
+                &Bundle::new(),
             )
         }
         Err(_) => sync_top::report(alloc, Outcome::Memory, &mut err),

@@ -2,7 +2,7 @@
 ghost use Rattle.std.specs.Prelude.{◌<◌, ◌≤◌, length};
 
 use crate::file_host::FileHost;
-use crate::note::Bundle;
+use client_basic::Bundle;
 use outside::{MemSink, MemSource};
 use std::alloc::{AllocError, Global};
 use std::process::Abort;
@@ -77,7 +77,7 @@ fn play(
         &mut source,
         &mut out,
         &mut err,
-        &Bundle,
+        &Bundle::new(),
     );
     Ok(Came { status, out, err })
 }
@@ -350,4 +350,83 @@ fn failing_streams(rt: HostRuntime) -> Result<(), Fail> {
         assert_eq!(rt; came.err.bytes(), err.as_bytes());
     }
     Ok(())
+}
+
+const THREAD: &str = "643823e9a30aff464f444740f79260a2363b6453227d987e04a1c9bb5def2d0e";
+
+const A_LINE: &str =
+    "deliver 7508b128eedb7712a21c18b07c2429a0bde1f25a8bb53c2eeceaf5e18c974a60 1 2\n";
+
+const B_LINE: &str =
+    "deliver 1df1e213cea7232868034568465e45cbb408c40f3c14c3b86460c51ee11a201d 2 34\n";
+
+const C_LINE: &str =
+    "deliver 2617b60c6b519395d7cbe8cb91ec146eed925a7c1ff210f0a2c665446b96f70c 3 33\n";
+
+const BC_PENDING: &str =
+    "pending 2617b60c6b519395d7cbe8cb91ec146eed925a7c1ff210f0a2c665446b96f70c 3 33\npending 1df1e213cea7232868034568465e45cbb408c40f3c14c3b86460c51ee11a201d 2 34\n";
+
+const ABC_INVALID: &str =
+    "invalid 7cf2174db5aaf7e08ef4aae28d181fd117eaa3e5ff5a815bc72f4ba3b071e5bc 1 2\ninvalid 3e4b46c75176c251da33f492fb58e4800ab8f6a856372e5b9dd541a5ecea18f5 2 34\ninvalid 1cd9992d106896b07dc9e0f2984050f6b141d1757f3cb039adef64df073710f4 3 33\n";
+
+const A_ID: &str = "7508b128eedb7712a21c18b07c2429a0bde1f25a8bb53c2eeceaf5e18c974a60";
+
+const B_ID: &str = "1df1e213cea7232868034568465e45cbb408c40f3c14c3b86460c51ee11a201d";
+
+const BAD_A_ID: &str = "7cf2174db5aaf7e08ef4aae28d181fd117eaa3e5ff5a815bc72f4ba3b071e5bc";
+
+const BAD_B_ID: &str = "3e4b46c75176c251da33f492fb58e4800ab8f6a856372e5b9dd541a5ecea18f5";
+
+// Adds a message of the thread with one parent at most.
+fn add_thread(
+    bytes: &mut Vec<u8>,
+    alloc: Global,
+    time: u64,
+    parent: &str,
+    text: &[u8],
+) -> Result<(), Fail> {
+    let mut body = Vec::new(alloc);
+    if parent.is_empty() {
+        body.push(0)?;
+    } else {
+        let parent: GroupId = Fixed::from_hex(parent).map_err(|_| "no id")?;
+        body.push(1)?;
+        body.extend_from_slice(parent.as_bytes())?;
+    }
+    body.extend_from_slice(text)?;
+    add_record(bytes, THREAD, time, body.as_slice())
+}
+
+// Runs `try thread d` and compares its text.
+fn expect_text(rt: &impl Abort, alloc: Global, input: &[u8], lines: &[&str]) -> Result<(), Fail> {
+    let mut text = String::new(alloc);
+    for line in lines {
+        text.push_str(line)?;
+    }
+    let came = play(alloc, &["try", "thread", "d"], input, NONE)?;
+    assert_eq!(rt; came.status, Status::Done);
+    assert_eq!(rt; came.out.bytes(), text.as_bytes());
+    Ok(())
+}
+
+#[test]
+fn cascades(rt: HostRuntime) -> Result<(), Fail> {
+    let alloc = rt.alloc();
+    let mut input = Vec::new(alloc);
+    add_thread(&mut input, alloc, 2, A_ID, b"b")?;
+    add_thread(&mut input, alloc, 1, "", b"a")?;
+    expect_text(&rt, alloc, input.as_slice(), &[A_LINE, B_LINE])?;
+    add_thread(&mut input, alloc, 2, A_ID, b"b")?;
+    add_thread(&mut input, alloc, 3, B_ID, b"")?;
+    add_thread(&mut input, alloc, 1, "", b"a")?;
+    expect_text(&rt, alloc, input.as_slice(), &[A_LINE, B_LINE, C_LINE])?;
+    let mut waiting = Vec::new(alloc);
+    add_thread(&mut waiting, alloc, 3, B_ID, b"")?;
+    add_thread(&mut waiting, alloc, 2, A_ID, b"b")?;
+    expect_text(&rt, alloc, waiting.as_slice(), &[BC_PENDING])?;
+    let mut refused = Vec::new(alloc);
+    add_thread(&mut refused, alloc, 3, BAD_B_ID, b"")?;
+    add_thread(&mut refused, alloc, 2, BAD_A_ID, b"b")?;
+    add_thread(&mut refused, alloc, 1, "", b"\xff")?;
+    expect_text(&rt, alloc, refused.as_slice(), &[ABC_INVALID])
 }

@@ -11,7 +11,7 @@ use Rattle.record_stream.specs.Reading.{ReaderState, fresh}
 use Rattle.record_stream.specs.Answers.{Continues}
 use Rattle.std.specs.Io.KnownBytes.{Consumes, Keeps, IsAtEnd}
 use Rattle.sync_top.specs.Flow.{Flow, limit}
-use Rattle.sync_top.specs.Pieces.{Takes, Hearing, HearsInput, IsWaiting, Reading, StopsAt}
+use Rattle.sync_top.specs.Pieces.{Subject, Takes, Hearing, HearsInput, IsWaiting, Reading, StopsAt}
 use Rattle.sync_top.specs.declared.pieces.Stop.{Stop}
 use Rattle.sync_top.specs.declared.pieces.Stop.TheVariants as stop
 
@@ -59,28 +59,28 @@ take_shorter a b l few within =
     let long : a ≤ length (take b l) = omega (arith, length-take-le b l within) in
     sym (take-append-le a (take b l) (drop b l) long) ∙ ap (take a) (take-append-drop b l)
 
-module _ {L : Type 0} (heard : L → (List Item → List ℕ) → List Item → Type 0) where
+module _ {L : Type 0} (heard : L → Subject → List Item → Type 0) where
   pub hearing_none : (r : ReaderState) (l : L) → Hearing heard [] r r l l
-  hearing_none r l = record { has = []; takes = takes_none r; hears = λ text_of before h. subst (heard l text_of) (sym (append-nil before)) h }
+  hearing_none r l = record { has = []; takes = takes_none r; hears = λ subject before h. subst (heard l subject) (sym (append-nil before)) h }
 
   pub hearing_then : (a b : List ℕ) (r1 r2 r3 : ReaderState) (l1 l2 l3 : L) → Hearing heard a r1 r2 l1 l2 → Hearing heard b r2 r3 l2 l3 →
       Hearing heard (a ++ b) r1 r3 l1 l3
   hearing_then a b r1 r2 r3 l1 l2 l3 first second = record {
     has = first.has ++ second.has;
     takes = takes_then a b r1 r2 r3 first.has second.has first.takes second.takes;
-    hears = λ text_of before h. subst (heard l3 text_of) (append_assoc before first.has second.has) (second.hears text_of (before ++ first.has) (first.hears text_of before h));
+    hears = λ subject before h. subst (heard l3 subject) (append_assoc before first.has second.has) (second.hears subject (before ++ first.has) (first.hears subject before h));
   }
 
   -- one item more
   pub hearing_item : (r1 r2 r3 : ReaderState) (l1 l2 l3 : L) (i : Item) → Hearing heard [] r1 r2 l1 l2 → Takes [] r2 (i ∷ []) r3 →
-      ((text_of : List Item → List ℕ) (before : List Item) → heard l2 text_of before → heard l3 text_of (before ++ i ∷ [])) → Hearing heard [] r1 r3 l1 l3
+      ((subject : Subject) (before : List Item) → heard l2 subject before → heard l3 subject (before ++ i ∷ [])) → Hearing heard [] r1 r3 l1 l3
   hearing_item r1 r2 r3 l1 l2 l3 i first takes hears =
       hearing_then [] [] r1 r2 r3 l1 l2 l3 first (record { has = i ∷ []; takes = takes; hears = hears })
 
   -- bytes more that gave nothing
   pub hearing_fed : (a b : List ℕ) (r1 r2 r3 : ReaderState) (l1 l2 : L) → Hearing heard a r1 r2 l1 l2 → Takes b r2 [] r3 → Hearing heard (a ++ b) r1 r3 l1 l2
   hearing_fed a b r1 r2 r3 l1 l2 first takes =
-      hearing_then a b r1 r2 r3 l1 l2 l2 first (record { has = []; takes = takes; hears = λ text_of before h. subst (heard l2 text_of) (sym (append-nil before)) h })
+      hearing_then a b r1 r2 r3 l1 l2 l2 first (record { has = []; takes = takes; hears = λ subject before h. subst (heard l2 subject) (sym (append-nil before)) h })
 
   -- a part of a piece more, and the items that it ends
   pub hearing_part : (piece : List ℕ) (at n : ℕ) (r1 r2 r3 r4 : ReaderState) (l1 l2 l3 : L) → Hearing heard (take at piece) r1 r2 l1 l2 →
@@ -99,12 +99,12 @@ module _ {L : Type 0} (heard : L → (List Item → List ℕ) → List Item → 
 
   -- all that was heard, where nothing more stands in the reader
   pub all_heard : (read : List ℕ) (r : ReaderState) (l l' : L) → Hearing heard read fresh r l l' → items r.place r.bytes ≡ [] →
-      (text_of : List Item → List ℕ) (before : List Item) → heard l text_of before → heard l' text_of (before ++ items 0 read)
-  all_heard read r l l' hearing nothing text_of before h =
+      (subject : Subject) (before : List Item) → heard l subject before → heard l' subject (before ++ items 0 read)
+  all_heard read r l l' hearing nothing subject before h =
       let all : items 0 read ≡ hearing.has =
       ap (items 0) (sym (append-nil read)) ∙ hearing.takes.items_stay []
       ∙ ap (λ bytes. hearing.has ++ items r.place bytes) (append-nil r.bytes) ∙ ap (λ l. hearing.has ++ l) nothing ∙ append-nil hearing.has in
-      subst (λ (some : List Item). heard l' text_of (before ++ some)) (sym all) (hearing.hears text_of before h)
+      subst (λ (some : List Item). heard l' subject (before ++ some)) (sym all) (hearing.hears subject before h)
 
   pub all_ends : (read : List ℕ) (r : ReaderState) (l l' : L) → Hearing heard read fresh r l l' → ending r.place r.bytes ≡ ending 0 read
   all_ends read r l l' hearing =
@@ -119,7 +119,7 @@ module _ {L : Type 0} (heard : L → (List Item → List ℕ) → List Item → 
       record {
         read = read;
         consumed = consumed;
-        hears = λ text_of before h. subst (λ (bytes : List ℕ). heard l' text_of (before ++ items 0 bytes)) (sym whole) (all_heard read r l l' hearing nothing text_of before h);
+        hears = λ subject before h. subst (λ (bytes : List ℕ). heard l' subject (before ++ items 0 bytes)) (sym whole) (all_heard read r l l' hearing nothing subject before h);
         ends = ends ∙ all_ends read r l l' hearing ∙ ap (ending 0) (sym whole);
         stops = stops;
       }

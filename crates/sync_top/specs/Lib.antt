@@ -1,6 +1,5 @@
 pub mod Words
 pub mod Outcomes
-pub mod TryText
 pub mod Flow
 pub mod Pieces
 pub mod Run

@@ -6,9 +6,15 @@ use Rattle.record_grammar.specs.Stream.{IsRest, ending, items}
 use Rattle.record_grammar.specs.declared.stream.Ending.{Ending}
 use Rattle.record_grammar.specs.declared.stream.Item.{Item}
 use Rattle.record_stream.specs.Reading.{ReaderState, fresh}
+use Rattle.sync_ids.specs.Values.{GroupValue}
+use Rattle.sync_rules.specs.Clients.{Meaning}
 use Rattle.sync_top.specs.Flow.{Flow, limit}
 use Rattle.sync_top.specs.declared.pieces.Stop.{Stop}
 use Rattle.sync_top.specs.declared.pieces.Stop.TheVariants as stop
+
+-- what is asked of what was heard: what the clients mean, and the definition of a group
+abbrev pub Subject : Type 0
+Subject = Meaning × GroupValue
 
 -- A reader took these bytes and gave these items: whatever comes, the items of all are those given and those of the
 -- rest, and the rest ends as all does.
@@ -17,10 +23,10 @@ pub record Takes (bytes : List ℕ) (old : ReaderState) (has : List Item) (new :
   pub ending_stays : (more : List ℕ) → ending old.place (old.bytes ++ (bytes ++ more)) ≡ ending new.place (new.bytes ++ more)
 
 -- the reader took these bytes, and all that it gave was heard
-pub record Hearing {L : Type 0} (heard : L → (List Item → List ℕ) → List Item → Type 0) (bytes : List ℕ) (old new : ReaderState) (l l' : L) : Type 0 where
+pub record Hearing {L : Type 0} (heard : L → Subject → List Item → Type 0) (bytes : List ℕ) (old new : ReaderState) (l l' : L) : Type 0 where
   pub has : List Item
   pub takes : Takes bytes old has new
-  pub hears : (text_of : List Item → List ℕ) (before : List Item) → heard l text_of before → heard l' text_of (before ++ has)
+  pub hears : (subject : Subject) (before : List Item) → heard l subject before → heard l' subject (before ++ has)
 
 -- no item stands at the front of what the reader holds, and it has room for more, or has failed for good
 pub record IsWaiting (r : ReaderState) : Type 0 where
@@ -44,15 +50,15 @@ StopsAt stop.ReadFault input read = Rose input.faults input.faults' × (length r
 StopsAt stop.TooMuch input read = length read ≡ limit + 1
 
 -- an input was read, and all items of its first 268,435,456 bytes were heard, with how they end
-pub record HearsInput {L : Type 0} (heard : L → (List Item → List ℕ) → List Item → Type 0) (input : Flow) (l l' : L) (why : Stop) (end : Ending) : Type 0 where
+pub record HearsInput {L : Type 0} (heard : L → Subject → List Item → Type 0) (input : Flow) (l l' : L) (why : Stop) (end : Ending) : Type 0 where
   pub read : List ℕ
   pub consumed : Consumes input.before input.after read
-  pub hears : (text_of : List Item → List ℕ) (before : List Item) → heard l text_of before → heard l' text_of (before ++ items 0 (take limit read))
+  pub hears : (subject : Subject) (before : List Item) → heard l subject before → heard l' subject (before ++ items 0 (take limit read))
   pub ends : end ≡ ending 0 (take limit read)
   pub stops : StopsAt why input read
 
 -- what the reading of an input keeps, piece by piece
-pub record Reading {L : Type 0} (heard : L → (List Item → List ℕ) → List Item → Type 0) (before now : Option (List ℕ)) (faults faults' : ℕ) (total : ℕ) (r : ReaderState) (l l' : L) : Type 0 where
+pub record Reading {L : Type 0} (heard : L → Subject → List Item → Type 0) (before now : Option (List ℕ)) (faults faults' : ℕ) (total : ℕ) (r : ReaderState) (l l' : L) : Type 0 where
   pub read : List ℕ
   pub consumed : Consumes before now read
   pub counted : total ≡ length read

@@ -2,11 +2,13 @@
 use Rattle.std.specs.Prelude.{◌≡◌, ℕ, ◌+◌, ◌≤◌, ◌⊎◌, List, Option, None, Some, length, take}
 use Rattle.std.specs.Io.KnownBytes.{Consumes, Appends, IsAtEnd}
 use Rattle.outside.specs.Faults.{Rose}
-use Rattle.record_grammar.specs.Stream.{ending, items}
+use Rattle.record_grammar.specs.Stream.{ending, items, records_of}
 use Rattle.record_grammar.specs.declared.stream.Ending.{Ending}
 use Rattle.record_grammar.specs.declared.stream.Ending.TheVariants as ends
 use Rattle.record_grammar.specs.declared.stream.Item.{Item}
-use Rattle.sync_ids.specs.Ids.{group_id_of}
+use Rattle.journal_play.specs.Playing.{Played, HasPlayed, IsTextOf}
+use Rattle.sync_ids.specs.Values.{GroupValue}
+use Rattle.sync_ids.specs.declared.records.Record.{Record}
 use Rattle.sync_rules.specs.Clients.{Meaning}
 use Rattle.sync_top.specs.declared.pieces.Stop.{Stop}
 use Rattle.sync_top.specs.declared.pieces.Stop.TheVariants as stop
@@ -17,7 +19,6 @@ use Rattle.sync_top.specs.declared.status.Outcome.TheVariants as outcome
 use Rattle.sync_top.specs.Flow.{Flow, IsIdle, GetsFront, Gets, limit}
 use Rattle.sync_top.specs.Outcomes.{line_of, status_of}
 use Rattle.sync_top.specs.RecordText.{items_text}
-use Rattle.sync_top.specs.TryText.{messages_of, try_text}
 use Rattle.sync_top.specs.Words.{Asked}
 use Rattle.sync_top.specs.Words.Asked.{Usage, Try, Records}
 
@@ -37,16 +38,18 @@ Ends input out read text end outcome.ReadFault = Rose input.faults input.faults'
 Ends input out read text end outcome.WriteFault = Rose out.faults out.faults' × ReadsWhole input read × GetsFront out text
 Ends input out read text end _ = ⊥
 
--- a command read these bytes, and its text is that of the items of their first 268,435,456
-pub record ReadsStream (text_of : List Item → List ℕ) (input out : Flow) (came : Outcome) : Type 0 where
+-- a command read these bytes, and its text is what is told of the items of their first 268,435,456
+pub record ReadsStream (told : List Item → List ℕ → Type 0) (input out : Flow) (came : Outcome) : Type 0 where
   pub read : List ℕ
+  pub text : List ℕ
   pub consumed : Consumes input.before input.after read
-  pub ended : Ends input out read (text_of (items 0 (take limit read))) (ending 0 (take limit read)) came
+  pub text_is : told (items 0 (take limit read)) text
+  pub ended : Ends input out read text (ending 0 (take limit read)) came
 
 -- memory may be wanting while the input is read, and then nothing was written
-abbrev pub Streams : (List Item → List ℕ) → (input out : Flow) → Outcome → Type 0
-Streams text_of input out outcome.Memory = IsIdle out
-Streams text_of input out came = ReadsStream text_of input out came
+abbrev pub Streams : (List Item → List ℕ → Type 0) → (input out : Flow) → Outcome → Type 0
+Streams told input out outcome.Memory = IsIdle out
+Streams told input out came = ReadsStream told input out came
 
 -- what an input that was read to its end comes to
 abbrev pub outcome_of : Ending → Outcome
@@ -67,12 +70,22 @@ PrintEnds stop.ReadFault end text out _ = ⊥
 abbrev pub Untouched : Flow → Flow → Type 0
 Untouched input out = IsIdle input × IsIdle out
 
--- `try` by whether its client is known: its text is that of the messages of the group
+-- a played journal was finished, and its text written
+pub record PlayPrinted (play : Played) (why : Stop) (end : Ending) (out : Flow) (came : Outcome) : Type 0 where
+  pub text : List ℕ
+  pub is : (clients : Meaning) (def : GroupValue) (records : List Record) → HasPlayed clients def records play → IsTextOf clients def records text
+  pub printed : PrintEnds why end text out came
+
+-- what the writing of a played journal comes to; memory may be wanting for its text
+abbrev pub PrintsPlay : Played → Stop → Ending → (out : Flow) → Outcome → Type 0
+PrintsPlay play why end out came = ((came ≡ outcome.Memory) × IsIdle out) ⊎ PlayPrinted play why end out came
+
+-- `try` by whether its client is known: its text is that of a journal of the group that takes the records, settling after each
 abbrev pub TriesClient : Meaning → (name descriptor : List ℕ) → Option ℕ → (input out : Flow) → Outcome → Type 0
 TriesClient clients name descriptor None input out outcome.UnknownClient = Untouched input out
 TriesClient clients name descriptor None input out _ = ⊥
 TriesClient clients name descriptor (Some kind) input out came =
-    Streams (λ items. try_text (clients.verdict kind) (group_id_of (record { name = name; major = 0; descriptor = descriptor })) (messages_of items)) input out came
+    Streams (λ items text. IsTextOf clients (record { name = name; major = 0; descriptor = descriptor }) (records_of items) text) input out came
 
 -- what the words ask for, and what it comes to
 abbrev pub Comes : Meaning → Asked → (input out : Flow) → Outcome → Type 0
@@ -80,7 +93,7 @@ Comes clients (Usage place) input out (outcome.Usage at) = (at ≡ place) × Unt
 Comes clients (Usage place) input out _ = ⊥
 Comes clients (Try name descriptor) input out came =
     TriesClient clients name descriptor (clients.kind_of name 0) input out came
-Comes clients Records input out came = Streams items_text input out came
+Comes clients Records input out came = Streams (λ items text. text ≡ items_text items) input out came
 
 -- the error output got the line of the outcome, unless memory was wanting for the line: then the status says so
 abbrev pub Reports : Outcome → (err : Flow) → Status → Type 0

@@ -1,10 +1,9 @@
 //! The commands of a node: what they read, what they print, and their status.
 #![tactic(auto)]
 
-mod lines;
 mod listener;
-mod notes;
 mod pieces;
+mod player;
 mod program;
 mod record_lines;
 mod status;

@@ -1,7 +1,8 @@
 // What hears the items of a stream.
-ghost use Rattle.std.specs.Prelude.{◌≡◌, [], ◌∷◌, ◌++◌, List, ℕ, IfOk, OnOk};
+ghost use Rattle.std.specs.Prelude.{◌≡◌, [], ◌∷◌, ◌++◌, List, OnOk};
 ghost use Rattle.std.specs.String.{string_bytes};
 ghost use Rattle.record_grammar.specs.declared.stream.Item.{Item};
+ghost use Rattle.sync_top.specs.Pieces.{Subject};
 ghost use Rattle.sync_top.specs.RecordText.{items_text};
 
 use crate::record_lines::{add_record_line, add_skipped_line};
@@ -10,12 +11,12 @@ use std::alloc::{AllocError, Global};
 
 /// What is handed the items of a stream, one after the other.
 pub trait Listener {
-    /// It has been handed these items since it was made, and its text for them is what this function gives.
-    ghost heard: { Self → (List Item → List ℕ) → List Item → Type 0 };
+    /// It has been handed these items since it was made, for these clients and this group.
+    ghost heard: { Self → Subject → List Item → Type 0 };
 
     /// Takes one item more. It fails only for want of memory, and then nothing is said of it.
     fn hear(&mut self, alloc: Global, item: Item) -> Result<(), AllocError>
-        ensures { OnOk result ((text_of : List Item → List ℕ) (items : List Item) → heard self.old text_of items → heard self.new text_of (items ++ item ∷ [])) };
+        ensures { OnOk result ((subject : Subject) (items : List Item) → heard self.old subject items → heard self.new subject (items ++ item ∷ [])) };
 }
 
 /// Lists the items of a stream, a line each.
@@ -25,7 +26,7 @@ pub struct Lister {
 }
 
 impl Listener for Lister {
-    ghost heard = { λ l text_of items. (text_of ≡ items_text) × (string_bytes l.text ≡ items_text items) };
+    ghost heard = { λ l subject items. string_bytes l.text ≡ items_text items };
 
     fn hear(&mut self, alloc: Global, item: Item) -> Result<(), AllocError> {
         match item {

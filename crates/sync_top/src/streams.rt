@@ -1,26 +1,27 @@
 // The commands that read a stream of records: `try NAME DESCRIPTOR` and `records`.
-ghost use Rattle.std.specs.Prelude.{◌≡◌, ℕ, ◌≤◌, List, Option, length, IfOk};
+ghost use Rattle.std.specs.Prelude.{◌≡◌, ℕ, ◌≤◌, List, Option, Some, length, IfOk};
 ghost use Rattle.std.specs.String.{string_bytes};
-ghost use Rattle.sync_ids.specs.Ids.{group_id_of};
+ghost use Rattle.journal_play.specs.Playing.{IsTextOf};
+ghost use Rattle.record_grammar.specs.Stream.{records_of};
+ghost use Rattle.sync_rules.specs.Steps.{kind_of_def};
 ghost use Rattle.sync_top.specs.Flow.{Flow};
 ghost use Rattle.sync_top.specs.RecordText.{items_text};
-ghost use Rattle.sync_top.specs.Run.{outcome_of, PrintEnds, Streams, TriesClient};
-ghost use Rattle.sync_top.specs.TryText.{messages_of, try_text};
+ghost use Rattle.sync_top.specs.Run.{outcome_of, PrintEnds, PrintsPlay, Streams, TriesClient};
 
 use crate::listener::Lister;
-use crate::notes::Notes;
 use crate::pieces::{Heard, Stop, hear_input};
+use crate::player::Player;
 use crate::status::Outcome;
 use crate::text::write_text;
-use indexmap::IndexSet;
+use journal_play::Play;
 use outside::{Sink, Source};
 use record_grammar::Ending;
 use std::alloc::{AllocError, Global};
-use sync_ids::{GroupDef, GroupId, group_id};
+use sync_ids::GroupDef;
 use sync_rules::Clients;
 
-/// Prints the messages of the group of this client's name, major version 0 and this descriptor, with what the client says
-/// of each.
+/// Plays the records of the input in a journal of the group of this client's name, major version 0 and this descriptor, and
+/// prints what becomes of each message.
 pub fn try_group<S: Source, W: Sink, C: Clients>(
     alloc: Global,
     name: &str,
@@ -41,56 +42,66 @@ pub fn try_group<S: Source, W: Sink, C: Clients>(
         return Outcome::UnknownClient;
     };
     match group_of(alloc, name, descriptor) {
-        Ok(group) => try_input(alloc, kind, group, input, out, clients),
+        Ok(def) => try_input(alloc, kind, def, input, out, clients),
         Err(_) => Outcome::Memory,
     }
 }
 
-// The id of the group.
-fn group_of(alloc: Global, name: &str, descriptor: &str) -> Result<GroupId, AllocError>
+// The definition of the group.
+fn group_of(alloc: Global, name: &str, descriptor: &str) -> Result<GroupDef, AllocError>
     requires some_name { 1 ≤ length name.now }
     requires short_name { length name.now ≤ 255 }
     requires short_descriptor { length descriptor.now ≤ 16384 }
-    ensures { IfOk result (λ id. id ≡ group_id_of (record { name = name.now; major = 0; descriptor = descriptor.now })) }
+    ensures { IfOk result (λ def. def ≡ record { name = name.now; major = 0; descriptor = descriptor.now }) }
 {
     let name = String::from_str(alloc, name)?;
     let descriptor = descriptor.as_bytes().to_vec(alloc)?;
     match GroupDef::new(name, 0, descriptor) {
-        Ok(def) => Ok(group_id(&def)),
+        Ok(def) => Ok(def),
         Err(_) => unreachable!(),
     }
 }
 
-// Reads the input and prints its messages of the group.
+// Reads the input and plays its records.
 fn try_input<S: Source, W: Sink, C: Clients>(
     alloc: Global,
     kind: u8,
-    group: GroupId,
+    def: GroupDef,
     input: &mut S,
     out: &mut W,
     clients: &C,
 ) -> Outcome
-    ensures { Streams (λ items. try_text ((C.meaning clients.now).verdict kind) group (messages_of items))
+    requires { kind_of_def (C.meaning clients.now) def ≡ Some kind }
+    ensures { Streams (λ items text. IsTextOf (C.meaning clients.now) def (records_of items) text)
         (record { before = S.left input.old; after = S.left input.new; faults = S.source_faults input.old; faults' = S.source_faults input.new })
         (record { before = W.written out.old; after = W.written out.new; faults = W.sink_faults out.old; faults' = W.sink_faults out.new })
         result }
 {
-    let mut notes = Notes {
-        clients,
-        kind,
-        group,
-        seen: IndexSet::new(alloc),
-        text: String::new(alloc),
+    let Ok(play) = Play::begin(alloc, def, kind) else {
+        return Outcome::Memory;
     };
-    match hear_input(alloc, input, &mut notes) {
-        Ok(heard) => print(&heard, notes.text.as_str(), out),
+    let mut player = Player { clients, play };
+    match hear_input(alloc, input, &mut player) {
+        Ok(heard) => print_play(alloc, player.play, &heard, out),
+        Err(_) => Outcome::Memory,
+    }
+}
+
+// Finishes a played journal and writes its text.
+fn print_play<W: Sink>(alloc: Global, play: Play, heard: &Heard, out: &mut W) -> Outcome
+    ensures { PrintsPlay play heard.now.stop heard.now.ending
+        (record { before = W.written out.old; after = W.written out.new; faults = W.sink_faults out.old; faults' = W.sink_faults out.new })
+        result }
+{
+    match play.finish(alloc) {
+        Ok(text) => print(heard, text.as_str(), out),
         Err(_) => Outcome::Memory,
     }
 }
 
 /// Prints a line for each record and each skipped record of the input.
 pub fn list_records<S: Source, W: Sink>(alloc: Global, input: &mut S, out: &mut W) -> Outcome
-    ensures { Streams items_text
+    ensures { Streams (λ items text. text ≡ items_text items)
         (record { before = S.left input.old; after = S.left input.new; faults = S.source_faults input.old; faults' = S.source_faults input.new })
         (record { before = W.written out.old; after = W.written out.new; faults = W.sink_faults out.old; faults' = W.sink_faults out.new })
         result }
