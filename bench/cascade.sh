@@ -1,0 +1,60 @@
+#!/usr/bin/env bash
+# Times `bsp try thread d` on chains of messages in the worst order: each depends on the one that comes after it, and the root is
+# the last, so that all are delivered at once at the end. Prints the least processor time of RUNS (3) runs for 100, 200 and 400
+# messages and for 25,000 and 100,000; the last line is `ratio cascade VALUE`: how much faster than linear the time grows between
+# the last two.
+cd "$(dirname "$0")/.." || exit 1
+bsp=$PWD/crates/bsp/out/bsp
+if [ ! -x "$bsp" ]; then (cd crates/bsp && rt run -- try note d <stdin >/dev/null) || exit 1; fi
+exec python3 - "$bsp" "${RUNS:-3}" <<'PY'
+import hashlib, os, struct, subprocess, sys, tempfile
+
+bsp, runs = sys.argv[1], int(sys.argv[2])
+LABEL = b'org.briarproject.bramble/'
+
+
+def digest(*parts):
+    h = hashlib.blake2b(digest_size=32)
+    for part in parts:
+        h.update(struct.pack('>I', len(part)) + part)
+    return h.digest()
+
+
+GROUP = digest(LABEL + b'GROUP_ID', b'\x01', b'thread', struct.pack('>I', 0), b'd')
+
+
+def chain(count):
+    """The records of a chain, the last message first, and the lines that delivering it prints."""
+    records, lines, parents = [], [], b'\x00'
+    for number in range(count):
+        body = parents + b't'
+        moment = struct.pack('>Q', number)
+        name = digest(LABEL + b'MESSAGE_ID', b'\x01', GROUP, moment, digest(LABEL + b'MESSAGE_BLOCK', b'\x01', body))
+        records.append(struct.pack('>BBH', 0, 1, 40 + len(body)) + GROUP + moment + body)
+        lines.append(f'deliver {name.hex()} {number} {len(body)}\n')
+        parents = b'\x01' + name
+    return b''.join(reversed(records)), ''.join(lines)
+
+
+def used(path, expected, out_path):
+    with open(path, 'rb') as f, open(out_path, 'wb') as out:
+        child = subprocess.Popen((bsp, 'try', 'thread', 'd'), stdin=f, stdout=out)
+        _, status, usage = os.wait4(child.pid, 0)
+        child.returncode = status
+    with open(out_path) as out:
+        if status != 0 or out.read() != expected:
+            sys.exit(f'wrong text, status {status}')
+    return usage.ru_utime + usage.ru_stime
+
+
+with tempfile.TemporaryDirectory(dir='/dev/shm') as folder:
+    path, out = os.path.join(folder, 'records'), os.path.join(folder, 'out')
+    least = {}
+    for count in (100, 200, 400, 25_000, 100_000):
+        records, lines = chain(count)
+        with open(path, 'wb') as f:
+            f.write(records)
+        least[count] = min(used(path, lines, out) for _ in range(runs))
+        print(f'{count} messages: {least[count]:.4f} s, {least[count] / count * 1e6:.1f} us a message')
+print(f'ratio cascade {least[100_000] / least[25_000] / 4:.3f}')
+PY
