@@ -5,7 +5,7 @@
 # of the two grows.
 set -eu
 cd "$(dirname "$0")/.."
-(cd crates/graph_growth && rt run >/dev/null)
+(cd crates/graph_growth && rt run -- chain 10 >/dev/null)
 exec python3 - "${RUNS:-5}" <<'PY'
 import math, os, resource, subprocess, sys
 
