@@ -352,6 +352,20 @@ fn failing_streams(rt: HostRuntime) -> Result<(), Fail> {
     Ok(())
 }
 
+#[test]
+fn failing_reads_of_records(rt: HostRuntime) -> Result<(), Fail> {
+    let alloc = rt.alloc();
+    let cases: [([&[u64]; 3], &str); 2] =
+        [([&[0], &[], &[]], ""), ([&[1], &[], &[]], MIXED_LINES)];
+    for (failing, out) in cases {
+        let came = play(alloc, &["records"], &MIXED, failing)?;
+        assert_eq!(rt; came.status, Status::ReadFault, "at {failing:?}");
+        assert_eq!(rt; came.out.bytes(), out.as_bytes());
+        assert_eq!(rt; came.err.bytes(), b"read fault\n".as_slice());
+    }
+    Ok(())
+}
+
 const THREAD: &str = "643823e9a30aff464f444740f79260a2363b6453227d987e04a1c9bb5def2d0e";
 
 const A_LINE: &str =
