@@ -355,8 +355,7 @@ fn failing_streams(rt: HostRuntime) -> Result<(), Fail> {
 #[test]
 fn failing_reads_of_records(rt: HostRuntime) -> Result<(), Fail> {
     let alloc = rt.alloc();
-    let cases: [([&[u64]; 3], &str); 2] =
-        [([&[0], &[], &[]], ""), ([&[1], &[], &[]], MIXED_LINES)];
+    let cases: [([&[u64]; 3], &str); 2] = [([&[0], &[], &[]], ""), ([&[1], &[], &[]], MIXED_LINES)];
     for (failing, out) in cases {
         let came = play(alloc, &["records"], &MIXED, failing)?;
         assert_eq!(rt; came.status, Status::ReadFault, "at {failing:?}");
