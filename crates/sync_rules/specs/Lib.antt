@@ -1,6 +1,7 @@
 pub mod Lists
 pub mod Clients
 pub mod Facts
+pub mod Codes
 pub mod Steps
 pub mod Rounds
 pub mod Sessions
