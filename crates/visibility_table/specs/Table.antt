@@ -1,5 +1,5 @@
 -- What contracts see of the contacts, groups and levels of a journal.
-use Rattle.std.specs.Prelude.{◌≡◌, ℕ, ◌-◌, List, [], Option, position, refl}
+use Rattle.std.specs.Prelude.{◌≡◌, ℕ, ◌-◌, ◌^◌, ◌<◌, ⊤, List, [], Option, position, refl}
 use Rattle.std.specs.Coded.{Coded, code_by, coded×, coded_list, coded_ℕ}
 use Rattle.std.specs.FinMap as fin_map
 use Rattle.sync_ids.specs.Values.{GroupValue}
@@ -33,6 +33,12 @@ known e = record { def = e.1; id = e.0 }
 -- the number of the first group of an id
 abbrev pub number_of : List Known → Id → Option ℕ
 number_of groups id = position (λ g. same_id g.id id) groups
+
+-- a contact has a number left, and a level has room
+abbrev pub CanApply : Table → Entry → Type 0
+CanApply table (entry.Contact number) = table.contacts < 2 ^ 32 - 1
+CanApply table (entry.Level contact group level) = 0 < table.spare
+CanApply table _ = ⊤
 
 -- the room that an entry takes
 abbrev pub room_for : Entry → ℕ

@@ -1,9 +1,9 @@
 //! `Levels`.
-ghost use Rattle.std.specs.Prelude.{◌≡◌, ◌+◌, ◌-◌, ◌^◌, ◌<◌, ◌≤◌, ◌++◌, ◌∷◌, [], max, length, IfOk, OnOk, OnErr, MatchOption, None, Some, slice_get};
+ghost use Rattle.std.specs.Prelude.{◌≡◌, ◌-◌, ◌^◌, ◌<◌, ◌++◌, ◌∷◌, [], max, length, IfOk, OnOk, OnErr, MatchOption, None, Some, slice_get};
 ghost use Rattle.std.specs.Option.{option_map};
 ghost use Rattle.sync_ids.specs.Ids.{group_id_of};
-ghost use Rattle.sync_rules.specs.Facts.{contacts_after, group_at, known_of, level_at, put_level};
-ghost use Rattle.visibility_table.specs.Table.{after_entry, empty_table, number_of, room_for};
+ghost use Rattle.sync_rules.specs.Facts.{group_at, known_of, level_at, put_level};
+ghost use Rattle.visibility_table.specs.Table.{after_entry, CanApply, empty_table, number_of};
 
 use indexmap::IndexMap;
 use std::alloc::{AllocError, Global};
@@ -71,8 +71,7 @@ impl Levels {
     /// Takes an entry of the journal: one more contact, or a level, for which it takes room for one. Other entries change
     /// nothing. It takes no memory.
     pub fn apply(&mut self, entry: &Entry)
-        requires room { room_for entry.now ≤ self.old.spare }
-        requires few { contacts_after self.old.contacts entry.now < 2 ^ 32 }
+        requires { CanApply self.old entry.now }
         ensures { self.new ≡ after_entry self.old entry.now }
     {
         match entry {
