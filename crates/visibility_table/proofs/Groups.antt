@@ -1,5 +1,5 @@
 -- Groups kept as a list of ids with their definitions.
-use Rattle.std.proofs.Common.{◌≡◌, ℕ, suc, ◌+◌, ◌-◌, ◌≤◌, Bool, true, false, cond, nat_eq, List, [], ◌∷◌, map, Option, Some, None, position, slice_get, refl, sym, ◌∙◌, ap, subst, arith, MatchOption}
+use Rattle.std.proofs.Common.{◌≡◌, ℕ, suc, ◌+◌, ◌-◌, ◌≤◌, Bool, true, false, cond, List, [], ◌∷◌, map, Option, Some, None, position, slice_get, refl, sym, ◌∙◌, ap, subst, arith, MatchOption}
 use Rattle.std.specs.List.{position_from}
 use Rattle.std.specs.Map.{lookup, keys_of}
 use Rattle.std.proofs.lemmas.Cmp.{nat_list_eq_equiv}

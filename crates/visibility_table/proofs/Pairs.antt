@@ -1,5 +1,5 @@
 -- Levels kept as a list of pairs with their levels are a map from pairs to levels.
-use Rattle.std.proofs.Common.{◌≡◌, ℕ, Bool, true, false, cond, ◌&&◌, nat_eq, List, [], ◌∷◌, Option, Some, None, refl, sym, ◌∙◌, ap}
+use Rattle.std.proofs.Common.{◌≡◌, ℕ, Bool, cond, ◌&&◌, nat_eq, List, [], ◌∷◌, Some, None, refl, sym, ◌∙◌, ap}
 use Rattle.std.specs.FinMap as fin_map
 use Rattle.std.specs.Cmp.{IsTotalOrder, nat_cmp_total, unsigned_ties, both_tied, eq_by_cmp_equiv}
 use Rattle.std.specs.Cmp.Lexicographic.{slice_cmp, nat_list_cmp_total, texts_ties}

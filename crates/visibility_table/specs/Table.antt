@@ -1,5 +1,5 @@
 -- What contracts see of the contacts, groups and levels of a journal.
-use Rattle.std.specs.Prelude.{◌≡◌, ℕ, ◌-◌, ◌^◌, ◌<◌, ⊤, List, [], Option, position, refl}
+use Rattle.std.specs.Prelude.{ℕ, ◌-◌, ◌^◌, ◌<◌, ⊤, List, [], Option, position, refl}
 use Rattle.std.specs.Coded.{Coded, code_by, coded×, coded_list, coded_ℕ}
 use Rattle.std.specs.FinMap as fin_map
 use Rattle.sync_ids.specs.Values.{GroupValue}

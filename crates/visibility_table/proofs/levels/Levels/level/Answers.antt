@@ -1,4 +1,4 @@
-use Rattle.std.proofs.Common.{◌≡◌, Some, None, sym, ap, ◌∙◌}
+use Rattle.std.proofs.Common.{sym, ap, ◌∙◌}
 use Rattle.sync_rules.specs.Facts.{level_or, level_at}
 use Rattle.visibility_table.specs.Table.{Table}
 use Rattle.visibility_table.proofs.Pairs.{kept_level}

@@ -1,7 +1,5 @@
-use Rattle.std.proofs.Common.{◌≡◌, ◌-◌, Some, ap, sym, subst, refl, ◌∙◌, inl, inr}
+use Rattle.std.proofs.Common.{◌≡◌, ◌-◌, ap, sym, subst, refl, ◌∙◌, inl, inr}
 use Rattle.std.specs.FinMap as fin_map
-use Rattle.sync_rules.specs.declared.entries.Level.{Level}
-use Rattle.sync_rules.specs.declared.entries.Level.TheVariants as level
 use Rattle.sync_rules.specs.Facts.{Levels, pair_cmp, put_level}
 use Rattle.visibility_table.specs.Table.{Table}
 use Rattle.visibility_table.proofs.Pairs.{kept_put, kept_drop}
