@@ -10,3 +10,4 @@ pub mod Laws
 pub mod Scans
 pub mod Hearing
 pub mod PeerLaws
+pub mod Views
