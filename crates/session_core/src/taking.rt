@@ -45,25 +45,19 @@ fn add_record<V: View>(
     ensures { OnOk result (entries.new.items ≡ entries.old.items ++ taken_from (V.seen view.now).facts session.now.number session.now.contact rec) }
 {
     match rec {
-        Record::Ack(ids) => add_acks(
-            view,
-            session,
-            first_ids(alloc, ids.as_slice())?.as_slice(),
-            entries,
-        ),
+        Record::Ack(ids) => {
+            let ids = first_ids(alloc, ids.as_slice())?;
+            add_acks(view, session, ids.as_slice(), entries)
+        }
         Record::Message(message) => add_message(view, session, message, entries),
-        Record::Offer(ids) => add_offers(
-            view,
-            session,
-            first_ids(alloc, ids.as_slice())?.as_slice(),
-            entries,
-        ),
-        Record::Request(ids) => add_requests(
-            view,
-            session,
-            first_ids(alloc, ids.as_slice())?.as_slice(),
-            entries,
-        ),
+        Record::Offer(ids) => {
+            let ids = first_ids(alloc, ids.as_slice())?;
+            add_offers(view, session, ids.as_slice(), entries)
+        }
+        Record::Request(ids) => {
+            let ids = first_ids(alloc, ids.as_slice())?;
+            add_requests(view, session, ids.as_slice(), entries)
+        }
         Record::Versions(_) | Record::Priority(_) => Ok(()),
     }
 }
