@@ -11,3 +11,4 @@ pub mod Laws
 pub mod Scans
 pub mod Hearing
 pub mod PeerLaws
+pub mod Views

@@ -10,6 +10,7 @@ pub mod laws;
 mod scans;
 mod states;
 mod steps;
+mod view;
 
 pub use answers::{Clients, DepFault, DepList, Judgement, MAX_DEPS};
 pub use entries::{Batch, EmptyBatch, Entry, Level, Mode, Out, Session};
@@ -17,6 +18,7 @@ pub use hearing::{begin_session, hear_message, settle_in, take_message};
 pub use scans::{fate_in, id_of, level_in};
 pub use states::{Fate, Origin, Refused};
 pub use steps::next_step_in;
+pub use view::View;
 
 #[cfg(test)]
 mod tests;

@@ -1,0 +1,42 @@
+#!/bin/sh
+# The growth of a session's two steps with the number of messages: what an OFFER of 1,536 unknown ids is taken as, and what is
+# due where 1,536 messages are to be offered, each over a view by maps. Prints the processor time of one step, the least of
+# RUNS (5) runs, for 50,000 and 200,000 messages, and last `ratio session VALUE`: how much faster than the logarithm of that
+# number the worse of the two steps grows.
+set -eu
+cd "$(dirname "$0")/.."
+(cd crates/session_growth && rt run -- take 10 1 >/dev/null)
+exec python3 - "${RUNS:-5}" <<'PY'
+import math, os, subprocess, sys
+
+runs = int(sys.argv[1])
+few, many = 50_000, 200_000
+rounds = {"take": 400, "due": 4_000}
+last = {"take": 1_001, "due": 1_536}
+
+
+def run(step, count, times):
+    child = subprocess.Popen(["crates/session_growth/out/session_growth", step, str(count), str(times)], stdout=subprocess.PIPE)
+    text = child.stdout.read().decode()
+    _, status, usage = os.wait4(child.pid, 0)
+    child.returncode = status
+    want = f"{times} rounds, {last[step] if times else 0} in the last\n"
+    if status != 0 or text != want:
+        sys.exit(f"{step} {count}: {text!r}, status {status}")
+    return usage.ru_utime + usage.ru_stime
+
+
+def one(step, count):
+    start = min(run(step, count, 0) for _ in range(runs))
+    return max(min(run(step, count, rounds[step]) for _ in range(runs)) - start, 1e-9) / rounds[step]
+
+
+worst = 0.0
+logarithm = math.log2(many) / math.log2(few)
+for step in ("take", "due"):
+    short, long = one(step, few), one(step, many)
+    growth = long / short / logarithm
+    worst = max(worst, growth)
+    print(f"{step}: {few} messages {short * 1000:.3f} ms, {many} messages {long * 1000:.3f} ms, growth over the logarithm {growth:.3f}")
+print(f"ratio session {worst:.3f}")
+PY

@@ -1,0 +1,7 @@
+-- The ids gathered so far, and those that the rest adds, are the distinct ids of the list.
+use Rattle.std.proofs.Common.{◌≡◌, ◌++◌, drop}
+use Rattle.sync_rules.specs.Lists.{firsts, firsts_after}
+use Rattle.session_core.proofs.first_ids.first_ids.Given as goal
+
+abbrev pub invariant-loop-id : goal.invariant-loop-id
+invariant-loop-id l = l.distinct.keys ++ firsts_after l.distinct.keys (drop l.id-index l.ids) ≡ firsts l.ids
