@@ -8,3 +8,6 @@ mod rows;
 mod wanted;
 
 pub use retry::Retry;
+
+#[cfg(test)]
+mod tests;

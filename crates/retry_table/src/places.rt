@@ -10,11 +10,14 @@ use std::alloc::{AllocError, Global};
 /// The most ids in one output.
 pub(crate) const IDS_LIMIT: usize = 1536;
 
-/// Puts a number at a place, or makes it absent.
+/// Puts a number at a place, or makes it absent; a place that has it is not written.
 pub(crate) fn put(queue: &mut DueTree, place: usize, number: Option<u64>)
     requires { place < length queue.old }
     ensures { queue.new ≡ slice_set queue.old place number }
 {
+    if queue.get(place) == number {
+        return;
+    }
     match number {
         None => queue.clear(place),
         Some(at) => queue.set(place, at),
@@ -22,11 +25,7 @@ pub(crate) fn put(queue: &mut DueTree, place: usize, number: Option<u64>)
 }
 
 /// The first 1,536 places that are due, in order.
-pub(crate) fn due_places(
-    alloc: Global,
-    queue: &DueTree,
-    bound: u64,
-) -> Result<Vec<u32>, AllocError>
+pub(crate) fn due_places(alloc: Global, queue: &DueTree, bound: u64) -> Result<Vec<u32>, AllocError>
     requires { length queue.now < 2 ^ 32 }
     ensures { IfOk result (λ v. v.items ≡ take ids_limit (numbers_where (is_due bound) 0 queue.now)) }
 {

@@ -1,4 +1,4 @@
-use Rattle.std.proofs.Common.{◌≡◌, ℕ, ◌<◌, ◌+◌, List, length, sym, subst, arith}
+use Rattle.std.proofs.Common.{ℕ, ◌+◌, List, sym, subst, arith}
 use Rattle.due_tree.specs.Due.{is_due}
 use Rattle.sync_rules.specs.Sessions.{ids_limit}
 use Rattle.retry_table.proofs.Listing.{AreFound, found_none, found_within, found_more}

@@ -1,7 +1,6 @@
 use Rattle.std.proofs.Common.{◌≡◌, ℕ, ◌<◌, List, length, set, get_or, sym, ap, ◌∙◌, arith}
 use Rattle.std.proofs.lemmas.List.{set-set, set-get_or, get_or-set_same, get_or_default}
-use Rattle.sync_rules.specs.Facts.{Id}
-use Rattle.retry_table.specs.Table.{Kept, Wants, Table, with_room}
+use Rattle.retry_table.specs.Table.{Wants, Table, with_room}
 use Rattle.retry_table.proofs.retry.Retry.reserve.Goals as goal
 
 -- what was read is put back

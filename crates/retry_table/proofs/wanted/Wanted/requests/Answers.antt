@@ -1,4 +1,4 @@
-use Rattle.std.proofs.Common.{◌≡◌, ℕ, List, IfOk, take, ap, subst, ◌∙◌}
+use Rattle.std.proofs.Common.{◌≡◌, List, IfOk, take, ap, subst, ◌∙◌}
 use Rattle.std.proofs.lemmas.List.{take_min}
 use Rattle.sync_rules.specs.Facts.{Id}
 use Rattle.sync_rules.specs.Sessions.{ids_limit}

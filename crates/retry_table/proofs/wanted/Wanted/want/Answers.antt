@@ -1,4 +1,4 @@
-use Rattle.std.proofs.Common.{◌≡◌, ◌-◌, ◌++◌, ◌∷◌, [], false, if◌then◌else◌, sym, ap, ◌∙◌}
+use Rattle.std.proofs.Common.{◌≡◌, ◌-◌, ◌++◌, ◌∷◌, [], false, if◌then◌else◌, ap, ◌∙◌}
 use Rattle.sync_rules.specs.Lists.{is_among}
 use Rattle.retry_table.specs.Table.{Wants}
 use Rattle.retry_table.proofs.WantedIds.{among_is}
