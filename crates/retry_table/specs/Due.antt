@@ -1,0 +1,40 @@
+-- What is due to a contact, by its rows.
+use Rattle.std.specs.Prelude.{ℕ, ◌+◌, Bool, not, cond, ◌&&◌, nat_le, List, [], ◌∷◌, Option, take}
+use Rattle.std.specs.List.{position_from}
+use Rattle.sync_rules.specs.declared.entries.Mode.{Mode}
+use Rattle.sync_rules.specs.Facts.{Id}
+use Rattle.sync_rules.specs.Sessions.{is_ripe, ids_limit}
+use Rattle.retry_table.specs.Table.{Kept}
+
+-- the numbers, from the first one on, of those in a list that pass a test, in order
+abbrev pub numbers_where : {X : Type 0} → (X → Bool) → ℕ → List X → List ℕ
+numbers_where test first [] = []
+numbers_where test first (x ∷ xs) = cond (test x) (first ∷ numbers_where test (first + 1) xs) (numbers_where test (first + 1) xs)
+
+-- a message may be sent to the contact: it is ready, and the contact has not seen it
+abbrev pub is_open : Kept → Bool
+is_open kept = kept.ready && not kept.row.seen
+
+-- a message is to be sent: in interactive mode one that was asked for, in batch mode one whose time has come
+abbrev pub is_sent_at : Mode → ℕ → Kept → Bool
+is_sent_at mode now kept = is_open kept && is_ripe mode now kept.row
+
+-- a message is to be offered: it was not asked for, and its time has come
+abbrev pub is_offered_at : ℕ → Kept → Bool
+is_offered_at now kept = is_open kept && (not kept.row.asked && nat_le kept.row.expiry now)
+
+-- the numbers that wait for our acknowledgement
+abbrev pub owed_in : List Kept → List ℕ
+owed_in rows = take ids_limit (numbers_where (λ kept. kept.row.owed) 0 rows)
+
+-- the number of the message to be sent
+abbrev pub message_in : Mode → ℕ → List Kept → Option ℕ
+message_in mode now rows = position_from (is_sent_at mode now) 0 rows
+
+-- the numbers to be offered
+abbrev pub offers_in : ℕ → List Kept → List ℕ
+offers_in now rows = take ids_limit (numbers_where (is_offered_at now) 0 rows)
+
+-- the ids to be requested
+abbrev pub requests_in : List Id → List Id
+requests_in ids = take ids_limit ids

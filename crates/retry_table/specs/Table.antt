@@ -1,0 +1,87 @@
+-- What is kept for each contact: a row for each message, by the message's number, and the ids that are wanted from it. A row that is
+-- not there counts as one that is all false and zero.
+use Rattle.std.specs.Prelude.{◌≡◌, ◌≢◌, ℕ, ◌-◌, max, Bool, true, false, List, [], ◌++◌, length, replicate, slice_index_or, slice_set}
+use Rattle.sync_rules.specs.Facts.{Id, Row, no_row}
+
+-- what is kept of one message for one contact: its row, and whether it is ready, that is, whether it may be sent to the contact as far
+-- as the message, its group and its origin go
+pub record Kept : Type 0 where
+  pub ready : Bool
+  pub row : Row
+
+-- the ids wanted from one contact, in order, and for how many more there is room
+pub record Wants : Type 0 where
+  pub ids : List Id
+  pub room : ℕ
+
+-- for each contact its rows and its wanted ids
+pub record Table : Type 0 where
+  pub rows : List (List Kept)
+  pub wants : List Wants
+
+abbrev pub no_kept : Kept
+no_kept = record { ready = false; row = no_row }
+
+abbrev pub no_wants : Wants
+no_wants = record { ids = []; room = 0 }
+
+-- the rows of a contact: there is room for as many
+abbrev pub rows_of : Table → ℕ → List Kept
+rows_of table contact = slice_index_or table.rows contact []
+
+abbrev pub wants_of : Table → ℕ → Wants
+wants_of table contact = slice_index_or table.wants contact no_wants
+
+-- what is kept of the message of a number
+abbrev pub kept_in : List Kept → ℕ → Kept
+kept_in rows n = slice_index_or rows n no_kept
+
+abbrev pub kept_at : Table → ℕ → ℕ → Kept
+kept_at table contact n = kept_in (rows_of table contact) n
+
+-- the same with another row, and with another word on whether it is ready
+abbrev pub with_row : (Row → Row) → Kept → Kept
+with_row change kept = record kept { row = change kept.row }
+
+abbrev pub with_ready : Bool → Kept → Kept
+with_ready ready kept = record kept { ready = ready }
+
+-- our acknowledgement is owed
+abbrev pub row_owed : Row → Row
+row_owed r = record r { owed = true }
+
+-- nobody has rows, wanted ids or room
+abbrev pub IsEmpty : Table → Type 0
+IsEmpty table = (contact : ℕ) → (rows_of table contact ≡ []) × (wants_of table contact ≡ no_wants)
+
+-- one contact has these rows, and all else is as it was
+pub record ChangesRows (old new : Table) (contact : ℕ) (rows : List Kept) : Type 0 where
+  pub here : rows_of new contact ≡ rows
+  pub others : (other : ℕ) → other ≢ contact → rows_of new other ≡ rows_of old other
+  pub wants : new.wants ≡ old.wants
+
+-- this is kept of one message for one contact, and all else is as it was
+abbrev pub Keeps : Table → Table → ℕ → ℕ → Kept → Type 0
+Keeps old new contact n kept = ChangesRows old new contact (slice_set (rows_of old contact) n kept)
+
+-- one contact has these wanted ids and this room, and all else is as it was
+pub record ChangesWants (old new : Table) (contact : ℕ) (wants : Wants) : Type 0 where
+  pub here : wants_of new contact ≡ wants
+  pub others : (other : ℕ) → other ≢ contact → wants_of new other ≡ wants_of old other
+  pub rows : new.rows ≡ old.rows
+
+-- rows for all numbers below this one
+abbrev pub with_numbers : ℕ → List Kept → List Kept
+with_numbers numbers rows = rows ++ replicate (numbers - length rows) no_kept
+
+-- room for so many more wanted ids
+abbrev pub with_room : ℕ → Wants → Wants
+with_room room wants = record wants { room = max wants.room room }
+
+-- one contact has room for the rows of these numbers and for so many more wanted ids; no row and no wanted id is another, and no room
+-- was taken away
+pub record Reserves (old new : Table) (contact numbers room : ℕ) : Type 0 where
+  pub rows : rows_of new contact ≡ with_numbers numbers (rows_of old contact)
+  pub other_rows : (other : ℕ) → other ≢ contact → rows_of new other ≡ rows_of old other
+  pub wants : wants_of new contact ≡ with_room room (wants_of old contact)
+  pub other_wants : (other : ℕ) → other ≢ contact → wants_of new other ≡ wants_of old other

@@ -1,0 +1,125 @@
+//! The rows of one contact, with a queue for each thing that may be due.
+ghost use Rattle.std.specs.Prelude.{◌≡◌, ◌^◌, ◌<◌, [], IfSome, IfOk, OnOk, OnErr, length, slice_set};
+ghost use Rattle.retry_table.specs.Table.{kept_in, with_numbers};
+ghost use Rattle.retry_table.specs.Due.{owed_in, message_in, offers_in};
+
+use crate::places::{due_places, put};
+use crate::rows::KeptRow;
+use due_tree::DueTree;
+use std::alloc::{AllocError, Global};
+use std::marker::Model;
+use sync_rules::Mode;
+
+/// The rows of one contact by number, and the queues that follow them. Contracts see the list of what is kept.
+#[derive(Drop)]
+pub(crate) struct Queues {
+    rows: Vec<KeptRow>,
+    messages: DueTree,
+    asked: DueTree,
+    offers: DueTree,
+    owed: DueTree,
+}
+
+impl Model for Queues {
+    ghost use Rattle.std.specs.Prelude.{List};
+    ghost use Rattle.retry_table.specs.Table.{Kept};
+    ghost use Rattle.retry_table.specs.Queues.{AreQueues};
+
+    ghost Value = { List Kept };
+
+    ghost view = { λ q. q.rows.items };
+
+    ghost invariant = { λ q. AreQueues q.rows.items q.messages q.asked q.offers q.owed };
+}
+
+impl Queues {
+    /// No rows.
+    pub(crate) fn new(alloc: Global) -> Result<Queues, AllocError>
+        ensures { IfOk result (λ q. q ≡ []) }
+    {
+        let messages = DueTree::new(alloc)?;
+        let asked = DueTree::new(alloc)?;
+        let offers = DueTree::new(alloc)?;
+        let owed = DueTree::new(alloc)?;
+        Ok(Queues {
+            rows: Vec::new(alloc),
+            messages,
+            asked,
+            offers,
+            owed,
+        })
+    }
+
+    /// Makes rows for all numbers below this one. It alone takes memory; after an error all is as before.
+    pub(crate) fn reserve(&mut self, numbers: u32) -> Result<(), AllocError>
+        ensures ok { OnOk result (self.new ≡ with_numbers numbers self.old) }
+        ensures err { OnErr result (self.new ≡ self.old) }
+    {
+        let places = numbers as usize;
+        if places <= self.rows.len() {
+            return Ok(());
+        }
+        self.messages.reserve(places)?;
+        self.asked.reserve(places)?;
+        self.offers.reserve(places)?;
+        self.owed.reserve(places)?;
+        self.rows.resize(places, KeptRow::none())?;
+        Ok(())
+    }
+
+    /// What is kept at a number, also where there is no row.
+    pub(crate) fn get(&self, n: usize) -> KeptRow
+        ensures { result ≡ kept_in self.now n }
+    {
+        if n < self.rows.len() {
+            self.rows[n]
+        } else {
+            KeptRow::none()
+        }
+    }
+
+    /// Keeps this at a number.
+    pub(crate) fn put(&mut self, n: usize, row: KeptRow)
+        requires { n < length self.old }
+        ensures { self.new ≡ slice_set self.old n row }
+    {
+        self.rows[n] = row;
+        put(&mut self.messages, n, row.message_place());
+        put(&mut self.asked, n, row.asked_place());
+        put(&mut self.offers, n, row.offer_place());
+        put(&mut self.owed, n, row.owed_place());
+    }
+
+    /// The numbers that wait for our acknowledgement, at most 1,536.
+    pub(crate) fn owed(&self) -> Result<Vec<u32>, AllocError>
+        ensures { IfOk result (λ v. v.items ≡ owed_in self.now) }
+    {
+        due_places(*self.rows.allocator(), &self.owed, 0)
+    }
+
+    /// The numbers to be offered, at most 1,536.
+    pub(crate) fn due_offers(&self, now: u64) -> Result<Vec<u32>, AllocError>
+        ensures { IfOk result (λ v. v.items ≡ offers_in now self.now) }
+    {
+        due_places(*self.rows.allocator(), &self.offers, now)
+    }
+
+    /// The place of the message to be sent.
+    fn message_place(&self, mode: Mode, now: u64) -> Option<usize>
+        ensures first { result ≡ message_in mode now self.now }
+        ensures small { IfSome result (λ place. place < 2 ^ 32) }
+    {
+        match mode {
+            Mode::Interactive => self.asked.first_at_most(0),
+            Mode::Batch => self.messages.first_at_most(now),
+        }
+    }
+
+    /// The number of the message to be sent.
+    pub(crate) fn due_message(&self, mode: Mode, now: u64) -> Option<u32>
+        ensures { result ≡ message_in mode now self.now }
+    {
+        let place = self.message_place(mode, now)?;
+        Some(place as u32)
+    }
+}

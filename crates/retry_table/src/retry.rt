@@ -1,0 +1,247 @@
+//! `Retry`.
+ghost use Rattle.std.specs.Prelude.{◌≡◌, ◌+◌, ◌-◌, ◌^◌, ◌<◌, ◌++◌, ◌∷◌, [], ℕ, true, false, IfOk, OnOk, OnErr, length, slice_index_or};
+ghost use Rattle.sync_rules.specs.Lists.{is_among, without};
+ghost use Rattle.sync_rules.specs.Facts.{row_seen, row_acked, row_asked, row_sent, row_offered};
+ghost use Rattle.retry_table.specs.Table.{no_wants, rows_of, wants_of, kept_at, with_row, with_ready, row_owed, IsEmpty, Keeps, ChangesWants, Reserves};
+ghost use Rattle.retry_table.specs.Due.{owed_in, message_in, offers_in, requests_in};
+
+use crate::queues::Queues;
+use crate::rows::KeptRow;
+use crate::wanted::Wanted;
+use std::alloc::{AllocError, Global};
+use std::marker::Model;
+use sync_ids::MessageId;
+use sync_rules::Mode;
+
+/// The number of contacts that there may be.
+const CONTACTS: usize = 256;
+
+/// What is kept for each contact, a number from 0 to 255: a row for each message, by its arrival number, and the ids wanted from the
+/// contact. Contracts see for each contact the list of its rows, which is as long as there is room, and the list of its wanted ids
+/// with the room for more of them.
+#[derive(Drop)]
+pub struct Retry {
+    rows: Vec<Queues>,
+    wants: Vec<Wanted>,
+}
+
+impl Model for Retry {
+    ghost use Rattle.std.specs.Prelude.{◌≡◌, length};
+    ghost use Rattle.retry_table.specs.Table.{Table};
+
+    ghost Value = { Table };
+
+    ghost view = { λ t. record { rows = t.rows.items; wants = t.wants.items } };
+
+    ghost invariant = { λ t. (length t.rows.items ≡ 256) × (length t.wants.items ≡ 256) };
+}
+
+/// The rows of all contacts: none.
+fn no_rows(alloc: Global) -> Result<Vec<Queues>, AllocError>
+    ensures rows { IfOk result (λ v. (contact : ℕ) → slice_index_or v.items contact [] ≡ []) }
+    ensures len { IfOk result (λ v. length v.items ≡ 256) }
+{
+    let mut rows = Vec::new(alloc);
+    for _i in 0..CONTACTS {
+        rows.push(Queues::new(alloc)?)?;
+    }
+    Ok(rows)
+}
+
+/// The wanted ids of all contacts: none.
+fn no_wants(alloc: Global) -> Result<Vec<Wanted>, AllocError>
+    ensures wants { IfOk result (λ v. (contact : ℕ) → slice_index_or v.items contact no_wants ≡ no_wants) }
+    ensures len { IfOk result (λ v. length v.items ≡ 256) }
+{
+    let mut wants = Vec::new(alloc);
+    for _i in 0..CONTACTS {
+        wants.push(Wanted::new(alloc))?;
+    }
+    Ok(wants)
+}
+
+impl Retry {
+    /// A table with no rows, no wanted ids and no room. Answers an error where there is no memory.
+    pub fn new(alloc: Global) -> Result<Retry, AllocError>
+        ensures { IfOk result IsEmpty }
+    {
+        let rows = no_rows(alloc)?;
+        let wants = no_wants(alloc)?;
+        Ok(Retry { rows, wants })
+    }
+
+    /// Makes room for the contact's rows of all numbers below `numbers` and for `wants` further calls of `want`, and never takes room
+    /// away. It alone of all changes takes memory; after an error all is as before.
+    pub fn reserve(&mut self, contact: u8, numbers: u32, wants: usize) -> Result<(), AllocError>
+        ensures ok { OnOk result (Reserves self.old self.new contact numbers wants) }
+        ensures err { OnErr result (self.new ≡ self.old) }
+    {
+        let place = contact as usize;
+        let room = self.wants[place].room();
+        self.wants[place].reserve(wants)?;
+        match self.rows[place].reserve(numbers) {
+            Ok(()) => Ok(()),
+            Err(error) => {
+                self.wants[place].lower(room);
+                Err(error)
+            }
+        }
+    }
+
+    /// What is kept of a message, also where there is no row.
+    fn row(&self, contact: u8, n: u32) -> KeptRow
+        ensures { result ≡ kept_at self.now contact n }
+    {
+        self.rows[contact as usize].get(n as usize)
+    }
+
+    /// Keeps this of a message.
+    fn put(&mut self, contact: u8, n: u32, row: KeptRow)
+        requires { n < length (rows_of self.old contact) }
+        ensures { Keeps self.old self.new contact n row }
+    {
+        self.rows[contact as usize].put(n as usize, row);
+    }
+
+    /// An acknowledgement of the message is owed to the contact.
+    pub fn owe(&mut self, contact: u8, n: u32)
+        requires { n < length (rows_of self.old contact) }
+        ensures { Keeps self.old self.new contact n (with_row row_owed (kept_at self.old contact n)) }
+    {
+        self.put(contact, n, self.row(contact, n).owe());
+    }
+
+    /// The acknowledgement was sent.
+    pub fn paid(&mut self, contact: u8, n: u32)
+        requires { n < length (rows_of self.old contact) }
+        ensures { Keeps self.old self.new contact n (with_row row_acked (kept_at self.old contact n)) }
+    {
+        self.put(contact, n, self.row(contact, n).pay());
+    }
+
+    /// The contact asked for the message, which is due at once.
+    pub fn ask(&mut self, contact: u8, n: u32)
+        requires { n < length (rows_of self.old contact) }
+        ensures { Keeps self.old self.new contact n (with_row row_asked (kept_at self.old contact n)) }
+    {
+        self.put(contact, n, self.row(contact, n).ask());
+    }
+
+    /// The contact has the message.
+    pub fn saw(&mut self, contact: u8, n: u32)
+        requires { n < length (rows_of self.old contact) }
+        ensures { Keeps self.old self.new contact n (with_row row_seen (kept_at self.old contact n)) }
+    {
+        self.put(contact, n, self.row(contact, n).see());
+    }
+
+    /// The message was sent to the contact at `now`, on a session of this latency, both in milliseconds: no longer asked for, one try
+    /// more, and a new expiry (BSP, "Retransmission").
+    pub fn sent(&mut self, contact: u8, n: u32, now: u64, latency: u32)
+        requires { n < length (rows_of self.old contact) }
+        ensures { Keeps self.old self.new contact n (with_row (row_sent now latency) (kept_at self.old contact n)) }
+    {
+        self.put(contact, n, self.row(contact, n).send(now, latency));
+    }
+
+    /// The message was offered to the contact at `now`, on a session of this latency, both in milliseconds: one try more, and a new
+    /// expiry (BSP, "Retransmission").
+    pub fn offered(&mut self, contact: u8, n: u32, now: u64, latency: u32)
+        requires { n < length (rows_of self.old contact) }
+        ensures { Keeps self.old self.new contact n (with_row (row_offered now latency) (kept_at self.old contact n)) }
+    {
+        self.put(contact, n, self.row(contact, n).offer(now, latency));
+    }
+
+    /// The message is ready: delivered, of a group that is Shared with the contact, and written here or judged to be shared.
+    pub fn ready(&mut self, contact: u8, n: u32)
+        requires { n < length (rows_of self.old contact) }
+        ensures { Keeps self.old self.new contact n (with_ready true (kept_at self.old contact n)) }
+    {
+        self.put(contact, n, self.row(contact, n).make_ready(true));
+    }
+
+    /// The message is not ready.
+    pub fn unready(&mut self, contact: u8, n: u32)
+        requires { n < length (rows_of self.old contact) }
+        ensures { Keeps self.old self.new contact n (with_ready false (kept_at self.old contact n)) }
+    {
+        self.put(contact, n, self.row(contact, n).make_ready(false));
+    }
+
+    /// Puts an id at the end of those wanted from the contact.
+    pub fn want(&mut self, contact: u8, id: MessageId)
+        requires new { is_among (wants_of self.old contact).ids id ≡ false }
+        requires room { 0 < (wants_of self.old contact).room }
+        requires few { length (wants_of self.old contact).ids < 2 ^ 32 - 1 }
+        ensures { ChangesWants self.old self.new contact (record { ids = (wants_of self.old contact).ids ++ id ∷ []; room = (wants_of self.old contact).room - 1 }) }
+    {
+        self.wants[contact as usize].want(id);
+    }
+
+    /// Takes an id out of those wanted from the contact; nothing changes where it is not there.
+    pub fn unwant(&mut self, contact: u8, id: &MessageId)
+        ensures { ChangesWants self.old self.new contact (record (wants_of self.old contact) { ids = without id.now (wants_of self.old contact).ids }) }
+    {
+        self.wants[contact as usize].unwant(id);
+    }
+
+    /// The time in milliseconds from which the message may be sent or offered to the contact again; 0 where there is no row.
+    pub fn expiry(&self, contact: u8, n: u32) -> u64
+        ensures { result ≡ (kept_at self.now contact n).row.expiry }
+    {
+        self.row(contact, n).expiry()
+    }
+
+    /// Whether the contact has the message; not where there is no row.
+    pub fn is_seen(&self, contact: u8, n: u32) -> bool
+        ensures { result ≡ (kept_at self.now contact n).row.seen }
+    {
+        self.row(contact, n).is_seen()
+    }
+
+    /// The numbers of the messages whose acknowledgement is owed to the contact, in order, at most 1,536. Answers an error where there
+    /// is no memory.
+    pub fn owed(&self, contact: u8) -> Result<Vec<u32>, AllocError>
+        ensures { IfOk result (λ v. v.items ≡ owed_in (rows_of self.now contact)) }
+    {
+        self.rows[contact as usize].owed()
+    }
+
+    /// The ids wanted from the contact, in order, at most 1,536. Answers an error where there is no memory.
+    pub fn wanted(&self, contact: u8) -> Result<Vec<MessageId>, AllocError>
+        ensures { IfOk result (λ v. v.items ≡ requests_in (wants_of self.now contact).ids) }
+    {
+        self.wants[contact as usize].requests()
+    }
+
+    /// The number of the message that is to be sent to the contact at `now`: the first that is ready, not seen, and in interactive mode
+    /// asked for, in batch mode with an expiry of at most `now`. `None` exactly where there is none.
+    pub fn due_message(&self, contact: u8, mode: Mode, now: u64) -> Option<u32>
+        ensures { result ≡ message_in mode now (rows_of self.now contact) }
+    {
+        self.rows[contact as usize].due_message(mode, now)
+    }
+
+    /// The numbers of the messages that are to be offered to the contact at `now`, in order, at most 1,536: those that are ready, not
+    /// seen, not asked for, and have an expiry of at most `now`. Answers an error where there is no memory.
+    pub fn due_offers(&self, contact: u8, now: u64) -> Result<Vec<u32>, AllocError>
+        ensures { IfOk result (λ v. v.items ≡ offers_in now (rows_of self.now contact)) }
+    {
+        self.rows[contact as usize].due_offers(now)
+    }
+
+    /// Whether an id is wanted from the contact.
+    pub fn is_wanted(&self, contact: u8, id: &MessageId) -> bool
+        ensures { result ≡ is_among (wants_of self.now contact).ids id.now }
+    {
+        self.wants[contact as usize].contains(id)
+    }
+
+    /// The number of ids wanted from the contact.
+    pub fn wanted_count(&self, contact: u8) -> u32
+        ensures { result ≡ length (wants_of self.now contact).ids }
+    {
+        self.wants[contact as usize].len()
+    }
+}

@@ -1,0 +1,192 @@
+//! What is kept of one message for one contact.
+ghost use Rattle.std.specs.Prelude.{◌≡◌, ◌≤◌, true, false};
+ghost use Rattle.sync_rules.specs.Facts.{one_more_try, expiry_after, row_seen, row_acked, row_asked, row_sent, row_offered};
+ghost use Rattle.retry_table.specs.Table.{no_kept, with_row, with_ready, row_owed};
+ghost use Rattle.retry_table.specs.Due.{is_open};
+ghost use Rattle.retry_table.specs.Queues.{message_place, asked_place, offer_place, owed_place};
+
+use std::marker::Model;
+
+/// The most tries that are counted.
+const MOST_TRIES: u8 = 64;
+
+/// What is kept of one message for one contact. Contracts see the row, and whether the message is ready.
+#[derive(Clone, Copy)]
+pub(crate) struct KeptRow {
+    seen: bool,
+    owed: bool,
+    asked: bool,
+    ready: bool,
+    tries: u8,
+    expiry: u64,
+}
+
+impl Model for KeptRow {
+    ghost use Rattle.retry_table.specs.Table.{Kept};
+
+    ghost Value = { Kept };
+
+    ghost view = { λ r. record { ready = r.ready; row = record { seen = r.seen; owed = r.owed; asked = r.asked; tries = r.tries; expiry = r.expiry } } };
+
+    ghost inverse = { λ k. record { seen = k.row.seen; owed = k.row.owed; asked = k.row.asked; ready = k.ready; tries = k.row.tries; expiry = k.row.expiry } };
+}
+
+/// The time in milliseconds from which a message may be sent or offered again after so many tries, the last one at `now`: two ways of
+/// the latency, doubled with each try (BSP, "Retransmission"), and at most `u64::MAX`.
+fn expiry_after(now: u64, latency: u32, tries: u8) -> u64
+    requires { tries ≤ 64 }
+    ensures { result ≡ expiry_after now latency tries }
+{
+    let wait = (2 * u128::from(latency)) << u32::from(tries.saturating_sub(1));
+    let at = (u128::from(now) + wait).min(u128::from(u64::MAX));
+    at as u64
+}
+
+/// One try more, of which at most 64 are counted.
+fn one_more_try(tries: u8) -> u8
+    ensures value { result ≡ one_more_try tries }
+    ensures most { result ≤ 64 }
+{
+    if tries < MOST_TRIES {
+        tries + 1
+    } else {
+        MOST_TRIES
+    }
+}
+
+impl KeptRow {
+    /// What is kept of a message of which nothing is known.
+    pub(crate) fn none() -> KeptRow
+        ensures { result ≡ no_kept }
+    {
+        KeptRow {
+            seen: false,
+            owed: false,
+            asked: false,
+            ready: false,
+            tries: 0,
+            expiry: 0,
+        }
+    }
+
+    /// Whether the contact has the message.
+    pub(crate) fn is_seen(self) -> bool
+        ensures { result ≡ self.row.seen }
+    {
+        self.seen
+    }
+
+    /// The time from which it may be sent or offered again.
+    pub(crate) fn expiry(self) -> u64
+        ensures { result ≡ self.row.expiry }
+    {
+        self.expiry
+    }
+
+    /// An acknowledgement is owed.
+    pub(crate) fn owe(mut self) -> KeptRow
+        ensures { result ≡ with_row row_owed self }
+    {
+        self.owed = true;
+        self
+    }
+
+    /// None is owed.
+    pub(crate) fn pay(mut self) -> KeptRow
+        ensures { result ≡ with_row row_acked self }
+    {
+        self.owed = false;
+        self
+    }
+
+    /// The contact asked for the message, which is due at once.
+    pub(crate) fn ask(mut self) -> KeptRow
+        ensures { result ≡ with_row row_asked self }
+    {
+        self.asked = true;
+        self.tries = 0;
+        self.expiry = 0;
+        self
+    }
+
+    /// The contact has the message.
+    pub(crate) fn see(mut self) -> KeptRow
+        ensures { result ≡ with_row row_seen self }
+    {
+        self.seen = true;
+        self
+    }
+
+    /// The message was offered.
+    pub(crate) fn offer(mut self, now: u64, latency: u32) -> KeptRow
+        ensures { result ≡ with_row (row_offered now latency) self }
+    {
+        self.tries = one_more_try(self.tries);
+        self.expiry = expiry_after(now, latency, self.tries);
+        self
+    }
+
+    /// The message was sent.
+    pub(crate) fn send(self, now: u64, latency: u32) -> KeptRow
+        ensures { result ≡ with_row (row_sent now latency) self }
+    {
+        let mut sent = self.offer(now, latency);
+        sent.asked = false;
+        sent
+    }
+
+    /// Whether the message is ready.
+    pub(crate) fn make_ready(mut self, ready: bool) -> KeptRow
+        ensures { result ≡ with_ready ready self }
+    {
+        self.ready = ready;
+        self
+    }
+
+    /// Whether the message may be sent to the contact.
+    fn is_open(self) -> bool
+        ensures { result ≡ is_open self }
+    {
+        self.ready && !self.seen
+    }
+
+    /// The place in the queue of messages for batch mode.
+    pub(crate) fn message_place(self) -> Option<u64>
+        ensures { result ≡ message_place self }
+    {
+        if self.is_open() {
+            Some(self.expiry)
+        } else {
+            None
+        }
+    }
+
+    /// The place in the queue of asked messages.
+    pub(crate) fn asked_place(self) -> Option<u64>
+        ensures { result ≡ asked_place self }
+    {
+        if self.is_open() && self.asked {
+            Some(0)
+        } else {
+            None
+        }
+    }
+
+    /// The place in the queue of offers.
+    pub(crate) fn offer_place(self) -> Option<u64>
+        ensures { result ≡ offer_place self }
+    {
+        if self.is_open() && !self.asked {
+            Some(self.expiry)
+        } else {
+            None
+        }
+    }
+
+    /// The place in the queue of owed acknowledgements.
+    pub(crate) fn owed_place(self) -> Option<u64>
+        ensures { result ≡ owed_place self }
+    {
+        if self.owed { Some(0) } else { None }
+    }
+}
