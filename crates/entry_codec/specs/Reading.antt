@@ -182,10 +182,9 @@ moved_of tag rest =
 -- what follows a tag
 abbrev pub entry_of : ℕ → List ℕ → Option (Entry × List ℕ)
 entry_of tag rest =
-    if nat_lt tag 4 then known_of tag rest
-    else if nat_lt tag 8 then moved_of tag rest
-    else if nat_lt tag 11 then meant (step_of tag) (id_in rest)
-    else if nat_lt tag 15 then meant (heard_of tag) (pair_in rest)
+    if is_between 1 3 tag then known_of tag rest
+    else if is_between 8 10 tag then meant (step_of tag) (id_in rest)
+    else if is_between 11 14 tag then meant (heard_of tag) (pair_in rest)
     else moved_of tag rest
 
 -- an entry at the front of some bytes

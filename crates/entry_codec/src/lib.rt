@@ -5,3 +5,4 @@
 mod front;
 mod reading;
 mod stop;
+mod values;
