@@ -1,1 +1,5 @@
+mod Entries
+mod LawProofs
+mod Parts
+mod Readers
 mod ReadSteps

@@ -9,6 +9,7 @@ use crate::stop::Stop;
 use sync_ids::{Fixed, MAX_TIMESTAMP, MessageId, Nonce};
 
 // The bytes that are still to be read. After a refusal nothing is said of them.
+#[derive(Drop)]
 pub struct Front<'a> {
     pub rest: &'a [u8],
 }

@@ -3,6 +3,9 @@
 #![tactic(auto)]
 
 mod front;
+pub mod laws;
 mod reading;
 mod stop;
 mod values;
+
+pub use reading::{EntryFound, read_entry};

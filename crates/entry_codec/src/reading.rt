@@ -1,14 +1,24 @@
 //! Reading an entry.
+ghost use Rattle.std.specs.Prelude.{IfOk};
+ghost use Rattle.entry_codec.specs.Laws.{IsRead};
 ghost use Rattle.entry_codec.specs.Answers.{Reads};
 ghost use Rattle.entry_codec.specs.Reading.{entry_of, entry_in, heard_of, known_of, meant, moved_of, id_in, pair_in, step_of};
-
 
 use crate::front::Front;
 use crate::stop::Stop;
 use crate::values::{read_def, read_level, read_message, read_out, read_session};
-use std::alloc::Global;
+use std::alloc::{AllocError, Global};
 use sync_ids::MessageId;
 use sync_rules::Entry;
+
+/// What was found at the front of some bytes.
+#[derive(Debug, Drop)]
+pub enum EntryFound {
+    /// An entry, and how many bytes it takes.
+    One(Entry, usize),
+    /// No entry: no front of the bytes spells one.
+    BadEntry,
+}
 
 #[tactic(auto, unfolding(crate::specs::Reading::pair_in))]
 fn read_pair(front: &mut Front) -> Result<(u32, MessageId), Stop>
@@ -96,5 +106,18 @@ fn read_tagged(alloc: Global, front: &mut Front) -> Result<Entry, Stop>
         8..=10 => read_step(tag, front),
         11..=14 => read_heard(tag, front),
         _ => read_moved(alloc, tag, front),
+    }
+}
+
+/// Reads the entry at the front of these bytes. `BadEntry` comes exactly where no front of them is the
+/// spelling of an entry within its limits. It fails only for want of memory.
+pub fn read_entry(alloc: Global, bytes: &[u8]) -> Result<EntryFound, AllocError>
+    ensures { IfOk result (λ found. IsRead bytes.now found) }
+{
+    let mut front = Front { rest: bytes };
+    match read_tagged(alloc, &mut front) {
+        Ok(entry) => Ok(EntryFound::One(entry, bytes.len() - front.rest.len())),
+        Err(Stop::BadEntry) => Ok(EntryFound::BadEntry),
+        Err(Stop::Memory) => Err(AllocError),
     }
 }
