@@ -9,7 +9,7 @@ use Rattle.entry_codec.specs.Laws.{IsRead}
 use Rattle.entry_codec.specs.declared.reading.EntryFound.{EntryFound}
 use Rattle.entry_codec.specs.declared.reading.EntryFound.TheVariants as found
 use Rattle.entry_codec.proofs.Entries.{entry_back, entry_found}
-use Rattle.entry_codec.proofs.Readers.{IsBytes, part_is}
+use Rattle.entry_codec.proofs.Readers.{IsBytes, part, part_is}
 
 empty : (xs : List ℕ) → length xs ≡ 0 → xs ≡ []
 empty [] none = refl
@@ -51,6 +51,5 @@ found_is bytes rest e used fits h left =
 pub bad_is : (bytes : List ℕ) → entry_in bytes ≡ None → IsRead bytes found.BadEntry
 bad_is bytes none e used s =
     let read : entry_in bytes ≡ Some (e, drop used bytes) = ap entry_in (sym (take-append-drop used bytes)) ∙ spelled_read e (take used bytes) (drop used bytes) s in
-    let P : Option (Entry × List ℕ) → Type 0 = λ o. o ≡ Some (e, drop used bytes) in
-    let clash : None ≡ Some (e, drop used bytes) = sym none ∙ read in
+    let clash : None ≡ part e (drop used bytes) = sym none ∙ read in
     absurd cc

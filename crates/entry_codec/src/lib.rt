@@ -7,5 +7,7 @@ pub mod laws;
 mod reading;
 mod stop;
 mod values;
+mod writing;
 
 pub use reading::{EntryFound, read_entry};
+pub use writing::write_entry;
