@@ -9,6 +9,7 @@ use Rattle.entry_codec.specs.Laws.{IsRead}
 use Rattle.entry_codec.specs.declared.reading.EntryFound.{EntryFound}
 use Rattle.entry_codec.specs.declared.reading.EntryFound.TheVariants as found
 use Rattle.entry_codec.proofs.Entries.{entry_back, entry_found}
+use Rattle.entry_codec.proofs.Bounds.{short}
 use Rattle.entry_codec.proofs.Readers.{IsBytes, part, part_is}
 
 empty : (xs : List ℕ) → length xs ≡ 0 → xs ≡ []
@@ -38,6 +39,14 @@ read_back e bytes more (found.One d used) s is =
 read_back e bytes more found.BadEntry s is =
     absurd (is e (length bytes) (let front : take (length bytes) (bytes ++ more) ≡ bytes = take_at bytes more (length bytes) refl in rw front s))
 
+-- what is left is no longer than the bytes
+pub found_short : (bytes rest : List ℕ) (e : Entry) → IsBytes bytes → entry_in bytes ≡ Some (e, rest) → length rest ≤ length bytes
+unfolding spelling
+found_short bytes rest e fits h =
+    let f = entry_found bytes rest e fits h in
+    let len : length bytes ≡ length (spelling e) + length rest = ap length f.is ∙ length-append (spelling e) rest in
+    omega arith
+
 -- what the reader of an entry answers
 pub found_is : (bytes rest : List ℕ) (e : Entry) (used : ℕ) → IsBytes bytes → entry_in bytes ≡ Some (e, rest) → used + length rest ≡ length bytes → IsRead bytes (found.One e used)
 unfolding spelling
@@ -53,3 +62,6 @@ bad_is bytes none e used s =
     let read : entry_in bytes ≡ Some (e, drop used bytes) = ap entry_in (sym (take-append-drop used bytes)) ∙ spelled_read e (take used bytes) (drop used bytes) s in
     let clash : None ≡ part e (drop used bytes) = sym none ∙ read in
     absurd cc
+
+pub short_spelling : (e : Entry) (bytes : List ℕ) → Spells e bytes → (2 ≤ length bytes) × (length bytes ≤ 49168)
+short_spelling e bytes s = let bounds = short e s.within in let len : length bytes ≡ length (spelling e) = ap length s.is in (omega arith, omega arith)

@@ -4,10 +4,12 @@
 
 mod front;
 pub mod laws;
+mod lengths;
 mod reading;
 mod stop;
 mod values;
 mod writing;
 
+pub use lengths::entry_len;
 pub use reading::{EntryFound, read_entry};
 pub use writing::write_entry;

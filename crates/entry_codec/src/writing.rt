@@ -162,7 +162,7 @@ fn append_take(session: u32, k: u64, to: &mut Vec<u8>) -> Result<(), AllocError>
 
 fn append_arrival(session: u32, message: &Message, to: &mut Vec<u8>) -> Result<(), AllocError>
     ensures ok { OnOk result (to.new.items ≡ to.old.items ++ (7 ∷ (to_be_bytes w32 session ++ message_bytes message.now))) }
-    ensures within { IsMessage message.now }
+    ensures within { OnOk result (IsMessage message.now) }
     ensures err { OnErr result (AddsTo to.old.items to.new.items) }
 {
     append_number(7, session, to)?;
