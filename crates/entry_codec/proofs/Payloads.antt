@@ -134,7 +134,7 @@ settling_short clients f (e ∷ es) is all =
 alone : (e : Entry) (rest : List Entry) → rest ≡ [] → AreEntries (e ∷ rest) → length (payload (e ∷ rest)) ≤ most_of e
 alone e rest none all = omega (arith, payload_cons e rest, ap (λ (es : List Entry). length (payload es)) none, (length_within e all.0).1)
 
-pub batch_short : (clients : Meaning) (f : Facts) (batch : List Entry) → Allowed clients f batch → AreEntries batch → length (payload batch) ≤ 56845
+batch_short : (clients : Meaning) (f : Facts) (batch : List Entry) → Allowed clients f batch → AreEntries batch → length (payload batch) ≤ 56845
 batch_short clients f [] is all = absurd is
 batch_short clients f (entry.Contact c ∷ rest) is all = omega (arith, alone (entry.Contact c) rest is.0 all)
 batch_short clients f (entry.Group def ∷ rest) is all = omega (arith, alone (entry.Group def) rest is.0 all)
@@ -154,3 +154,7 @@ batch_short clients f (entry.Offered s id ∷ rest) is all = absurd is
 batch_short clients f (entry.Seen s id ∷ rest) is all = absurd is
 batch_short clients f (entry.Asked s id ∷ rest) is all = absurd is
 batch_short clients f (entry.Out s now what ∷ rest) is all = omega (arith, alone (entry.Out s now what) rest is.0 all)
+
+pub batch_within : (clients : Meaning) (f : Facts) (batch : List Entry) → Allowed clients f batch → AreEntries batch → (2 ≤ length (payload batch)) × (length (payload batch) ≤ 56845)
+batch_within clients f [] is all = absurd is
+batch_within clients f (e ∷ es) is all = (omega (arith, payload_cons e es, (length_within e all.0).0), batch_short clients f (e ∷ es) is all)

@@ -30,6 +30,8 @@ SpellingsAreShort = (e : Entry) (bytes : List ℕ) → Spells e bytes → (2 ≤
 abbrev pub payload : List Entry → List ℕ
 payload entries = flat_map spelling entries
 
--- A batch that may follow a journal of any facts has at most 56,845 bytes, fewer than the 65,536 of a frame.
+-- A batch that may follow a journal of any facts, and whose entries are within their limits, has 2 to 56,845 bytes: fewer
+-- than the 65,536 of a frame.
 abbrev pub PayloadsFitFrames : Type 0
-PayloadsFitFrames = (clients : Meaning) (f : Facts) (batch : List Entry) → Allowed clients f batch → AllByRecursion IsEntry batch → length (payload batch) ≤ 56845
+PayloadsFitFrames = (clients : Meaning) (f : Facts) (batch : List Entry) → Allowed clients f batch → AllByRecursion IsEntry batch
+    → (2 ≤ length (payload batch)) × (length (payload batch) ≤ 56845)

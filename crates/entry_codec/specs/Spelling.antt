@@ -74,7 +74,7 @@ on_session session bytes = to_be_bytes w32 session ++ bytes
 abbrev pub entry_bytes : (List ℕ → List ℕ) → Entry → List ℕ
 entry_bytes held (entry.Contact c) = 1 ∷ c ∷ []
 entry_bytes held (entry.Group def) = 2 ∷ def_bytes def
-entry_bytes held (entry.Level c g l) = 3 ∷ c ∷ (whole g ++ level_byte l ∷ [])
+entry_bytes held (entry.Level c g l) = 3 ∷ c ∷ (g ++ level_byte l ∷ [])
 entry_bytes held (entry.Session s) = 4 ∷ session_bytes s
 entry_bytes held (entry.Take s k) = 5 ∷ on_session s (to_be_bytes w64 k)
 entry_bytes held (entry.Author m) = 6 ∷ message_bytes m

@@ -10,13 +10,13 @@ use sync_ids::{Fixed, MAX_TIMESTAMP, MessageId, Nonce};
 
 // The bytes that are still to be read. After a refusal nothing is said of them.
 #[derive(Drop)]
-pub struct Front<'a> {
-    pub rest: &'a [u8],
+pub(crate) struct Front<'a> {
+    pub(crate) rest: &'a [u8],
 }
 
 impl<'a> Front<'a> {
     #[tactic(auto, unfolding(crate::specs::Reading::byte_in))]
-    pub fn read_byte(&mut self) -> Result<u8, Stop>
+    pub(crate) fn read_byte(&mut self) -> Result<u8, Stop>
         ensures { Reads byte_in self.old.rest.now result self.new.rest.now }
     {
         let Some((byte, rest)) = self.rest.split_first() else {
@@ -28,7 +28,7 @@ impl<'a> Front<'a> {
     }
 
     #[tactic(auto, unfolding(crate::specs::Reading::front_in))]
-    pub fn read_front(&mut self, count: usize) -> Result<&'a [u8], Stop>
+    pub(crate) fn read_front(&mut self, count: usize) -> Result<&'a [u8], Stop>
         ensures read { ReadsSlice (front_in count) self.old.rest.now result self.new.rest.now }
         ensures len { IfOk result (λ front. length front.now ≡ count) }
     {
@@ -40,7 +40,7 @@ impl<'a> Front<'a> {
     }
 
     #[tactic(auto, unfolding(crate::specs::Reading::number_in))]
-    pub fn read_u16(&mut self) -> Result<u16, Stop>
+    pub(crate) fn read_u16(&mut self) -> Result<u16, Stop>
         ensures { Reads (number_in w16) self.old.rest.now result self.new.rest.now }
     {
         let mut bytes = [0; 2];
@@ -49,7 +49,7 @@ impl<'a> Front<'a> {
     }
 
     #[tactic(auto, unfolding(crate::specs::Reading::number_in))]
-    pub fn read_u32(&mut self) -> Result<u32, Stop>
+    pub(crate) fn read_u32(&mut self) -> Result<u32, Stop>
         ensures { Reads (number_in w32) self.old.rest.now result self.new.rest.now }
     {
         let mut bytes = [0; 4];
@@ -58,7 +58,7 @@ impl<'a> Front<'a> {
     }
 
     #[tactic(auto, unfolding(crate::specs::Reading::number_in))]
-    pub fn read_u64(&mut self) -> Result<u64, Stop>
+    pub(crate) fn read_u64(&mut self) -> Result<u64, Stop>
         ensures { Reads (number_in w64) self.old.rest.now result self.new.rest.now }
     {
         let mut bytes = [0; 8];
@@ -66,7 +66,7 @@ impl<'a> Front<'a> {
         Ok(u64::from_be_bytes(bytes))
     }
 
-    pub fn read_id(&mut self) -> Result<MessageId, Stop>
+    pub(crate) fn read_id(&mut self) -> Result<MessageId, Stop>
         ensures { Reads id_in self.old.rest.now result self.new.rest.now }
     {
         let mut bytes = [0; 32];
@@ -74,7 +74,7 @@ impl<'a> Front<'a> {
         Ok(Fixed(bytes))
     }
 
-    pub fn read_nonce(&mut self) -> Result<Nonce, Stop>
+    pub(crate) fn read_nonce(&mut self) -> Result<Nonce, Stop>
         ensures { Reads (front_in 16) self.old.rest.now result self.new.rest.now }
     {
         let mut bytes = [0; 16];
@@ -83,7 +83,7 @@ impl<'a> Front<'a> {
     }
 
     #[tactic(auto, unfolding(crate::specs::Reading::time_in))]
-    pub fn read_time(&mut self) -> Result<u64, Stop>
+    pub(crate) fn read_time(&mut self) -> Result<u64, Stop>
         ensures read { Reads time_in self.old.rest.now result self.new.rest.now }
         ensures within { IfOk result (λ time. time < 2 ^ 63) }
     {
@@ -95,7 +95,7 @@ impl<'a> Front<'a> {
     }
 
     #[tactic(auto, unfolding(crate::specs::Reading::latency_in))]
-    pub fn read_latency(&mut self) -> Result<u32, Stop>
+    pub(crate) fn read_latency(&mut self) -> Result<u32, Stop>
         ensures { Reads latency_in self.old.rest.now result self.new.rest.now }
     {
         let latency = self.read_u32()?;
@@ -106,12 +106,12 @@ impl<'a> Front<'a> {
     }
 
     // A number of two bytes within these limits.
-    pub fn read_count(&mut self, least: u16, most: u16) -> Result<u16, Stop>
+    pub(crate) fn read_count(&mut self, least: usize, most: usize) -> Result<usize, Stop>
         ensures read { Reads (λ bytes. passed (is_between least most) (number_in w16 bytes)) self.old.rest.now result self.new.rest.now }
         ensures least { IfOk result (λ count. least ≤ count) }
         ensures most { IfOk result (λ count. count ≤ most) }
     {
-        let count = self.read_u16()?;
+        let count = self.read_u16()? as usize;
         if count < least || count > most {
             return Err(Stop::BadEntry);
         }
@@ -120,12 +120,12 @@ impl<'a> Front<'a> {
 
     // Bytes behind their number, which has two bytes and these limits.
     #[tactic(auto, unfolding(crate::specs::Reading::counted_in))]
-    pub fn read_counted(&mut self, least: u16, most: u16) -> Result<&'a [u8], Stop>
+    pub(crate) fn read_counted(&mut self, least: usize, most: usize) -> Result<&'a [u8], Stop>
         ensures read { ReadsSlice (counted_in least most) self.old.rest.now result self.new.rest.now }
         ensures least { IfOk result (λ front. least ≤ length front.now) }
         ensures most { IfOk result (λ front. length front.now ≤ most) }
     {
         let count = self.read_count(least, most)?;
-        self.read_front(count as usize)
+        self.read_front(count)
     }
 }

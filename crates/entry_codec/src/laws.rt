@@ -16,7 +16,7 @@ pub fn spellings_are_short()
     ensures { SpellingsAreShort }
 {}
 
-/// A batch that may follow a journal has at most 56,845 bytes, fewer than the 65,536 of a frame.
+/// A batch that may follow a journal has 2 to 56,845 bytes, fewer than the 65,536 of a frame.
 pub fn payloads_fit_frames()
     ensures { PayloadsFitFrames }
 {}

@@ -6,7 +6,7 @@ use std::alloc::{AllocError, AllocFailed};
 
 // Why no part was read.
 #[derive(Clone, Copy, Debug, PartialEq, Eq)]
-pub enum Stop {
+pub(crate) enum Stop {
     // No such part stands at the front.
     BadEntry,
     // No memory was found.

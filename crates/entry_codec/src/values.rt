@@ -7,8 +7,11 @@ ghost use Rattle.entry_codec.specs.Reading.{def_in, front_in, ids_in, level_in, 
 use crate::front::Front;
 use crate::stop::Stop;
 use std::alloc::Global;
-use sync_ids::{GroupDef, IdList, Message, MessageId, Nonce};
+use sync_ids::{GroupDef, IdList, MAX_BODY, MAX_DESCRIPTOR, Message, MessageId, Nonce};
 use sync_rules::{Level, Mode, Out, Session};
+
+// The greatest number of ids in an output.
+const MAX_IDS: usize = 1536;
 
 #[tactic(auto, unfolding(crate::specs::Reading::name_in))]
 fn read_name<'a>(front: &mut Front<'a>) -> Result<&'a str, Stop>
@@ -27,12 +30,12 @@ fn read_name<'a>(front: &mut Front<'a>) -> Result<&'a str, Stop>
 }
 
 #[tactic(auto, unfolding(crate::specs::Reading::def_in))]
-pub fn read_def(alloc: Global, front: &mut Front) -> Result<GroupDef, Stop>
+pub(crate) fn read_def(alloc: Global, front: &mut Front) -> Result<GroupDef, Stop>
     ensures { Reads def_in front.old.rest.now result front.new.rest.now }
 {
     let name = read_name(front)?;
     let major = front.read_u32()?;
-    let descriptor = front.read_counted(0, 16_384)?;
+    let descriptor = front.read_counted(0, MAX_DESCRIPTOR)?;
     let name = String::from_str(alloc, name)?;
     match GroupDef::new(name, major, Vec::from_slice(alloc, descriptor)?) {
         Ok(def) => Ok(def),
@@ -41,12 +44,12 @@ pub fn read_def(alloc: Global, front: &mut Front) -> Result<GroupDef, Stop>
 }
 
 #[tactic(auto, unfolding(crate::specs::Reading::message_in))]
-pub fn read_message(alloc: Global, front: &mut Front) -> Result<Message, Stop>
+pub(crate) fn read_message(alloc: Global, front: &mut Front) -> Result<Message, Stop>
     ensures { Reads message_in front.old.rest.now result front.new.rest.now }
 {
     let group = front.read_id()?;
     let time = front.read_time()?;
-    let body = front.read_counted(1, 32_768)?;
+    let body = front.read_counted(1, MAX_BODY)?;
     match Message::new(group, time, Vec::from_slice(alloc, body)?) {
         Ok(message) => Ok(message),
         Err(_) => unreachable!(),
@@ -54,7 +57,7 @@ pub fn read_message(alloc: Global, front: &mut Front) -> Result<Message, Stop>
 }
 
 #[tactic(auto, unfolding(crate::specs::Reading::level_in))]
-pub fn read_level(front: &mut Front) -> Result<Level, Stop>
+pub(crate) fn read_level(front: &mut Front) -> Result<Level, Stop>
     ensures { Reads level_in front.old.rest.now result front.new.rest.now }
 {
     match front.read_byte()? {
@@ -88,7 +91,7 @@ fn read_flagged_nonce(front: &mut Front) -> Result<Option<Nonce>, Stop>
 }
 
 #[tactic(auto, unfolding(crate::specs::Reading::session_in))]
-pub fn read_session(front: &mut Front) -> Result<Session, Stop>
+pub(crate) fn read_session(front: &mut Front) -> Result<Session, Stop>
     ensures { Reads session_in front.old.rest.now result front.new.rest.now }
 {
     let number = front.read_u32()?;
@@ -109,14 +112,14 @@ pub fn read_session(front: &mut Front) -> Result<Session, Stop>
 fn read_ids(alloc: Global, front: &mut Front) -> Result<IdList<1536>, Stop>
     ensures { Reads ids_in front.old.rest.now result front.new.rest.now }
 {
-    let count = front.read_count(1, 1536)?;
+    let count = front.read_count(1, MAX_IDS)?;
     match IdList::new(read_list(alloc, front, count)?) {
         Ok(ids) => Ok(ids),
         Err(_) => unreachable!(),
     }
 }
 
-fn read_list(alloc: Global, front: &mut Front, count: u16) -> Result<Vec<MessageId>, Stop>
+fn read_list(alloc: Global, front: &mut Front, count: usize) -> Result<Vec<MessageId>, Stop>
     ensures read { ReadsList (list_in (front_in 32) count) front.old.rest.now result front.new.rest.now }
     ensures len { IfOk result (λ ids. length ids.items ≡ count) }
 {
@@ -128,7 +131,7 @@ fn read_list(alloc: Global, front: &mut Front, count: u16) -> Result<Vec<Message
 }
 
 #[tactic(auto, unfolding(crate::specs::Reading::out_in))]
-pub fn read_out(alloc: Global, front: &mut Front) -> Result<Out, Stop>
+pub(crate) fn read_out(alloc: Global, front: &mut Front) -> Result<Out, Stop>
     ensures { Reads out_in front.old.rest.now result front.new.rest.now }
 {
     match front.read_byte()? {

@@ -142,7 +142,7 @@ fn append_level(
     level: Level,
     to: &mut Vec<u8>,
 ) -> Result<(), AllocError>
-    ensures ok { OnOk result (to.new.items ≡ to.old.items ++ (3 ∷ contact ∷ (whole group.now ++ level_byte level ∷ []))) }
+    ensures ok { OnOk result (to.new.items ≡ to.old.items ++ (3 ∷ contact ∷ (group.now ++ level_byte level ∷ []))) }
     ensures within { OnOk result (length group.now ≡ 32) }
     ensures err { OnErr result (AddsTo to.old.items to.new.items) }
 {
@@ -179,7 +179,7 @@ fn append_sent(session: u32, now: u64, what: &Out, to: &mut Vec<u8>) -> Result<(
     append_out(what, to)
 }
 
-// The tag of a part that has its own writer.
+// After want of memory a part of the spelling may stand.
 fn append_tagged(entry: &Entry, to: &mut Vec<u8>) -> Result<(), AllocError>
     requires { HasLatency entry.now }
     ensures ok { OnOk result (to.new.items ≡ to.old.items ++ entry_bytes whole entry.now) }
