@@ -8,8 +8,7 @@ use Rattle.sync_rules.specs.declared.entries.Entry.{Entry}
 use Rattle.sync_rules.specs.declared.entries.Entry.TheVariants as entry
 use Rattle.sync_rules.specs.declared.entries.Out.{Out}
 use Rattle.sync_rules.specs.declared.entries.Out.TheVariants as out
-use Rattle.sync_rules.specs.declared.entries.Session.{Session}
-use Rattle.entry_codec.specs.Spelling.{IsDef, IsEntry, IsIdList, IsNonce, IsOut, IsSession, counted, def_bytes, ids_bytes, message_bytes, nonce_bytes, out_bytes, session_bytes, spelling, whole}
+use Rattle.entry_codec.specs.Spelling.{IsEntry, IsIdList, IsNonce, IsOut, counted, def_bytes, ids_bytes, message_bytes, nonce_bytes, out_bytes, spelling, whole}
 
 pub length_def : (d : GroupValue) → length (def_bytes d) ≡ 7 + length d.name + length d.descriptor
 length_def d = omega (arith, length-append d.name (to_be_bytes w32 d.major ++ counted d.descriptor))

@@ -1,6 +1,6 @@
 -- The reader of an entry.
-use Rattle.std.proofs.Common.{◌≡◌, ◌≢◌, ℕ, zero, suc, ◌+◌, ◌^◌, ◌<◌, ◌≤◌, Bool, true, false, cond, List, [], ◌∷◌, ◌++◌, length, refl, sym, ap, subst, ◌∙◌, arith}
-use Rattle.std.specs.Prelude.{Option, Some, None, ◌==◌, if◌then◌else◌}
+use Rattle.std.proofs.Common.{◌≡◌, ℕ, ◌^◌, ◌<◌, Bool, true, false, List, [], ◌∷◌, ◌++◌, length, refl, sym, ap, subst, ◌∙◌}
+use Rattle.std.specs.Prelude.{Option, Some, None, if◌then◌else◌}
 use Rattle.std.specs.Int.{w32, w64, to_be_bytes}
 use Rattle.sync_ids.specs.Values.{IsMessage, MessageValue}
 use Rattle.sync_rules.specs.declared.entries.Entry.{Entry}
@@ -8,8 +8,8 @@ use Rattle.sync_rules.specs.declared.entries.Entry.TheVariants as entry
 use Rattle.sync_rules.specs.declared.entries.Level.{Level}
 use Rattle.sync_rules.specs.declared.entries.Out.{Out}
 use Rattle.entry_codec.specs.Spelling.{IsDef, IsEntry, IsOut, IsSession, def_bytes, entry_bytes, level_byte, message_bytes, out_bytes, session_bytes, spelling, whole}
-use Rattle.entry_codec.specs.Reading.{beside, both, byte_in, chained, def_in, entry_in, entry_of, heard_of, id_in, is_between, known_of, level_in, made, meant, message_in, moved_of, number_in, out_in, pair_in, session_in, step_of}
-use Rattle.entry_codec.proofs.Readers.{IsBytes, IsReader, both_reads, byte_reads, made_some, part, part_is}
+use Rattle.entry_codec.specs.Reading.{beside, both, byte_in, def_in, entry_in, entry_of, heard_of, id_in, is_between, known_of, level_in, made, meant, message_in, moved_of, number_in, out_in, pair_in, session_in, step_of}
+use Rattle.entry_codec.proofs.Readers.{IsBytes, IsReader, both_reads, byte_reads, part, part_is}
 use Rattle.entry_codec.proofs.Parts.{behind_byte, def_reads, id_reads, level_reads, message_reads, number32, number64, out_reads, session_reads, tested, told}
 
 -- ---- what several kinds share

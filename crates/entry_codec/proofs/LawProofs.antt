@@ -1,9 +1,9 @@
 -- What holds of all spellings.
-use Rattle.std.proofs.Common.{◌≡◌, ℕ, ◌+◌, ◌≤◌, List, [], ◌∷◌, ◌++◌, length, take, drop, refl, sym, ap, subst, ◌∙◌, arith, length-append}
-use Rattle.std.specs.Prelude.{Option, Some, None}
-use Rattle.std.proofs.lemmas.List.{append-nil, append_assoc, length-take-le, take_all, take_at, take-append-drop}
+use Rattle.std.proofs.Common.{◌≡◌, ℕ, ◌+◌, ◌≤◌, List, [], ◌∷◌, ◌++◌, length, take, drop, refl, sym, ap, ◌∙◌, arith, length-append}
+use Rattle.std.specs.Prelude.{Some, None}
+use Rattle.std.proofs.lemmas.List.{append-nil, length-take-le, take_at, take-append-drop}
 use Rattle.sync_rules.specs.declared.entries.Entry.{Entry}
-use Rattle.entry_codec.specs.Spelling.{IsEntry, Spells, spelling}
+use Rattle.entry_codec.specs.Spelling.{Spells, spelling}
 use Rattle.entry_codec.specs.Reading.{entry_in}
 use Rattle.entry_codec.specs.Laws.{IsRead}
 use Rattle.entry_codec.specs.declared.reading.EntryFound.{EntryFound}

@@ -1,20 +1,19 @@
 -- The readers of the values that an entry holds.
-use Rattle.std.proofs.Common.{◌≡◌, ◌≢◌, ℕ, zero, suc, ◌+◌, ◌-◌, ◌^◌, ◌<◌, ◌≤◌, Bool, true, false, cond, List, [], ◌∷◌, ◌++◌, length, refl, sym, ap, subst, ◌∙◌, arith, lt-ltb}
-use Rattle.std.specs.Prelude.{Option, Some, None, ◌==◌, nat_lt, nat_le, ◌&&◌, if◌then◌else◌}
+use Rattle.std.proofs.Common.{◌≡◌, ℕ, suc, ◌^◌, ◌<◌, ◌≤◌, Bool, true, false, List, [], ◌∷◌, ◌++◌, length, refl, sym, ap, subst, ◌∙◌, arith, lt-ltb}
+use Rattle.std.specs.Prelude.{Option, Some, None, ◌==◌, nat_lt, if◌then◌else◌}
 use Rattle.std.specs.Int.{w16, w32, w64, to_be_bytes}
 use Rattle.std.specs.List.{AllByRecursion, flat_map}
 use Rattle.std.specs.Str.{IsUtf8, is_utf8}
 use Rattle.std.proofs.lemmas.Str.{IsUtf8-from_is_utf8, is_utf8-from_IsUtf8}
 use Rattle.std.proofs.lemmas.Bool.{eqb-true, ltb-true}
 use Rattle.std.proofs.lemmas.Bool.Decides.{nat_tests}
-use Rattle.sync_ids.specs.Values.{GroupValue, IsGroupDef, IsMessage, IsWithin, MessageValue}
+use Rattle.sync_ids.specs.Values.{IsMessage}
 use Rattle.sync_rules.specs.declared.entries.Level.{Level}
 use Rattle.sync_rules.specs.declared.entries.Level.TheVariants as level
 use Rattle.sync_rules.specs.declared.entries.Mode.{Mode}
 use Rattle.sync_rules.specs.declared.entries.Mode.TheVariants as mode_kind
 use Rattle.sync_rules.specs.declared.entries.Out.{Out}
 use Rattle.sync_rules.specs.declared.entries.Out.TheVariants as out
-use Rattle.sync_rules.specs.declared.entries.Session.{Session}
 use Rattle.entry_codec.specs.Spelling.{IsDef, IsIdList, IsNonce, IsOut, IsSession, counted, def_bytes, ids_bytes, level_byte, message_bytes, mode_byte, nonce_bytes, out_bytes, session_bytes, whole}
 use Rattle.entry_codec.specs.Reading.{both, byte_in, chained, counted_in, def_in, def_of, flagged, front_in, id_in, ids_in, is_between, latency_in, level_in, level_of, list_in, made, message_in, message_of, mode_in, mode_of, name_in, nonce_in, number_in, out_in, out_of, passed, session_in, session_of, time_in}
 use Rattle.entry_codec.proofs.Readers.{IsBytes, IsReader, both_reads, byte_reads, chained_reads, chained_some, front_reads, list_reads, made_reads, made_some, meant_reads, number_reads, part, part_is, passed_reads, seen_as, wide16, wide32, wide64}

@@ -1,7 +1,7 @@
 -- How long the payload of a batch is that may follow a journal.
-use Rattle.std.proofs.Common.{◌≡◌, ℕ, zero, suc, ◌+◌, ◌*◌, ◌-◌, ◌≤◌, Bool, true, false, cond, List, [], ◌∷◌, ◌++◌, length, refl, sym, ap, subst, ◌∙◌, arith, length-append}
+use Rattle.std.proofs.Common.{◌≡◌, ℕ, suc, ◌+◌, ◌*◌, ◌-◌, ◌≤◌, Bool, true, false, cond, List, [], ◌∷◌, ◌++◌, length, refl, sym, ap, subst, arith, length-append}
 use Rattle.std.specs.Prelude.{Option, Some, None, is_some, not, ◌&&◌, nat_lt}
-use Rattle.std.specs.List.{AllByRecursion, flat_map, list_all, list_any}
+use Rattle.std.specs.List.{AllByRecursion, list_all, list_any}
 use Rattle.sync_ids.specs.Values.{MessageValue}
 use Rattle.sync_ids.specs.Ids.{message_id_of}
 use Rattle.sync_ids.specs.Records.{IsRecord}
@@ -14,8 +14,8 @@ use Rattle.sync_rules.specs.declared.entries.Entry.TheVariants as entry
 use Rattle.sync_rules.specs.Clients.{Meaning}
 use Rattle.sync_rules.specs.Lists.{firsts, firsts_after, is_among, unless_among}
 use Rattle.sync_rules.specs.Facts.{Facts, Held, after, contact_of, held_at, is_invisible, level_at, row_at, wanted_from}
-use Rattle.sync_rules.specs.Steps.{answer_of, first_or_next, first_step, is_ended, is_failing, is_served, next, step, step_accepted, step_by, step_open}
-use Rattle.sync_rules.specs.Sessions.{is_remembered, is_shown, is_shown_held, is_welcome, one_if, room_after, taken, taken_acks, taken_from, taken_message, taken_message_of, taken_offer, taken_offers, taken_requests, wants_limit}
+use Rattle.sync_rules.specs.Steps.{answer_of, first_or_next, first_step, is_ended, is_failing, is_served, step, step_accepted, step_by, step_open}
+use Rattle.sync_rules.specs.Sessions.{is_remembered, is_shown, is_shown_held, is_welcome, one_if, room_after, taken_acks, taken_from, taken_message, taken_message_of, taken_offers, taken_requests, wants_limit}
 use Rattle.sync_rules.specs.Legal.{Allowed, IsSettling}
 use Rattle.entry_codec.specs.Spelling.{IsEntry, spelling}
 use Rattle.entry_codec.specs.Laws.{payload}

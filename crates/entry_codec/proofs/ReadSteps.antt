@@ -1,12 +1,12 @@
 -- Steps of the readers.
-use Rattle.std.proofs.Common.{◌≡◌, ℕ, zero, suc, ◌<◌, Bool, true, false, List, [], ◌∷◌, ◌++◌, refl, sym, ap, ◌∙◌, arith}
+use Rattle.std.proofs.Common.{◌≡◌, ℕ, zero, suc, Bool, true, List, [], ◌∷◌, ◌++◌, refl, sym, ap, ◌∙◌}
 use Rattle.std.specs.Prelude.{Option, Some, None, Err, nat_lt, if◌then◌else◌}
 use Rattle.std.specs.Str.{is_utf8}
 use Rattle.std.proofs.lemmas.List.{append_assoc, append-nil}
 use Rattle.entry_codec.specs.declared.stop.Stop.{Stop}
 use Rattle.entry_codec.specs.declared.stop.Stop.TheVariants as stop
 use Rattle.entry_codec.specs.Answers.{Reads, ReadsList}
-use Rattle.entry_codec.specs.Reading.{byte_in, chained, front_in, list_in, made, name_in, passed}
+use Rattle.entry_codec.specs.Reading.{byte_in, front_in, list_in, made, name_in}
 
 -- a name, whose length and bytes were read
 pub name_read : (b rest front more : List ℕ) (len : ℕ) (t : Bool) → byte_in b ≡ Some (len, rest) → nat_lt 0 len ≡ true → front_in len rest ≡ Some (front, more)

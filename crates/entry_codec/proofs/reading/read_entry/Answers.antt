@@ -1,4 +1,4 @@
-use Rattle.std.proofs.Common.{◌≡◌, ◌+◌, ◌-◌, ◌≤◌, length, get_or, arith}
+use Rattle.std.proofs.Common.{◌-◌, ◌≤◌, length, arith}
 use Rattle.entry_codec.proofs.LawProofs.{bad_is, found_is, found_short}
 use Rattle.entry_codec.proofs.Readers.{IsBytes}
 use Rattle.entry_codec.proofs.reading.read_entry.Goals as goal

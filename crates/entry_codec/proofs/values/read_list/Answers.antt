@@ -1,5 +1,5 @@
-use Rattle.std.proofs.Common.{◌≡◌, ◌+◌, ◌-◌, suc, zero, List, ℕ, [], ◌∷◌, ◌++◌, length, arith, rules, sym, ap, ◌∙◌, length-append}
-use Rattle.std.specs.Prelude.{Option, Err}
+use Rattle.std.proofs.Common.{◌≡◌, ◌+◌, ◌-◌, suc, ℕ, [], ◌∷◌, ◌++◌, length, arith, rules, ap, ◌∙◌, length-append}
+use Rattle.std.specs.Prelude.{Err}
 use Rattle.entry_codec.specs.Answers.{ReadsList}
 use Rattle.entry_codec.specs.Reading.{front_in, list_in, made}
 use Rattle.entry_codec.proofs.ReadSteps.{list_done, list_more, list_stops}

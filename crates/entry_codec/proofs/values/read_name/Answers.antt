@@ -1,4 +1,4 @@
-use Rattle.std.proofs.Common.{◌≡◌, ◌<◌, List, ℕ, true, false, arith, sym, ap, ◌∙◌, lt-ltb}
+use Rattle.std.proofs.Common.{◌≡◌, List, ℕ, true, false, arith, sym, ap, ◌∙◌, lt-ltb}
 use Rattle.std.specs.Prelude.{Some, nat_lt}
 use Rattle.std.specs.Str.{is_utf8}
 use Rattle.std.proofs.lemmas.Str.{IsUtf8-from_is_utf8, is_utf8-from_IsUtf8}
