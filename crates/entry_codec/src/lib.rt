@@ -13,3 +13,6 @@ mod writing;
 pub use lengths::entry_len;
 pub use reading::{EntryFound, read_entry};
 pub use writing::write_entry;
+
+#[cfg(test)]
+mod tests;
