@@ -1,0 +1,90 @@
+-- How long spellings are.
+use Rattle.std.proofs.Common.{◌≡◌, ℕ, ◌+◌, ◌*◌, ◌≤◌, List, [], ◌∷◌, ◌++◌, length, refl, arith, length-append}
+use Rattle.std.specs.Prelude.{Option, Some, None}
+use Rattle.std.specs.Int.{w32, w64, to_be_bytes}
+use Rattle.std.specs.List.{AllByRecursion, flat_map}
+use Rattle.sync_ids.specs.Values.{GroupValue, IsMessage, MessageValue}
+use Rattle.sync_rules.specs.declared.entries.Entry.{Entry}
+use Rattle.sync_rules.specs.declared.entries.Entry.TheVariants as entry
+use Rattle.sync_rules.specs.declared.entries.Out.{Out}
+use Rattle.sync_rules.specs.declared.entries.Out.TheVariants as out
+use Rattle.entry_codec.specs.Spelling.{IsEntry, IsIdList, IsNonce, IsOut, counted, def_bytes, ids_bytes, message_bytes, nonce_bytes, out_bytes, spelling, whole}
+
+pub length_def : (d : GroupValue) → length (def_bytes d) ≡ 7 + length d.name + length d.descriptor
+length_def d = omega (arith, length-append d.name (to_be_bytes w32 d.major ++ counted d.descriptor))
+
+pub length_message : (m : MessageValue) → IsMessage m → length (message_bytes m) ≡ 42 + length m.body
+length_message m is = omega (arith, is.whole_group, length-append m.group (to_be_bytes w64 m.timestamp ++ counted m.body))
+
+length_ids : (ids : List (List ℕ)) → AllByRecursion (λ id. length id ≡ 32) ids → length (flat_map whole ids) ≡ 32 * length ids
+length_ids [] all = refl
+length_ids (id ∷ ids) all = omega (arith, length-append id (flat_map whole ids), all.0, length_ids ids all.1)
+
+nonce_short : (o : Option (List ℕ)) → IsNonce o → length (nonce_bytes o) ≤ 17
+nonce_short None is = omega arith
+nonce_short (Some nonce) is = omega (arith, is)
+
+list_short : (ids : List (List ℕ)) → IsIdList ids → length (ids_bytes whole ids) ≤ 49154
+list_short ids is = omega (arith, is.within.few, length_ids ids is.whole_ids)
+
+out_short : (o : Out) → IsOut o → length (out_bytes whole o) ≤ 49155
+out_short (out.Acks ids) is = omega (arith, list_short ids is)
+out_short (out.Requests ids) is = omega (arith, list_short ids is)
+out_short (out.Offers ids) is = omega (arith, list_short ids is)
+out_short (out.Send id) is = omega (arith, is)
+
+-- the greatest length of each kind
+abbrev pub most_of : Entry → ℕ
+most_of (entry.Contact c) = 2
+most_of (entry.Group def) = 16647
+most_of (entry.Level c g l) = 35
+most_of (entry.Session s) = 28
+most_of (entry.Take s k) = 13
+most_of (entry.Author m) = 32811
+most_of (entry.Arrive s m) = 32815
+most_of (entry.Judged id) = 33
+most_of (entry.Deliver id) = 33
+most_of (entry.Invalid id) = 33
+most_of (entry.Again s id) = 37
+most_of (entry.Offered s id) = 37
+most_of (entry.Seen s id) = 37
+most_of (entry.Asked s id) = 37
+most_of (entry.Out s now what) = 49168
+
+pub length_within : (e : Entry) → IsEntry e → (2 ≤ length (spelling e)) × (length (spelling e) ≤ most_of e)
+unfolding spelling
+length_within (entry.Contact c) is = (omega arith, omega arith)
+length_within (entry.Group def) is = (omega (arith, length_def def), omega (arith, length_def def, is.within.short_name, is.within.short_descriptor))
+length_within (entry.Level c g l) is = (omega (arith, is.1, length-append g), omega (arith, is.1, length-append g))
+length_within (entry.Session s) is = (omega arith, omega (arith, nonce_short s.nonce is.whole_nonce))
+length_within (entry.Take s k) is = (omega arith, omega arith)
+length_within (entry.Author m) is = (omega (arith, length_message m is), omega (arith, length_message m is, is.short_body))
+length_within (entry.Arrive s m) is = (omega (arith, length_message m is.1), omega (arith, length_message m is.1, is.1.short_body))
+length_within (entry.Judged id) is = (omega (arith, is), omega (arith, is))
+length_within (entry.Deliver id) is = (omega (arith, is), omega (arith, is))
+length_within (entry.Invalid id) is = (omega (arith, is), omega (arith, is))
+length_within (entry.Again s id) is = (omega (arith, is.1), omega (arith, is.1))
+length_within (entry.Offered s id) is = (omega (arith, is.1), omega (arith, is.1))
+length_within (entry.Seen s id) is = (omega (arith, is.1), omega (arith, is.1))
+length_within (entry.Asked s id) is = (omega (arith, is.1), omega (arith, is.1))
+length_within (entry.Out s now what) is = (omega arith, omega (arith, out_short what is.2))
+
+most_below : (e : Entry) → most_of e ≤ 49168
+most_below (entry.Contact c) = omega arith
+most_below (entry.Group def) = omega arith
+most_below (entry.Level c g l) = omega arith
+most_below (entry.Session s) = omega arith
+most_below (entry.Take s k) = omega arith
+most_below (entry.Author m) = omega arith
+most_below (entry.Arrive s m) = omega arith
+most_below (entry.Judged id) = omega arith
+most_below (entry.Deliver id) = omega arith
+most_below (entry.Invalid id) = omega arith
+most_below (entry.Again s id) = omega arith
+most_below (entry.Offered s id) = omega arith
+most_below (entry.Seen s id) = omega arith
+most_below (entry.Asked s id) = omega arith
+most_below (entry.Out s now what) = omega arith
+
+pub short : (e : Entry) → IsEntry e → (2 ≤ length (spelling e)) × (length (spelling e) ≤ 49168)
+short e is = let within = length_within e is in (within.0, omega (arith, within.1, most_below e))

@@ -1,0 +1,160 @@
+-- How long the payload of a batch is that may follow a journal.
+use Rattle.std.proofs.Common.{◌≡◌, ℕ, suc, ◌+◌, ◌*◌, ◌-◌, ◌≤◌, Bool, true, false, cond, List, [], ◌∷◌, ◌++◌, length, refl, sym, ap, subst, arith, length-append}
+use Rattle.std.specs.Prelude.{Option, Some, None, is_some, not, ◌&&◌, nat_lt}
+use Rattle.std.specs.List.{AllByRecursion, list_all, list_any}
+use Rattle.sync_ids.specs.Values.{MessageValue}
+use Rattle.sync_ids.specs.Ids.{message_id_of}
+use Rattle.sync_ids.specs.Records.{IsRecord}
+use Rattle.sync_ids.specs.declared.records.Record.{Record}
+use Rattle.sync_ids.specs.declared.records.Record.TheVariants as record_kind
+use Rattle.sync_rules.specs.declared.answers.Judgement.{Judgement}
+use Rattle.sync_rules.specs.declared.answers.Judgement.TheVariants as judgement
+use Rattle.sync_rules.specs.declared.entries.Entry.{Entry}
+use Rattle.sync_rules.specs.declared.entries.Entry.TheVariants as entry
+use Rattle.sync_rules.specs.Clients.{Meaning}
+use Rattle.sync_rules.specs.Lists.{firsts, firsts_after, is_among, unless_among}
+use Rattle.sync_rules.specs.Facts.{Facts, Held, after, contact_of, held_at, is_invisible, level_at, row_at, wanted_from}
+use Rattle.sync_rules.specs.Steps.{answer_of, first_or_next, first_step, is_ended, is_failing, is_served, step, step_accepted, step_by, step_open}
+use Rattle.sync_rules.specs.Sessions.{is_remembered, is_shown, is_shown_held, is_welcome, one_if, room_after, taken_acks, taken_from, taken_message, taken_message_of, taken_offers, taken_requests, wants_limit}
+use Rattle.sync_rules.specs.Legal.{Allowed, IsSettling}
+use Rattle.entry_codec.specs.Spelling.{IsEntry, spelling}
+use Rattle.entry_codec.specs.Laws.{payload}
+use Rattle.entry_codec.proofs.Bounds.{length_within, most_of}
+
+abbrev AreEntries : List Entry → Type 0
+AreEntries es = AllByRecursion IsEntry es
+
+payload_cons : (e : Entry) (es : List Entry) → length (payload (e ∷ es)) ≡ length (spelling e) + length (payload es)
+payload_cons e es = length-append (spelling e) (payload es)
+
+-- one entry of at most 37 bytes, where there is one, before others
+one_short : (b : Bool) (e : Entry) (es : List Entry) (n : ℕ) → most_of e ≤ 37 → (AreEntries es → length (payload es) ≤ 37 * n) → AreEntries (one_if b e ++ es) → length (payload (one_if b e ++ es)) ≤ 37 * suc n
+one_short true e es n most others all = omega (arith, payload_cons e es, (length_within e all.0).1, others all.1)
+one_short false e es n most others all = omega (arith, others all)
+
+acks_short : (f : Facts) (s c : ℕ) (ids : List (List ℕ)) → AreEntries (taken_acks f s c ids) → length (payload (taken_acks f s c ids)) ≤ 37 * length ids
+acks_short f s c [] all = omega arith
+acks_short f s c (id ∷ ids) all =
+    one_short (is_shown f c id && not (row_at f.rows c id).seen) (entry.Seen s id) (taken_acks f s c ids) (length ids) (omega arith) (acks_short f s c ids) all
+
+requests_short : (f : Facts) (s c : ℕ) (ids : List (List ℕ)) → AreEntries (taken_requests f s c ids) → length (payload (taken_requests f s c ids)) ≤ 37 * length ids
+requests_short f s c [] all = omega arith
+requests_short f s c (id ∷ ids) all =
+    one_short (is_shown f c id) (entry.Asked s id) (taken_requests f s c ids) (length ids) (omega arith) (requests_short f s c ids) all
+
+-- an id that is shown is held, and one that is remembered is not
+one_of_two : (o : Option Held) (f : Facts) (c : ℕ) (x : Bool) → is_shown_held f c o ≡ true → (not (is_some o) && x) ≡ true → ⊥
+one_of_two None f c x shown remembered = absurd cc
+one_of_two (Some h) f c x shown remembered = absurd cc
+
+-- at most one of two entries before others
+two_short : (a b : Bool) (d e : Entry) (es : List Entry) (n : ℕ) → (a ≡ true → b ≡ true → ⊥) → most_of d ≤ 37 → most_of e ≤ 37 → (AreEntries es → length (payload es) ≤ 37 * n)
+    → AreEntries ((one_if a d ++ one_if b e) ++ es) → length (payload ((one_if a d ++ one_if b e) ++ es)) ≤ 37 * suc n
+two_short true true d e es n apart dm em others all = absurd (apart refl refl)
+two_short true false d e es n apart dm em others all = one_short true d es n dm others all
+two_short false true d e es n apart dm em others all = one_short true e es n em others all
+two_short false false d e es n apart dm em others all = one_short false e es n em others all
+
+offers_short : (f : Facts) (s c room : ℕ) (ids : List (List ℕ)) → AreEntries (taken_offers f s c room ids) → length (payload (taken_offers f s c room ids)) ≤ 37 * length ids
+offers_short f s c room [] all = omega arith
+offers_short f s c room (id ∷ ids) all =
+    two_short (is_shown f c id) (is_remembered f c room id) (entry.Again s id) (entry.Offered s id) (taken_offers f s c (room_after (is_remembered f c room id) room) ids) (length ids)
+    (one_of_two (held_at f.held id) f c (not (is_among (wanted_from f.wanted c) id) && nat_lt 0 room)) (omega arith) (omega arith)
+    (offers_short f s c (room_after (is_remembered f c room id) room) ids) all
+
+firsts_few : (earlier ids : List (List ℕ)) → length (firsts_after earlier ids) ≤ length ids
+firsts_few earlier [] = omega arith
+firsts_few earlier (id ∷ ids) = go (is_among earlier id) (firsts_few (id ∷ earlier) ids) where
+  go : (b : Bool) → length (firsts_after (id ∷ earlier) ids) ≤ length ids → length (unless_among b id (firsts_after (id ∷ earlier) ids)) ≤ length (id ∷ ids)
+  go true few = omega arith
+  go false few = omega arith
+
+one_message : (f : Facts) (s c : ℕ) (m : MessageValue) (o : Option Held) → AreEntries (taken_message_of f s c m o) → length (payload (taken_message_of f s c m o)) ≤ 32815
+one_message f s c m None all = omega (arith, payload_cons (entry.Arrive s m) [], (length_within (entry.Arrive s m) all.0).1)
+one_message f s c m (Some h) all = go (not (is_invisible (level_at f.levels c h.message.group))) all where
+  go : (b : Bool) → AreEntries (one_if b (entry.Again s (message_id_of m))) → length (payload (one_if b (entry.Again s (message_id_of m)))) ≤ 32815
+  go true all = omega (arith, payload_cons (entry.Again s (message_id_of m)) [], (length_within (entry.Again s (message_id_of m)) all.0).1)
+  go false all = omega arith
+
+message_short : (f : Facts) (s c : ℕ) (m : MessageValue) → AreEntries (taken_message f s c m) → length (payload (taken_message f s c m)) ≤ 32815
+message_short f s c m all = go (is_welcome f c m.group) all where
+  go : (b : Bool) → AreEntries (cond b (taken_message_of f s c m (held_at f.held (message_id_of m))) []) → length (payload (cond b (taken_message_of f s c m (held_at f.held (message_id_of m))) [])) ≤ 32815
+  go true all = one_message f s c m (held_at f.held (message_id_of m)) all
+  go false all = omega arith
+
+taken_short : (f : Facts) (s c : ℕ) (r : Record) → IsRecord r → AreEntries (taken_from f s c r) → length (payload (taken_from f s c r)) ≤ 56832
+taken_short f s c (record_kind.Ack ids) is all = omega (arith, acks_short f s c (firsts ids) all, firsts_few [] ids, is.few)
+taken_short f s c (record_kind.Message m) is all = omega (arith, message_short f s c m all)
+taken_short f s c (record_kind.Offer ids) is all = omega (arith, offers_short f s c (wants_limit - length (wanted_from f.wanted c)) (firsts ids) all, firsts_few [] ids, is.few)
+taken_short f s c (record_kind.Request ids) is all = omega (arith, requests_short f s c (firsts ids) all, firsts_few [] ids, is.few)
+taken_short f s c (record_kind.Versions versions) is all = omega arith
+taken_short f s c (record_kind.Priority nonce) is all = omega arith
+
+-- ---- settling
+
+-- a step is an entry of one id
+abbrev IsShort : Option Entry → Type 0
+IsShort None = Unit {0}
+IsShort (Some e) = most_of e ≤ 33
+
+accepted_short : (f : Facts) (h : Held) (deps : List (List ℕ)) → IsShort (step_accepted f h deps)
+accepted_short f h deps = go (list_any (is_failing f h.message.group) deps) (list_all (is_served f h.message.group) deps) where
+  go : (a b : Bool) → IsShort (cond a (Some (entry.Invalid h.id)) (cond b (Some (entry.Deliver h.id)) None))
+  go true b = omega arith
+  go false true = omega arith
+  go false false = tt
+
+open_short : (f : Facts) (h : Held) (answer : Judgement) → IsShort (step_open f h answer)
+open_short f h judgement.Refuse = omega arith
+open_short f h (judgement.Accept deps share) = accepted_short f h deps
+
+by_short : (f : Facts) (h : Held) (o : Option Judgement) → IsShort (step_by f h o)
+by_short f h None = omega arith
+by_short f h (Some answer) = go (is_ended f h.id) where
+  go : (b : Bool) → IsShort (cond b None (step_open f h answer))
+  go true = tt
+  go false = open_short f h answer
+
+either_short : (a b : Option Entry) → IsShort a → IsShort b → IsShort (first_or_next a b)
+either_short None b first later = later
+either_short (Some e) b first later = first
+
+first_short : (clients : Meaning) (f : Facts) (hs : List Held) → IsShort (first_step clients f hs)
+first_short clients f [] = tt
+first_short clients f (h ∷ hs) = either_short (step clients f h) (first_step clients f hs) (by_short f h (answer_of clients f h)) (first_short clients f hs)
+
+settling_short : (clients : Meaning) (f : Facts) (es : List Entry) → IsSettling clients f es → AreEntries es → length (payload es) ≤ 33 * length es
+settling_short clients f [] is all = omega arith
+settling_short clients f (e ∷ es) is all =
+    let most : most_of e ≤ 33 = subst (λ (o : Option Entry). IsShort o) is.0 (first_short clients f f.held) in
+    omega (arith, payload_cons e es, (length_within e all.0).1, settling_short clients (after f e) es is.1 all.1)
+
+-- ---- batches
+
+alone : (e : Entry) (rest : List Entry) → rest ≡ [] → AreEntries (e ∷ rest) → length (payload (e ∷ rest)) ≤ most_of e
+alone e rest none all = omega (arith, payload_cons e rest, ap (λ (es : List Entry). length (payload es)) none, (length_within e all.0).1)
+
+batch_short : (clients : Meaning) (f : Facts) (batch : List Entry) → Allowed clients f batch → AreEntries batch → length (payload batch) ≤ 56845
+batch_short clients f [] is all = absurd is
+batch_short clients f (entry.Contact c ∷ rest) is all = omega (arith, alone (entry.Contact c) rest is.0 all)
+batch_short clients f (entry.Group def ∷ rest) is all = omega (arith, alone (entry.Group def) rest is.0 all)
+batch_short clients f (entry.Level c g l ∷ rest) is all = omega (arith, alone (entry.Level c g l) rest is.0 all)
+batch_short clients f (entry.Session s ∷ rest) is all = omega (arith, alone (entry.Session s) rest is.0 all)
+batch_short clients f (entry.Take s k ∷ rest) is all =
+    let P : List Entry → Type 0 = λ es. AreEntries es → length (payload es) ≤ 56832 in
+    let others : length (payload rest) ≤ 56832 = subst P (sym is.1.taken_so) (taken_short f s (contact_of f.sessions s) is.1.read is.1.within) all.1 in
+    omega (arith, payload_cons (entry.Take s k) rest, (length_within (entry.Take s k) all.0).1, others)
+batch_short clients f (entry.Author m ∷ rest) is all = omega (arith, alone (entry.Author m) rest is.0 all)
+batch_short clients f (entry.Arrive s m ∷ rest) is all = absurd is
+batch_short clients f (entry.Judged id ∷ rest) is all = omega (arith, is.1, settling_short clients f (entry.Judged id ∷ rest) is.2 all)
+batch_short clients f (entry.Deliver id ∷ rest) is all = omega (arith, is.1, settling_short clients f (entry.Deliver id ∷ rest) is.2 all)
+batch_short clients f (entry.Invalid id ∷ rest) is all = omega (arith, is.1, settling_short clients f (entry.Invalid id ∷ rest) is.2 all)
+batch_short clients f (entry.Again s id ∷ rest) is all = absurd is
+batch_short clients f (entry.Offered s id ∷ rest) is all = absurd is
+batch_short clients f (entry.Seen s id ∷ rest) is all = absurd is
+batch_short clients f (entry.Asked s id ∷ rest) is all = absurd is
+batch_short clients f (entry.Out s now what ∷ rest) is all = omega (arith, alone (entry.Out s now what) rest is.0 all)
+
+pub batch_within : (clients : Meaning) (f : Facts) (batch : List Entry) → Allowed clients f batch → AreEntries batch → (2 ≤ length (payload batch)) × (length (payload batch) ≤ 56845)
+batch_within clients f [] is all = absurd is
+batch_within clients f (e ∷ es) is all = (omega (arith, payload_cons e es, (length_within e all.0).0), batch_short clients f (e ∷ es) is all)

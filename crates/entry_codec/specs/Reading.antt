@@ -1,0 +1,192 @@
+-- How the parts of an entry are read from the front of some bytes: a part, and the bytes behind it.
+use Rattle.std.specs.Prelude.{ℕ, zero, suc, ◌^◌, Bool, ◌==◌, ◌&&◌, nat_lt, nat_le, if◌then◌else◌, List, [], ◌∷◌, length, take, drop, Option, Some, None}
+use Rattle.std.specs.Int.{Width, w16, w32, w64, byte_len, from_be_bytes}
+use Rattle.std.specs.Str.{is_utf8}
+use Rattle.sync_ids.specs.Values.{GroupValue, MessageValue}
+use Rattle.sync_rules.specs.declared.entries.Entry.{Entry}
+use Rattle.sync_rules.specs.declared.entries.Entry.TheVariants as entry
+use Rattle.sync_rules.specs.declared.entries.Level.{Level}
+use Rattle.sync_rules.specs.declared.entries.Level.TheVariants as level
+use Rattle.sync_rules.specs.declared.entries.Mode.{Mode}
+use Rattle.sync_rules.specs.declared.entries.Mode.TheVariants as mode_kind
+use Rattle.sync_rules.specs.declared.entries.Out.{Out}
+use Rattle.sync_rules.specs.declared.entries.Out.TheVariants as out
+use Rattle.sync_rules.specs.declared.entries.Session.{Session}
+
+-- ---- how parts are put together
+
+-- what a part is made into
+abbrev pub made : {A B : Type 0} → (A → B) → Option (A × List ℕ) → Option (B × List ℕ)
+made f None = None
+made f (Some x) = Some (f x.0, x.1)
+
+-- a part that passes a test
+abbrev pub passed : {A : Type 0} → (A → Bool) → Option (A × List ℕ) → Option (A × List ℕ)
+passed test None = None
+passed test (Some x) = if test x.0 then Some x else None
+
+-- a part that stands for some value, or for none
+abbrev pub beside : {B : Type 0} → Option B → List ℕ → Option (B × List ℕ)
+beside None rest = None
+beside (Some b) rest = Some (b, rest)
+
+abbrev pub meant : {A B : Type 0} → (A → Option B) → Option (A × List ℕ) → Option (B × List ℕ)
+meant f None = None
+meant f (Some x) = beside (f x.0) x.1
+
+-- a part, and behind it what it says that follows
+abbrev pub chained : {A B : Type 0} → (A → List ℕ → Option (B × List ℕ)) → Option (A × List ℕ) → Option (B × List ℕ)
+chained q None = None
+chained q (Some x) = q x.0 x.1
+
+-- a part, and behind it another
+abbrev pub both : {A B : Type 0} → (List ℕ → Option (A × List ℕ)) → (List ℕ → Option (B × List ℕ)) → List ℕ → Option ((A × B) × List ℕ)
+both p q bytes = chained (λ a rest. made (λ b. (a, b)) (q rest)) (p bytes)
+
+-- ---- parts
+
+-- so many bytes
+unfoldable pub front_in : ℕ → List ℕ → Option (List ℕ × List ℕ)
+front_in n bytes = if nat_lt (length bytes) n then None else Some (take n bytes, drop n bytes)
+
+unfoldable pub byte_in : List ℕ → Option (ℕ × List ℕ)
+byte_in [] = None
+byte_in (x ∷ rest) = Some (x, rest)
+
+unfoldable pub number_in : Width → List ℕ → Option (ℕ × List ℕ)
+number_in w bytes = made (from_be_bytes w) (front_in (byte_len w) bytes)
+
+abbrev pub id_in : List ℕ → Option (List ℕ × List ℕ)
+id_in bytes = front_in 32 bytes
+
+abbrev pub is_between : ℕ → ℕ → ℕ → Bool
+is_between least most n = nat_le least n && nat_le n most
+
+-- bytes behind their number, which has two bytes and these limits
+unfoldable pub counted_in : ℕ → ℕ → List ℕ → Option (List ℕ × List ℕ)
+counted_in least most bytes = chained front_in (passed (is_between least most) (number_in w16 bytes))
+
+-- a name behind its length, which has one byte
+unfoldable pub name_in : List ℕ → Option (List ℕ × List ℕ)
+name_in bytes = passed is_utf8 (chained front_in (passed (nat_lt 0) (byte_in bytes)))
+
+-- a group's definition
+abbrev pub def_of : List ℕ × (ℕ × List ℕ) → GroupValue
+def_of a = record { name = a.0; major = a.1.0; descriptor = a.1.1 }
+
+unfoldable pub def_in : List ℕ → Option (GroupValue × List ℕ)
+def_in bytes = made def_of (both name_in (both (number_in w32) (counted_in 0 16384)) bytes)
+
+-- a time, whose top bit is clear
+unfoldable pub time_in : List ℕ → Option (ℕ × List ℕ)
+time_in bytes = passed (λ t. nat_lt t (2 ^ 63)) (number_in w64 bytes)
+
+-- a message
+abbrev pub message_of : List ℕ × (ℕ × List ℕ) → MessageValue
+message_of a = record { group = a.0; timestamp = a.1.0; body = a.1.1 }
+
+unfoldable pub message_in : List ℕ → Option (MessageValue × List ℕ)
+message_in bytes = made message_of (both id_in (both time_in (counted_in 1 32768)) bytes)
+
+abbrev pub level_of : ℕ → Option Level
+level_of b = if b == 0 then Some level.Invisible else if b == 1 then Some level.Visible else if b == 2 then Some level.Shared else None
+
+unfoldable pub level_in : List ℕ → Option (Level × List ℕ)
+level_in bytes = meant level_of (byte_in bytes)
+
+abbrev pub mode_of : ℕ → Option Mode
+mode_of b = if b == 0 then Some mode_kind.Interactive else if b == 1 then Some mode_kind.Batch else None
+
+unfoldable pub mode_in : List ℕ → Option (Mode × List ℕ)
+mode_in bytes = meant mode_of (byte_in bytes)
+
+unfoldable pub latency_in : List ℕ → Option (ℕ × List ℕ)
+latency_in bytes = passed (nat_lt 0) (number_in w32 bytes)
+
+-- what follows the flag of a nonce
+abbrev pub flagged : ℕ → List ℕ → Option (Option (List ℕ) × List ℕ)
+flagged flag rest = if flag == 0 then Some (None, rest) else if flag == 1 then made Some (front_in 16 rest) else None
+
+unfoldable pub nonce_in : List ℕ → Option (Option (List ℕ) × List ℕ)
+nonce_in bytes = chained flagged (byte_in bytes)
+
+-- a session
+abbrev pub session_of : ℕ × (ℕ × (Mode × (ℕ × Option (List ℕ)))) → Session
+session_of a = record { number = a.0; contact = a.1.0; mode = a.1.1.0; latency = a.1.1.1.0; nonce = a.1.1.1.1 }
+
+unfoldable pub session_in : List ℕ → Option (Session × List ℕ)
+session_in bytes = made session_of (both (number_in w32) (both byte_in (both mode_in (both latency_in nonce_in))) bytes)
+
+-- so many parts, one behind the other
+unfoldable pub list_in : {A : Type 0} → (List ℕ → Option (A × List ℕ)) → ℕ → List ℕ → Option (List A × List ℕ)
+list_in p zero bytes = Some ([], bytes)
+list_in p (suc n) bytes = made (λ a. a.0 ∷ a.1) (both p (list_in p n) bytes)
+
+-- 1 to 1,536 ids behind their number, which has two bytes
+unfoldable pub ids_in : List ℕ → Option (List (List ℕ) × List ℕ)
+ids_in bytes = chained (list_in (front_in 32)) (passed (is_between 1 1536) (number_in w16 bytes))
+
+-- what follows the kind of an output
+abbrev pub out_of : ℕ → List ℕ → Option (Out × List ℕ)
+out_of kind rest =
+    if kind == 0 then made out.Acks (ids_in rest)
+    else if kind == 1 then made out.Requests (ids_in rest)
+    else if kind == 2 then made out.Offers (ids_in rest)
+    else if kind == 3 then made out.Send (id_in rest)
+    else None
+
+unfoldable pub out_in : List ℕ → Option (Out × List ℕ)
+out_in bytes = chained out_of (byte_in bytes)
+
+-- ---- entries
+
+-- a session's number, and an id
+unfoldable pub pair_in : List ℕ → Option ((ℕ × List ℕ) × List ℕ)
+pair_in bytes = both (number_in w32) id_in bytes
+
+-- what follows the tags 11 to 14
+abbrev pub heard_of : ℕ → ℕ × List ℕ → Option Entry
+heard_of tag a =
+    if tag == 11 then Some (entry.Again a.0 a.1)
+    else if tag == 12 then Some (entry.Offered a.0 a.1)
+    else if tag == 13 then Some (entry.Seen a.0 a.1)
+    else if tag == 14 then Some (entry.Asked a.0 a.1)
+    else None
+
+-- what follows the tags 8 to 10
+abbrev pub step_of : ℕ → List ℕ → Option Entry
+step_of tag id =
+    if tag == 8 then Some (entry.Judged id)
+    else if tag == 9 then Some (entry.Deliver id)
+    else if tag == 10 then Some (entry.Invalid id)
+    else None
+
+-- what follows the tags 1 to 3
+abbrev pub known_of : ℕ → List ℕ → Option (Entry × List ℕ)
+known_of tag rest =
+    if tag == 1 then made entry.Contact (byte_in rest)
+    else if tag == 2 then made entry.Group (def_in rest)
+    else if tag == 3 then made (λ a. entry.Level a.0 a.1.0 a.1.1) (both byte_in (both id_in level_in) rest)
+    else None
+
+-- what follows the tags 4 to 7, and 15
+abbrev pub moved_of : ℕ → List ℕ → Option (Entry × List ℕ)
+moved_of tag rest =
+    if tag == 4 then made entry.Session (session_in rest)
+    else if tag == 5 then made (λ a. entry.Take a.0 a.1) (both (number_in w32) (number_in w64) rest)
+    else if tag == 6 then made entry.Author (message_in rest)
+    else if tag == 7 then made (λ a. entry.Arrive a.0 a.1) (both (number_in w32) message_in rest)
+    else if tag == 15 then made (λ a. entry.Out a.0 a.1.0 a.1.1) (both (number_in w32) (both (number_in w64) out_in) rest)
+    else None
+
+-- what follows a tag
+abbrev pub entry_of : ℕ → List ℕ → Option (Entry × List ℕ)
+entry_of tag rest =
+    if is_between 1 3 tag then known_of tag rest
+    else if is_between 8 10 tag then meant (step_of tag) (id_in rest)
+    else if is_between 11 14 tag then meant (heard_of tag) (pair_in rest)
+    else moved_of tag rest
+
+-- an entry at the front of some bytes
+unfoldable pub entry_in : List ℕ → Option (Entry × List ℕ)
+entry_in bytes = chained entry_of (byte_in bytes)

@@ -1,0 +1,156 @@
+-- How the entries of a journal are spelled: a tag byte, and behind it what the entry says.
+use Rattle.std.specs.Prelude.{◌≡◌, ℕ, ◌^◌, ◌<◌, ◌≤◌, List, [], ◌∷◌, ◌++◌, length, Option, Some, None}
+use Rattle.std.specs.Int.{w16, w32, w64, to_be_bytes}
+use Rattle.std.specs.List.{AllByRecursion, flat_map}
+use Rattle.std.specs.Str.{IsUtf8}
+use Rattle.sync_ids.specs.Values.{GroupValue, IsGroupDef, IsMessage, IsWithin, MessageValue}
+use Rattle.sync_rules.specs.declared.entries.Entry.{Entry}
+use Rattle.sync_rules.specs.declared.entries.Entry.TheVariants as entry
+use Rattle.sync_rules.specs.declared.entries.Level.{Level}
+use Rattle.sync_rules.specs.declared.entries.Level.TheVariants as level
+use Rattle.sync_rules.specs.declared.entries.Mode.{Mode}
+use Rattle.sync_rules.specs.declared.entries.Mode.TheVariants as mode_kind
+use Rattle.sync_rules.specs.declared.entries.Out.{Out}
+use Rattle.sync_rules.specs.declared.entries.Out.TheVariants as out
+use Rattle.sync_rules.specs.declared.entries.Session.{Session}
+
+-- ---- parts
+
+-- bytes behind their number, which has two bytes
+abbrev pub counted : List ℕ → List ℕ
+counted bytes = to_be_bytes w16 (length bytes) ++ bytes
+
+-- a group's definition
+abbrev pub def_bytes : GroupValue → List ℕ
+def_bytes d = length d.name ∷ (d.name ++ (to_be_bytes w32 d.major ++ counted d.descriptor))
+
+-- a message
+abbrev pub message_bytes : MessageValue → List ℕ
+message_bytes m = m.group ++ (to_be_bytes w64 m.timestamp ++ counted m.body)
+
+abbrev pub level_byte : Level → ℕ
+level_byte level.Invisible = 0
+level_byte level.Visible = 1
+level_byte level.Shared = 2
+
+abbrev pub mode_byte : Mode → ℕ
+mode_byte mode_kind.Interactive = 0
+mode_byte mode_kind.Batch = 1
+
+-- a flag, and the nonce where there is one
+abbrev pub nonce_bytes : Option (List ℕ) → List ℕ
+nonce_bytes None = 0 ∷ []
+nonce_bytes (Some nonce) = 1 ∷ nonce
+
+-- a session
+abbrev pub session_bytes : Session → List ℕ
+session_bytes s =
+    to_be_bytes w32 s.number ++ (s.contact ∷ mode_byte s.mode ∷ (to_be_bytes w32 s.latency ++ nonce_bytes s.nonce))
+
+-- ---- ids
+
+-- an id, written whole
+abbrev pub whole : List ℕ → List ℕ
+whole id = id
+
+-- ids behind their number, which has two bytes, each written in this way
+abbrev pub ids_bytes : (List ℕ → List ℕ) → List (List ℕ) → List ℕ
+ids_bytes written ids = to_be_bytes w16 (length ids) ++ flat_map written ids
+
+-- an output. The ids that are requested are those of messages that are not held
+abbrev pub out_bytes : (List ℕ → List ℕ) → Out → List ℕ
+out_bytes held (out.Acks ids) = 0 ∷ ids_bytes held ids
+out_bytes held (out.Requests ids) = 1 ∷ ids_bytes whole ids
+out_bytes held (out.Offers ids) = 2 ∷ ids_bytes held ids
+out_bytes held (out.Send id) = 3 ∷ held id
+
+-- ---- entries
+
+-- a session's number, and what stands behind it
+abbrev pub on_session : ℕ → List ℕ → List ℕ
+on_session session bytes = to_be_bytes w32 session ++ bytes
+
+-- an entry, where the id of a message that is held is written in this way
+abbrev pub entry_bytes : (List ℕ → List ℕ) → Entry → List ℕ
+entry_bytes held (entry.Contact c) = 1 ∷ c ∷ []
+entry_bytes held (entry.Group def) = 2 ∷ def_bytes def
+entry_bytes held (entry.Level c g l) = 3 ∷ c ∷ (g ++ level_byte l ∷ [])
+entry_bytes held (entry.Session s) = 4 ∷ session_bytes s
+entry_bytes held (entry.Take s k) = 5 ∷ on_session s (to_be_bytes w64 k)
+entry_bytes held (entry.Author m) = 6 ∷ message_bytes m
+entry_bytes held (entry.Arrive s m) = 7 ∷ on_session s (message_bytes m)
+entry_bytes held (entry.Judged id) = 8 ∷ held id
+entry_bytes held (entry.Deliver id) = 9 ∷ held id
+entry_bytes held (entry.Invalid id) = 10 ∷ held id
+entry_bytes held (entry.Again s id) = 11 ∷ on_session s (held id)
+entry_bytes held (entry.Offered s id) = 12 ∷ on_session s (whole id)
+entry_bytes held (entry.Seen s id) = 13 ∷ on_session s (held id)
+entry_bytes held (entry.Asked s id) = 14 ∷ on_session s (held id)
+entry_bytes held (entry.Out s now what) = 15 ∷ on_session s (to_be_bytes w64 now ++ out_bytes held what)
+
+-- the one spelling of an entry: every id is written whole
+unfoldable pub spelling : Entry → List ℕ
+spelling e = entry_bytes whole e
+
+-- ---- limits. A clause ranges over all values of a type, also those that no program holds
+
+abbrev pub IsId : List ℕ → Type 0
+IsId id = length id ≡ 32
+
+-- 1 to 1,536 ids
+pub record IsIdList (ids : List (List ℕ)) : Type 0 where
+  pub within : IsWithin 1536 ids
+  pub whole_ids : AllByRecursion (λ id. length id ≡ 32) ids
+
+abbrev pub IsOut : Out → Type 0
+IsOut (out.Acks ids) = IsIdList ids
+IsOut (out.Requests ids) = IsIdList ids
+IsOut (out.Offers ids) = IsIdList ids
+IsOut (out.Send id) = IsId id
+
+-- a definition, whose name is UTF-8
+pub record IsDef (d : GroupValue) : Type 0 where
+  pub within : IsGroupDef d
+  pub utf8_name : IsUtf8 d.name
+
+abbrev pub IsNonce : Option (List ℕ) → Type 0
+IsNonce None = Unit {0}
+IsNonce (Some nonce) = length nonce ≡ 16
+
+pub record IsSession (s : Session) : Type 0 where
+  pub number_fits : s.number < 2 ^ 32
+  pub contact_fits : s.contact < 256
+  pub some_latency : 1 ≤ s.latency
+  pub latency_fits : s.latency < 2 ^ 32
+  pub whole_nonce : IsNonce s.nonce
+
+abbrev pub IsEntry : Entry → Type 0
+IsEntry (entry.Contact c) = c < 256
+IsEntry (entry.Group def) = IsDef def
+IsEntry (entry.Level c g l) = (c < 256) × IsId g
+IsEntry (entry.Session s) = IsSession s
+IsEntry (entry.Take s k) = (s < 2 ^ 32) × (k < 2 ^ 64)
+IsEntry (entry.Author m) = IsMessage m
+IsEntry (entry.Arrive s m) = (s < 2 ^ 32) × IsMessage m
+IsEntry (entry.Judged id) = IsId id
+IsEntry (entry.Deliver id) = IsId id
+IsEntry (entry.Invalid id) = IsId id
+IsEntry (entry.Again s id) = (s < 2 ^ 32) × IsId id
+IsEntry (entry.Offered s id) = (s < 2 ^ 32) × IsId id
+IsEntry (entry.Seen s id) = (s < 2 ^ 32) × IsId id
+IsEntry (entry.Asked s id) = (s < 2 ^ 32) × IsId id
+IsEntry (entry.Out s now what) = (s < 2 ^ 32) × (now < 2 ^ 64) × IsOut what
+
+-- these bytes spell this entry, which is within its limits
+pub record Spells (e : Entry) (bytes : List ℕ) : Type 0 where
+  pub within : IsEntry e
+  pub is : bytes ≡ spelling e
+
+-- what an entry has to keep of itself to be written: a session has a latency of at least 1
+abbrev pub HasLatency : Entry → Type 0
+HasLatency (entry.Session s) = 1 ≤ s.latency
+HasLatency e = Unit {0}
+
+-- new is old with some bytes at its end
+abbrev pub AddsTo : List ℕ → List ℕ → Type 0
+AddsTo old new = (more : List ℕ) × (new ≡ old ++ more)

@@ -1,0 +1,88 @@
+//! How long the spelling of an entry is.
+ghost use Rattle.std.specs.Prelude.{◌≡◌, ◌+◌, ◌*◌, ◌≤◌, length};
+ghost use Rattle.std.specs.List.{flat_map};
+ghost use Rattle.entry_codec.specs.Spelling.{def_bytes, ids_bytes, message_bytes, out_bytes, session_bytes, spelling, whole};
+
+use sync_ids::{GroupDef, IdList, Message, MessageId};
+use sync_rules::{Entry, Out, Session};
+
+#[tactic(auto, using(crate::proofs::Bounds::length_def))]
+fn def_len(def: &GroupDef) -> usize
+    ensures value { result ≡ length (def_bytes def.now) }
+    ensures some { 1 ≤ result }
+    ensures few { result ≤ 16646 }
+{
+    7 + def.name().len() + def.descriptor().len()
+}
+
+#[tactic(auto, using(crate::proofs::Bounds::length_message))]
+fn message_len(message: &Message) -> usize
+    ensures value { result ≡ length (message_bytes message.now) }
+    ensures some { 1 ≤ result }
+    ensures few { result ≤ 32810 }
+{
+    42 + message.body().len()
+}
+
+fn session_len(session: &Session) -> usize
+    ensures value { result ≡ length (session_bytes session.now) }
+    ensures some { 1 ≤ result }
+    ensures few { result ≤ 27 }
+{
+    match &session.nonce {
+        None => 11,
+        Some(nonce) => 11 + nonce.as_bytes().len(),
+    }
+}
+
+fn sum_len(ids: &[MessageId]) -> usize
+    requires { length ids.now ≤ 1536 }
+    ensures value { result ≡ length (flat_map whole ids.now) }
+    ensures few { result ≤ 49152 }
+{
+    let mut len = 0;
+    'ids: for id in ids {
+        len += id.as_bytes().len();
+    }
+    len
+}
+
+fn ids_len(ids: &IdList<1536>) -> usize
+    ensures value { result ≡ length (ids_bytes whole ids.now) }
+    ensures few { result ≤ 49154 }
+{
+    2 + sum_len(ids.as_slice())
+}
+
+fn out_len(what: &Out) -> usize
+    ensures value { result ≡ length (out_bytes whole what.now) }
+    ensures some { 1 ≤ result }
+    ensures few { result ≤ 49155 }
+{
+    match what {
+        Out::Acks(ids) | Out::Requests(ids) | Out::Offers(ids) => 1 + ids_len(ids),
+        Out::Send(id) => 1 + id.as_bytes().len(),
+    }
+}
+
+/// How many bytes the spelling of an entry has: 2 to 49,168. It takes no memory.
+#[tactic(auto, unfolding(crate::specs::Spelling::spelling))]
+pub fn entry_len(entry: &Entry) -> usize
+    ensures value { result ≡ length (spelling entry.now) }
+    ensures some { 2 ≤ result }
+    ensures few { result ≤ 49168 }
+{
+    match entry {
+        Entry::Contact(_) => 2,
+        Entry::Group(def) => 1 + def_len(def),
+        Entry::Level(_, group, _) => 3 + group.as_bytes().len(),
+        Entry::Session(session) => 1 + session_len(session),
+        Entry::Take(_, _) => 13,
+        Entry::Author(message) => 1 + message_len(message),
+        Entry::Arrive(_, message) => 5 + message_len(message),
+        Entry::Judged(id) | Entry::Deliver(id) | Entry::Invalid(id) => 1 + id.as_bytes().len(),
+        Entry::Again(_, id) | Entry::Offered(_, id) | Entry::Seen(_, id) | Entry::Asked(_, id) => 5
+            + id.as_bytes().len(),
+        Entry::Out(_, _, what) => 13 + out_len(what),
+    }
+}

@@ -1,0 +1,18 @@
+//! Entries of a journal as bytes, in the first format: each entry has one spelling, and no spelling
+//! begins another.
+#![tactic(auto)]
+
+mod front;
+pub mod laws;
+mod lengths;
+mod reading;
+mod stop;
+mod values;
+mod writing;
+
+pub use lengths::entry_len;
+pub use reading::{EntryFound, read_entry};
+pub use writing::write_entry;
+
+#[cfg(test)]
+mod tests;

@@ -1,0 +1,123 @@
+//! Reading an entry.
+ghost use Rattle.std.specs.Prelude.{IfOk};
+ghost use Rattle.entry_codec.specs.Laws.{IsRead};
+ghost use Rattle.entry_codec.specs.Answers.{Reads};
+ghost use Rattle.entry_codec.specs.Reading.{entry_of, entry_in, heard_of, known_of, meant, moved_of, id_in, pair_in, step_of};
+
+use crate::front::Front;
+use crate::stop::Stop;
+use crate::values::{read_def, read_level, read_message, read_out, read_session};
+use std::alloc::{AllocError, Global};
+use sync_ids::MessageId;
+use sync_rules::Entry;
+
+/// What was found at the front of some bytes.
+#[derive(Debug, Drop)]
+pub enum EntryFound {
+    /// An entry, and how many bytes it takes.
+    One(Entry, usize),
+    /// No entry: no front of the bytes spells one.
+    BadEntry,
+}
+
+#[tactic(auto, unfolding(crate::specs::Reading::pair_in))]
+fn read_pair(front: &mut Front) -> Result<(u32, MessageId), Stop>
+    ensures { Reads pair_in front.old.rest.now result front.new.rest.now }
+{
+    let session = front.read_u32()?;
+    let id = front.read_id()?;
+    Ok((session, id))
+}
+
+// What follows the tags 1 to 3.
+fn read_known(alloc: Global, tag: u8, front: &mut Front) -> Result<Entry, Stop>
+    ensures { Reads (known_of tag) front.old.rest.now result front.new.rest.now }
+{
+    match tag {
+        1 => Ok(Entry::Contact(front.read_byte()?)),
+        2 => Ok(Entry::Group(read_def(alloc, front)?)),
+        3 => {
+            let contact = front.read_byte()?;
+            let group = front.read_id()?;
+            Ok(Entry::Level(contact, group, read_level(front)?))
+        }
+        _ => Err(Stop::BadEntry),
+    }
+}
+
+// What follows the tags 4 to 7, and 15.
+fn read_moved(alloc: Global, tag: u8, front: &mut Front) -> Result<Entry, Stop>
+    ensures { Reads (moved_of tag) front.old.rest.now result front.new.rest.now }
+{
+    match tag {
+        4 => Ok(Entry::Session(read_session(front)?)),
+        5 => {
+            let session = front.read_u32()?;
+            Ok(Entry::Take(session, front.read_u64()?))
+        }
+        6 => Ok(Entry::Author(read_message(alloc, front)?)),
+        7 => {
+            let session = front.read_u32()?;
+            Ok(Entry::Arrive(session, read_message(alloc, front)?))
+        }
+        15 => {
+            let session = front.read_u32()?;
+            let now = front.read_u64()?;
+            Ok(Entry::Out(session, now, read_out(alloc, front)?))
+        }
+        _ => Err(Stop::BadEntry),
+    }
+}
+
+// What follows the tags 8 to 10.
+fn read_step(tag: u8, front: &mut Front) -> Result<Entry, Stop>
+    ensures { Reads (λ bytes. meant (step_of tag) (id_in bytes)) front.old.rest.now result front.new.rest.now }
+{
+    let id = front.read_id()?;
+    match tag {
+        8 => Ok(Entry::Judged(id)),
+        9 => Ok(Entry::Deliver(id)),
+        10 => Ok(Entry::Invalid(id)),
+        _ => Err(Stop::BadEntry),
+    }
+}
+
+// What follows the tags 11 to 14.
+fn read_heard(tag: u8, front: &mut Front) -> Result<Entry, Stop>
+    ensures { Reads (λ bytes. meant (heard_of tag) (pair_in bytes)) front.old.rest.now result front.new.rest.now }
+{
+    let (session, id) = read_pair(front)?;
+    match tag {
+        11 => Ok(Entry::Again(session, id)),
+        12 => Ok(Entry::Offered(session, id)),
+        13 => Ok(Entry::Seen(session, id)),
+        14 => Ok(Entry::Asked(session, id)),
+        _ => Err(Stop::BadEntry),
+    }
+}
+
+#[tactic(auto, unfolding(crate::specs::Reading::entry_in))]
+fn read_tagged(alloc: Global, front: &mut Front) -> Result<Entry, Stop>
+    ensures { Reads entry_in front.old.rest.now result front.new.rest.now }
+{
+    let tag = front.read_byte()?;
+    match tag {
+        1..=3 => read_known(alloc, tag, front),
+        8..=10 => read_step(tag, front),
+        11..=14 => read_heard(tag, front),
+        _ => read_moved(alloc, tag, front),
+    }
+}
+
+/// Reads the entry at the front of these bytes. `BadEntry` comes exactly where no front of them is the
+/// spelling of an entry within its limits. It fails only for want of memory.
+pub fn read_entry(alloc: Global, bytes: &[u8]) -> Result<EntryFound, AllocError>
+    ensures { IfOk result (λ found. IsRead bytes.now found) }
+{
+    let mut front = Front { rest: bytes };
+    match read_tagged(alloc, &mut front) {
+        Ok(entry) => Ok(EntryFound::One(entry, bytes.len() - front.rest.len())),
+        Err(Stop::BadEntry) => Ok(EntryFound::BadEntry),
+        Err(Stop::Memory) => Err(AllocError),
+    }
+}

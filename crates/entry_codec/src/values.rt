@@ -1,0 +1,144 @@
+//! Reading the values that an entry holds.
+ghost use Rattle.std.specs.Prelude.{◌≡◌, ◌≤◌, length, IfOk};
+ghost use Rattle.std.specs.Str.{IsUtf8};
+ghost use Rattle.entry_codec.specs.Answers.{Reads, ReadsList, ReadsText};
+ghost use Rattle.entry_codec.specs.Reading.{def_in, front_in, ids_in, level_in, list_in, message_in, mode_in, name_in, nonce_in, out_in, session_in};
+
+use crate::front::Front;
+use crate::stop::Stop;
+use std::alloc::Global;
+use sync_ids::{GroupDef, IdList, MAX_BODY, MAX_DESCRIPTOR, Message, MessageId, Nonce};
+use sync_rules::{Level, Mode, Out, Session};
+
+// The greatest number of ids in an output.
+const MAX_IDS: usize = 1536;
+
+#[tactic(auto, unfolding(crate::specs::Reading::name_in))]
+fn read_name<'a>(front: &mut Front<'a>) -> Result<&'a str, Stop>
+    ensures read { ReadsText name_in front.old.rest.now result front.new.rest.now }
+    ensures some { IfOk result (λ name. 1 ≤ length name.now) }
+    ensures short { IfOk result (λ name. length name.now ≤ 255) }
+{
+    let len = front.read_byte()?;
+    if len == 0 {
+        return Err(Stop::BadEntry);
+    }
+    match str::from_utf8(front.read_front(len as usize)?) {
+        Ok(name) => Ok(name),
+        Err(_) => Err(Stop::BadEntry),
+    }
+}
+
+#[tactic(auto, unfolding(crate::specs::Reading::def_in))]
+pub(crate) fn read_def(alloc: Global, front: &mut Front) -> Result<GroupDef, Stop>
+    ensures { Reads def_in front.old.rest.now result front.new.rest.now }
+{
+    let name = read_name(front)?;
+    let major = front.read_u32()?;
+    let descriptor = front.read_counted(0, MAX_DESCRIPTOR)?;
+    let name = String::from_str(alloc, name)?;
+    match GroupDef::new(name, major, Vec::from_slice(alloc, descriptor)?) {
+        Ok(def) => Ok(def),
+        Err(_) => unreachable!(),
+    }
+}
+
+#[tactic(auto, unfolding(crate::specs::Reading::message_in))]
+pub(crate) fn read_message(alloc: Global, front: &mut Front) -> Result<Message, Stop>
+    ensures { Reads message_in front.old.rest.now result front.new.rest.now }
+{
+    let group = front.read_id()?;
+    let time = front.read_time()?;
+    let body = front.read_counted(1, MAX_BODY)?;
+    match Message::new(group, time, Vec::from_slice(alloc, body)?) {
+        Ok(message) => Ok(message),
+        Err(_) => unreachable!(),
+    }
+}
+
+#[tactic(auto, unfolding(crate::specs::Reading::level_in))]
+pub(crate) fn read_level(front: &mut Front) -> Result<Level, Stop>
+    ensures { Reads level_in front.old.rest.now result front.new.rest.now }
+{
+    match front.read_byte()? {
+        0 => Ok(Level::Invisible),
+        1 => Ok(Level::Visible),
+        2 => Ok(Level::Shared),
+        _ => Err(Stop::BadEntry),
+    }
+}
+
+#[tactic(auto, unfolding(crate::specs::Reading::mode_in))]
+fn read_mode(front: &mut Front) -> Result<Mode, Stop>
+    ensures { Reads mode_in front.old.rest.now result front.new.rest.now }
+{
+    match front.read_byte()? {
+        0 => Ok(Mode::Interactive),
+        1 => Ok(Mode::Batch),
+        _ => Err(Stop::BadEntry),
+    }
+}
+
+#[tactic(auto, unfolding(crate::specs::Reading::nonce_in))]
+fn read_flagged_nonce(front: &mut Front) -> Result<Option<Nonce>, Stop>
+    ensures { Reads nonce_in front.old.rest.now result front.new.rest.now }
+{
+    match front.read_byte()? {
+        0 => Ok(None),
+        1 => Ok(Some(front.read_nonce()?)),
+        _ => Err(Stop::BadEntry),
+    }
+}
+
+#[tactic(auto, unfolding(crate::specs::Reading::session_in))]
+pub(crate) fn read_session(front: &mut Front) -> Result<Session, Stop>
+    ensures { Reads session_in front.old.rest.now result front.new.rest.now }
+{
+    let number = front.read_u32()?;
+    let contact = front.read_byte()?;
+    let mode = read_mode(front)?;
+    let latency = front.read_latency()?;
+    let nonce = read_flagged_nonce(front)?;
+    Ok(Session {
+        number,
+        contact,
+        mode,
+        latency,
+        nonce,
+    })
+}
+
+#[tactic(auto, unfolding(crate::specs::Reading::ids_in))]
+fn read_ids(alloc: Global, front: &mut Front) -> Result<IdList<1536>, Stop>
+    ensures { Reads ids_in front.old.rest.now result front.new.rest.now }
+{
+    let count = front.read_count(1, MAX_IDS)?;
+    match IdList::new(read_list(alloc, front, count)?) {
+        Ok(ids) => Ok(ids),
+        Err(_) => unreachable!(),
+    }
+}
+
+fn read_list(alloc: Global, front: &mut Front, count: usize) -> Result<Vec<MessageId>, Stop>
+    ensures read { ReadsList (list_in (front_in 32) count) front.old.rest.now result front.new.rest.now }
+    ensures len { IfOk result (λ ids. length ids.items ≡ count) }
+{
+    let mut ids = Vec::new(alloc);
+    'ids: for i in 0..count {
+        ids.push(front.read_id()?)?;
+    }
+    Ok(ids)
+}
+
+#[tactic(auto, unfolding(crate::specs::Reading::out_in))]
+pub(crate) fn read_out(alloc: Global, front: &mut Front) -> Result<Out, Stop>
+    ensures { Reads out_in front.old.rest.now result front.new.rest.now }
+{
+    match front.read_byte()? {
+        0 => Ok(Out::Acks(read_ids(alloc, front)?)),
+        1 => Ok(Out::Requests(read_ids(alloc, front)?)),
+        2 => Ok(Out::Offers(read_ids(alloc, front)?)),
+        3 => Ok(Out::Send(front.read_id()?)),
+        _ => Err(Stop::BadEntry),
+    }
+}

@@ -1,0 +1,232 @@
+//! Spelling an entry.
+ghost use Rattle.std.specs.Prelude.{◌≡◌, ◌+◌, ◌*◌, ◌++◌, ◌∷◌, ◌≤◌, [], length, OnOk, OnErr};
+ghost use Rattle.std.specs.Int.{w16, w32, w64, to_be_bytes};
+ghost use Rattle.std.specs.List.{AllByRecursion, flat_map};
+ghost use Rattle.entry_codec.specs.Spelling.{AddsTo, HasLatency, IsDef, IsEntry, IsIdList, IsOut, IsSession, Spells, def_bytes, entry_bytes, ids_bytes, level_byte, message_bytes, mode_byte, out_bytes, session_bytes, spelling, whole};
+ghost use Rattle.sync_ids.specs.Values.{IsMessage};
+
+use std::alloc::AllocError;
+use sync_ids::{GroupDef, GroupId, IdList, Message, MessageId};
+use sync_rules::{Entry, Level, Mode, Out, Session};
+
+fn level_byte(level: Level) -> u8
+    ensures { result ≡ level_byte level }
+{
+    match level {
+        Level::Invisible => 0,
+        Level::Visible => 1,
+        Level::Shared => 2,
+    }
+}
+
+fn mode_byte(mode: Mode) -> u8
+    ensures { result ≡ mode_byte mode }
+{
+    match mode {
+        Mode::Interactive => 0,
+        Mode::Batch => 1,
+    }
+}
+
+fn append_def(def: &GroupDef, to: &mut Vec<u8>) -> Result<(), AllocError>
+    ensures ok { OnOk result (to.new.items ≡ to.old.items ++ def_bytes def.now) }
+    ensures within { OnOk result (IsDef def.now) }
+    ensures err { OnErr result (AddsTo to.old.items to.new.items) }
+{
+    let name = def.name().as_bytes();
+    let descriptor = def.descriptor();
+    to.push(name.len() as u8)?;
+    to.extend_from_slice(name)?;
+    to.extend_from_slice(&def.major().to_be_bytes())?;
+    to.extend_from_slice(&(descriptor.len() as u16).to_be_bytes())?;
+    to.extend_from_slice(descriptor)
+}
+
+fn append_message(message: &Message, to: &mut Vec<u8>) -> Result<(), AllocError>
+    ensures ok { OnOk result (to.new.items ≡ to.old.items ++ message_bytes message.now) }
+    ensures within { IsMessage message.now }
+    ensures err { OnErr result (AddsTo to.old.items to.new.items) }
+{
+    let body = message.body();
+    to.extend_from_slice(message.group().as_bytes())?;
+    to.extend_from_slice(&message.timestamp().to_be_bytes())?;
+    to.extend_from_slice(&(body.len() as u16).to_be_bytes())?;
+    to.extend_from_slice(body)
+}
+
+fn append_session(session: &Session, to: &mut Vec<u8>) -> Result<(), AllocError>
+    requires { 1 ≤ session.now.latency }
+    ensures ok { OnOk result (to.new.items ≡ to.old.items ++ session_bytes session.now) }
+    ensures within { OnOk result (IsSession session.now) }
+    ensures err { OnErr result (AddsTo to.old.items to.new.items) }
+{
+    to.extend_from_slice(&session.number.to_be_bytes())?;
+    to.extend_from_slice(&[session.contact, mode_byte(session.mode)])?;
+    to.extend_from_slice(&session.latency.to_be_bytes())?;
+    match &session.nonce {
+        None => to.extend_from_slice(&[0]),
+        Some(nonce) => {
+            to.extend_from_slice(&[1])?;
+            to.extend_from_slice(nonce.as_bytes())
+        }
+    }
+}
+
+fn append_ids(ids: &[MessageId], to: &mut Vec<u8>) -> Result<(), AllocError>
+    ensures ok { OnOk result (to.new.items ≡ to.old.items ++ flat_map whole ids.now) }
+    ensures whole_ids { OnOk result (AllByRecursion (λ id. length id ≡ 32) ids.now) }
+    ensures err { OnErr result (AddsTo to.old.items to.new.items) }
+{
+    'ids: for id in ids {
+        to.extend_from_slice(id.as_bytes())?;
+    }
+    Ok(())
+}
+
+fn append_list(kind: u8, ids: &IdList<1536>, to: &mut Vec<u8>) -> Result<(), AllocError>
+    ensures ok { OnOk result (to.new.items ≡ to.old.items ++ (kind ∷ ids_bytes whole ids.now)) }
+    ensures within { OnOk result (IsIdList ids.now) }
+    ensures err { OnErr result (AddsTo to.old.items to.new.items) }
+{
+    let ids = ids.as_slice();
+    to.push(kind)?;
+    to.extend_from_slice(&(ids.len() as u16).to_be_bytes())?;
+    append_ids(ids, to)
+}
+
+fn append_out(what: &Out, to: &mut Vec<u8>) -> Result<(), AllocError>
+    ensures ok { OnOk result (to.new.items ≡ to.old.items ++ out_bytes whole what.now) }
+    ensures within { OnOk result (IsOut what.now) }
+    ensures err { OnErr result (AddsTo to.old.items to.new.items) }
+{
+    match what {
+        Out::Acks(ids) => append_list(0, ids, to),
+        Out::Requests(ids) => append_list(1, ids, to),
+        Out::Offers(ids) => append_list(2, ids, to),
+        Out::Send(id) => {
+            to.push(3)?;
+            to.extend_from_slice(id.as_bytes())
+        }
+    }
+}
+
+fn append_id(tag: u8, id: &MessageId, to: &mut Vec<u8>) -> Result<(), AllocError>
+    ensures ok { OnOk result (to.new.items ≡ to.old.items ++ (tag ∷ whole id.now)) }
+    ensures within { OnOk result (length id.now ≡ 32) }
+    ensures err { OnErr result (AddsTo to.old.items to.new.items) }
+{
+    to.push(tag)?;
+    to.extend_from_slice(id.as_bytes())
+}
+
+fn append_number(tag: u8, session: u32, to: &mut Vec<u8>) -> Result<(), AllocError>
+    ensures ok { OnOk result (to.new.items ≡ to.old.items ++ (tag ∷ to_be_bytes w32 session)) }
+    ensures err { OnErr result (AddsTo to.old.items to.new.items) }
+{
+    to.push(tag)?;
+    to.extend_from_slice(&session.to_be_bytes())
+}
+
+fn append_pair(tag: u8, session: u32, id: &MessageId, to: &mut Vec<u8>) -> Result<(), AllocError>
+    ensures ok { OnOk result (to.new.items ≡ to.old.items ++ (tag ∷ (to_be_bytes w32 session ++ whole id.now))) }
+    ensures within { OnOk result (length id.now ≡ 32) }
+    ensures err { OnErr result (AddsTo to.old.items to.new.items) }
+{
+    append_number(tag, session, to)?;
+    to.extend_from_slice(id.as_bytes())
+}
+
+fn append_level(
+    contact: u8,
+    group: &GroupId,
+    level: Level,
+    to: &mut Vec<u8>,
+) -> Result<(), AllocError>
+    ensures ok { OnOk result (to.new.items ≡ to.old.items ++ (3 ∷ contact ∷ (group.now ++ level_byte level ∷ []))) }
+    ensures within { OnOk result (length group.now ≡ 32) }
+    ensures err { OnErr result (AddsTo to.old.items to.new.items) }
+{
+    to.extend_from_slice(&[3, contact])?;
+    to.extend_from_slice(group.as_bytes())?;
+    to.push(level_byte(level))?;
+    Ok(())
+}
+
+fn append_take(session: u32, k: u64, to: &mut Vec<u8>) -> Result<(), AllocError>
+    ensures ok { OnOk result (to.new.items ≡ to.old.items ++ (5 ∷ (to_be_bytes w32 session ++ to_be_bytes w64 k))) }
+    ensures err { OnErr result (AddsTo to.old.items to.new.items) }
+{
+    append_number(5, session, to)?;
+    to.extend_from_slice(&k.to_be_bytes())
+}
+
+fn append_arrival(session: u32, message: &Message, to: &mut Vec<u8>) -> Result<(), AllocError>
+    ensures ok { OnOk result (to.new.items ≡ to.old.items ++ (7 ∷ (to_be_bytes w32 session ++ message_bytes message.now))) }
+    ensures within { OnOk result (IsMessage message.now) }
+    ensures err { OnErr result (AddsTo to.old.items to.new.items) }
+{
+    append_number(7, session, to)?;
+    append_message(message, to)
+}
+
+fn append_sent(session: u32, now: u64, what: &Out, to: &mut Vec<u8>) -> Result<(), AllocError>
+    ensures ok { OnOk result (to.new.items ≡ to.old.items ++ (15 ∷ (to_be_bytes w32 session ++ (to_be_bytes w64 now ++ out_bytes whole what.now)))) }
+    ensures within { OnOk result (IsOut what.now) }
+    ensures err { OnErr result (AddsTo to.old.items to.new.items) }
+{
+    append_number(15, session, to)?;
+    to.extend_from_slice(&now.to_be_bytes())?;
+    append_out(what, to)
+}
+
+// After want of memory a part of the spelling may stand.
+fn append_tagged(entry: &Entry, to: &mut Vec<u8>) -> Result<(), AllocError>
+    requires { HasLatency entry.now }
+    ensures ok { OnOk result (to.new.items ≡ to.old.items ++ entry_bytes whole entry.now) }
+    ensures within { OnOk result (IsEntry entry.now) }
+    ensures err { OnErr result (AddsTo to.old.items to.new.items) }
+{
+    match entry {
+        Entry::Contact(contact) => to.extend_from_slice(&[1, *contact]),
+        Entry::Group(def) => {
+            to.push(2)?;
+            append_def(def, to)
+        }
+        Entry::Level(contact, group, level) => append_level(*contact, group, *level, to),
+        Entry::Session(session) => {
+            to.push(4)?;
+            append_session(session, to)
+        }
+        Entry::Take(session, k) => append_take(*session, *k, to),
+        Entry::Author(message) => {
+            to.push(6)?;
+            append_message(message, to)
+        }
+        Entry::Arrive(session, message) => append_arrival(*session, message, to),
+        Entry::Judged(id) => append_id(8, id, to),
+        Entry::Deliver(id) => append_id(9, id, to),
+        Entry::Invalid(id) => append_id(10, id, to),
+        Entry::Again(session, id) => append_pair(11, *session, id, to),
+        Entry::Offered(session, id) => append_pair(12, *session, id, to),
+        Entry::Seen(session, id) => append_pair(13, *session, id, to),
+        Entry::Asked(session, id) => append_pair(14, *session, id, to),
+        Entry::Out(session, now, what) => append_sent(*session, *now, what, to),
+    }
+}
+
+/// Appends the one spelling of an entry. A session's latency is at least 1. It fails only for want of
+/// memory, and then leaves the bytes as they were.
+#[tactic(auto, unfolding(crate::specs::Spelling::spelling))]
+pub fn write_entry(entry: &Entry, to: &mut Vec<u8>) -> Result<(), AllocError>
+    requires { HasLatency entry.now }
+    ensures ok { OnOk result (to.new.items ≡ to.old.items ++ spelling entry.now) }
+    ensures spells { OnOk result (Spells entry.now (spelling entry.now)) }
+    ensures err { OnErr result (to.new.items ≡ to.old.items) }
+{
+    let len = to.len();
+    let appended = append_tagged(entry, to);
+    if appended.is_err() {
+        to.truncate(len);
+    }
+    appended
+}
