@@ -4,6 +4,9 @@ pub mod Texts
 pub mod Steps
 pub mod Takes
 pub mod Finish
+pub mod Brought
+pub mod Orders
+pub mod Named
 pub mod Says
 pub mod Work
 pub mod Calls

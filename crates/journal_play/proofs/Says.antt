@@ -1,11 +1,13 @@
--- The lines of a journal that took records say the state of each message.
-use Rattle.std.proofs.Common.{◌≡◌, ℕ, ◌+◌, ◌-◌, Bool, true, false, cond, not, ◌&&◌, ◌||◌, List, [], ◌∷◌, ◌++◌, length, refl, sym, ◌∙◌, ap, subst, Some, None, is_some}
-use Rattle.std.specs.List.{list_any}
+-- The text of a journal that took records says the state of each message.
+use Rattle.std.proofs.Common.{◌≡◌, ℕ, ◌+◌, ◌-◌, ◌≤◌, Bool, true, false, cond, not, ◌&&◌, ◌||◌, List, [], ◌∷◌, ◌++◌, length, map, refl, sym, ◌∙◌, ap, subst, inl, inr, Some, None, is_some}
+use Rattle.std.specs.List.{list_any, filter}
 use Rattle.std.specs.FinSet as fin_set
 use Rattle.std.specs.Cmp.Lexicographic.{slice_cmp}
 use Rattle.std.specs.Ordering.{nat_cmp}
+use Rattle.std.proofs.lemmas.Bool.{false≢true, false_from_ne_true, or_left, or_right}
+use Rattle.std.proofs.lemmas.Grind.{flat_map-append}
 use Rattle.sync_ids.specs.Values.{GroupValue, MessageValue}
-use Rattle.sync_ids.specs.Ids.{message_id_of}
+use Rattle.sync_ids.specs.Ids.{group_id_of, message_id_of}
 use Rattle.sync_ids.specs.Records.{IsRecord}
 use Rattle.sync_ids.specs.declared.records.Record.{Record}
 use Rattle.sync_ids.specs.declared.records.Record.TheVariants as record_kind
@@ -14,27 +16,32 @@ use Rattle.sync_rules.specs.declared.entries.Entry.TheVariants as entry
 use Rattle.sync_rules.specs.declared.states.Fate.TheVariants as fate_kind
 use Rattle.sync_rules.specs.Clients.{Meaning}
 use Rattle.sync_rules.specs.Lists.{same_id, is_among, firsts}
-use Rattle.sync_rules.specs.Facts.{Facts, Held, Id, held_at, is_held, after, after_all, after_batches, facts, entries_of, nothing, contact_of, takes_of, session_at, is_invisible, level_at, wanted_from}
-use Rattle.sync_rules.specs.Steps.{is_ended, fate, IsSettled, kind_of_def}
+use Rattle.sync_rules.specs.Facts.{Facts, Held, Id, held_at, is_held, arrived, after, after_all, after_batches, facts, entries_of, nothing, contact_of, takes_of, session_at, is_invisible, level_at, wanted_from}
+use Rattle.sync_rules.specs.Steps.{verdict_in, is_ended, fate, IsSettled, kind_of_def}
 use Rattle.sync_rules.specs.Sessions.{taken, taken_message, taken_message_of, is_welcome, one_if, wants_limit}
 use Rattle.sync_rules.specs.Legal.{Legal, IsSettling, AllSettling}
-use Rattle.sync_rules.specs.Rounds.{good, bad, graph_of}
+use Rattle.sync_rules.specs.Rounds.{Graph, good, bad, graph_of}
 use Rattle.sync_rules.specs.Laws.{Decides}
-use Rattle.sync_rules.specs.EntryTests.{delivers, invalidates}
+use Rattle.sync_rules.specs.EntryTests.{delivers, invalidates, ends}
 use Rattle.sync_rules.specs.Hearing.{Hears, IsHearing, take_batch, one_session}
-use Rattle.sync_rules.proofs.Elements.{any-append, same_id-is}
+use Rattle.sync_rules.proofs.Elements.{In, In-push_cases, same_id_itself, tally, tally-is}
 use Rattle.sync_rules.proofs.StepLaws.{IsSettlingEntry, next_is_settling}
-use Rattle.sync_rules.proofs.Sound.{SoundFacts}
+use Rattle.sync_rules.proofs.RoundLaws.{disjoint, Grows, good_grows, bad_grows}
+use Rattle.sync_rules.proofs.Sound.{SoundFacts, held_at-In}
 use Rattle.sync_rules.proofs.Kept.{after_batches-is}
 use Rattle.sync_rules.proofs.Runs.{legal_sound}
-use Rattle.sync_rules.proofs.Flags.{scanned, delivered_scan, invalid_scan}
+use Rattle.sync_rules.proofs.Flags.{scanned, delivered_scan, invalid_scan, ended_scan, ends_once}
 use Rattle.sync_rules.proofs.Settling.{settled_law, goes_on_both, after_batches-append}
 use Rattle.sync_rules.proofs.WorkLaws.{facts-push, settles_legal}
 use Rattle.sync_rules.proofs.HearLaws.{one_session_hears, Stays, stays_all, stays_batches}
-use Rattle.journal_play.specs.Texts.{Line, told_by, told, unended, lines_of}
-use Rattle.journal_play.specs.Playing.{Plays}
-use Rattle.journal_play.specs.Fates.{is_deliver, is_invalid, is_pending, SaysFates}
-use Rattle.journal_play.proofs.Steps.{delivered_held, bad_held, good_held, invalid_held, no_two}
+use Rattle.journal_play.specs.Texts.{told, unended, text_of}
+use Rattle.journal_play.specs.Playing.{Plays, IsTextOf}
+use Rattle.journal_play.specs.Fates.{is_brought, with_record, with_records, brought, graph_with, is_good, is_bad, is_decided, state_of, state_line, SaysFates}
+use Rattle.journal_play.proofs.Steps.{delivered_held, bad_held, good_held, invalid_held, no_two, of_group, verdict_of}
+use Rattle.journal_play.proofs.Texts.{text-append}
+use Rattle.journal_play.proofs.Brought.{Brings, plays_brings}
+use Rattle.journal_play.proofs.Orders.{IsDistinct, IsDistinct-filter, In-filter, of_filter, same_elements}
+use Rattle.journal_play.proofs.Named.{or_false, messages_at, In_arrived, IsRight, of_told, to_told, distinct_told, told_text, unended_text}
 use Rattle.journal_play.proofs.Takes.{quiet_acks, quiet_requests, quiet_offers, takes_all, one_more_take}
 
 -- ---- a journal that takes records stays legal and settled
@@ -121,92 +128,31 @@ plays_on : (clients : Meaning) (j : List (List Entry)) (k : ℕ) (records : List
 plays_on clients j k [] later h p = subst (IsSound clients) p (record { legal = h.legal; settled = h.settled })
 plays_on clients j k (r ∷ records) later h p = plays_on clients p.0 (k + 1) records later (hears_on clients j k r p.0 h p.1 p.2) p.3
 
--- ---- what lines say
-
-deliver_by : (id : Id) (e : Entry) → list_any (is_deliver id) (told_by e) ≡ delivers id e
-deliver_by id (entry.Deliver x) = elim (same_id x id) as (λ b. (b || false) ≡ b) [ true ↦ refl | false ↦ refl ]
-deliver_by id (entry.Invalid x) = refl
-deliver_by id _ = refl
-
-invalid_by : (id : Id) (e : Entry) → list_any (is_invalid id) (told_by e) ≡ invalidates id e
-invalid_by id (entry.Invalid x) = elim (same_id x id) as (λ b. (b || false) ≡ b) [ true ↦ refl | false ↦ refl ]
-invalid_by id (entry.Deliver x) = refl
-invalid_by id _ = refl
-
-pending_by : (id : Id) (e : Entry) → list_any (is_pending id) (told_by e) ≡ false
-pending_by id (entry.Invalid x) = refl
-pending_by id (entry.Deliver x) = refl
-pending_by id _ = refl
-
-told_any : (p : Line → Bool) (q : Entry → Bool) → ((e : Entry) → list_any p (told_by e) ≡ q e) → (es : List Entry) → list_any p (told es) ≡ list_any q es
-told_any p q by [] = refl
-told_any p q by (e ∷ es) = any-append p (told_by e) (told es) ∙ (λ i. by e i || told_any p q by es i)
-
-none_any : (es : List Entry) → list_any (λ e. false) es ≡ false
-none_any [] = refl
-none_any (e ∷ es) = none_any es
-
-open_deliver : (id : Id) (f : Facts) (hs : List Held) → list_any (is_deliver id) (unended f hs) ≡ false
-open_deliver id f [] = refl
-open_deliver id f (h ∷ hs) = elim (is_ended f h.id) as (λ b. list_any (is_deliver id) (cond b (unended f hs) ((fate_kind.Pending, h.id) ∷ unended f hs)) ≡ false) [
-  | true ↦ open_deliver id f hs
-  | false ↦ open_deliver id f hs
-]
-
-open_invalid : (id : Id) (f : Facts) (hs : List Held) → list_any (is_invalid id) (unended f hs) ≡ false
-open_invalid id f [] = refl
-open_invalid id f (h ∷ hs) = elim (is_ended f h.id) as (λ b. list_any (is_invalid id) (cond b (unended f hs) ((fate_kind.Pending, h.id) ∷ unended f hs)) ≡ false) [
-  | true ↦ open_invalid id f hs
-  | false ↦ open_invalid id f hs
-]
-
 and_false : (b : Bool) → (b && false) ≡ false
 and_false true = refl
 and_false false = refl
 
-open_pending : (id : Id) (f : Facts) (hs : List Held) → list_any (is_pending id) (unended f hs) ≡ (is_held hs id && not (is_ended f id))
-open_pending id f [] = refl
-open_pending id f (h ∷ hs) =
-    let rest = open_pending id f hs in
-    elim (is_ended f h.id) as (λ t. is_ended f h.id ≡ t →
-    list_any (is_pending id) (cond t (unended f hs) ((fate_kind.Pending, h.id) ∷ unended f hs)) ≡ (is_some (cond (same_id h.id id) (Some h) (held_at hs id)) && not (is_ended f id))) [
-      | true ↦ λ e.
-          elim (same_id h.id id) as (λ s. same_id h.id id ≡ s → list_any (is_pending id) (unended f hs) ≡ (is_some (cond s (Some h) (held_at hs id)) && not (is_ended f id))) [
-            | true ↦ λ s.
-                let ended : is_ended f id ≡ true = ap (is_ended f) (sym (same_id-is h.id id s)) ∙ e in
-                rest ∙ ap (λ b. is_held hs id && not b) ended ∙ and_false (is_held hs id) ∙ sym (ap not ended)
-            | false ↦ λ s. rest
-          ] refl
-      | false ↦ λ e.
-          elim (same_id h.id id) as (λ s. same_id h.id id ≡ s → (s || list_any (is_pending id) (unended f hs)) ≡ (is_some (cond s (Some h) (held_at hs id)) && not (is_ended f id))) [
-            | true ↦ λ s. sym (ap not (ap (is_ended f) (sym (same_id-is h.id id s)) ∙ e))
-            | false ↦ λ s. rest
-          ] refl
-    ] refl
+-- ---- what entries tell
 
-or_false : (b : Bool) → (b || false) ≡ b
-or_false true = refl
-or_false false = refl
-
-delivered_told : (id : Id) (j : List (List Entry)) → list_any (is_deliver id) (lines_of j) ≡ is_among (facts j).delivered id
+delivered_told : (id : Id) (j : List (List Entry)) → is_among (facts j).delivered id ≡ list_any (delivers id) (entries_of j)
 delivered_told id j =
-    any-append (is_deliver id) (told (entries_of j)) (unended (facts j) (facts j).held)
-    ∙ (λ i. told_any (is_deliver id) (delivers id) (deliver_by id) (entries_of j) i || open_deliver id (facts j) (facts j).held i)
-    ∙ sym (ap (λ (f : Facts). is_among f.delivered id) (after_batches-is nothing j)
-    ∙ scanned (delivers id) (λ f. is_among f.delivered id) (delivered_scan id) nothing (entries_of j))
+    ap (λ (f : Facts). is_among f.delivered id) (after_batches-is nothing j)
+    ∙ scanned (delivers id) (λ f. is_among f.delivered id) (delivered_scan id) nothing (entries_of j)
+    ∙ or_false (list_any (delivers id) (entries_of j))
 
-invalid_told : (id : Id) (j : List (List Entry)) → list_any (is_invalid id) (lines_of j) ≡ fin_set.contains (facts j).invalid id
+invalid_told : (id : Id) (j : List (List Entry)) → fin_set.contains (facts j).invalid id ≡ list_any (invalidates id) (entries_of j)
 invalid_told id j =
-    any-append (is_invalid id) (told (entries_of j)) (unended (facts j) (facts j).held)
-    ∙ (λ i. told_any (is_invalid id) (invalidates id) (invalid_by id) (entries_of j) i || open_invalid id (facts j) (facts j).held i)
-    ∙ sym (ap (λ (f : Facts). fin_set.contains f.invalid id) (after_batches-is nothing j)
+    ap (λ (f : Facts). fin_set.contains f.invalid id) (after_batches-is nothing j)
     ∙ scanned (invalidates id) (λ f. fin_set.contains f.invalid id) (invalid_scan id) nothing (entries_of j)
-    ∙ ap (λ b. list_any (invalidates id) (entries_of j) || b) (fin_set.contains-empty (slice_cmp nat_cmp) id))
+    ∙ ap (λ b. list_any (invalidates id) (entries_of j) || b) (fin_set.contains-empty (slice_cmp nat_cmp) id)
+    ∙ or_false (list_any (invalidates id) (entries_of j))
 
-pending_told : (id : Id) (j : List (List Entry)) → list_any (is_pending id) (lines_of j) ≡ (is_held (facts j).held id && not (is_ended (facts j) id))
-pending_told id j =
-    any-append (is_pending id) (told (entries_of j)) (unended (facts j) (facts j).held)
-    ∙ (λ i. (told_any (is_pending id) (λ e. false) (pending_by id) (entries_of j) ∙ none_any (entries_of j)) i || open_pending id (facts j) (facts j).held i)
+ended_told : (id : Id) (j : List (List Entry)) → is_ended (facts j) id ≡ list_any (ends id) (entries_of j)
+ended_told id j =
+    ap (λ (f : Facts). is_ended f id) (after_batches-is nothing j)
+    ∙ scanned (ends id) (λ f. is_ended f id) (ended_scan id) nothing (entries_of j)
+    ∙ ap (λ b. list_any (ends id) (entries_of j) || b) (fin_set.contains-empty (slice_cmp nat_cmp) id)
+    ∙ or_false (list_any (ends id) (entries_of j))
 
 -- ---- the rounds
 
@@ -259,27 +205,124 @@ module _ (clients : Meaning) (f : Facts) (sound : SoundFacts clients f) (decides
       is_invalid_by (fin_set.contains f.invalid id) (is_among f.delivered id) (fin_set.contains f.judged id)
       (sym (fate_is f id held (fin_set.contains f.invalid id) (is_among f.delivered id) refl refl) ∙ (decides id held).invalid.1 b))
 
-not_or : (a b : Bool) → not (a || b) ≡ (not a && not b)
-not_or true b = refl
-not_or false b = refl
+-- ---- the rounds over the messages alone
 
-says_at : (clients : Meaning) (j : List (List Entry)) → Legal clients j → IsSettled clients (facts j) → SaysFates clients j
-says_at clients j legal settled id =
+module _ (clients : Meaning) (def : GroupValue) (kind : ℕ) (known : kind_of_def clients def ≡ Some kind)
+    (messages : List MessageValue) (f : Facts) (sound : SoundFacts clients f) (b : Brings def messages f) where
+  verdict_at : (id : Id) (h : Held) → held_at f.held id ≡ Some h → clients.verdict kind h.message ≡ verdict_in clients f.groups h.message
+  verdict_at id h e = sym (verdict_of clients def kind f.groups h.message known b.groups (of_group clients def f b.groups sound h (held_at-In f.held id h e)))
+
+  there : Grows (graph_of clients f) (graph_with clients kind messages)
+  there = record {
+    held = λ id h e. ap (λ hs. held_at hs id) (sym b.held) ∙ e;
+    verdict = λ id h e. verdict_at id h e;
+  }
+
+  back : Grows (graph_with clients kind messages) (graph_of clients f)
+  back = record {
+    held = λ id h e. ap (λ hs. held_at hs id) b.held ∙ e;
+    verdict = λ id h e. sym (verdict_at id h (ap (λ hs. held_at hs id) b.held ∙ e));
+  }
+
+  good_same : (id : Id) → good (graph_of clients f) (length f.held) id ≡ good (graph_with clients kind messages) (length (map (arrived 0) messages)) id
+  good_same id =
+      let n : ℕ = length (map (arrived 0) messages) in
+      ap (λ (hs : List Held). good (graph_of clients f) (length hs) id) b.held
+      ∙ same_bool (good (graph_of clients f) n id) (good (graph_with clients kind messages) n id)
+      (good_grows (graph_of clients f) (graph_with clients kind messages) there n id)
+      (good_grows (graph_with clients kind messages) (graph_of clients f) back n id)
+
+  bad_same : (id : Id) → bad (graph_of clients f) (length f.held) id ≡ bad (graph_with clients kind messages) (length (map (arrived 0) messages)) id
+  bad_same id =
+      let n : ℕ = length (map (arrived 0) messages) in
+      ap (λ (hs : List Held). bad (graph_of clients f) (length hs) id) b.held
+      ∙ same_bool (bad (graph_of clients f) n id) (bad (graph_with clients kind messages) n id)
+      (bad_grows (graph_of clients f) (graph_with clients kind messages) there n id)
+      (bad_grows (graph_with clients kind messages) (graph_of clients f) back n id)
+
+-- ---- each message once
+
+IsDistinct-push : (messages : List MessageValue) (m : MessageValue) → IsDistinct messages → (In m messages → ⊥) → IsDistinct (messages ++ m ∷ [])
+IsDistinct-push [] m d new = (λ h. h, tt)
+IsDistinct-push (x ∷ messages) m d new = (
+  λ h. elim (In-push_cases x m messages h) [ inl t ↦ d.0 t | inr e ↦ new (inl (sym e)) ],
+  IsDistinct-push messages m d.1 (λ h. new (inr h)),
+)
+
+brought_of : (messages : List MessageValue) (m : MessageValue) → In m messages → is_brought messages (message_id_of m) ≡ true
+brought_of [] m h = absurd h
+brought_of (x ∷ messages) m h =
+    elim h [
+      | inl e ↦ or_left (same_id (message_id_of x) (message_id_of m)) (is_brought messages (message_id_of m)) (ap (λ w. same_id (message_id_of w) (message_id_of m)) (sym e) ∙ same_id_itself (message_id_of m))
+      | inr t ↦ or_right (same_id (message_id_of x) (message_id_of m)) (is_brought messages (message_id_of m)) (brought_of messages m t)
+    ]
+
+record_distinct : (group : Id) (messages : List MessageValue) (r : Record) → IsDistinct messages → IsDistinct (with_record group messages r)
+record_distinct group messages (record_kind.Message m) d =
+    elim (is_brought messages (message_id_of m)) as (λ b. is_brought messages (message_id_of m) ≡ b
+    → IsDistinct (cond (same_id m.group group && not b) (messages ++ m ∷ []) messages)) [
+      | true ↦ λ e. subst (λ c. IsDistinct (cond c (messages ++ m ∷ []) messages)) (sym (and_false (same_id m.group group))) d
+      | false ↦ λ e.
+          elim (same_id m.group group) as (λ c. IsDistinct (cond (c && true) (messages ++ m ∷ []) messages)) [
+            | true ↦ IsDistinct-push messages m d (λ h. false≢true (sym e ∙ brought_of messages m h))
+            | false ↦ d
+          ]
+    ] refl
+record_distinct group messages _ d = d
+
+brought_distinct : (group : Id) (messages : List MessageValue) (records : List Record) → IsDistinct messages → IsDistinct (with_records group messages records)
+brought_distinct group messages [] d = d
+brought_distinct group messages (r ∷ records) d = brought_distinct group (with_record group messages r) records (record_distinct group messages r d)
+
+-- ---- the whole text
+
+state_good : (g : Graph) (m : MessageValue) → is_good g m ≡ true → state_of g m ≡ fate_kind.Delivered
+state_good g m e = ap (λ b. cond b fate_kind.Delivered (cond (is_bad g m) fate_kind.Invalid fate_kind.Pending)) e
+
+state_bad : (g : Graph) (m : MessageValue) → is_bad g m ≡ true → state_of g m ≡ fate_kind.Invalid
+state_bad g m e =
+    let none : is_good g m ≡ false = false_from_ne_true (is_good g m) (λ t. disjoint g (length g.held) (length g.held) (message_id_of m) t e) in
+    (λ i. cond (none i) fate_kind.Delivered (cond (e i) fate_kind.Invalid fate_kind.Pending))
+
+pub says : (clients : Meaning) (kind : ℕ) (def : GroupValue) (records : List Record) (text : List ℕ) → kind_of_def clients def ≡ Some kind
+    → IsTextOf clients def records text → SaysFates clients kind (group_id_of def) records text
+says clients kind def records text known is =
+    let j : List (List Entry) = is.journal in
+    let es : List Entry = entries_of j in
     let f : Facts = facts j in
-    let sound : SoundFacts clients f = legal_sound clients j legal in
-    let decides : Decides clients f = settled_law clients j legal settled in
-    let good_is = delivered_good clients f sound decides id in
-    let bad_is = invalid_bad clients f sound decides id in
+    let s = plays_on clients (one_session def) 0 records j (one_session_hears clients def (ap is_some known)) is.plays in
+    let sound : SoundFacts clients f = legal_sound clients j s.legal in
+    let decides : Decides clients f = settled_law clients j s.legal s.settled in
+    let messages : List MessageValue = brought (group_id_of def) records in
+    let held : List Held = map (arrived 0) messages in
+    let b : Brings def messages f = plays_brings clients def records j is.plays in
+    let g : Graph = graph_with clients kind messages in
+    let names : (m : MessageValue) → In m messages → held_at held (message_id_of m) ≡ Some (arrived 0 m) =
+    λ m h. ap (λ hs. held_at hs (message_id_of m)) (sym b.held) ∙ sound.names (arrived 0 m) (subst (In (arrived 0 m)) (sym b.held) (In_arrived messages m h)) in
+    let delivered : (m : MessageValue) → is_among f.delivered (message_id_of m) ≡ is_good g m =
+    λ m. delivered_good clients f sound decides (message_id_of m) ∙ good_same clients def kind known messages f sound b (message_id_of m) in
+    let invalid : (m : MessageValue) → fin_set.contains f.invalid (message_id_of m) ≡ is_bad g m =
+    λ m. invalid_bad clients f sound decides (message_id_of m) ∙ bad_same clients def kind known messages f sound b (message_id_of m) in
+    let ended : (m : MessageValue) → is_ended f (message_id_of m) ≡ is_decided g m = λ m. (λ i. delivered m i || invalid m i) in
+    let right : IsRight messages names g es = record {
+      delivered = λ m inside h. state_good g m (sym (delivered m) ∙ delivered_told (message_id_of m) j ∙ h);
+      invalid = λ m inside h. state_bad g m (sym (invalid m) ∙ invalid_told (message_id_of m) j ∙ h);
+    } in
+    let few : (id : Id) → tally (ends id) es ≤ 1 = λ id. subst (λ n. n ≤ 1) (sym (tally-is (ends id) es)) (ends_once clients j s.legal id) in
     record {
-      deliver = delivered_told id j ∙ good_is;
-      invalid = invalid_told id j ∙ bad_is;
-      pending =
-          pending_told id j
-          ∙ ap (λ b. is_held f.held id && b) (not_or (is_among f.delivered id) (fin_set.contains f.invalid id) ∙ (λ i. not (good_is i) && not (bad_is i)));
+      decided = messages_at held (told es);
+      each_once =
+          same_elements (filter (is_decided g) messages) (messages_at held (told es))
+          (IsDistinct-filter (is_decided g) messages (brought_distinct (group_id_of def) [] records tt))
+          (distinct_told messages names es few)
+          (λ z h. let r = of_filter (is_decided g) messages z h in
+          to_told messages names es z r.0 (sym (ended_told (message_id_of z) j) ∙ (ended z ∙ r.1)))
+          (λ z h. let r = of_told messages names es z h in
+          In-filter (is_decided g) messages z r.0 (sym (ended z) ∙ (ended_told (message_id_of z) j ∙ r.1)));
+      lines =
+          is.printed
+          ∙ ap (λ hs. text_of hs (told es ++ unended f hs)) b.held
+          ∙ text-append held (told es) (unended f held)
+          ∙ (λ i. told_text messages names g es right i ++ unended_text messages names g f ended messages (λ m h. h) i)
+          ∙ sym (flat_map-append (state_line g) (messages_at held (told es)) (filter (λ m. not (is_decided g m)) messages));
     }
-
-pub says : (clients : Meaning) (def : GroupValue) (records : List Record) (j : List (List Entry)) → is_some (kind_of_def clients def) ≡ true
-    → Plays clients (one_session def) 0 records j → SaysFates clients j
-says clients def records j known p =
-    let s = plays_on clients (one_session def) 0 records j (one_session_hears clients def known) p in
-    says_at clients j s.legal s.settled

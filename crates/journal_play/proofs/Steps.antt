@@ -13,7 +13,7 @@ use Rattle.sync_rules.specs.declared.states.Fate.TheVariants as fate_kind
 use Rattle.sync_rules.specs.Clients.{Meaning}
 use Rattle.sync_rules.specs.Lists.{same_id, is_among}
 use Rattle.sync_rules.specs.Facts.{Facts, Held, Known, Id, held_at, is_held, after, facts, entries_of, group_at, known_of, arrived}
-use Rattle.sync_rules.specs.Steps.{verdict_in, verdict_for, verdict_by, next}
+use Rattle.sync_rules.specs.Steps.{verdict_in, verdict_for, verdict_by, next, kind_of_def}
 use Rattle.sync_rules.specs.Rounds.{Graph, good, good_next, bad, bad_first, bad_more}
 use Rattle.sync_rules.specs.Hearing.{Settles}
 use Rattle.sync_rules.proofs.Elements.{In, same_id-is, same_id_itself, tally}
@@ -126,6 +126,15 @@ no_two clients f s id d =
     false_from_ne_true (fin_set.contains f.invalid id) (λ i.
     disjoint (graph clients f.groups f.held) (tally (has_delivery f.delivered) f.held) (tally (has_refusal f.invalid) f.held) id (s.delivered_good id d) (s.invalid_bad id i))
 
+-- what the client of the one group says of a message of it
+pub verdict_of : (clients : Meaning) (def : GroupValue) (kind : ℕ) (groups : List Known) (m : MessageValue) → kind_of_def clients def ≡ Some kind
+    → groups ≡ known_of def ∷ [] → m.group ≡ group_id_of def → verdict_in clients groups m ≡ clients.verdict kind m
+verdict_of clients def kind groups m known one of_it =
+    let same : same_id (group_id_of def) m.group ≡ true = ap (same_id (group_id_of def)) of_it ∙ same_id_itself (group_id_of def) in
+    ap (λ (gs : List Known). verdict_for clients (group_at gs m.group) m) one
+    ∙ ap (λ b. verdict_for clients (cond b (Some (known_of def)) None) m) same
+    ∙ ap (λ o. verdict_by clients o m) known
+
 -- ---- a step
 
 module _ (clients : Meaning) (def : GroupValue) (k : ℕ) (f : Facts) (es : List Entry) (play : Played)
@@ -149,12 +158,7 @@ module _ (clients : Meaning) (def : GroupValue) (k : ℕ) (f : Facts) (es : List
       ∙ ap (option_map (entry_of (id_at f.held))) (ap nodes.next (sym m.nodes) ∙ e)
 
   verdict : verdict_in clients f.groups msg ≡ clients.verdict play.kind msg
-  verdict =
-      let same : same_id (group_id_of def) msg.group ≡ true =
-      ap (same_id (group_id_of def)) (of_group clients def f m.groups sound (arrived 0 msg) inside) ∙ same_id_itself (group_id_of def) in
-      ap (λ (gs : List Known). verdict_for clients (group_at gs msg.group) msg) m.groups
-      ∙ ap (λ b. verdict_for clients (cond b (Some (known_of def)) None) msg) same
-      ∙ ap (λ o. verdict_by clients o msg) m.kind
+  verdict = verdict_of clients def play.kind f.groups msg m.kind m.groups (of_group clients def f m.groups sound (arrived 0 msg) inside)
 
   pub judged_mirrors : Mirrors clients def k (after f (entry.Judged (message_id_of msg))) (es ++ entry.Judged (message_id_of msg) ∷ []) (stepping clients (graph_step.Judge n) msg play)
   judged_mirrors =

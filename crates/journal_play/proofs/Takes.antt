@@ -87,7 +87,7 @@ quiet_both : (es fs : List Entry) → AllQuiet es → AllQuiet fs → AllQuiet (
 quiet_both [] fs a b = b
 quiet_both (e ∷ es) fs a b = (a.0, quiet_both es fs a.1 b)
 
-quiet_if : (b : Bool) (e : Entry) → IsQuiet e → AllQuiet (one_if b e)
+pub quiet_if : (b : Bool) (e : Entry) → IsQuiet e → AllQuiet (one_if b e)
 quiet_if true e q = (q, tt)
 quiet_if false e q = tt
 
@@ -116,7 +116,7 @@ told_quiet : (es : List Entry) → AllQuiet es → told es ≡ []
 told_quiet [] q = refl
 told_quiet (e ∷ es) q = (λ i. told_by_quiet e q.0 i ++ told_quiet es q.1 i)
 
-alike_then : (f g h : Facts) → Alike f g → Alike g h → Alike f h
+pub alike_then : (f g h : Facts) → Alike f g → Alike g h → Alike f h
 alike_then f g h a b = record {
   groups = b.groups ∙ a.groups;
   levels = b.levels ∙ a.levels;
@@ -127,7 +127,7 @@ alike_then f g h a b = record {
   delivered = b.delivered ∙ a.delivered;
 }
 
-alike_all : (f : Facts) (es : List Entry) → AllQuiet es → Alike f (after_all f es)
+pub alike_all : (f : Facts) (es : List Entry) → AllQuiet es → Alike f (after_all f es)
 alike_all f [] q = record { groups = refl; levels = refl; sessions = refl; held = refl; judged = refl; invalid = refl; delivered = refl }
 alike_all f (e ∷ es) q = alike_then f (after f e) (after_all (after f e) es) (alike_quiet f e q.0) (alike_all (after f e) es q.1)
 
@@ -154,7 +154,7 @@ quiet_mirrors clients def k f es ts play m q =
 
 -- ---- a message arrives
 
-map_push : {A B : Type 0} (F : A → B) (xs : List A) (x : A) → map F (xs ++ x ∷ []) ≡ map F xs ++ F x ∷ []
+pub map_push : {A B : Type 0} (F : A → B) (xs : List A) (x : A) → map F (xs ++ x ∷ []) ≡ map F xs ++ F x ∷ []
 map_push F [] x = refl
 map_push F (y ∷ xs) x = ap (λ ys. F y ∷ ys) (map_push F xs x)
 
@@ -255,34 +255,38 @@ quiet_offers f s c room (id ∷ ids) =
     (quiet_if (is_shown f c id) (entry.Again s id) tt) (quiet_if (is_remembered f c room id) (entry.Offered s id) tt))
     (quiet_offers f s c (room_after (is_remembered f c room id) room) ids)
 
--- ---- a record
+-- ---- what is welcome
 
-module _ (clients : Meaning) (def : GroupValue) (k : ℕ) (f : Facts) (es : List Entry) (play : Played)
-    (m : Mirrors clients def k f es play) (sound : SoundFacts clients f) where
-  contact : contact_of f.sessions 0 ≡ 0
-  contact = ap (λ s. contact_of s 0) m.sessions
+module _ (def : GroupValue) (f : Facts) (groups : f.groups ≡ known_of def ∷ []) (levels : f.levels ≡ (facts (one_session def)).levels)
+    (sessions : f.sessions ≡ (facts (one_session def)).sessions) where
+  pub contact_is : contact_of f.sessions 0 ≡ 0
+  contact_is = ap (λ s. contact_of s 0) sessions
 
   visible : level_at f.levels (contact_of f.sessions 0) (group_id_of def) ≡ level.Visible
   visible =
-      (λ i. level_at (m.levels i) (contact i) (group_id_of def))
+      (λ i. level_at (levels i) (contact_is i) (group_id_of def))
       ∙ level_at_set fin_map.empty 0 0 (group_id_of def) (group_id_of def) level.Visible
       ∙ ap (λ b. cond b level.Visible (level_at fin_map.empty 0 (group_id_of def))) (same_id_itself (group_id_of def))
 
   -- a message is welcome where it is of the group
-  welcome_by : (g : Id) (b : Bool) → same_id g play.group ≡ b → is_welcome f (contact_of f.sessions 0) g ≡ b
+  pub welcome_by : (g : Id) (b : Bool) → same_id g (group_id_of def) ≡ b → is_welcome f (contact_of f.sessions 0) g ≡ b
   welcome_by g true e =
-      let is : g ≡ group_id_of def = same_id-is g play.group e ∙ m.group in
+      let is : g ≡ group_id_of def = same_id-is g (group_id_of def) e in
       let there : is_some (group_at f.groups g) ≡ true =
-      (λ i. is_some (group_at (m.groups i) (is i))) ∙ ap (λ b. is_some (cond b (Some (known_of def)) None)) (same_id_itself (group_id_of def)) in
+      (λ i. is_some (group_at (groups i) (is i))) ∙ ap (λ b. is_some (cond b (Some (known_of def)) None)) (same_id_itself (group_id_of def)) in
       let shown : not (is_invisible (level_at f.levels (contact_of f.sessions 0) g)) ≡ true =
       ap (λ (q : Id). not (is_invisible (level_at f.levels (contact_of f.sessions 0) q))) is ∙ ap (λ l. not (is_invisible l)) visible in
       (λ i. there i && shown i)
   welcome_by g false e =
-      let away : same_id (group_id_of def) g ≡ false = ap (λ (q : Id). same_id q g) (sym m.group) ∙ (same_id_swap play.group g ∙ e) in
+      let away : same_id (group_id_of def) g ≡ false = same_id_swap (group_id_of def) g ∙ e in
       let none : is_some (group_at f.groups g) ≡ false =
-      (λ i. is_some (group_at (m.groups i) g)) ∙ ap (λ b. is_some (cond b (Some (known_of def)) None)) away in
+      (λ i. is_some (group_at (groups i) g)) ∙ ap (λ b. is_some (cond b (Some (known_of def)) None)) away in
       ap (λ b. b && not (is_invisible (level_at f.levels (contact_of f.sessions 0) g))) none
 
+-- ---- a record
+
+module _ (clients : Meaning) (def : GroupValue) (k : ℕ) (f : Facts) (es : List Entry) (play : Played)
+    (m : Mirrors clients def k f es play) (sound : SoundFacts clients f) where
   module _ (msg : MessageValue) where
     -- what is taken, by whether the message is of the group, and what is held under its id
     abbrev pub Goes : Bool → Option Held → Bool → Bool → Type 0
@@ -316,7 +320,7 @@ module _ (clients : Meaning) (def : GroupValue) (k : ℕ) (f : Facts) (es : List
         let second : Goes b o b (is_some (nodes.number_of play.nodes (message_id_of msg))) =
         subst (λ n. Goes b o b n) (sym (number_held clients f play.nodes (message_id_of msg) m.nodes)) first in
         let P : Bool → Type 0 = λ w. Goes w o b (is_some (nodes.number_of play.nodes (message_id_of msg))) in
-        subst P (sym (welcome_by msg.group b refl)) second
+        subst P (sym (welcome_by def f m.groups m.levels m.sessions msg.group b (ap (same_id msg.group) (sym m.group)))) second
 
   pub take_mirrors : (r : Record) → Mirrors clients def (k + 1) (after_all f (entry.Take 0 k ∷ taken f 0 r)) (es ++ entry.Take 0 k ∷ taken f 0 r) (taking play r)
   take_mirrors (record_kind.Ack ids) = quiet_mirrors clients def k f es (taken f 0 (record_kind.Ack ids)) play m (quiet_acks f 0 (contact_of f.sessions 0) (firsts ids))

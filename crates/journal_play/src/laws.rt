@@ -1,18 +1,17 @@
 //! The law of what is printed.
-ghost use Rattle.std.specs.Prelude.{◌≡◌, ℕ, List, true, is_some};
+ghost use Rattle.std.specs.Prelude.{◌≡◌, ℕ, List, Some};
+ghost use Rattle.sync_ids.specs.Ids.{group_id_of};
 ghost use Rattle.sync_ids.specs.Values.{GroupValue};
 ghost use Rattle.sync_ids.specs.declared.records.Record.{Record};
 ghost use Rattle.sync_rules.specs.Clients.{Meaning};
-ghost use Rattle.sync_rules.specs.Hearing.{one_session};
 ghost use Rattle.sync_rules.specs.Steps.{kind_of_def};
-ghost use Rattle.sync_rules.specs.declared.entries.Entry.{Entry};
 ghost use Rattle.journal_play.specs.Fates.{SaysFates};
-ghost use Rattle.journal_play.specs.Playing.{Plays};
+ghost use Rattle.journal_play.specs.Playing.{IsTextOf};
 
-/// What is printed of a journal of one session says the state of each message: it has a line that delivers it exactly where
-/// it is good, one that says that it is invalid exactly where it is bad, and one that says that it is pending exactly where
-/// it is held and neither.
+/// The text of a journal that took records says the state of each message that they bring to its group, and says it once:
+/// it is delivered exactly where it is good, invalid exactly where it is bad, and else it waits.
 pub fn play_says()
-    ensures { (clients : Meaning) (def : GroupValue) (records : List Record) (j : List (List Entry))
-        → is_some (kind_of_def clients def) ≡ true → Plays clients (one_session def) 0 records j → SaysFates clients j }
+    ensures { (clients : Meaning) (kind : ℕ) (def : GroupValue) (records : List Record) (text : List ℕ)
+        → kind_of_def clients def ≡ Some kind → IsTextOf clients def records text
+        → SaysFates clients kind (group_id_of def) records text }
 {}

@@ -1,3 +1,4 @@
 pub mod TextLemmas
 pub mod PieceLemmas
 pub mod StreamLemmas
+pub mod StateLemmas

@@ -2,12 +2,14 @@
 ghost use Rattle.std.specs.Prelude.{◌≡◌};
 ghost use Rattle.sync_top.specs.Flow.{Flow};
 ghost use Rattle.sync_top.specs.Run.{Comes, Ran, Reports};
+ghost use Rattle.sync_top.specs.States.{TellsWhole};
 ghost use Rattle.sync_top.specs.Words.{asked, texts};
 
 use crate::status::{Outcome, Status};
 use crate::streams::{list_records, try_group};
 use crate::text::write_text;
 use crate::words::{Words, read_words};
+use journal_play::play_says;
 use outside::{Host, Sink, Source};
 use std::alloc::Global;
 use sync_rules::Clients;
@@ -29,9 +31,15 @@ pub fn run<H: Host, S: Source, W: Sink, E: Sink, C: Clients>(
         (record { before = W.written out.old; after = W.written out.new; faults = W.sink_faults out.old; faults' = W.sink_faults out.new })
         (record { before = E.written err.old; after = E.written err.new; faults = E.sink_faults err.old; faults' = E.sink_faults err.new })
         result }
+    ensures states { TellsWhole (C.meaning clients.now) (asked (texts words.now))
+        (record { before = S.left input.old; after = S.left input.new; faults = S.source_faults input.old; faults' = S.source_faults input.new })
+        (record { before = W.written out.old; after = W.written out.new; faults = W.sink_faults out.old; faults' = W.sink_faults out.new })
+        result }
     ensures host { host.new ≡ host.old }
 {
     let _ = host;
+    // The law that the clause on the states rests on.
+    play_says();
     let outcome = command(alloc, words, input, out, clients);
     report(alloc, outcome, err)
 }

@@ -1,0 +1,71 @@
+-- Where `try` wrote its whole text, it told the state of each message.
+use Rattle.std.proofs.Common.{◌≡◌, ℕ, List, take, refl, sym, subst, inl, inr, Option, Some, None}
+use Rattle.std.specs.Io.KnownBytes.{Appends}
+use Rattle.std.proofs.lemmas.List.{take_all}
+use Rattle.record_grammar.specs.Stream.{items, records, records_of}
+use Rattle.journal_play.specs.Fates.{SaysFates}
+use Rattle.journal_play.specs.Playing.{IsTextOf}
+use Rattle.sync_ids.specs.Ids.{group_id_of}
+use Rattle.sync_ids.specs.Values.{GroupValue}
+use Rattle.sync_ids.specs.declared.records.Record.{Record}
+use Rattle.sync_rules.specs.Clients.{Meaning}
+use Rattle.sync_rules.specs.Steps.{kind_of_def}
+use Rattle.sync_top.specs.declared.status.Outcome.{Outcome}
+use Rattle.sync_top.specs.declared.status.Outcome.TheVariants as outcome
+use Rattle.sync_top.specs.declared.status.Status.{Status}
+use Rattle.sync_top.specs.Flow.{Flow, limit}
+use Rattle.sync_top.specs.Outcomes.{status_of}
+use Rattle.sync_top.specs.Run.{Comes, Reports, ReadsStream, ReadsWhole, TriesClient}
+use Rattle.sync_top.specs.States.{TellsStates, TellsGroup, TellsWhole}
+use Rattle.sync_top.specs.Words.{Asked}
+use Rattle.sync_top.specs.Words.Asked.{Usage, Try, Records}
+
+module _ (law : (clients : Meaning) (kind : ℕ) (def : GroupValue) (records : List Record) (text : List ℕ)
+    → kind_of_def clients def ≡ Some kind → IsTextOf clients def records text → SaysFates clients kind (group_id_of def) records text)
+    (clients : Meaning) (input out : Flow) where
+  whole_states : (kind : ℕ) (def : GroupValue) (came : Outcome) → kind_of_def clients def ≡ Some kind
+      → (r : ReadsStream (λ some text. IsTextOf clients def (records_of some) text) input out came)
+      → ReadsWhole input r.read → Appends out.before out.after r.text → TellsStates clients kind def input out
+  whole_states kind def came known r whole written = record {
+    read = r.read;
+    text = r.text;
+    consumed = r.consumed;
+    whole = whole;
+    says =
+        law clients kind def (records r.read) r.text known
+        (subst (λ (bytes : List ℕ). IsTextOf clients def (records_of (items 0 bytes)) r.text) (take_all limit r.read whole.within) r.text_is);
+    written = written;
+  }
+
+  abbrev Tells : (name descriptor : List ℕ) → Outcome → Type 0
+  Tells name descriptor came = TellsWhole clients (Try name descriptor) input out (status_of came)
+
+  group_states : (name descriptor : List ℕ) (o : Option ℕ) (came : Outcome) → clients.kind_of name 0 ≡ o
+      → TriesClient clients name descriptor o input out came → Tells name descriptor came
+  group_states name descriptor None outcome.Done known tries = absurd tries
+  group_states name descriptor None (outcome.Bad place why) known tries = absurd tries
+  group_states name descriptor None (outcome.Inside place) known tries = absurd tries
+  group_states name descriptor (Some kind) outcome.Done known tries =
+      subst (λ o. TellsGroup clients name descriptor o input out) (sym known)
+      (whole_states kind (record { name = name; major = 0; descriptor = descriptor }) outcome.Done known tries tries.ended.0 tries.ended.2)
+  group_states name descriptor (Some kind) (outcome.Bad place why) known tries =
+      subst (λ o. TellsGroup clients name descriptor o input out) (sym known)
+      (whole_states kind (record { name = name; major = 0; descriptor = descriptor }) (outcome.Bad place why) known tries tries.ended.0 tries.ended.2)
+  group_states name descriptor (Some kind) (outcome.Inside place) known tries =
+      subst (λ o. TellsGroup clients name descriptor o input out) (sym known)
+      (whole_states kind (record { name = name; major = 0; descriptor = descriptor }) (outcome.Inside place) known tries tries.ended.0 tries.ended.2)
+  group_states name descriptor o (outcome.Usage place) known tries = tt
+  group_states name descriptor o outcome.UnknownClient known tries = tt
+  group_states name descriptor o outcome.ReadFault known tries = tt
+  group_states name descriptor o outcome.Memory known tries = tt
+  group_states name descriptor o outcome.WriteFault known tries = tt
+  group_states name descriptor o outcome.TooMuch known tries = tt
+
+  pub tells : (words : Asked) (err : Flow) (came : Outcome) (given : Status) → Comes clients words input out came → Reports came err given
+      → TellsWhole clients words input out given
+  tells (Usage place) err came given comes reports = tt
+  tells Records err came given comes reports = tt
+  tells (Try name descriptor) err came given comes (inl told) =
+      subst (TellsWhole clients (Try name descriptor) input out) (sym told.0) (group_states name descriptor (clients.kind_of name 0) came refl comes)
+  tells (Try name descriptor) err came given comes (inr memory) =
+      subst (TellsWhole clients (Try name descriptor) input out) (sym memory.0) tt

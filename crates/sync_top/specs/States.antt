@@ -1,0 +1,37 @@
+-- What `try` tells of the messages of its group where its whole text was written: the state of each, by rounds over the
+-- messages and their verdicts alone.
+use Rattle.std.specs.Prelude.{◌≡◌, ℕ, List, Option, Some, None}
+use Rattle.std.specs.Io.KnownBytes.{Consumes, Appends}
+use Rattle.record_grammar.specs.Stream.{records}
+use Rattle.journal_play.specs.Fates.{SaysFates}
+use Rattle.sync_ids.specs.Ids.{group_id_of}
+use Rattle.sync_ids.specs.Values.{GroupValue}
+use Rattle.sync_rules.specs.Clients.{Meaning}
+use Rattle.sync_top.specs.declared.status.Status.{Status}
+use Rattle.sync_top.specs.declared.status.Status.TheVariants as status
+use Rattle.sync_top.specs.Flow.{Flow}
+use Rattle.sync_top.specs.Run.{ReadsWhole}
+use Rattle.sync_top.specs.Words.{Asked}
+use Rattle.sync_top.specs.Words.Asked.{Usage, Try, Records}
+
+-- the input was read to its end, and the output got a text that says the state of each message which the records of the
+-- bytes read bring to the group, whose client has this kind
+pub record TellsStates (clients : Meaning) (kind : ℕ) (def : GroupValue) (input out : Flow) : Type 0 where
+  pub read : List ℕ
+  pub text : List ℕ
+  pub consumed : Consumes input.before input.after read
+  pub whole : ReadsWhole input read
+  pub says : SaysFates clients kind (group_id_of def) (records read) text
+  pub written : Appends out.before out.after text
+
+-- the client of the name is known, and the states in the group of this descriptor are told
+abbrev pub TellsGroup : Meaning → (name descriptor : List ℕ) → Option ℕ → (input out : Flow) → Type 0
+TellsGroup clients name descriptor None input out = ⊥
+TellsGroup clients name descriptor (Some kind) input out =
+    TellsStates clients kind (record { name = name; major = 0; descriptor = descriptor }) input out
+
+-- `try` tells the states where it answers that all was done or that the input is no stream of records
+abbrev pub TellsWhole : Meaning → Asked → (input out : Flow) → Status → Type 0
+TellsWhole clients (Try name descriptor) input out status.Done = TellsGroup clients name descriptor (clients.kind_of name 0) input out
+TellsWhole clients (Try name descriptor) input out status.BadStream = TellsGroup clients name descriptor (clients.kind_of name 0) input out
+TellsWhole clients words input out given = Unit {0}
