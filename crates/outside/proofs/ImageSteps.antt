@@ -3,7 +3,7 @@ use Rattle.std.proofs.Common.{◌≡◌, ℕ, ◌+◌, ◌<◌, ◌≤◌, Bool,
 use Rattle.std.specs.Prelude.{if◌then◌else◌}
 use Rattle.std.proofs.lemmas.List.{map-append, take_more, take_all}
 use Rattle.outside.specs.declared.call.Call.{Call}
-use Rattle.outside.specs.MemDisk.{Change, wrote, wrote_not, cut, cut_not, synced, dialled, sent, change_of, Kept, kept, after_wrote, after_wrote_not}
+use Rattle.outside.specs.MemDisk.{Change, wrote, wrote_not, cut, cut_not, synced, dialled, sent, answered, hosted, change_of, Kept, kept, after_wrote, after_wrote_not}
 use Rattle.outside.specs.MemImage.{same_file, one_changed, one_after, now_changed, now_after, is_sync_of}
 
 pub one_after-append : (file : ℕ) (k : Kept) (calls more : List Change) → one_after file k (calls ++ more) ≡ one_after file (one_after file k calls) more
@@ -48,6 +48,8 @@ sync_settles file k (cut _ _) e = cc
 sync_settles file k (cut_not _ _) e = cc
 sync_settles file k (dialled _) e = cc
 sync_settles file k (sent _ _) e = cc
+sync_settles file k (answered _ _) e = cc
+sync_settles file k hosted e = cc
 
 pub settles_at : (file : ℕ) (bytes : List ℕ) (calls : List Call) (i : ℕ) (call : Call) → i < length calls → call ≡ get_or calls i call → is_sync_of file (change_of call) ≡ true
     → one_after file (kept bytes) (map change_of (take (i + 1) calls)) ≡ kept (one_after file (kept bytes) (map change_of (take (i + 1) calls))).file.now
@@ -75,6 +77,8 @@ now_of_changed file k (cut_not other n) = now_same (same_file other file) _ k re
 now_of_changed file k (synced other) = now_same (same_file other file) (kept k.file.now) k refl
 now_of_changed file k (dialled _) = refl
 now_of_changed file k (sent _ _) = refl
+now_of_changed file k (answered _ _) = refl
+now_of_changed file k hosted = refl
 
 pub now_of_after : (file : ℕ) (k : Kept) (calls : List Change) → (one_after file k calls).file.now ≡ now_after file k.file.now calls
 now_of_after file k [] = refl

@@ -7,7 +7,7 @@ use Rattle.outside.specs.declared.call.Call.{Call}
 use Rattle.outside.specs.declared.pick.Pick.TheVariants as pick
 use Rattle.outside.specs.Files.{Two, File, IsFileImage, IsImage, is_written}
 use Rattle.outside.specs.Images.{image_synced}
-use Rattle.outside.specs.MemDisk.{Change, wrote, wrote_not, cut, cut_not, synced, dialled, sent, Kept, kept, changed, kept_after, both_kept, files_of, disk_files, MemDiskValue, change_of, fresh}
+use Rattle.outside.specs.MemDisk.{Change, wrote, wrote_not, cut, cut_not, synced, dialled, sent, answered, hosted, Kept, kept, changed, kept_after, both_kept, files_of, disk_files, MemDiskValue, change_of, fresh}
 use Rattle.outside.specs.MemTold.{IsSound, start_sound}
 use Rattle.outside.specs.MemImage.{one_changed, one_after, PickOf, IsFilled, left_at, Pictures}
 
@@ -49,6 +49,8 @@ first_changed two (synced zero) = refl
 first_changed two (synced (suc _)) = refl
 first_changed two (dialled _) = refl
 first_changed two (sent _ _) = refl
+first_changed two (answered _ _) = refl
+first_changed two hosted = refl
 
 pub second_changed : (two : Two Kept) (c : Change) → (changed two c).second ≡ one_changed 1 two.second c
 second_changed two (wrote zero at bytes) = refl
@@ -63,6 +65,8 @@ second_changed two (synced zero) = refl
 second_changed two (synced (suc _)) = refl
 second_changed two (dialled _) = refl
 second_changed two (sent _ _) = refl
+second_changed two (answered _ _) = refl
+second_changed two hosted = refl
 
 pub first_after : (two : Two Kept) (calls : List Change) → (kept_after two calls).first ≡ one_after 0 two.first calls
 first_after two [] = refl

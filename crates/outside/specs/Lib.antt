@@ -13,3 +13,6 @@ pub mod MemTold
 pub mod MemImage
 pub mod Steps
 pub mod Frames
+pub mod Script
+pub mod MemHost
+pub mod HostTold

@@ -1,14 +1,18 @@
 -- A disk in memory as the list of all calls that changed it, from the two files at its begin on.
-use Rattle.std.specs.Prelude.{◌≡◌, ◌⊎◌, ℕ, ◌-◌, ◌≤◌, min, true, false, List, [], ◌∷◌, ◌++◌, length, take, replicate, Option, Result, MatchResult}
+use Rattle.std.specs.Prelude.{◌≡◌, ◌⊎◌, ℕ, ◌-◌, ◌≤◌, min, true, false, List, [], ◌∷◌, ◌++◌, length, take, replicate, map, Vec, Option, Result, MatchResult}
 use Rattle.std.specs.Option.{option_to_list}
+use Rattle.std.specs.declared.alloc.Global.{Global}
 use Rattle.outside.specs.declared.call.Call.{Call}
 use Rattle.outside.specs.declared.call.Call.TheVariants as code
+use Rattle.outside.specs.declared.reply.Reply.{Reply as KeptReply}
+use Rattle.outside.specs.declared.reply.Reply.TheVariants as kept_as
 use Rattle.outside.specs.Faults.{one_more, is_listed}
 use Rattle.outside.specs.Files.{Two, File, file_of, with_file, settled}
 use Rattle.outside.specs.Disk.{after_write, after_cut, overwritten}
-use Rattle.outside.specs.Links.{Link, with_sent}
+use Rattle.outside.specs.Links.{Link, Reply, got, idle, ended, Answered, changed_at, with_sent}
 
--- a call that changed something: a write or a cut of a file, one that failed, a sync, a dial, bytes sent on a link
+-- a call that changed something: a write or a cut of a file, one that failed, a sync, a dial, bytes sent on a link, an
+-- answer of a link; or a host was made over the disk
 pub data Change : Type 0 where
   wrote : ℕ → ℕ → List ℕ → Change
   wrote_not : ℕ → ℕ → List ℕ → Change
@@ -17,6 +21,13 @@ pub data Change : Type 0 where
   synced : ℕ → Change
   dialled : List ℕ → Change
   sent : ℕ → List ℕ → Change
+  answered : ℕ → Answered → Change
+  hosted : Change
+
+abbrev pub reply_of : KeptReply → Reply
+reply_of (kept_as.Got bytes) = got bytes.items
+reply_of kept_as.Idle = idle
+reply_of kept_as.Ended = ended
 
 abbrev pub change_of : Call → Change
 change_of (code.Wrote file at bytes) = wrote file at bytes.items
@@ -26,6 +37,8 @@ change_of (code.CutNot file len) = cut_not file len
 change_of (code.Synced file) = synced file
 change_of (code.Dialled spec) = dialled spec.items
 change_of (code.Sent link bytes) = sent link bytes.items
+change_of (code.Answered link failures room reply) = answered link (record { failures = failures; room = room; reply = reply_of reply })
+change_of code.Hosted = hosted
 
 abbrev pub two_of : {A : Type 0} → A → A → Two A
 two_of a b = record { first = a; second = b }
@@ -68,6 +81,8 @@ changed two (cut_not file n) =
 changed two (synced file) = with_file two file (kept (file_of two file).file.now)
 changed two (dialled _) = two
 changed two (sent _ _) = two
+changed two (answered _ _) = two
+changed two hosted = two
 
 -- both files after these calls
 abbrev pub kept_after : Two Kept → List Change → Two Kept
@@ -84,7 +99,7 @@ files_of two = record { first = two.first.file; second = two.second.file }
 abbrev pub bytes_of : Two Kept → Two (List ℕ)
 bytes_of two = record { first = two.first.file.now; second = two.second.file.now }
 
--- the links after these calls
+-- the links after these calls; a host begins with none
 abbrev pub link_changed : List Link → Change → List Link
 link_changed links (wrote _ _ _) = links
 link_changed links (wrote_not _ _ _) = links
@@ -93,10 +108,28 @@ link_changed links (cut_not _ _) = links
 link_changed links (synced _) = links
 link_changed links (dialled spec) = links ++ record { spec = spec; sent = [] } ∷ []
 link_changed links (sent link bytes) = with_sent link bytes links
+link_changed links (answered _ _) = links
+link_changed links hosted = []
 
 abbrev pub links_after : List Link → List Change → List Link
 links_after links [] = links
 links_after links (c ∷ calls) = links_after (link_changed links c) calls
+
+-- what each link has answered after these calls
+abbrev pub answers_changed : List (List Answered) → Change → List (List Answered)
+answers_changed heard (wrote _ _ _) = heard
+answers_changed heard (wrote_not _ _ _) = heard
+answers_changed heard (cut _ _) = heard
+answers_changed heard (cut_not _ _) = heard
+answers_changed heard (synced _) = heard
+answers_changed heard (dialled _) = heard ++ [] ∷ []
+answers_changed heard (sent _ _) = heard
+answers_changed heard (answered link answer) = changed_at link (λ answers. answers ++ answer ∷ []) heard
+answers_changed heard hosted = []
+
+abbrev pub answers_after : List (List Answered) → List Change → List (List Answered)
+answers_after heard [] = heard
+answers_after heard (c ∷ calls) = answers_after (answers_changed heard c) calls
 
 -- A disk in memory: its files at the begin, what changed them since, how many calls of a disk were made, which are to
 -- fail, how many failed, and how many of these for want of memory.
@@ -107,6 +140,14 @@ pub record MemDiskValue : Type 0 where
   pub failing : List ℕ
   pub faults : ℕ
   pub starved : ℕ
+
+-- a disk with a call more
+abbrev pub with_call : Change → MemDiskValue → MemDiskValue
+with_call call disk = record disk { calls = disk.calls ++ call ∷ [] }
+
+-- the bytes of several vectors
+abbrev pub bytes_each : List (Vec ℕ Global) → List (List ℕ)
+bytes_each vectors = map (λ v. v.items) vectors
 
 -- both files now
 abbrev pub disk_files : MemDiskValue → Two Kept

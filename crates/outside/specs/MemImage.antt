@@ -4,7 +4,7 @@ use Rattle.outside.specs.declared.pick.Pick.{Pick}
 use Rattle.outside.specs.declared.pick.Pick.TheVariants as pick
 use Rattle.outside.specs.Files.{Two, File, is_written}
 use Rattle.outside.specs.Disk.{overwritten, after_cut}
-use Rattle.outside.specs.MemDisk.{Change, wrote, wrote_not, cut, cut_not, synced, dialled, sent, Kept, kept, after_wrote, after_wrote_not, MemDiskValue, fresh}
+use Rattle.outside.specs.MemDisk.{Change, wrote, wrote_not, cut, cut_not, synced, dialled, sent, answered, hosted, Kept, kept, after_wrote, after_wrote_not, MemDiskValue, fresh}
 
 -- two numbers name one file
 abbrev pub same_file : ℕ → ℕ → Bool
@@ -22,6 +22,8 @@ one_changed file k (cut_not other n) = if same_file other file then (record { fi
 one_changed file k (synced other) = if same_file other file then kept k.file.now else k
 one_changed file k (dialled _) = k
 one_changed file k (sent _ _) = k
+one_changed file k (answered _ _) = k
+one_changed file k hosted = k
 
 abbrev pub one_after : ℕ → Kept → List Change → Kept
 one_after file k [] = k
@@ -36,6 +38,8 @@ now_changed file now (cut_not _ _) = now
 now_changed file now (synced _) = now
 now_changed file now (dialled _) = now
 now_changed file now (sent _ _) = now
+now_changed file now (answered _ _) = now
+now_changed file now hosted = now
 
 abbrev pub now_after : ℕ → List ℕ → List Change → List ℕ
 now_after file now [] = now
@@ -50,6 +54,8 @@ is_sync_of file (cut _ _) = false
 is_sync_of file (cut_not _ _) = false
 is_sync_of file (dialled _) = false
 is_sync_of file (sent _ _) = false
+is_sync_of file (answered _ _) = false
+is_sync_of file hosted = false
 
 -- a place as it was at the last sync, or this byte where it is not synced
 abbrev pub left_at : ℕ → File → ℕ → ℕ

@@ -8,7 +8,7 @@ use Rattle.outside.specs.Disk.{after_write, after_cut, overwritten}
 use Rattle.outside.specs.Images.{image_wrote, image_unwritten, image_cut, image_uncut, settled_image, padded_le}
 use Rattle.outside.specs.Links.{Links, Link, HeardOn, sent_of, no_links}
 use Rattle.outside.specs.Outside.{Outside, Moment, IsNow}
-use Rattle.outside.specs.MemDisk.{MemDiskValue, Change, wrote, wrote_not, cut, cut_not, synced, dialled, sent, Kept, kept, changed, kept_after, both_kept, files_of, after_wrote, after_wrote_not, link_changed, links_after}
+use Rattle.outside.specs.MemDisk.{MemDiskValue, Change, wrote, wrote_not, cut, cut_not, synced, dialled, sent, answered, hosted, Kept, kept, changed, kept_after, both_kept, files_of, after_wrote, after_wrote_not, link_changed, links_after}
 
 -- ---- what is kept is sound: the bytes as they read, the bytes at the last sync and the bytes of all writes are images
 
@@ -80,6 +80,8 @@ changed_sound two (cut_not file n) s = sound_with two file _ s (cut_not_sound (f
 changed_sound two (synced file) s = sound_with two file _ s (kept_sound (file_of two file).file.now)
 changed_sound two (dialled _) s = s
 changed_sound two (sent _ _) s = s
+changed_sound two (answered _ _) s = s
+changed_sound two hosted s = s
 
 pub after_sound : (two : Two Kept) (calls : List Change) → BothSound two → BothSound (kept_after two calls)
 after_sound two [] s = s

@@ -1,5 +1,7 @@
 //! The calls that changed a disk or a host in memory.
 
+use crate::Reply;
+
 /// A call that changed something. A disk in memory keeps all of them, so that it can tell what was
 /// possible at each moment, and what a crash may leave.
 #[derive(Drop)]
@@ -18,4 +20,8 @@ pub enum Call {
     Dialled(Vec<u8>),
     /// Bytes went out on a link.
     Sent(u8, Vec<u8>),
+    /// A link answered: how many of its calls failed since the answer before, and the room there was.
+    Answered(u8, u64, usize, Reply),
+    /// A host was made over the disk; it has no links.
+    Hosted,
 }

@@ -2,31 +2,40 @@
 //! memory that meet them.
 #![tactic(auto)]
 
+mod answer;
 mod call;
+mod clock;
 mod counts;
 mod disk;
 mod failed;
+mod failing;
 mod host;
 mod image;
 mod input;
 mod mem_disk;
+mod mem_host;
 mod mem_sink;
 mod mem_source;
 mod output;
 mod pick;
 mod replay;
+mod reply;
+mod script;
 mod stream;
 
+pub use answer::Answer;
 pub use call::Call;
 pub use disk::{Disk, Place};
 pub use failed::Failed;
 pub use host::{Heard, Host};
 pub use input::{InputFault, read_input};
 pub use mem_disk::MemDisk;
+pub use mem_host::MemHost;
 pub use mem_sink::MemSink;
 pub use mem_source::MemSource;
 pub use output::write_all;
 pub use pick::Pick;
+pub use reply::Reply;
 pub use stream::{Sink, Source};
 
 #[cfg(test)]

@@ -3,11 +3,11 @@ ghost use Rattle.std.specs.Prelude.{◌≡◌, ◌<◌, ◌≤◌, [], ◌++◌,
 ghost use Rattle.outside.specs.Faults.{is_listed, one_more};
 ghost use Rattle.outside.specs.Files.{file_of, with_file, IsImage};
 ghost use Rattle.outside.specs.Disk.{Reads, overwritten};
-ghost use Rattle.outside.specs.MemDisk.{two_of, fresh, disk_files, files_of, bytes_of, wrote, wrote_not, cut, cut_not, synced, Makes};
+ghost use Rattle.outside.specs.MemDisk.{two_of, fresh, disk_files, files_of, bytes_of, wrote, wrote_not, cut, cut_not, synced, dialled, sent as bytes_sent, answered, hosted, reply_of, with_call, bytes_each, Makes};
 ghost use Rattle.outside.specs.MemImage.{Pictures};
 
 use crate::image::image_of;
-use crate::{Call, Disk, Failed, Pick};
+use crate::{Call, Disk, Failed, Pick, Reply};
 use std::alloc::{AllocError, Global};
 use std::marker::Model;
 
@@ -253,6 +253,71 @@ impl MemDisk {
         ensures err { OnErr result (self.new ≡ self.old) }
     {
         self.calls.push(Call::Synced(file))?;
+        Ok(())
+    }
+}
+
+// What a host over this disk keeps among the calls.
+impl MemDisk {
+    // A host was made, which has no links.
+    pub(crate) fn keep_hosted(&mut self) -> Result<(), AllocError>
+        ensures ok { OnOk result (self.new ≡ with_call hosted self.old) }
+        ensures err { OnErr result (self.new ≡ self.old) }
+    {
+        self.calls.push(Call::Hosted)?;
+        Ok(())
+    }
+
+    // A link was made, and nothing was sent on it.
+    pub(crate) fn keep_dial(
+        &mut self,
+        spec: &[u8],
+        sent: &mut Vec<Vec<u8>>,
+    ) -> Result<(), AllocError>
+        ensures ok { OnOk result (self.new ≡ with_call (dialled spec.now) self.old) }
+        ensures sent { OnOk result (bytes_each sent.new.items ≡ bytes_each sent.old.items ++ [] ∷ []) }
+        ensures err { OnErr result (self.new ≡ self.old) }
+        ensures same { OnErr result (sent.new.items ≡ sent.old.items) }
+    {
+        let kept = Vec::from_slice(self.alloc, spec)?;
+        self.calls.reserve(1)?;
+        sent.push(Vec::new(self.alloc))?;
+        note(&mut self.calls, Call::Dialled(kept));
+        Ok(())
+    }
+
+    // Bytes were sent on a link.
+    pub(crate) fn keep_send(
+        &mut self,
+        link: u8,
+        bytes: &[u8],
+        sent: &mut Vec<u8>,
+    ) -> Result<(), AllocError>
+        ensures ok { OnOk result (self.new ≡ with_call (bytes_sent link bytes.now) self.old) }
+        ensures sent { OnOk result (sent.new.items ≡ sent.old.items ++ bytes.now) }
+        ensures err { OnErr result (self.new ≡ self.old) }
+        ensures same { OnErr result (sent.new.items ≡ sent.old.items) }
+    {
+        let copy = Vec::from_slice(self.alloc, bytes)?;
+        self.calls.reserve(1)?;
+        sent.extend_from_slice(bytes)?;
+        note(&mut self.calls, Call::Sent(link, copy));
+        Ok(())
+    }
+
+    // A link answered a buffer of so many bytes, after so many failures.
+    pub(crate) fn keep_answer(
+        &mut self,
+        link: u8,
+        failures: u64,
+        room: usize,
+        reply: Reply,
+    ) -> Result<(), AllocError>
+        ensures ok { OnOk result (self.new ≡ with_call (answered link (record { failures = failures; room = room; reply = reply_of reply })) self.old) }
+        ensures err { OnErr result (self.new ≡ self.old) }
+    {
+        self.calls
+            .push(Call::Answered(link, failures, room, reply))?;
         Ok(())
     }
 }

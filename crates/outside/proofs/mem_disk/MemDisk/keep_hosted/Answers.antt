@@ -1,0 +1,9 @@
+use Rattle.std.proofs.Common.{refl}
+use Rattle.outside.specs.MemDisk.{two_of, both_kept}
+use Rattle.outside.proofs.MemSteps.{kept_step}
+use Rattle.outside.proofs.mem_disk.MemDisk.keep_hosted.Goals as goal
+
+pub invariant_of-self-2 : goal.invariant_of-self-2
+invariant_of-self-2 c =
+    let s = c.self.inside in
+    kept_step (both_kept (two_of s.start0.items s.start1.items)) s.calls.items _ _ _ _ c.in_ok-push.ensures.items refl c.self.invariant
