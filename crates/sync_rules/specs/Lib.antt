@@ -11,3 +11,4 @@ pub mod Scans
 pub mod Hearing
 pub mod PeerLaws
 pub mod Views
+pub mod Output
