@@ -12,3 +12,4 @@ pub mod WorkLaws
 pub mod HearLaws
 pub mod RowLaws
 pub mod PeerFacts
+pub mod Outputs

@@ -67,7 +67,7 @@ abbrev pub nonce_record : Option Id → List Record
 nonce_record None = []
 nonce_record (Some nonce) = record_kind.Priority nonce ∷ []
 
--- what a session begins with: the one version 0, and its nonce (BSP, "Session setup")
+-- what a session begins with: the one version 0, and its nonce (BSP, "Records")
 abbrev pub first_records : Session → List Record
 first_records s = record_kind.Versions (0 ∷ []) ∷ nonce_record s.nonce
 

@@ -5,6 +5,7 @@ ghost use Rattle.sync_rules.specs.Clients.{Meaning};
 ghost use Rattle.sync_rules.specs.Facts.{Extends, entries_of, facts};
 ghost use Rattle.sync_rules.specs.Laws.{BringsOnce, Decides, EndsOnce, HasOrigin, HasOwnOrigin, IsInOrder, IsKeptBy, JudgesOnce};
 ghost use Rattle.sync_rules.specs.Legal.{Legal};
+ghost use Rattle.sync_rules.specs.Output.{GoesOnFrom, sent, SendsTheOpen};
 ghost use Rattle.sync_rules.specs.PeerLaws.{AskedLaw, CutLaw, ExpiryLaw, NoExpiryLaw, OwedLaw, SeenLaw, TriesLaw, WantedLaw};
 ghost use Rattle.sync_rules.specs.Rounds.{bad, good, Graph};
 ghost use Rattle.sync_rules.specs.Steps.{IsSettled};
@@ -41,6 +42,18 @@ pub fn settled()
 /// Prefix: each prefix of a legal journal is legal.
 pub fn prefix()
     ensures { (clients : Meaning) (j before : List (List Entry)) → Extends j before → Legal clients j → Legal clients before }
+{}
+
+/// Output: in a legal journal each id that an output acknowledges is held, and each id that it sends or offers is Delivered
+/// and in a group Shared with the session's contact at that place.
+pub fn output()
+    ensures { (clients : Meaning) (j : List (List Entry)) → Legal clients j → SendsTheOpen j }
+{}
+
+/// Sent: the list of the records that a session sends only grows where a legal journal extends another.
+pub fn sent_grows()
+    ensures { (clients : Meaning) (j before : List (List Entry)) (session : ℕ) → Extends j before → Legal clients j
+        → GoesOnFrom (sent j session) (sent before session) }
 {}
 
 /// Seen: a contact has a message exactly where there is an Arrive, Again or Seen entry of it on a session with the contact.
