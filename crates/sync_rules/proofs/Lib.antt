@@ -13,3 +13,5 @@ pub mod HearLaws
 pub mod RowLaws
 pub mod PeerFacts
 pub mod Outputs
+pub mod Levels
+pub mod PlainLaws

@@ -12,3 +12,4 @@ pub mod Hearing
 pub mod PeerLaws
 pub mod Views
 pub mod Output
+pub mod Plain

@@ -9,6 +9,7 @@ ghost use Rattle.sync_rules.specs.Output.{GoesOnFrom, sent, SendsTheOpen};
 ghost use Rattle.sync_rules.specs.PeerLaws.{AskedLaw, CutLaw, ExpiryLaw, NoExpiryLaw, OwedLaw, SeenLaw, TriesLaw, WantedLaw};
 ghost use Rattle.sync_rules.specs.Rounds.{bad, good, Graph};
 ghost use Rattle.sync_rules.specs.Steps.{IsSettled};
+ghost use Rattle.sync_rules.specs.Views.{KnowsShown};
 ghost use Rattle.sync_rules.specs.declared.entries.Entry.{Entry};
 
 /// Once: in a legal journal each id has at most one Author or Arrive entry, at most one Judged entry, and at most one of
@@ -54,6 +55,11 @@ pub fn output()
 pub fn sent_grows()
     ensures { (clients : Meaning) (j before : List (List Entry)) (session : ℕ) → Extends j before → Legal clients j
         → GoesOnFrom (sent j session) (sent before session) }
+{}
+
+/// Shown: in a legal journal each group that is not Invisible to some contact is known.
+pub fn shown()
+    ensures { (clients : Meaning) (j : List (List Entry)) → Legal clients j → KnowsShown (facts j) }
 {}
 
 /// Seen: a contact has a message exactly where there is an Arrive, Again or Seen entry of it on a session with the contact.
