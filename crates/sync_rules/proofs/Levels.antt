@@ -109,7 +109,7 @@ all_among f shown (b ∷ bs) = ap (λ t. cond t (all_entries (knows_level f) bs)
 pub knows_shown : (j : List (List Entry)) → (all_entries (knows_level (facts j)) j ≡ true) ↔ KnowsShown (facts j)
 knows_shown j = (
   λ test contact group seen.
-    known_among (facts j) contact group seen level.Invisible j test (λ none. absurd (false≢true (sym none)))
-    (ap is_invisible (level_found contact group j) ∙ seen),
+      known_among (facts j) contact group seen level.Invisible j test (λ none. absurd (false≢true (sym none)))
+      (ap is_invisible (level_found contact group j) ∙ seen),
   λ shown. all_among (facts j) shown j,
 )

@@ -83,6 +83,12 @@ same_conds : {A : Type 0} (a : Bool) (x : A) → x ≡ cond a x x
 same_conds true x = refl
 same_conds false x = refl
 
+drop-all : {A : Type 0} (i : ℕ) (xs : List A) → length xs ≤ i → drop i xs ≡ []
+drop-all zero [] end = refl
+drop-all (suc i) [] end = refl
+drop-all zero (x ∷ xs) end = absurd (omega arith)
+drop-all (suc i) (x ∷ xs) end = drop-all i xs (omega (arith, end))
+
 -- the law of one more entry, of a whole row
 pub row_step : (f : Facts) (contact : ℕ) (id : Id) (e : Entry) → row_at (after f e).rows contact id ≡ row_then contact id f (row_at f.rows contact id) e
 row_step f contact id (entry.Arrive s m) = row_at_change f.rows contact (contact_of f.sessions s) id (message_id_of m) row_heard
@@ -143,6 +149,12 @@ row_goes_on f es k e contact id was now within at before is =
     is
     ∙ (ap (λ (r : Row). row_then contact id (after_all f (take k es)) r e) before
     ∙ sym (ap (λ (g : Facts). row_at g.rows contact id) (entries_more f es k e within at) ∙ row_step (after_all f (take k es)) contact id e))
+
+-- at the end of a loop that pushes what each element gives, all was pushed
+pub pushed_all : {A B : Type 0} (F : List A → List B) (xs : List A) (i : ℕ) (pushed whole : List B) → length xs ≤ i → F [] ≡ []
+    → pushed ++ F (drop i xs) ≡ whole → pushed ≡ whole
+pushed_all F xs i pushed whole end none is =
+    sym (append-nil pushed) ∙ (ap (λ t. pushed ++ t) (sym (ap F (drop-all i xs end) ∙ none)) ∙ is)
 
 -- ---- held messages
 

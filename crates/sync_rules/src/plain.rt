@@ -67,11 +67,7 @@ fn find_session_in(j: &[Batch], number: u32) -> Option<&Session>
 }
 
 #[tactic(auto, using(crate::proofs::PlainLaws::session_found))]
-fn session_before<'a>(
-    earlier: &'a [Batch],
-    before: &'a [Entry],
-    number: u32,
-) -> Option<&'a Session>
+fn session_before<'a>(earlier: &'a [Batch], before: &'a [Entry], number: u32) -> Option<&'a Session>
     ensures { option_copied result ≡ session_at (after_all (facts earlier.now) before.now).sessions number }
 {
     match find_session_in(earlier, number) {
@@ -552,10 +548,20 @@ fn want_one(
         Entry::Arrive(_, message) => without_held(alloc, lines.as_slice(), &id_of(message)),
         Entry::Offered(session, id) => {
             let is_held = is_held_before(earlier, before, id);
-            with_offered(lines, is_held, contact_before(earlier, before, *session), id)
+            with_offered(
+                lines,
+                is_held,
+                contact_before(earlier, before, *session),
+                id,
+            )
         }
         Entry::Out(session, _, what) => {
-            want_out(alloc, lines, contact_before(earlier, before, *session), what)
+            want_out(
+                alloc,
+                lines,
+                contact_before(earlier, before, *session),
+                what,
+            )
         }
         _ => Ok(lines),
     }
@@ -619,13 +625,7 @@ fn shared_message<C: Clients>(
     }
     match judge_in(alloc, j, clients, message)? {
         Judgement::Refuse => Ok(None),
-        Judgement::Accept { share, .. } => {
-            if share {
-                Ok(Some(id))
-            } else {
-                Ok(None)
-            }
-        }
+        Judgement::Accept { share, .. } => { if share { Ok(Some(id)) } else { Ok(None) } }
     }
 }
 
@@ -688,7 +688,14 @@ fn are_levels_known(j: &[Batch], entries: &[Entry]) -> bool
     entries.iter().all(|entry| is_level_known(j, entry))
 }
 
+// Whether each group that is not Invisible to some contact is known.
 fn knows_levels(j: &[Batch]) -> bool
+    ensures { (result ≡ true) ↔ KnowsShown (facts j.now) }
+{
+    are_all_known(j)
+}
+
+fn are_all_known(j: &[Batch]) -> bool
     ensures { result ≡ all_entries (knows_level (facts j.now)) j.now }
 {
     for batch in j {
@@ -884,6 +891,27 @@ fn plain_view<'a>(
 // The greatest number of held messages, and of wanted ids.
 const MOST: usize = 0xffff_ffff;
 
+fn gather<'a, C: Clients>(
+    alloc: Global,
+    batches: &'a [Batch],
+    clients: &C,
+) -> Result<PlainView<'a>, PlainFault>
+    requires { KnowsShown (facts batches.now) }
+    ensures made { IfOk result (λ v. v ≡ (batches.now, shared_ids (C.meaning clients.now) (facts batches.now))) }
+    ensures refused { IsErrOf result PlainFault.UnknownGroup → ⊥ }
+{
+    let Ok(held) = held_lines(alloc, batches) else {
+        return Err(PlainFault::Memory);
+    };
+    let Ok(wanted) = wanted_lines(alloc, batches) else {
+        return Err(PlainFault::Memory);
+    };
+    let Ok(shared) = shared_in(alloc, batches, clients) else {
+        return Err(PlainFault::Memory);
+    };
+    plain_view(batches, held, wanted, shared)
+}
+
 impl<'a> PlainView<'a> {
     /// A view of these batches, by what these clients judge. `UnknownGroup` comes exactly where a group that is not Invisible
     /// to some contact is not known, which is so in no legal journal; else it fails only for want of memory, as which 2^32
@@ -896,19 +924,11 @@ impl<'a> PlainView<'a> {
         ensures made { IfOk result (λ v. v ≡ (batches.now, shared_ids (C.meaning clients.now) (facts batches.now))) }
         ensures unknown { IsErrOf result PlainFault.UnknownGroup ↔ (KnowsShown (facts batches.now) → ⊥) }
     {
-        if !knows_levels(batches) {
-            return Err(PlainFault::UnknownGroup);
+        if knows_levels(batches) {
+            gather(alloc, batches, clients)
+        } else {
+            Err(PlainFault::UnknownGroup)
         }
-        let Ok(held) = held_lines(alloc, batches) else {
-            return Err(PlainFault::Memory);
-        };
-        let Ok(wanted) = wanted_lines(alloc, batches) else {
-            return Err(PlainFault::Memory);
-        };
-        let Ok(shared) = shared_in(alloc, batches, clients) else {
-            return Err(PlainFault::Memory);
-        };
-        plain_view(batches, held, wanted, shared)
     }
 }
 

@@ -6,5 +6,5 @@ use Rattle.sync_rules.proofs.plain.count_wanted.Given as goal
 abbrev pub invariant-loop-line : goal.invariant-loop-line
 invariant-loop-line l = record {
   whole : l.count + length (wanted_in l.contact (drop l.line-index l.lines)) ≡ length (wanted_in l.contact l.lines);
-  within : l.count ≤ l.line-index
+  within : l.count ≤ l.line-index;
 }
