@@ -39,7 +39,7 @@ session_after_all : (f : Facts) (es : List Entry) (n : ℕ) (s : Session) → se
 session_after_all f [] n s e = e
 session_after_all f (x ∷ es) n s e = session_after_all (after f x) es n s (session_after f x n s e)
 
-session_after_batches : (f : Facts) (bs : List (List Entry)) (n : ℕ) (s : Session) → session_at f.sessions n ≡ Some s → session_at (after_batches f bs).sessions n ≡ Some s
+pub session_after_batches : (f : Facts) (bs : List (List Entry)) (n : ℕ) (s : Session) → session_at f.sessions n ≡ Some s → session_at (after_batches f bs).sessions n ≡ Some s
 session_after_batches f [] n s e = e
 session_after_batches f (b ∷ bs) n s e = session_after_batches (after_all f b) bs n s (session_after_all f b n s e)
 

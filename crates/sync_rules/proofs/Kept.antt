@@ -24,6 +24,7 @@ pub record MayArrive (f : Facts) (session : ℕ) (m : MessageValue) : Type 0 whe
   pub known_session : is_some (session_at f.sessions session) ≡ true
 
 abbrev pub Fits : Meaning → Facts → Entry → Type 0
+Fits clients f (entry.Level c g l) = is_some (group_at f.groups g) ≡ true
 Fits clients f (entry.Author m) = IsNew f m
 Fits clients f (entry.Arrive s m) = MayArrive f s m
 Fits clients f (entry.Judged id) = next clients f ≡ Some (entry.Judged id)

@@ -12,3 +12,6 @@ pub mod WorkLaws
 pub mod HearLaws
 pub mod RowLaws
 pub mod PeerFacts
+pub mod Outputs
+pub mod Levels
+pub mod PlainLaws

@@ -289,7 +289,7 @@ same_want : (wanted : Wants) (contact c : ℕ) (g : List Id → List Id) (b : Bo
 same_want wanted contact c g true h = ap (λ (k : ℕ). g (wanted_from wanted k)) (sym (eqb-true contact c h))
 same_want wanted contact c g false h = refl
 
-want_changed : (wanted : Wants) (contact c : ℕ) (g : List Id → List Id)
+pub want_changed : (wanted : Wants) (contact c : ℕ) (g : List Id → List Id)
     → wanted_from (fin_map.insert wanted c (g (wanted_from wanted c))) contact ≡ cond (nat_eq contact c) (g (wanted_from wanted contact)) (wanted_from wanted contact)
 want_changed wanted contact c g = want_put wanted c (g (wanted_from wanted c)) contact ∙ same_want wanted contact c g (nat_eq contact c) refl
 
@@ -303,7 +303,7 @@ found_changed g (e ∷ es) contact none =
       | false ↦ found_changed g es contact none
     ]
 
-want_dropped : (wanted : Wants) (x : Id) (contact : ℕ) → wanted_from (wanted_by_none wanted x) contact ≡ without x (wanted_from wanted contact)
+pub want_dropped : (wanted : Wants) (x : Id) (contact : ℕ) → wanted_from (wanted_by_none wanted x) contact ≡ without x (wanted_from wanted contact)
 want_dropped wanted x contact =
     ap ids_or (fin_map.get-from_entries nat_cmp_total (change_each (without x) (fin_map.entries wanted)) contact)
     ∙ (found_changed (without x) (fin_map.entries wanted) contact refl

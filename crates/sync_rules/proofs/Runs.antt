@@ -99,6 +99,7 @@ fits_settling_entry : (clients : Meaning) (f : Facts) (e : Entry) → next clien
 fits_settling_entry clients f (entry.Judged id) n = n
 fits_settling_entry clients f (entry.Deliver id) n = n
 fits_settling_entry clients f (entry.Invalid id) n = n
+fits_settling_entry clients f (entry.Level c g l) n = absurd (next_is_settling clients f (entry.Level c g l) n)
 fits_settling_entry clients f (entry.Author m) n = absurd (next_is_settling clients f (entry.Author m) n)
 fits_settling_entry clients f (entry.Arrive s m) n = absurd (next_is_settling clients f (entry.Arrive s m) n)
 fits_settling_entry clients f (entry.Out s now what) n = absurd (next_is_settling clients f (entry.Out s now what) n)
@@ -118,7 +119,7 @@ pub allowed_fits : (clients : Meaning) (f : Facts) (b : List Entry) → Allowed 
 allowed_fits clients f [] a = absurd a
 allowed_fits clients f (entry.Contact c ∷ rest) a = fits_alone clients f (entry.Contact c) rest a.0 tt
 allowed_fits clients f (entry.Group def ∷ rest) a = fits_alone clients f (entry.Group def) rest a.0 tt
-allowed_fits clients f (entry.Level c g l ∷ rest) a = fits_alone clients f (entry.Level c g l) rest a.0 tt
+allowed_fits clients f (entry.Level c g l ∷ rest) a = fits_alone clients f (entry.Level c g l) rest a.0 a.3
 allowed_fits clients f (entry.Session s ∷ rest) a = fits_alone clients f (entry.Session s) rest a.0 tt
 allowed_fits clients f (entry.Take s k ∷ rest) a =
     (tt, subst (AllFit clients (after f (entry.Take s k))) (sym a.1.taken_so) (fits_taken clients f s k a.1.read a.1.known_session))

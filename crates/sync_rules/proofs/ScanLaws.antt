@@ -91,7 +91,7 @@ held_after_one f (entry.Author m) id = held_at-append f.held (authored m) id
 held_after_one f (entry.Arrive s m) id = held_at-append f.held (arrived (contact_of f.sessions s) m) id
 held_after_one f _ id = sym (first-none (message_at (held_at f.held id)))
 
-held_after_all : (f : Facts) (es : List Entry) (id : Id)
+pub held_after_all : (f : Facts) (es : List Entry) (id : Id)
     → message_at (held_at (after_all f es).held id) ≡ first_of_two (message_at (held_at f.held id)) (first_message id es)
 held_after_all f [] id = sym (first-none (message_at (held_at f.held id)))
 held_after_all f (e ∷ es) id =

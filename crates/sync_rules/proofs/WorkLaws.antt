@@ -1,6 +1,6 @@
 -- Settling ends: each step leaves fewer messages without a judgement or without an end. And what settling makes of a
 -- journal.
-use Rattle.std.proofs.Common.{◌≡◌, ℕ, ◌+◌, ◌<◌, ◌≤◌, Bool, true, false, not, ◌||◌, List, [], ◌∷◌, ◌++◌, refl, sym, ◌∙◌, ap, subst, arith, Some, append_assoc, append-nil}
+use Rattle.std.proofs.Common.{◌≡◌, ℕ, zero, suc, ◌+◌, ◌<◌, ◌≤◌, Bool, true, false, not, ◌||◌, List, [], ◌∷◌, ◌++◌, length, get_or, set, length-append, refl, sym, ◌∙◌, ap, subst, arith, Some, append_assoc, append-nil}
 use Rattle.std.specs.FinSet as fin_set
 use Rattle.sync_rules.specs.declared.entries.Entry.{Entry}
 use Rattle.sync_rules.specs.declared.entries.Entry.TheVariants as entry
@@ -8,8 +8,8 @@ use Rattle.sync_rules.specs.Clients.{Meaning}
 use Rattle.sync_rules.specs.Lists.{same_id}
 use Rattle.sync_rules.specs.Facts.{Facts, Held, Id, after, after_all, after_batches, nothing, facts}
 use Rattle.sync_rules.specs.Steps.{next, is_ended}
-use Rattle.sync_rules.specs.Legal.{Allowed, IsSettlingBatch, AllSettling, GoesOn, Legal}
-use Rattle.sync_rules.specs.Hearing.{Settles}
+use Rattle.sync_rules.specs.Legal.{Allowed, IsSettling, IsSettlingBatch, AllSettling, GoesOn, Legal}
+use Rattle.sync_rules.specs.Hearing.{Settles, AddsSettling, with_last}
 use Rattle.sync_rules.specs.EntryTests.{judges, ends}
 use Rattle.sync_rules.proofs.Elements.{In, same_id_itself, tally, tally_more, tally_up}
 use Rattle.sync_rules.proofs.StepLaws.{Judges, IsSettlingEntry, first_step_some, told_some, next_is_settling}
@@ -101,6 +101,80 @@ settles_itself clients j = record { more = []; extends = sym (append-nil j); set
 all_settling-append : (clients : Meaning) (f : Facts) (bs cs : List (List Entry)) → AllSettling clients f bs → AllSettling clients (after_batches f bs) cs → AllSettling clients f (bs ++ cs)
 all_settling-append clients f [] cs a b = b
 all_settling-append clients f (x ∷ bs) cs a b = (a.0, all_settling-append clients (after_all f x) bs cs a.1 b)
+
+-- ---- a batch that is filled
+
+with_last-is : (old : List (List Entry)) (b : List Entry) (e : Entry) → with_last (old ++ b ∷ []) e ≡ old ++ (b ++ e ∷ []) ∷ []
+with_last-is [] b e = refl
+with_last-is (x ∷ []) b e = refl
+with_last-is (x ∷ y ∷ old) b e = ap (λ (t : List (List Entry)). x ∷ t) (with_last-is (y ∷ old) b e)
+
+-- the last batch, put back with one more entry
+pub set_last : (bs : List (List Entry)) (i : ℕ) (old new : List Entry) (e : Entry) → i + 1 ≡ length bs → old ≡ get_or bs i old → new ≡ old ++ e ∷ []
+    → set bs i new ≡ with_last bs e
+set_last [] i old new e n at is = absurd (omega arith)
+set_last (b ∷ []) zero old new e n at is = ap (λ (x : List Entry). x ∷ []) (is ∙ ap (λ (x : List Entry). x ++ e ∷ []) at)
+set_last (b ∷ []) (suc i) old new e n at is = absurd (omega arith)
+set_last (b ∷ c ∷ bs) zero old new e n at is = absurd (omega arith)
+set_last (b ∷ c ∷ bs) (suc i) old new e n at is = ap (λ (t : List (List Entry)). b ∷ t) (set_last (c ∷ bs) i old new e (omega (arith, n)) at is)
+
+settling-push : (clients : Meaning) (f : Facts) (es : List Entry) (e : Entry) → IsSettling clients f es → next clients (after_all f es) ≡ Some e → IsSettling clients f (es ++ e ∷ [])
+settling-push clients f [] e s n = (n, tt)
+settling-push clients f (x ∷ es) e s n = (s.0, settling-push clients (after f x) es e s.1 n)
+
+pub adds_one : (clients : Meaning) (j : List (List Entry)) (e : Entry) → next clients (facts j) ≡ Some e → AddsSettling clients 1 j (j ++ (e ∷ []) ∷ [])
+adds_one clients j e n = record { batch = e ∷ []; stands = refl; some = omega arith; few = omega arith; settling = (n, tt) }
+
+pub adds_more : (clients : Meaning) (most : ℕ) (old j : List (List Entry)) (e : Entry) → AddsSettling clients most old j → next clients (facts j) ≡ Some e
+    → AddsSettling clients (most + 1) old (with_last j e)
+adds_more clients most old j e a n =
+    let at : facts j ≡ after_all (facts old) a.batch = ap facts a.stands ∙ facts-push old a.batch in
+    let longer : length (a.batch ++ e ∷ []) ≡ length a.batch + 1 = length-append a.batch (e ∷ []) in
+    let few : length a.batch ≤ most = a.few in
+    record {
+      batch = a.batch ++ e ∷ [];
+      stands = ap (λ (x : List (List Entry)). with_last x e) a.stands ∙ with_last-is old a.batch e;
+      some = omega (arith, longer);
+      few = omega (arith, longer, few);
+      settling = settling-push clients (facts old) a.batch e a.settling (sym (ap (next clients) at) ∙ n);
+    }
+
+pub adds_up_to : (clients : Meaning) (few most : ℕ) (old j : List (List Entry)) → few ≤ most → AddsSettling clients few old j → AddsSettling clients most old j
+adds_up_to clients few most old j le a =
+    let within : length a.batch ≤ few = a.few in
+    record { batch = a.batch; stands = a.stands; some = a.some; few = omega (arith, within); settling = a.settling }
+
+pub adds_settles : (clients : Meaning) (most : ℕ) (old j : List (List Entry)) → most ≤ 256 → AddsSettling clients most old j → Settles clients old j
+adds_settles clients most old j le a =
+    let within : length a.batch ≤ most = a.few in
+    record { more = a.batch ∷ []; extends = a.stands; settling = ((a.some, omega (arith, within), a.settling), tt) }
+
+pub settles_then : (clients : Meaning) (old mid new : List (List Entry)) → Settles clients old mid → Settles clients mid new → Settles clients old new
+settles_then clients old mid new a b =
+    let whole : facts mid ≡ after_batches (facts old) a.more = ap facts a.extends ∙ after_batches-append nothing old a.more in
+    record {
+      more = a.more ++ b.more;
+      extends = b.extends ∙ (ap (λ (x : List (List Entry)). x ++ b.more) a.extends ∙ append_assoc old a.more b.more);
+      settling = all_settling-append clients (facts old) a.more b.more a.settling (subst (λ (f : Facts). AllSettling clients f b.more) whole b.settling);
+    }
+
+less_all : (clients : Meaning) (f : Facts) (es : List Entry) → IsSettling clients f es → work (after_all f es) ≤ work f
+less_all clients f [] s = omega arith
+less_all clients f (e ∷ es) s =
+    let rest : work (after_all (after f e) es) ≤ work (after f e) = less_all clients (after f e) es s.1 in
+    let here : work (after f e) < work f = less_work clients f e s.0 in
+    omega (arith, rest, here)
+
+less_some : (clients : Meaning) (f : Facts) (es : List Entry) → 1 ≤ length es → IsSettling clients f es → work (after_all f es) < work f
+less_some clients f [] one s = absurd (omega arith)
+less_some clients f (e ∷ es) one s =
+    let rest : work (after_all (after f e) es) ≤ work (after f e) = less_all clients (after f e) es s.1 in
+    let here : work (after f e) < work f = less_work clients f e s.0 in
+    omega (arith, rest, here)
+
+pub less_after_batch : (clients : Meaning) (most : ℕ) (old j : List (List Entry)) → AddsSettling clients most old j → work (facts j) < work (facts old)
+less_after_batch clients most old j a =
+    subst (λ (f : Facts). work f < work (facts old)) (sym (ap facts a.stands ∙ facts-push old a.batch)) (less_some clients (facts old) a.batch a.some a.settling)
 
 one_step_batch : (clients : Meaning) (f : Facts) (e : Entry) → next clients f ≡ Some e → IsSettlingBatch clients f (e ∷ [])
 one_step_batch clients f e n = (omega arith, omega arith, (n, tt))

@@ -11,3 +11,5 @@ pub mod Scans
 pub mod Hearing
 pub mod PeerLaws
 pub mod Views
+pub mod Output
+pub mod Plain

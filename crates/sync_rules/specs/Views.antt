@@ -1,10 +1,10 @@
 -- What a session sees of a store: the facts of one journal, and the ids of the held messages whose judgement lets them be
 -- sent on.
-use Rattle.std.specs.Prelude.{◌≡◌, ℕ, suc, ◌<◌, Bool, false, cond, List, [], ◌∷◌, length, Option, Some, None, MatchOption}
+use Rattle.std.specs.Prelude.{◌≡◌, ℕ, suc, ◌<◌, Bool, true, false, cond, List, [], ◌∷◌, length, Option, Some, None, is_some, MatchOption}
 use Rattle.std.specs.List.{slice_get}
 use Rattle.std.specs.Option.{option_map}
 use Rattle.sync_rules.specs.Lists.{same_id}
-use Rattle.sync_rules.specs.Facts.{Facts, Held, Id, held_at, row_at}
+use Rattle.sync_rules.specs.Facts.{Facts, Held, Id, group_at, held_at, is_invisible, level_at, row_at}
 
 pub record Seen : Type 0 where
   pub facts : Facts
@@ -36,3 +36,7 @@ group_in (Some h) = h.message.group
 abbrev pub is_seen_in : Facts → ℕ → Option Held → Bool
 is_seen_in f contact None = false
 is_seen_in f contact (Some h) = (row_at f.rows contact h.id).seen
+
+-- each group that is not Invisible to some contact is known; every legal journal is so
+abbrev pub KnowsShown : Facts → Type 0
+KnowsShown f = (contact : ℕ) (group : Id) → is_invisible (level_at f.levels contact group) ≡ false → is_some (group_at f.groups group) ≡ true

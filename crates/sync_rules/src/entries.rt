@@ -1,6 +1,7 @@
 //! The entries of a journal, and its batches.
-ghost use Rattle.std.specs.Prelude.{◌≡◌, ◌≤◌, ◌↔◌, [], length, IfOk, IsErr};
+ghost use Rattle.std.specs.Prelude.{◌≡◌, ◌≤◌, ◌↔◌, [], ◌∷◌, ◌++◌, length, IfOk, IsErr, OnErr, OnOk};
 
+use std::alloc::AllocError;
 use std::marker::Model;
 use sync_ids::{GroupDef, GroupId, IdList, Message, MessageId, Nonce};
 
@@ -126,6 +127,15 @@ impl Batch {
         ensures some { 1 ≤ length self.now }
     {
         self.entries.as_slice()
+    }
+
+    // One more entry at the end; after an error the batch is as before.
+    pub(crate) fn push(&mut self, entry: Entry) -> Result<(), AllocError>
+        ensures ok { OnOk result (self.new ≡ self.old ++ entry ∷ []) }
+        ensures err { OnErr result (self.new ≡ self.old) }
+    {
+        self.entries.push(entry)?;
+        Ok(())
     }
 
     /// The entries, given back without taking memory.

@@ -1,13 +1,13 @@
 //! A journal that is played without a disk: it takes records and settles after each, by plain scans.
-ghost use Rattle.std.specs.Prelude.{◌≡◌, ◌+◌, ◌≤◌, length, [], ◌∷◌, ◌++◌, true, is_some, IfOk, OnOk, OnErr, List};
+ghost use Rattle.std.specs.Prelude.{◌≡◌, ◌+◌, ◌≤◌, ◌<◌, length, [], ◌∷◌, ◌++◌, true, is_some, Some, IfOk, OnOk, OnErr, List};
 ghost use Rattle.std.specs.Option.{option_to_list};
 ghost use Rattle.sync_ids.specs.declared.records.Record.TheVariants as record_kind;
 ghost use Rattle.sync_rules.specs.Clients.{Meaning};
 ghost use Rattle.sync_rules.specs.Facts.{contact_of, Extends, facts};
-ghost use Rattle.sync_rules.specs.Hearing.{Hears, IsHearing, one_session, Settles, take_batch};
+ghost use Rattle.sync_rules.specs.Hearing.{AddsSettling, Hears, IsHearing, one_session, Settles, take_batch, with_last};
 ghost use Rattle.sync_rules.specs.Legal.{Legal};
 ghost use Rattle.sync_rules.specs.Sessions.{is_welcome, taken_message};
-ghost use Rattle.sync_rules.specs.Steps.{IsSettled, kind_of_def};
+ghost use Rattle.sync_rules.specs.Steps.{IsSettled, kind_of_def, next};
 
 use crate::answers::Clients;
 use crate::entries::{Batch, Entry, Level, Mode, Session};
@@ -15,6 +15,9 @@ use crate::scans::{group_in, held_in, id_of, level_in};
 use crate::steps::next_step_in;
 use std::alloc::{AllocError, Global};
 use sync_ids::{GroupDef, GroupId, Message, group_id};
+
+/// The greatest number of entries in a settling batch.
+pub const MAX_STEPS: usize = 256;
 
 // ---- settling
 
@@ -43,8 +46,41 @@ fn push_batch(j: &mut Vec<Batch>, entries: Vec<Entry>) -> Result<(), AllocError>
     }
 }
 
-/// Settles a list of batches: it is extended by settling batches of one entry until it has no next step. It fails only for
-/// want of memory, and then the steps made before stand.
+// One more entry at the end of the last batch; after an error the journal is as before.
+fn push_to_last(j: &mut Vec<Batch>, entry: Entry) -> Result<(), AllocError>
+    requires { 0 < length j.old.items }
+    ensures ok { OnOk result (j.new.items ≡ with_last j.old.items entry) }
+    ensures err { OnErr result (j.new.items ≡ j.old.items) }
+{
+    let last = j.len() - 1;
+    let batch = &mut j[last];
+    batch.push(entry)
+}
+
+// A settling batch at the end of the journal that begins with this step and goes on while a step is left, to 256 entries. It
+// fails only for want of memory, and then the steps made before stand.
+fn settle_batch<C: Clients>(
+    alloc: Global,
+    j: &mut Vec<Batch>,
+    clients: &C,
+    first: Entry,
+) -> Result<(), AllocError>
+    requires { next (C.meaning clients.now) (facts j.old.items) ≡ Some first }
+    ensures settles { Settles (C.meaning clients.now) j.old.items j.new.items }
+    ensures added { OnOk result (AddsSettling (C.meaning clients.now) 256 j.old.items j.new.items) }
+{
+    push_one(alloc, j, first)?;
+    for count in 1..MAX_STEPS {
+        let Some(step) = next_step_in(alloc, j.as_slice(), clients)? else {
+            return Ok(());
+        };
+        push_to_last(j, step)?;
+    }
+    Ok(())
+}
+
+/// Settles a list of batches: it is extended by settling batches until it has no next step. Each batch is filled to 256
+/// entries while a step is left. It fails only for want of memory, and then the steps made before stand.
 pub fn settle_in<C: Clients>(
     alloc: Global,
     j: &mut Vec<Batch>,
@@ -55,7 +91,7 @@ pub fn settle_in<C: Clients>(
     ensures settled { OnOk result (IsSettled (C.meaning clients.now) (facts j.new.items)) }
 {
     'steps: while let Some(step) = next_step_in(alloc, j.as_slice(), clients)? {
-        push_one(alloc, j, step)?;
+        settle_batch(alloc, j, clients, step)?;
     }
     Ok(())
 }

@@ -5,9 +5,11 @@ ghost use Rattle.sync_rules.specs.Clients.{Meaning};
 ghost use Rattle.sync_rules.specs.Facts.{Extends, entries_of, facts};
 ghost use Rattle.sync_rules.specs.Laws.{BringsOnce, Decides, EndsOnce, HasOrigin, HasOwnOrigin, IsInOrder, IsKeptBy, JudgesOnce};
 ghost use Rattle.sync_rules.specs.Legal.{Legal};
+ghost use Rattle.sync_rules.specs.Output.{GoesOnFrom, sent, SendsTheOpen};
 ghost use Rattle.sync_rules.specs.PeerLaws.{AskedLaw, CutLaw, ExpiryLaw, NoExpiryLaw, OwedLaw, SeenLaw, TriesLaw, WantedLaw};
 ghost use Rattle.sync_rules.specs.Rounds.{bad, good, Graph};
 ghost use Rattle.sync_rules.specs.Steps.{IsSettled};
+ghost use Rattle.sync_rules.specs.Views.{KnowsShown};
 ghost use Rattle.sync_rules.specs.declared.entries.Entry.{Entry};
 
 /// Once: in a legal journal each id has at most one Author or Arrive entry, at most one Judged entry, and at most one of
@@ -41,6 +43,23 @@ pub fn settled()
 /// Prefix: each prefix of a legal journal is legal.
 pub fn prefix()
     ensures { (clients : Meaning) (j before : List (List Entry)) → Extends j before → Legal clients j → Legal clients before }
+{}
+
+/// Output: in a legal journal each id that an output acknowledges is held, and each id that it sends or offers is Delivered
+/// and in a group Shared with the session's contact at that place.
+pub fn output()
+    ensures { (clients : Meaning) (j : List (List Entry)) → Legal clients j → SendsTheOpen j }
+{}
+
+/// Sent: the list of the records that a session sends only grows where a legal journal extends another.
+pub fn sent_grows()
+    ensures { (clients : Meaning) (j before : List (List Entry)) (session : ℕ) → Extends j before → Legal clients j
+        → GoesOnFrom (sent j session) (sent before session) }
+{}
+
+/// Shown: in a legal journal each group that is not Invisible to some contact is known.
+pub fn shown()
+    ensures { (clients : Meaning) (j : List (List Entry)) → Legal clients j → KnowsShown (facts j) }
 {}
 
 /// Seen: a contact has a message exactly where there is an Arrive, Again or Seen entry of it on a session with the contact.

@@ -7,6 +7,7 @@ mod answers;
 mod entries;
 mod hearing;
 pub mod laws;
+mod plain;
 mod scans;
 mod states;
 mod steps;
@@ -14,7 +15,8 @@ mod view;
 
 pub use answers::{Clients, DepFault, DepList, Judgement, MAX_DEPS};
 pub use entries::{Batch, EmptyBatch, Entry, Level, Mode, Out, Session};
-pub use hearing::{begin_session, hear_message, settle_in, take_message};
+pub use hearing::{MAX_STEPS, begin_session, hear_message, settle_in, take_message};
+pub use plain::{PlainFault, PlainView};
 pub use scans::{fate_in, id_of, level_in};
 pub use states::{Fate, Origin, Refused};
 pub use steps::next_step_in;

@@ -117,7 +117,7 @@ fn has_invalid(entries: &[Entry], id: &MessageId) -> bool
     entries.iter().any(|entry| entry_invalidates(entry, id))
 }
 
-fn find_message<'a>(entries: &'a [Entry], id: &MessageId) -> Option<&'a Message>
+pub(crate) fn find_message<'a>(entries: &'a [Entry], id: &MessageId) -> Option<&'a Message>
     ensures { option_copied result ≡ first_message id.now entries.now }
 {
     for entry in entries {

@@ -68,7 +68,7 @@ fn all_served_in(j: &[Batch], group: &GroupId, deps: &[MessageId]) -> bool
 // ---- one message
 
 // What the client of the message's group says of it; Refuse where there is none.
-fn judge_in<C: Clients>(
+pub(crate) fn judge_in<C: Clients>(
     alloc: Global,
     j: &[Batch],
     clients: &C,
