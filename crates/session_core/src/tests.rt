@@ -1,11 +1,463 @@
-//! Tests.
-use crate::keep;
-use sync_ids::Fixed;
+//! What records are taken as and what is due, over the plain view of a list of batches.
+use crate::{due, keep, take, versions_ok};
+use std::alloc::{AllocError, Global};
+use std::test::Fail;
+use sync_ids::{
+    Fixed, GroupDef, GroupId, IdList, Message, MessageId, Record, VersionList, group_id,
+};
+use sync_rules::{
+    Batch, Clients, DepList, Entry, Fate, Judgement, Level, Mode, Out, PlainView, Session, fate_in,
+    id_of, settle_in,
+};
+
+/// A client that accepts all messages, and lets them be sent on or not.
+#[derive(Drop)]
+struct Open {
+    share: bool,
+}
+
+impl Clients for Open {
+    ghost use Rattle.std.specs.Prelude.{[], Some};
+    ghost use Rattle.sync_rules.specs.declared.answers.Judgement.TheVariants as judgement;
+
+    ghost meaning = { λ c. record {
+      kind_of = λ name major. Some 0;
+      verdict = λ kind m. judgement.Accept [] c.share;
+    } };
+
+    fn kind_of(&self, _name: &str, _major: u32) -> Option<u8> {
+        Some(0)
+    }
+
+    fn judge(&self, alloc: Global, _kind: u8, _message: &Message) -> Result<Judgement, AllocError> {
+        match DepList::new(Vec::new(alloc)) {
+            Ok(deps) => Ok(Judgement::Accept {
+                deps,
+                share: self.share,
+            }),
+            Err(_) => unreachable!(),
+        }
+    }
+}
+
+fn def(alloc: Global) -> Result<GroupDef, Fail> {
+    Ok(GroupDef::new(String::from_str(alloc, "note")?, 0, Vec::new(alloc))?)
+}
+
+fn message(alloc: Global, group: GroupId, body: &str) -> Result<Message, Fail> {
+    Ok(Message::new(group, 7, body.as_bytes().to_vec(alloc)?)?)
+}
+
+fn session(number: u32, contact: u8, mode: Mode, latency: u32) -> Session {
+    Session {
+        number,
+        contact,
+        mode,
+        latency,
+        nonce: None,
+    }
+}
+
+/// An id that no message has.
+fn unknown(n: usize) -> MessageId {
+    let mut id = [0; 32];
+    let [a, b, ..] = n.to_le_bytes();
+    id[0] = a;
+    id[1] = b;
+    Fixed(id)
+}
+
+/// Unknown ids of these numbers.
+fn unknown_ids(alloc: Global, start: usize, end: usize) -> Result<IdList<1536>, Fail> {
+    let mut ids = Vec::new(alloc);
+    for n in start..end {
+        ids.push(unknown(n))?;
+    }
+    Ok(IdList::new(ids)?)
+}
+
+fn ids(alloc: Global, ids: &[MessageId]) -> Result<IdList<1536>, Fail> {
+    Ok(IdList::new(ids.to_vec(alloc)?)?)
+}
+
+fn push(alloc: Global, j: &mut Vec<Batch>, entry: Entry) -> Result<(), Fail> {
+    let mut entries = Vec::new(alloc);
+    entries.push(entry)?;
+    j.push(Batch::new(entries)?)?;
+    Ok(())
+}
+
+/// A journal of two contacts and one group.
+fn begin(alloc: Global) -> Result<(Vec<Batch>, GroupId), Fail> {
+    let def = def(alloc)?;
+    let group = group_id(&def);
+    let mut j = Vec::new(alloc);
+    push(alloc, &mut j, Entry::Contact(0))?;
+    push(alloc, &mut j, Entry::Contact(1))?;
+    push(alloc, &mut j, Entry::Group(def))?;
+    Ok((j, group))
+}
+
+// ---- texts of entries and outputs, each id by a letter
+
+type Names<'a> = &'a [(MessageId, char)];
+
+fn add_id(to: &mut String, names: Names<'_>, id: &MessageId) -> Result<(), Fail> {
+    for (named, letter) in names {
+        if named == id {
+            to.push(*letter)?;
+            return Ok(());
+        }
+    }
+    to.push('?')?;
+    Ok(())
+}
+
+fn add_entry(to: &mut String, names: Names<'_>, entry: &Entry) -> Result<(), Fail> {
+    match entry {
+        Entry::Take(..) => to.push_str("T")?,
+        Entry::Arrive(_, message) => {
+            to.push_str(" arrive ")?;
+            add_id(to, names, &id_of(message))?;
+        }
+        Entry::Again(_, id) => {
+            to.push_str(" again ")?;
+            add_id(to, names, id)?;
+        }
+        Entry::Seen(_, id) => {
+            to.push_str(" seen ")?;
+            add_id(to, names, id)?;
+        }
+        Entry::Offered(_, id) => {
+            to.push_str(" offered ")?;
+            add_id(to, names, id)?;
+        }
+        Entry::Asked(_, id) => {
+            to.push_str(" asked ")?;
+            add_id(to, names, id)?;
+        }
+        _ => to.push_str(" other")?,
+    }
+    Ok(())
+}
+
+fn add_ids(to: &mut String, names: Names<'_>, ids: &[MessageId]) -> Result<(), Fail> {
+    for id in ids {
+        add_id(to, names, id)?;
+    }
+    Ok(())
+}
+
+fn add_out(to: &mut String, names: Names<'_>, out: &Out) -> Result<(), Fail> {
+    match out {
+        Out::Acks(ids) => {
+            to.push_str(" acks ")?;
+            add_ids(to, names, ids.as_slice())?;
+        }
+        Out::Requests(ids) => {
+            to.push_str(" requests ")?;
+            add_ids(to, names, ids.as_slice())?;
+        }
+        Out::Offers(ids) => {
+            to.push_str(" offers ")?;
+            add_ids(to, names, ids.as_slice())?;
+        }
+        Out::Send(id) => {
+            to.push_str(" send ")?;
+            add_id(to, names, id)?;
+        }
+    }
+    Ok(())
+}
+
+/// Takes a record on the session, and tells the entries of its batch.
+fn hear(
+    alloc: Global,
+    j: &mut Vec<Batch>,
+    names: Names<'_>,
+    session: &Session,
+    record: Record,
+) -> Result<String, Fail> {
+    let batch = take(
+        alloc,
+        &PlainView::new(alloc, j.as_slice(), &Open { share: true })?,
+        session,
+        0,
+        record,
+    )?;
+    let mut text = String::new(alloc);
+    for entry in batch.entries() {
+        add_entry(&mut text, names, entry)?;
+    }
+    j.push(batch)?;
+    Ok(text)
+}
+
+/// What is due on the session, at most six times, each committed at this time.
+fn speak(
+    alloc: Global,
+    j: &mut Vec<Batch>,
+    names: Names<'_>,
+    session: &Session,
+    now: u64,
+) -> Result<String, Fail> {
+    let mut text = String::new(alloc);
+    for _ in 0..6 {
+        let next = due(
+            alloc,
+            &PlainView::new(alloc, j.as_slice(), &Open { share: false })?,
+            session,
+            now,
+        )?;
+        match next {
+            None => return Ok(text),
+            Some(out) => {
+                add_out(&mut text, names, &out)?;
+                push(alloc, j, Entry::Out(session.number, now, out))?;
+            }
+        }
+    }
+    Ok(text)
+}
+
+// ---- records
 
 #[test]
-fn keeps_the_first_greatest(rt: HostRuntime) {
-    let low = Fixed([1; 16]);
-    let high = Fixed([2; 16]);
+fn takes_each_record(rt: HostRuntime) -> Result<(), Fail> {
+    let alloc = rt.alloc();
+    for level in [Level::Invisible, Level::Visible, Level::Shared] {
+        let shown = level != Level::Invisible;
+        let (mut j, group) = begin(alloc)?;
+        let held = message(alloc, group, "h")?;
+        let seen = message(alloc, group, "s")?;
+        let (h, s, n) = (
+            id_of(&held),
+            id_of(&seen),
+            id_of(&message(alloc, group, "n")?),
+        );
+        let (w, u) = (unknown(1), unknown(2));
+        let names = [(h, 'h'), (s, 's'), (n, 'n'), (w, 'w'), (u, 'u')];
+        let talk = session(0, 0, Mode::Interactive, 1);
+        push(alloc, &mut j, Entry::Session(talk))?;
+        push(alloc, &mut j, Entry::Author(held))?;
+        push(alloc, &mut j, Entry::Author(seen))?;
+        push(alloc, &mut j, Entry::Seen(0, s))?;
+        push(alloc, &mut j, Entry::Offered(0, w))?;
+        push(alloc, &mut j, Entry::Level(0, group, level))?;
+        let versions = VersionList::new([0].to_vec(alloc)?)?;
+        for (record, hidden, open) in [
+            (Record::Versions(versions), "T", "T"),
+            (Record::Priority(Fixed([1; 16])), "T", "T"),
+            (
+                Record::Message(message(alloc, Fixed([9; 32]), "n")?),
+                "T",
+                "T",
+            ),
+            (Record::Ack(ids(alloc, &[h, s, u, h])?), "T", "T seen h"),
+            (
+                Record::Offer(ids(alloc, &[u, h, w, u, h])?),
+                "T offered u",
+                "T offered u again h",
+            ),
+            (
+                Record::Request(ids(alloc, &[s, u, h, s])?),
+                "T",
+                "T asked s asked h",
+            ),
+            (
+                Record::Message(message(alloc, group, "h")?),
+                "T",
+                "T again h",
+            ),
+            (
+                Record::Message(message(alloc, group, "n")?),
+                "T",
+                "T arrive n",
+            ),
+        ] {
+            let want = if shown { open } else { hidden };
+            assert_eq!(rt;
+                hear(alloc, &mut j, &names, &talk, record)?.as_str(),
+                want,
+                "{level:?}"
+            );
+        }
+    }
+    Ok(())
+}
+
+#[test]
+fn takes_lists_of_unknown_ids(rt: HostRuntime) -> Result<(), Fail> {
+    let alloc = rt.alloc();
+    let (mut j, group) = begin(alloc)?;
+    let talk = session(0, 0, Mode::Interactive, 1);
+    push(alloc, &mut j, Entry::Session(talk))?;
+    push(alloc, &mut j, Entry::Level(0, group, Level::Shared))?;
+    let mut equal = Vec::new(alloc);
+    for _ in 0..1536 {
+        equal.push(unknown(1))?;
+    }
+    let stranger = session(1, 9, Mode::Interactive, 1);
+    let names = [(unknown(1), 'u')];
+    let record = Record::Offer(IdList::new(equal)?);
+    assert_eq!(rt;
+        hear(alloc, &mut j, &names, &talk, record)?.as_str(),
+        "T offered u"
+    );
+    let record = Record::Message(message(alloc, group, "m")?);
+    assert_eq!(rt;
+        hear(alloc, &mut j, &names, &stranger, record)?.as_str(),
+        "T"
+    );
+    for (start, end, count) in [(0, 999, 999), (998, 1001, 2), (0, 1536, 1)] {
+        let record = Record::Offer(unknown_ids(alloc, start, end)?);
+        let batch = take(
+            alloc,
+            &PlainView::new(alloc, j.as_slice(), &Open { share: true })?,
+            &talk,
+            0,
+            record,
+        )?;
+        assert_eq!(rt; batch.entries().len(), count, "{start} to {end}");
+        j.push(batch)?;
+    }
+    let next = due(
+        alloc,
+        &PlainView::new(alloc, j.as_slice(), &Open { share: true })?,
+        &talk,
+        0,
+    )?;
+    match next {
+        Some(Out::Requests(ids)) => assert_eq!(rt; ids.as_slice().len(), 1000),
+        _ => assert!(rt; false),
+    }
+    Ok(())
+}
+
+// ---- what is due
+
+#[test]
+fn speaks_in_order(rt: HostRuntime) -> Result<(), Fail> {
+    let alloc = rt.alloc();
+    for (mode, want) in [
+        (Mode::Interactive, " acks h requests u send a offers b"),
+        (Mode::Batch, " acks h send b send a"),
+    ] {
+        let (mut j, group) = begin(alloc)?;
+        let talk = session(0, 0, mode, 1);
+        push(alloc, &mut j, Entry::Session(talk))?;
+        push(alloc, &mut j, Entry::Level(0, group, Level::Shared))?;
+        let mut names = [(unknown(1), 'u'); 4];
+        for (body, place) in [("h", 1), ("b", 3), ("a", 2)] {
+            let post = message(alloc, group, body)?;
+            let id = id_of(&post);
+            names[place % 4] = (id, body.chars().next().unwrap_or('?'));
+            push(alloc, &mut j, Entry::Author(post))?;
+            settle_in(alloc, &mut j, &Open { share: false })?;
+        }
+        push(alloc, &mut j, Entry::Again(0, names[1].0))?;
+        push(alloc, &mut j, Entry::Offered(0, unknown(1)))?;
+        push(alloc, &mut j, Entry::Asked(0, names[2].0))?;
+        assert_eq!(rt; speak(alloc, &mut j, &names, &talk, 0)?.as_str(), want);
+    }
+    Ok(())
+}
+
+#[test]
+fn keeps_an_invisible_group_shut(rt: HostRuntime) -> Result<(), Fail> {
+    let alloc = rt.alloc();
+    let (mut j, group) = begin(alloc)?;
+    let clients = Open { share: true };
+    let from = session(0, 0, Mode::Batch, 1000);
+    push(alloc, &mut j, Entry::Session(from))?;
+    push(alloc, &mut j, Entry::Level(1, group, Level::Visible))?;
+    let m = id_of(&message(alloc, group, "m")?);
+    let names = [(m, 'm')];
+    for (level, taken, said) in [
+        (None, "T", ""),
+        (Some(Level::Visible), "T arrive m", " acks m"),
+    ] {
+        if let Some(level) = level {
+            push(alloc, &mut j, Entry::Level(0, group, level))?;
+        }
+        let record = Record::Message(message(alloc, group, "m")?);
+        assert_eq!(rt; hear(alloc, &mut j, &names, &from, record)?.as_str(), taken);
+        settle_in(alloc, &mut j, &clients)?;
+        assert_eq!(rt; speak(alloc, &mut j, &names, &from, 0)?.as_str(), said);
+    }
+    assert_eq!(rt; fate_in(j.as_slice(), &m), Some(Fate::Delivered));
+    for mode in [Mode::Interactive, Mode::Batch] {
+        let next = due(
+            alloc,
+            &PlainView::new(alloc, j.as_slice(), &clients)?,
+            &session(1, 1, mode, 1000),
+            0,
+        )?;
+        assert!(rt; next.is_none());
+    }
+    Ok(())
+}
+
+#[test]
+fn waits_longer_after_each_try(rt: HostRuntime) -> Result<(), Fail> {
+    let alloc = rt.alloc();
+    let (mut j, group) = begin(alloc)?;
+    let talk = session(0, 0, Mode::Interactive, 30_000);
+    let slow = session(1, 1, Mode::Interactive, u32::MAX);
+    push(alloc, &mut j, Entry::Session(talk))?;
+    push(alloc, &mut j, Entry::Session(slow))?;
+    push(alloc, &mut j, Entry::Level(0, group, Level::Shared))?;
+    push(alloc, &mut j, Entry::Level(1, group, Level::Shared))?;
+    let post = message(alloc, group, "m")?;
+    let m = id_of(&post);
+    let names = [(m, 'm')];
+    push(alloc, &mut j, Entry::Author(post))?;
+    settle_in(alloc, &mut j, &Open { share: false })?;
+    for (now, want) in [
+        (1_000, " offers m"),
+        (60_999, ""),
+        (61_000, " offers m"),
+        (180_999, ""),
+        (181_000, " offers m"),
+        (420_999, ""),
+    ] {
+        assert_eq!(rt;
+            speak(alloc, &mut j, &names, &talk, now)?.as_str(),
+            want,
+            "{now}"
+        );
+    }
+    push(alloc, &mut j, Entry::Asked(0, m))?;
+    for (now, want) in [(200_000, " send m"), (259_999, ""), (260_000, " offers m")] {
+        assert_eq!(rt;
+            speak(alloc, &mut j, &names, &talk, now)?.as_str(),
+            want,
+            "{now}"
+        );
+    }
+    for _ in 0..40 {
+        push(
+            alloc,
+            &mut j,
+            Entry::Out(1, 0, Out::Offers(ids(alloc, &[m])?)),
+        )?;
+    }
+    for (now, want) in [(u64::MAX - 1, ""), (u64::MAX, " offers m")] {
+        assert_eq!(rt;
+            speak(alloc, &mut j, &names, &slow, now)?.starts_with(want),
+            true,
+            "{now}"
+        );
+    }
+    Ok(())
+}
+
+// ---- links
+
+#[test]
+fn judges_links(rt: HostRuntime) -> Result<(), Fail> {
+    let alloc = rt.alloc();
+    let (low, high) = (Fixed([1; 16]), Fixed([2; 16]));
     for (nonces, want) in [
         ([low, high, high], 1),
         ([high, low, high], 0),
@@ -14,4 +466,9 @@ fn keeps_the_first_greatest(rt: HostRuntime) {
     ] {
         assert_eq!(rt; keep(&nonces), want);
     }
+    for (versions, want) in [([0, 1], true), ([1, 0], true), ([1, 2], false)] {
+        let list = VersionList::new(versions.to_vec(alloc)?)?;
+        assert_eq!(rt; versions_ok(&list), want);
+    }
+    Ok(())
 }

@@ -1,5 +1,5 @@
 -- What the posts are seen as, call by call.
-use Rattle.std.proofs.Common.{◌≡◌, ℕ, zero, suc, ◌+◌, ◌<◌, ◌≤◌, Bool, true, false, cond, not, ◌&&◌, ◌||◌, nat_eq, List, [], ◌∷◌, length, map, take, min, slice_get, Option, None, Some, position, MatchOption, refl, sym, ap, ◌∙◌, add-one, arith, is_some}
+use Rattle.std.proofs.Common.{◌≡◌, ℕ, zero, suc, ◌<◌, Bool, true, false, cond, not, ◌&&◌, ◌||◌, nat_eq, List, [], ◌∷◌, length, map, slice_get, Option, None, Some, position, refl, sym, ap, ◌∙◌, add-one, arith, is_some}
 use Rattle.std.specs.Cmp.Lexicographic.{bytes_decides, nat_list_eq_equiv, nat_list_cmp_total, texts_ties, slice_cmp}
 use Rattle.std.specs.Cmp.{IsTotalOrder, nat_cmp_total, unsigned_ties, both_tied}
 use Rattle.std.specs.FinMap as fin_map
@@ -8,12 +8,11 @@ use Rattle.std.specs.Option.{option_map}
 use Rattle.std.specs.Ordering.{nat_cmp, eq_by_cmp}
 use Rattle.std.proofs.lemmas.Cmp.{on_total, then_total}
 use Rattle.std.proofs.lemmas.Iterator.Adapters.{position_from-zero}
-use Rattle.sync_rules.specs.declared.entries.Level.{Level}
 use Rattle.sync_rules.specs.declared.entries.Level.TheVariants as level
 use Rattle.sync_rules.specs.Facts.{Held, Id, Pair, Row, group_at, held_at, is_invisible, level_at, level_or, pair_cmp, row_at, row_or, no_row, wanted_from, ids_or}
 use Rattle.sync_rules.specs.Lists.{same_id, is_among}
 use Rattle.sync_rules.specs.Sessions.{ids_where}
-use Rattle.sync_rules.specs.Views.{IsFound, IsPlace, group_in, is_seen_in, place_of}
+use Rattle.sync_rules.specs.Views.{IsFound, group_in, is_seen_in, place_of}
 use Rattle.session_growth.specs.Posts.{facts_of, held_of, known_of}
 
 -- ---- places

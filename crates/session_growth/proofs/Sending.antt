@@ -1,16 +1,14 @@
 -- What is to be sent and offered of the posts.
-use Rattle.std.proofs.Common.{◌≡◌, ℕ, Bool, true, false, not, cond, ◌&&◌, ◌||◌, nat_eq, nat_le, List, [], ◌∷◌, map, take, slice_get, Option, None, Some, refl, sym, ap, ◌∙◌, inl, inr, arith}
+use Rattle.std.proofs.Common.{◌≡◌, ℕ, Bool, true, false, not, cond, ◌&&◌, ◌||◌, nat_eq, nat_le, List, [], ◌∷◌, map, take, slice_get, None, refl, sym, ap, ◌∙◌, inl, inr, arith}
 use Rattle.std.proofs.lemmas.Bool.Decides.{leb_tells}
 use Rattle.std.specs.Cmp.Lexicographic.{bytes_decides}
-use Rattle.std.specs.FinMap as fin_map
 use Rattle.sync_rules.specs.declared.entries.Level.TheVariants as level
-use Rattle.sync_rules.specs.declared.entries.Mode.{Mode}
 use Rattle.sync_rules.specs.declared.entries.Mode.TheVariants as mode_kind
-use Rattle.sync_rules.specs.Facts.{Held, Id, Row, is_level_shared, level_at, no_row, row_at}
+use Rattle.sync_rules.specs.Facts.{Held, Id, Row, is_level_shared, level_at, row_at}
 use Rattle.sync_rules.specs.Lists.{same_id, is_among}
-use Rattle.sync_rules.specs.Sessions.{first_id, ids_limit, ids_where, is_author, is_ripe, is_sendable, offers_of, owed_to, send_of}
+use Rattle.sync_rules.specs.Sessions.{first_id, ids_limit, is_author, is_ripe, is_sendable, offers_of, owed_to, send_of}
 use Rattle.session_growth.specs.Posts.{facts_of, held_of}
-use Rattle.session_growth.proofs.Seeing.{all_pass, no_row_is, none_passes, none_wanted, shared_with_0}
+use Rattle.session_growth.proofs.Seeing.{all_pass, no_row_is, none_passes, shared_with_0}
 
 fails_last : (a : Bool) → (a && false) ≡ false
 fails_last true = refl

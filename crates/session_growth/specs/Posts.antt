@@ -1,5 +1,5 @@
 -- Messages that were written here, all in one group that is Shared with contact 0, and of which no contact has heard yet.
-use Rattle.std.specs.Prelude.{ℕ, List, [], ◌∷◌, map}
+use Rattle.std.specs.Prelude.{List, [], ◌∷◌, map}
 use Rattle.std.specs.FinMap as fin_map
 use Rattle.sync_rules.specs.declared.entries.Level.TheVariants as level
 use Rattle.sync_rules.specs.declared.states.Origin.TheVariants as origin

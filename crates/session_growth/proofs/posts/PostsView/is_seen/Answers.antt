@@ -1,7 +1,5 @@
-use Rattle.std.proofs.Common.{◌≡◌, ℕ, false, sym, ap, List, map, slice_get, Option, Some, None, refl}
-use Rattle.sync_rules.specs.Facts.{Held, Row}
-use Rattle.sync_rules.specs.Views.{is_seen_in}
-use Rattle.session_growth.specs.Posts.{facts_of, held_of}
+use Rattle.std.proofs.Common.{map, slice_get}
+use Rattle.session_growth.specs.Posts.{held_of}
 use Rattle.session_growth.proofs.Seeing.{unseen}
 use Rattle.session_growth.proofs.posts.PostsView.is_seen.Goals as goal
 

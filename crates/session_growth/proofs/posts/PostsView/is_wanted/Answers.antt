@@ -1,5 +1,4 @@
 use Rattle.std.proofs.Common.{sym, ap}
-use Rattle.sync_rules.specs.Facts.{Id}
 use Rattle.sync_rules.specs.Lists.{is_among}
 use Rattle.session_growth.proofs.Seeing.{none_wanted}
 use Rattle.session_growth.proofs.posts.PostsView.is_wanted.Goals as goal

@@ -1,4 +1,4 @@
-use Rattle.std.proofs.Common.{sym, true, false}
+use Rattle.std.proofs.Common.{true, false}
 use Rattle.session_growth.proofs.Seeing.{level_is, welcome_is}
 use Rattle.session_growth.proofs.posts.PostsView.level.Goals as goal
 

@@ -1,5 +1,5 @@
 use Rattle.std.proofs.Common.{◌≡◌, ◌∙◌, None, [], sym, subst}
-use Rattle.sync_rules.specs.Sessions.{first_id, send_of}
+use Rattle.sync_rules.specs.Sessions.{send_of}
 use Rattle.session_growth.specs.Posts.{facts_of}
 use Rattle.session_growth.proofs.Sending.{first_is, first_sent, none_asked, none_sent}
 use Rattle.session_growth.proofs.posts.PostsView.next_send.Goals as goal
