@@ -36,7 +36,13 @@ fn ask(retry: &mut Retry, count: u32) -> Result<(), AllocError> {
 }
 
 /// Sends messages to a contact while one is due, and counts them.
-fn send(retry: &mut Retry, contact: u8, count: u32, mode: Mode, now: u64) -> Result<u64, AllocError> {
+fn send(
+    retry: &mut Retry,
+    contact: u8,
+    count: u32,
+    mode: Mode,
+    now: u64,
+) -> Result<u64, AllocError> {
     let mut sent = 0u64;
     for _ in 0..u64::MAX {
         let Some(n) = retry.due_message(contact, mode, now) else {
