@@ -1,6 +1,6 @@
 -- What `try` tells of the messages of its group where its whole text was written: the state of each, by rounds over the
 -- messages and their verdicts alone.
-use Rattle.std.specs.Prelude.{◌≡◌, ℕ, List, Option, Some, None}
+use Rattle.std.specs.Prelude.{ℕ, List, Option, Some, None}
 use Rattle.std.specs.Io.KnownBytes.{Consumes, Appends}
 use Rattle.record_grammar.specs.Stream.{records}
 use Rattle.journal_play.specs.Fates.{SaysFates}
@@ -12,7 +12,7 @@ use Rattle.sync_top.specs.declared.status.Status.TheVariants as status
 use Rattle.sync_top.specs.Flow.{Flow}
 use Rattle.sync_top.specs.Run.{ReadsWhole}
 use Rattle.sync_top.specs.Words.{Asked}
-use Rattle.sync_top.specs.Words.Asked.{Usage, Try, Records}
+use Rattle.sync_top.specs.Words.Asked.{Try}
 
 -- the input was read to its end, and the output got a text that says the state of each message which the records of the
 -- bytes read bring to the group, whose client has this kind
