@@ -1,4 +1,5 @@
 //! The bundled clients.
+ghost use Rattle.std.specs.Prelude.{◌≡◌};
 ghost use Rattle.client_basic.specs.Bodies.{bundle_meaning, feed_meaning, note_meaning, thread_meaning};
 
 use crate::bodies::{judge_feed, judge_note, judge_thread};
@@ -25,8 +26,10 @@ pub struct Feed;
 pub struct Bundle;
 
 impl Bundle {
-    /// The three clients.
-    pub fn new() -> Bundle {
+    /// The three clients: what they mean is `bundle_meaning`.
+    pub fn new() -> Bundle
+        ensures { ⟦<Bundle as Clients>⟧.meaning result ≡ bundle_meaning }
+    {
         Bundle
     }
 }
