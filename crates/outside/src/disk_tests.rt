@@ -109,7 +109,7 @@ fn images(rt: HostRuntime) -> Result<(), Fail> {
 }
 
 // A caller that knows its disk by the trait alone.
-fn use_disk<D: Disk>(disk: &mut D) -> Result<u64, Failed> {
+pub fn use_disk<D: Disk>(disk: &mut D) -> Result<u64, Failed> {
     let mut buf = [9u8; 4];
     let n = disk.read_at(1, 0, &mut buf)?;
     disk.write_at(1, 0, &buf[..n])?;

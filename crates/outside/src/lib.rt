@@ -25,6 +25,7 @@ mod stream;
 
 pub use answer::Answer;
 pub use call::Call;
+pub use counts::{LINKS, raise_at};
 pub use disk::{Disk, Place};
 pub use failed::Failed;
 pub use host::{Heard, Host};
@@ -40,6 +41,8 @@ pub use stream::{Sink, Source};
 
 #[cfg(test)]
 mod disk_tests;
+#[cfg(test)]
+mod host_tests;
 #[cfg(test)]
 mod silent_tests;
 #[cfg(test)]
