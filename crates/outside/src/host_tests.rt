@@ -34,6 +34,9 @@ fn linked_host(alloc: Global) -> Result<MemHost, Fail>
     Ok(host)
 }
 
+// What is to be heard: the room that is given, the answer, and the buffer then.
+type Hearing = (usize, Heard, [u8; 4]);
+
 // Hears on link 0 into a buffer of so many bytes.
 fn hear<H: Host>(rt: &impl Abort, host: &mut H, room: usize) -> (Heard, [u8; 4])
     requires { 0 < (H.tells host.old).links.dialled }
@@ -45,35 +48,57 @@ fn hear<H: Host>(rt: &impl Abort, host: &mut H, room: usize) -> (Heard, [u8; 4])
     (heard, buf)
 }
 
+// Hears as often as there are answers expected.
+fn hear_all<H: Host>(rt: &impl Abort, host: &mut H, expected: &[Hearing])
+    requires { 0 < (H.tells host.old).links.dialled }
+{
+    for (room, heard, bytes) in expected {
+        assert_eq!(rt; hear(rt, host, *room), (*heard, *bytes));
+    }
+}
+
+// Adds an answer to the script of link 0.
+fn plan(host: &mut MemHost, answer: Answer) -> Result<(), Fail>
+    ensures { OnOk result (links_of host.new.disk ≡ links_of host.old.disk) }
+{
+    host.script(0, answer)?;
+    Ok(())
+}
+
+fn bytes(alloc: Global, text: &[u8]) -> Result<Answer, Fail> {
+    Ok(Answer::Bytes(Vec::from_slice(alloc, text)?))
+}
+
+// A host with a script of answers of each kind.
+fn scripted_host(alloc: Global) -> Result<MemHost, Fail>
+    ensures { IfOk result (λ h. length (links_of h.disk) ≡ 2) }
+{
+    let mut host = linked_host(alloc)?;
+    plan(&mut host, bytes(alloc, b"abcde")?)?;
+    plan(&mut host, bytes(alloc, b"")?)?;
+    plan(&mut host, Answer::Idle)?;
+    plan(&mut host, Answer::End)?;
+    plan(&mut host, Answer::Fail)?;
+    plan(&mut host, bytes(alloc, b"fghi")?)?;
+    Ok(host)
+}
+
+const HEARINGS: [Hearing; 9] = [
+    (2, Heard::Got(2), *b"ab\0\0"),
+    (1, Heard::Got(1), *b"c\0\0\0"),
+    (4, Heard::Got(2), *b"de\0\0"),
+    (1, Heard::Idle, [0; 4]),
+    (1, Heard::End, [0; 4]),
+    (1, Heard::Failed, [0; 4]),
+    (4, Heard::Got(4), *b"fghi"),
+    (4, Heard::End, [0; 4]),
+    (1, Heard::End, [0; 4]),
+];
+
 #[test]
 fn scripts(rt: HostRuntime) -> Result<(), Fail> {
-    let alloc = rt.alloc();
-    let mut host = linked_host(alloc)?;
-    let answers = [
-        Answer::Bytes(Vec::from_slice(alloc, b"abcde")?),
-        Answer::Bytes(Vec::new(alloc)),
-        Answer::Idle,
-        Answer::End,
-        Answer::Fail,
-        Answer::Bytes(Vec::from_slice(alloc, b"fghi")?),
-    ];
-    for answer in answers {
-        host.script(0, answer)?;
-    }
-    let table = [
-        (2, Heard::Got(2), *b"ab\0\0"),
-        (1, Heard::Got(1), *b"c\0\0\0"),
-        (4, Heard::Got(2), *b"de\0\0"),
-        (1, Heard::Idle, [0; 4]),
-        (1, Heard::End, [0; 4]),
-        (1, Heard::Failed, [0; 4]),
-        (4, Heard::Got(4), *b"fghi"),
-        (4, Heard::End, [0; 4]),
-        (1, Heard::End, [0; 4]),
-    ];
-    for (room, heard, bytes) in table {
-        assert_eq!(rt; hear(&rt, &mut host, room), (heard, bytes), "room {room}");
-    }
+    let mut host = scripted_host(rt.alloc())?;
+    hear_all(&rt, &mut host, HEARINGS.as_slice());
     assert_eq!(rt; host.starved(), 0);
     Ok(())
 }
