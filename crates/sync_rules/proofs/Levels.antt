@@ -1,5 +1,5 @@
 -- Which groups are known: each that is not Invisible to some contact.
-use Rattle.std.proofs.Common.{◌≡◌, ◌↔◌, ℕ, Bool, true, false, cond, ◌&&◌, ◌||◌, nat_eq, eqb-true, List, [], ◌∷◌, refl, sym, ◌∙◌, ap, subst, is_some}
+use Rattle.std.proofs.Common.{◌≡◌, ◌↔◌, ℕ, Bool, true, false, cond, ◌&&◌, ◌||◌, nat_eq, eqb-true, List, [], ◌∷◌, refl, sym, ◌∙◌, ap, subst, Option, Some, None, is_some}
 use Rattle.std.specs.List.{list_all}
 use Rattle.std.proofs.lemmas.Bool.{and_parts, false≢true}
 use Rattle.sync_rules.specs.declared.entries.Entry.{Entry}

@@ -1,5 +1,5 @@
 -- What a plain view finds by going over entries is what the facts say.
-use Rattle.std.proofs.Common.{◌≡◌, ℕ, zero, suc, ◌+◌, ◌*◌, ◌-◌, ◌^◌, ◌<◌, ◌≤◌, min, Bool, true, false, not, cond, ◌&&◌, ◌||◌, nat_eq, eqb-true, List, [], ◌∷◌, ◌++◌, take, drop, get_or, length, add-one, refl, sym, ◌∙◌, ap, subst, arith, append_assoc, append-nil, Option, Some, None, is_some}
+use Rattle.std.proofs.Common.{◌≡◌, ℕ, zero, suc, ◌+◌, ◌*◌, ◌-◌, ◌^◌, ◌<◌, ◌≤◌, min, Bool, true, false, not, cond, ◌&&◌, ◌||◌, nat_eq, nat_le, eqb-true, List, [], ◌∷◌, ◌++◌, take, drop, get_or, length, add-one, refl, sym, ◌∙◌, ap, subst, arith, append_assoc, append-nil, Option, Some, None, is_some}
 use Rattle.std.proofs.Math.Nat.{pow-suc, mul_assoc}
 use Rattle.std.specs.FinMap as fin_map
 use Rattle.std.specs.List.{slice_get}
@@ -9,6 +9,7 @@ use Rattle.sync_ids.specs.Ids.{message_id_of}
 use Rattle.sync_rules.specs.declared.entries.Entry.{Entry}
 use Rattle.sync_rules.specs.declared.entries.Entry.TheVariants as entry
 use Rattle.sync_rules.specs.declared.entries.Mode.{Mode}
+use Rattle.sync_rules.specs.declared.entries.Out.{Out}
 use Rattle.sync_rules.specs.declared.entries.Out.TheVariants as out
 use Rattle.sync_rules.specs.declared.entries.Session.{Session}
 use Rattle.sync_rules.specs.declared.plain.HeldLine.{HeldLine}
@@ -19,7 +20,7 @@ use Rattle.sync_rules.specs.Facts.{Facts, Held, Id, Row, after, after_all, after
 use Rattle.sync_rules.specs.Sessions.{may_share, ids_where, shared_ids, is_welcome, first_id, owed_to, offers_of, send_of}
 use Rattle.sync_rules.specs.Steps.{answer_of}
 use Rattle.sync_rules.specs.Scans.{first_of_two, first_message, message_at, message_of}
-use Rattle.sync_rules.specs.Plain.{session_named, first_session, first_session_in, row_then, line_of, lines_of, line_by, lines_in, lines_among, line_ids, line_place, is_line_owed, is_line_offered, is_line_sent, wanted_in, WantsAre, lines_without, want_then, shared_by, shared_of, shared_among}
+use Rattle.sync_rules.specs.Plain.{session_named, first_session, first_session_in, row_then, row_then_out, line_of, lines_of, line_by, lines_in, lines_among, line_ids, line_place, is_line_owed, is_line_offered, is_line_sent, wanted_in, WantsAre, lines_without, want_then, shared_by, shared_of, shared_among}
 use Rattle.sync_rules.specs.Views.{KnowsShown, place_of, IsPlace, IsFound, group_in, is_seen_in}
 use Rattle.sync_rules.proofs.Elements.{same_id-is, same_id_swap}
 use Rattle.sync_rules.proofs.Kept.{after_all-append}

@@ -1,10 +1,10 @@
 -- Each turn of the loop puts one next step into the batch.
-use Rattle.std.proofs.Common.{◌≡◌, ◌+◌, List, Some, sym, ◌∙◌, ap, subst}
+use Rattle.std.proofs.Common.{◌≡◌, ◌+◌, ◌≤◌, List, Some, sym, ◌∙◌, ap, subst, arith}
 use Rattle.sync_rules.specs.declared.entries.Entry.{Entry}
 use Rattle.sync_rules.specs.Facts.{facts}
 use Rattle.sync_rules.specs.Hearing.{AddsSettling}
 use Rattle.sync_rules.specs.Steps.{next}
-use Rattle.sync_rules.proofs.WorkLaws.{adds_more}
+use Rattle.sync_rules.proofs.WorkLaws.{adds_one, adds_more, adds_up_to, adds_settles}
 use Rattle.sync_rules.proofs.hearing.settle_batch.Goals as goal
 
 pub loop-count-preserved : goal.loop-count-preserved

@@ -1,7 +1,8 @@
 -- Each turn of the loop appends one settling batch.
-use Rattle.std.proofs.Common.{List, sym, ◌∙◌, ap}
+use Rattle.std.proofs.Common.{◌≡◌, ◌<◌, List, Some, sym, ◌∙◌, ap, subst}
 use Rattle.sync_rules.specs.declared.entries.Entry.{Entry}
 use Rattle.sync_rules.specs.Facts.{facts}
+use Rattle.sync_rules.specs.Hearing.{Settles}
 use Rattle.sync_rules.specs.Steps.{next}
 use Rattle.sync_rules.proofs.WorkLaws.{settles_then, settles_legal, less_after_batch}
 use Rattle.sync_rules.proofs.hearing.settle_in.Goals as goal

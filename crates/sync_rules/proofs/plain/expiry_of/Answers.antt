@@ -1,5 +1,5 @@
 -- The wait doubles, and what is left is the sum that stops at 2^64 - 1.
-use Rattle.std.proofs.Common.{◌*◌, ◌-◌, ◌^◌, min, ◌∙◌, ap}
+use Rattle.std.proofs.Common.{◌≡◌, ◌*◌, ◌-◌, ◌^◌, min, ◌∙◌, ap}
 use Rattle.sync_rules.proofs.PlainLaws.{doubled}
 use Rattle.sync_rules.proofs.plain.expiry_of.Goals as goal
 

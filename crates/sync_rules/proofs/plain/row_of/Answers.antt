@@ -1,5 +1,5 @@
 -- At the beginning no pair has a row; one more batch makes of the row what its entries make of it.
-use Rattle.std.proofs.Common.{List, take, sym, ◌∙◌, ap}
+use Rattle.std.proofs.Common.{◌≡◌, List, take, sym, ◌∙◌, ap, subst}
 use Rattle.sync_rules.specs.declared.entries.Entry.{Entry}
 use Rattle.sync_rules.specs.Facts.{Facts, facts, after_all, row_at}
 use Rattle.sync_rules.proofs.PlainLaws.{no_row_at, batches_more}

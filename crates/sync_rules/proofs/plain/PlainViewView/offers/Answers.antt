@@ -1,7 +1,9 @@
 -- The ids of the lines are those of the held messages.
-use Rattle.std.proofs.Common.{◌≡◌, List, take, ◌∙◌, ap, subst}
+use Rattle.std.proofs.Common.{◌≡◌, ◌<◌, ℕ, List, Option, length, take, sym, ◌∙◌, ap, subst, arith}
+use Rattle.std.specs.List.{slice_get}
 use Rattle.sync_rules.specs.declared.entries.Entry.{Entry}
 use Rattle.sync_rules.specs.Facts.{Id, facts}
+use Rattle.sync_rules.specs.declared.plain.HeldLine.{HeldLine}
 use Rattle.sync_rules.specs.Plain.{line_ids, is_line_offered}
 use Rattle.sync_rules.specs.Sessions.{offers_of}
 use Rattle.sync_rules.proofs.PlainLaws.{offers_is}
