@@ -1,6 +1,7 @@
 //! What records are taken as and what is due, over the plain view of a list of batches.
 use crate::{due, keep, take, versions_ok};
 use std::alloc::{AllocError, Global};
+use std::process::Abort;
 use std::test::Fail;
 use sync_ids::{
     Fixed, GroupDef, GroupId, IdList, Message, MessageId, Record, VersionList, group_id,
@@ -87,6 +88,10 @@ fn push(alloc: Global, j: &mut Vec<Batch>, entry: Entry) -> Result<(), Fail> {
     Ok(())
 }
 
+fn start(alloc: Global, j: &mut Vec<Batch>, session: &Session) -> Result<(), Fail> {
+    push(alloc, j, Entry::Session(*session))
+}
+
 /// A journal of two contacts and one group.
 fn begin(alloc: Global) -> Result<(Vec<Batch>, GroupId), Fail> {
     let def = def(alloc)?;
@@ -170,21 +175,41 @@ fn add_out(to: &mut String, names: Names<'_>, out: &Out) -> Result<(), Fail> {
     Ok(())
 }
 
+/// The batch that a record makes on the session.
+fn batch_of(alloc: Global, j: &[Batch], session: &Session, heard: Record) -> Result<Batch, Fail> {
+    let view = PlainView::new(alloc, j, &Open { share: true })?;
+    Ok(take(alloc, &view, session, 0, heard)?)
+}
+
+/// What is due on the session.
+fn next_out(
+    alloc: Global,
+    j: &[Batch],
+    share: bool,
+    session: &Session,
+    now: u64,
+) -> Result<Option<Out>, Fail> {
+    let view = PlainView::new(alloc, j, &Open { share })?;
+    Ok(due(alloc, &view, session, now)?)
+}
+
+/// How many ids an output requests.
+fn requested(out: Option<Out>) -> usize {
+    match out {
+        Some(Out::Requests(ids)) => ids.as_slice().len(),
+        _ => 0,
+    }
+}
+
 /// Takes a record on the session, and tells the entries of its batch.
 fn hear(
     alloc: Global,
     j: &mut Vec<Batch>,
     names: Names<'_>,
     session: &Session,
-    record: Record,
+    heard: Record,
 ) -> Result<String, Fail> {
-    let batch = take(
-        alloc,
-        &PlainView::new(alloc, j.as_slice(), &Open { share: true })?,
-        session,
-        0,
-        record,
-    )?;
+    let batch = batch_of(alloc, j.as_slice(), session, heard)?;
     let mut text = String::new(alloc);
     for entry in batch.entries() {
         add_entry(&mut text, names, entry)?;
@@ -203,13 +228,7 @@ fn speak(
 ) -> Result<String, Fail> {
     let mut text = String::new(alloc);
     for _ in 0..6 {
-        let next = due(
-            alloc,
-            &PlainView::new(alloc, j.as_slice(), &Open { share: false })?,
-            session,
-            now,
-        )?;
-        match next {
+        match next_out(alloc, j.as_slice(), false, session, now)? {
             None => return Ok(text),
             Some(out) => {
                 add_out(&mut text, names, &out)?;
@@ -222,66 +241,122 @@ fn speak(
 
 // ---- records
 
+/// The group and the ids that the table of records speaks of.
+#[derive(Drop)]
+struct Scene {
+    group: GroupId,
+    /// A held message.
+    held: MessageId,
+    /// A held message that the contact has seen.
+    seen: MessageId,
+    /// A message that is not held.
+    absent: MessageId,
+    /// An id that is wanted from the contact.
+    wanted: MessageId,
+    /// An id that is not held and not wanted.
+    unknown: MessageId,
+}
+
+/// A record of the table.
+#[derive(Clone, Copy, Debug)]
+enum Heard {
+    Versions,
+    Priority,
+    OtherGroup,
+    Acks,
+    Offers,
+    Requests,
+    Held,
+    Absent,
+}
+
+fn record_of(alloc: Global, scene: &Scene, heard: Heard) -> Result<Record, Fail> {
+    match heard {
+        Heard::Versions => Ok(Record::Versions(VersionList::new([0].to_vec(alloc)?)?)),
+        Heard::Priority => Ok(Record::Priority(Fixed([1; 16]))),
+        Heard::OtherGroup => Ok(Record::Message(message(alloc, Fixed([9; 32]), "n")?)),
+        Heard::Acks => {
+            let list = [scene.held, scene.seen, scene.unknown, scene.held];
+            Ok(Record::Ack(ids(alloc, &list)?))
+        }
+        Heard::Offers => {
+            let list = [
+                scene.unknown,
+                scene.held,
+                scene.wanted,
+                scene.unknown,
+                scene.held,
+            ];
+            Ok(Record::Offer(ids(alloc, &list)?))
+        }
+        Heard::Requests => {
+            let list = [scene.seen, scene.unknown, scene.held, scene.seen];
+            Ok(Record::Request(ids(alloc, &list)?))
+        }
+        Heard::Held => Ok(Record::Message(message(alloc, scene.group, "h")?)),
+        Heard::Absent => Ok(Record::Message(message(alloc, scene.group, "n")?)),
+    }
+}
+
+/// A journal with that scene, whose group has this level for contact 0.
+fn play_scene(alloc: Global, session: &Session, level: Level) -> Result<(Vec<Batch>, Scene), Fail> {
+    let (mut j, group) = begin(alloc)?;
+    let held = message(alloc, group, "h")?;
+    let seen = message(alloc, group, "s")?;
+    let scene = Scene {
+        group,
+        held: id_of(&held),
+        seen: id_of(&seen),
+        absent: id_of(&message(alloc, group, "n")?),
+        wanted: unknown(1),
+        unknown: unknown(2),
+    };
+    start(alloc, &mut j, session)?;
+    push(alloc, &mut j, Entry::Author(held))?;
+    push(alloc, &mut j, Entry::Author(seen))?;
+    push(alloc, &mut j, Entry::Seen(0, scene.seen))?;
+    push(alloc, &mut j, Entry::Offered(0, scene.wanted))?;
+    push(alloc, &mut j, Entry::Level(0, group, level))?;
+    Ok((j, scene))
+}
+
+/// Takes each record of the table, the group having this level for the contact.
+fn take_table(rt: &impl Abort, alloc: Global, level: Level) -> Result<(), Fail> {
+    let talk = session(0, 0, Mode::Interactive, 1);
+    let (mut j, scene) = play_scene(alloc, &talk, level)?;
+    let names = [
+        (scene.held, 'h'),
+        (scene.seen, 's'),
+        (scene.absent, 'n'),
+        (scene.wanted, 'w'),
+        (scene.unknown, 'u'),
+    ];
+    for (heard, hidden, open) in [
+        (Heard::Versions, "T", "T"),
+        (Heard::Priority, "T", "T"),
+        (Heard::OtherGroup, "T", "T"),
+        (Heard::Acks, "T", "T seen h"),
+        (Heard::Offers, "T offered u", "T offered u again h"),
+        (Heard::Requests, "T", "T asked s asked h"),
+        (Heard::Held, "T", "T again h"),
+        (Heard::Absent, "T", "T arrive n"),
+    ] {
+        let want = if level == Level::Invisible {
+            hidden
+        } else {
+            open
+        };
+        let record = record_of(alloc, &scene, heard)?;
+        let told = hear(alloc, &mut j, &names, &talk, record)?;
+        assert_eq!(rt; told.as_str(), want, "{heard:?} at {level:?}");
+    }
+    Ok(())
+}
+
 #[test]
 fn takes_each_record(rt: HostRuntime) -> Result<(), Fail> {
-    let alloc = rt.alloc();
     for level in [Level::Invisible, Level::Visible, Level::Shared] {
-        let shown = level != Level::Invisible;
-        let (mut j, group) = begin(alloc)?;
-        let held = message(alloc, group, "h")?;
-        let seen = message(alloc, group, "s")?;
-        let (h, s, n) = (
-            id_of(&held),
-            id_of(&seen),
-            id_of(&message(alloc, group, "n")?),
-        );
-        let (w, u) = (unknown(1), unknown(2));
-        let names = [(h, 'h'), (s, 's'), (n, 'n'), (w, 'w'), (u, 'u')];
-        let talk = session(0, 0, Mode::Interactive, 1);
-        push(alloc, &mut j, Entry::Session(talk))?;
-        push(alloc, &mut j, Entry::Author(held))?;
-        push(alloc, &mut j, Entry::Author(seen))?;
-        push(alloc, &mut j, Entry::Seen(0, s))?;
-        push(alloc, &mut j, Entry::Offered(0, w))?;
-        push(alloc, &mut j, Entry::Level(0, group, level))?;
-        let versions = VersionList::new([0].to_vec(alloc)?)?;
-        for (record, hidden, open) in [
-            (Record::Versions(versions), "T", "T"),
-            (Record::Priority(Fixed([1; 16])), "T", "T"),
-            (
-                Record::Message(message(alloc, Fixed([9; 32]), "n")?),
-                "T",
-                "T",
-            ),
-            (Record::Ack(ids(alloc, &[h, s, u, h])?), "T", "T seen h"),
-            (
-                Record::Offer(ids(alloc, &[u, h, w, u, h])?),
-                "T offered u",
-                "T offered u again h",
-            ),
-            (
-                Record::Request(ids(alloc, &[s, u, h, s])?),
-                "T",
-                "T asked s asked h",
-            ),
-            (
-                Record::Message(message(alloc, group, "h")?),
-                "T",
-                "T again h",
-            ),
-            (
-                Record::Message(message(alloc, group, "n")?),
-                "T",
-                "T arrive n",
-            ),
-        ] {
-            let want = if shown { open } else { hidden };
-            assert_eq!(rt;
-                hear(alloc, &mut j, &names, &talk, record)?.as_str(),
-                want,
-                "{level:?}"
-            );
-        }
+        take_table(&rt, rt.alloc(), level)?;
     }
     Ok(())
 }
@@ -291,7 +366,7 @@ fn takes_lists_of_unknown_ids(rt: HostRuntime) -> Result<(), Fail> {
     let alloc = rt.alloc();
     let (mut j, group) = begin(alloc)?;
     let talk = session(0, 0, Mode::Interactive, 1);
-    push(alloc, &mut j, Entry::Session(talk))?;
+    start(alloc, &mut j, &talk)?;
     push(alloc, &mut j, Entry::Level(0, group, Level::Shared))?;
     let mut equal = Vec::new(alloc);
     for _ in 0..1536 {
@@ -309,28 +384,14 @@ fn takes_lists_of_unknown_ids(rt: HostRuntime) -> Result<(), Fail> {
         hear(alloc, &mut j, &names, &stranger, record)?.as_str(),
         "T"
     );
-    for (start, end, count) in [(0, 999, 999), (998, 1001, 2), (0, 1536, 1)] {
-        let record = Record::Offer(unknown_ids(alloc, start, end)?);
-        let batch = take(
-            alloc,
-            &PlainView::new(alloc, j.as_slice(), &Open { share: true })?,
-            &talk,
-            0,
-            record,
-        )?;
-        assert_eq!(rt; batch.entries().len(), count, "{start} to {end}");
+    for (first, end, count) in [(0, 999, 999), (998, 1001, 2), (0, 1536, 1)] {
+        let record = Record::Offer(unknown_ids(alloc, first, end)?);
+        let batch = batch_of(alloc, j.as_slice(), &talk, record)?;
+        assert_eq!(rt; batch.entries().len(), count, "{first} to {end}");
         j.push(batch)?;
     }
-    let next = due(
-        alloc,
-        &PlainView::new(alloc, j.as_slice(), &Open { share: true })?,
-        &talk,
-        0,
-    )?;
-    match next {
-        Some(Out::Requests(ids)) => assert_eq!(rt; ids.as_slice().len(), 1000),
-        _ => assert!(rt; false),
-    }
+    let next = next_out(alloc, j.as_slice(), true, &talk, 0)?;
+    assert_eq!(rt; requested(next), 1000);
     Ok(())
 }
 
@@ -345,7 +406,7 @@ fn speaks_in_order(rt: HostRuntime) -> Result<(), Fail> {
     ] {
         let (mut j, group) = begin(alloc)?;
         let talk = session(0, 0, mode, 1);
-        push(alloc, &mut j, Entry::Session(talk))?;
+        start(alloc, &mut j, &talk)?;
         push(alloc, &mut j, Entry::Level(0, group, Level::Shared))?;
         let mut names = [(unknown(1), 'u'); 4];
         for (body, place) in [("h", 1), ("b", 3), ("a", 2)] {
@@ -369,7 +430,7 @@ fn keeps_an_invisible_group_shut(rt: HostRuntime) -> Result<(), Fail> {
     let (mut j, group) = begin(alloc)?;
     let clients = Open { share: true };
     let from = session(0, 0, Mode::Batch, 1000);
-    push(alloc, &mut j, Entry::Session(from))?;
+    start(alloc, &mut j, &from)?;
     push(alloc, &mut j, Entry::Level(1, group, Level::Visible))?;
     let m = id_of(&message(alloc, group, "m")?);
     let names = [(m, 'm')];
@@ -387,13 +448,8 @@ fn keeps_an_invisible_group_shut(rt: HostRuntime) -> Result<(), Fail> {
     }
     assert_eq!(rt; fate_in(j.as_slice(), &m), Some(Fate::Delivered));
     for mode in [Mode::Interactive, Mode::Batch] {
-        let next = due(
-            alloc,
-            &PlainView::new(alloc, j.as_slice(), &clients)?,
-            &session(1, 1, mode, 1000),
-            0,
-        )?;
-        assert!(rt; next.is_none());
+        let to = session(1, 1, mode, 1000);
+        assert!(rt; next_out(alloc, j.as_slice(), true, &to, 0)?.is_none());
     }
     Ok(())
 }
@@ -404,8 +460,8 @@ fn waits_longer_after_each_try(rt: HostRuntime) -> Result<(), Fail> {
     let (mut j, group) = begin(alloc)?;
     let talk = session(0, 0, Mode::Interactive, 30_000);
     let slow = session(1, 1, Mode::Interactive, u32::MAX);
-    push(alloc, &mut j, Entry::Session(talk))?;
-    push(alloc, &mut j, Entry::Session(slow))?;
+    start(alloc, &mut j, &talk)?;
+    start(alloc, &mut j, &slow)?;
     push(alloc, &mut j, Entry::Level(0, group, Level::Shared))?;
     push(alloc, &mut j, Entry::Level(1, group, Level::Shared))?;
     let post = message(alloc, group, "m")?;
