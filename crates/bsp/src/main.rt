@@ -2,35 +2,47 @@
 #![tactic(auto)]
 
 mod arguments;
-mod file_host;
-mod streams;
 
 use client_basic::Bundle;
-use file_host::FileHost;
+use outside::Sink;
+use outside_real::{FileHost, StdSink, StdSource};
+use std::alloc::Global;
 use std::process::ExitCode;
-use streams::{StdSink, StdSource};
 use sync_top::{Outcome, Status, run};
 
 fn main(rt: HostRuntime) -> ExitCode {
     let alloc = rt.alloc();
     let mut err = StdSink::new(rt.stderr());
-    let status = match arguments::words(&rt, alloc) {
-        Ok(words) => {
-            let mut input = StdSource::new(rt.stdin());
-            let mut out = StdSink::new(rt.stdout());
-            let mut host = FileHost::new();
-            run(
-                alloc,
-                words.as_slice(),
-                &mut host,
-                &mut input,
-                &mut out,
-                &mut err,
-                &Bundle::new(),
-            )
-        }
-        Err(_) => sync_top::report(alloc, Outcome::Memory, &mut err),
+    let Ok(words) = arguments::words(&rt, alloc) else {
+        return out_of_memory(alloc, &mut err);
     };
+    let Ok(mut host) = FileHost::new(rt, folder_in(words.as_slice())) else {
+        return out_of_memory(alloc, &mut err);
+    };
+    let mut input = StdSource::new(rt.stdin());
+    let mut out = StdSink::new(rt.stdout());
+    let status = run(
+        alloc,
+        words.as_slice(),
+        &mut host,
+        &mut input,
+        &mut out,
+        &mut err,
+        &Bundle::new(),
+    );
+    ExitCode::from(status as u8)
+}
+
+// The folder of the command's store: the word after the command.
+fn folder_in(words: &[String]) -> &str {
+    match words.get(1) {
+        Some(word) => word.as_str(),
+        None => "",
+    }
+}
+
+fn out_of_memory<S: Sink>(alloc: Global, err: &mut S) -> ExitCode {
+    let status = sync_top::report(alloc, Outcome::Memory, err);
     ExitCode::from(status as u8)
 }
 

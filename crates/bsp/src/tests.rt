@@ -1,9 +1,8 @@
 // The command `try` through `run`. Expected ids are those of an independent program.
 ghost use Rattle.std.specs.Prelude.{◌<◌, ◌≤◌, length};
 
-use crate::file_host::FileHost;
 use client_basic::Bundle;
-use outside::{MemSink, MemSource};
+use outside::{MemDisk, MemHost, MemSink, MemSource};
 use std::alloc::{AllocError, Global};
 use std::process::Abort;
 use std::test::Fail;
@@ -81,7 +80,8 @@ fn play_for<C: Clients>(
     let mut source = MemSource::new(input.to_vec(alloc)?, failing[0].to_vec(alloc)?);
     let mut out = MemSink::new(alloc, failing[1].to_vec(alloc)?);
     let mut err = MemSink::new(alloc, failing[2].to_vec(alloc)?);
-    let mut host = FileHost::new();
+    let disk = MemDisk::new(alloc, Vec::new(alloc), Vec::new(alloc))?;
+    let mut host = MemHost::new(alloc, disk)?;
     let status = run(
         alloc,
         texts.as_slice(),

@@ -69,7 +69,7 @@ impl<W: Write + Drop> Sink for StdSink<W> {
 }
 
 // A read that no signal interrupted; none where it failed.
-fn read_once<R: Read>(from: &mut R, buf: &mut [u8]) -> Option<usize>
+pub(crate) fn read_once<R: Read>(from: &mut R, buf: &mut [u8]) -> Option<usize>
     ensures { IfSome result (λ n. n ≤ length buf.new) }
 {
     for _ in 0..u64::MAX {
@@ -83,7 +83,7 @@ fn read_once<R: Read>(from: &mut R, buf: &mut [u8]) -> Option<usize>
 }
 
 // A write that no signal interrupted; none where it failed or took nothing.
-fn write_once<W: Write>(to: &mut W, bytes: &[u8]) -> Option<usize>
+pub(crate) fn write_once<W: Write>(to: &mut W, bytes: &[u8]) -> Option<usize>
     ensures bound { IfSome result (λ n. n ≤ length bytes.now) }
     ensures some { 0 < length bytes.now → IfSome result (λ n. 0 < n) }
 {
