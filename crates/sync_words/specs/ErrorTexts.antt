@@ -1,0 +1,93 @@
+-- The lines of the error output.
+use Rattle.std.specs.Prelude.{ℕ, Bool, true, false, List, [], ◌∷◌, ◌++◌, codes}
+use Rattle.std.specs.Fmt.{decimal}
+use Rattle.sync_rules.specs.declared.states.Refused.{Refused}
+use Rattle.sync_rules.specs.declared.states.Refused.TheVariants as refused
+use Rattle.sync_words.specs.declared.error_lines.LinkText.{LinkText}
+use Rattle.sync_words.specs.declared.error_lines.LinkText.TheVariants as link
+use Rattle.sync_words.specs.declared.error_lines.ReasonText.{ReasonText}
+use Rattle.sync_words.specs.declared.error_lines.ReasonText.TheVariants as reason
+use Rattle.sync_words.specs.declared.status.Status.{Status}
+use Rattle.sync_words.specs.declared.status.Status.TheVariants as status
+
+abbrev pub usage_text : ℕ → List ℕ
+usage_text place = codes "usage: word " ++ (decimal place ++ 10 ∷ [])
+
+-- why a command is refused, in words
+abbrev pub refusal : Refused → List ℕ
+refusal refused.UnknownClient = codes "unknown client"
+refusal refused.TooManyContacts = codes "too many contacts"
+refusal refused.GroupExists = codes "group exists"
+refusal refused.TooManyGroups = codes "too many groups"
+refusal refused.UnknownContact = codes "unknown contact"
+refusal refused.UnknownGroup = codes "unknown group"
+refusal refused.EmptyBody = codes "empty body"
+refusal refused.BodyTooLong = codes "body too long"
+refusal refused.AlreadyHeld = codes "already held"
+refusal refused.InvalidPost = codes "invalid post"
+refusal refused.DependencyNotDelivered = codes "dependency not delivered"
+refusal refused.UnknownMessage = codes "unknown message"
+
+abbrev pub refused_text : Refused → List ℕ
+refused_text why = codes "refused: " ++ (refusal why ++ 10 ∷ [])
+
+abbrev pub damaged_text : (file at : ℕ) → List ℕ
+damaged_text file at = codes "damaged: file " ++ (decimal file ++ (codes " at " ++ (decimal at ++ 10 ∷ [])))
+
+-- the statuses whose line says nothing but what they are
+abbrev pub is_plain : Status → Bool
+is_plain status.NoStore = true
+is_plain status.Exists = true
+is_plain status.DiskFault = true
+is_plain status.ReadFault = true
+is_plain status.Full = true
+is_plain status.Memory = true
+is_plain status.WriteFault = true
+is_plain status.TooMuch = true
+is_plain _ = false
+
+abbrev pub plain_text : Status → List ℕ
+plain_text status.NoStore = codes "no store\n"
+plain_text status.Exists = codes "store exists\n"
+plain_text status.DiskFault = codes "disk fault\n"
+plain_text status.ReadFault = codes "read fault\n"
+plain_text status.Full = codes "full\n"
+plain_text status.Memory = codes "out of memory\n"
+plain_text status.WriteFault = codes "write fault\n"
+plain_text status.TooMuch = codes "input too long\n"
+plain_text _ = []
+
+-- why something is no record, in words
+abbrev pub reason_text : ReasonText → List ℕ
+reason_text reason.WrongVersion = codes "wrong version"
+reason_text reason.TooLong = codes "too long"
+reason_text reason.EmptyIds = codes "empty id list"
+reason_text reason.RaggedIds = codes "ragged id list"
+reason_text reason.ShortMessage = codes "short message"
+reason_text reason.BodyTooLong = codes "body too long"
+reason_text reason.BadTimestamp = codes "bad timestamp"
+reason_text reason.BadVersions = codes "bad versions"
+reason_text reason.BadNonce = codes "bad nonce"
+
+abbrev pub bad_record_text : ℕ → ReasonText → List ℕ
+bad_record_text place why = codes "bad record at " ++ (decimal place ++ (codes ": " ++ (reason_text why ++ 10 ∷ [])))
+
+abbrev pub inside_text : ℕ → List ℕ
+inside_text place = codes "ended inside a record at " ++ (decimal place ++ 10 ∷ [])
+
+abbrev pub script_text : ℕ → List ℕ
+script_text line = codes "bad script: line " ++ (decimal line ++ 10 ∷ [])
+
+-- how a link ended
+abbrev pub ending_text : LinkText → List ℕ
+ending_text link.Clean = codes "clean\n"
+ending_text link.Quiet = codes "quiet\n"
+ending_text link.Redundant = codes "redundant\n"
+ending_text link.Unfinished = codes "unfinished\n"
+ending_text (link.Inside place) = inside_text place
+ending_text (link.Bad place why) = bad_record_text place why
+ending_text (link.NoVersion place) = codes "no common version at " ++ (decimal place ++ 10 ∷ [])
+ending_text link.Failed = codes "failed\n"
+
+abbrev pub link_text : ℕ → LinkText → List ℕ
+link_text number ending = codes "link " ++ (decimal number ++ (codes ": " ++ ending_text ending))

@@ -1,0 +1,112 @@
+-- What the words of a command line ask for. Words are counted from 0 and read from left to right.
+use Rattle.std.specs.Prelude.{◌≡◌, ℕ, ◌+◌, Bool, true, false, if◌then◌else◌, List, [], ◌∷◌, map, drop, codes, String, Option, Some, None, Result, Ok, Err}
+use Rattle.std.specs.Str.{bytes_eq}
+use Rattle.std.specs.String.{string_bytes}
+use Rattle.std.specs.declared.alloc.Global.{Global}
+use Rattle.sync_words.specs.declared.command.Command.{Command}
+use Rattle.sync_words.specs.declared.command.Command.TheVariants as command
+use Rattle.sync_words.specs.declared.command.WordsFault.{WordsFault}
+use Rattle.sync_words.specs.declared.command.WordsFault.TheVariants as fault
+use Rattle.sync_words.specs.Words.{name_in, descriptor_in, number_in, id_in, level_in}
+
+-- the words as bytes
+abbrev pub texts : List (String Global) → List (List ℕ)
+texts words = map (λ (word : String Global). string_bytes word) words
+
+-- a command, or the place of the first word that is wrong or too many, or the number of words where one is missing
+pub data Asked : Type 0 where
+  Usage : ℕ → Asked
+  Do : Command → Asked
+
+-- what the words of a command line ask for from a place on
+abbrev pub Rest : Type 0
+Rest = ℕ → List (List ℕ) → Asked
+
+abbrev pub read_or_usage : {V : Type 0} → Option V → (V → Rest) → Rest
+read_or_usage None next place words = Usage place
+read_or_usage (Some value) next place words = next value (place + 1) words
+
+-- the next word is read so, and then come the others
+abbrev pub word_then : {V : Type 0} → (List ℕ → Option V) → (V → Rest) → Rest
+word_then read next place [] = Usage place
+word_then read next place (word ∷ words) = read_or_usage (read word) next place words
+
+-- whether a word is left
+abbrev pub is_left : List (List ℕ) → Bool
+is_left [] = false
+is_left (word ∷ words) = true
+
+-- no word is left
+abbrev pub ends : Command → Rest
+ends asked place [] = Do asked
+ends asked place (word ∷ words) = Usage place
+
+-- ---- the words behind each command's
+
+-- a client's name and a descriptor
+abbrev pub asks_try : Rest
+asks_try = word_then name_in (λ name. word_then descriptor_in (λ descriptor. ends (command.Try name descriptor)))
+
+-- a client's name, a major version and a descriptor
+abbrev pub asks_group : Rest
+asks_group =
+    word_then name_in (λ name. word_then (number_in 4294967295) (λ major. word_then descriptor_in (λ descriptor.
+    ends (command.Group name major descriptor))))
+
+-- a contact, a group and a level
+abbrev pub asks_share : Rest
+asks_share = word_then (number_in 255) (λ contact. word_then id_in (λ group. word_then level_in (λ level. ends (command.Share contact group level))))
+
+-- a group and a time
+abbrev pub asks_post : Rest
+asks_post = word_then id_in (λ group. word_then (number_in 9223372036854775807) (λ timestamp. ends (command.Post group timestamp)))
+
+-- the id of a message
+abbrev pub asks_body : Rest
+asks_body = word_then id_in (λ id. ends (command.Body id))
+
+-- the commands without parts
+abbrev pub plain_in : List ℕ → Option Command
+plain_in word =
+    if bytes_eq word (codes "records") then Some command.Records
+    else if bytes_eq word (codes "init") then Some command.Init
+    else if bytes_eq word (codes "contact") then Some command.Contact
+    else if bytes_eq word (codes "show") then Some command.Show
+    else if bytes_eq word (codes "inbox") then Some command.Inbox
+    else None
+
+abbrev pub ends_or_usage : Option Command → Rest
+ends_or_usage None place words = Usage 0
+ends_or_usage (Some asked) place words = ends asked place words
+
+-- by the first word
+abbrev pub asks_of : List ℕ → Rest
+asks_of word =
+    if bytes_eq word (codes "try") then asks_try
+    else if bytes_eq word (codes "group") then asks_group
+    else if bytes_eq word (codes "share") then asks_share
+    else if bytes_eq word (codes "post") then asks_post
+    else if bytes_eq word (codes "body") then asks_body
+    else ends_or_usage (plain_in word)
+
+-- what all words ask for
+abbrev pub asks : List (List ℕ) → Asked
+asks [] = Usage 0
+asks (word ∷ words) = asks_of word 1 words
+
+-- what was read is what was asked for; memory may be wanting
+abbrev pub IsReadAs : Asked → Result Command WordsFault → Type 0
+IsReadAs asked (Ok read) = asked ≡ Do read
+IsReadAs asked (Err (fault.Usage place)) = asked ≡ Usage place
+IsReadAs asked (Err fault.Memory) = Unit {0}
+
+-- ---- a single word
+
+-- the word at this place was read as this value
+abbrev pub Reads : {V : Type 0} → (List ℕ → Option V) → List (List ℕ) → ℕ → V → Type 0
+Reads {V} read words place value = (next : V → Rest) → word_then read next place (drop place words) ≡ next value (place + 1) (drop (place + 1) words)
+
+-- the word at this place is missing or wrong
+abbrev pub Stops : {V : Type 0} → (List ℕ → Option V) → List (List ℕ) → ℕ → WordsFault → Type 0
+Stops {V} read words place (fault.Usage at) = (next : V → Rest) → word_then read next place (drop place words) ≡ Usage at
+Stops {V} read words place fault.Memory = Unit {0}

@@ -1,0 +1,47 @@
+-- What a single word stands for.
+use Rattle.std.specs.Prelude.{ℕ, Bool, false, ◌&&◌, ◌==◌, not, nat_le, if◌then◌else◌, List, [], ◌∷◌, length, codes, Option, Some, None}
+use Rattle.std.specs.Result.{result_ok}
+use Rattle.std.specs.List.{list_all}
+use Rattle.std.specs.Char.{is_ascii_digit}
+use Rattle.std.specs.Str.{bytes_eq}
+use Rattle.std.specs.Str.Parse.{digits_value}
+use Rattle.hex.specs.Hex.{decode_of, is_hex_digit}
+use Rattle.sync_rules.specs.declared.entries.Level.{Level}
+use Rattle.sync_rules.specs.declared.entries.Level.TheVariants as level
+
+-- a client's name has 1 to 255 bytes
+abbrev pub name_in : List ℕ → Option (List ℕ)
+name_in word = if nat_le 1 (length word) && nat_le (length word) 255 then Some word else None
+
+-- a descriptor has at most 16,384 bytes
+abbrev pub descriptor_in : List ℕ → Option (List ℕ)
+descriptor_in word = if nat_le (length word) 16384 then Some word else None
+
+-- whether a text of digits begins with a zero that others follow
+abbrev pub has_leading_zero : List ℕ → Bool
+has_leading_zero [] = false
+has_leading_zero (digit ∷ []) = false
+has_leading_zero (digit ∷ next ∷ digits) = digit == 48
+
+-- one decimal digit or more
+abbrev pub is_digits : List ℕ → Bool
+is_digits word = not (length word == 0) && list_all is_ascii_digit word
+
+-- digits without a leading zero
+abbrev pub is_number : List ℕ → Bool
+is_number word = is_digits word && not (has_leading_zero word)
+
+-- a number up to a greatest one
+abbrev pub number_in : ℕ → List ℕ → Option ℕ
+number_in most word = if is_number word && nat_le (digits_value 10 word) most then Some (digits_value 10 word) else None
+
+-- an id is 64 hexadecimal digits of either case
+abbrev pub id_in : List ℕ → Option (List ℕ)
+id_in word = if length word == 64 && list_all is_hex_digit word then result_ok (decode_of word) else None
+
+abbrev pub level_in : List ℕ → Option Level
+level_in word =
+    if bytes_eq word (codes "invisible") then Some level.Invisible
+    else if bytes_eq word (codes "visible") then Some level.Visible
+    else if bytes_eq word (codes "shared") then Some level.Shared
+    else None

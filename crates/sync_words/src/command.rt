@@ -1,0 +1,155 @@
+//! The commands and their words.
+ghost use Rattle.std.specs.Prelude.{◌≡◌, drop};
+ghost use Rattle.sync_words.specs.Reading.{asks, asks_of, asks_try, asks_group, asks_share, asks_post, asks_body, ends, IsReadAs, plain_in, texts};
+
+use crate::reading::{descriptor_at, id_at, is_left_at, level_at, name_at, number_at};
+use crate::word::Word;
+use std::alloc::{AllocError, Global};
+use sync_ids::{GroupId, MAX_TIMESTAMP, MessageId};
+use sync_rules::Level;
+
+// The greatest number of a contact.
+const MAX_CONTACT: u64 = 255;
+
+// The greatest major version of a client.
+const MAX_MAJOR: u64 = 4_294_967_295;
+
+/// What the words of a command line ask for. The parts are those of the command, in order.
+#[derive(Debug, Drop)]
+pub enum Command {
+    /// `try NAME DESCRIPTOR`: plays a stream of records in a group of this client and descriptor.
+    Try(Word, Word),
+    /// `records`: lists a stream of records.
+    Records,
+    /// `init`: makes a store.
+    Init,
+    /// `contact`: adds a contact.
+    Contact,
+    /// `group NAME MAJOR DESCRIPTOR`: adds a group.
+    Group(Word, u32, Word),
+    /// `share CONTACT GROUP LEVEL`: sets a level.
+    Share(u8, GroupId, Level),
+    /// `post GROUP TIMESTAMP`: writes a message.
+    Post(GroupId, u64),
+    /// `show`: prints what a store knows.
+    Show,
+    /// `inbox`: prints the delivered messages.
+    Inbox,
+    /// `body ID`: writes the body of a message.
+    Body(MessageId),
+}
+
+/// Why the words of a command line were not read.
+#[derive(Clone, Copy, Debug, PartialEq, Eq)]
+pub enum WordsFault {
+    /// No memory was found.
+    Memory,
+    /// The place of the first word that is wrong or too many, or the number of words where one is missing.
+    Usage(usize),
+}
+
+impl From<AllocError> for WordsFault {
+    ghost use Rattle.std.specs.Prelude.{◌≡◌};
+    ghost use Rattle.sync_words.specs.declared.command.WordsFault.TheVariants as fault;
+
+    ghost from_gives = { λ _ e. e ≡ fault.Memory };
+
+    fn from(_: AllocError) -> WordsFault {
+        WordsFault::Memory
+    }
+}
+
+/// Reads the words of a command line, those after the program's name.
+///
+/// # Errors
+/// `Usage` exactly where the words are not in the grammar, with the place; `Memory` for want of memory.
+pub fn read_words(alloc: Global, words: &[String]) -> Result<Command, WordsFault>
+    ensures { IsReadAs (asks (texts words.now)) result }
+{
+    match words.first() {
+        Some(word) => read_command(alloc, word.as_str(), words),
+        None => Err(WordsFault::Usage(0)),
+    }
+}
+
+// Reads the words behind the first one.
+fn read_command(alloc: Global, word: &str, words: &[String]) -> Result<Command, WordsFault>
+    ensures { IsReadAs (asks_of word.now 1 (drop 1 (texts words.now))) result }
+{
+    match word {
+        "try" => read_try(alloc, words),
+        "group" => read_group(alloc, words),
+        "share" => read_share(words),
+        "post" => read_post(words),
+        "body" => read_body(words),
+        word => match plain(word) {
+            Some(command) => read_end(words, 1, command),
+            None => Err(WordsFault::Usage(0)),
+        },
+    }
+}
+
+// The command without parts of this word.
+fn plain(word: &str) -> Option<Command>
+    ensures { result ≡ plain_in word.now }
+{
+    match word {
+        "records" => Some(Command::Records),
+        "init" => Some(Command::Init),
+        "contact" => Some(Command::Contact),
+        "show" => Some(Command::Show),
+        "inbox" => Some(Command::Inbox),
+        _ => None,
+    }
+}
+
+// The command, where no word stands at this place.
+fn read_end(words: &[String], place: usize, command: Command) -> Result<Command, WordsFault>
+    ensures { IsReadAs (ends command place (drop place (texts words.now))) result }
+{
+    if is_left_at(words, place) {
+        return Err(WordsFault::Usage(place));
+    }
+    Ok(command)
+}
+
+fn read_try(alloc: Global, words: &[String]) -> Result<Command, WordsFault>
+    ensures { IsReadAs (asks_try 1 (drop 1 (texts words.now))) result }
+{
+    let name = name_at(alloc, words, 1)?;
+    let descriptor = descriptor_at(alloc, words, 2)?;
+    read_end(words, 3, Command::Try(name, descriptor))
+}
+
+fn read_group(alloc: Global, words: &[String]) -> Result<Command, WordsFault>
+    ensures { IsReadAs (asks_group 1 (drop 1 (texts words.now))) result }
+{
+    let name = name_at(alloc, words, 1)?;
+    let major = number_at(words, 2, MAX_MAJOR)?;
+    let descriptor = descriptor_at(alloc, words, 3)?;
+    read_end(words, 4, Command::Group(name, major as u32, descriptor))
+}
+
+fn read_share(words: &[String]) -> Result<Command, WordsFault>
+    ensures { IsReadAs (asks_share 1 (drop 1 (texts words.now))) result }
+{
+    let contact = number_at(words, 1, MAX_CONTACT)?;
+    let group = id_at(words, 2)?;
+    let level = level_at(words, 3)?;
+    read_end(words, 4, Command::Share(contact as u8, group, level))
+}
+
+fn read_post(words: &[String]) -> Result<Command, WordsFault>
+    ensures { IsReadAs (asks_post 1 (drop 1 (texts words.now))) result }
+{
+    let group = id_at(words, 1)?;
+    let timestamp = number_at(words, 2, MAX_TIMESTAMP)?;
+    read_end(words, 3, Command::Post(group, timestamp))
+}
+
+fn read_body(words: &[String]) -> Result<Command, WordsFault>
+    ensures { IsReadAs (asks_body 1 (drop 1 (texts words.now))) result }
+{
+    let id = id_at(words, 1)?;
+    read_end(words, 2, Command::Body(id))
+}

@@ -1,0 +1,151 @@
+// The words of a command line, one by one.
+ghost use Rattle.std.specs.Prelude.{◌≡◌, ◌+◌, ◌≤◌, ◌∷◌, [], drop, IfOk, IfErr, MatchOption};
+ghost use Rattle.std.specs.Char.{is_ascii_digit};
+ghost use Rattle.std.specs.List.{list_all};
+ghost use Rattle.sync_words.specs.Reading.{texts, is_left, Reads, Stops};
+ghost use Rattle.sync_words.specs.Words.{name_in, descriptor_in, number_in, id_in, level_in, is_digits, is_number, has_leading_zero};
+
+use crate::command::WordsFault;
+use crate::word::Word;
+use std::alloc::Global;
+use sync_ids::Fixed;
+use sync_rules::Level;
+
+// The word at a place, if there is one.
+fn word_at(words: &[String], place: usize) -> Option<&str>
+    ensures { MatchOption result (drop place (texts words.now) ≡ []) (λ word. drop place (texts words.now) ≡ word.now ∷ drop (place + 1) (texts words.now)) }
+{
+    match words.get(place) {
+        Some(word) => Some(word.as_str()),
+        None => None,
+    }
+}
+
+/// Reads the word at this place as a client's name.
+pub fn name_at(alloc: Global, words: &[String], place: usize) -> Result<Word, WordsFault>
+    ensures ok { IfOk result (Reads name_in (texts words.now) place) }
+    ensures err { IfErr result (Stops name_in (texts words.now) place) }
+{
+    match word_at(words, place) {
+        Some(word) if (1..=255).contains(&word.len()) => copied(alloc, word),
+        _ => Err(WordsFault::Usage(place)),
+    }
+}
+
+/// Reads the word at this place as a descriptor.
+pub fn descriptor_at(alloc: Global, words: &[String], place: usize) -> Result<Word, WordsFault>
+    ensures ok { IfOk result (Reads descriptor_in (texts words.now) place) }
+    ensures err { IfErr result (Stops descriptor_in (texts words.now) place) }
+{
+    match word_at(words, place) {
+        Some(word) if word.len() <= 16_384 => copied(alloc, word),
+        _ => Err(WordsFault::Usage(place)),
+    }
+}
+
+fn copied(alloc: Global, word: &str) -> Result<Word, WordsFault>
+    ensures ok { IfOk result (λ copy. copy ≡ word.now) }
+    ensures err { IfErr result (λ e. e ≡ WordsFault.Memory) }
+{
+    let text = String::from_str(alloc, word)?;
+    Ok(Word::new(text))
+}
+
+/// Reads the word at this place as a number, at most `most`.
+pub fn number_at(words: &[String], place: usize, most: u64) -> Result<u64, WordsFault>
+    ensures ok { IfOk result (Reads (number_in most) (texts words.now) place) }
+    ensures most { IfOk result (λ n. n ≤ most) }
+    ensures err { IfErr result (Stops (number_in most) (texts words.now) place) }
+{
+    match word_at(words, place) {
+        Some(word) => number(word, most).ok_or(WordsFault::Usage(place)),
+        None => Err(WordsFault::Usage(place)),
+    }
+}
+
+// The number that a word spells, if it is one.
+fn number(word: &str, most: u64) -> Option<u64>
+    ensures { result ≡ number_in most word.now }
+{
+    if !is_number(word.as_bytes()) {
+        return None;
+    }
+    match word.parse::<u64>() {
+        Ok(n) => (n <= most).then_some(n),
+        Err(_) => None,
+    }
+}
+
+// Whether a word is a number without a leading zero.
+fn is_number(word: &[u8]) -> bool
+    ensures { result ≡ is_number word.now }
+{
+    is_digits(word) && !has_leading_zero(word)
+}
+
+fn is_digits(word: &[u8]) -> bool
+    ensures { result ≡ is_digits word.now }
+{
+    !word.is_empty() && has_digits_alone(word)
+}
+
+fn has_digits_alone(word: &[u8]) -> bool
+    ensures { result ≡ list_all is_ascii_digit word.now }
+{
+    word.iter().all(|digit| digit.is_ascii_digit())
+}
+
+fn has_leading_zero(digits: &[u8]) -> bool
+    ensures { result ≡ has_leading_zero digits.now }
+{
+    matches!(digits, [b'0', _, ..])
+}
+
+/// Reads the word at this place as an id.
+pub fn id_at(words: &[String], place: usize) -> Result<Fixed<32>, WordsFault>
+    ensures ok { IfOk result (Reads id_in (texts words.now) place) }
+    ensures err { IfErr result (Stops id_in (texts words.now) place) }
+{
+    match word_at(words, place) {
+        Some(word) => id(word).ok_or(WordsFault::Usage(place)),
+        None => Err(WordsFault::Usage(place)),
+    }
+}
+
+fn id(word: &str) -> Option<Fixed<32>>
+    ensures { result ≡ id_in word.now }
+{
+    match Fixed::from_hex(word) {
+        Ok(id) => Some(id),
+        Err(_) => None,
+    }
+}
+
+/// Reads the word at this place as a level.
+pub fn level_at(words: &[String], place: usize) -> Result<Level, WordsFault>
+    ensures ok { IfOk result (Reads level_in (texts words.now) place) }
+    ensures err { IfErr result (Stops level_in (texts words.now) place) }
+{
+    match word_at(words, place) {
+        Some(word) => level(word).ok_or(WordsFault::Usage(place)),
+        None => Err(WordsFault::Usage(place)),
+    }
+}
+
+fn level(word: &str) -> Option<Level>
+    ensures { result ≡ level_in word.now }
+{
+    match word {
+        "invisible" => Some(Level::Invisible),
+        "visible" => Some(Level::Visible),
+        "shared" => Some(Level::Shared),
+        _ => None,
+    }
+}
+
+/// Whether a word stands at this place.
+pub fn is_left_at(words: &[String], place: usize) -> bool
+    ensures { result ≡ is_left (drop place (texts words.now)) }
+{
+    word_at(words, place).is_some()
+}
