@@ -1,5 +1,5 @@
 -- What the words of a command line ask for. Words are counted from 0 and read from left to right.
-use Rattle.std.specs.Prelude.{◌≡◌, ℕ, ◌+◌, Bool, true, false, if◌then◌else◌, List, [], ◌∷◌, map, drop, codes, String, Option, Some, None, Result, Ok, Err}
+use Rattle.std.specs.Prelude.{◌≡◌, ℕ, ◌+◌, ◌≤◌, Bool, true, false, if◌then◌else◌, List, [], ◌∷◌, length, map, drop, codes, String, Option, Some, None, Result, Ok, Err}
 use Rattle.std.specs.Str.{bytes_eq}
 use Rattle.std.specs.String.{string_bytes}
 use Rattle.std.specs.declared.alloc.Global.{Global}
@@ -99,6 +99,21 @@ abbrev pub IsReadAs : Asked → Result Command WordsFault → Type 0
 IsReadAs asked (Ok read) = asked ≡ Do read
 IsReadAs asked (Err (fault.Usage place)) = asked ≡ Usage place
 IsReadAs asked (Err fault.Memory) = Unit {0}
+
+-- ---- limits
+
+abbrev pub IsName : List ℕ → Type 0
+IsName word = (1 ≤ length word) × (length word ≤ 255)
+
+abbrev pub IsDescriptor : List ℕ → Type 0
+IsDescriptor word = length word ≤ 16384
+
+-- the parts of a command are within their limits
+abbrev pub IsWithin : Command → Type 0
+IsWithin (command.Try name descriptor) = IsName name × IsDescriptor descriptor
+IsWithin (command.Group name major descriptor) = IsName name × IsDescriptor descriptor
+IsWithin (command.Post group timestamp) = timestamp ≤ 9223372036854775807
+IsWithin _ = Unit {0}
 
 -- ---- a single word
 

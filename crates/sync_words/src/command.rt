@@ -1,6 +1,6 @@
 //! The commands and their words.
-ghost use Rattle.std.specs.Prelude.{◌≡◌, drop};
-ghost use Rattle.sync_words.specs.Reading.{asks, asks_of, asks_try, asks_group, asks_share, asks_post, asks_body, ends, IsReadAs, plain_in, texts};
+ghost use Rattle.std.specs.Prelude.{◌≡◌, drop, IfOk, IfSome};
+ghost use Rattle.sync_words.specs.Reading.{asks, asks_of, asks_try, asks_group, asks_share, asks_post, asks_body, ends, IsReadAs, IsWithin, plain_in, texts};
 
 use crate::reading::{descriptor_at, id_at, is_left_at, level_at, name_at, number_at};
 use crate::word::Word;
@@ -64,7 +64,8 @@ impl From<AllocError> for WordsFault {
 /// # Errors
 /// `Usage` exactly where the words are not in the grammar, with the place; `Memory` for want of memory.
 pub fn read_words(alloc: Global, words: &[String]) -> Result<Command, WordsFault>
-    ensures { IsReadAs (asks (texts words.now)) result }
+    ensures read { IsReadAs (asks (texts words.now)) result }
+    ensures within { IfOk result IsWithin }
 {
     match words.first() {
         Some(word) => read_command(alloc, word.as_str(), words),
@@ -74,7 +75,8 @@ pub fn read_words(alloc: Global, words: &[String]) -> Result<Command, WordsFault
 
 // Reads the words behind the first one.
 fn read_command(alloc: Global, word: &str, words: &[String]) -> Result<Command, WordsFault>
-    ensures { IsReadAs (asks_of word.now 1 (drop 1 (texts words.now))) result }
+    ensures read { IsReadAs (asks_of word.now 1 (drop 1 (texts words.now))) result }
+    ensures within { IfOk result IsWithin }
 {
     match word {
         "try" => read_try(alloc, words),
@@ -91,7 +93,8 @@ fn read_command(alloc: Global, word: &str, words: &[String]) -> Result<Command, 
 
 // The command without parts of this word.
 fn plain(word: &str) -> Option<Command>
-    ensures { result ≡ plain_in word.now }
+    ensures value { result ≡ plain_in word.now }
+    ensures within { IfSome result IsWithin }
 {
     match word {
         "records" => Some(Command::Records),
@@ -105,7 +108,8 @@ fn plain(word: &str) -> Option<Command>
 
 // The command, where no word stands at this place.
 fn read_end(words: &[String], place: usize, command: Command) -> Result<Command, WordsFault>
-    ensures { IsReadAs (ends command place (drop place (texts words.now))) result }
+    ensures read { IsReadAs (ends command place (drop place (texts words.now))) result }
+    ensures same { IfOk result (λ read. read ≡ command) }
 {
     if is_left_at(words, place) {
         return Err(WordsFault::Usage(place));
@@ -114,7 +118,8 @@ fn read_end(words: &[String], place: usize, command: Command) -> Result<Command,
 }
 
 fn read_try(alloc: Global, words: &[String]) -> Result<Command, WordsFault>
-    ensures { IsReadAs (asks_try 1 (drop 1 (texts words.now))) result }
+    ensures read { IsReadAs (asks_try 1 (drop 1 (texts words.now))) result }
+    ensures within { IfOk result IsWithin }
 {
     let name = name_at(alloc, words, 1)?;
     let descriptor = descriptor_at(alloc, words, 2)?;
@@ -122,7 +127,8 @@ fn read_try(alloc: Global, words: &[String]) -> Result<Command, WordsFault>
 }
 
 fn read_group(alloc: Global, words: &[String]) -> Result<Command, WordsFault>
-    ensures { IsReadAs (asks_group 1 (drop 1 (texts words.now))) result }
+    ensures read { IsReadAs (asks_group 1 (drop 1 (texts words.now))) result }
+    ensures within { IfOk result IsWithin }
 {
     let name = name_at(alloc, words, 1)?;
     let major = number_at(words, 2, MAX_MAJOR)?;
@@ -131,7 +137,8 @@ fn read_group(alloc: Global, words: &[String]) -> Result<Command, WordsFault>
 }
 
 fn read_share(words: &[String]) -> Result<Command, WordsFault>
-    ensures { IsReadAs (asks_share 1 (drop 1 (texts words.now))) result }
+    ensures read { IsReadAs (asks_share 1 (drop 1 (texts words.now))) result }
+    ensures within { IfOk result IsWithin }
 {
     let contact = number_at(words, 1, MAX_CONTACT)?;
     let group = id_at(words, 2)?;
@@ -140,7 +147,8 @@ fn read_share(words: &[String]) -> Result<Command, WordsFault>
 }
 
 fn read_post(words: &[String]) -> Result<Command, WordsFault>
-    ensures { IsReadAs (asks_post 1 (drop 1 (texts words.now))) result }
+    ensures read { IsReadAs (asks_post 1 (drop 1 (texts words.now))) result }
+    ensures within { IfOk result IsWithin }
 {
     let group = id_at(words, 1)?;
     let timestamp = number_at(words, 2, MAX_TIMESTAMP)?;
@@ -148,7 +156,8 @@ fn read_post(words: &[String]) -> Result<Command, WordsFault>
 }
 
 fn read_body(words: &[String]) -> Result<Command, WordsFault>
-    ensures { IsReadAs (asks_body 1 (drop 1 (texts words.now))) result }
+    ensures read { IsReadAs (asks_body 1 (drop 1 (texts words.now))) result }
+    ensures within { IfOk result IsWithin }
 {
     let id = id_at(words, 1)?;
     read_end(words, 2, Command::Body(id))

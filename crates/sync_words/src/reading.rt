@@ -2,7 +2,7 @@
 ghost use Rattle.std.specs.Prelude.{◌≡◌, ◌+◌, ◌≤◌, ◌∷◌, [], drop, IfOk, IfErr, MatchOption};
 ghost use Rattle.std.specs.Char.{is_ascii_digit};
 ghost use Rattle.std.specs.List.{list_all};
-ghost use Rattle.sync_words.specs.Reading.{texts, is_left, Reads, Stops};
+ghost use Rattle.sync_words.specs.Reading.{texts, is_left, IsDescriptor, IsName, Reads, Stops};
 ghost use Rattle.sync_words.specs.Words.{name_in, descriptor_in, number_in, id_in, level_in, is_digits, is_number, has_leading_zero};
 
 use crate::command::WordsFault;
@@ -24,6 +24,7 @@ fn word_at(words: &[String], place: usize) -> Option<&str>
 /// Reads the word at this place as a client's name.
 pub fn name_at(alloc: Global, words: &[String], place: usize) -> Result<Word, WordsFault>
     ensures ok { IfOk result (Reads name_in (texts words.now) place) }
+    ensures within { IfOk result IsName }
     ensures err { IfErr result (Stops name_in (texts words.now) place) }
 {
     match word_at(words, place) {
@@ -35,6 +36,7 @@ pub fn name_at(alloc: Global, words: &[String], place: usize) -> Result<Word, Wo
 /// Reads the word at this place as a descriptor.
 pub fn descriptor_at(alloc: Global, words: &[String], place: usize) -> Result<Word, WordsFault>
     ensures ok { IfOk result (Reads descriptor_in (texts words.now) place) }
+    ensures within { IfOk result IsDescriptor }
     ensures err { IfErr result (Stops descriptor_in (texts words.now) place) }
 {
     match word_at(words, place) {
