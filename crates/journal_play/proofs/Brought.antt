@@ -54,7 +54,7 @@ module _ (def : GroupValue) (messages : List MessageValue) (k : ℕ) (f : Facts)
     -- what a message brings, by whether it is of the group, and by what is held under its id
     message_by : (of_it : Bool) (o : Option Held)
         → Brings def (cond (of_it && not (is_some o)) (messages ++ m ∷ []) messages)
-          (after_all f (entry.Take 0 k ∷ cond of_it (taken_message_of f 0 (contact_of f.sessions 0) m o) []))
+        (after_all f (entry.Take 0 k ∷ cond of_it (taken_message_of f 0 (contact_of f.sessions 0) m o) []))
     message_by false o = quiet_brings [] tt
     message_by true None = record {
       groups = b.groups;
@@ -75,7 +75,7 @@ module _ (def : GroupValue) (messages : List MessageValue) (k : ℕ) (f : Facts)
         let seen : is_some o ≡ is_brought messages (message_id_of m) =
         ap (λ hs. is_some (held_at hs (message_id_of m))) b.held ∙ held_brought messages (message_id_of m) in
         let P : Bool → Bool → Type 0 = λ welcome known. Brings def (cond (of_it && not known) (messages ++ m ∷ []) messages)
-            (after_all f (entry.Take 0 k ∷ cond welcome (taken_message_of f 0 (contact_of f.sessions 0) m o) [])) in
+        (after_all f (entry.Take 0 k ∷ cond welcome (taken_message_of f 0 (contact_of f.sessions 0) m o) [])) in
         subst (λ w. P w (is_brought messages (message_id_of m))) (sym (welcome_by def f b.groups b.levels b.sessions m.group of_it refl))
         (subst (P of_it) seen (message_by of_it o))
 

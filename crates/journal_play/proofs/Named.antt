@@ -200,4 +200,3 @@ module _ (messages : List MessageValue) (names : (m : MessageValue) → In m mes
           | true ↦ λ e. rest
           | false ↦ λ e. (λ i. line_at fate_kind.Pending (message_id_of m) (names m (inside m (inl refl)) i) ++ rest i) ∙ (λ i. line_of (sym (waits m e) i) (message_id_of m) m ++ flat_map (state_line g) (filter (λ m. not (is_decided g m)) some))
         ] refl
-

@@ -31,8 +31,7 @@ module _ {A : Type 0} where
   out_of : (x : A) (front back : List A) → IsDistinct (front ++ x ∷ back) → IsDistinct (front ++ back) × (In x (front ++ back) → ⊥)
   out_of x [] back d = (d.1, d.0)
   out_of x (y ∷ front) back d =
-      let rest = out_of x front back d.1 in
-      (
+      let rest = out_of x front back d.1 in (
         (
           λ h. d.0
               (elim (In-append_cases y front back h) [

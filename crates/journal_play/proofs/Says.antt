@@ -244,11 +244,10 @@ module _ (clients : Meaning) (def : GroupValue) (kind : ℕ) (known : kind_of_de
 
 IsDistinct-push : (messages : List MessageValue) (m : MessageValue) → IsDistinct messages → (In m messages → ⊥) → IsDistinct (messages ++ m ∷ [])
 IsDistinct-push [] m d new = (λ h. h, tt)
-IsDistinct-push (x ∷ messages) m d new =
-    (
-      λ h. elim (In-push_cases x m messages h) [ inl t ↦ d.0 t | inr e ↦ new (inl (sym e)) ],
-      IsDistinct-push messages m d.1 (λ h. new (inr h)),
-    )
+IsDistinct-push (x ∷ messages) m d new = (
+  λ h. elim (In-push_cases x m messages h) [ inl t ↦ d.0 t | inr e ↦ new (inl (sym e)) ],
+  IsDistinct-push messages m d.1 (λ h. new (inr h)),
+)
 
 brought_of : (messages : List MessageValue) (m : MessageValue) → In m messages → is_brought messages (message_id_of m) ≡ true
 brought_of [] m h = absurd h

@@ -11,7 +11,7 @@ ghost use Rattle.sync_top.specs.Run.{outcome_of, PrintEnds, PrintsPlay, Streams,
 use crate::listener::Lister;
 use crate::pieces::{Heard, Stop, hear_input};
 use crate::player::Player;
-use crate::status::Outcome;
+use crate::outcome::Outcome;
 use crate::text::write_text;
 use journal_play::Play;
 use outside::{Sink, Source};
