@@ -22,7 +22,7 @@ use Rattle.sync_words.specs.Reading.Asked.{Usage, Do}
 use Rattle.sync_words.specs.declared.command.Command.TheVariants as command
 
 module _ (law : (clients : Meaning) (kind : ℕ) (def : GroupValue) (records : List Record) (text : List ℕ)
-      → kind_of_def clients def ≡ Some kind → IsTextOf clients def records text → SaysFates clients kind (group_id_of def) records text)
+    → kind_of_def clients def ≡ Some kind → IsTextOf clients def records text → SaysFates clients kind (group_id_of def) records text)
     (clients : Meaning) (input out : Flow) where
   whole_states : (kind : ℕ) (def : GroupValue) (came : Outcome) → kind_of_def clients def ≡ Some kind
       → (r : ReadsStream (λ some text. IsTextOf clients def (records_of some) text) input out came)

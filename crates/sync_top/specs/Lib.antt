@@ -1,0 +1,6 @@
+pub mod Outcomes
+pub mod Flow
+pub mod Pieces
+pub mod Run
+pub mod States
+pub mod RecordText

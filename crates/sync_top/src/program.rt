@@ -59,7 +59,14 @@ fn command<S: Source, W: Sink, C: Clients>(
 {
     match read_words(alloc, words) {
         Ok(Command::Try(name, descriptor)) => {
-            try_group(alloc, name.as_str(), descriptor.as_str(), input, out, clients)
+            try_group(
+                alloc,
+                name.as_str(),
+                descriptor.as_str(),
+                input,
+                out,
+                clients,
+            )
         }
         Ok(Command::Records) => list_records(alloc, input, out),
         Ok(
