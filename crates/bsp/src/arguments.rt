@@ -1,5 +1,7 @@
 //! The words of the command line.
-ghost use Rattle.std.specs.Prelude.{◌≤◌};
+ghost use Rattle.std.specs.Prelude.{◌<◌, length, IfOk};
+ghost use Rattle.std.specs.String.{string_bytes};
+ghost use Rattle.bsp.specs.Arguments.{IsWordOf};
 
 use std::alloc::{AllocError, Global};
 use std::env::FillError;
@@ -26,13 +28,17 @@ pub fn words<R: Env>(rt: &R, alloc: Global) -> Result<Vec<String>, AllocError> {
     Ok(words)
 }
 
-fn word(alloc: Global, bytes: &[u8]) -> Result<String, AllocError> {
+fn word(alloc: Global, bytes: &[u8]) -> Result<String, AllocError>
+    ensures { IfOk result (λ word. IsWordOf bytes.now (string_bytes word)) }
+{
     match str::from_utf8(bytes) {
         Ok(text) => String::from_str(alloc, text),
         Err(_) => not_a_word(alloc),
     }
 }
 
-fn not_a_word(alloc: Global) -> Result<String, AllocError> {
+fn not_a_word(alloc: Global) -> Result<String, AllocError>
+    ensures { IfOk result (λ word. 16384 < length (string_bytes word)) }
+{
     "x".repeat(alloc, NOT_A_WORD)
 }

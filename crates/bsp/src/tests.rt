@@ -7,7 +7,8 @@ use outside::{MemSink, MemSource};
 use std::alloc::{AllocError, Global};
 use std::process::Abort;
 use std::test::Fail;
-use sync_ids::{Fixed, GroupId, MAX_BODY};
+use sync_ids::{Fixed, GroupId, MAX_BODY, Message, MessageId};
+use sync_rules::{Clients, DepList, Judgement};
 use sync_top::{Status, run};
 
 const GROUP: &str = "76ff4980d3b5f63962cee45401b6b1bb92efe989c27de4629aac92b18163e6e0";
@@ -62,6 +63,17 @@ fn play(
     input: &[u8],
     failing: [&[u64]; 3],
 ) -> Result<Came, AllocError> {
+    play_for(alloc, words, input, failing, &Bundle::new())
+}
+
+// The same for other clients.
+fn play_for<C: Clients>(
+    alloc: Global,
+    words: &[&str],
+    input: &[u8],
+    failing: [&[u64]; 3],
+    clients: &C,
+) -> Result<Came, AllocError> {
     let mut texts = Vec::new(alloc);
     for word in words {
         texts.push(String::from_str(alloc, word)?)?;
@@ -77,7 +89,7 @@ fn play(
         &mut source,
         &mut out,
         &mut err,
-        &Bundle::new(),
+        clients,
     );
     Ok(Came { status, out, err })
 }
@@ -442,4 +454,66 @@ fn cascades(rt: HostRuntime) -> Result<(), Fail> {
     add_thread(&mut refused, alloc, 2, BAD_A_ID, b"b")?;
     add_thread(&mut refused, alloc, 1, "", b"\xff")?;
     expect_text(&rt, alloc, refused.as_slice(), &[ABC_INVALID])
+}
+
+const CYCLE: &str = "14daddcdfefd1bd0849c039bb886c6b417facf2eec2a40c82e03df27489d0bf6";
+
+const CYCLE_A: &str = "531972ae2e6cd81929d723c74c35bb629933088dc8431f4372305604e95e6fdf";
+
+const CYCLE_B: &str = "831e960d8fba2e9bed19997cf5062ca0ff37bc10e22f56c5e22fcb65b618f33a";
+
+const CYCLE_LINES: &str =
+    "pending 531972ae2e6cd81929d723c74c35bb629933088dc8431f4372305604e95e6fdf 1 1\npending 831e960d8fba2e9bed19997cf5062ca0ff37bc10e22f56c5e22fcb65b618f33a 2 1\n";
+
+/// A client of every group: a message of time 1 depends on the second of two ids, any other one on the first.
+#[derive(Drop)]
+struct Crossed {
+    first: MessageId,
+    second: MessageId,
+}
+
+impl Clients for Crossed {
+    ghost use Rattle.std.specs.Prelude.{true, [], ◌∷◌, ◌==◌, if◌then◌else◌, Some};
+    ghost use Rattle.sync_rules.specs.declared.answers.Judgement.TheVariants as judgement;
+
+    ghost meaning = { λ c. record {
+      kind_of = λ name major. Some 0;
+      verdict = λ kind m. judgement.Accept ((if m.timestamp == 1 then c.second else c.first) ∷ []) true;
+    } };
+
+    fn kind_of(&self, _name: &str, _major: u32) -> Option<u8> {
+        Some(0)
+    }
+
+    fn judge(&self, alloc: Global, _kind: u8, message: &Message) -> Result<Judgement, AllocError> {
+        let other = if message.timestamp() == 1 {
+            self.second
+        } else {
+            self.first
+        };
+        let mut ids = Vec::new(alloc);
+        ids.push(other)?;
+        match DepList::new(ids) {
+            Ok(deps) => Ok(Judgement::Accept { deps, share: true }),
+            Err(_) => unreachable!(),
+        }
+    }
+}
+
+#[test]
+fn each_depends_on_the_other(rt: HostRuntime) -> Result<(), Fail> {
+    let alloc = rt.alloc();
+    let clients = Crossed {
+        first: Fixed::from_hex(CYCLE_A).map_err(|_| "no id")?,
+        second: Fixed::from_hex(CYCLE_B).map_err(|_| "no id")?,
+    };
+    let mut input = Vec::new(alloc);
+    add_record(&mut input, CYCLE, 1, b"a")?;
+    add_record(&mut input, CYCLE, 2, b"b")?;
+    let words = ["try", "cycle", "d"];
+    let came = play_for(alloc, &words, input.as_slice(), NONE, &clients)?;
+    assert_eq!(rt; came.status, Status::Done);
+    assert_eq!(rt; came.out.bytes(), CYCLE_LINES.as_bytes());
+    assert_eq!(rt; came.err.bytes(), b"".as_slice());
+    Ok(())
 }

@@ -1,5 +1,5 @@
 -- Where `try` wrote its whole text, it told the state of each message.
-use Rattle.std.proofs.Common.{◌≡◌, ℕ, List, take, refl, sym, subst, inl, inr, Option, Some, None}
+use Rattle.std.proofs.Common.{◌≡◌, ℕ, List, refl, sym, subst, inl, inr, Option, Some, None}
 use Rattle.std.specs.Io.KnownBytes.{Appends}
 use Rattle.std.proofs.lemmas.List.{take_all}
 use Rattle.record_grammar.specs.Stream.{items, records, records_of}

@@ -1,6 +1,6 @@
 -- What `try` tells of the messages of its group where its whole text was written: the state of each, by rounds over the
 -- messages and their verdicts alone.
-use Rattle.std.specs.Prelude.{◌≡◌, ℕ, List, Option, Some, None}
+use Rattle.std.specs.Prelude.{ℕ, List, Option, Some, None}
 use Rattle.std.specs.Io.KnownBytes.{Consumes, Appends}
 use Rattle.record_grammar.specs.Stream.{records}
 use Rattle.journal_play.specs.Fates.{SaysFates}

@@ -1,5 +1,25 @@
 use Rattle.sync_top.proofs.StateLemmas.{tells}
+use Rattle.sync_top.specs.Flow.{Flow}
 use Rattle.sync_top.proofs.program.run.Goals as goal
 
 pub returns-clause-states : goal.returns-clause-states
-returns-clause-states g c = tells c.play_says.ensures _ _ _ _ _ _ _ c.command.ensures c.report.ensures
+returns-clause-states g c =
+    let input : Flow = record {
+      before = g.S.Source.left c.args.input.now;
+      after = g.S.Source.left c.command-outcome.new.input;
+      faults = g.S.Source.source_faults c.args.input.now;
+      faults' = g.S.Source.source_faults c.command-outcome.new.input;
+    } in
+    let out : Flow = record {
+      before = g.W.Sink.written c.args.out.now;
+      after = g.W.Sink.written c.command-outcome.new.out;
+      faults = g.W.Sink.sink_faults c.args.out.now;
+      faults' = g.W.Sink.sink_faults c.command-outcome.new.out;
+    } in
+    let err : Flow = record {
+      before = g.E.Sink.written c.args.err.now;
+      after = g.E.Sink.written c.report.new.err;
+      faults = g.E.Sink.sink_faults c.args.err.now;
+      faults' = g.E.Sink.sink_faults c.report.new.err;
+    } in
+    tells c.play_says.ensures (g.C.Clients.meaning c.args.clients.now) input out _ err _ _ c.command-outcome.ensures c.report.ensures
