@@ -58,12 +58,6 @@ fn show(alloc: Global, command: &Command) -> Result<String, Fail> {
 #[test]
 fn words_of_commands(rt: HostRuntime) -> Result<(), Fail> {
     let alloc = rt.alloc();
-    let longest = "n".repeat(alloc, 255)?;
-    let longer = "n".repeat(alloc, 256)?;
-    let most = "d".repeat(alloc, 16_384)?;
-    let more = "d".repeat(alloc, 16_385)?;
-    let (longest, longer) = (longest.as_str(), longer.as_str());
-    let (most, more) = (most.as_str(), more.as_str());
     let shared =
         "share 255+76ff4980d3b5f63962cee45401b6b1bb92efe989c27de4629aac92b18163e6e0+Shared";
     let hidden =
@@ -73,7 +67,7 @@ fn words_of_commands(rt: HostRuntime) -> Result<(), Fail> {
     let last =
         "post 76ff4980d3b5f63962cee45401b6b1bb92efe989c27de4629aac92b18163e6e0+9223372036854775807";
     let body = "body 3443418c0382800e42ae01fb9d676b7b25405d2875809cf8d6808f04741c96a4";
-    let cases: [(&[&str], &str); 66] = [
+    let cases: [(&[&str], &str); 60] = [
         (&[], "usage 0"),
         (&[""], "usage 0"),
         (&["Try", "note", "d"], "usage 0"),
@@ -81,12 +75,8 @@ fn words_of_commands(rt: HostRuntime) -> Result<(), Fail> {
         (&["-h"], "usage 0"),
         (&["try", "note", "d"], "try note+d"),
         (&["try", "-", ""], "try -+"),
-        (&["try", longest, most, ""], "usage 3"),
         (&["try"], "usage 1"),
         (&["try", ""], "usage 1"),
-        (&["try", longer, more, "x"], "usage 1"),
-        (&["try", longest], "usage 2"),
-        (&["try", "note", more], "usage 2"),
         (&["try", "note", "d", ""], "usage 3"),
         (&["records"], "records"),
         (&["records", ""], "usage 1"),
@@ -98,7 +88,6 @@ fn words_of_commands(rt: HostRuntime) -> Result<(), Fail> {
         (&["group", "n", "4294967295", ""], "group n+4294967295+"),
         (&["group"], "usage 1"),
         (&["group", "", "0", "d"], "usage 1"),
-        (&["group", longer, "x", "d"], "usage 1"),
         (&["group", "note"], "usage 2"),
         (&["group", "note", "4294967296", "d"], "usage 2"),
         (&["group", "note", "00", "d"], "usage 2"),
@@ -107,7 +96,6 @@ fn words_of_commands(rt: HostRuntime) -> Result<(), Fail> {
         (&["group", "note", "-1", "d"], "usage 2"),
         (&["group", "note", "1x", "d"], "usage 2"),
         (&["group", "note", "0"], "usage 3"),
-        (&["group", "note", "0", more], "usage 3"),
         (&["group", "note", "0", "d", "d"], "usage 4"),
         (&["share", "255", GROUP, "shared"], shared),
         (&["share", "0", UPPER, "invisible"], hidden),
@@ -142,9 +130,32 @@ fn words_of_commands(rt: HostRuntime) -> Result<(), Fail> {
         (&["body", ID, ID], "usage 2"),
     ];
     for (words, want) in cases {
-        assert_eq!(rt; shown(alloc, words)?.as_str(), want, "at {words:?}");
+        expect(&rt, alloc, words, want)?;
     }
     Ok(())
+}
+
+fn expect(rt: &impl Abort, alloc: Global, words: &[&str], want: &str) -> Result<(), Fail> {
+    assert_eq!(rt; shown(alloc, words)?.as_str(), want, "at {words:?}");
+    Ok(())
+}
+
+#[test]
+fn long_words(rt: HostRuntime) -> Result<(), Fail> {
+    let alloc = rt.alloc();
+    let longest = "n".repeat(alloc, 255)?;
+    let longer = "n".repeat(alloc, 256)?;
+    let most = "d".repeat(alloc, 16_384)?;
+    let more = "d".repeat(alloc, 16_385)?;
+    let (longest, longer) = (longest.as_str(), longer.as_str());
+    let (most, more) = (most.as_str(), more.as_str());
+    expect(&rt, alloc, &["try", longest, most, ""], "usage 3")?;
+    expect(&rt, alloc, &["try", longest], "usage 2")?;
+    expect(&rt, alloc, &["try", longer, more, "x"], "usage 1")?;
+    expect(&rt, alloc, &["try", "note", more], "usage 2")?;
+    expect(&rt, alloc, &["group", longest, "0", most, ""], "usage 4")?;
+    expect(&rt, alloc, &["group", longer, "x", "d"], "usage 1")?;
+    expect(&rt, alloc, &["group", "note", "0", more], "usage 3")
 }
 
 fn id(text: &str) -> Result<MessageId, Fail> {
