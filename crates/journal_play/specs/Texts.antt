@@ -1,8 +1,6 @@
 -- What a journal of one session is shown as: a line for each entry that delivers a message or says that it is invalid, and
 -- then a line for each held message that has no such entry.
-use Rattle.std.specs.Prelude.{ℕ, cond, List, [], ◌∷◌, ◌++◌, Option, Some, None, length, codes}
-use Rattle.std.specs.Fmt.{decimal}
-use Rattle.hex.specs.Hex.{encode_lower}
+use Rattle.std.specs.Prelude.{ℕ, cond, List, [], ◌∷◌, ◌++◌, Option, Some, None, length}
 use Rattle.sync_ids.specs.Values.{MessageValue}
 use Rattle.sync_rules.specs.declared.entries.Entry.{Entry}
 use Rattle.sync_rules.specs.declared.entries.Entry.TheVariants as entry
@@ -10,6 +8,7 @@ use Rattle.sync_rules.specs.declared.states.Fate.{Fate}
 use Rattle.sync_rules.specs.declared.states.Fate.TheVariants as fate_kind
 use Rattle.sync_rules.specs.Facts.{Facts, Held, Id, facts, entries_of, held_at}
 use Rattle.sync_rules.specs.Steps.{is_ended}
+use Rattle.sync_words.specs.StreamTexts.{try_text}
 
 -- what a line says: the state of the message of an id
 abbrev pub Line : Type 0
@@ -37,21 +36,9 @@ lines_of journal = told (entries_of journal) ++ unended (facts journal) (facts j
 
 -- ---- as text
 
--- the word of a state; a message that is not judged is shown as one that waits
-abbrev pub word_of : Fate → List ℕ
-word_of fate_kind.Delivered = codes "deliver"
-word_of fate_kind.Invalid = codes "invalid"
-word_of fate_kind.Pending = codes "pending"
-word_of fate_kind.Unknown = codes "pending"
-
--- a line: the word, the id in lower-case digits, the time, the length of the body
-abbrev pub line_of_parts : (word id : List ℕ) (timestamp len : ℕ) → List ℕ
-line_of_parts word id timestamp len =
-    word ++ (32 ∷ encode_lower id ++ (32 ∷ decimal timestamp ++ (32 ∷ decimal len ++ 10 ∷ [])))
-
 -- the line of a message under this id
 abbrev pub line_of : Fate → Id → MessageValue → List ℕ
-line_of state id m = line_of_parts (word_of state) id m.timestamp (length m.body)
+line_of state id m = try_text state id m.timestamp (length m.body)
 
 abbrev pub line_at : Fate → Id → Option Held → List ℕ
 line_at state id None = []

@@ -1,5 +1,5 @@
 //! A journal of one group and one session in memory.
-ghost use Rattle.std.specs.Prelude.{◌≡◌, ℕ, ◌++◌, ◌<◌, ◌^◌, List, [], ◌∷◌, length, IfOk, OnOk, Some, None, slice_get};
+ghost use Rattle.std.specs.Prelude.{◌≡◌, ◌≢◌, ℕ, ◌++◌, ◌<◌, ◌^◌, List, [], ◌∷◌, length, IfOk, OnOk, Some, None, slice_get};
 ghost use Rattle.std.specs.String.{string_bytes};
 ghost use Rattle.sync_ids.specs.Ids.{message_id_of};
 ghost use Rattle.sync_ids.specs.Records.{IsRecord};
@@ -8,6 +8,7 @@ ghost use Rattle.sync_ids.specs.declared.records.Record.{Record};
 ghost use Rattle.sync_rules.specs.Clients.{Meaning};
 ghost use Rattle.sync_rules.specs.Steps.{kind_of_def};
 ghost use Rattle.sync_rules.specs.declared.entries.Entry.{Entry};
+ghost use Rattle.sync_rules.specs.declared.states.Fate.TheVariants as fate_kind;
 ghost use Rattle.message_graph.specs.Nodes.{after_step, Ends, next, number_of};
 ghost use Rattle.journal_play.specs.Keeping.{holding, IsStepped, number_in, pending_line, pending_text, Reaches, taking, taking_message};
 ghost use Rattle.journal_play.specs.Playing.{HasPlayed, IsTextOf, judged_of, StandsFor};
@@ -191,6 +192,7 @@ impl Play {
         requires next { next self.old.nodes ≡ Some step }
         requires ends { Ends step }
         requires number { number_in step ≡ n }
+        requires state { state ≢ fate_kind.Unknown }
         ensures { OnOk result ((m : MessageValue) → slice_get self.old.messages n ≡ Some m → self.new ≡ record self.old {
           nodes = after_step step self.old.nodes;
           text = self.old.text ++ line_of state (message_id_of m) m;

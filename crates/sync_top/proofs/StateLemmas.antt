@@ -10,15 +10,16 @@ use Rattle.sync_ids.specs.Values.{GroupValue}
 use Rattle.sync_ids.specs.declared.records.Record.{Record}
 use Rattle.sync_rules.specs.Clients.{Meaning}
 use Rattle.sync_rules.specs.Steps.{kind_of_def}
-use Rattle.sync_top.specs.declared.status.Outcome.{Outcome}
-use Rattle.sync_top.specs.declared.status.Outcome.TheVariants as outcome
-use Rattle.sync_top.specs.declared.status.Status.{Status}
-use Rattle.sync_top.specs.Flow.{Flow, limit}
+use Rattle.sync_top.specs.declared.outcome.Outcome.{Outcome}
+use Rattle.sync_top.specs.declared.outcome.Outcome.TheVariants as outcome
+use Rattle.sync_words.specs.declared.status.Status.{Status}
+use Rattle.sync_top.specs.Flow.{Flow, IsIdle, limit}
 use Rattle.sync_top.specs.Outcomes.{status_of}
 use Rattle.sync_top.specs.Run.{Comes, Reports, ReadsStream, ReadsWhole, TriesClient}
 use Rattle.sync_top.specs.States.{TellsStates, TellsGroup, TellsWhole}
-use Rattle.sync_top.specs.Words.{Asked}
-use Rattle.sync_top.specs.Words.Asked.{Usage, Try, Records}
+use Rattle.sync_words.specs.Reading.{Asked}
+use Rattle.sync_words.specs.Reading.Asked.{Usage, Do}
+use Rattle.sync_words.specs.declared.command.Command.TheVariants as command
 
 module _ (law : (clients : Meaning) (kind : ℕ) (def : GroupValue) (records : List Record) (text : List ℕ)
     → kind_of_def clients def ≡ Some kind → IsTextOf clients def records text → SaysFates clients kind (group_id_of def) records text)
@@ -38,7 +39,7 @@ module _ (law : (clients : Meaning) (kind : ℕ) (def : GroupValue) (records : L
   }
 
   abbrev Tells : (name descriptor : List ℕ) → Outcome → Type 0
-  Tells name descriptor came = TellsWhole clients (Try name descriptor) input out (status_of came)
+  Tells name descriptor came = TellsWhole clients (Do (command.Try name descriptor)) input out (status_of came)
 
   group_states : (name descriptor : List ℕ) (o : Option ℕ) (came : Outcome) → clients.kind_of name 0 ≡ o
       → TriesClient clients name descriptor o input out came → Tells name descriptor came
@@ -64,8 +65,20 @@ module _ (law : (clients : Meaning) (kind : ℕ) (def : GroupValue) (records : L
   pub tells : (words : Asked) (err : Flow) (came : Outcome) (given : Status) → Comes clients words input out came → Reports came err given
       → TellsWhole clients words input out given
   tells (Usage place) err came given comes reports = tt
-  tells Records err came given comes reports = tt
-  tells (Try name descriptor) err came given comes (inl told) =
-      subst (TellsWhole clients (Try name descriptor) input out) (sym told.0) (group_states name descriptor (clients.kind_of name 0) came refl comes)
-  tells (Try name descriptor) err came given comes (inr memory) =
-      subst (TellsWhole clients (Try name descriptor) input out) (sym memory.0) tt
+  tells (Do (command.Try name descriptor)) err came given comes (inl told) =
+      subst (TellsWhole clients (Do (command.Try name descriptor)) input out) (sym told.0) (group_states name descriptor (clients.kind_of name 0) came refl comes)
+  tells (Do (command.Try name descriptor)) err came given comes (inr memory) =
+      subst (TellsWhole clients (Do (command.Try name descriptor)) input out) (sym memory.0) tt
+  tells (Do _) err came given comes reports = tt
+
+-- memory may be wanting for any words
+tries_memory : (clients : Meaning) (name descriptor : List ℕ) (o : Option ℕ) (input out : Flow) → IsIdle out
+    → TriesClient clients name descriptor o input out outcome.Memory
+tries_memory clients name descriptor None input out idle = idle
+tries_memory clients name descriptor (Some kind) input out idle = idle
+
+pub memory_comes : (clients : Meaning) (words : Asked) (input out : Flow) → IsIdle out → Comes clients words input out outcome.Memory
+memory_comes clients (Usage place) input out idle = idle
+memory_comes clients (Do (command.Try name descriptor)) input out idle = tries_memory clients name descriptor (clients.kind_of name 0) input out idle
+memory_comes clients (Do command.Records) input out idle = idle
+memory_comes clients (Do _) input out idle = idle

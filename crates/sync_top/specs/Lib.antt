@@ -1,4 +1,3 @@
-pub mod Words
 pub mod Outcomes
 pub mod Flow
 pub mod Pieces

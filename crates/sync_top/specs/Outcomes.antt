@@ -1,12 +1,15 @@
 -- The status of an outcome, and the line that the error output gets.
-use Rattle.std.specs.Prelude.{ℕ, List, [], ◌∷◌, ◌++◌, codes}
-use Rattle.std.specs.Fmt.{decimal}
+use Rattle.std.specs.Prelude.{ℕ, List, []}
 use Rattle.record_grammar.specs.declared.front.Reason.{Reason}
 use Rattle.record_grammar.specs.declared.front.Reason.TheVariants as reason
-use Rattle.sync_top.specs.declared.status.Status.{Status}
-use Rattle.sync_top.specs.declared.status.Status.TheVariants as status
-use Rattle.sync_top.specs.declared.status.Outcome.{Outcome}
-use Rattle.sync_top.specs.declared.status.Outcome.TheVariants as outcome
+use Rattle.sync_rules.specs.declared.states.Refused.TheVariants as refused
+use Rattle.sync_top.specs.declared.outcome.Outcome.{Outcome}
+use Rattle.sync_top.specs.declared.outcome.Outcome.TheVariants as outcome
+use Rattle.sync_words.specs.ErrorTexts.{bad_record_text, inside_text, plain_text, refused_text, usage_text}
+use Rattle.sync_words.specs.declared.error_lines.ReasonText.{ReasonText}
+use Rattle.sync_words.specs.declared.error_lines.ReasonText.TheVariants as reason_text
+use Rattle.sync_words.specs.declared.status.Status.{Status}
+use Rattle.sync_words.specs.declared.status.Status.TheVariants as status
 
 -- the status of an outcome
 abbrev pub status_of : Outcome → Status
@@ -20,26 +23,26 @@ status_of outcome.TooMuch = status.TooMuch
 status_of (outcome.Bad place why) = status.BadStream
 status_of (outcome.Inside place) = status.BadStream
 
--- a reason in words
-abbrev pub reason_text : Reason → List ℕ
-reason_text reason.WrongVersion = codes "wrong version"
-reason_text reason.TooLong = codes "too long"
-reason_text reason.EmptyIds = codes "empty id list"
-reason_text reason.RaggedIds = codes "ragged id list"
-reason_text reason.ShortMessage = codes "short message"
-reason_text reason.BodyTooLong = codes "body too long"
-reason_text reason.BadTimestamp = codes "bad timestamp"
-reason_text reason.BadVersions = codes "bad versions"
-reason_text reason.BadNonce = codes "bad nonce"
+-- a reason, as it is put in words
+abbrev pub in_words : Reason → ReasonText
+in_words reason.WrongVersion = reason_text.WrongVersion
+in_words reason.TooLong = reason_text.TooLong
+in_words reason.EmptyIds = reason_text.EmptyIds
+in_words reason.RaggedIds = reason_text.RaggedIds
+in_words reason.ShortMessage = reason_text.ShortMessage
+in_words reason.BodyTooLong = reason_text.BodyTooLong
+in_words reason.BadTimestamp = reason_text.BadTimestamp
+in_words reason.BadVersions = reason_text.BadVersions
+in_words reason.BadNonce = reason_text.BadNonce
 
 -- the line of an outcome, with its line feed
 abbrev pub line_of : Outcome → List ℕ
 line_of outcome.Done = []
-line_of (outcome.Usage place) = codes "usage: word " ++ decimal place ++ 10 ∷ []
-line_of outcome.UnknownClient = codes "refused: unknown client\n"
-line_of outcome.ReadFault = codes "read fault\n"
-line_of outcome.Memory = codes "out of memory\n"
-line_of outcome.WriteFault = codes "write fault\n"
-line_of outcome.TooMuch = codes "input too long\n"
-line_of (outcome.Bad place why) = codes "bad record at " ++ (decimal place ++ (codes ": " ++ (reason_text why ++ 10 ∷ [])))
-line_of (outcome.Inside place) = codes "ended inside a record at " ++ decimal place ++ 10 ∷ []
+line_of (outcome.Usage place) = usage_text place
+line_of outcome.UnknownClient = refused_text refused.UnknownClient
+line_of outcome.ReadFault = plain_text status.ReadFault
+line_of outcome.Memory = plain_text status.Memory
+line_of outcome.WriteFault = plain_text status.WriteFault
+line_of outcome.TooMuch = plain_text status.TooMuch
+line_of (outcome.Bad place why) = bad_record_text place (in_words why)
+line_of (outcome.Inside place) = inside_text place

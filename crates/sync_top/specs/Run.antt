@@ -12,15 +12,16 @@ use Rattle.sync_ids.specs.declared.records.Record.{Record}
 use Rattle.sync_rules.specs.Clients.{Meaning}
 use Rattle.sync_top.specs.declared.pieces.Stop.{Stop}
 use Rattle.sync_top.specs.declared.pieces.Stop.TheVariants as stop
-use Rattle.sync_top.specs.declared.status.Status.{Status}
-use Rattle.sync_top.specs.declared.status.Status.TheVariants as status
-use Rattle.sync_top.specs.declared.status.Outcome.{Outcome}
-use Rattle.sync_top.specs.declared.status.Outcome.TheVariants as outcome
+use Rattle.sync_words.specs.declared.status.Status.{Status}
+use Rattle.sync_words.specs.declared.status.Status.TheVariants as status
+use Rattle.sync_top.specs.declared.outcome.Outcome.{Outcome}
+use Rattle.sync_top.specs.declared.outcome.Outcome.TheVariants as outcome
 use Rattle.sync_top.specs.Flow.{Flow, IsIdle, GetsFront, Gets, limit}
 use Rattle.sync_top.specs.Outcomes.{line_of, status_of}
 use Rattle.sync_top.specs.RecordText.{items_text}
-use Rattle.sync_top.specs.Words.{Asked}
-use Rattle.sync_top.specs.Words.Asked.{Usage, Try, Records}
+use Rattle.sync_words.specs.Reading.{Asked}
+use Rattle.sync_words.specs.Reading.Asked.{Usage, Do}
+use Rattle.sync_words.specs.declared.command.Command.TheVariants as command
 
 -- the input was read to its end, which is within the limit
 pub record ReadsWhole (input : Flow) (read : List ℕ) : Type 0 where
@@ -83,17 +84,24 @@ PrintsPlay play why end out came = ((came ≡ outcome.Memory) × IsIdle out) ⊎
 -- `try` by whether its client is known: its text is that of a journal of the group that takes the records, settling after each
 abbrev pub TriesClient : Meaning → (name descriptor : List ℕ) → Option ℕ → (input out : Flow) → Outcome → Type 0
 TriesClient clients name descriptor None input out outcome.UnknownClient = Untouched input out
+TriesClient clients name descriptor None input out outcome.Memory = IsIdle out
 TriesClient clients name descriptor None input out _ = ⊥
 TriesClient clients name descriptor (Some kind) input out came =
     Streams (λ items text. IsTextOf clients (record { name = name; major = 0; descriptor = descriptor }) (records_of items) text) input out came
 
--- what the words ask for, and what it comes to
+-- faulty words come to their place; nothing was read or written
+abbrev pub Faulty : ℕ → (input out : Flow) → Outcome → Type 0
+Faulty place input out (outcome.Usage at) = (at ≡ place) × Untouched input out
+Faulty place input out outcome.Memory = IsIdle out
+Faulty place input out _ = ⊥
+
+-- what the words ask for, and what it comes to; a command that is not built is a faulty first word
 abbrev pub Comes : Meaning → Asked → (input out : Flow) → Outcome → Type 0
-Comes clients (Usage place) input out (outcome.Usage at) = (at ≡ place) × Untouched input out
-Comes clients (Usage place) input out _ = ⊥
-Comes clients (Try name descriptor) input out came =
+Comes clients (Usage place) input out came = Faulty place input out came
+Comes clients (Do (command.Try name descriptor)) input out came =
     TriesClient clients name descriptor (clients.kind_of name 0) input out came
-Comes clients Records input out came = Streams (λ items text. text ≡ items_text items) input out came
+Comes clients (Do command.Records) input out came = Streams (λ items text. text ≡ items_text items) input out came
+Comes clients (Do _) input out came = Faulty 0 input out came
 
 -- the error output got the line of the outcome, unless memory was wanting for the line: then the status says so
 abbrev pub Reports : Outcome → (err : Flow) → Status → Type 0

@@ -7,12 +7,13 @@ use Rattle.journal_play.specs.Fates.{SaysFates}
 use Rattle.sync_ids.specs.Ids.{group_id_of}
 use Rattle.sync_ids.specs.Values.{GroupValue}
 use Rattle.sync_rules.specs.Clients.{Meaning}
-use Rattle.sync_top.specs.declared.status.Status.{Status}
-use Rattle.sync_top.specs.declared.status.Status.TheVariants as status
+use Rattle.sync_words.specs.declared.status.Status.{Status}
+use Rattle.sync_words.specs.declared.status.Status.TheVariants as status
 use Rattle.sync_top.specs.Flow.{Flow}
 use Rattle.sync_top.specs.Run.{ReadsWhole}
-use Rattle.sync_top.specs.Words.{Asked}
-use Rattle.sync_top.specs.Words.Asked.{Try}
+use Rattle.sync_words.specs.Reading.{Asked}
+use Rattle.sync_words.specs.Reading.Asked.{Usage, Do}
+use Rattle.sync_words.specs.declared.command.Command.TheVariants as command
 
 -- the input was read to its end, and the output got a text that says the state of each message which the records of the
 -- bytes read bring to the group, whose client has this kind
@@ -32,6 +33,6 @@ TellsGroup clients name descriptor (Some kind) input out =
 
 -- `try` tells the states where it answers that all was done or that the input is no stream of records
 abbrev pub TellsWhole : Meaning → Asked → (input out : Flow) → Status → Type 0
-TellsWhole clients (Try name descriptor) input out status.Done = TellsGroup clients name descriptor (clients.kind_of name 0) input out
-TellsWhole clients (Try name descriptor) input out status.BadStream = TellsGroup clients name descriptor (clients.kind_of name 0) input out
+TellsWhole clients (Do (command.Try name descriptor)) input out status.Done = TellsGroup clients name descriptor (clients.kind_of name 0) input out
+TellsWhole clients (Do (command.Try name descriptor)) input out status.BadStream = TellsGroup clients name descriptor (clients.kind_of name 0) input out
 TellsWhole clients words input out given = Unit {0}

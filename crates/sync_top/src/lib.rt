@@ -2,14 +2,13 @@
 #![tactic(auto)]
 
 mod listener;
+mod outcome;
 mod pieces;
 mod player;
 mod program;
-mod record_lines;
-mod status;
 mod streams;
 mod text;
-mod words;
 
+pub use outcome::Outcome;
 pub use program::{report, run};
-pub use status::{Outcome, Status};
+pub use sync_words::Status;

@@ -5,9 +5,9 @@ ghost use Rattle.record_grammar.specs.declared.stream.Item.{Item};
 ghost use Rattle.sync_top.specs.Pieces.{Subject};
 ghost use Rattle.sync_top.specs.RecordText.{items_text};
 
-use crate::record_lines::{add_record_line, add_skipped_line};
 use record_grammar::Item;
 use std::alloc::{AllocError, Global};
+use sync_words::{record_line, skipped_line};
 
 /// What is handed the items of a stream, one after the other.
 pub trait Listener {
@@ -30,9 +30,9 @@ impl Listener for Lister {
 
     fn hear(&mut self, alloc: Global, item: Item) -> Result<(), AllocError> {
         match item {
-            Item::One(place, record) => add_record_line(alloc, place, &record, &mut self.text),
+            Item::One(place, record) => record_line(alloc, place, &record, &mut self.text),
             Item::Skipped(place, type_byte, len) => {
-                add_skipped_line(place, type_byte, len, &mut self.text)
+                skipped_line(place, type_byte, len, &mut self.text)
             }
         }
     }

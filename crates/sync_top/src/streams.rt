@@ -9,9 +9,9 @@ ghost use Rattle.sync_top.specs.RecordText.{items_text};
 ghost use Rattle.sync_top.specs.Run.{outcome_of, PrintEnds, PrintsPlay, Streams, TriesClient};
 
 use crate::listener::Lister;
+use crate::outcome::Outcome;
 use crate::pieces::{Heard, Stop, hear_input};
 use crate::player::Player;
-use crate::status::Outcome;
 use crate::text::write_text;
 use journal_play::Play;
 use outside::{Sink, Source};
