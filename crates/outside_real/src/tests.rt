@@ -31,11 +31,11 @@ fn a_disk_of_files(rt: HostRuntime) -> Result<(), Fail> {
 #[test]
 fn calls_that_fail(rt: HostRuntime) -> Result<(), Fail> {
     let mut nowhere = FileHost::new(rt, "no_folder")?;
+    assert_eq!(rt; nowhere.dial("std"), Err(Failed));
     assert_eq!(rt;
         (nowhere.len(0), nowhere.write_at(0, 0, b"a")),
         (Ok(0), Err(Failed))
     );
-    assert_eq!(rt; nowhere.dial("std"), Err(Failed));
     assert!(rt; nowhere.now() > 1_700_000_000_000);
     let folder = "a_folder_as_a_file";
     fs::create_dir(&rt, folder)?;
