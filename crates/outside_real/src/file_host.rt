@@ -1,5 +1,5 @@
 //! The disk, the links and the clock of this machine.
-ghost use Rattle.std.specs.Prelude.{◌≡◌, ◌≤◌, Ok, MatchResult};
+ghost use Rattle.std.specs.Prelude.{◌≡◌, ◌≤◌, IfOk, Ok, MatchResult};
 ghost use Rattle.outside.specs.Faults.{HasCause};
 
 use crate::real_file::RealFile;
@@ -25,7 +25,9 @@ pub struct FileHost<R: Runtime + Net> {
 
 impl<R: Runtime + AllocGlobal + Net> FileHost<R> {
     /// A host without links over the files in this folder, which need not be there.
-    pub fn new(rt: R, folder: &str) -> Result<FileHost<R>, AllocError> {
+    pub fn new(rt: R, folder: &str) -> Result<FileHost<R>, AllocError>
+        ensures no_links { IfOk result (λ h. h.dialled ≡ 0) }
+    {
         let first = RealFile::new(rt.alloc(), folder, "bsp.0")?;
         let second = RealFile::new(rt.alloc(), folder, "bsp.1")?;
         Ok(FileHost {

@@ -18,7 +18,11 @@ fn shown(alloc: Global, words: &[&str]) -> Result<String, Fail> {
     for word in words {
         texts.push(String::from_str(alloc, word)?)?;
     }
-    match read_words(alloc, texts.as_slice()) {
+    read(alloc, texts.as_slice())
+}
+
+fn read(alloc: Global, texts: &[String]) -> Result<String, Fail> {
+    match read_words(alloc, texts) {
         Ok(command) => show(alloc, &command),
         Err(WordsFault::Usage(place)) => Ok(format!(in alloc; "usage {place}")?),
         Err(WordsFault::Memory) => Err(Fail::from("no memory")),
@@ -140,22 +144,58 @@ fn expect(rt: &impl Abort, alloc: Global, words: &[&str], want: &str) -> Result<
     Ok(())
 }
 
+// A word of a text that is repeated so many times.
+fn repeated(alloc: Global, text: &str, times: usize) -> Result<String, Fail> {
+    let mut word = String::new(alloc);
+    for _i in 0..times {
+        word.push_str(text)?;
+    }
+    Ok(word)
+}
+
+// The same for words that are each a repeated text.
+fn expect_long(
+    rt: &impl Abort,
+    alloc: Global,
+    words: &[(&str, usize)],
+    want: &str,
+) -> Result<(), Fail> {
+    let mut texts = Vec::new(alloc);
+    for (text, times) in words {
+        texts.push(repeated(alloc, text, *times)?)?;
+    }
+    assert_eq!(rt;
+        read(alloc, texts.as_slice())?.as_str(),
+        want,
+        "at {words:?}"
+    );
+    Ok(())
+}
+
 #[test]
 fn long_words(rt: HostRuntime) -> Result<(), Fail> {
-    let alloc = rt.alloc();
-    let longest = "n".repeat(alloc, 255)?;
-    let longer = "n".repeat(alloc, 256)?;
-    let most = "d".repeat(alloc, 16_384)?;
-    let more = "d".repeat(alloc, 16_385)?;
-    let (longest, longer) = (longest.as_str(), longer.as_str());
-    let (most, more) = (most.as_str(), more.as_str());
-    expect(&rt, alloc, &["try", longest, most, ""], "usage 3")?;
-    expect(&rt, alloc, &["try", longest], "usage 2")?;
-    expect(&rt, alloc, &["try", longer, more, "x"], "usage 1")?;
-    expect(&rt, alloc, &["try", "note", more], "usage 2")?;
-    expect(&rt, alloc, &["group", longest, "0", most, ""], "usage 4")?;
-    expect(&rt, alloc, &["group", longer, "x", "d"], "usage 1")?;
-    expect(&rt, alloc, &["group", "note", "0", more], "usage 3")
+    let cases: [(&[(&str, usize)], &str); 7] = [
+        (&[("try", 1), ("n", 255), ("d", 16_384), ("", 1)], "usage 3"),
+        (&[("try", 1), ("n", 255)], "usage 2"),
+        (
+            &[("try", 1), ("n", 256), ("d", 16_385), ("x", 1)],
+            "usage 1",
+        ),
+        (&[("try", 1), ("note", 1), ("d", 16_385)], "usage 2"),
+        (
+            &[("group", 1), ("n", 255), ("0", 1), ("d", 16_384), ("", 1)],
+            "usage 4",
+        ),
+        (&[("group", 1), ("n", 256), ("x", 1), ("d", 1)], "usage 1"),
+        (
+            &[("group", 1), ("note", 1), ("0", 1), ("d", 16_385)],
+            "usage 3",
+        ),
+    ];
+    for (words, want) in cases {
+        expect_long(&rt, rt.alloc(), words, want)?;
+    }
+    Ok(())
 }
 
 fn id(text: &str) -> Result<MessageId, Fail> {
