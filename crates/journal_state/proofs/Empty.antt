@@ -1,0 +1,50 @@
+-- The parts of a journal that has no entries.
+use Rattle.std.proofs.Common.{◌≡◌, ℕ, ◌+◌, ◌<◌, ◌≤◌, Bool, true, false, List, [], ◌∷◌, Option, Some, None, slice_get, refl, sym, ◌∙◌, ap, subst}
+use Rattle.std.specs.FinMap as fin_map
+use Rattle.std.proofs.lemmas.Bool.{false≢true}
+use Rattle.sync_rules.specs.Facts.{Held, Id, Rows, pair_cmp, level_or, is_invisible, nothing}
+use Rattle.message_graph.specs.declared.nodes.Node.{Node}
+use Rattle.retry_table.specs.Table as retry
+use Rattle.visibility_table.specs.Table as levels
+use Rattle.journal_state.specs.Parts.{Parts, put_rows, rows_from, rows_in}
+use Rattle.journal_state.specs.Whole.{StateValue, IsState, empty_state, value_of}
+
+abbrev pub empty_parts : retry.Table → Parts
+empty_parts table = record {
+  table = levels.empty_table;
+  held = [];
+  begun = record { sessions = []; takes = fin_map.empty; room = 0 };
+  nodes = [];
+  shares = [];
+  delivered = [];
+  retry = table;
+}
+
+no_rows : (contact : ℕ) (ks : List retry.Kept) (rows : Rows) → put_rows contact ks [] rows ≡ rows
+no_rows contact [] rows = refl
+no_rows contact (k ∷ ks) rows = refl
+
+none_from : (contact : ℕ) (each : List (List retry.Kept)) → rows_from contact each [] ≡ fin_map.empty
+none_from contact [] = refl
+none_from contact (ks ∷ each) = no_rows contact ks (rows_from (contact + 1) each []) ∙ none_from (contact + 1) each
+
+not_there : {A : Type 0} (n : ℕ) (x : A) → slice_get [] n ≡ Some x → ⊥
+not_there n x e = let none : None ≡ Some x = e in cc
+
+pub empty_is_state : (table : retry.Table) → retry.IsEmpty table → IsState (empty_parts table)
+empty_is_state table none = record {
+  named = refl;
+  grouped = λ n h node at there. absurd (not_there n h at);
+  distinct = λ n h at. absurd (not_there n h at);
+  each_share = refl;
+  order = λ n node at unjudged. absurd (not_there n node at);
+  within = refl;
+  ended = λ id. refl;
+  free_rows = λ contact n beyond. ap (λ (ks : List retry.Kept). retry.kept_in ks n) (none contact).0;
+  free_wants = λ contact beyond. ap (λ (w : retry.Wants). w.ids) (none contact).1;
+  shown = λ contact group e. absurd (false≢true (sym e ∙ ap (λ o. is_invisible (level_or o)) (fin_map.get-empty pair_cmp (contact, group))));
+  ready = λ contact n h known at. absurd (not_there n h at);
+}
+
+pub empty_value : (table : retry.Table) → value_of (empty_parts table) ≡ empty_state
+empty_value table = λ i. record { facts = record nothing { rows = none_from 0 table.rows i }; answers = [] }

@@ -1,0 +1,12 @@
+pub mod Places
+pub mod Numbers
+pub mod Pairs
+pub mod Rows
+pub mod Wants
+pub mod Listed
+pub mod Seen
+pub mod Empty
+pub mod Paired
+pub mod Apart
+pub mod Next
+pub mod Lending

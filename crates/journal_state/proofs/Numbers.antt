@@ -1,0 +1,59 @@
+-- Sessions by their numbers, and the counts of the records taken on them.
+use Rattle.std.proofs.Common.{◌≡◌, ℕ, zero, suc, ◌+◌, Bool, true, false, cond, nat_eq, List, [], ◌∷◌, ◌++◌, length, Option, Some, None, slice_get, refl, sym, ◌∙◌, ap, subst, arith}
+use Rattle.std.specs.FinMap as fin_map
+use Rattle.std.specs.Cmp.{IsTotalOrder, nat_cmp_total, unsigned_ties, eq_by_cmp_equiv}
+use Rattle.std.specs.Ordering.{nat_cmp, eq_by_cmp}
+use Rattle.std.specs.Map.{lookup}
+use Rattle.sync_rules.specs.declared.entries.Session.{Session}
+use Rattle.sync_rules.specs.Facts.{session_at, takes_of, count_or}
+use Rattle.journal_state.specs.Begun.{IsNumbered}
+
+-- ---- sessions
+
+other_number : (s : Session) (i n : ℕ) (o : Option Session) → s.number ≡ i → cond (nat_eq s.number (i + suc n)) (Some s) o ≡ o
+other_number s i n o is = grind arith
+
+own_number : (s : Session) (i : ℕ) (o : Option Session) → s.number ≡ i → cond (nat_eq s.number (i + 0)) (Some s) o ≡ Some s
+own_number s i o is = grind arith
+
+numbered_from : (i n : ℕ) (ss : List Session) → IsNumbered i ss → session_at ss (i + n) ≡ slice_get ss n
+numbered_from i n [] h = refl
+numbered_from i zero (s ∷ ss) h = own_number s i (session_at ss (i + 0)) h.0
+numbered_from i (suc n) (s ∷ ss) h =
+    let further : i + suc n ≡ (i + 1) + n = omega arith in
+    other_number s i n (session_at ss (i + suc n)) h.0 ∙ (ap (session_at ss) further ∙ numbered_from (i + 1) n ss h.1)
+
+-- the session of a number stands at that place
+pub numbered_at : (n : ℕ) (ss : List Session) → IsNumbered 0 ss → slice_get ss n ≡ session_at ss n
+numbered_at n ss h = let e : 0 + n ≡ n = omega arith in sym (ap (session_at ss) (sym e) ∙ numbered_from 0 n ss h)
+
+numbered_more : (i : ℕ) (ss : List Session) (s : Session) → IsNumbered i ss → s.number ≡ i + length ss → IsNumbered i (ss ++ s ∷ [])
+numbered_more i [] s h e = (omega arith, tt)
+numbered_more i (x ∷ ss) s h e = (h.0, numbered_more (i + 1) ss s h.1 (omega arith))
+
+-- one session more
+pub numbered_push : (ss : List Session) (s : Session) → IsNumbered 0 ss → s.number ≡ length ss → IsNumbered 0 (ss ++ s ∷ [])
+numbered_push ss s h e = numbered_more 0 ss s h (omega arith)
+
+-- ---- counts
+
+find-lookup : (q : ℕ) (es : List (ℕ × ℕ)) → fin_map.find nat_cmp q es ≡ lookup (nat_eq q) es
+find-lookup q [] = refl
+find-lookup q (e ∷ es) = λ i. cond (sym (unsigned_ties q e.0) i) (Some e.1) (find-lookup q es i)
+
+got : (es : List (ℕ × ℕ)) (q : ℕ) → fin_map.get (fin_map.from_entries {R = nat_cmp} es) q ≡ lookup (nat_eq q) es
+got es q = fin_map.get-from_entries nat_cmp_total es q ∙ find-lookup q es
+
+swapped : (a b : ℕ) → eq_by_cmp nat_cmp a b ≡ nat_eq b a
+swapped a b = (eq_by_cmp_equiv nat_cmp_total).symm a b ∙ sym (unsigned_ties b a)
+
+-- the records taken on a session are those that are counted
+pub kept_count : (es : List (ℕ × ℕ)) (n : ℕ) → takes_of (fin_map.from_entries {R = nat_cmp} es) n ≡ count_or (lookup (nat_eq n) es)
+kept_count es n = ap count_or (got es n)
+
+-- what is counted once one count is set
+pub kept_counted : (es new : List (ℕ × ℕ)) (k v : ℕ) → ((q : ℕ) → lookup (nat_eq q) new ≡ cond (nat_eq k q) (Some v) (lookup (nat_eq q) es))
+    → ◌≡◌ {A = fin_map.FinMap nat_cmp ℕ} (fin_map.from_entries new) (fin_map.insert (fin_map.from_entries es) k v)
+kept_counted es new k v h =
+    fin_map.same_map nat_cmp_total fin_map.nat_cmp-IsAntisymmetric _ _
+    (λ q. got new q ∙ h q ∙ sym (fin_map.get-insert nat_cmp_total (fin_map.from_entries es) k v q ∙ (λ i. cond (swapped q k i) (Some v) (got es q i))))

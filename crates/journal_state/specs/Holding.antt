@@ -1,0 +1,13 @@
+-- The held messages, in order of arrival.
+use Rattle.std.specs.Prelude.{ℕ, List}
+use Rattle.sync_rules.specs.Facts.{Held, Id}
+use Rattle.journal_state.specs.declared.held.Kept.{Kept}
+
+-- the held messages, and for how many more there is room
+pub record Holding : Type 0 where
+  pub held : List Held
+  pub room : ℕ
+
+-- a held message as it is kept under its id
+abbrev pub held_of : Id × Kept → Held
+held_of e = record { id = e.0; message = e.1.message; origin = e.1.origin }

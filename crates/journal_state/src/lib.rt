@@ -1,0 +1,10 @@
+//! The state of a journal without a disk.
+#![tactic(auto)]
+
+mod held;
+mod sessions;
+mod state;
+mod steps;
+mod view;
+
+pub use state::State;

@@ -1,0 +1,111 @@
+//! The sessions, and the records taken on each.
+ghost use Rattle.std.specs.Prelude.{◌≡◌, ◌+◌, ◌-◌, ◌^◌, ◌<◌, ◌++◌, ◌∷◌, [], max, length, IfOk, OnOk, OnErr};
+ghost use Rattle.std.specs.FinMap as fin_map;
+ghost use Rattle.sync_rules.specs.Facts.{session_at, takes_of};
+
+use indexmap::IndexMap;
+use std::alloc::{AllocError, Global};
+use std::marker::Model;
+use sync_rules::Session;
+
+/// The sessions, numbered from 0, and how many records were taken on each. Contracts see the list of the sessions, a map from
+/// the numbers of those on which a record was taken, and for how many more sessions and records there is room.
+#[derive(Drop)]
+pub(crate) struct Sessions {
+    sessions: Vec<Session>,
+    counts: IndexMap<u32, u64>,
+    space: usize,
+}
+
+impl Model for Sessions {
+    ghost use Rattle.journal_state.specs.Begun.{Begun, begun_code, IsNumbered};
+
+    ghost Value = { Begun };
+
+    ghost coded = { begun_code };
+
+    ghost use Rattle.std.specs.Prelude.{◌+◌, ◌<◌, ◌^◌, ◌≤◌, length, vec_capacity};
+    ghost use Rattle.std.specs.FinMap as fin_map;
+    ghost use Rattle.std.specs.Ordering.{nat_cmp};
+    ghost use Rattle.indexmap.specs.IndexMap.{spare};
+
+    ghost view = { λ s. record { sessions = s.sessions.items; takes = fin_map.from_entries {R = nat_cmp} s.counts.entries; room = s.space } };
+
+    ghost invariant = { λ s. IsNumbered 0 s.sessions.items × (length s.sessions.items < 2 ^ 32) × (length s.sessions.items + s.space ≤ vec_capacity s.sessions) × (s.space ≤ spare s.counts) };
+}
+
+impl Sessions {
+    /// No sessions, and no room.
+    pub(crate) fn new(alloc: Global) -> Sessions
+        ensures { result ≡ record { sessions = []; takes = fin_map.empty; room = 0 } }
+    {
+        Sessions {
+            sessions: Vec::new(alloc),
+            counts: IndexMap::new(alloc),
+            space: 0,
+        }
+    }
+
+    /// Makes room for that many more sessions and records; it never takes room away. After an error all is as before.
+    pub(crate) fn reserve(&mut self, entries: usize) -> Result<(), AllocError>
+        ensures ok { OnOk result (self.new ≡ record self.old { room = max self.old.room entries }) }
+        ensures err { OnErr result (self.new ≡ self.old) }
+    {
+        self.sessions.reserve(entries)?;
+        self.counts.reserve(entries)?;
+        self.space = self.space.max(entries);
+        Ok(())
+    }
+
+    /// Begins a session, which has the next number.
+    pub(crate) fn begin(&mut self, session: &Session)
+        requires numbered { session.now.number ≡ length self.old.sessions }
+        requires room { 0 < self.old.room }
+        requires few { length self.old.sessions < 2 ^ 32 - 1 }
+        ensures { self.new ≡ record self.old { sessions = self.old.sessions ++ session.now ∷ []; room = self.old.room - 1 } }
+    {
+        let nonce = session.nonce;
+        self.sessions.push(Session { nonce, ..*session }).unwrap();
+        self.space -= 1;
+    }
+
+    /// Counts a record taken on a session.
+    pub(crate) fn take(&mut self, number: u32)
+        requires room { 0 < self.old.room }
+        requires few { takes_of self.old.takes number < 2 ^ 64 - 1 }
+        ensures { self.new ≡ record self.old { takes = fin_map.insert self.old.takes number (takes_of self.old.takes number + 1); room = self.old.room - 1 } }
+    {
+        let count = self.takes(number);
+        self.counts.insert(number, count + 1).unwrap();
+        self.space -= 1;
+    }
+
+    /// The number of sessions.
+    pub(crate) fn len(&self) -> u32
+        ensures { result ≡ length self.now.sessions }
+    {
+        self.sessions.len() as u32
+    }
+
+    /// The session of this number. `None` comes exactly where there is none.
+    pub(crate) fn find(&self, number: u32) -> Option<Session>
+        ensures { result ≡ session_at self.now.sessions number }
+    {
+        let place = number as usize;
+        if place < self.sessions.len() {
+            Some(self.sessions[place])
+        } else {
+            None
+        }
+    }
+
+    /// How many records were taken on the session.
+    pub(crate) fn takes(&self, number: u32) -> u64
+        ensures { result ≡ takes_of self.now.takes number }
+    {
+        match self.counts.get(&number) {
+            Some(count) => *count,
+            None => 0,
+        }
+    }
+}

@@ -1,0 +1,137 @@
+//! `State`.
+ghost use Rattle.std.specs.Prelude.{◌≡◌, ◌<◌, length, IfOk, Some, slice_get};
+ghost use Rattle.std.specs.Option.{option_map};
+ghost use Rattle.journal_state.specs.Whole.{empty_state};
+ghost use Rattle.journal_state.specs.Lent.{StandsForRows};
+
+use crate::held::Messages;
+use crate::sessions::Sessions;
+use message_graph::Graph;
+use retry_table::Retry;
+use std::alloc::{AllocError, Global};
+use std::marker::Model;
+use sync_ids::{GroupDef, GroupId, Message, MessageId};
+use sync_rules::Origin;
+use visibility_table::Levels;
+
+/// The state of a journal without a disk: all that is asked of a journal, kept so that no answer needs a walk over its entries.
+/// Contracts see the facts of the journal, and the judgements of its messages.
+#[derive(Drop)]
+pub struct State {
+    pub(crate) table: Levels,
+    pub(crate) messages: Messages,
+    pub(crate) sessions: Sessions,
+    pub(crate) graph: Graph,
+    pub(crate) shares: Vec<bool>,
+    pub(crate) delivered: Vec<u32>,
+    pub(crate) retry: Retry,
+}
+
+impl Model for State {
+    ghost use Rattle.journal_state.specs.Whole.{StateValue, state_code, value_of, IsState};
+
+    ghost Value = { StateValue };
+
+    ghost coded = { state_code };
+
+    ghost use Rattle.journal_state.specs.Inside.{parts};
+
+    ghost view = { λ s. value_of (parts s) };
+
+    ghost invariant = { λ s. IsState (parts s) };
+}
+
+impl State {
+    /// The state of a journal that has no entries. Answers an error where there is no memory.
+    pub fn new(alloc: Global) -> Result<State, AllocError>
+        ensures { IfOk result (λ s. s ≡ empty_state) }
+    {
+        let table = Levels::new(alloc)?;
+        let graph = Graph::new(alloc)?;
+        let retry = Retry::new(alloc)?;
+        Ok(State {
+            table,
+            messages: Messages::new(alloc),
+            sessions: Sessions::new(alloc),
+            graph,
+            shares: Vec::new(alloc),
+            delivered: Vec::new(alloc),
+            retry,
+        })
+    }
+
+    /// The number of held messages.
+    pub fn held(&self) -> u32
+        ensures { result ≡ length self.now.facts.held }
+    {
+        self.messages.len()
+    }
+
+    /// The number of contacts.
+    pub fn contacts(&self) -> u32
+        ensures { result ≡ self.now.facts.contacts }
+    {
+        self.table.contacts()
+    }
+
+    /// The number of groups.
+    pub fn groups(&self) -> u32
+        ensures { result ≡ length self.now.facts.groups }
+    {
+        self.table.groups()
+    }
+
+    /// The number of sessions.
+    pub fn sessions(&self) -> u32
+        ensures { result ≡ length self.now.facts.sessions }
+    {
+        self.sessions.len()
+    }
+
+    /// The definition of the group of this number, which is below the number of groups.
+    pub fn group_def(&self, n: u32) -> &GroupDef
+        requires { n < length self.now.facts.groups }
+        ensures { option_map (λ g. g.def) (slice_get self.now.facts.groups n) ≡ Some result.now }
+    {
+        self.table.def(n)
+    }
+
+    /// The id of the group of this number, which is below the number of groups.
+    pub fn group_id_at(&self, n: u32) -> GroupId
+        requires { n < length self.now.facts.groups }
+        ensures { option_map (λ g. g.id) (slice_get self.now.facts.groups n) ≡ Some result }
+    {
+        self.table.id(n)
+    }
+
+    /// The held message of this arrival number, which is below the number of held messages.
+    pub fn message(&self, n: u32) -> &Message
+        requires { n < length self.now.facts.held }
+        ensures { option_map (λ h. h.message) (slice_get self.now.facts.held n) ≡ Some result.now }
+    {
+        self.messages.message(n)
+    }
+
+    /// The id of the held message of this arrival number, which is below the number of held messages.
+    pub fn id_at(&self, n: u32) -> MessageId
+        requires { n < length self.now.facts.held }
+        ensures { option_map (λ h. h.id) (slice_get self.now.facts.held n) ≡ Some result }
+    {
+        self.messages.id(n)
+    }
+
+    /// Where the held message of this arrival number came from; the number is below the number of held messages.
+    pub fn origin(&self, n: u32) -> Origin
+        requires { n < length self.now.facts.held }
+        ensures { option_map (λ h. h.origin) (slice_get self.now.facts.held n) ≡ Some result }
+    {
+        self.messages.origin(n)
+    }
+
+    /// The table of what is due to each contact.
+    pub fn retry(&self) -> &Retry
+        ensures { StandsForRows self.now result.now }
+    {
+        &self.retry
+    }
+}

@@ -1,0 +1,40 @@
+//! The next step of a journal.
+ghost use Rattle.std.specs.Prelude.{◌≡◌, ◌<◌, ◌↔◌, length, IsTrue};
+ghost use Rattle.sync_rules.specs.Clients.{Meaning};
+ghost use Rattle.sync_rules.specs.Steps.{next, IsSettled};
+ghost use Rattle.journal_state.specs.Whole.{id_at, Knows};
+ghost use Rattle.journal_state.specs.Stepping.{entry_of, number_in};
+
+use crate::state::State;
+use message_graph::Step;
+use sync_rules::Entry;
+
+impl State {
+    /// The next step of the journal: that of the first held message, in order of arrival, that has one. `None` comes exactly where
+    /// the journal is settled.
+    pub fn next_step(&self) -> Option<Entry>
+        ensures { (clients : Meaning) → Knows clients self.now → result ≡ next clients self.now.facts }
+    {
+        let step = self.graph.next()?;
+        Some(self.entry_of(step))
+    }
+
+    /// The entry of a step.
+    fn entry_of(&self, step: Step) -> Entry
+        requires { number_in step < length self.now.facts.held }
+        ensures { result ≡ entry_of (id_at self.now.facts.held) step }
+    {
+        match step {
+            Step::Judge(n) => Entry::Judged(self.id_at(n)),
+            Step::Invalid(n) => Entry::Invalid(self.id_at(n)),
+            Step::Deliver(n) => Entry::Deliver(self.id_at(n)),
+        }
+    }
+
+    /// Whether the journal is settled.
+    pub fn is_settled(&self) -> bool
+        ensures { (clients : Meaning) → Knows clients self.now → (IsTrue result ↔ IsSettled clients self.now.facts) }
+    {
+        self.graph.next().is_none()
+    }
+}
