@@ -10,3 +10,7 @@ pub mod Paired
 pub mod Apart
 pub mod Next
 pub mod Lending
+pub mod Changed
+pub mod Judging
+pub mod Stepped
+pub mod Found

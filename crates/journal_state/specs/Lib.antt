@@ -6,3 +6,4 @@ pub mod Whole
 pub mod Inside
 pub mod Lent
 pub mod Stepping
+pub mod Changes

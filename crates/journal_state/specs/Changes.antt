@@ -1,0 +1,14 @@
+-- What a step makes of the parts.
+use Rattle.std.specs.Prelude.{ℕ, Bool, List, [], ◌∷◌, ◌++◌, slice_set}
+use Rattle.message_graph.specs.declared.nodes.Judged.{Judged}
+use Rattle.message_graph.specs.declared.nodes.Ending.TheVariants as ending
+use Rattle.message_graph.specs.Nodes as nodes
+use Rattle.journal_state.specs.Parts.{Parts}
+
+-- the message of a number is judged
+abbrev pub judged_parts : Parts → ℕ → Judged → Bool → Parts
+judged_parts p n answer share = record p { nodes = nodes.with_answer n answer p.nodes; shares = slice_set p.shares n share }
+
+-- the message of a number is invalid
+abbrev pub invalid_parts : Parts → ℕ → Parts
+invalid_parts p n = record p { nodes = nodes.with_ending n ending.Invalid p.nodes }
