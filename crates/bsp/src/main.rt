@@ -16,7 +16,7 @@ fn main(rt: HostRuntime) -> ExitCode {
     let Ok(words) = arguments::words(&rt, alloc) else {
         return out_of_memory(alloc, &mut err);
     };
-    let Ok(mut host) = FileHost::new(rt, folder_in(words.as_slice())) else {
+    let Ok(mut host) = FileHost::new(rt, ".") else {
         return out_of_memory(alloc, &mut err);
     };
     let mut input = StdSource::new(rt.stdin());
@@ -31,14 +31,6 @@ fn main(rt: HostRuntime) -> ExitCode {
         &Bundle::new(),
     );
     ExitCode::from(status as u8)
-}
-
-// The folder of the command's store: the word after the command.
-fn folder_in(words: &[String]) -> &str {
-    match words.get(1) {
-        Some(word) => word.as_str(),
-        None => "",
-    }
 }
 
 fn out_of_memory<S: Sink>(alloc: Global, err: &mut S) -> ExitCode {
