@@ -11,6 +11,9 @@ pub mod Apart
 pub mod Next
 pub mod Lending
 pub mod Changed
-pub mod Judging
+pub mod Answered
 pub mod Stepped
 pub mod Found
+pub mod Grown
+pub mod Delivered
+pub mod Made
