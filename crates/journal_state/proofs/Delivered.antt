@@ -1,9 +1,9 @@
 -- The parts after a step that delivers a message.
-use Rattle.std.proofs.Common.{◌≡◌, ◌≢◌, ℕ, zero, suc, ◌<◌, ◌≤◌, Bool, true, false, cond, ◌&&◌, ◌||◌, List, [], ◌∷◌, ◌++◌, length, map, nat_eq, nat_lt, Option, None, Some, slice_get, slice_index_or, refl, sym, ◌∙◌, ap, subst, arith, eqb-true}
+use Rattle.std.proofs.Common.{◌≡◌, ◌≢◌, ℕ, zero, suc, ◌+◌, ◌<◌, ◌≤◌, Bool, true, false, cond, ◌&&◌, ◌||◌, List, [], ◌∷◌, ◌++◌, length, map, nat_eq, nat_lt, Option, None, Some, slice_get, slice_index_or, refl, sym, ◌∙◌, ap, subst, arith, eqb-true}
 use Rattle.std.specs.List.{list_all}
 use Rattle.std.specs.FinSet as fin_set
 use Rattle.std.proofs.lemmas.Bool.{false≢true, and_parts, and_from}
-use Rattle.std.proofs.lemmas.List.{map-append}
+use Rattle.std.proofs.lemmas.List.{map-append, length-append}
 use Rattle.sync_rules.specs.declared.answers.Judgement.{Judgement}
 use Rattle.sync_rules.specs.declared.entries.Entry.TheVariants as entry
 use Rattle.sync_rules.specs.Clients.{Meaning}
@@ -19,6 +19,7 @@ use Rattle.message_graph.specs.declared.nodes.Ending.{Ending}
 use Rattle.message_graph.specs.declared.nodes.Ending.TheVariants as ending
 use Rattle.message_graph.specs.Nodes as nodes
 use Rattle.retry_table.specs.Table as retry
+use Rattle.journal_state.specs.Left.{one_if_delivered, sum_of}
 use Rattle.journal_state.specs.Parts.{Parts, answer_of_node, answers_of, facts_of, is_invalid, is_judged, name_at, ids_where, rows_in, shared_among, wants_in}
 use Rattle.journal_state.specs.Whole.{IsState, Knows, id_at, is_delivered_in, may_go, value_of}
 use Rattle.journal_state.specs.Changes.{delivered_parts}
@@ -30,6 +31,7 @@ use Rattle.journal_state.proofs.Changed.{names_of, own_found, names_kept, named_
 use Rattle.journal_state.proofs.Answered.{ids_of}
 use Rattle.journal_state.proofs.Stepped.{answers_kept, kept_at, length_kept, name_there, ordered_end, within_list}
 use Rattle.journal_state.proofs.Grown.{rows_same, wants_same}
+use Rattle.journal_state.proofs.Sums.{sum_changed}
 
 -- ---- lists with one more
 
@@ -233,6 +235,12 @@ module _ (p : Parts) (s : IsState p) (n : ℕ) (y : Node) (h : Held) (at : slice
           ap (λ m. list_all (λ k. nat_lt k m) (p.delivered ++ n ∷ [])) (length_kept end_delivered n p.nodes)
           ∙ all_more (λ k. nat_lt k (length p.nodes)) p.delivered n s.within (let below : n < length p.nodes = within_list p.nodes n y at in grind (arith, below));
       ended = ended_now;
+      many =
+          let more : length (p.delivered ++ n ∷ []) ≡ length p.delivered + 1 = length-append p.delivered (n ∷ []) in
+          let was : one_if_delivered y ≡ 0 = ap (λ e. cond (nodes.is_delivered e) 1 0) open_now in
+          let sums : sum_of one_if_delivered (nodes.with_ending n ending.Delivered p.nodes) + one_if_delivered y ≡ sum_of one_if_delivered p.nodes + 1 =
+          sum_changed one_if_delivered end_delivered n p.nodes y at in
+          omega (arith, more, was, sums, s.many);
       free_rows = λ contact k beyond.
           r.apart contact k (λ q. let below : n < length p.held = within_list p.held n h there in absurd (omega (arith, below, q, beyond)))
           ∙ s.free_rows contact k beyond;

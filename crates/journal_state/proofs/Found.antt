@@ -72,11 +72,9 @@ told held number group s (Some (judged.Accepted names)) None node g p q e =
     (sym (ap (λ o. nodes.step_judged held number node.group (judged.Accepted names) o) q) ∙ e)
 
 -- the node of the next step
-pub record IsNext (p : Parts) (s : Step) : Type 0 where
+pub record IsNextNode (ns : List Node) (s : Step) : Type 0 where
   pub node : Node
-  pub message : Held
-  pub at : slice_get p.nodes (number_in s) ≡ Some node
-  pub there : slice_get p.held (number_in s) ≡ Some message
+  pub at : slice_get ns (number_in s) ≡ Some node
   pub tells : Tells s (number_in s) node.answer node.ending
 
 number_told : (s : Step) (number : ℕ) (a : Option Judged) (end : Option Ending) → Tells s number a end → number ≡ number_in s
@@ -84,21 +82,32 @@ number_told (step.Judge n) number a end t = sym t.0
 number_told (step.Invalid n) number a end t = sym t.0
 number_told (step.Deliver n) number a end t = sym t.0
 
-pub next_found : (p : Parts) → IsState p → (s : Step) → nodes.next p.nodes ≡ Some s → IsNext p s
-next_found p st s e =
-    let f = first_of p.nodes 0 p.nodes s e in
-    let t = told (nodes.node_named p.nodes) (0 + f.place) f.node.group s f.node.answer f.node.ending f.node refl refl refl f.is in
+pub node_found : (ns : List Node) (s : Step) → nodes.next ns ≡ Some s → IsNextNode ns s
+node_found ns s e =
+    let f = first_of ns 0 ns s e in
+    let t = told (nodes.node_named ns) (0 + f.place) f.node.group s f.node.answer f.node.ending f.node refl refl refl f.is in
     let zero_place : 0 + f.place ≡ f.place = omega arith in
     let number : f.place ≡ number_in s = sym zero_place ∙ number_told s (0 + f.place) f.node.answer f.node.ending t in
-    let within : number_in s < length p.held = (let below : number_in s < length p.nodes = next_within p.nodes s e in omega (arith, below, many_nodes p st)) in
-    let h = there p.held (number_in s) within in
     record {
       node = f.node;
-      message = h.0;
-      at = ap (slice_get p.nodes) (sym number) ∙ f.at;
-      there = h.1;
+      at = ap (slice_get ns) (sym number) ∙ f.at;
       tells = subst (λ k. Tells s k f.node.answer f.node.ending) (number_told s (0 + f.place) f.node.answer f.node.ending t) t;
     }
+
+-- the node and the message of the next step
+pub record IsNext (p : Parts) (s : Step) : Type 0 where
+  pub node : Node
+  pub message : Held
+  pub at : slice_get p.nodes (number_in s) ≡ Some node
+  pub there : slice_get p.held (number_in s) ≡ Some message
+  pub tells : Tells s (number_in s) node.answer node.ending
+
+pub next_found : (p : Parts) → IsState p → (s : Step) → nodes.next p.nodes ≡ Some s → IsNext p s
+next_found p st s e =
+    let f : IsNextNode p.nodes s = node_found p.nodes s e in
+    let within : number_in s < length p.held = (let below : number_in s < length p.nodes = next_within p.nodes s e in omega (arith, below, many_nodes p st)) in
+    let h = there p.held (number_in s) within in
+    record { node = f.node; message = h.0; at = f.at; there = h.1; tells = f.tells }
 
 -- ---- a step by its entry
 

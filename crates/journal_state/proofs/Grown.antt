@@ -103,6 +103,7 @@ grown_state p s t g = record {
   order = s.order;
   within = s.within;
   ended = s.ended;
+  many = s.many;
   free_rows = λ contact n beyond. g.kept contact n ∙ s.free_rows contact n beyond;
   free_wants = λ contact beyond. g.wants contact ∙ s.free_wants contact beyond;
   shown = s.shown;

@@ -10,10 +10,13 @@ pub mod Paired
 pub mod Apart
 pub mod Next
 pub mod Lending
+pub mod Sums
 pub mod Changed
 pub mod Answered
 pub mod Stepped
 pub mod Found
+pub mod Lesser
 pub mod Grown
 pub mod Delivered
 pub mod Made
+pub mod Fated

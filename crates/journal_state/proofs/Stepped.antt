@@ -18,6 +18,7 @@ use Rattle.message_graph.specs.declared.nodes.Ending.TheVariants as ending
 use Rattle.message_graph.specs.Nodes as nodes
 use Rattle.visibility_table.specs.Table as levels
 use Rattle.retry_table.specs.Table as retry
+use Rattle.journal_state.specs.Left.{one_if_delivered}
 use Rattle.journal_state.specs.Parts.{Parts, answer_of_node, answers_of, facts_of, is_invalid, is_judged, name_at, names_where, ids_where, shared_among}
 use Rattle.journal_state.specs.Whole.{StateValue, IsState, Knows, is_delivered_in, may_go, value_of}
 use Rattle.journal_state.specs.Changes.{judged_parts, invalid_parts}
@@ -26,6 +27,7 @@ use Rattle.journal_state.proofs.Apart.{AreApart, first_apart}
 use Rattle.journal_state.proofs.Changed.{names_of, own_found, names_kept, named_changed, names_same, set_grown}
 use Rattle.journal_state.proofs.Answered.{ids_of, answers_set, answers_judged, shared_others}
 use Rattle.journal_state.proofs.Next.{many_nodes}
+use Rattle.journal_state.proofs.Sums.{sum_kept}
 
 -- ---- one node changed
 
@@ -147,6 +149,7 @@ module _ (p : Parts) (s : IsState p) (n : ℕ) (y : Node) (h : Held) (at : slice
     order = ordered;
     within = ap (λ m. list_all (λ k. nat_lt k m) p.delivered) (length_kept (λ (x : Node). record x { answer = Some j }) n p.nodes) ∙ s.within;
     ended = ended_step p s (λ (x : Node). record x { answer = Some j }) (λ x. refl) n y h at there refl;
+    many = s.many ∙ sym (sum_kept one_if_delivered (λ (x : Node). record x { answer = Some j }) n p.nodes y at refl);
     free_rows = s.free_rows;
     free_wants = s.free_wants;
     shown = s.shown;
@@ -223,6 +226,9 @@ module _ (p : Parts) (s : IsState p) (n : ℕ) (y : Node) (h : Held) (at : slice
     order = ordered_end p s n y at judged has ending.Invalid;
     within = ap (λ m. list_all (λ k. nat_lt k m) p.delivered) (length_kept (λ (x : Node). record x { ending = Some ending.Invalid }) n p.nodes) ∙ s.within;
     ended = ended_step p s (λ (x : Node). record x { ending = Some ending.Invalid }) (λ x. refl) n y h at there (sym (ap nodes.is_delivered open_now));
+    many =
+        s.many
+        ∙ sym (sum_kept one_if_delivered (λ (x : Node). record x { ending = Some ending.Invalid }) n p.nodes y at (sym (ap (λ e. cond (nodes.is_delivered e) 1 0) open_now)));
     free_rows = s.free_rows;
     free_wants = s.free_wants;
     shown = s.shown;

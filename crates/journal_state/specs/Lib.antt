@@ -1,6 +1,9 @@
 pub mod Codes
 pub mod Holding
 pub mod Begun
+pub mod Left
+pub mod Settling
+pub mod Fates
 pub mod Parts
 pub mod Whole
 pub mod Inside
