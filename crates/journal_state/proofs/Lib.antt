@@ -14,3 +14,11 @@ pub mod Changed
 pub mod Judging
 pub mod Stepped
 pub mod Found
+pub mod Tables
+pub mod Kept
+pub mod Took
+pub mod Entries
+pub mod WantedIds
+pub mod MarkedMore
+pub mod MoreHeld
+pub mod Levelled

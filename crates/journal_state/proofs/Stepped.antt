@@ -18,6 +18,7 @@ use Rattle.message_graph.specs.declared.nodes.Ending.TheVariants as ending
 use Rattle.message_graph.specs.Nodes as nodes
 use Rattle.visibility_table.specs.Table as levels
 use Rattle.retry_table.specs.Table as retry
+use Rattle.journal_state.specs.Room.{room_in}
 use Rattle.journal_state.specs.Parts.{Parts, answer_of_node, answers_of, facts_of, is_invalid, is_judged, name_at, names_where, ids_where, shared_among}
 use Rattle.journal_state.specs.Whole.{StateValue, IsState, Knows, is_delivered_in, may_go, value_of}
 use Rattle.journal_state.specs.Changes.{judged_parts, invalid_parts}
@@ -157,7 +158,7 @@ module _ (p : Parts) (s : IsState p) (n : ℕ) (y : Node) (h : Held) (at : slice
   }
 
   -- the facts and the answers are those after the entry
-  pub judged_value : value_of (judged_parts p n j share) ≡ record { facts = after (facts_of p) (entry.Judged h.id); answers = set (answers_of p.nodes p.shares) n (Some a) }
+  pub judged_value : value_of (judged_parts p n j share) ≡ record { facts = after (facts_of p) (entry.Judged h.id); answers = set (answers_of p.nodes p.shares) n (Some a); room = room_in p.space p.retry }
   judged_value =
       let whole : AreApart (names_of p.nodes) = subst AreApart (sym s.named) (first_apart p.held s.distinct) in
       let grown : ids_where is_judged (nodes.with_answer n j p.nodes) ≡ fin_set.insert (ids_where is_judged p.nodes) h.id =
@@ -172,6 +173,7 @@ module _ (p : Parts) (s : IsState p) (n : ℕ) (y : Node) (h : Held) (at : slice
           delivered = delivered_step p s (λ (x : Node). record x { answer = Some j }) (λ x. refl) n y h at there i;
         };
         answers = answers_step i;
+        room = room_in p.space p.retry;
       })
 
   -- what is kept of the clients' judgements is theirs, where this one is
@@ -232,7 +234,7 @@ module _ (p : Parts) (s : IsState p) (n : ℕ) (y : Node) (h : Held) (at : slice
         (shared_among p.held (sym (answers_kept p.nodes p.shares n ending.Invalid) i)) contact x);
   }
 
-  pub invalid_value : value_of (invalid_parts p n) ≡ record { facts = after (facts_of p) (entry.Invalid h.id); answers = answers_of p.nodes p.shares }
+  pub invalid_value : value_of (invalid_parts p n) ≡ record { facts = after (facts_of p) (entry.Invalid h.id); answers = answers_of p.nodes p.shares; room = room_in p.space p.retry }
   invalid_value =
       let whole : AreApart (names_of p.nodes) = subst AreApart (sym s.named) (first_apart p.held s.distinct) in
       let grown : ids_where is_invalid (nodes.with_ending n ending.Invalid p.nodes) ≡ fin_set.insert (ids_where is_invalid p.nodes) h.id =
@@ -247,4 +249,5 @@ module _ (p : Parts) (s : IsState p) (n : ℕ) (y : Node) (h : Held) (at : slice
           delivered = delivered_step p s (λ (x : Node). record x { ending = Some ending.Invalid }) (λ x. refl) n y h at there i;
         };
         answers = answers_kept p.nodes p.shares n ending.Invalid i;
+        room = room_in p.space p.retry;
       })

@@ -1,8 +1,13 @@
 pub mod Codes
 pub mod Holding
 pub mod Begun
+pub mod Room
+pub mod Marks
+pub mod Unwanted
+pub mod Levelling
 pub mod Parts
 pub mod Whole
+pub mod Taking
 pub mod Inside
 pub mod Lent
 pub mod Stepping

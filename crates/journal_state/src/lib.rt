@@ -2,9 +2,15 @@
 #![tactic(auto)]
 
 mod held;
+mod holding;
+mod levelling;
+mod marks;
+mod recording;
+mod reserve;
 mod sessions;
 mod state;
 mod steps;
 mod view;
+mod wanting;
 
 pub use state::State;
