@@ -19,4 +19,13 @@ pub mod Lesser
 pub mod Grown
 pub mod Delivered
 pub mod Made
+pub mod Honest
 pub mod Fated
+pub mod Tables
+pub mod Kept
+pub mod Took
+pub mod Entries
+pub mod WantedIds
+pub mod MarkedMore
+pub mod MoreHeld
+pub mod Levelled

@@ -4,8 +4,13 @@ pub mod Begun
 pub mod Left
 pub mod Settling
 pub mod Fates
+pub mod Room
+pub mod Marks
+pub mod Unwanted
+pub mod Levelling
 pub mod Parts
 pub mod Whole
+pub mod Taking
 pub mod Inside
 pub mod Lent
 pub mod Stepping

@@ -2,6 +2,7 @@
 ghost use Rattle.std.specs.Prelude.{◌≡◌, ◌<◌, Some, length, IfOk, OnOk, OnErr};
 ghost use Rattle.sync_rules.specs.Clients.{Meaning};
 ghost use Rattle.sync_rules.specs.Facts.{after};
+ghost use Rattle.sync_rules.specs.Sessions.{may_share};
 ghost use Rattle.sync_rules.specs.Steps.{next, verdict_in};
 ghost use Rattle.journal_state.specs.Parts.{answer_of_node};
 ghost use Rattle.journal_state.specs.Whole.{id_at, Knows};
@@ -45,7 +46,8 @@ fn names_of(alloc: Global, ids: &[MessageId]) -> Result<Vec<[u8; 32]>, AllocErro
 
 /// A judgement as the graph takes it, and whether the message may be sent on.
 fn answer_of(alloc: Global, judgement: &Judgement) -> Result<(Judged, bool), AllocError>
-    ensures { IfOk result (λ answer. answer_of_node (Some answer.0) answer.1 ≡ Some judgement.now) }
+    ensures answer { IfOk result (λ answer. answer_of_node (Some answer.0) answer.1 ≡ Some judgement.now) }
+    ensures share { IfOk result (λ answer. answer.1 ≡ may_share (Some judgement.now)) }
 {
     match judgement {
         Judgement::Refuse => Ok((Judged::Refused, false)),
@@ -69,7 +71,7 @@ impl State {
         requires next { next (C.meaning clients.now) self.old.facts ≡ Some (Entry.Judged (id_at self.old.facts.held n)) }
         ensures facts { OnOk result (self.new.facts ≡ after self.old.facts (Entry.Judged (id_at self.old.facts.held n))) }
         ensures knows { Knows (C.meaning clients.now) self.new }
-        ensures err { OnErr result (self.new ≡ self.old) }
+        ensures err { OnErr result ((self.new.facts ≡ self.old.facts) × (self.new.answers ≡ self.old.answers)) }
     {
         let judgement = judgement_of(alloc, clients, &self.table, self.messages.message(n))?;
         let (answer, share) = answer_of(alloc, &judgement)?;

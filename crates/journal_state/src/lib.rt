@@ -6,9 +6,15 @@ mod delivering;
 mod fates;
 mod held;
 mod judging;
+mod holding;
+mod levelling;
+mod marks;
+mod recording;
+mod reserve;
 mod sessions;
 mod state;
 mod steps;
 mod view;
+mod wanting;
 
 pub use state::State;

@@ -9,4 +9,4 @@ use Rattle.journal_state.proofs.state.State.graph.Goals as goal
 pub returns : goal.returns
 returns c =
     subst (λ (v : StateValue). StandsForNodes v c.graph.result.now.nodes) c.self.view_is
-    (subst (λ (g : nodes.Shown). StandsForNodes (value_of (parts c.self.inside)) g.nodes) (sym c.graph.ensures) (nodes_lent (parts c.self.inside) c.self.invariant))
+    (subst (λ (g : nodes.Shown). StandsForNodes (value_of (parts c.self.inside)) g.nodes) (sym c.graph.ensures) (nodes_lent (parts c.self.inside) c.self.invariant.state))

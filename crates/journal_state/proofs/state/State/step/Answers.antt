@@ -26,18 +26,18 @@ none_of (Some x) none = absurd (none x refl)
 
 pub returns-in_default-clause-step : goal.returns-in_default-clause-step
 returns-in_default-clause-step g c =
-    let all = told (g.C.Clients.meaning c.args.clients.now) (parts c.self.inside) c.self.invariant c.args.self.now c.self.view_is c.requires.knows c.next.result c.next.ensures in
+    let all = told (g.C.Clients.meaning c.args.clients.now) (parts c.self.inside) c.self.invariant.state c.args.self.now c.self.view_is c.requires.knows c.next.result c.next.ensures in
     ap (option_map (entry_of (id_at c.args.self.now.facts.held))) (sym (none_of c.next.result (λ x e. c.in_default.not-Some x e))) ∙ all
 
 pub entry_of-entry-requires : goal.entry_of-entry-requires
 entry_of-entry-requires g c =
     let within : number_in c.in-Some.step < length c.self.inside.graph.nodes = next_within c.self.inside.graph.nodes c.in-Some.step (sym c.in-Some.ensures) in
-    let held : number_in c.in-Some.step < length c.self.inside.messages.held = omega (arith, within, many_nodes (parts c.self.inside) c.self.invariant) in
+    let held : number_in c.in-Some.step < length c.self.inside.messages.held = omega (arith, within, many_nodes (parts c.self.inside) c.self.invariant.state) in
     subst (λ (v : StateValue). number_in c.in-Some.step < length v.facts.held) c.self.view_is held
 
 pub judge-requires-clause-next : goal.judge-requires-clause-next
 judge-requires-clause-next g c =
-    sym (told (g.C.Clients.meaning c.args.clients.now) (parts c.self.inside) c.self.invariant c.args.self.now c.self.view_is c.requires.knows (Some c.in-Some.step) c.in-Some.ensures)
+    sym (told (g.C.Clients.meaning c.args.clients.now) (parts c.self.inside) c.self.invariant.state c.args.self.now c.self.view_is c.requires.knows (Some c.in-Some.step) c.in-Some.ensures)
     ∙ ap (λ (s : Step). Some (entry_of (id_at c.args.self.now.facts.held) s)) c.in-Judge.is
 
 pub refuse-requires-clause-next : goal.refuse-requires-clause-next
@@ -45,7 +45,7 @@ refuse-requires-clause-next g c = (
   g.C.Clients.meaning c.args.clients.now,
   (
     c.requires.knows,
-    sym (told (g.C.Clients.meaning c.args.clients.now) (parts c.self.inside) c.self.invariant c.args.self.now c.self.view_is c.requires.knows (Some c.in-Some.step) c.in-Some.ensures)
+    sym (told (g.C.Clients.meaning c.args.clients.now) (parts c.self.inside) c.self.invariant.state c.args.self.now c.self.view_is c.requires.knows (Some c.in-Some.step) c.in-Some.ensures)
         ∙ ap (λ (s : Step). Some (entry_of (id_at c.args.self.now.facts.held) s)) c.in-Invalid.is,
   ),
 )
@@ -55,7 +55,7 @@ deliver-requires-clause-next g c = (
   g.C.Clients.meaning c.args.clients.now,
   (
     c.requires.knows,
-    sym (told (g.C.Clients.meaning c.args.clients.now) (parts c.self.inside) c.self.invariant c.args.self.now c.self.view_is c.requires.knows (Some c.in-Some.step) c.in-Some.ensures)
+    sym (told (g.C.Clients.meaning c.args.clients.now) (parts c.self.inside) c.self.invariant.state c.args.self.now c.self.view_is c.requires.knows (Some c.in-Some.step) c.in-Some.ensures)
         ∙ ap (λ (s : Step). Some (entry_of (id_at c.args.self.now.facts.held) s)) c.in-Deliver.is,
   ),
 )
@@ -63,4 +63,4 @@ deliver-requires-clause-next g c = (
 pub returns-clause-step : goal.returns-clause-step
 returns-clause-step g c =
     ap Some c.entry_of-entry.ensures
-    ∙ told (g.C.Clients.meaning c.args.clients.now) (parts c.self.inside) c.self.invariant c.args.self.now c.self.view_is c.requires.knows (Some c.in-Some.step) c.in-Some.ensures
+    ∙ told (g.C.Clients.meaning c.args.clients.now) (parts c.self.inside) c.self.invariant.state c.args.self.now c.self.view_is c.requires.knows (Some c.in-Some.step) c.in-Some.ensures
