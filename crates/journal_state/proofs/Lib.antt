@@ -17,6 +17,9 @@ pub mod Found
 pub mod Tables
 pub mod Kept
 pub mod Took
+pub mod TakenAll
+pub mod Sending
+pub mod CanTaken
 pub mod Entries
 pub mod WantedIds
 pub mod MarkedMore
