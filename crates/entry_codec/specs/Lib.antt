@@ -2,3 +2,4 @@ pub mod Spelling
 pub mod Reading
 pub mod Answers
 pub mod Laws
+pub mod Allows
