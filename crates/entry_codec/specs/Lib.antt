@@ -3,3 +3,5 @@ pub mod Reading
 pub mod Answers
 pub mod Laws
 pub mod Allows
+pub mod Standing
+pub mod Fronts
