@@ -1,3 +1,6 @@
+pub mod BatchLaws
+mod Journals
+mod Latencies
 mod Entries
 mod LawProofs
 mod Bounds

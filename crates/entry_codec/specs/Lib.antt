@@ -4,4 +4,5 @@ pub mod Answers
 pub mod Laws
 pub mod Allows
 pub mod Standing
+pub mod StandingLaws
 pub mod Fronts

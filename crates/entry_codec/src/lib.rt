@@ -2,6 +2,7 @@
 //! begins another.
 #![tactic(auto)]
 
+mod batches;
 mod front;
 pub mod laws;
 mod lengths;
@@ -10,6 +11,7 @@ mod stop;
 mod values;
 mod writing;
 
+pub use batches::{batch_len, read_batch, write_batch};
 pub use lengths::entry_len;
 pub use reading::{EntryFound, read_entry};
 pub use writing::write_entry;

@@ -1,0 +1,5 @@
+use Rattle.entry_codec.proofs.Journals.{stands_has}
+use Rattle.entry_codec.proofs.laws.journals_stand.Goals as goal
+
+pub returns : goal.returns
+returns c clients files file j holds = stands_has clients ? files file j holds
