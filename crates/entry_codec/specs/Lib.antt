@@ -1,4 +1,5 @@
 pub mod Spelling
 pub mod Reading
 pub mod Answers
+pub mod Allows
 pub mod Laws
