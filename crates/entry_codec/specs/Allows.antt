@@ -1,6 +1,6 @@
 -- Whether a batch may follow a journal, as a test: what `Allowed` says of the facts of the journal, by cases on the
 -- first entry.
-use Rattle.std.specs.Prelude.{ℕ, Bool, true, false, ◌&&◌, nat_eq, nat_lt, nat_le, List, [], ◌∷◌, length, map, Option, Some, None, is_some, is_none}
+use Rattle.std.specs.Prelude.{ℕ, ◌^◌, Bool, true, false, ◌&&◌, nat_eq, nat_lt, nat_le, List, [], ◌∷◌, length, map, Option, Some, None, is_some, is_none}
 use Rattle.std.specs.Cmp.Lexicographic.{pointwise}
 use Rattle.sync_ids.specs.Values.{GroupValue, MessageValue}
 use Rattle.sync_ids.specs.Ids.{group_id_of, message_id_of}
@@ -144,7 +144,7 @@ is_within most xs = nat_le 1 (length xs) && nat_le (length xs) most
 abbrev pub is_message : MessageValue → Bool
 is_message m =
     nat_eq (length m.group) 32
-    && (nat_lt m.timestamp 9223372036854775808 && (nat_le 1 (length m.body) && nat_le (length m.body) 32768))
+    && (nat_lt m.timestamp (2 ^ 63) && (nat_le 1 (length m.body) && nat_le (length m.body) 32768))
 
 -- a record within its limits
 abbrev pub is_record : Record → Bool
