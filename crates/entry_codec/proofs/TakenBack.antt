@@ -1,5 +1,5 @@
 -- The record that lists just what some entries name is taken as these entries, if any record is.
-use Rattle.std.proofs.Common.{◌≡◌, ℕ, ◌-◌, ◌^◌, ◌≤◌, Bool, true, false, not, cond, ◌&&◌, List, [], ◌∷◌, ◌++◌, length, map, refl, sym, ◌∙◌, ap, inl, inr, ◌⊎◌, arith, Some, None, is_some, nat_eq, nat_lt, nat_le, eqb-true, eq-eqb}
+use Rattle.std.proofs.Common.{◌≡◌, ℕ, ◌-◌, ◌^◌, ◌≤◌, Bool, true, false, not, cond, ◌&&◌, List, [], ◌∷◌, ◌++◌, length, refl, sym, ◌∙◌, ap, inl, inr, ◌⊎◌, arith, Some, None, is_some, nat_eq, nat_lt, nat_le, eqb-true, eq-eqb}
 use Rattle.std.specs.Cmp.Lexicographic.{pointwise}
 use Rattle.std.proofs.lemmas.Bool.{and_parts, and_from, false≢true, ltb-true, lt-ltb, leb-true, le-leb}
 use Rattle.sync_ids.specs.Values.{MessageValue, IsMessage, IsWithin}
@@ -13,7 +13,7 @@ use Rattle.sync_rules.specs.Lists.{is_among, firsts}
 use Rattle.sync_rules.specs.Facts.{Facts, Held, Id, contact_of, held_at, is_invisible, level_at, row_at, wanted_from}
 use Rattle.sync_rules.specs.Sessions.{is_shown, is_shown_held, is_welcome, one_if, is_remembered, room_after, taken, taken_acks, taken_message_of, taken_offers, taken_requests, wants_limit}
 use Rattle.sync_rules.proofs.RowLaws.{firsts_distinct}
-use Rattle.entry_codec.specs.Allows.{gives, id_named, is_message, is_record, is_within, read_as, same_entry}
+use Rattle.entry_codec.specs.Allows.{gives, ids_named, is_message, is_record, is_within, read_as, same_entry}
 use Rattle.entry_codec.proofs.SameEntries.{arrive_itself, pair_itself, same_entries-is}
 use Rattle.entry_codec.proofs.PartsOfIds.{IsPart, part_none, part_skip, part_keep, firsts_of_distinct, firsts_few}
 
@@ -58,23 +58,23 @@ record_is (record_kind.Priority nonce) h = eqb-true (length nonce) 16 h
 
 -- a list of ids, each of which was named by one of these entries
 pub record Reads (entries : List Entry) (whole : List Id) : Type 0 where
-  pub part : IsPart (map id_named entries) whole
+  pub part : IsPart (ids_named entries) whole
   pub same : pointwise same_entry entries entries ≡ true
 
 -- there are no entries, or this record is the one that lists what they name
 abbrev IsReadAs : (List Id → Record) → List Entry → Type 0
-IsReadAs kind entries = (entries ≡ []) ⊎ ((read_as entries ≡ kind (map id_named entries)) × (1 ≤ length (map id_named entries)))
+IsReadAs kind entries = (entries ≡ []) ⊎ ((read_as entries ≡ kind (ids_named entries)) × (1 ≤ length (ids_named entries)))
 
 module _ (f : Facts) (s c : ℕ) where
   -- ---- acknowledgements
 
-  acks_again : (xs : List Id) → taken_acks f s c (map id_named (taken_acks f s c xs)) ≡ taken_acks f s c xs
+  acks_again : (xs : List Id) → taken_acks f s c (ids_named (taken_acks f s c xs)) ≡ taken_acks f s c xs
   acks_again [] = refl
   acks_again (x ∷ xs) =
       elim (is_shown f c x && not (row_at f.rows c x).seen) as (λ b. (is_shown f c x && not (row_at f.rows c x).seen) ≡ b
-      → taken_acks f s c (map id_named (one_if b (entry.Seen s x) ++ taken_acks f s c xs)) ≡ one_if b (entry.Seen s x) ++ taken_acks f s c xs) [
+      → taken_acks f s c (ids_named (one_if b (entry.Seen s x) ++ taken_acks f s c xs)) ≡ one_if b (entry.Seen s x) ++ taken_acks f s c xs) [
         | true ↦ λ e.
-            ap (λ b. one_if b (entry.Seen s x) ++ taken_acks f s c (map id_named (taken_acks f s c xs))) e
+            ap (λ b. one_if b (entry.Seen s x) ++ taken_acks f s c (ids_named (taken_acks f s c xs))) e
             ∙ ap (λ (t : List Entry). entry.Seen s x ∷ t) (acks_again xs)
         | false ↦ λ e. acks_again xs
       ] refl
@@ -85,10 +85,10 @@ module _ (f : Facts) (s c : ℕ) where
       let rest = acks_reads xs in
       elim (is_shown f c x && not (row_at f.rows c x).seen) as (λ b. Reads (one_if b (entry.Seen s x) ++ taken_acks f s c xs) (x ∷ xs)) [
         | true ↦ record {
-          part = part_keep (map id_named (taken_acks f s c xs)) xs x rest.part;
+          part = part_keep (ids_named (taken_acks f s c xs)) xs x rest.part;
           same = and_from (same_entry (entry.Seen s x) (entry.Seen s x)) (pointwise same_entry (taken_acks f s c xs) (taken_acks f s c xs)) (pair_itself s x) rest.same;
         }
-        | false ↦ record { part = part_skip (map id_named (taken_acks f s c xs)) xs x rest.part; same = rest.same }
+        | false ↦ record { part = part_skip (ids_named (taken_acks f s c xs)) xs x rest.part; same = rest.same }
       ]
 
   acks_read_as : (xs : List Id) → IsReadAs record_kind.Ack (taken_acks f s c xs)
@@ -101,13 +101,13 @@ module _ (f : Facts) (s c : ℕ) where
 
   -- ---- requests
 
-  requests_again : (xs : List Id) → taken_requests f s c (map id_named (taken_requests f s c xs)) ≡ taken_requests f s c xs
+  requests_again : (xs : List Id) → taken_requests f s c (ids_named (taken_requests f s c xs)) ≡ taken_requests f s c xs
   requests_again [] = refl
   requests_again (x ∷ xs) =
       elim (is_shown f c x) as (λ b. is_shown f c x ≡ b
-      → taken_requests f s c (map id_named (one_if b (entry.Asked s x) ++ taken_requests f s c xs)) ≡ one_if b (entry.Asked s x) ++ taken_requests f s c xs) [
+      → taken_requests f s c (ids_named (one_if b (entry.Asked s x) ++ taken_requests f s c xs)) ≡ one_if b (entry.Asked s x) ++ taken_requests f s c xs) [
         | true ↦ λ e.
-            ap (λ b. one_if b (entry.Asked s x) ++ taken_requests f s c (map id_named (taken_requests f s c xs))) e
+            ap (λ b. one_if b (entry.Asked s x) ++ taken_requests f s c (ids_named (taken_requests f s c xs))) e
             ∙ ap (λ (t : List Entry). entry.Asked s x ∷ t) (requests_again xs)
         | false ↦ λ e. requests_again xs
       ] refl
@@ -118,10 +118,10 @@ module _ (f : Facts) (s c : ℕ) where
       let rest = requests_reads xs in
       elim (is_shown f c x) as (λ b. Reads (one_if b (entry.Asked s x) ++ taken_requests f s c xs) (x ∷ xs)) [
         | true ↦ record {
-          part = part_keep (map id_named (taken_requests f s c xs)) xs x rest.part;
+          part = part_keep (ids_named (taken_requests f s c xs)) xs x rest.part;
           same = and_from (same_entry (entry.Asked s x) (entry.Asked s x)) (pointwise same_entry (taken_requests f s c xs) (taken_requests f s c xs)) (pair_itself s x) rest.same;
         }
-        | false ↦ record { part = part_skip (map id_named (taken_requests f s c xs)) xs x rest.part; same = rest.same }
+        | false ↦ record { part = part_skip (ids_named (taken_requests f s c xs)) xs x rest.part; same = rest.same }
       ]
 
   requests_read_as : (xs : List Id) → IsReadAs record_kind.Request (taken_requests f s c xs)
@@ -171,12 +171,12 @@ module _ (f : Facts) (s c : ℕ) where
       ap (λ i. offer_then i (is_remembered f c room x) x (taken_offers f s c (room_after (is_remembered f c room x) room) ids)) ea
       ∙ ap (λ i. offer_then a i x (taken_offers f s c (room_after i room) ids)) eb
 
-  offers_again : (xs : List Id) (room : ℕ) → taken_offers f s c room (map id_named (taken_offers f s c room xs)) ≡ taken_offers f s c room xs
+  offers_again : (xs : List Id) (room : ℕ) → taken_offers f s c room (ids_named (taken_offers f s c room xs)) ≡ taken_offers f s c room xs
   offers_again [] room = refl
   offers_again (x ∷ xs) room =
-      by_offer (λ a b. taken_offers f s c room (map id_named (offer_then a b x (taken_offers f s c (room_after b room) xs))) ≡ offer_then a b x (taken_offers f s c (room_after b room) xs)) room x
-      (λ ea eb. offer_is room x true false (map id_named (taken_offers f s c room xs)) ea eb ∙ ap (λ (t : List Entry). entry.Again s x ∷ t) (offers_again xs room))
-      (λ ea eb. offer_is room x false true (map id_named (taken_offers f s c (room - 1) xs)) ea eb ∙ ap (λ (t : List Entry). entry.Offered s x ∷ t) (offers_again xs (room - 1)))
+      by_offer (λ a b. taken_offers f s c room (ids_named (offer_then a b x (taken_offers f s c (room_after b room) xs))) ≡ offer_then a b x (taken_offers f s c (room_after b room) xs)) room x
+      (λ ea eb. offer_is room x true false (ids_named (taken_offers f s c room xs)) ea eb ∙ ap (λ (t : List Entry). entry.Again s x ∷ t) (offers_again xs room))
+      (λ ea eb. offer_is room x false true (ids_named (taken_offers f s c (room - 1) xs)) ea eb ∙ ap (λ (t : List Entry). entry.Offered s x ∷ t) (offers_again xs (room - 1)))
       (λ ea eb. offers_again xs room)
 
   offers_reads : (xs : List Id) (room : ℕ) → Reads (taken_offers f s c room xs) xs
@@ -184,15 +184,15 @@ module _ (f : Facts) (s c : ℕ) where
   offers_reads (x ∷ xs) room =
       by_offer (λ a b. Reads (offer_then a b x (taken_offers f s c (room_after b room) xs)) (x ∷ xs)) room x
       (λ ea eb. let rest = offers_reads xs room in record {
-        part = part_keep (map id_named (taken_offers f s c room xs)) xs x rest.part;
+        part = part_keep (ids_named (taken_offers f s c room xs)) xs x rest.part;
         same = and_from (same_entry (entry.Again s x) (entry.Again s x)) (pointwise same_entry (taken_offers f s c room xs) (taken_offers f s c room xs)) (pair_itself s x) rest.same;
       })
       (λ ea eb. let rest = offers_reads xs (room - 1) in record {
-        part = part_keep (map id_named (taken_offers f s c (room - 1) xs)) xs x rest.part;
+        part = part_keep (ids_named (taken_offers f s c (room - 1) xs)) xs x rest.part;
         same = and_from (same_entry (entry.Offered s x) (entry.Offered s x)) (pointwise same_entry (taken_offers f s c (room - 1) xs) (taken_offers f s c (room - 1) xs)) (pair_itself s x) rest.same;
       })
       (λ ea eb. let rest = offers_reads xs room in record {
-        part = part_skip (map id_named (taken_offers f s c room xs)) xs x rest.part;
+        part = part_skip (ids_named (taken_offers f s c room xs)) xs x rest.part;
         same = rest.same;
       })
 
@@ -209,13 +209,13 @@ module _ (f : Facts) (s c : ℕ) where
 -- a list is within its limit, and the record of it is taken as these entries
 gives_list : (f : Facts) (s : ℕ) (kind : List Id → Record) (entries : List Entry) (ids : List Id) (as_taken : List Id → List Entry)
     → ((xs : List Id) → is_record (kind xs) ≡ is_within 1536 xs) → ((xs : List Id) → taken f s (kind xs) ≡ as_taken (firsts xs))
-    → IsReadAs kind entries → Reads entries (firsts ids) → as_taken (map id_named entries) ≡ entries → length ids ≤ 1536
+    → IsReadAs kind entries → Reads entries (firsts ids) → as_taken (ids_named entries) ≡ entries → length ids ≤ 1536
     → gives f s entries (read_as entries) ≡ true
 gives_list f s kind entries ids as_taken limit takes shape reads again few =
     elim shape [
       | inl none ↦ ap (λ (es : List Entry). gives f s es (read_as es)) none
       | inr is ↦
-          let named : List Id = map id_named entries in
+          let named : List Id = ids_named entries in
           let short : length named ≤ 1536 = let a = reads.part.shorter in let b = firsts_few ids in omega arith in
           let once : firsts named ≡ named = firsts_of_distinct named (reads.part.distinct (firsts_distinct ids)) in
           let as_before : taken f s (kind named) ≡ entries = takes named ∙ ap as_taken once ∙ again in

@@ -1,6 +1,7 @@
 -- Whether a batch may follow a journal, as a test: what `Allowed` says of the facts of the journal, by cases on the
 -- first entry.
-use Rattle.std.specs.Prelude.{ℕ, ◌^◌, Bool, true, false, ◌&&◌, nat_eq, nat_lt, nat_le, List, [], ◌∷◌, length, map, Option, Some, None, is_some, is_none}
+use Rattle.std.specs.Prelude.{ℕ, ◌^◌, Bool, true, false, ◌&&◌, nat_eq, nat_lt, nat_le, List, [], ◌∷◌, length, Option, Some, None, is_some, is_none}
+use Rattle.std.specs.List.{filter_map}
 use Rattle.std.specs.Cmp.Lexicographic.{pointwise}
 use Rattle.sync_ids.specs.Values.{GroupValue, MessageValue}
 use Rattle.sync_ids.specs.Ids.{group_id_of, message_id_of}
@@ -156,12 +157,16 @@ is_record (record_kind.Versions versions) = is_within 10 versions
 is_record (record_kind.Priority nonce) = nat_eq (length nonce) 16
 
 -- the id that an entry of a heard list names
-abbrev pub id_named : Entry → Id
-id_named (entry.Again s id) = id
-id_named (entry.Offered s id) = id
-id_named (entry.Seen s id) = id
-id_named (entry.Asked s id) = id
-id_named _ = []
+abbrev pub id_named : Entry → Option Id
+id_named (entry.Again s id) = Some id
+id_named (entry.Offered s id) = Some id
+id_named (entry.Seen s id) = Some id
+id_named (entry.Asked s id) = Some id
+id_named _ = None
+
+-- the ids that entries of a heard list name
+abbrev pub ids_named : List Entry → List Id
+ids_named entries = filter_map id_named entries
 
 -- a record that is taken as nothing
 abbrev pub nothing_said : Record
@@ -171,10 +176,10 @@ nothing_said = record_kind.Versions (0 ∷ [])
 -- these entries, then this one is
 abbrev pub read_as : List Entry → Record
 read_as (entry.Arrive s m ∷ rest) = record_kind.Message m
-read_as (entry.Again s id ∷ rest) = record_kind.Offer (id ∷ map id_named rest)
-read_as (entry.Offered s id ∷ rest) = record_kind.Offer (id ∷ map id_named rest)
-read_as (entry.Seen s id ∷ rest) = record_kind.Ack (id ∷ map id_named rest)
-read_as (entry.Asked s id ∷ rest) = record_kind.Request (id ∷ map id_named rest)
+read_as (entry.Again s id ∷ rest) = record_kind.Offer (ids_named (entry.Again s id ∷ rest))
+read_as (entry.Offered s id ∷ rest) = record_kind.Offer (ids_named (entry.Offered s id ∷ rest))
+read_as (entry.Seen s id ∷ rest) = record_kind.Ack (ids_named (entry.Seen s id ∷ rest))
+read_as (entry.Asked s id ∷ rest) = record_kind.Request (ids_named (entry.Asked s id ∷ rest))
 read_as _ = nothing_said
 
 -- a record is within its limits and is taken as these entries
