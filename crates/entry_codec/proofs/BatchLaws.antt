@@ -1,17 +1,17 @@
 -- Batches as bytes.
-use Rattle.std.proofs.Common.{◌≡◌, ℕ, zero, suc, ◌+◌, ◌<◌, ◌≤◌, List, [], ◌∷◌, ◌++◌, length, refl, sym, ap, subst, ◌∙◌, arith, append_assoc, length-append}
+use Rattle.std.proofs.Common.{◌≡◌, ℕ, zero, suc, ◌<◌, ◌≤◌, List, [], ◌∷◌, ◌++◌, length, refl, sym, ap, subst, ◌∙◌, arith, append_assoc, length-append}
 use Rattle.std.specs.Prelude.{Bool, true, false, ◌==◌, Option, Some, None}
 use Rattle.std.specs.List.{AllByRecursion}
 use Rattle.std.proofs.lemmas.Bool.{eqb-false, eqb-true}
 use Rattle.std.proofs.lemmas.List.{append-nil}
 use Rattle.sync_rules.specs.declared.entries.Entry.{Entry}
 use Rattle.entry_codec.specs.Spelling.{IsEntry, spelling}
-use Rattle.entry_codec.specs.Reading.{byte_in, chained, entry_in, entry_of}
+use Rattle.entry_codec.specs.Reading.{byte_in, entry_in}
 use Rattle.entry_codec.specs.Laws.{payload}
 use Rattle.entry_codec.specs.Standing.{batch_of, entries_in, followed, put_before}
 use Rattle.entry_codec.proofs.Bounds.{short}
 use Rattle.entry_codec.proofs.Entries.{IsFound, entry_back, entry_found}
-use Rattle.entry_codec.proofs.Readers.{IsBytes, IsBytes-rest, part, part_is}
+use Rattle.entry_codec.proofs.Readers.{IsBytes, IsBytes-rest}
 
 -- ---- entries, one behind the other
 

@@ -1,6 +1,6 @@
 -- A file with the frames of a legal journal stands for that journal.
-use Rattle.std.proofs.Common.{◌≡◌, ℕ, zero, suc, ◌+◌, ◌-◌, ◌^◌, ◌<◌, ◌≤◌, Bool, true, false, List, [], ◌∷◌, ◌++◌, length, get_or, take, drop, refl, sym, ap, subst, ◌∙◌, arith, append_assoc, length-append}
-use Rattle.std.specs.Prelude.{◌≢◌, ◌==◌, not, nat_le, nat_lt, map, cond, slice_index, Option, Some, None, All}
+use Rattle.std.proofs.Common.{◌≡◌, ℕ, zero, suc, ◌+◌, ◌≤◌, Bool, true, false, List, [], ◌∷◌, ◌++◌, length, get_or, take, drop, refl, sym, ap, subst, ◌∙◌, arith, append_assoc, length-append}
+use Rattle.std.specs.Prelude.{◌≢◌, ◌==◌, not, nat_le, map, cond, slice_index, Option, Some, None, All}
 use Rattle.std.specs.Int.{w32, to_be_bytes, from_be_bytes}
 use Rattle.std.specs.List.{AllByRecursion, flat_map}
 use Rattle.std.proofs.lemmas.Bool.{cond-false, cond-true, eq-eqb, le-leb, le-ltb, lt-leb, ne_eqb, not_from_true, not_from_false, or_from}
@@ -9,7 +9,7 @@ use Rattle.std.proofs.lemmas.List.Elements.{All-head, All-tail}
 use Rattle.std.proofs.lemmas.Nat.{from_be_bytes-to_be_bytes_4}
 use Rattle.sync_rules.specs.declared.entries.Entry.{Entry}
 use Rattle.sync_rules.specs.Clients.{Meaning}
-use Rattle.sync_rules.specs.Facts.{Facts, after_all, facts}
+use Rattle.sync_rules.specs.Facts.{Facts, facts}
 use Rattle.sync_rules.specs.Legal.{Allowed, GoesOn, Legal}
 use Rattle.outside.specs.Files.{Two, file_of}
 use Rattle.outside.specs.Frames.{Frame, IsPayload, broken, closed, format_in, frame_at, frame_of, journal_file, framed, is_broken, most_bytes, size_at}
@@ -17,7 +17,7 @@ use Rattle.entry_codec.specs.Spelling.{IsEntry}
 use Rattle.entry_codec.specs.Laws.{payload}
 use Rattle.entry_codec.specs.StandingLaws.{HoldsJournal}
 use Rattle.entry_codec.specs.Allows.{allows}
-use Rattle.entry_codec.specs.Standing.{Standing, batch_of, damaged, ended, frames_from, journal, read_on, rest_from, room_of, stands, stands_in, taken_on}
+use Rattle.entry_codec.specs.Standing.{Standing, batch_of, damaged, frames_from, journal, read_on, rest_from, room_of, stands, stands_in, taken_on}
 use Rattle.entry_codec.specs.Fronts.{facts_push, legal_push, rest_once}
 use Rattle.entry_codec.proofs.BatchLaws.{batch_back}
 
@@ -39,14 +39,14 @@ frame_there bytes front p behind place split is fits bounded =
     let sized : drop (place + 1) bytes ≡ width ++ (p ++ behind) = sym (drop-drop 1 place bytes) ∙ ap (drop 1) at ∙ append_assoc width p behind in
     let payloads : drop (place + 5) bytes ≡ p ++ behind = sym (drop-drop 5 place bytes) ∙ ap (drop 5) at ∙ ap (drop 4) (append_assoc width p behind) ∙ drop_at width (p ++ behind) 4 refl in
     let size : size_at bytes place ≡ length p =
-        ap (λ (l : List ℕ). from_be_bytes w32 (take 4 l)) sized ∙ ap (from_be_bytes w32) (take_at width (p ++ behind) 4 refl) ∙ from_be_bytes-to_be_bytes_4 (length p) (omega (arith, fits.1)) in
+    ap (λ (l : List ℕ). from_be_bytes w32 (take 4 l)) sized ∙ ap (from_be_bytes w32) (take_at width (p ++ behind) 4 refl) ∙ from_be_bytes-to_be_bytes_4 (length p) (omega (arith, fits.1)) in
     let long : length bytes ≡ place + (5 + length p + length behind) =
-        omega (arith, ap length split, length-append front (frame_of p ++ behind), is, length-append (frame_of p) behind, length-append width p) in
+    omega (arith, ap length split, length-append front (frame_of p ++ behind), is, length-append (frame_of p) behind, length-append width p) in
     let byte : slice_index bytes place ≡ 1 =
-        ap (λ (l : List ℕ). get_or l place 0) split ∙ ap (λ (n : ℕ). get_or (front ++ (frame_of p ++ behind)) n 0) (omega (arith, is)) ∙ get_or-append-add front (frame_of p ++ behind) 0 0 in
+    ap (λ (l : List ℕ). get_or l place 0) split ∙ ap (λ (n : ℕ). get_or (front ++ (frame_of p ++ behind)) n 0) (omega (arith, is)) ∙ get_or-append-add front (frame_of p ++ behind) 0 0 in
     let whole : is_broken bytes place ≡ false =
-        or_from _ _ (or_from _ _ (or_from _ _ (or_from _ _ (le-ltb (length bytes) (place + 5) (omega arith)) (ne_eqb (size_at bytes place) 0 (λ none. omega (arith, fits.0, size, none))))
-        (le-ltb 65536 (size_at bytes place) (omega (arith, fits.1, size)))) (le-ltb (length bytes) (place + 5 + size_at bytes place) (omega arith))) (le-ltb most_bytes (place + 6 + size_at bytes place) (omega arith)) in
+    or_from _ _ (or_from _ _ (or_from _ _ (or_from _ _ (le-ltb (length bytes) (place + 5) (omega arith)) (ne_eqb (size_at bytes place) 0 (λ none. omega (arith, fits.0, size, none))))
+    (le-ltb 65536 (size_at bytes place) (omega (arith, fits.1, size)))) (le-ltb (length bytes) (place + 5 + size_at bytes place) (omega arith))) (le-ltb most_bytes (place + 6 + size_at bytes place) (omega arith)) in
     cond-false (nat_le (length bytes) place) _ _ (lt-leb (length bytes) place (omega arith))
     ∙ cond-false (not (slice_index bytes place == 1)) _ _ (not_from_true (slice_index bytes place == 1) (eq-eqb (slice_index bytes place) 1 byte))
     ∙ cond-false (is_broken bytes place) _ _ whole
@@ -56,7 +56,7 @@ closed_there : (bytes front rest : List ℕ) (gate place : ℕ) → bytes ≡ fr
 closed_there bytes front rest gate place split is shut =
     let long : length bytes ≡ place + suc (length rest) = omega (arith, ap length split, length-append front (gate ∷ rest), is) in
     let byte : slice_index bytes place ≡ gate =
-        ap (λ (l : List ℕ). get_or l place 0) split ∙ ap (λ (n : ℕ). get_or (front ++ gate ∷ rest) n 0) (omega (arith, is)) ∙ get_or-append-add front (gate ∷ rest) 0 0 in
+    ap (λ (l : List ℕ). get_or l place 0) split ∙ ap (λ (n : ℕ). get_or (front ++ gate ∷ rest) n 0) (omega (arith, is)) ∙ get_or-append-add front (gate ∷ rest) 0 0 in
     cond-false (nat_le (length bytes) place) _ _ (lt-leb (length bytes) place (omega arith))
     ∙ cond-true (not (slice_index bytes place == 1)) _ _ (not_from_false (slice_index bytes place == 1) (ne_eqb (slice_index bytes place) 1 (λ same. shut (sym byte ∙ same))))
 
@@ -99,7 +99,7 @@ first_read clients bytes place done more b f =
     let others = flat_map frame_of (map payload more) in
     let behind = others ++ f.gate ∷ f.rest in
     let split : bytes ≡ f.front ++ (frame_of p ++ behind) =
-        f.split ∙ append_assoc f.front (frame_of p ++ others) (f.gate ∷ f.rest) ∙ ap (λ (l : List ℕ). f.front ++ l) (append_assoc (frame_of p) others (f.gate ∷ f.rest)) in
+    f.split ∙ append_assoc f.front (frame_of p ++ others) (f.gate ∷ f.rest) ∙ ap (λ (l : List ℕ). f.front ++ l) (append_assoc (frame_of p) others (f.gate ∷ f.rest)) in
     frame_there bytes f.front p behind place split f.long (All-head IsPayload p (map payload more) f.payloads_fit)
     (omega (arith, f.bounded, length-append (frame_of p) others, length_frame p))
 

@@ -9,3 +9,7 @@ mod Payloads
 mod Readers
 mod ReadSteps
 mod WriteSteps
+pub mod SameEntries
+pub mod PartsOfIds
+pub mod TakenBack
+pub mod Allowing

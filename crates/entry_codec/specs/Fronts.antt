@@ -1,10 +1,10 @@
 -- Laws for callers: how far a reader has come in the journal of two files, one frame more at a time.
-use Rattle.std.specs.Prelude.{◌≡◌, ◌≢◌, ℕ, zero, suc, ◌+◌, ◌-◌, ◌<◌, ◌≤◌, Bool, true, false, not, ◌==◌, ◌||◌, ◌&&◌, nat_le, nat_lt, cond, List, [], ◌∷◌, ◌++◌, length, take, drop, map, slice_index, Option, Some, None, All}
-use Rattle.std.specs.Int.{w32, to_be_bytes, from_be_bytes}
+use Rattle.std.specs.Prelude.{◌≡◌, ◌≢◌, ℕ, zero, suc, ◌+◌, ◌-◌, ◌<◌, ◌≤◌, Bool, true, false, not, ◌==◌, ◌&&◌, nat_le, nat_lt, cond, List, [], ◌∷◌, ◌++◌, length, take, drop, map, slice_index, Option, Some, None, All}
+use Rattle.std.specs.Int.{w32, to_be_bytes}
 use Rattle.std.specs.List.{AllByRecursion, flat_map}
 use Rattle.std.proofs.Common.{refl, sym, ap, subst, ◌∙◌, arith, append_assoc, drop-cons, length-append}
 use Rattle.std.proofs.lemmas.Bool.{and_parts, cond-false, cond-true, eq-eqb, eqb-false, le-leb, leb-true, leb-false, lt-leb, ltb-false, not-true, ne_eqb, or_parts}
-use Rattle.std.proofs.lemmas.List.{append-nil, drop-drop, drop_at, length-drop, length-take, length-take-le, map-append, take-append-drop}
+use Rattle.std.proofs.lemmas.List.{append-nil, drop-drop, drop_at, length-drop, length-take-le, map-append, take-append-drop}
 use Rattle.std.proofs.lemmas.List.Concat.{flat_map-append}
 use Rattle.std.proofs.lemmas.List.Elements.{All-nil, All-push, All-same}
 use Rattle.sync_rules.specs.declared.entries.Entry.{Entry}
@@ -16,7 +16,7 @@ use Rattle.outside.specs.Frames.{Frame, HasFrames, IsPayload, broken, closed, en
 use Rattle.entry_codec.specs.Spelling.{IsEntry}
 use Rattle.entry_codec.specs.Laws.{payload}
 use Rattle.entry_codec.specs.Allows.{allows}
-use Rattle.entry_codec.specs.Standing.{Standing, batch_of, damaged, ended, frames_from, journal, no_store, read_on, rest_from, room_of, stands, stands_in, taken_on}
+use Rattle.entry_codec.specs.Standing.{Standing, batch_of, damaged, frames_from, journal, no_store, read_on, rest_from, room_of, stands, stands_in, taken_on}
 
 -- ---- journals that grow by a batch
 
@@ -277,8 +277,8 @@ front_more clients files file done end to behind batch front e spelled some is w
     let far = some_end clients files file done end front in
     let grown = frames_push done batch to is in
     let left : after ≡ behind =
-        ap (λ (n : ℕ). drop n bytes) (omega (arith, length_frame to)) ∙ sym (drop-drop (length (frame_of to)) (end - 1) bytes)
-        ∙ ap (drop (length (frame_of to))) spelled ∙ drop_at (frame_of to) behind (length (frame_of to)) refl in
+    ap (λ (n : ℕ). drop n bytes) (omega (arith, length_frame to)) ∙ sym (drop-drop (length (frame_of to)) (end - 1) bytes)
+    ∙ ap (drop (length (frame_of to))) spelled ∙ drop_at (frame_of to) behind (length (frame_of to)) refl in
     let fits = framed_fits bytes (end - 1) to e in
     let Fits : List ℕ → Type 0 = λ p. IsPayload p in
     let payload_fits : IsPayload (payload batch) = subst Fits is (fits.some, fits.few) in

@@ -1,5 +1,5 @@
 //! What holds of all spellings. Each function's clause is the law; none does anything.
-ghost use Rattle.entry_codec.specs.Laws.{NoneBeginsAnother, PayloadsFitFrames, SpellingsAreShort, SpellingsReadBack};
+ghost use Rattle.entry_codec.specs.Laws.{AllowsIsAllowed, NoneBeginsAnother, PayloadsFitFrames, SpellingsAreShort, SpellingsReadBack};
 ghost use Rattle.entry_codec.specs.StandingLaws.{AllowedHaveLatency, BatchesReadBack, JournalsStand, PayloadsSpellOnce, StandingIsLegal};
 
 /// Whatever `read_entry` finds where an entry is spelled is that entry, whatever follows.
@@ -45,4 +45,9 @@ pub fn journals_stand()
 /// A journal that files stand for is legal.
 pub fn standing_is_legal()
     ensures { StandingIsLegal }
+{}
+
+/// The test of a batch says yes exactly where the batch may follow a journal of these facts.
+pub fn allows_is_allowed()
+    ensures { AllowsIsAllowed }
 {}
