@@ -2,3 +2,5 @@ pub mod Spelling
 pub mod Reading
 pub mod Answers
 pub mod Laws
+pub mod Allows
+pub mod Standing
