@@ -1,6 +1,8 @@
 pub mod BatchLaws
 mod Journals
 mod Latencies
+mod OfBatches
+mod Counts
 mod Entries
 mod LawProofs
 mod Bounds

@@ -3,7 +3,7 @@ use Rattle.std.specs.Prelude.{◌≡◌, ℕ, ◌+◌, ◌<◌, ◌≤◌, List,
 use Rattle.std.specs.List.{AllByRecursion}
 use Rattle.sync_rules.specs.declared.entries.Entry.{Entry}
 use Rattle.sync_rules.specs.Clients.{Meaning}
-use Rattle.sync_rules.specs.Facts.{Facts, facts}
+use Rattle.sync_rules.specs.Facts.{Facts, after_all, facts}
 use Rattle.sync_rules.specs.Legal.{Allowed, Legal}
 use Rattle.outside.specs.Files.{Two, file_of}
 use Rattle.outside.specs.Frames.{HasFrames, end_of, format_in, journal_file, most_bytes}
@@ -23,6 +23,11 @@ PayloadsSpellOnce = (bytes : List ℕ) (batch : List Entry) → ((place : ℕ) �
 -- in a batch that may follow a journal each session has a latency of at least 1
 abbrev pub AllowedHaveLatency : Type 0
 AllowedHaveLatency = (clients : Meaning) (f : Facts) (batch : List Entry) → Allowed clients f batch → AllByRecursion HasLatency batch
+
+-- a batch that may follow a journal adds one message or one session at most
+abbrev pub AllowedAddOne : Type 0
+AllowedAddOne = (clients : Meaning) (f : Facts) (batch : List Entry) → Allowed clients f batch
+    → length (after_all f batch).held + length (after_all f batch).sessions ≤ length f.held + length f.sessions + 1
 
 -- The journal's file has the frames of this journal, which is legal and within the limits of its entries, and there is room
 -- for what settling may add to it.

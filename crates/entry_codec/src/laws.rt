@@ -1,6 +1,6 @@
 //! What holds of all spellings. Each function's clause is the law; none does anything.
 ghost use Rattle.entry_codec.specs.Laws.{AllowsIsAllowed, NoneBeginsAnother, PayloadsFitFrames, SpellingsAreShort, SpellingsReadBack};
-ghost use Rattle.entry_codec.specs.StandingLaws.{AllowedHaveLatency, BatchesReadBack, JournalsStand, PayloadsSpellOnce, StandingIsLegal};
+ghost use Rattle.entry_codec.specs.StandingLaws.{AllowedAddOne, AllowedHaveLatency, BatchesReadBack, JournalsStand, PayloadsSpellOnce, StandingIsLegal};
 
 /// Whatever `read_entry` finds where an entry is spelled is that entry, whatever follows.
 pub fn spellings_read_back()
@@ -35,6 +35,11 @@ pub fn payloads_spell_once()
 /// In a batch that may follow a journal each session has a latency.
 pub fn allowed_have_latency()
     ensures { AllowedHaveLatency }
+{}
+
+/// A batch that may follow a journal adds one message or one session at most.
+pub fn allowed_add_one()
+    ensures { AllowedAddOne }
 {}
 
 /// Files with the frames of a legal journal, and room for what settling may add, stand for that journal.
