@@ -6,12 +6,14 @@ mod front;
 pub mod laws;
 mod lengths;
 mod reading;
+mod same;
 mod stop;
 mod values;
 mod writing;
 
 pub use lengths::entry_len;
 pub use reading::{EntryFound, read_entry};
+pub use same::{ids_named, same_entries, same_entry, same_out};
 pub use writing::write_entry;
 
 #[cfg(test)]
