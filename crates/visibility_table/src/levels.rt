@@ -1,5 +1,5 @@
 //! `Levels`.
-ghost use Rattle.std.specs.Prelude.{◌≡◌, ◌-◌, ◌^◌, ◌<◌, ◌++◌, ◌∷◌, [], max, length, IfOk, OnOk, OnErr, MatchOption, None, Some, slice_get};
+ghost use Rattle.std.specs.Prelude.{◌≡◌, ◌-◌, ◌^◌, ◌<◌, ◌++◌, ◌∷◌, [], max, length, IfOk, OnOk, OnErr, MatchOption, IfSome, None, Some, slice_get};
 ghost use Rattle.std.specs.Option.{option_map};
 ghost use Rattle.sync_ids.specs.Ids.{group_id_of};
 ghost use Rattle.sync_rules.specs.Facts.{group_at, known_of, level_at, put_level};
@@ -120,6 +120,7 @@ impl Levels {
     /// The number of the group of this id. `None` comes exactly where no group has it.
     pub fn group(&self, id: &GroupId) -> Option<u32>
         ensures number { result ≡ number_of self.now.groups id.now }
+        ensures within { IfSome result (λ n. n < length self.now.groups) }
         ensures found { MatchOption result (group_at self.now.groups id.now ≡ None) (λ n. slice_get self.now.groups n ≡ group_at self.now.groups id.now) }
     {
         let number = self.groups.get_index_of(id)?;
