@@ -16,8 +16,9 @@ use Rattle.sync_rules.specs.Lists.{firsts, is_among}
 use Rattle.sync_rules.specs.Facts.{Facts, Held, Id, Known, Wants, after, contact_in, contact_of, group_at, held_at, is_held, is_invisible, level_at, row_at, session_at, takes_of, wanted_from, with_want}
 use Rattle.sync_rules.specs.Legal.{Allowed, IsDue, MayTake}
 use Rattle.sync_rules.specs.Sessions.{is_remembered, is_shown, is_shown_held, is_welcome, one_if, room_after, taken, taken_acks, taken_from, taken_message, taken_message_of, taken_offer, taken_offers, taken_requests, wants_limit}
+use Rattle.entry_codec.specs.Allows.{is_settling_kind}
 use Rattle.journal_state.specs.Room.{rows_room, wants_room}
-use Rattle.journal_state.specs.Taking.{CanHold, CanMark, CanSend, CanTake, CanTakeAll, CanTakeKind, HasContactRoom, HasRoom, HasRows, Spends, Takes, is_settling_kind}
+use Rattle.journal_state.specs.Taking.{CanHold, CanMark, CanSend, CanTake, CanTakeAll, CanTakeKind, HasContactRoom, HasRoom, HasRows, Spends, Takes}
 use Rattle.journal_state.specs.Whole.{StateValue}
 use Rattle.journal_state.proofs.Apart.{AreApart}
 use Rattle.journal_state.proofs.Sending.{due_can}

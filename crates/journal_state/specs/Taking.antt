@@ -1,5 +1,5 @@
 -- What a state needs to take entries, and what they make of it.
-use Rattle.std.specs.Prelude.{◌≡◌, ℕ, ◌+◌, ◌-◌, ◌^◌, ◌<◌, ◌≤◌, min, Bool, true, false, List, [], ◌∷◌, length, Option, None, Some, is_some, IfSome}
+use Rattle.std.specs.Prelude.{◌≡◌, ℕ, ◌+◌, ◌-◌, ◌^◌, ◌<◌, ◌≤◌, min, true, List, [], ◌∷◌, length, Option, None, Some, is_some, IfSome}
 use Rattle.std.specs.List.{list_all}
 use Rattle.std.specs.Option.{option_map}
 use Rattle.sync_ids.specs.Ids.{group_id_of, message_id_of}
@@ -101,13 +101,6 @@ pub record Takes (old new : StateValue) (e : Entry) : Type 0 where
   pub room : Spends old.room new.room
 
 -- ---- a batch
-
--- STUB: that of entry_codec
-abbrev pub is_settling_kind : List Entry → Bool
-is_settling_kind (entry.Judged id ∷ rest) = true
-is_settling_kind (entry.Deliver id ∷ rest) = true
-is_settling_kind (entry.Invalid id ∷ rest) = true
-is_settling_kind _ = false
 
 -- each entry can be taken after those before it
 abbrev pub CanTakeAll : StateValue → List Entry → Type 0

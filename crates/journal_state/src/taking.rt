@@ -3,7 +3,8 @@ ghost use Rattle.std.specs.Prelude.{◌≡◌, ℕ, ◌-◌, ◌^◌, ◌<◌, �
 ghost use Rattle.sync_rules.specs.Clients.{Meaning};
 ghost use Rattle.sync_rules.specs.Facts.{after_all, takes_of};
 ghost use Rattle.sync_rules.specs.Legal.{Allowed};
-ghost use Rattle.journal_state.specs.Taking.{CanTake, CanTakeAll, HasRoom, Takes, TakesAll, is_settling_kind};
+ghost use Rattle.entry_codec.specs.Allows.{is_settling_kind};
+ghost use Rattle.journal_state.specs.Taking.{CanTake, CanTakeAll, HasRoom, Takes, TakesAll};
 ghost use Rattle.journal_state.specs.Whole.{Knows};
 
 use crate::marks::Mark;
