@@ -41,6 +41,7 @@ empty_is_state table none = record {
   order = λ n node at unjudged. absurd (not_there n node at);
   within = refl;
   ended = λ id. refl;
+  many = refl;
   free_rows = λ contact n beyond. ap (λ (ks : List retry.Kept). retry.kept_in ks n) (none contact).0;
   free_wants = λ contact beyond. ap (λ (w : retry.Wants). w.ids) (none contact).1;
   shown = λ contact group e. absurd (false≢true (sym e ∙ ap (λ o. is_invisible (level_or o)) (fin_map.get-empty pair_cmp (contact, group))));

@@ -41,6 +41,7 @@ module _ (p : Parts) (s : IsState p) (c : ℕ) (t : levels.Table) (made : t ≡ 
     order = s.order;
     within = s.within;
     ended = s.ended;
+    many = s.many;
     free_rows = s.free_rows;
     free_wants = λ contact beyond. s.free_wants contact (omega arith);
     shown = s.shown;
@@ -128,6 +129,7 @@ module _ (p : Parts) (s : IsState p) (def : GroupValue) (t : levels.Table)
     order = s.order;
     within = s.within;
     ended = s.ended;
+    many = s.many;
     free_rows = s.free_rows;
     free_wants = s.free_wants;
     shown = λ contact group e.
@@ -163,6 +165,7 @@ module _ (p : Parts) (s : IsState p) (begun : Begun) (space : ℕ) where
     order = s.order;
     within = s.within;
     ended = s.ended;
+    many = s.many;
     free_rows = s.free_rows;
     free_wants = s.free_wants;
     shown = s.shown;

@@ -44,6 +44,7 @@ module _ (p : Parts) (s : IsState p) (t : retry.Table) (space : ℕ) where
     order = s.order;
     within = s.within;
     ended = s.ended;
+    many = s.many;
     free_rows = rows;
     free_wants = wants;
     shown = s.shown;

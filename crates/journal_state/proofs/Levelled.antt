@@ -337,6 +337,7 @@ module _ (p : Parts) (s : IsState p) (honest : Honest p.nodes p.shares) (c : ℕ
     order = s.order;
     within = s.within;
     ended = s.ended;
+    many = s.many;
     free_rows = λ contact n beyond. either contact c
         (λ e. ap (λ x. retry.kept_at new x n) e ∙ free_here n beyond)
         (λ apart. ap (λ (ks : List retry.Kept). retry.kept_in ks n) (r.others contact apart) ∙ s.free_rows contact n beyond);

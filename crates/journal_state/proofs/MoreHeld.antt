@@ -20,12 +20,14 @@ use Rattle.message_graph.specs.declared.nodes.Node.{Node}
 use Rattle.message_graph.specs.Nodes as nodes
 use Rattle.retry_table.specs.Table as retry
 use Rattle.visibility_table.specs.Table as levels
+use Rattle.journal_state.specs.Left.{delivered_among, one_if_delivered}
 use Rattle.journal_state.specs.Parts.{Parts, answer_of_node, answers_of, facts_of, is_invalid, is_judged, name_at, names_where, ids_where, rows_in, shared_among, wants_in}
 use Rattle.journal_state.specs.Unwanted.{UnwantsBelow}
 use Rattle.journal_state.specs.Whole.{IsState, Knows, is_delivered_in, may_go, value_of}
 use Rattle.journal_state.proofs.Places.{id_is, id_itself, id_swap, place_found}
 use Rattle.journal_state.proofs.Apart.{AreApart, first_apart, passes, set_named}
 use Rattle.journal_state.proofs.Rows.{row_by, row_found, rows_are, lean_in}
+use Rattle.journal_state.proofs.Sums.{sum_more}
 use Rattle.journal_state.proofs.Next.{many_nodes}
 use Rattle.journal_state.proofs.Seen.{there}
 use Rattle.journal_state.proofs.Tables.{either}
@@ -321,6 +323,7 @@ module _ (p : Parts) (s : IsState p) (h : Held) (group : ℕ) (t : retry.Table) 
     order = λ n node at. end_cases {P = λ k (w : Node). w.answer ≡ None → w.ending ≡ None} p.nodes (nodes.fresh h.id group) s.order (λ none. refl) n node at;
     within = within_more (length p.nodes) (length (p.nodes ++ nodes.fresh h.id group ∷ [])) p.delivered (omega (arith, nodes_length)) s.within;
     ended = λ id. ap (λ (ids : List Id). is_among ids id) delivered_still ∙ (s.ended id ∙ sym (node_more p.nodes (nodes.fresh h.id group) id refl));
+    many = let sums : delivered_among (p.nodes ++ nodes.fresh h.id group ∷ []) ≡ delivered_among p.nodes + 0 = sum_more one_if_delivered p.nodes (nodes.fresh h.id group) in omega (arith, sums, s.many);
     free_rows = λ contact n beyond. kept_still contact n ∙ s.free_rows contact n (omega (arith, held_length));
     free_wants = wants_free;
     shown = s.shown;

@@ -1,5 +1,5 @@
 -- The parts of a state as its fields show them.
-use Rattle.std.specs.Prelude.{◌≡◌, ℕ, ◌+◌, ◌≤◌, true, length, nat_lt, vec_capacity, slice_get, Some}
+use Rattle.std.specs.Prelude.{◌≡◌, ℕ, ◌+◌, ◌≤◌, Bool, true, List, length, nat_lt, vec_capacity, slice_get, Some}
 use Rattle.std.specs.List.{list_all}
 use Rattle.journal_state.specs.declared.state.State.TheInside.{Inside}
 use Rattle.sync_rules.specs.Sessions.{may_share}
@@ -27,6 +27,10 @@ pub record IsRoomy (s : Inside) : Type 0 where
   pub graph : s.space ≤ s.graph.spare
   pub shares : length s.shares.items + s.space ≤ vec_capacity s.shares
 
+-- only a message whose judgement lets it be sent on counts as one that may be shared
+abbrev pub IsHonest : List Node → List Bool → Type 0
+IsHonest ns shares = (n : ℕ) (node : Node) → slice_get ns n ≡ Some node → slice_get shares n ≡ Some true → may_share (answer_of_node node.answer true) ≡ true
+
 -- the parts are those of one journal, and there is room in each
 pub record IsWhole (s : Inside) : Type 0 where
   pub state : IsState (parts s)
@@ -34,5 +38,4 @@ pub record IsWhole (s : Inside) : Type 0 where
   -- there are at most 256 contacts, and each session is with one of them
   pub few : s.table.contacts ≤ 256
   pub met : list_all (λ x. nat_lt x.contact s.table.contacts) s.sessions.sessions ≡ true
-  -- only a message whose judgement lets it be sent on counts as one that may be shared
-  pub honest : (n : ℕ) (node : Node) → slice_get s.graph.nodes n ≡ Some node → slice_get s.shares.items n ≡ Some true → may_share (answer_of_node node.answer true) ≡ true
+  pub honest : IsHonest s.graph.nodes s.shares.items

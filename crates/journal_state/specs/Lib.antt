@@ -1,6 +1,9 @@
 pub mod Codes
 pub mod Holding
 pub mod Begun
+pub mod Left
+pub mod Settling
+pub mod Fates
 pub mod Room
 pub mod Marks
 pub mod Unwanted
@@ -12,3 +15,4 @@ pub mod Inside
 pub mod Lent
 pub mod Stepping
 pub mod Changes
+pub mod Delivery

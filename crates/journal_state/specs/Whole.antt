@@ -16,6 +16,7 @@ use Rattle.message_graph.specs.Nodes as nodes
 use Rattle.retry_table.specs.Table as retry
 use Rattle.visibility_table.specs.Table as levels
 use Rattle.journal_state.specs.Codes.{facts_code, answers_code}
+use Rattle.journal_state.specs.Left.{delivered_among}
 use Rattle.journal_state.specs.Room.{Room, room_code, room_in}
 use Rattle.journal_state.specs.Parts.{Parts, answers_of, facts_of, name_at, shared_among}
 
@@ -69,6 +70,7 @@ pub record IsState (p : Parts) : Type 0 where
   -- the delivered numbers are those of the nodes that ended so
   pub within : list_all (λ n. nat_lt n (length p.nodes)) p.delivered ≡ true
   pub ended : (id : Id) → is_among (map (name_at p.nodes) p.delivered) id ≡ is_delivered_in (nodes.node_named p.nodes id)
+  pub many : length p.delivered ≡ delivered_among p.nodes
   -- there are no rows of messages that are not held, and no wanted ids of contacts that are not known
   pub free_rows : (contact n : ℕ) → length p.held ≤ n → retry.kept_at p.retry contact n ≡ retry.no_kept
   pub free_wants : (contact : ℕ) → p.table.contacts ≤ contact → (retry.wants_of p.retry contact).ids ≡ []

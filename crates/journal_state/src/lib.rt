@@ -1,7 +1,11 @@
 //! The state of a journal without a disk.
 #![tactic(auto)]
 
+mod counted;
+mod delivering;
+mod fates;
 mod held;
+mod judging;
 mod holding;
 mod levelling;
 mod marks;

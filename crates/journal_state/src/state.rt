@@ -4,9 +4,9 @@ ghost use Rattle.std.specs.Option.{option_map};
 ghost use Rattle.sync_rules.specs.Facts.{nothing};
 ghost use Rattle.journal_state.specs.Lent.{StandsForRows};
 
+use crate::counted::CountedGraph;
 use crate::held::Messages;
 use crate::sessions::Sessions;
-use message_graph::Graph;
 use retry_table::Retry;
 use std::alloc::{AllocError, Global};
 use std::marker::Model;
@@ -21,7 +21,7 @@ pub struct State {
     pub(crate) table: Levels,
     pub(crate) messages: Messages,
     pub(crate) sessions: Sessions,
-    pub(crate) graph: Graph,
+    pub(crate) graph: CountedGraph,
     pub(crate) shares: Vec<bool>,
     pub(crate) delivered: Vec<u32>,
     pub(crate) retry: Retry,
@@ -49,7 +49,7 @@ impl State {
         ensures answers { IfOk result (λ s. s.answers ≡ []) }
     {
         let table = Levels::new(alloc)?;
-        let graph = Graph::new(alloc)?;
+        let graph = CountedGraph::new(alloc)?;
         let retry = Retry::new(alloc)?;
         Ok(State {
             table,
