@@ -1,3 +1,8 @@
+pub mod BatchLaws
+mod Journals
+mod Latencies
+mod OfBatches
+mod Counts
 mod Entries
 mod LawProofs
 mod Bounds
@@ -6,3 +11,7 @@ mod Payloads
 mod Readers
 mod ReadSteps
 mod WriteSteps
+pub mod SameEntries
+pub mod PartsOfIds
+pub mod TakenBack
+pub mod Allowing

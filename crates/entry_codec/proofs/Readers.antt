@@ -19,7 +19,7 @@ IsBytes-take n bytes h i =
     ]
 
 -- what follows is bytes too
-IsBytes-rest : (bytes text rest : List ℕ) → bytes ≡ text ++ rest → IsBytes bytes → IsBytes rest
+pub IsBytes-rest : (bytes text rest : List ℕ) → bytes ≡ text ++ rest → IsBytes bytes → IsBytes rest
 IsBytes-rest bytes text rest e h i = rw (← get_or-append-add text rest i 0, ← e) (h (length text + i))
 
 -- A reader p reads what S writes, of the values that keep the limits L.

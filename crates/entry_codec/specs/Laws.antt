@@ -1,10 +1,11 @@
 -- What holds of all spellings.
-use Rattle.std.specs.Prelude.{◌≡◌, ℕ, ◌≤◌, List, [], ◌++◌, length, take}
+use Rattle.std.specs.Prelude.{◌≡◌, ℕ, ◌≤◌, true, List, [], ◌++◌, length, take}
 use Rattle.std.specs.List.{AllByRecursion, flat_map}
 use Rattle.sync_rules.specs.declared.entries.Entry.{Entry}
 use Rattle.sync_rules.specs.Clients.{Meaning}
 use Rattle.sync_rules.specs.Facts.{Facts}
 use Rattle.sync_rules.specs.Legal.{Allowed}
+use Rattle.entry_codec.specs.Allows.{allows}
 use Rattle.entry_codec.specs.Spelling.{IsEntry, Spells, spelling}
 use Rattle.entry_codec.specs.declared.reading.EntryFound.{EntryFound}
 use Rattle.entry_codec.specs.declared.reading.EntryFound.TheVariants as found
@@ -35,3 +36,7 @@ payload entries = flat_map spelling entries
 abbrev pub PayloadsFitFrames : Type 0
 PayloadsFitFrames = (clients : Meaning) (f : Facts) (batch : List Entry) → Allowed clients f batch → AllByRecursion IsEntry batch
     → (2 ≤ length (payload batch)) × (length (payload batch) ≤ 56845)
+
+-- the test of a batch says yes exactly where the batch may follow a journal of these facts
+abbrev pub AllowsIsAllowed : Type 0
+AllowsIsAllowed = (clients : Meaning) (f : Facts) (b : List Entry) → (allows clients f b ≡ true → Allowed clients f b) × (Allowed clients f b → allows clients f b ≡ true)

@@ -1,4 +1,8 @@
 pub mod Spelling
 pub mod Reading
 pub mod Answers
+pub mod Allows
 pub mod Laws
+pub mod Standing
+pub mod StandingLaws
+pub mod Fronts

@@ -97,7 +97,7 @@ fn read_heard(tag: u8, front: &mut Front) -> Result<Entry, Stop>
 }
 
 #[tactic(auto, unfolding(crate::specs::Reading::entry_in))]
-fn read_tagged(alloc: Global, front: &mut Front) -> Result<Entry, Stop>
+pub(crate) fn read_tagged(alloc: Global, front: &mut Front) -> Result<Entry, Stop>
     ensures { Reads entry_in front.old.rest.now result front.new.rest.now }
 {
     let tag = front.read_byte()?;

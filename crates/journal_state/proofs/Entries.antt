@@ -1,5 +1,5 @@
 -- What an entry that brings no message makes of the parts: a contact, a group, a session, a record.
-use Rattle.std.proofs.Common.{◌≡◌, ℕ, zero, suc, ◌+◌, ◌-◌, ◌<◌, ◌≤◌, ◌^◌, Bool, true, false, cond, nat_lt, List, [], ◌∷◌, ◌++◌, length, map, Option, None, Some, is_some, position, slice_get, refl, sym, ◌∙◌, ap, subst, arith}
+use Rattle.std.proofs.Common.{◌≡◌, ℕ, zero, suc, ◌+◌, ◌-◌, ◌<◌, ◌≤◌, ◌^◌, Bool, true, false, cond, nat_eq, nat_lt, List, [], ◌∷◌, ◌++◌, length, map, Option, None, Some, is_some, position, slice_get, refl, sym, ◌∙◌, ap, subst, arith}
 use Rattle.std.specs.List.{list_all, position_from}
 use Rattle.std.specs.Option.{option_map}
 use Rattle.std.specs.FinMap as fin_map
@@ -12,7 +12,7 @@ use Rattle.sync_rules.specs.declared.entries.Entry.TheVariants as entry
 use Rattle.sync_rules.specs.declared.entries.Session.{Session}
 use Rattle.sync_rules.specs.Clients.{Meaning}
 use Rattle.sync_rules.specs.Lists.{same_id}
-use Rattle.sync_rules.specs.Facts.{Facts, Held, Id, Known, after, group_at, known_of, takes_of}
+use Rattle.sync_rules.specs.Facts.{Facts, Held, Id, Known, after, group_at, known_of, session_at, takes_of}
 use Rattle.sync_rules.specs.Steps.{answer_of, verdict_for, verdict_in}
 use Rattle.message_graph.specs.declared.nodes.Node.{Node}
 use Rattle.retry_table.specs.Table as retry
@@ -187,3 +187,13 @@ below_more contact n m le e = grind arith
 
 pub below_true : (n m : ℕ) → n < m → nat_lt n m ≡ true
 below_true n m h = grind arith
+
+-- the contact of a session is known
+pub met_known : (contacts : ℕ) (ss : List Session) (n : ℕ) (x : Session) → list_all (λ y. nat_lt y.contact contacts) ss ≡ true → session_at ss n ≡ Some x → x.contact < contacts
+met_known contacts [] n x all e = absurd (let none : None ≡ Some x = e in cc)
+met_known contacts (y ∷ ss) n x all e =
+    let both = and_parts (nat_lt y.contact contacts) (list_all (λ (z : Session). nat_lt z.contact contacts) ss) all in
+    elim (nat_eq y.number n) as (λ b. cond b (Some y) (session_at ss n) ≡ Some x → x.contact < contacts) [
+      | true ↦ λ q. let same : y ≡ x = cc in (let own : nat_lt y.contact contacts ≡ true = both.0 in subst (λ (z : Session). z.contact < contacts) same (grind (arith, own)))
+      | false ↦ λ q. met_known contacts ss n x both.1 q
+    ] e

@@ -24,6 +24,9 @@ pub mod Fated
 pub mod Tables
 pub mod Kept
 pub mod Took
+pub mod TakenAll
+pub mod Sending
+pub mod CanTaken
 pub mod Entries
 pub mod WantedIds
 pub mod MarkedMore

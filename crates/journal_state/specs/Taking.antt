@@ -1,5 +1,5 @@
 -- What a state needs to take entries, and what they make of it.
-use Rattle.std.specs.Prelude.{◌≡◌, ℕ, ◌+◌, ◌-◌, ◌^◌, ◌<◌, ◌≤◌, min, true, false, List, [], ◌∷◌, length, Option, None, Some, is_some, IfSome}
+use Rattle.std.specs.Prelude.{◌≡◌, ℕ, ◌+◌, ◌-◌, ◌^◌, ◌<◌, ◌≤◌, min, true, List, [], ◌∷◌, length, Option, None, Some, is_some, IfSome}
 use Rattle.std.specs.List.{list_all}
 use Rattle.std.specs.Option.{option_map}
 use Rattle.sync_ids.specs.Ids.{group_id_of, message_id_of}
@@ -99,3 +99,15 @@ pub record Takes (old new : StateValue) (e : Entry) : Type 0 where
   pub facts : new.facts ≡ after old.facts e
   pub knows : (clients : Meaning) → Knows clients old → Knows clients new
   pub room : Spends old.room new.room
+
+-- ---- a batch
+
+-- each entry can be taken after those before it
+abbrev pub CanTakeAll : StateValue → List Entry → Type 0
+CanTakeAll s [] = Unit {0}
+CanTakeAll s (e ∷ es) = CanTake s e × ((next : StateValue) → Takes s next e → CanTakeAll next es)
+
+-- a state took all entries
+pub record TakesAll (old new : StateValue) (es : List Entry) : Type 0 where
+  pub facts : new.facts ≡ after_all old.facts es
+  pub knows : (clients : Meaning) → Knows clients old → Knows clients new

@@ -14,6 +14,7 @@ mod reserve;
 mod sessions;
 mod state;
 mod steps;
+mod taking;
 mod view;
 mod wanting;
 

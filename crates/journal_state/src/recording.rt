@@ -47,7 +47,8 @@ impl State {
     /// The session of this number, which is there.
     pub(crate) fn session(&self, number: u32) -> Session
         requires { is_some (session_at self.now.facts.sessions number) ≡ true }
-        ensures { session_at self.now.facts.sessions number ≡ Some result }
+        ensures found { session_at self.now.facts.sessions number ≡ Some result }
+        ensures known { result.contact < self.now.facts.contacts }
     {
         self.sessions.find(number).unwrap()
     }

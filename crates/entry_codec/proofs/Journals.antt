@@ -1,0 +1,208 @@
+-- A file with the frames of a legal journal stands for that journal.
+use Rattle.std.proofs.Common.{◌≡◌, ℕ, zero, suc, ◌+◌, ◌≤◌, Bool, true, false, List, [], ◌∷◌, ◌++◌, length, get_or, take, drop, refl, sym, ap, subst, ◌∙◌, arith, append_assoc, length-append}
+use Rattle.std.specs.Prelude.{◌≢◌, ◌==◌, not, nat_le, map, cond, slice_index, Option, Some, None, All}
+use Rattle.std.specs.Int.{w32, to_be_bytes, from_be_bytes}
+use Rattle.std.specs.List.{AllByRecursion, flat_map}
+use Rattle.std.proofs.lemmas.Bool.{cond-false, cond-true, eq-eqb, le-leb, le-ltb, lt-leb, ne_eqb, not_from_true, not_from_false, or_from}
+use Rattle.std.proofs.lemmas.List.{append-nil, drop-drop, drop_at, get_or-append-add, take_at}
+use Rattle.std.proofs.lemmas.List.Elements.{All-head, All-tail}
+use Rattle.std.proofs.lemmas.Nat.{from_be_bytes-to_be_bytes_4}
+use Rattle.sync_rules.specs.declared.entries.Entry.{Entry}
+use Rattle.sync_rules.specs.Clients.{Meaning}
+use Rattle.sync_rules.specs.Facts.{Facts, facts}
+use Rattle.sync_rules.specs.Legal.{Allowed, GoesOn, Legal}
+use Rattle.outside.specs.Files.{Two, file_of}
+use Rattle.outside.specs.Frames.{Frame, IsPayload, broken, closed, format_in, frame_at, frame_of, journal_file, framed, is_broken, most_bytes, size_at}
+use Rattle.entry_codec.specs.Spelling.{IsEntry}
+use Rattle.entry_codec.specs.Laws.{payload}
+use Rattle.entry_codec.specs.StandingLaws.{HoldsJournal}
+use Rattle.entry_codec.specs.Allows.{allows}
+use Rattle.entry_codec.specs.Standing.{Standing, batch_of, damaged, frames_from, journal, read_on, rest_from, room_of, stands, stands_in, taken_on}
+use Rattle.entry_codec.specs.Fronts.{facts_push, legal_push, rest_once}
+use Rattle.entry_codec.proofs.BatchLaws.{batch_back}
+
+-- the test of a batch that is allowed
+abbrev pub Decided : Meaning → Type 0
+Decided clients = (f : Facts) (batch : List Entry) → Allowed clients f batch → allows clients f batch ≡ true
+
+-- and the other way round
+abbrev pub Means : Meaning → Type 0
+Means clients = (f : Facts) (batch : List Entry) → allows clients f batch ≡ true → Allowed clients f batch
+
+-- ---- frames that are there
+
+frame_there : (bytes front p behind : List ℕ) (place : ℕ) → bytes ≡ front ++ (frame_of p ++ behind) → length front ≡ place → IsPayload p → place + 6 + length p ≤ most_bytes
+    → frame_at bytes place ≡ framed p
+frame_there bytes front p behind place split is fits bounded =
+    let width = to_be_bytes w32 (length p) in
+    let at : drop place bytes ≡ frame_of p ++ behind = ap (drop place) split ∙ drop_at front (frame_of p ++ behind) place is in
+    let sized : drop (place + 1) bytes ≡ width ++ (p ++ behind) = sym (drop-drop 1 place bytes) ∙ ap (drop 1) at ∙ append_assoc width p behind in
+    let payloads : drop (place + 5) bytes ≡ p ++ behind = sym (drop-drop 5 place bytes) ∙ ap (drop 5) at ∙ ap (drop 4) (append_assoc width p behind) ∙ drop_at width (p ++ behind) 4 refl in
+    let size : size_at bytes place ≡ length p =
+    ap (λ (l : List ℕ). from_be_bytes w32 (take 4 l)) sized ∙ ap (from_be_bytes w32) (take_at width (p ++ behind) 4 refl) ∙ from_be_bytes-to_be_bytes_4 (length p) (omega (arith, fits.1)) in
+    let long : length bytes ≡ place + (5 + length p + length behind) =
+    omega (arith, ap length split, length-append front (frame_of p ++ behind), is, length-append (frame_of p) behind, length-append width p) in
+    let byte : slice_index bytes place ≡ 1 =
+    ap (λ (l : List ℕ). get_or l place 0) split ∙ ap (λ (n : ℕ). get_or (front ++ (frame_of p ++ behind)) n 0) (omega (arith, is)) ∙ get_or-append-add front (frame_of p ++ behind) 0 0 in
+    let whole : is_broken bytes place ≡ false =
+    or_from _ _ (or_from _ _ (or_from _ _ (or_from _ _ (le-ltb (length bytes) (place + 5) (omega arith)) (ne_eqb (size_at bytes place) 0 (λ none. omega (arith, fits.0, size, none))))
+    (le-ltb 65536 (size_at bytes place) (omega (arith, fits.1, size)))) (le-ltb (length bytes) (place + 5 + size_at bytes place) (omega arith))) (le-ltb most_bytes (place + 6 + size_at bytes place) (omega arith)) in
+    cond-false (nat_le (length bytes) place) _ _ (lt-leb (length bytes) place (omega arith))
+    ∙ cond-false (not (slice_index bytes place == 1)) _ _ (not_from_true (slice_index bytes place == 1) (eq-eqb (slice_index bytes place) 1 byte))
+    ∙ cond-false (is_broken bytes place) _ _ whole
+    ∙ ap (λ (l : List ℕ). framed l) (ap (λ (n : ℕ). take n (drop (place + 5) bytes)) size ∙ ap (take (length p)) payloads ∙ take_at p behind (length p) refl)
+
+closed_there : (bytes front rest : List ℕ) (gate place : ℕ) → bytes ≡ front ++ gate ∷ rest → length front ≡ place → gate ≢ 1 → frame_at bytes place ≡ closed
+closed_there bytes front rest gate place split is shut =
+    let long : length bytes ≡ place + suc (length rest) = omega (arith, ap length split, length-append front (gate ∷ rest), is) in
+    let byte : slice_index bytes place ≡ gate =
+    ap (λ (l : List ℕ). get_or l place 0) split ∙ ap (λ (n : ℕ). get_or (front ++ gate ∷ rest) n 0) (omega (arith, is)) ∙ get_or-append-add front (gate ∷ rest) 0 0 in
+    cond-false (nat_le (length bytes) place) _ _ (lt-leb (length bytes) place (omega arith))
+    ∙ cond-true (not (slice_index bytes place == 1)) _ _ (not_from_false (slice_index bytes place == 1) (ne_eqb (slice_index bytes place) 1 (λ same. shut (sym byte ∙ same))))
+
+-- ---- the batches that are left to be read
+
+some_batch : (clients : Meaning) (f : Facts) (batch : List Entry) → Allowed clients f batch → 1 ≤ length batch
+some_batch clients f [] allowed = absurd allowed
+some_batch clients f (e ∷ es) allowed = omega arith
+
+-- what follows a place in a file: these batches, and then a closed gate
+record Follows (clients : Meaning) (bytes : List ℕ) (place : ℕ) (done more : List (List Entry)) : Type 0 where
+  pub front : List ℕ
+  pub gate : ℕ
+  pub rest : List ℕ
+  pub split : bytes ≡ (front ++ flat_map frame_of (map payload more)) ++ gate ∷ rest
+  pub long : length front ≡ place
+  pub some : 1 ≤ place
+  pub shut : gate ≢ 1
+  pub payloads_fit : All IsPayload (map payload more)
+  pub legal : GoesOn clients (facts done) more
+  pub within : AllByRecursion (AllByRecursion IsEntry) more
+  pub bounded : place + 1 + length (flat_map frame_of (map payload more)) + room_of (facts (done ++ more)) ≤ most_bytes
+
+ends_here : (clients : Meaning) (file : ℕ) (bytes : List ℕ) (place : ℕ) (done : List (List Entry)) → Follows clients bytes place done [] → rest_from clients file bytes place done ≡ journal (done ++ [])
+ends_here clients file bytes place done f =
+    let none : done ++ [] ≡ done = append-nil done in
+    let shut = closed_there bytes f.front f.rest f.gate place (f.split ∙ ap (λ (l : List ℕ). l ++ f.gate ∷ f.rest) (append-nil f.front)) f.long f.shut in
+    let room : room_of (facts (done ++ [])) ≡ room_of (facts done) = ap (λ (d : List (List Entry)). room_of (facts d)) none in
+    rest_once clients file bytes place done f.some
+    ∙ ap (read_on clients file (rest_from clients file bytes) place done) shut
+    ∙ cond-true (nat_le (place + 1 + room_of (facts done)) most_bytes) _ _ (le-leb _ _ (omega (arith, f.bounded, room)))
+    ∙ ap (λ (d : List (List Entry)). journal d) (sym none)
+
+length_frame : (to : List ℕ) → length (frame_of to) ≡ 5 + length to
+length_frame to = omega (arith, length-append (to_be_bytes w32 (length to)) to)
+
+first_read : (clients : Meaning) (bytes : List ℕ) (place : ℕ) (done more : List (List Entry)) (b : List Entry) → Follows clients bytes place done (b ∷ more) → frame_at bytes place ≡ framed (payload b)
+first_read clients bytes place done more b f =
+    let p = payload b in
+    let others = flat_map frame_of (map payload more) in
+    let behind = others ++ f.gate ∷ f.rest in
+    let split : bytes ≡ f.front ++ (frame_of p ++ behind) =
+    f.split ∙ append_assoc f.front (frame_of p ++ others) (f.gate ∷ f.rest) ∙ ap (λ (l : List ℕ). f.front ++ l) (append_assoc (frame_of p) others (f.gate ∷ f.rest)) in
+    frame_there bytes f.front p behind place split f.long (All-head IsPayload p (map payload more) f.payloads_fit)
+    (omega (arith, f.bounded, length-append (frame_of p) others, length_frame p))
+
+goes_on : (clients : Meaning) (bytes : List ℕ) (place : ℕ) (done more : List (List Entry)) (b : List Entry) → Follows clients bytes place done (b ∷ more)
+    → Follows clients bytes (place + 5 + length (payload b)) (done ++ b ∷ []) more
+goes_on clients bytes place done more b f =
+    let p = payload b in
+    let others = flat_map frame_of (map payload more) in
+    let same : (done ++ b ∷ []) ++ more ≡ done ++ b ∷ more = append_assoc done (b ∷ []) more in
+    let room : room_of (facts ((done ++ b ∷ []) ++ more)) ≡ room_of (facts (done ++ b ∷ more)) = ap (λ (d : List (List Entry)). room_of (facts d)) same in
+    record {
+      front = f.front ++ frame_of p;
+      gate = f.gate;
+      rest = f.rest;
+      split = f.split ∙ ap (λ (l : List ℕ). l ++ f.gate ∷ f.rest) (sym (append_assoc f.front (frame_of p) others));
+      long = omega (arith, length-append f.front (frame_of p), f.long, length_frame p);
+      some = omega (arith, f.some);
+      shut = f.shut;
+      payloads_fit = All-tail IsPayload p (map payload more) f.payloads_fit;
+      legal = subst (λ (g : Facts). GoesOn clients g more) (sym (facts_push done b)) f.legal.1;
+      within = f.within.1;
+      bounded = omega (arith, f.bounded, room, length-append (frame_of p) others, length_frame p);
+    }
+
+all_read : (clients : Meaning) → Decided clients → (file : ℕ) (bytes : List ℕ) (place : ℕ) (done more : List (List Entry)) → Follows clients bytes place done more
+    → rest_from clients file bytes place done ≡ journal (done ++ more)
+all_read clients decided file bytes place done [] f = ends_here clients file bytes place done f
+all_read clients decided file bytes place done (b ∷ more) f =
+    let allowed = f.legal.0 in
+    let read : batch_of (payload b) ≡ Some b = batch_back b f.within.0 (some_batch clients (facts done) b allowed) in
+    rest_once clients file bytes place done f.some
+    ∙ ap (read_on clients file (rest_from clients file bytes) place done) (first_read clients bytes place done more b f)
+    ∙ ap (taken_on clients file (rest_from clients file bytes (place + 5 + length (payload b))) place done) read
+    ∙ cond-true (allows clients (facts done) b) _ _ (decided (facts done) b allowed)
+    ∙ all_read clients decided file bytes (place + 5 + length (payload b)) (done ++ b ∷ []) more (goes_on clients bytes place done more b f)
+    ∙ ap (λ (d : List (List Entry)). journal d) (append_assoc done (b ∷ []) more)
+
+-- ---- the journal of two files
+
+pub stands_has : (clients : Meaning) → Decided clients → (files : Two (List ℕ)) (file : ℕ) (j : List (List Entry)) → HoldsJournal clients files file j → stands clients files ≡ journal j
+unfolding stands
+stands_has clients decided files file j h =
+    let bytes = file_of files file in
+    let follows : Follows clients bytes 14 [] j = record {
+      front = h.header;
+      gate = h.frames.gate;
+      rest = h.frames.rest;
+      split = h.frames.whole;
+      long = h.frames.long;
+      some = omega arith;
+      shut = h.frames.closed;
+      payloads_fit = h.frames.payloads_fit;
+      legal = h.legal;
+      within = h.within;
+      bounded = omega (arith, h.bounded);
+    } in
+    ap (stands_in clients files) h.found ∙ cond-true (format_in bytes == 1) _ _ (eq-eqb (format_in bytes) 1 h.format_is) ∙ all_read clients decided file bytes 14 [] j follows
+
+-- ---- a journal that files stand for
+
+journal_is : (d j : List (List Entry)) → journal d ≡ journal j → d ≡ j
+journal_is d j e = cc
+
+same_cond : (t : Bool) (x y z : Standing) → (y ≡ z → ⊥) → cond t x y ≡ z → x ≡ z
+same_cond true x y z ne e = e
+same_cond false x y z ne e = absurd (ne e)
+
+true_cond : (t : Bool) (x y z : Standing) → (y ≡ z → ⊥) → cond t x y ≡ z → t ≡ true
+true_cond true x y z ne e = refl
+true_cond false x y z ne e = absurd (ne e)
+
+taken_legal : (clients : Meaning) → Means clients → (file : ℕ) (further : List (List Entry) → Standing) (place : ℕ) (done j : List (List Entry))
+    → ((d : List (List Entry)) → Legal clients d → further d ≡ journal j → Legal clients j)
+    → (o : Option (List Entry)) → Legal clients done → taken_on clients file further place done o ≡ journal j → Legal clients j
+taken_legal clients means file further place done j later None legal e = absurd cc
+taken_legal clients means file further place done j later (Some b) legal e =
+    let granted = true_cond (allows clients (facts done) b) (further (done ++ b ∷ [])) (damaged file place) (journal j) (λ h. cc) e in
+    let same = same_cond (allows clients (facts done) b) (further (done ++ b ∷ [])) (damaged file place) (journal j) (λ h. cc) e in
+    later (done ++ b ∷ []) (legal_push clients done b legal (means (facts done) b granted)) same
+
+on_legal : (clients : Meaning) → Means clients → (file : ℕ) (further : ℕ → List (List Entry) → Standing) (place : ℕ) (done j : List (List Entry))
+    → ((next : ℕ) (d : List (List Entry)) → Legal clients d → further next d ≡ journal j → Legal clients j)
+    → (frame : Frame) → Legal clients done → read_on clients file further place done frame ≡ journal j → Legal clients j
+on_legal clients means file further place done j later closed legal e =
+    let same = same_cond (nat_le (place + 1 + room_of (facts done)) most_bytes) (journal done) (damaged file place) (journal j) (λ h. cc) e in
+    subst (λ (d : List (List Entry)). Legal clients d) (journal_is done j same) legal
+on_legal clients means file further place done j later broken legal e = absurd cc
+on_legal clients means file further place done j later (framed to) legal e =
+    taken_legal clients means file (further (place + 5 + length to)) place done j (later (place + 5 + length to)) (batch_of to) legal e
+
+frames_legal : (clients : Meaning) → Means clients → (file n : ℕ) (bytes : List ℕ) (place : ℕ) (done j : List (List Entry)) → Legal clients done
+    → frames_from clients file n bytes place done ≡ journal j → Legal clients j
+unfolding frames_from
+frames_legal clients means file zero bytes place done j legal e = absurd cc
+frames_legal clients means file (suc n) bytes place done j legal e =
+    on_legal clients means file (frames_from clients file n bytes) place done j (λ next d l h. frames_legal clients means file n bytes next d j l h) (frame_at bytes place) legal e
+
+in_legal : (clients : Meaning) → Means clients → (files : Two (List ℕ)) (j : List (List Entry)) (o : Option ℕ) → stands_in clients files o ≡ journal j → Legal clients j
+in_legal clients means files j None e = absurd cc
+in_legal clients means files j (Some file) e =
+    let same = same_cond (format_in (file_of files file) == 1) (rest_from clients file (file_of files file) 14 []) (damaged file 5) (journal j) (λ h. cc) e in
+    frames_legal clients means file (length (file_of files file)) (file_of files file) 14 [] j tt same
+
+pub stands_legal : (clients : Meaning) → Means clients → (files : Two (List ℕ)) (j : List (List Entry)) → stands clients files ≡ journal j → Legal clients j
+unfolding stands
+stands_legal clients means files j e = in_legal clients means files j (journal_file files) e

@@ -1,0 +1,49 @@
+-- What holds of batches as payloads, and of what files stand for.
+use Rattle.std.specs.Prelude.{◌≡◌, ℕ, ◌+◌, ◌<◌, ◌≤◌, List, length, map, slice_index, Some}
+use Rattle.std.specs.List.{AllByRecursion}
+use Rattle.sync_rules.specs.declared.entries.Entry.{Entry}
+use Rattle.sync_rules.specs.Clients.{Meaning}
+use Rattle.sync_rules.specs.Facts.{Facts, after_all, facts}
+use Rattle.sync_rules.specs.Legal.{Allowed, Legal}
+use Rattle.outside.specs.Files.{Two, file_of}
+use Rattle.outside.specs.Frames.{HasFrames, end_of, format_in, journal_file, most_bytes}
+use Rattle.entry_codec.specs.Spelling.{HasLatency, IsEntry}
+use Rattle.entry_codec.specs.Laws.{payload}
+use Rattle.entry_codec.specs.Standing.{batch_of, journal, room_of, stands}
+
+-- the batch of a payload is the batch that was written, where its entries are within their limits
+abbrev pub BatchesReadBack : Type 0
+BatchesReadBack = (batch : List Entry) → AllByRecursion IsEntry batch → 1 ≤ length batch → batch_of (payload batch) ≡ Some batch
+
+-- a batch has one payload, and its entries are within their limits
+abbrev pub PayloadsSpellOnce : Type 0
+PayloadsSpellOnce = (bytes : List ℕ) (batch : List Entry) → ((place : ℕ) → slice_index bytes place < 256) → batch_of bytes ≡ Some batch
+    → (bytes ≡ payload batch) × AllByRecursion IsEntry batch
+
+-- in a batch that may follow a journal each session has a latency of at least 1
+abbrev pub AllowedHaveLatency : Type 0
+AllowedHaveLatency = (clients : Meaning) (f : Facts) (batch : List Entry) → Allowed clients f batch → AllByRecursion HasLatency batch
+
+-- a batch that may follow a journal adds one message or one session at most
+abbrev pub AllowedAddOne : Type 0
+AllowedAddOne = (clients : Meaning) (f : Facts) (batch : List Entry) → Allowed clients f batch
+    → length (after_all f batch).held + length (after_all f batch).sessions ≤ length f.held + length f.sessions + 1
+
+-- The journal's file has the frames of this journal, which is legal and within the limits of its entries, and there is room
+-- for what settling may add to it.
+pub record HoldsJournal (clients : Meaning) (files : Two (List ℕ)) (file : ℕ) (j : List (List Entry)) : Type 0 where
+  pub found : journal_file files ≡ Some file
+  pub format_is : format_in (file_of files file) ≡ 1
+  pub header : List ℕ
+  pub frames : HasFrames (file_of files file) header (map payload j)
+  pub legal : Legal clients j
+  pub within : AllByRecursion (AllByRecursion IsEntry) j
+  pub bounded : end_of (map payload j) + room_of (facts j) ≤ most_bytes
+
+-- files that hold a journal stand for it
+abbrev pub JournalsStand : Type 0
+JournalsStand = (clients : Meaning) (files : Two (List ℕ)) (file : ℕ) (j : List (List Entry)) → HoldsJournal clients files file j → stands clients files ≡ journal j
+
+-- a journal that files stand for is legal
+abbrev pub StandingIsLegal : Type 0
+StandingIsLegal = (clients : Meaning) (files : Two (List ℕ)) (j : List (List Entry)) → stands clients files ≡ journal j → Legal clients j

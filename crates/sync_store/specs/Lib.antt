@@ -1,0 +1,4 @@
+pub mod Store
+pub mod Inside
+pub mod Fitting
+pub mod Moments
