@@ -14,3 +14,5 @@ pub mod Changed
 pub mod Judging
 pub mod Stepped
 pub mod Found
+pub mod Served
+pub mod Allowed

@@ -7,3 +7,4 @@ pub mod Inside
 pub mod Lent
 pub mod Stepping
 pub mod Changes
+pub mod Allowing
