@@ -273,7 +273,7 @@ impl State {
 
     /// The session of this number. `None` comes exactly where there is none.
     #[tactic(auto, using(crate::proofs::Allowed::session_number))]
-    pub fn session(&self, number: u32) -> Option<Session>
+    pub fn find_session(&self, number: u32) -> Option<Session>
         ensures value { result ≡ session_at self.now.facts.sessions number }
         ensures numbered { IfSome result (λ s. s.number ≡ number) }
     {
@@ -290,7 +290,7 @@ impl State {
     ) -> Result<bool, AllocError>
         ensures { IfOk result (λ yes. yes ≡ may_take self.now.facts session k entries.now) }
     {
-        let Some(found) = self.session(session) else {
+        let Some(found) = self.find_session(session) else {
             return Ok(false);
         };
         if k != self.sessions.takes(session) {
