@@ -2,7 +2,6 @@ pub mod Codes
 pub mod Holding
 pub mod Begun
 pub mod Left
-pub mod Settling
 pub mod Fates
 pub mod Room
 pub mod Marks
@@ -16,3 +15,4 @@ pub mod Lent
 pub mod Stepping
 pub mod Changes
 pub mod Delivery
+pub mod Allowing
