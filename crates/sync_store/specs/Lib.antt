@@ -1,4 +1,0 @@
-pub mod Store
-pub mod Inside
-pub mod Fitting
-pub mod Moments
