@@ -16,3 +16,5 @@ pub mod Lent
 pub mod Stepping
 pub mod Changes
 pub mod Delivery
+pub mod Allowing
+pub mod Bringing

@@ -15,7 +15,7 @@ use sync_rules::{Clients, Entry, Judgement};
 use visibility_table::Levels;
 
 /// What its client says of a message; Refuse where its group or its client is not known. It fails only for want of memory.
-fn judgement_of<C: Clients>(
+pub(crate) fn judgement_of<C: Clients>(
     alloc: Global,
     clients: &C,
     table: &Levels,

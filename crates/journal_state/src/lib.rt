@@ -1,6 +1,9 @@
 //! The state of a journal without a disk.
 #![tactic(auto)]
 
+mod admitting;
+mod allowing;
+mod bringing;
 mod counted;
 mod delivering;
 mod fates;
@@ -8,6 +11,7 @@ mod held;
 mod holding;
 mod judging;
 mod levelling;
+mod lookups;
 mod marks;
 mod recording;
 mod reserve;
