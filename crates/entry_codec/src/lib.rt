@@ -17,4 +17,6 @@ pub use reading::{EntryFound, read_entry};
 pub use writing::write_entry;
 
 #[cfg(test)]
+mod batch_tests;
+#[cfg(test)]
 mod tests;
