@@ -7,7 +7,7 @@ use Rattle.message_graph.specs.declared.nodes.Node.{Node}
 use Rattle.retry_table.specs.Table as retry
 use Rattle.visibility_table.specs.Table as levels
 use Rattle.journal_state.specs.Parts.{Parts, put_rows, rows_from, rows_in}
-use Rattle.journal_state.specs.Whole.{StateValue, IsState, empty_state, value_of}
+use Rattle.journal_state.specs.Whole.{IsState, value_of}
 
 abbrev pub empty_parts : retry.Table → Parts
 empty_parts table = record {
@@ -18,6 +18,7 @@ empty_parts table = record {
   shares = [];
   delivered = [];
   retry = table;
+  space = 0;
 }
 
 no_rows : (contact : ℕ) (ks : List retry.Kept) (rows : Rows) → put_rows contact ks [] rows ≡ rows
@@ -28,7 +29,7 @@ none_from : (contact : ℕ) (each : List (List retry.Kept)) → rows_from contac
 none_from contact [] = refl
 none_from contact (ks ∷ each) = no_rows contact ks (rows_from (contact + 1) each []) ∙ none_from (contact + 1) each
 
-not_there : {A : Type 0} (n : ℕ) (x : A) → slice_get [] n ≡ Some x → ⊥
+pub not_there : {A : Type 0} (n : ℕ) (x : A) → slice_get [] n ≡ Some x → ⊥
 not_there n x e = let none : None ≡ Some x = e in cc
 
 pub empty_is_state : (table : retry.Table) → retry.IsEmpty table → IsState (empty_parts table)
@@ -40,11 +41,12 @@ empty_is_state table none = record {
   order = λ n node at unjudged. absurd (not_there n node at);
   within = refl;
   ended = λ id. refl;
+  many = refl;
   free_rows = λ contact n beyond. ap (λ (ks : List retry.Kept). retry.kept_in ks n) (none contact).0;
   free_wants = λ contact beyond. ap (λ (w : retry.Wants). w.ids) (none contact).1;
   shown = λ contact group e. absurd (false≢true (sym e ∙ ap (λ o. is_invisible (level_or o)) (fin_map.get-empty pair_cmp (contact, group))));
   ready = λ contact n h known at. absurd (not_there n h at);
 }
 
-pub empty_value : (table : retry.Table) → value_of (empty_parts table) ≡ empty_state
-empty_value table = λ i. record { facts = record nothing { rows = none_from 0 table.rows i }; answers = [] }
+pub empty_facts : (table : retry.Table) → (value_of (empty_parts table)).facts ≡ nothing
+empty_facts table = λ i. record nothing { rows = none_from 0 table.rows i }

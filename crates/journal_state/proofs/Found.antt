@@ -49,12 +49,14 @@ first_of all first (x ∷ xs) s e =
 abbrev pub Tells : Step → ℕ → Option Judged → Option Ending → Type 0
 Tells (step.Judge n) number answer end = (n ≡ number) × (answer ≡ None)
 Tells (step.Invalid n) number answer end = (n ≡ number) × ((j : Judged) × (answer ≡ Some j)) × (end ≡ None)
-Tells (step.Deliver n) number answer end = (n ≡ number) × ((j : Judged) × (answer ≡ Some j)) × (end ≡ None)
+Tells (step.Deliver n) number answer end = (n ≡ number) × ((names : List Id) × (answer ≡ Some (judged.Accepted names))) × (end ≡ None)
 
-tested : (number : ℕ) (j : Judged) (s : Step) (a b : Bool) → cond a (Some (step.Invalid number)) (cond b (Some (step.Deliver number)) None) ≡ Some s → Tells s number (Some j) None
-tested number j s true b e = let same : step.Invalid number ≡ s = cc in subst (λ t. Tells t number (Some j) None) same (refl, (j, refl), refl)
-tested number j s false true e = let same : step.Deliver number ≡ s = cc in subst (λ t. Tells t number (Some j) None) same (refl, (j, refl), refl)
-tested number j s false false e = absurd (let none : None ≡ Some s = e in cc)
+tested : (number : ℕ) (names : List Id) (s : Step) (a b : Bool) → cond a (Some (step.Invalid number)) (cond b (Some (step.Deliver number)) None) ≡ Some s
+    → Tells s number (Some (judged.Accepted names)) None
+tested number names s true b e =
+    let same : step.Invalid number ≡ s = cc in subst (λ t. Tells t number (Some (judged.Accepted names)) None) same (refl, (judged.Accepted names, refl), refl)
+tested number names s false true e = let same : step.Deliver number ≡ s = cc in subst (λ t. Tells t number (Some (judged.Accepted names)) None) same (refl, (names, refl), refl)
+tested number names s false false e = absurd (let none : None ≡ Some s = e in cc)
 
 told : (held : List ℕ → Option Node) (number group : ℕ) (s : Step) (a : Option Judged) (end : Option Ending) (node : Node) → node.group ≡ group → node.answer ≡ a → node.ending ≡ end
     → nodes.step_by held number node a ≡ Some s → Tells s number a end
@@ -66,15 +68,13 @@ told held number group s (Some judged.Refused) None node g p q e =
     let same : step.Invalid number ≡ s = cc in
     subst (λ t. Tells t number (Some judged.Refused) None) same (refl, (judged.Refused, refl), refl)
 told held number group s (Some (judged.Accepted names)) None node g p q e =
-    tested number (judged.Accepted names) s (list_any (λ name. nodes.fails node.group (held name)) names) (list_all (λ name. nodes.serves node.group (held name)) names)
+    tested number names s (list_any (λ name. nodes.fails node.group (held name)) names) (list_all (λ name. nodes.serves node.group (held name)) names)
     (sym (ap (λ o. nodes.step_judged held number node.group (judged.Accepted names) o) q) ∙ e)
 
 -- the node of the next step
-pub record IsNext (p : Parts) (s : Step) : Type 0 where
+pub record IsNextNode (ns : List Node) (s : Step) : Type 0 where
   pub node : Node
-  pub message : Held
-  pub at : slice_get p.nodes (number_in s) ≡ Some node
-  pub there : slice_get p.held (number_in s) ≡ Some message
+  pub at : slice_get ns (number_in s) ≡ Some node
   pub tells : Tells s (number_in s) node.answer node.ending
 
 number_told : (s : Step) (number : ℕ) (a : Option Judged) (end : Option Ending) → Tells s number a end → number ≡ number_in s
@@ -82,21 +82,32 @@ number_told (step.Judge n) number a end t = sym t.0
 number_told (step.Invalid n) number a end t = sym t.0
 number_told (step.Deliver n) number a end t = sym t.0
 
-pub next_found : (p : Parts) → IsState p → (s : Step) → nodes.next p.nodes ≡ Some s → IsNext p s
-next_found p st s e =
-    let f = first_of p.nodes 0 p.nodes s e in
-    let t = told (nodes.node_named p.nodes) (0 + f.place) f.node.group s f.node.answer f.node.ending f.node refl refl refl f.is in
+pub node_found : (ns : List Node) (s : Step) → nodes.next ns ≡ Some s → IsNextNode ns s
+node_found ns s e =
+    let f = first_of ns 0 ns s e in
+    let t = told (nodes.node_named ns) (0 + f.place) f.node.group s f.node.answer f.node.ending f.node refl refl refl f.is in
     let zero_place : 0 + f.place ≡ f.place = omega arith in
     let number : f.place ≡ number_in s = sym zero_place ∙ number_told s (0 + f.place) f.node.answer f.node.ending t in
-    let within : number_in s < length p.held = (let below : number_in s < length p.nodes = next_within p.nodes s e in omega (arith, below, many_nodes p st)) in
-    let h = there p.held (number_in s) within in
     record {
       node = f.node;
-      message = h.0;
-      at = ap (slice_get p.nodes) (sym number) ∙ f.at;
-      there = h.1;
+      at = ap (slice_get ns) (sym number) ∙ f.at;
       tells = subst (λ k. Tells s k f.node.answer f.node.ending) (number_told s (0 + f.place) f.node.answer f.node.ending t) t;
     }
+
+-- the node and the message of the next step
+pub record IsNext (p : Parts) (s : Step) : Type 0 where
+  pub node : Node
+  pub message : Held
+  pub at : slice_get p.nodes (number_in s) ≡ Some node
+  pub there : slice_get p.held (number_in s) ≡ Some message
+  pub tells : Tells s (number_in s) node.answer node.ending
+
+pub next_found : (p : Parts) → IsState p → (s : Step) → nodes.next p.nodes ≡ Some s → IsNext p s
+next_found p st s e =
+    let f : IsNextNode p.nodes s = node_found p.nodes s e in
+    let within : number_in s < length p.held = (let below : number_in s < length p.nodes = next_within p.nodes s e in omega (arith, below, many_nodes p st)) in
+    let h = there p.held (number_in s) within in
+    record { node = f.node; message = h.0; at = f.at; there = h.1; tells = f.tells }
 
 -- ---- a step by its entry
 
@@ -136,3 +147,17 @@ invalid_by p s n b (Some (step.Deliver m)) e f = absurd (let wrong : entry.Deliv
 pub invalid_next : (clients : Meaning) (p : Parts) (s : IsState p) → Knows clients (value_of p) → (n : ℕ) → n < length p.held
     → next clients (facts_of p) ≡ Some (entry.Invalid (id_at p.held n)) → nodes.next p.nodes ≡ Some (step.Invalid n)
 invalid_next clients p s k n b e = invalid_by p s n b (nodes.next p.nodes) refl (found_next clients p s k (nodes.next p.nodes) refl ∙ e)
+
+deliver_by : (p : Parts) → IsState p → (n : ℕ) → n < length p.held → (o : Option Step) → nodes.next p.nodes ≡ o
+    → option_map (entry_of (id_at p.held)) o ≡ Some (entry.Deliver (id_at p.held n)) → o ≡ Some (step.Deliver n)
+deliver_by p s n b None e f = absurd (let none : None ≡ Some (entry.Deliver (id_at p.held n)) = f in cc)
+deliver_by p s n b (Some (step.Judge m)) e f = absurd (let wrong : entry.Judged (id_at p.held m) ≡ entry.Deliver (id_at p.held n) = cc in cc)
+deliver_by p s n b (Some (step.Invalid m)) e f = absurd (let wrong : entry.Invalid (id_at p.held m) ≡ entry.Deliver (id_at p.held n) = cc in cc)
+deliver_by p s n b (Some (step.Deliver m)) e f =
+    let ids : id_at p.held m ≡ id_at p.held n = cc in
+    let a : m < length p.held = (let below : m < length p.nodes = next_within p.nodes (step.Deliver m) e in omega (arith, below, many_nodes p s)) in
+    ap (λ k. Some (step.Deliver k)) (same_place p s m n a b ids)
+
+pub deliver_next : (clients : Meaning) (p : Parts) (s : IsState p) → Knows clients (value_of p) → (n : ℕ) → n < length p.held
+    → next clients (facts_of p) ≡ Some (entry.Deliver (id_at p.held n)) → nodes.next p.nodes ≡ Some (step.Deliver n)
+deliver_next clients p s k n b e = deliver_by p s n b (nodes.next p.nodes) refl (found_next clients p s k (nodes.next p.nodes) refl ∙ e)

@@ -11,7 +11,7 @@ use Rattle.sync_rules.specs.Lists.{same_id}
 use Rattle.sync_rules.specs.Facts.{Id, Pair, Row, Rows, pair_cmp, id_cmp, no_row, is_no_row, row_or, row_at, put_row}
 use Rattle.journal_state.proofs.Places.{id_swap}
 
-pair_total : IsTotalOrder pair_cmp
+pub pair_total : IsTotalOrder pair_cmp
 pair_total = then_total (on_total (λ (p : Pair). p.0) nat_cmp_total) (on_total (λ (p : Pair). p.1) nat_list_cmp_total)
 
 tied_parts : (a b : ℕ) (x y : Id) → ordering_then (nat_cmp a b) (id_cmp x y) ≡ Equal → ◌≡◌ {A = Pair} (a, x) (b, y)
@@ -29,7 +29,7 @@ pair_same a b e = tied_parts a.0 b.0 a.1 b.1 e
 abbrev pub hits : ℕ → Id → ℕ → Id → Bool
 hits contact id c x = nat_eq contact c && same_id x id
 
-hits_is : (contact c : ℕ) (id x : Id) → eq_by_cmp pair_cmp (contact, id) (c, x) ≡ hits contact id c x
+pub hits_is : (contact c : ℕ) (id x : Id) → eq_by_cmp pair_cmp (contact, id) (c, x) ≡ hits contact id c x
 hits_is contact c id x =
     sym (both_tied (nat_eq contact c) (same_id id x) (nat_cmp contact c) (slice_cmp nat_cmp id x) (unsigned_ties contact c) (texts_ties id x))
     ∙ ap (λ b. nat_eq contact c && b) (id_swap id x)

@@ -18,19 +18,21 @@ use Rattle.message_graph.specs.declared.nodes.Ending.TheVariants as ending
 use Rattle.message_graph.specs.Nodes as nodes
 use Rattle.visibility_table.specs.Table as levels
 use Rattle.retry_table.specs.Table as retry
+use Rattle.journal_state.specs.Left.{one_if_delivered}
 use Rattle.journal_state.specs.Parts.{Parts, answer_of_node, answers_of, facts_of, is_invalid, is_judged, name_at, names_where, ids_where, shared_among}
 use Rattle.journal_state.specs.Whole.{StateValue, IsState, Knows, is_delivered_in, may_go, value_of}
 use Rattle.journal_state.specs.Changes.{judged_parts, invalid_parts}
 use Rattle.journal_state.proofs.Places.{id_is, id_itself}
 use Rattle.journal_state.proofs.Apart.{AreApart, first_apart}
 use Rattle.journal_state.proofs.Changed.{names_of, own_found, names_kept, named_changed, names_same, set_grown}
-use Rattle.journal_state.proofs.Judging.{ids_of, answers_set, answers_judged, shared_others}
+use Rattle.journal_state.proofs.Answered.{ids_of, answers_set, answers_judged, shared_others}
 use Rattle.journal_state.proofs.Next.{many_nodes}
+use Rattle.journal_state.proofs.Sums.{sum_kept}
 
 -- ---- one node changed
 
 module _ (f : Node → Node) where
-  length_kept : (n : ℕ) (ns : List Node) → length (nodes.change f n ns) ≡ length ns
+  pub length_kept : (n : ℕ) (ns : List Node) → length (nodes.change f n ns) ≡ length ns
   length_kept n [] = refl
   length_kept zero (x ∷ ns) = refl
   length_kept (suc n) (x ∷ ns) = ap suc (length_kept n ns)
@@ -44,7 +46,7 @@ module _ (f : Node → Node) where
   was_at (x ∷ ns) (suc n) (suc k) y at = was_at ns n k y at
 
   -- what the change keeps
-  kept_at : {A : Type 0} (g : Node → A) → ((x : Node) → g (f x) ≡ g x) → (ns : List Node) (n k : ℕ) (y : Node) → slice_get (nodes.change f n ns) k ≡ Some y
+  pub kept_at : {A : Type 0} (g : Node → A) → ((x : Node) → g (f x) ≡ g x) → (ns : List Node) (n k : ℕ) (y : Node) → slice_get (nodes.change f n ns) k ≡ Some y
       → (x : Node) × (slice_get ns k ≡ Some x) × (g y ≡ g x)
   kept_at g keeps [] n k y at = absurd (let e : None ≡ Some y = at in cc)
   kept_at g keeps (x ∷ ns) zero zero y at = let is : f x ≡ y = cc in (x, refl, ap g (sym is) ∙ keeps x)
@@ -53,7 +55,7 @@ module _ (f : Node → Node) where
   kept_at g keeps (x ∷ ns) (suc n) (suc k) y at = kept_at g keeps ns n k y at
 
 -- a name stands in both lists
-name_there : (ns : List Node) (hs : List Held) → names_of ns ≡ ids_of hs → (n : ℕ) (y : Node) (h : Held) → slice_get ns n ≡ Some y → slice_get hs n ≡ Some h → y.name ≡ h.id
+pub name_there : (ns : List Node) (hs : List Held) → names_of ns ≡ ids_of hs → (n : ℕ) (y : Node) (h : Held) → slice_get ns n ≡ Some y → slice_get hs n ≡ Some h → y.name ≡ h.id
 name_there [] hs e n y h a b = absurd (let none : None ≡ Some y = a in cc)
 name_there (x ∷ ns) [] e n y h a b = absurd (let none : None ≡ Some h = b in cc)
 name_there (x ∷ ns) (g ∷ hs) e zero y h a b =
@@ -67,7 +69,7 @@ name_there (x ∷ ns) (g ∷ hs) e (suc n) y h a b =
     let rest : names_of ns ≡ ids_of hs = cc in
     name_there ns hs rest n y h a b
 
-within_list : {A : Type 0} (xs : List A) (n : ℕ) (x : A) → slice_get xs n ≡ Some x → n < length xs
+pub within_list : {A : Type 0} (xs : List A) (n : ℕ) (x : A) → slice_get xs n ≡ Some x → n < length xs
 within_list [] n x at = absurd (let e : None ≡ Some x = at in cc)
 within_list (y ∷ xs) zero x at = omega arith
 within_list (y ∷ xs) (suc n) x at = let later = within_list xs n x at in omega (arith, later)
@@ -147,6 +149,7 @@ module _ (p : Parts) (s : IsState p) (n : ℕ) (y : Node) (h : Held) (at : slice
     order = ordered;
     within = ap (λ m. list_all (λ k. nat_lt k m) p.delivered) (length_kept (λ (x : Node). record x { answer = Some j }) n p.nodes) ∙ s.within;
     ended = ended_step p s (λ (x : Node). record x { answer = Some j }) (λ x. refl) n y h at there refl;
+    many = s.many ∙ sym (sum_kept one_if_delivered (λ (x : Node). record x { answer = Some j }) n p.nodes y at refl);
     free_rows = s.free_rows;
     free_wants = s.free_wants;
     shown = s.shown;
@@ -156,62 +159,62 @@ module _ (p : Parts) (s : IsState p) (n : ℕ) (y : Node) (h : Held) (at : slice
         ∙ (λ i. may_go p.table.levels (sym (delivered_step p s (λ (w : Node). record w { answer = Some j }) (λ w. refl) n y h at there) i) (shared_among p.held (sym answers_step i)) contact x));
   }
 
-  -- the facts and the answers are those after the entry
-  pub judged_value : value_of (judged_parts p n j share) ≡ record { facts = after (facts_of p) (entry.Judged h.id); answers = set (answers_of p.nodes p.shares) n (Some a) }
-  judged_value =
+  -- the facts are those after the entry
+  pub judged_facts : facts_of (judged_parts p n j share) ≡ after (facts_of p) (entry.Judged h.id)
+  judged_facts =
       let whole : AreApart (names_of p.nodes) = subst AreApart (sym s.named) (first_apart p.held s.distinct) in
       let grown : ids_where is_judged (nodes.with_answer n j p.nodes) ≡ fin_set.insert (ids_where is_judged p.nodes) h.id =
       set_grown (λ (x : Node). record x { answer = Some j }) (λ x. refl) is_judged p.nodes n y at whole refl
       ∙ ap (fin_set.insert (ids_where is_judged p.nodes)) (name_there p.nodes p.held s.named n y h at there) in
       let same : ids_where is_invalid (nodes.with_answer n j p.nodes) ≡ ids_where is_invalid p.nodes =
       ap fin_set.from_list (names_same (λ (x : Node). record x { answer = Some j }) (λ x. refl) is_invalid p.nodes n y at refl) in
-      (λ i. record {
-        facts = record (facts_of p) {
-          judged = grown i;
-          invalid = same i;
-          delivered = delivered_step p s (λ (x : Node). record x { answer = Some j }) (λ x. refl) n y h at there i;
-        };
-        answers = answers_step i;
+      (λ i. record (facts_of p) {
+        judged = grown i;
+        invalid = same i;
+        delivered = delivered_step p s (λ (x : Node). record x { answer = Some j }) (λ x. refl) n y h at there i;
       })
 
   -- what is kept of the clients' judgements is theirs, where this one is
   pub judged_knows : (clients : Meaning) → Knows clients (value_of p) → verdict_in clients (facts_of p).groups h.message ≡ a → Knows clients (value_of (judged_parts p n j share))
   judged_knows clients k verdict =
-      subst (Knows clients) (sym judged_value)
-      ((λ i. set (k i) n (Some (sym verdict i)))
-      ∙ sym (answers_judged clients (facts_of p) n h there (first_apart p.held s.distinct)))
+      answers_step
+      ∙ ((λ i. set (k i) n (Some (sym verdict i)))
+      ∙ (sym (answers_judged clients (facts_of p) n h there (first_apart p.held s.distinct))
+      ∙ ap (λ (f : Facts). map (answer_of clients f) f.held) (sym judged_facts)))
 
 -- ---- a message is invalid
 
-answers_kept : (ns : List Node) (shares : List Bool) (n : ℕ) (e : Ending) → answers_of (nodes.with_ending n e ns) shares ≡ answers_of ns shares
+pub answers_kept : (ns : List Node) (shares : List Bool) (n : ℕ) (e : Ending) → answers_of (nodes.with_ending n e ns) shares ≡ answers_of ns shares
 answers_kept [] shares n e = refl
 answers_kept (x ∷ ns) [] zero e = refl
 answers_kept (x ∷ ns) (share ∷ shares) zero e = refl
 answers_kept (x ∷ ns) [] (suc n) e = ap (λ (os : List (Option Judgement)). answer_of_node x.answer false ∷ os) (answers_kept ns [] n e)
 answers_kept (x ∷ ns) (share ∷ shares) (suc n) e = ap (λ (os : List (Option Judgement)). answer_of_node x.answer share ∷ os) (answers_kept ns shares n e)
 
-module _ (p : Parts) (s : IsState p) (n : ℕ) (y : Node) (h : Held) (at : slice_get p.nodes n ≡ Some y) (there : slice_get p.held n ≡ Some h)
-    (judged : Judged) (has : y.answer ≡ Some judged) (open_now : y.ending ≡ None) where
-  ordered_end : (k : ℕ) (x : Node) → slice_get (nodes.with_ending n ending.Invalid p.nodes) k ≡ Some x → x.answer ≡ None → x.ending ≡ None
+-- what is not judged has not ended, once one more has
+module _ (p : Parts) (s : IsState p) (n : ℕ) (y : Node) (at : slice_get p.nodes n ≡ Some y) (judged : Judged) (has : y.answer ≡ Some judged) (end : Ending) where
+  -- where the changed node stands, its answer is that of y
+  was_end : (ns : List Node) (n k : ℕ) (x : Node) → slice_get ns n ≡ Some y → slice_get (nodes.with_ending n end ns) k ≡ Some x
+      → (v : Node) × (slice_get ns k ≡ Some v) × ((x.answer ≡ y.answer) ⊎ (x ≡ v))
+  was_end [] n k x at now = absurd (let e : None ≡ Some x = now in cc)
+  was_end (v ∷ ns) zero zero x at now =
+      let is : record v { ending = Some end } ≡ x = cc in
+      let own : v ≡ y = cc in
+      (v, refl, inl (ap (λ (w : Node). w.answer) (sym is) ∙ ap (λ (w : Node). w.answer) own))
+  was_end (v ∷ ns) zero (suc k) x at now = (x, now, inr refl)
+  was_end (v ∷ ns) (suc n) zero x at now = let is : v ≡ x = cc in (v, refl, inr (sym is))
+  was_end (v ∷ ns) (suc n) (suc k) x at now = was_end ns n k x at now
+
+  pub ordered_end : (k : ℕ) (x : Node) → slice_get (nodes.with_ending n end p.nodes) k ≡ Some x → x.answer ≡ None → x.ending ≡ None
   ordered_end k x now none =
       let w = was_end p.nodes n k x at now in
       elim w.2 [
         | inl e ↦ absurd (let wrong : Some judged ≡ None = sym has ∙ (sym e ∙ none) in cc)
         | inr e ↦ ap (λ (v : Node). v.ending) e ∙ s.order k w.0 w.1 (ap (λ (v : Node). v.answer) (sym e) ∙ none)
       ]
-    where
-      -- where the changed node stands, its answer is that of y
-      was_end : (ns : List Node) (n k : ℕ) (x : Node) → slice_get ns n ≡ Some y → slice_get (nodes.with_ending n ending.Invalid ns) k ≡ Some x
-          → (v : Node) × (slice_get ns k ≡ Some v) × ((x.answer ≡ y.answer) ⊎ (x ≡ v))
-      was_end [] n k x at now = absurd (let e : None ≡ Some x = now in cc)
-      was_end (v ∷ ns) zero zero x at now =
-          let is : record v { ending = Some ending.Invalid } ≡ x = cc in
-          let own : v ≡ y = cc in
-          (v, refl, inl (ap (λ (w : Node). w.answer) (sym is) ∙ ap (λ (w : Node). w.answer) own))
-      was_end (v ∷ ns) zero (suc k) x at now = (x, now, inr refl)
-      was_end (v ∷ ns) (suc n) zero x at now = let is : v ≡ x = cc in (v, refl, inr (sym is))
-      was_end (v ∷ ns) (suc n) (suc k) x at now = was_end ns n k x at now
 
+module _ (p : Parts) (s : IsState p) (n : ℕ) (y : Node) (h : Held) (at : slice_get p.nodes n ≡ Some y) (there : slice_get p.held n ≡ Some h)
+    (judged : Judged) (has : y.answer ≡ Some judged) (open_now : y.ending ≡ None) where
   pub invalid_state : IsState (invalid_parts p n)
   invalid_state = record {
     named = names_kept (λ (x : Node). record x { ending = Some ending.Invalid }) (λ x. refl) n p.nodes ∙ s.named;
@@ -220,9 +223,12 @@ module _ (p : Parts) (s : IsState p) (n : ℕ) (y : Node) (h : Held) (at : slice
         s.grouped k x w.0 a w.1 ∙ ap Some (sym w.2);
     distinct = s.distinct;
     each_share = s.each_share ∙ sym (length_kept (λ (x : Node). record x { ending = Some ending.Invalid }) n p.nodes);
-    order = ordered_end;
+    order = ordered_end p s n y at judged has ending.Invalid;
     within = ap (λ m. list_all (λ k. nat_lt k m) p.delivered) (length_kept (λ (x : Node). record x { ending = Some ending.Invalid }) n p.nodes) ∙ s.within;
     ended = ended_step p s (λ (x : Node). record x { ending = Some ending.Invalid }) (λ x. refl) n y h at there (sym (ap nodes.is_delivered open_now));
+    many =
+        s.many
+        ∙ sym (sum_kept one_if_delivered (λ (x : Node). record x { ending = Some ending.Invalid }) n p.nodes y at (sym (ap (λ e. cond (nodes.is_delivered e) 1 0) open_now)));
     free_rows = s.free_rows;
     free_wants = s.free_wants;
     shown = s.shown;
@@ -232,19 +238,16 @@ module _ (p : Parts) (s : IsState p) (n : ℕ) (y : Node) (h : Held) (at : slice
         (shared_among p.held (sym (answers_kept p.nodes p.shares n ending.Invalid) i)) contact x);
   }
 
-  pub invalid_value : value_of (invalid_parts p n) ≡ record { facts = after (facts_of p) (entry.Invalid h.id); answers = answers_of p.nodes p.shares }
-  invalid_value =
+  pub invalid_facts : facts_of (invalid_parts p n) ≡ after (facts_of p) (entry.Invalid h.id)
+  invalid_facts =
       let whole : AreApart (names_of p.nodes) = subst AreApart (sym s.named) (first_apart p.held s.distinct) in
       let grown : ids_where is_invalid (nodes.with_ending n ending.Invalid p.nodes) ≡ fin_set.insert (ids_where is_invalid p.nodes) h.id =
       set_grown (λ (x : Node). record x { ending = Some ending.Invalid }) (λ x. refl) is_invalid p.nodes n y at whole refl
       ∙ ap (fin_set.insert (ids_where is_invalid p.nodes)) (name_there p.nodes p.held s.named n y h at there) in
       let same : ids_where is_judged (nodes.with_ending n ending.Invalid p.nodes) ≡ ids_where is_judged p.nodes =
       ap fin_set.from_list (names_same (λ (x : Node). record x { ending = Some ending.Invalid }) (λ x. refl) is_judged p.nodes n y at refl) in
-      (λ i. record {
-        facts = record (facts_of p) {
-          judged = same i;
-          invalid = grown i;
-          delivered = delivered_step p s (λ (x : Node). record x { ending = Some ending.Invalid }) (λ x. refl) n y h at there i;
-        };
-        answers = answers_kept p.nodes p.shares n ending.Invalid i;
+      (λ i. record (facts_of p) {
+        judged = same i;
+        invalid = grown i;
+        delivered = delivered_step p s (λ (x : Node). record x { ending = Some ending.Invalid }) (λ x. refl) n y h at there i;
       })

@@ -25,6 +25,8 @@ pub record Parts : Type 0 where
   pub shares : List Bool
   pub delivered : List ℕ
   pub retry : retry.Table
+  -- for how many more entries there is room
+  pub space : ℕ
 
 -- ---- answers
 

@@ -1,8 +1,8 @@
 -- The entry of a step of the waiting graph.
-use Rattle.std.specs.Prelude.{ℕ}
+use Rattle.std.specs.Prelude.{ℕ, Option, None, Some}
 use Rattle.sync_rules.specs.declared.entries.Entry.{Entry}
 use Rattle.sync_rules.specs.declared.entries.Entry.TheVariants as entry
-use Rattle.sync_rules.specs.Facts.{Id}
+use Rattle.sync_rules.specs.Facts.{Facts, Id, after}
 use Rattle.message_graph.specs.declared.nodes.Step.{Step}
 use Rattle.message_graph.specs.declared.nodes.Step.TheVariants as step
 
@@ -17,3 +17,8 @@ abbrev pub number_in : Step → ℕ
 number_in (step.Judge n) = n
 number_in (step.Invalid n) = n
 number_in (step.Deliver n) = n
+
+-- the facts after a step, by its entry
+abbrev pub stepped : Facts → Option Entry → Facts
+stepped f None = f
+stepped f (Some e) = after f e

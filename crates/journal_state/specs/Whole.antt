@@ -7,7 +7,7 @@ use Rattle.std.specs.FinSet as fin_set
 use Rattle.sync_rules.specs.declared.answers.Judgement.{Judgement}
 use Rattle.sync_rules.specs.Clients.{Meaning}
 use Rattle.sync_rules.specs.Lists.{is_among}
-use Rattle.sync_rules.specs.Facts.{Facts, Held, Id, Levels, group_at, level_at, is_invisible, is_level_shared, nothing}
+use Rattle.sync_rules.specs.Facts.{Facts, Held, Id, Levels, group_at, level_at, is_invisible, is_level_shared}
 use Rattle.sync_rules.specs.Sessions.{is_author}
 use Rattle.sync_rules.specs.Steps.{answer_of}
 use Rattle.sync_rules.specs.Views.{place_of}
@@ -16,22 +16,23 @@ use Rattle.message_graph.specs.Nodes as nodes
 use Rattle.retry_table.specs.Table as retry
 use Rattle.visibility_table.specs.Table as levels
 use Rattle.journal_state.specs.Codes.{facts_code, answers_code}
+use Rattle.journal_state.specs.Left.{delivered_among}
+use Rattle.journal_state.specs.Room.{Room, room_code, room_in}
 use Rattle.journal_state.specs.Parts.{Parts, answers_of, facts_of, name_at, shared_among}
 
--- the facts of a journal, and the judgement of each held message that is judged, in order of arrival
+-- the facts of a journal, the judgement of each held message that is judged, in order of arrival, and for how much more there is room
 pub record StateValue : Type 0 where
   pub facts : Facts
   pub answers : List (Option Judgement)
+  pub room : Room
 
 abbrev pub state_code : Coded StateValue
-state_code = code_by (Facts × List (Option Judgement)) (coded× facts_code answers_code) (λ s. (s.facts, s.answers)) (λ p. record { facts = p.0; answers = p.1 }) (λ _. refl)
+state_code =
+    code_by (Facts × (List (Option Judgement) × Room)) (coded× facts_code (coded× answers_code room_code)) (λ s. (s.facts, (s.answers, s.room)))
+    (λ p. record { facts = p.0; answers = p.1.0; room = p.1.1 }) (λ _. refl)
 
 abbrev pub value_of : Parts → StateValue
-value_of p = record { facts = facts_of p; answers = answers_of p.nodes p.shares }
-
--- the state of a journal that has no entries
-abbrev pub empty_state : StateValue
-empty_state = record { facts = nothing; answers = [] }
+value_of p = record { facts = facts_of p; answers = answers_of p.nodes p.shares; room = room_in p.space p.retry }
 
 -- the ids of the held messages whose judgement lets them be sent on
 abbrev pub shared_of : StateValue → List Id
@@ -69,6 +70,7 @@ pub record IsState (p : Parts) : Type 0 where
   -- the delivered numbers are those of the nodes that ended so
   pub within : list_all (λ n. nat_lt n (length p.nodes)) p.delivered ≡ true
   pub ended : (id : Id) → is_among (map (name_at p.nodes) p.delivered) id ≡ is_delivered_in (nodes.node_named p.nodes id)
+  pub many : length p.delivered ≡ delivered_among p.nodes
   -- there are no rows of messages that are not held, and no wanted ids of contacts that are not known
   pub free_rows : (contact n : ℕ) → length p.held ≤ n → retry.kept_at p.retry contact n ≡ retry.no_kept
   pub free_wants : (contact : ℕ) → p.table.contacts ≤ contact → (retry.wants_of p.retry contact).ids ≡ []

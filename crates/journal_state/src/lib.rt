@@ -1,10 +1,24 @@
 //! The state of a journal without a disk.
 #![tactic(auto)]
 
+mod allowing;
+mod counted;
+mod delivering;
+mod fates;
 mod held;
+mod holding;
+mod judging;
+mod levelling;
+mod lookups;
+mod marks;
+mod recording;
+mod reserve;
 mod sessions;
 mod state;
 mod steps;
+mod taking;
+mod verdicts;
 mod view;
+mod wanting;
 
 pub use state::State;

@@ -1,12 +1,12 @@
 //! `State`.
-ghost use Rattle.std.specs.Prelude.{◌≡◌, ◌<◌, length, IfOk, Some, slice_get};
+ghost use Rattle.std.specs.Prelude.{◌≡◌, ◌<◌, [], length, IfOk, Some, slice_get};
 ghost use Rattle.std.specs.Option.{option_map};
-ghost use Rattle.journal_state.specs.Whole.{empty_state};
+ghost use Rattle.sync_rules.specs.Facts.{nothing};
 ghost use Rattle.journal_state.specs.Lent.{StandsForRows};
 
+use crate::counted::CountedGraph;
 use crate::held::Messages;
 use crate::sessions::Sessions;
-use message_graph::Graph;
 use retry_table::Retry;
 use std::alloc::{AllocError, Global};
 use std::marker::Model;
@@ -15,39 +15,41 @@ use sync_rules::Origin;
 use visibility_table::Levels;
 
 /// The state of a journal without a disk: all that is asked of a journal, kept so that no answer needs a walk over its entries.
-/// Contracts see the facts of the journal, and the judgements of its messages.
+/// Contracts see the facts of the journal, the judgements of its messages, and for how much more there is room.
 #[derive(Drop)]
 pub struct State {
     pub(crate) table: Levels,
     pub(crate) messages: Messages,
     pub(crate) sessions: Sessions,
-    pub(crate) graph: Graph,
+    pub(crate) graph: CountedGraph,
     pub(crate) shares: Vec<bool>,
     pub(crate) delivered: Vec<u32>,
     pub(crate) retry: Retry,
+    pub(crate) space: usize,
 }
 
 impl Model for State {
-    ghost use Rattle.journal_state.specs.Whole.{StateValue, state_code, value_of, IsState};
+    ghost use Rattle.journal_state.specs.Whole.{StateValue, state_code, value_of};
 
     ghost Value = { StateValue };
 
     ghost coded = { state_code };
 
-    ghost use Rattle.journal_state.specs.Inside.{parts};
+    ghost use Rattle.journal_state.specs.Inside.{parts, IsWhole};
 
     ghost view = { λ s. value_of (parts s) };
 
-    ghost invariant = { λ s. IsState (parts s) };
+    ghost invariant = { λ s. IsWhole s };
 }
 
 impl State {
     /// The state of a journal that has no entries. Answers an error where there is no memory.
     pub fn new(alloc: Global) -> Result<State, AllocError>
-        ensures { IfOk result (λ s. s ≡ empty_state) }
+        ensures facts { IfOk result (λ s. s.facts ≡ nothing) }
+        ensures answers { IfOk result (λ s. s.answers ≡ []) }
     {
         let table = Levels::new(alloc)?;
-        let graph = Graph::new(alloc)?;
+        let graph = CountedGraph::new(alloc)?;
         let retry = Retry::new(alloc)?;
         Ok(State {
             table,
@@ -57,6 +59,7 @@ impl State {
             shares: Vec::new(alloc),
             delivered: Vec::new(alloc),
             retry,
+            space: 0,
         })
     }
 

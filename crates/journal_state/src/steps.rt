@@ -1,13 +1,14 @@
 //! The next step of a journal.
-ghost use Rattle.std.specs.Prelude.{◌≡◌, ◌<◌, ◌↔◌, length, IsTrue};
+ghost use Rattle.std.specs.Prelude.{◌≡◌, ◌<◌, ◌↔◌, length, IsTrue, IfOk, OnErr};
 ghost use Rattle.sync_rules.specs.Clients.{Meaning};
 ghost use Rattle.sync_rules.specs.Steps.{next, IsSettled};
 ghost use Rattle.journal_state.specs.Whole.{id_at, Knows};
-ghost use Rattle.journal_state.specs.Stepping.{entry_of, number_in};
+ghost use Rattle.journal_state.specs.Stepping.{entry_of, number_in, stepped};
 
 use crate::state::State;
 use message_graph::Step;
-use sync_rules::Entry;
+use std::alloc::{AllocError, Global};
+use sync_rules::{Clients, Entry};
 
 impl State {
     /// The next step of the journal: that of the first held message, in order of arrival, that has one. `None` comes exactly where
@@ -17,6 +18,31 @@ impl State {
     {
         let step = self.graph.next()?;
         Some(self.entry_of(step))
+    }
+
+    /// Makes the next step, and answers its entry; `None` comes exactly where the journal is settled. It fails only for want of
+    /// memory, and then the facts and the answers are as before.
+    pub fn step<C: Clients>(
+        &mut self,
+        alloc: Global,
+        clients: &C,
+    ) -> Result<Option<Entry>, AllocError>
+        requires knows { Knows (C.meaning clients.now) self.old }
+        ensures step { IfOk result (λ e. e ≡ next (C.meaning clients.now) self.old.facts) }
+        ensures facts { IfOk result (λ e. self.new.facts ≡ stepped self.old.facts e) }
+        ensures knows { Knows (C.meaning clients.now) self.new }
+        ensures err { OnErr result ((self.new.facts ≡ self.old.facts) × (self.new.answers ≡ self.old.answers)) }
+    {
+        let Some(step) = self.graph.next() else {
+            return Ok(None);
+        };
+        let entry = self.entry_of(step);
+        match step {
+            Step::Judge(n) => self.judge(alloc, clients, n)?,
+            Step::Invalid(n) => self.refuse(n),
+            Step::Deliver(n) => self.deliver(n)?,
+        }
+        Ok(Some(entry))
     }
 
     /// The entry of a step.

@@ -16,4 +16,4 @@ none_is (Some x) false e = refl
 pub returns : goal.returns
 returns c =
     subst (λ (v : StateValue). (clients : Meaning) → Knows clients v → (IsTrue c.is_none.result ↔ IsSettled clients v.facts)) c.self.view_is
-    (λ clients k. settled_same clients (parts c.self.inside) c.self.invariant k c.next.result c.is_none.result c.next.ensures (none_is c.next.result c.is_none.result c.is_none.ensures))
+    (λ clients k. settled_same clients (parts c.self.inside) c.self.invariant.state k c.next.result c.is_none.result c.next.ensures (none_is c.next.result c.is_none.result c.is_none.ensures))

@@ -1,11 +1,12 @@
-use Rattle.std.proofs.Common.{◌≡◌, [], sym, ap, subst, ◌∙◌}
+use Rattle.std.proofs.Common.{◌≡◌, ◌+◌, ◌≤◌, [], length, nat_lt, slice_get, refl, sym, ap, subst, ◌∙◌, arith}
+use Rattle.std.specs.List.{list_all}
 use Rattle.message_graph.specs.Nodes as nodes
+use Rattle.visibility_table.specs.Table as levels
 use Rattle.journal_state.specs.Begun.{Begun}
-use Rattle.journal_state.specs.Holding.{Holding}
 use Rattle.journal_state.specs.Parts.{Parts}
-use Rattle.journal_state.specs.Whole.{IsState, value_of, empty_state}
+use Rattle.journal_state.specs.Whole.{IsState, StateValue, value_of}
 use Rattle.journal_state.specs.Inside.{parts}
-use Rattle.journal_state.proofs.Empty.{empty_parts, empty_is_state, empty_value}
+use Rattle.journal_state.proofs.Empty.{empty_parts, empty_is_state, empty_facts, not_there}
 use Rattle.journal_state.proofs.state.State.new.Goals as goal
 
 made : (c : goal.After-new-7) → ◌≡◌ {A = Parts} (record {
@@ -16,6 +17,7 @@ made : (c : goal.After-new-7) → ◌≡◌ {A = Parts} (record {
   shares = c.new-6.result.items;
   delivered = c.new-7.result.items;
   retry = c.in_ok-retry.retry;
+  space = 0;
 }) (empty_parts c.in_ok-retry.retry)
 made c = λ k. record {
   table = c.in_ok-table.ensures k;
@@ -25,10 +27,26 @@ made c = λ k. record {
   shares = c.new-6.ensures.items k;
   delivered = c.new-7.ensures.items k;
   retry = c.in_ok-retry.retry;
+  space = 0;
 }
 
 pub invariant_of-result : goal.invariant_of-result
-invariant_of-result c = subst IsState (sym (made c)) (empty_is_state c.in_ok-retry.retry c.in_ok-retry.ensures)
+invariant_of-result c = record {
+  state = subst IsState (sym (made c)) (empty_is_state c.in_ok-retry.retry c.in_ok-retry.ensures);
+  roomy = record {
+    table = omega arith;
+    messages = omega arith;
+    sessions = omega arith;
+    graph = omega arith;
+    shares = let none = ap length c.new-6.ensures.items in omega (arith, none);
+  };
+  few = let none = ap (λ (t : levels.Table). t.contacts) c.in_ok-table.ensures in omega (arith, none);
+  met = ap (λ (b : Begun). list_all (λ x. nat_lt x.contact c.in_ok-table.table.contacts) b.sessions) c.new-5.ensures;
+  honest = λ n node at share. absurd (not_there n node (sym (ap (λ (g : nodes.Shown). slice_get g.nodes n) c.in_ok-graph.ensures) ∙ at));
+}
 
 pub returns : goal.returns
-returns c = ap value_of (made c) ∙ empty_value c.in_ok-retry.retry
+returns c = record {
+  facts = ap (λ (p : Parts). (value_of p).facts) (made c) ∙ empty_facts c.in_ok-retry.retry;
+  answers = ap (λ (p : Parts). (value_of p).answers) (made c);
+}

@@ -9,5 +9,5 @@ pub returns : goal.returns
 returns c =
     let within : c.args.n < length c.self.inside.messages.held = subst (λ (v : StateValue). c.args.n < length v.facts.held) (sym c.self.view_is) c.requires in
     c.is_seen.ensures
-    ∙ (seen_found (parts c.self.inside) c.self.invariant c.args.contact c.args.n within
+    ∙ (seen_found (parts c.self.inside) c.self.invariant.state c.args.contact c.args.n within
     ∙ ap (λ (v : StateValue). is_seen_in v.facts c.args.contact (slice_get v.facts.held c.args.n)) c.self.view_is)

@@ -8,5 +8,5 @@ use Rattle.journal_state.proofs.view.StateView.is_wanted.Goals as goal
 pub returns : goal.returns
 returns c =
     c.is_wanted.ensures
-    ∙ (ap (λ (ids : List Id). is_among ids c.args.id.now) (sym (wants_found c.self.inside.retry c.self.inside.table.contacts c.args.contact c.self.invariant.free_wants))
+    ∙ (ap (λ (ids : List Id). is_among ids c.args.id.now) (sym (wants_found c.self.inside.retry c.self.inside.table.contacts c.args.contact c.self.invariant.state.free_wants))
     ∙ ap (λ (v : StateValue). is_among (wanted_from v.facts.wanted c.args.contact) c.args.id.now) c.self.view_is)

@@ -11,17 +11,17 @@ pub returns-in_err-number : goal.returns-in_err-number
 returns-in_err-number c =
     c.from_residual.ensures
     ∙ (ap (λ (o : Option ℕ). option_map (id_at c.self.inside.messages.held) o) c.in_err-number.ensures
-    ∙ (send_found (parts c.self.inside) c.self.invariant c.args.contact c.args.mode c.args.now c.ranges.contact.fits
+    ∙ (send_found (parts c.self.inside) c.self.invariant.state c.args.contact c.args.mode c.args.now c.ranges.contact.fits
     ∙ ap (λ (v : StateValue). send_of v.facts (shared_of v) c.args.contact c.args.mode c.args.now) c.self.view_is))
 
 pub id-requires : goal.id-requires
 id-requires c =
     below_is c.in_ok-number.number (length c.self.inside.messages.held)
-    (send_below (parts c.self.inside) c.self.invariant c.args.contact c.args.mode c.args.now c.in_ok-number.number (sym c.in_ok-number.ensures))
+    (send_below (parts c.self.inside) c.self.invariant.state c.args.contact c.args.mode c.args.now c.in_ok-number.number (sym c.in_ok-number.ensures))
 
 pub returns : goal.returns
 returns c =
     ap Some (sym (id_shown c.self.inside.messages.held c.in_ok-number.number c.id.result c.id.ensures))
     ∙ (ap (λ (o : Option ℕ). option_map (id_at c.self.inside.messages.held) o) c.in_ok-number.ensures
-    ∙ (send_found (parts c.self.inside) c.self.invariant c.args.contact c.args.mode c.args.now c.ranges.contact.fits
+    ∙ (send_found (parts c.self.inside) c.self.invariant.state c.args.contact c.args.mode c.args.now c.ranges.contact.fits
     ∙ ap (λ (v : StateValue). send_of v.facts (shared_of v) c.args.contact c.args.mode c.args.now) c.self.view_is))

@@ -13,7 +13,7 @@ pub ids-requires : goal.ids-requires
 ids-requires c =
     let numbers : c.as_slice.result.now ≡ offers_in c.args.now (retry.rows_of c.self.inside.retry c.args.contact) = c.as_slice.ensures.value ∙ c.in_ok-numbers.ensures in
     subst (λ (ns : List ℕ). list_all (λ n. nat_lt n (length c.args.self.now.facts.held)) ns ≡ true) (sym numbers)
-    (subst (λ (v : StateValue). list_all (λ n. nat_lt n (length v.facts.held)) (offers_in c.args.now (retry.rows_of c.self.inside.retry c.args.contact)) ≡ true) c.self.view_is (offers_below (parts c.self.inside) c.self.invariant c.args.contact c.args.now))
+    (subst (λ (v : StateValue). list_all (λ n. nat_lt n (length v.facts.held)) (offers_in c.args.now (retry.rows_of c.self.inside.retry c.args.contact)) ≡ true) c.self.view_is (offers_below (parts c.self.inside) c.self.invariant.state c.args.contact c.args.now))
 
 pub returns : goal.returns
 returns c =
@@ -21,6 +21,6 @@ returns c =
     let same : map (id_at c.args.self.now.facts.held) c.as_slice.result.now ≡ (λ (v : StateValue). offers_of v.facts (shared_of v) c.args.contact c.args.now) c.args.self.now =
     ap (λ (ns : List ℕ). map (id_at c.args.self.now.facts.held) ns) numbers
     ∙ (ap (λ (v : StateValue). map (id_at v.facts.held) (offers_in c.args.now (retry.rows_of c.self.inside.retry c.args.contact))) (sym c.self.view_is)
-    ∙ (offers_found (parts c.self.inside) c.self.invariant c.args.contact c.args.now c.ranges.contact.fits
+    ∙ (offers_found (parts c.self.inside) c.self.invariant.state c.args.contact c.args.now c.ranges.contact.fits
     ∙ ap (λ (v : StateValue). offers_of v.facts (shared_of v) c.args.contact c.args.now) c.self.view_is)) in
     subst (λ (xs : List Id). IfOk c.ids.result (λ v. v.items ≡ xs)) same c.ids.ensures

@@ -13,7 +13,7 @@ pub ids-requires : goal.ids-requires
 ids-requires c =
     let numbers : c.as_slice.result.now ≡ owed_in (retry.rows_of c.self.inside.retry c.args.contact) = c.as_slice.ensures.value ∙ c.in_ok-numbers.ensures in
     subst (λ (ns : List ℕ). list_all (λ n. nat_lt n (length c.args.self.now.facts.held)) ns ≡ true) (sym numbers)
-    (subst (λ (v : StateValue). list_all (λ n. nat_lt n (length v.facts.held)) (owed_in (retry.rows_of c.self.inside.retry c.args.contact)) ≡ true) c.self.view_is (owed_below (parts c.self.inside) c.self.invariant c.args.contact))
+    (subst (λ (v : StateValue). list_all (λ n. nat_lt n (length v.facts.held)) (owed_in (retry.rows_of c.self.inside.retry c.args.contact)) ≡ true) c.self.view_is (owed_below (parts c.self.inside) c.self.invariant.state c.args.contact))
 
 pub returns : goal.returns
 returns c =
@@ -21,6 +21,6 @@ returns c =
     let same : map (id_at c.args.self.now.facts.held) c.as_slice.result.now ≡ (λ (v : StateValue). owed_to v.facts c.args.contact) c.args.self.now =
     ap (λ (ns : List ℕ). map (id_at c.args.self.now.facts.held) ns) numbers
     ∙ (ap (λ (v : StateValue). map (id_at v.facts.held) (owed_in (retry.rows_of c.self.inside.retry c.args.contact))) (sym c.self.view_is)
-    ∙ (owed_found (parts c.self.inside) c.self.invariant c.args.contact
+    ∙ (owed_found (parts c.self.inside) c.self.invariant.state c.args.contact
     ∙ ap (λ (v : StateValue). owed_to v.facts c.args.contact) c.self.view_is)) in
     subst (λ (xs : List Id). IfOk c.ids.result (λ v. v.items ≡ xs)) same c.ids.ensures

@@ -9,6 +9,6 @@ use Rattle.journal_state.proofs.view.StateView.wanted.Goals as goal
 pub returns : goal.returns
 returns c =
     let same : (retry.wants_of c.self.inside.retry c.args.contact).ids ≡ wanted_from c.args.self.now.facts.wanted c.args.contact =
-    sym (wants_found c.self.inside.retry c.self.inside.table.contacts c.args.contact c.self.invariant.free_wants)
+    sym (wants_found c.self.inside.retry c.self.inside.table.contacts c.args.contact c.self.invariant.state.free_wants)
     ∙ ap (λ (v : StateValue). wanted_from v.facts.wanted c.args.contact) c.self.view_is in
     subst (λ (ids : List Id). IfOk c.wanted.result (λ v. v.items ≡ take ids_limit ids)) same c.wanted.ensures

@@ -1,0 +1,54 @@
+-- What a state knows of judgements, and the room that is left, once it took an entry.
+use Rattle.std.proofs.Common.{◌≡◌, ℕ, ◌+◌, ◌≤◌, Bool, true, false, cond, List, [], ◌∷◌, ◌++◌, map, Option, None, Some, is_some, refl, sym, ◌∙◌, ap, arith}
+use Rattle.sync_rules.specs.declared.entries.Entry.{Entry}
+use Rattle.sync_rules.specs.Clients.{Meaning}
+use Rattle.sync_rules.specs.Facts.{Facts, Held, Id, after, held_at, is_held}
+use Rattle.sync_rules.specs.Lists.{same_id}
+use Rattle.sync_rules.specs.Steps.{answer_of}
+use Rattle.journal_state.specs.Room.{Room, KeepsRoom}
+use Rattle.journal_state.specs.Taking.{Spends, Takes}
+use Rattle.journal_state.specs.Whole.{Knows, StateValue}
+use Rattle.journal_state.proofs.Places.{id_itself}
+
+-- the answers for facts that are those after an entry
+pub took : (clients : Meaning) (old new : Facts) (e : Entry) → new ≡ after old e
+    → map (answer_of clients (after old e)) (after old e).held ≡ map (answer_of clients new) new.held
+took clients old new e same = ap (λ (f : Facts). map (answer_of clients f) f.held) (sym same)
+
+-- an entry after which the answers are those before
+pub takes_same : (old new : StateValue) (e : Entry) → new.facts ≡ after old.facts e → new.answers ≡ old.answers
+    → ((clients : Meaning) → map (answer_of clients old.facts) old.facts.held ≡ map (answer_of clients (after old.facts e)) (after old.facts e).held)
+    → Spends old.room new.room → Takes old new e
+takes_same old new e facts answers same room = record {
+  facts = facts;
+  knows = λ clients k. answers ∙ (k ∙ (same clients ∙ took clients old.facts new.facts e facts));
+  room = room;
+}
+
+-- facts that are these, after which the answers are those before
+pub knows_after : (clients : Meaning) (old new : StateValue) (f : Facts) → new.facts ≡ f → new.answers ≡ old.answers
+    → map (answer_of clients old.facts) old.facts.held ≡ map (answer_of clients f) f.held → Knows clients old → Knows clients new
+knows_after clients old new f facts answers same k = answers ∙ (k ∙ (same ∙ ap (λ (g : Facts). map (answer_of clients g) g.held) (sym facts)))
+
+pub kept_spends : (a b : Room) → KeepsRoom a b → Spends a b
+kept_spends a b k = record {
+  entries = let h = k.entries in omega (arith, h);
+  rows = k.rows;
+  wants = λ contact. let h = k.wants contact in omega (arith, h);
+}
+
+pub spends_kept : (a b c : Room) → Spends a b → KeepsRoom b c → Spends a c
+spends_kept a b c s k = record {
+  entries = let g = s.entries in let h = k.entries in omega (arith, g, h);
+  rows = λ contact. let g = s.rows contact in let h = k.rows contact in omega (arith, g, h);
+  wants = λ contact. let g = s.wants contact in let h = k.wants contact in omega (arith, g, h);
+}
+
+-- the message at the end is held
+pub end_held : (hs : List Held) (h : Held) → is_held (hs ++ h ∷ []) h.id ≡ true
+end_held [] h = ap (λ b. is_some (cond b (Some h) None)) (id_itself h.id)
+end_held (x ∷ hs) h =
+    elim (same_id x.id h.id) as (λ b. is_some (cond b (Some x) (held_at (hs ++ h ∷ []) h.id)) ≡ true) [
+      | true ↦ refl
+      | false ↦ end_held hs h
+    ]

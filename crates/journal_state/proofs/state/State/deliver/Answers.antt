@@ -1,0 +1,108 @@
+use Rattle.std.proofs.Common.{◌≡◌, ◌<◌, ◌≤◌, ◌+◌, ℕ, List, [], ◌∷◌, ◌++◌, Some, is_ok, true, length, ap, subst, sym, ◌∙◌, arith}
+use Rattle.sync_rules.specs.declared.entries.Entry.TheVariants as entry
+use Rattle.sync_rules.specs.Facts.{after}
+use Rattle.message_graph.specs.declared.nodes.Node.{Node}
+use Rattle.message_graph.specs.declared.nodes.Step.TheVariants as step
+use Rattle.message_graph.specs.declared.nodes.Ending.TheVariants as ending
+use Rattle.message_graph.specs.Nodes as nodes
+use Rattle.journal_state.specs.Parts.{facts_of}
+use Rattle.journal_state.specs.Whole.{StateValue, IsState, id_at}
+use Rattle.journal_state.specs.Inside.{IsHonest, parts}
+use Rattle.journal_state.proofs.Grown.{grown_facts, grown_state, on_err}
+use Rattle.journal_state.proofs.Honest.{honest_ended}
+use Rattle.journal_state.proofs.Made.{deliver_node, delivered_then, delivered_so, delivered_same}
+use Rattle.journal_state.proofs.state.State.deliver.Goals as goal
+
+pub returns-in_err-reserve_rows-clause-err : goal.returns-in_err-reserve_rows-clause-err
+returns-in_err-reserve_rows-clause-err c =
+    on_err c.from_residual.result _ (grown_facts (parts c.self.inside) c.reserve_rows.new.retry c.reserve_rows.ensures.same ∙ ap (λ (v : StateValue). v.facts) c.self.view_is)
+
+pub returns-in_err-reserve-clause-err : goal.returns-in_err-reserve-clause-err
+returns-in_err-reserve-clause-err c =
+    on_err c.from_residual-in_err-reserve.result _
+    ((λ i. facts_of (record (parts c.self.inside) { delivered = c.reserve.ensures.items i; retry = c.reserve_rows.new.retry }))
+    ∙ (grown_facts (parts c.self.inside) c.reserve_rows.new.retry c.reserve_rows.ensures.same ∙ ap (λ (v : StateValue). v.facts) c.self.view_is))
+
+pub apply-requires-clause-next : goal.apply-requires-clause-next
+apply-requires-clause-next c = deliver_node (parts c.self.inside) c.self.invariant.state c.args.self.now c.self.view_is c.args.n (c.requires.held, c.requires.next)
+
+node : (c : goal.After-make_ready) → nodes.next c.self.inside.graph.nodes ≡ Some (step.Deliver c.args.n)
+node c = deliver_node (parts c.self.inside) c.self.invariant.state c.args.self.now c.self.view_is c.args.n (c.requires.held, c.requires.next)
+
+ended : (c : goal.After-make_ready) → c.apply.new.self.nodes ≡ nodes.with_ending c.args.n ending.Delivered c.self.inside.graph.nodes
+ended c = ap (λ (s : nodes.Shown). s.nodes) c.apply.ensures
+
+pushed : (c : goal.After-make_ready) → c.push.new.self.items ≡ c.self.inside.delivered.items ++ c.args.n ∷ []
+pushed c =
+    let items : c.push.new.self.items ≡ c.reserve.new.self.items ++ c.args.n ∷ [] = rw c.unwrap.ensures at c.push.ensures.items in
+    items ∙ ap (λ (xs : List ℕ). xs ++ c.args.n ∷ []) c.reserve.ensures.items
+
+pub invariant_of-self-2 : goal.invariant_of-self-2
+invariant_of-self-2 c =
+    let spare : c.apply.new.self.spare ≡ c.self.inside.graph.spare = ap (λ (g : nodes.Shown). g.spare) c.apply.ensures in
+    record {
+      state =
+          delivered_then (parts c.self.inside) c.self.invariant.state c.args.n (node c) c.message.result.now c.message.ensures c.group-group.result c.group-group.ensures c.origin.result c.origin.ensures
+          c.index.result.now c.index.ensures c.is_open-outgoing.result c.is_open-outgoing.ensures c.reserve_rows.new.retry c.reserve_rows.ensures.same c.make_ready.new.retry c.make_ready.ensures
+          c.apply.new.self.nodes (ended c) c.push.new.self.items (pushed c);
+      roomy = record {
+        table = c.self.invariant.roomy.table;
+        messages = c.self.invariant.roomy.messages;
+        sessions = c.self.invariant.roomy.sessions;
+        graph = let m = c.self.invariant.roomy.graph in omega (arith, m, spare);
+        shares = c.self.invariant.roomy.shares;
+      };
+      few = c.self.invariant.few;
+      met = c.self.invariant.met;
+      honest =
+          subst (λ (ns : List Node). IsHonest ns c.self.inside.shares.items) (sym (ended c))
+          (honest_ended c.self.inside.graph.nodes c.self.inside.shares.items c.args.n ending.Delivered c.self.invariant.honest);
+    }
+
+pub returns-clause-facts : goal.returns-clause-facts
+returns-clause-facts c =
+    delivered_so (parts c.self.inside) c.self.invariant.state c.args.n (node c) c.message.result.now c.message.ensures c.group-group.result c.group-group.ensures c.origin.result c.origin.ensures
+    c.index.result.now c.index.ensures c.is_open-outgoing.result c.is_open-outgoing.ensures c.reserve_rows.new.retry c.reserve_rows.ensures.same c.make_ready.new.retry c.make_ready.ensures
+    c.apply.new.self.nodes (ended c) c.push.new.self.items (pushed c)
+    ∙ ap (λ (v : StateValue). after v.facts (entry.Deliver (id_at v.facts.held c.args.n))) c.self.view_is
+
+pub returns-clause-answers : goal.returns-clause-answers
+returns-clause-answers c =
+    delivered_same (parts c.self.inside) c.self.invariant.state c.args.n (node c) c.message.result.now c.message.ensures c.group-group.result c.group-group.ensures c.origin.result c.origin.ensures
+    c.index.result.now c.index.ensures c.is_open-outgoing.result c.is_open-outgoing.ensures c.reserve_rows.new.retry c.reserve_rows.ensures.same c.make_ready.new.retry c.make_ready.ensures
+    c.apply.new.self.nodes (ended c) c.push.new.self.items (pushed c)
+    ∙ ap (λ (v : StateValue). v.answers) c.self.view_is
+
+pub invariant_of-self : goal.invariant_of-self
+invariant_of-self c =
+    record {
+      state = grown_state (parts c.self.inside) c.self.invariant.state c.reserve_rows.new.retry c.reserve_rows.ensures.same;
+      roomy = record {
+        table = c.self.invariant.roomy.table;
+        messages = c.self.invariant.roomy.messages;
+        sessions = c.self.invariant.roomy.sessions;
+        graph = c.self.invariant.roomy.graph;
+        shares = c.self.invariant.roomy.shares;
+      };
+      few = c.self.invariant.few;
+      met = c.self.invariant.met;
+      honest = c.self.invariant.honest;
+    }
+
+pub invariant_of-self-in_err-reserve : goal.invariant_of-self-in_err-reserve
+invariant_of-self-in_err-reserve c =
+    record {
+      state =
+          subst (λ (ks : List ℕ). IsState (record (parts c.self.inside) { delivered = ks; retry = c.reserve_rows.new.retry })) (sym c.reserve.ensures.items)
+          (grown_state (parts c.self.inside) c.self.invariant.state c.reserve_rows.new.retry c.reserve_rows.ensures.same);
+      roomy = record {
+        table = c.self.invariant.roomy.table;
+        messages = c.self.invariant.roomy.messages;
+        sessions = c.self.invariant.roomy.sessions;
+        graph = c.self.invariant.roomy.graph;
+        shares = c.self.invariant.roomy.shares;
+      };
+      few = c.self.invariant.few;
+      met = c.self.invariant.met;
+      honest = c.self.invariant.honest;
+    }

@@ -1,0 +1,66 @@
+use Rattle.std.proofs.Common.{◌≡◌, ◌<◌, Option, None, Some, length, refl, sym, ap, subst, ◌∙◌, arith}
+use Rattle.std.specs.Option.{option_map}
+use Rattle.sync_rules.specs.declared.entries.Entry.{Entry}
+use Rattle.sync_rules.specs.declared.entries.Entry.TheVariants as entry
+use Rattle.sync_rules.specs.Clients.{Meaning}
+use Rattle.sync_rules.specs.Steps.{next}
+use Rattle.message_graph.specs.declared.nodes.Step.{Step}
+use Rattle.message_graph.specs.declared.nodes.Step.TheVariants as step
+use Rattle.message_graph.specs.Nodes as nodes
+use Rattle.journal_state.specs.Parts.{Parts}
+use Rattle.journal_state.specs.Stepping.{entry_of, number_in}
+use Rattle.journal_state.specs.Whole.{StateValue, IsState, Knows, id_at, value_of}
+use Rattle.journal_state.specs.Inside.{parts}
+use Rattle.journal_state.proofs.Next.{found_next, many_nodes, next_within}
+use Rattle.journal_state.proofs.state.State.step.Goals as goal
+
+-- the graph's next step is the journal's
+told : (clients : Meaning) (p : Parts) (s : IsState p) (v : StateValue) → value_of p ≡ v → Knows clients v → (o : Option Step) → o ≡ nodes.next p.nodes
+    → option_map (entry_of (id_at v.facts.held)) o ≡ next clients v.facts
+told clients p s v view k o e =
+    subst (λ (w : StateValue). option_map (entry_of (id_at w.facts.held)) o ≡ next clients w.facts) view (found_next clients p s (subst (Knows clients) (sym view) k) o e)
+
+none_of : (o : Option Step) → ((x : Step) → o ≡ Some x → ⊥) → o ≡ None
+none_of None none = refl
+none_of (Some x) none = absurd (none x refl)
+
+pub returns-in_default-clause-step : goal.returns-in_default-clause-step
+returns-in_default-clause-step g c =
+    let all = told (g.C.Clients.meaning c.args.clients.now) (parts c.self.inside) c.self.invariant.state c.args.self.now c.self.view_is c.requires.knows c.next.result c.next.ensures in
+    ap (option_map (entry_of (id_at c.args.self.now.facts.held))) (sym (none_of c.next.result (λ x e. c.in_default.not-Some x e))) ∙ all
+
+pub entry_of-entry-requires : goal.entry_of-entry-requires
+entry_of-entry-requires g c =
+    let within : number_in c.in-Some.step < length c.self.inside.graph.nodes = next_within c.self.inside.graph.nodes c.in-Some.step (sym c.in-Some.ensures) in
+    let held : number_in c.in-Some.step < length c.self.inside.messages.held = omega (arith, within, many_nodes (parts c.self.inside) c.self.invariant.state) in
+    subst (λ (v : StateValue). number_in c.in-Some.step < length v.facts.held) c.self.view_is held
+
+pub judge-requires-clause-next : goal.judge-requires-clause-next
+judge-requires-clause-next g c =
+    sym (told (g.C.Clients.meaning c.args.clients.now) (parts c.self.inside) c.self.invariant.state c.args.self.now c.self.view_is c.requires.knows (Some c.in-Some.step) c.in-Some.ensures)
+    ∙ ap (λ (s : Step). Some (entry_of (id_at c.args.self.now.facts.held) s)) c.in-Judge.is
+
+pub refuse-requires-clause-next : goal.refuse-requires-clause-next
+refuse-requires-clause-next g c = (
+  g.C.Clients.meaning c.args.clients.now,
+  (
+    c.requires.knows,
+    sym (told (g.C.Clients.meaning c.args.clients.now) (parts c.self.inside) c.self.invariant.state c.args.self.now c.self.view_is c.requires.knows (Some c.in-Some.step) c.in-Some.ensures)
+        ∙ ap (λ (s : Step). Some (entry_of (id_at c.args.self.now.facts.held) s)) c.in-Invalid.is,
+  ),
+)
+
+pub deliver-requires-clause-next : goal.deliver-requires-clause-next
+deliver-requires-clause-next g c = (
+  g.C.Clients.meaning c.args.clients.now,
+  (
+    c.requires.knows,
+    sym (told (g.C.Clients.meaning c.args.clients.now) (parts c.self.inside) c.self.invariant.state c.args.self.now c.self.view_is c.requires.knows (Some c.in-Some.step) c.in-Some.ensures)
+        ∙ ap (λ (s : Step). Some (entry_of (id_at c.args.self.now.facts.held) s)) c.in-Deliver.is,
+  ),
+)
+
+pub returns-clause-step : goal.returns-clause-step
+returns-clause-step g c =
+    ap Some c.entry_of-entry.ensures
+    ∙ told (g.C.Clients.meaning c.args.clients.now) (parts c.self.inside) c.self.invariant.state c.args.self.now c.self.view_is c.requires.knows (Some c.in-Some.step) c.in-Some.ensures

@@ -1,0 +1,114 @@
+//! A held message is delivered.
+ghost use Rattle.std.specs.Prelude.{◌≡◌, ◌+◌, ◌<◌, ◌≤◌, ◌||◌, true, Some, length, OnOk, OnErr};
+ghost use Rattle.sync_rules.specs.Clients.{Meaning};
+ghost use Rattle.sync_rules.specs.Facts.{after};
+ghost use Rattle.sync_rules.specs.Sessions.{is_author};
+ghost use Rattle.sync_rules.specs.Steps.{next};
+ghost use Rattle.retry_table.specs.Table.{rows_of};
+ghost use Rattle.journal_state.specs.Delivery.{goes_to, Grows, HasRows, ReadiesOne, Readies};
+ghost use Rattle.journal_state.specs.Whole.{id_at, Knows};
+
+use crate::state::State;
+use message_graph::Step;
+use retry_table::Retry;
+use std::alloc::AllocError;
+use sync_ids::GroupId;
+use sync_rules::{Entry, Level, Origin};
+use visibility_table::Levels;
+
+/// The number of contacts that there may be.
+const CONTACTS: usize = 256;
+
+/// Whether a message may be sent to others: it was written here, or its judgement lets it be sent on.
+fn is_open(origin: Origin, share: bool) -> bool
+    ensures { result ≡ (is_author origin || share) }
+{
+    match origin {
+        Origin::Author => true,
+        Origin::From(_) => share,
+    }
+}
+
+/// Whether a message of the group may go to the contact.
+fn goes_to(table: &Levels, group: &GroupId, outgoing: bool, contact: u8) -> bool
+    ensures { result ≡ goes_to table.now.levels group.now outgoing contact }
+{
+    match table.level(contact, group) {
+        Level::Shared => outgoing,
+        Level::Invisible | Level::Visible => false,
+    }
+}
+
+/// Makes room for the rows of all numbers below `numbers` at a contact, if a message goes there.
+fn reserve_row(retry: &mut Retry, contact: u8, numbers: u32, goes: bool) -> Result<(), AllocError>
+    ensures same { Grows retry.old retry.new }
+    ensures room { OnOk result (goes ≡ true → numbers ≤ length (rows_of retry.new contact)) }
+{
+    if !goes {
+        return Ok(());
+    }
+    retry.reserve(contact, numbers, 0)
+}
+
+/// Makes room for the rows of all numbers below `numbers` at each contact that a message goes to.
+fn reserve_rows(
+    retry: &mut Retry,
+    table: &Levels,
+    group: &GroupId,
+    outgoing: bool,
+    numbers: u32,
+) -> Result<(), AllocError>
+    ensures same { Grows retry.old retry.new }
+    ensures room { OnOk result (HasRows retry.new (goes_to table.now.levels group.now outgoing) numbers) }
+{
+    for place in 0..CONTACTS {
+        let contact = place as u8;
+        let goes = goes_to(table, group, outgoing, contact);
+        reserve_row(retry, contact, numbers, goes)?;
+    }
+    Ok(())
+}
+
+/// Makes a message ready for a contact, if it goes there.
+fn ready_one(retry: &mut Retry, contact: u8, n: u32, goes: bool)
+    requires { goes ≡ true → n < length (rows_of retry.old contact) }
+    ensures { ReadiesOne retry.old retry.new contact n goes }
+{
+    if !goes {
+        return;
+    }
+    retry.ready(contact, n);
+}
+
+/// Makes a message ready for each contact that it goes to.
+fn make_ready(retry: &mut Retry, table: &Levels, group: &GroupId, outgoing: bool, n: u32)
+    requires { HasRows retry.old (goes_to table.now.levels group.now outgoing) (n + 1) }
+    ensures { Readies retry.old retry.new (goes_to table.now.levels group.now outgoing) n }
+{
+    for place in 0..CONTACTS {
+        let contact = place as u8;
+        let goes = goes_to(table, group, outgoing, contact);
+        ready_one(retry, contact, n, goes);
+    }
+}
+
+impl State {
+    /// Delivers the message of this number, which is the next step. After an error all is as before.
+    pub(crate) fn deliver(&mut self, n: u32) -> Result<(), AllocError>
+        requires held { n < length self.old.facts.held }
+        requires next { (clients : Meaning) × (Knows clients self.old × (next clients self.old.facts ≡ Some (Entry.Deliver (id_at self.old.facts.held n)))) }
+        ensures facts { OnOk result (self.new.facts ≡ after self.old.facts (Entry.Deliver (id_at self.old.facts.held n))) }
+        ensures answers { self.new.answers ≡ self.old.answers }
+        ensures err { OnErr result (self.new.facts ≡ self.old.facts) }
+    {
+        let group = self.messages.message(n).group();
+        let outgoing = is_open(self.messages.origin(n), self.shares[n as usize]);
+        let held = self.messages.len();
+        reserve_rows(&mut self.retry, &self.table, &group, outgoing, held)?;
+        self.delivered.reserve(1)?;
+        self.graph.apply(Step::Deliver(n));
+        self.delivered.push(n).unwrap();
+        make_ready(&mut self.retry, &self.table, &group, outgoing, n);
+        Ok(())
+    }
+}

@@ -1,0 +1,71 @@
+//! What became of the held messages.
+ghost use Rattle.std.specs.Prelude.{◌≡◌, ◌<◌, length, Some, slice_get};
+ghost use Rattle.std.specs.Option.{option_map};
+ghost use Rattle.sync_rules.specs.Facts.{Id};
+ghost use Rattle.sync_rules.specs.Steps.{fate_held};
+ghost use Rattle.sync_rules.specs.Views.{IsPlace};
+ghost use Rattle.journal_state.specs.Fates.{fate_as};
+ghost use Rattle.journal_state.specs.Lent.{StandsForNodes};
+ghost use Rattle.entry_codec.specs.Standing.{room_of};
+
+use crate::state::State;
+use message_graph::{Fate as NodeFate, Graph};
+use sync_rules::Fate;
+
+/// The bytes of an entry of a step, 33, and of its frame, 5 more.
+const STEP_BYTES: u64 = 38;
+
+/// A message's state as the graph says it.
+fn fate_as(fate: NodeFate) -> Fate
+    ensures { result ≡ fate_as fate }
+{
+    match fate {
+        NodeFate::Unknown => Fate::Unknown,
+        NodeFate::Pending => Fate::Pending,
+        NodeFate::Invalid => Fate::Invalid,
+        NodeFate::Delivered => Fate::Delivered,
+    }
+}
+
+impl State {
+    /// The room in bytes that settling may yet need: 76 for each held message that is not judged, 38 for each that is judged and neither
+    /// delivered nor invalid.
+    pub fn room(&self) -> u64
+        ensures { result ≡ room_of self.now.facts }
+    {
+        STEP_BYTES * self.graph.left()
+    }
+
+    /// The state of the held message of this arrival number, which is below the number of held messages.
+    pub fn fate(&self, n: u32) -> Fate
+        requires { n < length self.now.facts.held }
+        ensures { option_map (λ h. fate_held self.now.facts h.id) (slice_get self.now.facts.held n) ≡ Some result }
+    {
+        fate_as(self.graph.fate(n))
+    }
+
+    /// The number of delivered messages.
+    pub fn delivered(&self) -> u32
+        ensures { result ≡ length self.now.facts.delivered }
+    {
+        // There are at most as many as held messages, which a u32 counts.
+        let _held = self.messages.len();
+        self.delivered.len() as u32
+    }
+
+    /// The arrival number of the k-th delivered message, from 0, in the order of delivery.
+    pub fn delivered_at(&self, k: u32) -> u32
+        requires { k < length self.now.facts.delivered }
+        ensures within { result < length self.now.facts.held }
+        ensures place { (id : Id) → slice_get self.now.facts.delivered k ≡ Some id → IsPlace self.now.facts.held id result }
+    {
+        self.delivered[k as usize]
+    }
+
+    /// The waiting graph.
+    pub fn graph(&self) -> &Graph
+        ensures { StandsForNodes self.now result.now.nodes }
+    {
+        self.graph.graph()
+    }
+}

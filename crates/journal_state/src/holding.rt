@@ -1,0 +1,47 @@
+//! A message is held.
+ghost use Rattle.std.specs.Prelude.{◌≡◌, ◌+◌, ◌-◌, ◌^◌, ◌<◌, ◌≤◌, ◌++◌, ◌∷◌, [], true, length, None, is_some};
+ghost use Rattle.sync_ids.specs.Ids.{message_id_of};
+ghost use Rattle.sync_rules.specs.Clients.{Meaning};
+ghost use Rattle.sync_rules.specs.Facts.{group_at, held_at, wanted_by_none};
+ghost use Rattle.journal_state.specs.Unwanted.{UnwantsBelow};
+ghost use Rattle.journal_state.specs.Taking.{CanHold, Spends};
+ghost use Rattle.journal_state.specs.Whole.{Knows};
+
+use crate::state::State;
+use retry_table::Retry;
+use sync_ids::{Message, MessageId};
+use sync_rules::{Origin, id_of};
+
+/// The number of contacts that there may be.
+const CONTACTS: u32 = 256;
+
+/// Takes an id out of what is wanted from each contact.
+fn unwant_from_all(retry: &mut Retry, id: &MessageId)
+    ensures { UnwantsBelow 256 retry.old retry.new id.now }
+{
+    for contact in 0..CONTACTS {
+        retry.unwant(contact as u8, id);
+    }
+}
+
+impl State {
+    /// Holds a message whose group is known and whose id is new; it is then wanted from nobody.
+    pub(crate) fn hold(&mut self, message: Message, origin: Origin)
+        requires can { CanHold self.old.facts message }
+        requires room { 1 ≤ self.old.room.entries }
+        ensures facts { self.new.facts ≡ record self.old.facts {
+          held = self.old.facts.held ++ record { id = message_id_of message; message = message; origin = origin } ∷ [];
+          wanted = wanted_by_none self.old.facts.wanted (message_id_of message);
+        } }
+        ensures knows { (clients : Meaning) → Knows clients self.old → Knows clients self.new }
+        ensures room { Spends self.old.room self.new.room }
+    {
+        let id = id_of(&message);
+        let group = self.table.group(&message.group()).unwrap();
+        self.space -= 1;
+        self.graph.hold(id.0, group);
+        self.shares.push(false).unwrap();
+        unwant_from_all(&mut self.retry, &id);
+        self.messages.hold(message, origin);
+    }
+}

@@ -1,0 +1,74 @@
+//! A held message is judged, or is invalid.
+ghost use Rattle.std.specs.Prelude.{◌≡◌, ◌<◌, Some, length, IfOk, OnOk, OnErr};
+ghost use Rattle.sync_rules.specs.Clients.{Meaning};
+ghost use Rattle.sync_rules.specs.Facts.{after};
+ghost use Rattle.sync_rules.specs.Sessions.{may_share};
+ghost use Rattle.sync_rules.specs.Steps.{next, verdict_in};
+ghost use Rattle.journal_state.specs.Parts.{answer_of_node};
+ghost use Rattle.journal_state.specs.Whole.{id_at, Knows};
+
+use crate::state::State;
+use crate::verdicts::judgement_of;
+use message_graph::{Judged, Names, Step};
+use std::alloc::{AllocError, Global};
+use sync_ids::{Message, MessageId};
+use sync_rules::{Clients, Entry, Judgement};
+use visibility_table::Levels;
+
+/// The names by which the graph knows messages of these ids.
+fn names_of(alloc: Global, ids: &[MessageId]) -> Result<Vec<[u8; 32]>, AllocError>
+    ensures { IfOk result (λ names. names.items ≡ ids.now) }
+{
+    let mut names = Vec::new(alloc);
+    for id in ids {
+        names.push(id.0)?;
+    }
+    Ok(names)
+}
+
+/// A judgement as the graph takes it, and whether the message may be sent on.
+fn answer_of(alloc: Global, judgement: &Judgement) -> Result<(Judged, bool), AllocError>
+    ensures answer { IfOk result (λ answer. answer_of_node (Some answer.0) answer.1 ≡ Some judgement.now) }
+    ensures share { IfOk result (λ answer. answer.1 ≡ may_share (Some judgement.now)) }
+{
+    match judgement {
+        Judgement::Refuse => Ok((Judged::Refused, false)),
+        Judgement::Accept { deps, share } => {
+            let names = names_of(alloc, deps.as_slice())?;
+            Ok((Judged::Accepted(Names::new(names)), *share))
+        }
+    }
+}
+
+impl State {
+    /// Judges the message of this number, which is the next step. After an error all is as before.
+    pub(crate) fn judge<C: Clients>(
+        &mut self,
+        alloc: Global,
+        clients: &C,
+        n: u32,
+    ) -> Result<(), AllocError>
+        requires knows { Knows (C.meaning clients.now) self.old }
+        requires held { n < length self.old.facts.held }
+        requires next { next (C.meaning clients.now) self.old.facts ≡ Some (Entry.Judged (id_at self.old.facts.held n)) }
+        ensures facts { OnOk result (self.new.facts ≡ after self.old.facts (Entry.Judged (id_at self.old.facts.held n))) }
+        ensures knows { Knows (C.meaning clients.now) self.new }
+        ensures err { OnErr result ((self.new.facts ≡ self.old.facts) × (self.new.answers ≡ self.old.answers)) }
+    {
+        let judgement = judgement_of(alloc, clients, &self.table, self.messages.message(n))?;
+        let (answer, share) = answer_of(alloc, &judgement)?;
+        self.graph.judged(n, answer)?;
+        self.shares[n as usize] = share;
+        Ok(())
+    }
+
+    /// Ends the message of this number as invalid, which is the next step. It takes no memory.
+    pub(crate) fn refuse(&mut self, n: u32)
+        requires held { n < length self.old.facts.held }
+        requires next { (clients : Meaning) × (Knows clients self.old × (next clients self.old.facts ≡ Some (Entry.Invalid (id_at self.old.facts.held n)))) }
+        ensures facts { self.new.facts ≡ after self.old.facts (Entry.Invalid (id_at self.old.facts.held n)) }
+        ensures knows { (clients : Meaning) → Knows clients self.old → Knows clients self.new }
+    {
+        self.graph.apply(Step::Invalid(n));
+    }
+}

@@ -1,0 +1,79 @@
+//! What is noted of a held message for a contact.
+ghost use Rattle.std.specs.Prelude.{◌≡◌, ◌<◌, ◌≤◌, true, length};
+ghost use Rattle.std.specs.List.{list_all};
+ghost use Rattle.retry_table.specs.Table.{rows_of, kept_at, with_row, Keeps};
+ghost use Rattle.sync_rules.specs.Facts.{change_row, change_rows, is_held, row_heard};
+ghost use Rattle.journal_state.specs.Marks.{marked};
+ghost use Rattle.journal_state.specs.Room.{rows_room, KeepsRoom};
+
+use crate::state::State;
+use retry_table::Retry;
+use sync_ids::MessageId;
+
+/// What is noted of a held message for a contact. Times and latencies are in milliseconds.
+#[derive(Clone, Copy)]
+pub(crate) enum Mark {
+    /// The contact has the message and waits for our acknowledgement.
+    Heard,
+    /// The contact has the message.
+    Seen,
+    /// The contact asked for the message.
+    Asked,
+    /// We acknowledged the message.
+    Acked,
+    /// The message was offered at this time, on a session of this latency.
+    Offered(u64, u32),
+    /// The message was sent at this time, on a session of this latency.
+    Sent(u64, u32),
+}
+
+/// Notes it in the row of the message of this number.
+pub(crate) fn mark_row(retry: &mut Retry, contact: u8, n: u32, mark: Mark)
+    requires { n < length (rows_of retry.old contact) }
+    ensures { Keeps retry.old retry.new contact n (with_row (marked mark) (kept_at retry.old contact n)) }
+{
+    match mark {
+        Mark::Heard => hear(retry, contact, n),
+        Mark::Seen => retry.saw(contact, n),
+        Mark::Asked => retry.ask(contact, n),
+        Mark::Acked => retry.paid(contact, n),
+        Mark::Offered(now, latency) => retry.offered(contact, n, now, latency),
+        Mark::Sent(now, latency) => retry.sent(contact, n, now, latency),
+    }
+}
+
+/// The contact has the message and waits for our acknowledgement.
+fn hear(retry: &mut Retry, contact: u8, n: u32)
+    requires { n < length (rows_of retry.old contact) }
+    ensures { Keeps retry.old retry.new contact n (with_row row_heard (kept_at retry.old contact n)) }
+{
+    retry.saw(contact, n);
+    retry.owe(contact, n);
+}
+
+impl State {
+    /// Notes it of a held message, for a contact that has room for the rows of all held messages.
+    pub(crate) fn mark(&mut self, contact: u8, id: &MessageId, mark: Mark)
+        requires held { is_held self.old.facts.held id.now ≡ true }
+        requires room { length self.old.facts.held ≤ rows_room self.old.room contact }
+        ensures facts { self.new.facts ≡ record self.old.facts { rows = change_row self.old.facts.rows contact id.now (marked mark) } }
+        ensures answers { self.new.answers ≡ self.old.answers }
+        ensures room { KeepsRoom self.old.room self.new.room }
+    {
+        let number = self.messages.find(id).unwrap();
+        mark_row(&mut self.retry, contact, number, mark);
+    }
+
+    /// Notes it of each of these held messages, one after the other.
+    pub(crate) fn mark_all(&mut self, contact: u8, ids: &[MessageId], mark: Mark)
+        requires held { list_all (is_held self.old.facts.held) ids.now ≡ true }
+        requires room { length self.old.facts.held ≤ rows_room self.old.room contact }
+        ensures facts { self.new.facts ≡ record self.old.facts { rows = change_rows self.old.facts.rows contact ids.now (marked mark) } }
+        ensures answers { self.new.answers ≡ self.old.answers }
+        ensures room { KeepsRoom self.old.room self.new.room }
+    {
+        for id in ids {
+            self.mark(contact, id, mark);
+        }
+    }
+}
