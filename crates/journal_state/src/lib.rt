@@ -16,6 +16,7 @@ mod reserve;
 mod sessions;
 mod state;
 mod steps;
+mod stubs;
 mod taking;
 mod verdicts;
 mod view;
