@@ -4,8 +4,10 @@
 mod fault;
 mod load;
 mod store;
-mod stubs;
 mod view;
 
 pub use fault::{InitFault, LoadFault, PostFault, StoreFault};
 pub use store::Store;
+
+#[cfg(test)]
+mod load_tests;
