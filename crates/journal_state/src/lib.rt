@@ -18,6 +18,7 @@ mod reserve;
 mod sessions;
 mod state;
 mod steps;
+mod stubs;
 mod taking;
 mod view;
 mod wanting;

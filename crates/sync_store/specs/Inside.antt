@@ -1,0 +1,6 @@
+-- A store as its fields show it.
+use Rattle.sync_store.specs.declared.store.Store.TheInside.{Inside}
+use Rattle.sync_store.specs.Store.{StoreValue}
+
+abbrev pub value_of : Inside → StoreValue
+value_of s = record { state = s.state; file = s.journal.file; end = s.journal.end; limit = s.limit; closed = s.closed }

@@ -1,0 +1,29 @@
+-- What contracts see of a store.
+use Rattle.std.specs.Prelude.{◌≡◌, ℕ, ◌+◌, ◌≤◌, Bool, length, refl}
+use Rattle.std.specs.Coded.{Coded, code_by, coded×, coded_bool, coded_ℕ}
+use Rattle.outside.specs.Frames.{most_bytes}
+use Rattle.sync_rules.specs.Facts.{takes_of}
+use Rattle.entry_codec.specs.Standing.{room_of}
+use Rattle.journal_state.specs.Whole.{StateValue, state_code}
+
+-- The facts of the journal and the judgements of its messages; the number of the journal's file, and the place of its closed
+-- gate plus one; the length that commits may fill; and whether a call on the disk failed. The journal itself is not kept.
+pub record StoreValue : Type 0 where
+  pub state : StateValue
+  pub file : ℕ
+  pub end : ℕ
+  pub limit : ℕ
+  pub closed : Bool
+
+abbrev pub store_code : Coded StoreValue
+store_code =
+    code_by (StateValue × (ℕ × (ℕ × (ℕ × Bool)))) (coded× state_code (coded× coded_ℕ (coded× coded_ℕ (coded× coded_ℕ coded_bool))))
+    (λ s. (s.state, (s.file, (s.end, (s.limit, s.closed)))))
+    (λ p. record { state = p.0; file = p.1.0; end = p.1.1.0; limit = p.1.1.1.0; closed = p.1.1.1.1 }) (λ _. refl)
+
+-- the numbers of a store: settling finds its room; each held message, session and record taken has its bytes in the file
+pub record IsStore (s : StoreValue) : Type 0 where
+  pub limited : s.limit ≤ most_bytes
+  pub roomy : s.end + room_of s.state.facts ≤ most_bytes
+  pub few : length s.state.facts.held + length s.state.facts.sessions ≤ s.end
+  pub records : (session : ℕ) → takes_of s.state.facts.takes session ≤ s.end

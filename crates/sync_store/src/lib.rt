@@ -1,0 +1,13 @@
+//! A legal journal on a disk: at every moment the two files stand for a legal journal, and the store has its facts.
+#![tactic(auto)]
+
+mod fault;
+mod load;
+mod store;
+mod view;
+
+pub use fault::{InitFault, LoadFault, PostFault, StoreFault};
+pub use store::Store;
+
+#[cfg(test)]
+mod load_tests;

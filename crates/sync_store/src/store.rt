@@ -1,0 +1,128 @@
+//! `Store`.
+ghost use Rattle.std.specs.Prelude.{◌≡◌, ◌<◌, length, Some, slice_get};
+ghost use Rattle.std.specs.Option.{option_map};
+ghost use Rattle.journal_state.specs.Lent.{StandsForRows};
+
+use frame_journal::Journal;
+use journal_state::State;
+use retry_table::Retry;
+use std::alloc::Global;
+use std::marker::Model;
+use sync_ids::{GroupDef, GroupId, Message, MessageId};
+use sync_rules::Origin;
+
+/// A legal journal on a disk. Contracts see the facts of the journal and the judgements of its messages, the number of its file
+/// and the place of its closed gate plus one, the length that commits may fill, and whether a call on the disk failed.
+#[derive(Drop)]
+pub struct Store {
+    pub(crate) alloc: Global,
+    pub(crate) state: State,
+    pub(crate) journal: Journal,
+    pub(crate) limit: u64,
+    pub(crate) closed: bool,
+}
+
+impl Model for Store {
+    ghost use Rattle.sync_store.specs.Store.{StoreValue, store_code, IsStore};
+
+    ghost Value = { StoreValue };
+
+    ghost coded = { store_code };
+
+    ghost use Rattle.sync_store.specs.Inside.{value_of};
+
+    ghost view = { λ s. value_of s };
+
+    ghost invariant = { λ s. IsStore (value_of s) };
+}
+
+impl Store {
+    /// The number of held messages.
+    pub fn held(&self) -> u32
+        ensures { result ≡ length self.now.state.facts.held }
+    {
+        self.state.held()
+    }
+
+    /// The number of contacts.
+    pub fn contacts(&self) -> u32
+        ensures { result ≡ self.now.state.facts.contacts }
+    {
+        self.state.contacts()
+    }
+
+    /// The number of groups.
+    pub fn groups(&self) -> u32
+        ensures { result ≡ length self.now.state.facts.groups }
+    {
+        self.state.groups()
+    }
+
+    /// The number of sessions.
+    pub fn sessions(&self) -> u32
+        ensures { result ≡ length self.now.state.facts.sessions }
+    {
+        self.state.sessions()
+    }
+
+    /// The place of the journal's closed gate plus one, in bytes.
+    pub fn end(&self) -> u64
+        ensures { result ≡ self.now.end }
+    {
+        self.journal.end()
+    }
+
+    /// Whether a call on the disk failed.
+    pub fn is_closed(&self) -> bool
+        ensures { result ≡ self.now.closed }
+    {
+        self.closed
+    }
+
+    /// The definition of the group of this number, which is below the number of groups.
+    pub fn group_def(&self, n: u32) -> &GroupDef
+        requires { n < length self.now.state.facts.groups }
+        ensures { option_map (λ g. g.def) (slice_get self.now.state.facts.groups n) ≡ Some result.now }
+    {
+        self.state.group_def(n)
+    }
+
+    /// The id of the group of this number, which is below the number of groups.
+    pub fn group_id_at(&self, n: u32) -> GroupId
+        requires { n < length self.now.state.facts.groups }
+        ensures { option_map (λ g. g.id) (slice_get self.now.state.facts.groups n) ≡ Some result }
+    {
+        self.state.group_id_at(n)
+    }
+
+    /// The held message of this arrival number, which is below the number of held messages.
+    pub fn message(&self, n: u32) -> &Message
+        requires { n < length self.now.state.facts.held }
+        ensures { option_map (λ h. h.message) (slice_get self.now.state.facts.held n) ≡ Some result.now }
+    {
+        self.state.message(n)
+    }
+
+    /// The id of the held message of this arrival number, which is below the number of held messages.
+    pub fn id_at(&self, n: u32) -> MessageId
+        requires { n < length self.now.state.facts.held }
+        ensures { option_map (λ h. h.id) (slice_get self.now.state.facts.held n) ≡ Some result }
+    {
+        self.state.id_at(n)
+    }
+
+    /// Where the held message of this arrival number came from; the number is below the number of held messages.
+    pub fn origin(&self, n: u32) -> Origin
+        requires { n < length self.now.state.facts.held }
+        ensures { option_map (λ h. h.origin) (slice_get self.now.state.facts.held n) ≡ Some result }
+    {
+        self.state.origin(n)
+    }
+
+    /// The table of what is due to each contact: it stands for the journal of the store.
+    pub fn retry(&self) -> &Retry
+        ensures { StandsForRows self.now.state result.now }
+    {
+        self.state.retry()
+    }
+}

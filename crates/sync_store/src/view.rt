@@ -1,0 +1,51 @@
+//! What a session may ask of a store.
+use crate::store::Store;
+use std::alloc::{AllocError, Global};
+use sync_ids::{GroupId, MessageId};
+use sync_rules::{Level, Mode, View};
+
+impl View for Store {
+    ghost use Rattle.journal_state.specs.Whole.{shared_of};
+
+    ghost seen = { λ s. record { facts = s.state.facts; shared = shared_of s.state } };
+
+    fn level(&self, contact: u8, group: &GroupId) -> Level {
+        self.state.level(contact, group)
+    }
+
+    fn find(&self, id: &MessageId) -> Option<u32> {
+        self.state.find(id)
+    }
+
+    fn group_at(&self, n: u32) -> GroupId {
+        self.state.group_at(n)
+    }
+
+    fn is_wanted(&self, contact: u8, id: &MessageId) -> bool {
+        self.state.is_wanted(contact, id)
+    }
+
+    fn wanted_count(&self, contact: u8) -> u32 {
+        self.state.wanted_count(contact)
+    }
+
+    fn is_seen(&self, contact: u8, n: u32) -> bool {
+        self.state.is_seen(contact, n)
+    }
+
+    fn owed(&self, alloc: Global, contact: u8) -> Result<Vec<MessageId>, AllocError> {
+        self.state.owed(alloc, contact)
+    }
+
+    fn wanted(&self, alloc: Global, contact: u8) -> Result<Vec<MessageId>, AllocError> {
+        self.state.wanted(alloc, contact)
+    }
+
+    fn next_send(&self, contact: u8, mode: Mode, now: u64) -> Option<MessageId> {
+        self.state.next_send(contact, mode, now)
+    }
+
+    fn offers(&self, alloc: Global, contact: u8, now: u64) -> Result<Vec<MessageId>, AllocError> {
+        self.state.offers(alloc, contact, now)
+    }
+}
