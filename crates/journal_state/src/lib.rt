@@ -18,7 +18,6 @@ mod reserve;
 mod sessions;
 mod state;
 mod steps;
-mod stubs;
 mod taking;
 mod view;
 mod wanting;
