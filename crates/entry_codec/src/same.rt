@@ -1,5 +1,5 @@
 //! Whether two entries, or two outputs, are the same.
-ghost use Rattle.std.specs.Prelude.{◌≡◌, IfOk};
+ghost use Rattle.std.specs.Prelude.{◌≡◌, true, IfOk};
 ghost use Rattle.std.specs.Cmp.Lexicographic.{pointwise};
 ghost use Rattle.entry_codec.specs.Allows.{id_named, ids_named, is_acks, is_again, is_arrive, is_asked, is_deliver, is_invalid, is_judged, is_offered, is_offers, is_requests, is_seen, is_send, same_entry, same_message, same_out, same_pair};
 
@@ -99,6 +99,13 @@ fn is_invalid(id: &MessageId, entry: &Entry) -> bool
 
 /// Whether two entries are the same, of the kinds that settling and records make; never for another kind.
 pub fn same_entry(a: &Entry, b: &Entry) -> bool
+    ensures test { result ≡ same_entry a.now b.now }
+    ensures same { result ≡ true → a.now ≡ b.now }
+{
+    is_entry(a, b)
+}
+
+fn is_entry(a: &Entry, b: &Entry) -> bool
     ensures { result ≡ same_entry a.now b.now }
 {
     match a {

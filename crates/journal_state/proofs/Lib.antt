@@ -32,3 +32,5 @@ pub mod WantedIds
 pub mod MarkedMore
 pub mod MoreHeld
 pub mod Levelled
+pub mod Served
+pub mod Allowed

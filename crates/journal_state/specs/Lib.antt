@@ -16,3 +16,4 @@ pub mod Lent
 pub mod Stepping
 pub mod Changes
 pub mod Delivery
+pub mod Allowing

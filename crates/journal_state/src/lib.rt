@@ -1,13 +1,15 @@
 //! The state of a journal without a disk.
 #![tactic(auto)]
 
+mod allowing;
 mod counted;
 mod delivering;
 mod fates;
 mod held;
-mod judging;
 mod holding;
+mod judging;
 mod levelling;
+mod lookups;
 mod marks;
 mod recording;
 mod reserve;
@@ -15,6 +17,7 @@ mod sessions;
 mod state;
 mod steps;
 mod taking;
+mod verdicts;
 mod view;
 mod wanting;
 

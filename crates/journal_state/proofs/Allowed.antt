@@ -1,0 +1,96 @@
+-- Parts of the test whether a batch may follow a journal, as the state answers them.
+use Rattle.std.proofs.Common.{◌≡◌, ℕ, Bool, true, false, not, cond, ◌&&◌, List, [], ◌∷◌, map, refl, sym, ◌∙◌, ap, Option, Some, None, nat_eq, eqb-true, eq-eqb}
+use Rattle.std.specs.Prelude.{is_none, nat_lt, nat_le, length, ◌^◌}
+use Rattle.std.specs.Cmp.Lexicographic.{pointwise}
+use Rattle.std.proofs.lemmas.Bool.{and_from, lt-ltb, le-leb}
+use Rattle.sync_ids.specs.Values.{MessageValue, IsMessage}
+use Rattle.sync_ids.specs.Ids.{message_id_of}
+use Rattle.sync_ids.specs.declared.records.Record.TheVariants as record_kind
+use Rattle.sync_rules.specs.declared.answers.Judgement.{Judgement}
+use Rattle.sync_rules.specs.declared.entries.Entry.{Entry}
+use Rattle.sync_rules.specs.declared.entries.Entry.TheVariants as entry
+use Rattle.sync_rules.specs.declared.entries.Session.{Session}
+use Rattle.sync_rules.specs.Lists.{same_id}
+use Rattle.sync_rules.specs.Clients.{Meaning}
+use Rattle.sync_rules.specs.Facts.{Facts, Held, Id, contact_in, contact_of, held_at, is_invisible, level_at, session_at}
+use Rattle.sync_rules.specs.Steps.{answer_of}
+use Rattle.sync_rules.specs.Sessions.{due, due_by, ids_where, is_welcome, may_share, one_if, shared_ids, taken_message, taken_message_of}
+use Rattle.entry_codec.specs.Allows.{gives, is_empty, is_message, same_entry, same_message}
+use Rattle.journal_state.specs.Allowing.{is_new}
+use Rattle.journal_state.specs.Parts.{shared_among}
+use Rattle.journal_state.specs.Whole.{Knows, StateValue, shared_of}
+use Rattle.journal_state.proofs.Places.{id_itself}
+
+-- ---- what is due
+
+shared_along : (g : Held → Option Judgement) (hs : List Held) → shared_among hs (map g hs) ≡ ids_where (λ h. may_share (g h)) hs
+shared_along g [] = refl
+shared_along g (h ∷ hs) = ap (λ (ids : List Id). cond (may_share (g h)) (h.id ∷ ids) ids) (shared_along g hs)
+
+shared_is : (clients : Meaning) (v : StateValue) → Knows clients v → shared_of v ≡ shared_ids clients v.facts
+shared_is clients v k = ap (shared_among v.facts.held) k ∙ shared_along (answer_of clients v.facts) v.facts.held
+
+pub due_known : (clients : Meaning) (v : StateValue) (s : Session) (now : ℕ) → Knows clients v → due_by v.facts (shared_of v) s now ≡ due clients v.facts s now
+due_known clients v s now k = ap (λ (ids : List Id). due_by v.facts ids s now) (shared_is clients v k)
+
+-- ---- a session
+
+pub session_number : (ss : List Session) (n : ℕ) (s : Session) → session_at ss n ≡ Some s → s.number ≡ n
+session_number [] n s e = absurd (let none : None ≡ Some s = e in cc)
+session_number (x ∷ ss) n s e =
+    elim (nat_eq x.number n) as (λ b. nat_eq x.number n ≡ b → cond b (Some x) (session_at ss n) ≡ Some s → s.number ≡ n) [
+      | true ↦ λ t e. let same : x ≡ s = cc in ap (λ (y : Session). y.number) (sym same) ∙ eqb-true x.number n t
+      | false ↦ λ t e. session_number ss n s e
+    ] refl e
+
+-- ---- an arrival
+
+same_message_itself : (m : MessageValue) → same_message m m ≡ true
+same_message_itself m =
+    and_from (same_id m.group m.group) (nat_eq m.timestamp m.timestamp && same_id m.body m.body) (id_itself m.group)
+    (and_from (nat_eq m.timestamp m.timestamp) (same_id m.body m.body) (eq-eqb m.timestamp m.timestamp refl) (id_itself m.body))
+
+is_message-from : (m : MessageValue) → IsMessage m → is_message m ≡ true
+is_message-from m is =
+    and_from (nat_eq (length m.group) 32) (nat_lt m.timestamp (2 ^ 63) && (nat_le 1 (length m.body) && nat_le (length m.body) 32768)) (eq-eqb (length m.group) 32 is.whole_group)
+    (and_from (nat_lt m.timestamp (2 ^ 63)) (nat_le 1 (length m.body) && nat_le (length m.body) 32768) (lt-ltb m.timestamp (2 ^ 63) is.sound_timestamp)
+    (and_from (nat_le 1 (length m.body)) (nat_le (length m.body) 32768) (le-leb 1 (length m.body) is.some_body) (le-leb (length m.body) 32768 is.short_body)))
+
+nothing_left : (rest : List Entry) → pointwise same_entry rest [] ≡ is_empty rest
+nothing_left [] = refl
+nothing_left (e ∷ es) = refl
+
+regrouped : (a b c : Bool) → c ≡ true → ((a && c) && b) ≡ (a && (b && true))
+regrouped a b c e = ap (λ x. (a && x) && b) e ∙ by a b where
+  by : (a b : Bool) → ((a && true) && b) ≡ (a && (b && true))
+  by true true = refl
+  by true false = refl
+  by false b = refl
+
+never_new : (a b : Bool) → false ≡ (a && (b && false))
+never_new true true = refl
+never_new true false = refl
+never_new false b = refl
+
+-- a message arrives exactly where it is new, on its session and alone
+pub arrival_is : (f : Facts) (s : Session) (n : ℕ) (m : MessageValue) (rest : List Entry) → session_at f.sessions s.number ≡ Some s → IsMessage m
+    → gives f s.number (entry.Arrive n m ∷ rest) (record_kind.Message m) ≡ (nat_eq n s.number && (is_empty rest && is_new f s.contact m))
+arrival_is f s n m rest at is =
+    ap (λ b. b && pointwise same_entry (entry.Arrive n m ∷ rest) (taken_message f s.number (contact_of f.sessions s.number) m)) (is_message-from m is)
+    ∙ (ap (λ (o : Option Session). pointwise same_entry (entry.Arrive n m ∷ rest) (taken_message f s.number (contact_in o) m)) at
+    ∙ by_welcome (is_welcome f s.contact m.group))
+  where
+    by_held : (o : Option Held) → pointwise same_entry (entry.Arrive n m ∷ rest) (taken_message_of f s.number s.contact m o) ≡ (nat_eq n s.number && (is_empty rest && is_none o))
+    by_held None =
+        ap (λ b. (nat_eq n s.number && same_message m m) && b) (nothing_left rest) ∙ regrouped (nat_eq n s.number) (is_empty rest) (same_message m m) (same_message_itself m)
+    by_held (Some h) =
+        elim (not (is_invisible (level_at f.levels s.contact h.message.group))) as (λ b.
+        pointwise same_entry (entry.Arrive n m ∷ rest) (one_if b (entry.Again s.number (message_id_of m))) ≡ (nat_eq n s.number && (is_empty rest && false))) [
+          | true ↦ never_new (nat_eq n s.number) (is_empty rest)
+          | false ↦ never_new (nat_eq n s.number) (is_empty rest)
+        ]
+
+    by_welcome : (w : Bool) → pointwise same_entry (entry.Arrive n m ∷ rest) (cond w (taken_message_of f s.number s.contact m (held_at f.held (message_id_of m))) [])
+        ≡ (nat_eq n s.number && (is_empty rest && (w && is_none (held_at f.held (message_id_of m)))))
+    by_welcome true = by_held (held_at f.held (message_id_of m))
+    by_welcome false = never_new (nat_eq n s.number) (is_empty rest)
