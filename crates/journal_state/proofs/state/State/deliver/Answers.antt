@@ -89,8 +89,8 @@ invariant_of-self c =
       honest = c.self.invariant.honest;
     }
 
-pub invariant_of-self-1 : goal.invariant_of-self-1
-invariant_of-self-1 c =
+pub invariant_of-self-in_err-reserve : goal.invariant_of-self-in_err-reserve
+invariant_of-self-in_err-reserve c =
     record {
       state =
           subst (λ (ks : List ℕ). IsState (record (parts c.self.inside) { delivered = ks; retry = c.reserve_rows.new.retry })) (sym c.reserve.ensures.items)
