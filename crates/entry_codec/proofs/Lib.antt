@@ -3,6 +3,7 @@ mod Journals
 mod Latencies
 mod OfBatches
 mod Counts
+mod TakeCounts
 mod Entries
 mod LawProofs
 mod Bounds

@@ -3,7 +3,7 @@ use Rattle.std.specs.Prelude.{◌≡◌, ℕ, ◌+◌, ◌<◌, ◌≤◌, List,
 use Rattle.std.specs.List.{AllByRecursion}
 use Rattle.sync_rules.specs.declared.entries.Entry.{Entry}
 use Rattle.sync_rules.specs.Clients.{Meaning}
-use Rattle.sync_rules.specs.Facts.{Facts, after_all, facts}
+use Rattle.sync_rules.specs.Facts.{Facts, after_all, facts, takes_of}
 use Rattle.sync_rules.specs.Legal.{Allowed, Legal}
 use Rattle.outside.specs.Files.{Two, file_of}
 use Rattle.outside.specs.Frames.{HasFrames, end_of, format_in, journal_file, most_bytes}
@@ -28,6 +28,11 @@ AllowedHaveLatency = (clients : Meaning) (f : Facts) (batch : List Entry) → Al
 abbrev pub AllowedAddOne : Type 0
 AllowedAddOne = (clients : Meaning) (f : Facts) (batch : List Entry) → Allowed clients f batch
     → length (after_all f batch).held + length (after_all f batch).sessions ≤ length f.held + length f.sessions + 1
+
+-- and takes one record at most on a session
+abbrev pub AllowedTakeOne : Type 0
+AllowedTakeOne = (clients : Meaning) (f : Facts) (batch : List Entry) (session : ℕ) → Allowed clients f batch
+    → takes_of (after_all f batch).takes session ≤ takes_of f.takes session + 1
 
 -- The journal's file has the frames of this journal, which is legal and within the limits of its entries, and there is room
 -- for what settling may add to it.

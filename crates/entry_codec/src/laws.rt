@@ -1,6 +1,6 @@
 //! What holds of all spellings. Each function's clause is the law; none does anything.
 ghost use Rattle.entry_codec.specs.Laws.{AllowsIsAllowed, NoneBeginsAnother, PayloadsFitFrames, SpellingsAreShort, SpellingsReadBack};
-ghost use Rattle.entry_codec.specs.StandingLaws.{AllowedAddOne, AllowedHaveLatency, BatchesReadBack, JournalsStand, PayloadsSpellOnce, StandingIsLegal};
+ghost use Rattle.entry_codec.specs.StandingLaws.{AllowedAddOne, AllowedHaveLatency, AllowedTakeOne, BatchesReadBack, JournalsStand, PayloadsSpellOnce, StandingIsLegal};
 
 /// Whatever `read_entry` finds where an entry is spelled is that entry, whatever follows.
 pub fn spellings_read_back()
@@ -40,6 +40,11 @@ pub fn allowed_have_latency()
 /// A batch that may follow a journal adds one message or one session at most.
 pub fn allowed_add_one()
     ensures { AllowedAddOne }
+{}
+
+/// A batch that may follow a journal takes one record at most on a session.
+pub fn allowed_take_one()
+    ensures { AllowedTakeOne }
 {}
 
 /// Files with the frames of a legal journal, and room for what settling may add, stand for that journal.

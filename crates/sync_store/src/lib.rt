@@ -2,7 +2,9 @@
 #![tactic(auto)]
 
 mod fault;
+mod load;
 mod store;
+mod stubs;
 mod view;
 
 pub use fault::{InitFault, LoadFault, PostFault, StoreFault};

@@ -1,0 +1,2 @@
+mod LoadSteps
+mod LoadEnds

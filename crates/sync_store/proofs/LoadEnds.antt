@@ -1,0 +1,178 @@
+-- The begin and the end of a load.
+use Rattle.std.proofs.Common.{◌≡◌, ◌⊎◌, ℕ, zero, suc, ◌+◌, ◌-◌, ◌<◌, ◌≤◌, Bool, true, false, List, [], length, map, take, refl, sym, ap, subst, ◌∙◌, arith}
+use Rattle.std.specs.Prelude.{◌≢◌, Option, None, Some, Result, Ok, Err, is_some, slice_index}
+use Rattle.std.proofs.lemmas.Grind.{same_number_lists}
+use Rattle.sync_rules.specs.Clients.{Meaning}
+use Rattle.sync_rules.specs.Facts.{Facts, facts, nothing}
+use Rattle.sync_rules.specs.Steps.{answer_of}
+use Rattle.outside.specs.Files.{Two, File, IsFileImage, IsImage, file_of, read_files, settled}
+use Rattle.outside.specs.Frames.{format_in, HasFrames, most_bytes}
+use Rattle.outside.specs.Links.{Links, sent_of}
+use Rattle.outside.specs.Outside.{Outside, Moment, IsNow, DiskRun, Looks, MomentsAre}
+use Rattle.outside.specs.Disk.{Becomes}
+use Rattle.outside.specs.Steps.{becomes_told, moments_map, moments_then, looks_then, run_then}
+use Rattle.outside.specs.declared.disk.Place.{Place}
+use Rattle.frame_journal.specs.Gates.{AnyImage, Settles}
+use Rattle.frame_journal.specs.Journal.{JournalValue}
+use Rattle.frame_journal.specs.Header.{Starts}
+use Rattle.frame_journal.specs.declared.fault.StartFault.{StartFault}
+use Rattle.frame_journal.specs.declared.fault.StartFault.TheVariants as start
+use Rattle.entry_codec.specs.Laws.{payload}
+use Rattle.entry_codec.specs.Standing.{damaged, journal, no_store, room_of, stands}
+use Rattle.entry_codec.specs.Fronts.{Front, front_closed, front_format, front_frames, front_none, front_start}
+use Rattle.journal_state.specs.Whole.{Knows, StateValue}
+use Rattle.sync_store.specs.Store.{StoreValue}
+use Rattle.sync_store.specs.Fitting.{Fits, FitsSome}
+use Rattle.sync_store.specs.declared.fault.LoadFault.{LoadFault}
+use Rattle.sync_store.specs.declared.fault.LoadFault.TheVariants as load
+use Rattle.sync_store.specs.Loading.{AreDamaged, HasRead, HasReadAll, IsAtEnd, IsLoaded, LeavesSettled, ReadsAll, SoFar, StandsFor}
+use Rattle.sync_store.proofs.LoadSteps.{as_read}
+
+-- ---- the barrier
+
+settled_only : (bytes c : List ℕ) → IsFileImage (settled bytes) c → c ≡ bytes
+settled_only bytes c image = same_number_lists c bytes (omega (arith, image.no_shorter, image.no_longer)) (λ k below. image.kept k (omega (arith, image.no_longer)) refl)
+
+-- an image of the settled files is the files as they read, and that is an image of the files
+settled_back : (old new : Two File) (c : Two (List ℕ)) → IsImage old (read_files old) → Settles old new → IsImage new c → IsImage old c
+settled_back old new c reads settles image =
+    let here = subst (λ (t : Two File). IsImage t c) settles image in
+    record {
+      first = subst (λ (b : List ℕ). IsFileImage old.first b) (sym (settled_only old.first.now c.first here.first)) reads.first;
+      second = subst (λ (b : List ℕ). IsFileImage old.second b) (sym (settled_only old.second.now c.second here.second)) reads.second;
+    }
+
+-- calls that only read after a barrier
+pub images_then : (o0 o1 o2 : Outside) → AnyImage o0 o1 → Becomes Settles o0.files o1.files → DiskRun o0 o1 → Looks o1 o2 → AnyImage o0 o2
+images_then o0 o1 o2 images settles run looks two told =
+    let mid = becomes_told Settles o0.files o1.files two told settles in
+    let weaker : (m : Moment) → IsNow mid.0 o1.links m → IsNow two o0.links m =
+    λ m now. record { image = settled_back two mid.0 m.files (o0.reads two told) mid.2 now.image; sent = now.sent ∙ ap (λ (l : Links). sent_of l.told) run.same_links } in
+    moments_then o0 o1 o2 (IsNow two o0.links) (images two told) (moments_map o1 o2 (IsNow mid.0 o1.links) (IsNow two o0.links) weaker (looks.moments mid.0 mid.1))
+
+pub settles_then : (o0 o1 o2 : Outside) → Becomes Settles o0.files o1.files → Looks o1 o2 → Becomes Settles o0.files o2.files
+settles_then o0 o1 o2 settles looks = subst (λ (f : Option (Two File)). Becomes Settles o0.files f) (sym looks.same_files) settles
+
+-- the files read as before
+reads_same : (old new : Two File) → Settles old new → read_files new ≡ read_files old
+reads_same old new settles = ap (λ (t : Two File). read_files t) settles
+
+-- where the files are told before a barrier they are after it, and read as before
+pub barrier_told : (o0 o1 : Outside) (two : Two File) → Becomes Settles o0.files o1.files → o0.files ≡ Some two → (mid : Two File) × (o1.files ≡ Some mid) × (read_files mid ≡ read_files two)
+barrier_told o0 o1 two settles told =
+    let mid = becomes_told Settles o0.files o1.files two told settles in
+    (mid.0, mid.1, reads_same two mid.0 mid.2)
+
+-- ---- the header
+
+-- the first gate
+pub starts_so_far : (clients : Meaning) (files : Option (Two File)) (j : JournalValue) (s : StateValue) → ((two : Two File) → files ≡ Some two → Starts (read_files two) (Ok j)) → (j.end ≡ 15)
+    → s.facts ≡ nothing → Knows clients s → SoFar clients files j s
+starts_so_far clients files j s starts fresh empty knows = record {
+  knows = knows;
+  few = omega (arith, ap (λ (f : Facts). length f.held) empty, ap (λ (f : Facts). length f.sessions) empty, fresh);
+  started = omega (arith, fresh);
+  bounded = omega (arith, fresh);
+  begun = λ early. empty;
+  known = λ two told.
+      let is = starts two told in
+      let At : ℕ → Type 0 = λ n. Front clients (read_files two) j.file [] n in
+      record {
+        long = ap length (sym (as_read two j.file)) ∙ sym (ap (λ (v : JournalValue). v.len) is.2);
+        done = [];
+        front = subst At (sym fresh) (front_start clients (read_files two) j.file is.0 is.1);
+        facts_are = sym empty;
+      };
+}
+
+pub starts_none : (clients : Meaning) (o0 o1 o2 : Outside) (two : Two File) → Becomes Settles o0.files o1.files → Looks o1 o2 → ((mid : Two File) → o1.files ≡ Some mid → Starts (read_files mid) (Err start.NoStore))
+    → o0.files ≡ Some two → stands clients (read_files two) ≡ no_store
+starts_none clients o0 o1 o2 two settles looks starts told =
+    let mid = barrier_told o0 o1 two settles told in
+    ap (stands clients) (sym mid.2) ∙ front_none clients (read_files mid.0) (starts mid.0 mid.1)
+
+pub starts_damaged : (clients : Meaning) (o0 o1 : Outside) (two : Two File) (place : Place) → Becomes Settles o0.files o1.files → ((mid : Two File) → o1.files ≡ Some mid → Starts (read_files mid) (Err (start.Damaged place)))
+    → o0.files ≡ Some two → stands clients (read_files two) ≡ damaged place.file place.at
+starts_damaged clients o0 o1 two place settles starts told =
+    let mid = barrier_told o0 o1 two settles told in
+    let is = starts mid.0 mid.1 in
+    ap (stands clients) (sym mid.2) ∙ front_format clients (read_files mid.0) place.file is.0 is.1 ∙ ap (λ (n : ℕ). damaged place.file n) (sym is.2)
+
+-- ---- the end
+
+-- the journal was read
+pub loaded : (clients : Meaning) (two : Two File) (files : Option (Two File)) (j : JournalValue) (s : StoreValue) → HasReadAll clients files j s.state → files ≡ Some two → StandsFor clients (read_files two) s
+loaded clients two files j s all told =
+    let read = all.so_far.known two told in
+    let room : j.end + room_of (facts read.done) ≤ most_bytes = subst (λ (f : Facts). j.end + room_of f ≤ most_bytes) (sym read.facts_are) all.roomy in
+    record { done = read.done; stands_for = front_closed clients (read_files two) j.file read.done j.end read.front (all.at_end two told) room; facts_are = read.facts_are }
+
+-- what the journal's reading answers, in words of the files before the barrier
+pub answers : (clients : Meaning) (o0 o1 o2 : Outside) (two : Two File) (j : JournalValue) (s : StoreValue) → Becomes Settles o0.files o1.files → o2.files ≡ o1.files → HasReadAll clients o2.files j s.state → o0.files ≡ Some two → IsLoaded clients (read_files two) (Ok s)
+answers clients o0 o1 o2 two j s settles same all told =
+    let mid = barrier_told o0 o1 two settles told in
+    subst (λ (f : Two (List ℕ)). StandsFor clients f s) mid.2 (loaded clients mid.0 o2.files j s all (same ∙ mid.1))
+
+pub answers_damaged : (clients : Meaning) (o0 o1 o2 : Outside) (two : Two File) (place : Place) → Becomes Settles o0.files o1.files → o2.files ≡ o1.files → AreDamaged clients o2.files place → o0.files ≡ Some two
+    → stands clients (read_files two) ≡ damaged place.file place.at
+answers_damaged clients o0 o1 o2 two place settles same there told =
+    let mid = barrier_told o0 o1 two settles told in
+    ap (stands clients) (sym mid.2) ∙ there mid.0 (same ∙ mid.1)
+
+settled_first : (old new : Two File) → Settles old new → new.first ≡ settled new.first.now
+settled_first old new settles = ap (λ (t : Two File). t.first) settles ∙ ap settled (sym (ap (λ (t : Two File). t.first.now) settles))
+
+settled_second : (old new : Two File) → Settles old new → new.second ≡ settled new.second.now
+settled_second old new settles = ap (λ (t : Two File). t.second) settles ∙ ap settled (sym (ap (λ (t : Two File). t.second.now) settles))
+
+-- where files are told after a step they were before it
+becomes_back : {A : Type 0} (step : A → A → Type 0) (old new : Option A) (b : A) → new ≡ Some b → Becomes step old new → (a : A) × (old ≡ Some a) × step a b
+becomes_back step None None b told becomes = cc
+becomes_back step None (Some y) b told becomes = absurd becomes
+becomes_back step (Some x) None b told becomes = absurd becomes
+becomes_back step (Some x) (Some y) b told becomes = let same : y ≡ b = cc in (x, refl, subst (λ z. step x z) same becomes)
+
+abbrev pub store_of : JournalValue → StateValue → ℕ → StoreValue
+store_of j s limit = record { state = s; file = j.file; end = j.end; limit = limit; closed = false }
+
+-- the disk fits the store
+pub fits_loaded : (clients : Meaning) (o0 o1 o2 : Outside) (j : JournalValue) (s : StateValue) (limit : ℕ) → Becomes Settles o0.files o1.files → o2.files ≡ o1.files → HasReadAll clients o2.files j s
+    → FitsSome clients (store_of j s limit) o2.files
+unfolding loaded
+fits_loaded clients o0 o1 o2 j s limit settles same all is_open two told =
+    let old = becomes_back Settles o0.files o1.files two (sym same ∙ told) settles in
+    let read = all.so_far.known two told in
+    let stand = loaded clients two o2.files j (store_of j s limit) all told in
+    let At : List ℕ → Type 0 = λ b. HasFrames b (take 14 (file_of (read_files two) j.file)) (map payload read.done) in
+    (read.done, record {
+      first_settled = settled_first old.0 two old.2;
+      second_settled = settled_second old.0 two old.2;
+      stands_for = stand.stands_for;
+      facts_are = read.facts_are;
+      legal = read.front.legal;
+      file_is = read.front.found;
+      format_is = ap format_in (sym (as_read two j.file)) ∙ read.front.format_is;
+      header = take 14 (file_of (read_files two) j.file);
+      frames = subst At (as_read two j.file) (front_frames clients (read_files two) j.file read.done j.end read.front (all.at_end two told));
+      end_is = read.front.end_is;
+      within = read.front.within;
+    })
+
+-- ---- faults
+
+pub answers_fault : (clients : Meaning) (o0 o1 o2 : Outside) (two : Two File) (j : JournalValue) (s : StateValue) (e : LoadFault) → Becomes Settles o0.files o1.files → o2.files ≡ o1.files → ReadsAll clients o2.files j s (Err e) → o0.files ≡ Some two
+    → IsLoaded clients (read_files two) (Err e)
+answers_fault clients o0 o1 o2 two j s load.NoStore settles same there told = absurd there
+answers_fault clients o0 o1 o2 two j s (load.Damaged place) settles same there told = answers_damaged clients o0 o1 o2 two place settles same there told
+answers_fault clients o0 o1 o2 two j s load.DiskFault settles same there told = tt
+answers_fault clients o0 o1 o2 two j s load.Memory settles same there told = tt
+
+pub none_is : (files : Two (List ℕ)) (e : StartFault) → e ≡ start.NoStore → Starts files (Err e) → Starts files (Err start.NoStore)
+none_is files e is there = let P : StartFault → Type 0 = λ x. Starts files (Err x) in subst P is there
+
+pub damaged_is : (files : Two (List ℕ)) (e : StartFault) (place : Place) → e ≡ start.Damaged place → Starts files (Err e) → Starts files (Err (start.Damaged place))
+damaged_is files e place is there = let P : StartFault → Type 0 = λ x. Starts files (Err x) in subst P is there
+
+-- the state of no entries knows every client's judgements
+pub knows_none : (clients : Meaning) (s : StateValue) → s.facts ≡ nothing → s.answers ≡ [] → Knows clients s
+knows_none clients s empty none = none ∙ ap (λ (f : Facts). map (answer_of clients f) f.held) (sym empty)

@@ -1,0 +1,14 @@
+use Rattle.std.proofs.Common.{◌-◌}
+use Rattle.outside.specs.Outside.{Looks}
+use Rattle.sync_store.specs.Loading.{SoFar}
+use Rattle.sync_store.proofs.load.read_all.Given as goal
+
+-- the batches so far are played, and the disk was only read
+abbrev pub invariant-frames : goal.invariant-frames
+invariant-frames g l = record {
+  so_far : SoFar (g.C.Clients.meaning l.clients) (g.D.Disk.tells l.disk).files l.journal l.state;
+  looks : Looks (g.D.Disk.tells l.fn.disk) (g.D.Disk.tells l.disk);
+}
+
+abbrev pub decreases-frames : goal.decreases-frames
+decreases-frames g l = 268435457 - l.journal.end

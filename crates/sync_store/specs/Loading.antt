@@ -1,0 +1,131 @@
+-- What a load answers, and how far it has come.
+use Rattle.std.specs.Prelude.{◌≡◌, ◌⊎◌, ℕ, ◌+◌, ◌-◌, ◌<◌, ◌≤◌, Bool, true, false, List, length, Option, None, Some, Result, Ok, Err}
+use Rattle.std.specs.List.{AllByRecursion}
+use Rattle.outside.specs.Files.{Two, File, file_of, read_files}
+use Rattle.outside.specs.Frames.{closed, frame_at, most_bytes}
+use Rattle.outside.specs.Disk.{Becomes}
+use Rattle.outside.specs.declared.disk.Place.{Place}
+use Rattle.frame_journal.specs.Gates.{Settles}
+use Rattle.frame_journal.specs.Journal.{JournalValue}
+use Rattle.sync_rules.specs.declared.entries.Entry.{Entry}
+use Rattle.sync_rules.specs.Clients.{Meaning}
+use Rattle.sync_rules.specs.Facts.{after_all, facts, nothing}
+use Rattle.entry_codec.specs.Spelling.{IsEntry}
+use Rattle.entry_codec.specs.Laws.{payload}
+use Rattle.entry_codec.specs.Allows.{allows}
+use Rattle.entry_codec.specs.Standing.{batch_of, damaged, journal, no_store, room_of, stands}
+use Rattle.entry_codec.specs.Fronts.{Front}
+use Rattle.journal_state.specs.Whole.{Knows, StateValue}
+use Rattle.sync_store.specs.Store.{StoreValue}
+use Rattle.sync_store.specs.declared.fault.LoadFault.{LoadFault}
+use Rattle.sync_store.specs.declared.fault.LoadFault.TheVariants as load
+
+-- ---- what a load answers
+
+-- the files stand for a journal with these facts
+pub record StandsFor (clients : Meaning) (files : Two (List ℕ)) (s : StoreValue) : Type 0 where
+  pub done : List (List Entry)
+  pub stands_for : stands clients files ≡ journal done
+  pub facts_are : facts done ≡ s.state.facts
+
+-- the answer is what the files stand for
+abbrev pub IsLoaded : Meaning → Two (List ℕ) → Result StoreValue LoadFault → Type 0
+IsLoaded clients files (Ok s) = StandsFor clients files s
+IsLoaded clients files (Err load.NoStore) = stands clients files ≡ no_store
+IsLoaded clients files (Err (load.Damaged place)) = stands clients files ≡ damaged place.file place.at
+IsLoaded clients files (Err load.DiskFault) = Unit {0}
+IsLoaded clients files (Err load.Memory) = Unit {0}
+
+-- But for a fault of the disk the files read as before, with nothing pending in them.
+abbrev pub LeavesSettled : Option (Two File) → Option (Two File) → Result StoreValue LoadFault → Type 0
+LeavesSettled old new (Ok s) = Becomes Settles old new
+LeavesSettled old new (Err load.NoStore) = Becomes Settles old new
+LeavesSettled old new (Err (load.Damaged place)) = Becomes Settles old new
+LeavesSettled old new (Err load.DiskFault) = Unit {0}
+LeavesSettled old new (Err load.Memory) = Becomes Settles old new
+
+-- ---- how far a reader has come
+
+-- the batches that were read of these files
+pub record HasRead (clients : Meaning) (two : Two File) (j : JournalValue) (s : StateValue) : Type 0 where
+  pub long : length (file_of two j.file).now ≡ j.len
+  pub done : List (List Entry)
+  pub front : Front clients (read_files two) j.file done j.end
+  pub facts_are : facts done ≡ s.facts
+
+-- A reader of a journal's file has played the batches up to its gate: the state is that of these batches.
+pub record SoFar (clients : Meaning) (files : Option (Two File)) (j : JournalValue) (s : StateValue) : Type 0 where
+  pub knows : Knows clients s
+  pub few : length s.facts.held + length s.facts.sessions ≤ j.end
+  pub started : 15 ≤ j.end
+  pub bounded : j.end ≤ most_bytes
+  -- the place of the last frame is that of a frame, once there was one
+  pub begun : j.last < 14 → s.facts ≡ nothing
+  pub known : (two : Two File) → files ≡ Some two → HasRead clients two j s
+
+-- no gate that is open follows
+abbrev pub IsAtEnd : Option (Two File) → JournalValue → Type 0
+IsAtEnd files j = (two : Two File) → files ≡ Some two → frame_at (file_of (read_files two) j.file) (j.end - 1) ≡ closed
+
+-- the files are damaged there
+abbrev pub AreDamaged : Meaning → Option (Two File) → Place → Type 0
+AreDamaged clients files place = (two : Two File) → files ≡ Some two → stands clients (read_files two) ≡ damaged place.file place.at
+
+-- ---- a batch that is played
+
+-- a payload was played: its batch is allowed, and the state is that behind it
+pub record HasPlayed (clients : Meaning) (s s' : StateValue) (to : List ℕ) : Type 0 where
+  pub batch : List Entry
+  pub read : batch_of to ≡ Some batch
+  pub spelled : to ≡ payload batch
+  pub within : AllByRecursion IsEntry batch
+  pub allowed : allows clients s.facts batch ≡ true
+  pub facts_are : s'.facts ≡ after_all s.facts batch
+  pub knows : Knows clients s'
+
+-- a payload is none of a batch that is allowed
+abbrev pub IsRefused : Meaning → StateValue → List ℕ → Type 0
+IsRefused clients s to = (batch_of to ≡ None) ⊎ ((batch : List Entry) × (batch_of to ≡ Some batch) × (allows clients s.facts batch ≡ false))
+
+-- what playing the last frame that was read answers
+abbrev pub Plays : Meaning → JournalValue → StateValue → StateValue → List ℕ → Result Bool LoadFault → Type 0
+Plays clients j s s' to (Ok true) = (j.end ≤ most_bytes) × HasPlayed clients s s' to
+Plays clients j s s' to (Ok false) = ⊥
+Plays clients j s s' to (Err load.NoStore) = ⊥
+Plays clients j s s' to (Err (load.Damaged place)) =
+    (place.file ≡ j.file) × (place.at ≡ j.last) × ((most_bytes < j.end) ⊎ IsRefused clients s to)
+Plays clients j s s' to (Err load.DiskFault) = ⊥
+Plays clients j s s' to (Err load.Memory) = Unit {0}
+
+-- ---- a turn of the reader
+
+-- what reading and playing the next frame answers
+abbrev pub Turns : Meaning → Option (Two File) → JournalValue → JournalValue → StateValue → Result Bool LoadFault → Type 0
+Turns clients files j j' s' (Ok true) = SoFar clients files j' s' × (j.end < j'.end) × (j'.file ≡ j.file)
+Turns clients files j j' s' (Ok false) = SoFar clients files j' s' × IsAtEnd files j' × (j'.file ≡ j.file)
+Turns clients files j j' s' (Err load.NoStore) = ⊥
+Turns clients files j j' s' (Err (load.Damaged place)) = AreDamaged clients files place
+Turns clients files j j' s' (Err load.DiskFault) = Unit {0}
+Turns clients files j j' s' (Err load.Memory) = Unit {0}
+
+-- whether the room of the journal is left
+abbrev pub HasItsRoom : JournalValue → StateValue → Result (Unit {0}) LoadFault → Type 0
+HasItsRoom j s (Ok u) = j.end + room_of s.facts ≤ most_bytes
+HasItsRoom j s (Err load.NoStore) = ⊥
+HasItsRoom j s (Err (load.Damaged place)) = (place.file ≡ j.file) × (place.at ≡ j.end - 1) × (most_bytes < j.end + room_of s.facts)
+HasItsRoom j s (Err load.DiskFault) = ⊥
+HasItsRoom j s (Err load.Memory) = Unit {0}
+
+-- the whole journal was read and played, and its room is left
+pub record HasReadAll (clients : Meaning) (files : Option (Two File)) (j : JournalValue) (s : StateValue) : Type 0 where
+  pub so_far : SoFar clients files j s
+  pub at_end : IsAtEnd files j
+  pub roomy : j.end + room_of s.facts ≤ most_bytes
+
+-- what reading the whole journal answers
+abbrev pub ReadsAll : Meaning → Option (Two File) → JournalValue → StateValue → Result (Unit {0}) LoadFault → Type 0
+ReadsAll clients files j s (Ok u) = HasReadAll clients files j s
+ReadsAll clients files j s (Err load.NoStore) = ⊥
+ReadsAll clients files j s (Err (load.Damaged place)) = AreDamaged clients files place
+ReadsAll clients files j s (Err load.DiskFault) = Unit {0}
+ReadsAll clients files j s (Err load.Memory) = Unit {0}

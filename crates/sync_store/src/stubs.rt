@@ -1,0 +1,30 @@
+//! STUBS for what the state of a journal does: `State::admit` and `State::room`.
+ghost use Rattle.std.specs.Prelude.{◌≡◌, ◌<◌, true, length, IfOk};
+ghost use Rattle.sync_rules.specs.Facts.{after_all};
+ghost use Rattle.entry_codec.specs.Allows.{allows};
+ghost use Rattle.entry_codec.specs.Standing.{room_of};
+ghost use Rattle.journal_state.specs.Whole.{Knows};
+
+use journal_state::State;
+use std::alloc::{AllocError, Global};
+use sync_rules::{Batch, Clients};
+
+pub(crate) fn admit<C: Clients>(state: &mut State, alloc: Global, clients: &C, batch: Batch) -> Result<bool, AllocError>
+    requires knows { Knows (C.meaning clients.now) state.old }
+    requires few_held { length state.old.facts.held < 4294967295 }
+    requires few_sessions { length state.old.facts.sessions < 4294967295 }
+    ensures answer { IfOk result (λ yes. yes ≡ allows (C.meaning clients.now) state.old.facts batch) }
+    ensures taken { IfOk result (λ yes. yes ≡ true → state.new.facts ≡ after_all state.old.facts batch) }
+    ensures knows { Knows (C.meaning clients.now) state.new }
+{
+    let _ = alloc;
+    let _ = clients;
+    Err(AllocError)
+}
+
+pub(crate) fn room(state: &State) -> Result<u64, AllocError>
+    ensures { IfOk result (λ room. room ≡ room_of state.now.facts) }
+{
+    let _ = state;
+    Err(AllocError)
+}
