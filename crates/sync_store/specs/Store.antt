@@ -2,6 +2,7 @@
 use Rattle.std.specs.Prelude.{◌≡◌, ℕ, ◌+◌, ◌≤◌, Bool, length, refl}
 use Rattle.std.specs.Coded.{Coded, code_by, coded×, coded_bool, coded_ℕ}
 use Rattle.outside.specs.Frames.{most_bytes}
+use Rattle.sync_rules.specs.Facts.{takes_of}
 use Rattle.entry_codec.specs.Standing.{room_of}
 use Rattle.journal_state.specs.Whole.{StateValue, state_code}
 
@@ -20,8 +21,9 @@ store_code =
     (λ s. (s.state, (s.file, (s.end, (s.limit, s.closed)))))
     (λ p. record { state = p.0; file = p.1.0; end = p.1.1.0; limit = p.1.1.1.0; closed = p.1.1.1.1 }) (λ _. refl)
 
--- the numbers of a store: settling finds its room, and each held message and session has its bytes in the file
+-- the numbers of a store: settling finds its room; each held message, session and record taken has its bytes in the file
 pub record IsStore (s : StoreValue) : Type 0 where
   pub limited : s.limit ≤ most_bytes
   pub roomy : s.end + room_of s.state.facts ≤ most_bytes
   pub few : length s.state.facts.held + length s.state.facts.sessions ≤ s.end
+  pub records : (session : ℕ) → takes_of s.state.facts.takes session ≤ s.end

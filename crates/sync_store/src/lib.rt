@@ -1,8 +1,13 @@
 //! A legal journal on a disk: at every moment the two files stand for a legal journal, and the store has its facts.
 #![tactic(auto)]
 
+mod begin;
+mod committing;
 mod fault;
+mod frames;
 mod load;
+mod refusals;
+mod settling;
 mod store;
 mod stubs;
 mod view;

@@ -1,7 +1,9 @@
 //! STUBS for what the state of a journal does: `State::admit` and `State::room`.
-ghost use Rattle.std.specs.Prelude.{◌≡◌, ◌<◌, true, length, IfOk};
+ghost use Rattle.std.specs.Prelude.{◌≡◌, ◌<◌, false, true, length, IfOk};
+ghost use Rattle.sync_rules.specs.Clients.{Meaning};
+ghost use Rattle.sync_rules.specs.Legal.{Allowed};
 ghost use Rattle.sync_rules.specs.Facts.{after_all};
-ghost use Rattle.entry_codec.specs.Allows.{allows};
+ghost use Rattle.entry_codec.specs.Allows.{allows, is_settling_kind};
 ghost use Rattle.entry_codec.specs.Standing.{room_of};
 ghost use Rattle.journal_state.specs.Whole.{Knows};
 
@@ -27,4 +29,12 @@ pub(crate) fn room(state: &State) -> Result<u64, AllocError>
 {
     let _ = state;
     Err(AllocError)
+}
+
+pub(crate) fn room_with(state: &State, batch: &Batch) -> u64
+    requires allowed { (clients : Meaning) × Allowed clients state.now.facts batch.now }
+    requires kind { is_settling_kind batch.now ≡ false }
+    ensures { result ≡ room_of (after_all state.now.facts batch.now) }
+{
+    0
 }
