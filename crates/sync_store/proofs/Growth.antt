@@ -1,5 +1,5 @@
 -- A store that gains a batch.
-use Rattle.std.proofs.Common.{◌≡◌, ℕ, ◌+◌, ◌*◌, ◌≤◌, ◌<◌, Bool, true, false, eqb, nat_lt, List, [], ◌∷◌, ◌++◌, length, Option, Some, Result, Ok, Err, IsErrAnd, refl, sym, ap, ◌∙◌, subst, inl, inr, arith}
+use Rattle.std.proofs.Common.{◌≡◌, ℕ, ◌+◌, ◌*◌, ◌≤◌, ◌<◌, Bool, true, false, eqb, nat_lt, List, [], ◌∷◌, ◌++◌, length, Option, Some, Result, Ok, Err, IsErr, refl, sym, ap, ◌∙◌, subst, inl, inr, arith}
 use Rattle.std.specs.List.{AllByRecursion}
 use Rattle.std.proofs.lemmas.Bool.Decides.{nat_tests}
 use Rattle.outside.specs.Files.{Two, File, file_of}
@@ -226,8 +226,8 @@ proceeds_then clients s0 s1 s2 first second =
       limit = second.limit ∙ first.limit;
     }
 
-pub added_none : {P : StoreFault → Type 0} (batch : List Entry) (result : Result (Unit {0}) StoreFault) → IsErrAnd result P → [] ≡ added batch result
-added_none batch (Ok u) err = absurd err
+pub added_none : (batch : List Entry) (result : Result (Unit {0}) StoreFault) → IsErr result → [] ≡ added batch result
+added_none batch (Ok u) err = cc
 added_none batch (Err e) err = refl
 
 pub some_by : (none : Bool) (n m : ℕ) → none ≡ eqb n 0 → none ≡ false → m ≡ n → 1 ≤ m

@@ -44,6 +44,8 @@ impl Model for Store {
 }
 
 impl Store {
+    ghost use Rattle.sync_store.specs.Store.{IsStore};
+
     /// The number of held messages.
     pub fn held(&self) -> u32
         ensures { result ≡ length self.now.state.facts.held }

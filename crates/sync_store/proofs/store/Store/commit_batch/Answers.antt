@@ -25,7 +25,7 @@ returns-in_err-framed-clause-extends g c still two told j fits =
     let clients = g.C.Clients.meaning c.args.clients.now in
     let s = c.args.self.now in
     extends_none clients (AtMost c.args.batch) (λ more. more ≡ added c.args.batch c.from_residual.result) s s j two (g.D.Disk.tells c.args.disk.now) fits (subst IsStore c.self.view_is c.self.invariant).roomy told
-    (record { facts = refl; file = refl; end = refl }) (inl refl) (added_none c.args.batch c.from_residual.result c.from_residual.ensures.1)
+    (record { facts = refl; file = refl; end = refl }) (inl refl) (added_none c.args.batch c.from_residual.result c.from_residual.ensures.0)
 
 pub returns-in_err-reserve-clause-extends : goal.returns-in_err-reserve-clause-extends
 returns-in_err-reserve-clause-extends g c still two told j fits =
@@ -33,7 +33,7 @@ returns-in_err-reserve-clause-extends g c still two told j fits =
     let s = c.args.self.now in
     extends_none clients (AtMost c.args.batch) (λ more. more ≡ added c.args.batch c.from_residual-in_err-reserve.result) s _ j two (g.D.Disk.tells c.args.disk.now) fits (subst IsStore c.self.view_is c.self.invariant).roomy told
     (record { facts = c.reserve.ensures.facts ∙ ap (λ (v : StoreValue). v.state.facts) c.self.view_is; file = ap (λ (v : StoreValue). v.file) c.self.view_is; end = ap (λ (v : StoreValue). v.end) c.self.view_is }) (inl refl)
-    (added_none c.args.batch c.from_residual-in_err-reserve.result c.from_residual-in_err-reserve.ensures.1)
+    (added_none c.args.batch c.from_residual-in_err-reserve.result c.from_residual-in_err-reserve.ensures.0)
 
 pub add-requires-clause-may : goal.add-requires-clause-may
 add-requires-clause-may g c =
