@@ -3,7 +3,9 @@ use Rattle.std.proofs.Common.{◌≡◌, ◌⊎◌, ℕ, zero, suc, ◌+◌, ◌
 use Rattle.std.specs.Prelude.{◌≢◌, Option, None, Some, Result, Ok, Err, is_some, slice_index}
 use Rattle.std.proofs.lemmas.Grind.{same_number_lists}
 use Rattle.sync_rules.specs.Clients.{Meaning}
-use Rattle.sync_rules.specs.Facts.{Facts, facts, nothing}
+use Rattle.std.specs.FinMap as fin_map
+use Rattle.std.specs.Ordering.{nat_cmp}
+use Rattle.sync_rules.specs.Facts.{Facts, count_or, facts, nothing, takes_of}
 use Rattle.sync_rules.specs.Steps.{answer_of}
 use Rattle.outside.specs.Files.{Two, File, IsFileImage, IsImage, file_of, read_files, settled}
 use Rattle.outside.specs.Frames.{format_in, HasFrames, most_bytes}
@@ -65,12 +67,18 @@ barrier_told o0 o1 two settles told =
 
 -- ---- the header
 
+no_records : (f : Facts) (session end : ℕ) → f ≡ nothing → takes_of f.takes session ≤ end
+no_records f session end empty =
+    let none : takes_of f.takes session ≡ 0 = ap (λ (g : Facts). takes_of g.takes session) empty ∙ ap count_or (fin_map.get-empty nat_cmp session) in
+    omega (arith, none)
+
 -- the first gate
 pub starts_so_far : (clients : Meaning) (files : Option (Two File)) (j : JournalValue) (s : StateValue) → ((two : Two File) → files ≡ Some two → Starts (read_files two) (Ok j)) → (j.end ≡ 15)
     → s.facts ≡ nothing → Knows clients s → SoFar clients files j s
 starts_so_far clients files j s starts fresh empty knows = record {
   knows = knows;
   few = omega (arith, ap (λ (f : Facts). length f.held) empty, ap (λ (f : Facts). length f.sessions) empty, fresh);
+  records = λ session. no_records s.facts session j.end empty;
   started = omega (arith, fresh);
   bounded = omega (arith, fresh);
   begun = λ early. empty;

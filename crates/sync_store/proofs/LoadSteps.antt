@@ -4,7 +4,7 @@ use Rattle.std.specs.Prelude.{Option, None, Some, Result, Ok, Err}
 use Rattle.std.proofs.lemmas.Bool.{cases_lt}
 use Rattle.sync_rules.specs.declared.entries.Entry.{Entry}
 use Rattle.sync_rules.specs.Clients.{Meaning}
-use Rattle.sync_rules.specs.Facts.{Facts, after_all, facts, nothing}
+use Rattle.sync_rules.specs.Facts.{Facts, after_all, facts, nothing, takes_of}
 use Rattle.sync_rules.specs.Legal.{Allowed}
 use Rattle.outside.specs.Files.{Two, File, file_of, read_files}
 use Rattle.outside.specs.Frames.{broken, closed, frame_at, framed, most_bytes}
@@ -14,7 +14,7 @@ use Rattle.frame_journal.specs.Next.{IsNext, Moves, NextFrame}
 use Rattle.frame_journal.specs.declared.fault.FrameFault.{FrameFault}
 use Rattle.frame_journal.specs.declared.fault.FrameFault.TheVariants as frame
 use Rattle.entry_codec.specs.Laws.{AllowsIsAllowed, payload}
-use Rattle.entry_codec.specs.StandingLaws.{AllowedAddOne}
+use Rattle.entry_codec.specs.StandingLaws.{AllowedAddOne, AllowedTakeOne}
 use Rattle.entry_codec.specs.Allows.{allows}
 use Rattle.entry_codec.specs.Standing.{Standing, batch_of, damaged, room_of, stands}
 use Rattle.entry_codec.specs.Fronts.{Front, FitsFile, facts_push, framed_fits, front_broken, front_full, front_more, front_refused, front_unread}
@@ -56,10 +56,16 @@ has_more clients decided two j j' s s' to read next played =
       facts_are = facts_push read.done played.batch ∙ ap (λ (f : Facts). after_all f played.batch) same ∙ sym played.facts_are;
     }
 
-pub turn_more : (clients : Meaning) → AllowsIsAllowed → AllowedAddOne → (files files' : Option (Two File)) (j j' : JournalValue) (s s' : StateValue) (to : List ℕ) → SoFar clients files j s
+one_record : (f f' : Facts) (batch : List Entry) (session end end' : ℕ) → takes_of (after_all f batch).takes session ≤ takes_of f.takes session + 1 → takes_of f.takes session ≤ end → f' ≡ after_all f batch → end + 1 ≤ end'
+    → takes_of f'.takes session ≤ end'
+one_record f f' batch session end end' one few is far =
+    let same : takes_of f'.takes session ≡ takes_of (after_all f batch).takes session = ap (λ (g : Facts). takes_of g.takes session) is in
+    omega (arith, same, one, few, far)
+
+pub turn_more : (clients : Meaning) → AllowsIsAllowed → AllowedAddOne → AllowedTakeOne → (files files' : Option (Two File)) (j j' : JournalValue) (s s' : StateValue) (to : List ℕ) → SoFar clients files j s
     → files' ≡ files → ((two : Two File) → files ≡ Some two → NextFrame (file_of two j.file).now j j' to) → Moves j j' (Ok true) → j'.end ≤ most_bytes → HasPlayed clients s s' to
     → SoFar clients files' j' s' × (j.end < j'.end) × (j'.file ≡ j.file)
-turn_more clients decided one files files' j j' s s' to so_far same next moves bounded played =
+turn_more clients decided one take files files' j j' s s' to so_far same next moves bounded played =
     let allowed = (decided clients s.facts played.batch).0 played.allowed in
     let few : length (after_all s.facts played.batch).held + length (after_all s.facts played.batch).sessions ≤ length s.facts.held + length s.facts.sessions + 1 = one clients s.facts played.batch allowed in
     let held : length s'.facts.held ≡ length (after_all s.facts played.batch).held = ap (λ (f : Facts). length f.held) played.facts_are in
@@ -69,6 +75,7 @@ turn_more clients decided one files files' j j' s s' to so_far same next moves b
     (record {
       knows = played.knows;
       few = omega (arith, so_far.few);
+      records = λ session. one_record s.facts s'.facts played.batch session j.end j'.end (take clients s.facts played.batch session allowed) (so_far.records session) played.facts_are (omega arith);
       started = omega (arith, so_far.started);
       bounded = bounded;
       begun = λ early. absurd (omega (arith, so_far.started));
@@ -135,17 +142,17 @@ all_read clients files j s (Err load.Memory) so_far at_end room = tt
 
 -- ---- what a turn answers
 
-pub turn_played : (clients : Meaning) → AllowsIsAllowed → AllowedAddOne → (files files' : Option (Two File)) (j j' : JournalValue) (s s' : StateValue) (to : List ℕ) → SoFar clients files j s
+pub turn_played : (clients : Meaning) → AllowsIsAllowed → AllowedAddOne → AllowedTakeOne → (files files' : Option (Two File)) (j j' : JournalValue) (s s' : StateValue) (to : List ℕ) → SoFar clients files j s
     → files' ≡ files → ((two : Two File) → files ≡ Some two → NextFrame (file_of two j.file).now j j' to) → Moves j j' (Ok true)
     → (r : Result Bool LoadFault) → Plays clients j' s s' to r → Turns clients files' j j' s' r
-turn_played clients decided one files files' j j' s s' to so_far same next moves (Ok true) played =
-    turn_more clients decided one files files' j j' s s' to so_far same next moves played.0 played.1
-turn_played clients decided one files files' j j' s s' to so_far same next moves (Ok false) played = absurd played
-turn_played clients decided one files files' j j' s s' to so_far same next moves (Err load.NoStore) played = played
-turn_played clients decided one files files' j j' s s' to so_far same next moves (Err (load.Damaged place)) played =
+turn_played clients decided one take files files' j j' s s' to so_far same next moves (Ok true) played =
+    turn_more clients decided one take files files' j j' s s' to so_far same next moves played.0 played.1
+turn_played clients decided one take files files' j j' s s' to so_far same next moves (Ok false) played = absurd played
+turn_played clients decided one take files files' j j' s s' to so_far same next moves (Err load.NoStore) played = played
+turn_played clients decided one take files files' j j' s s' to so_far same next moves (Err (load.Damaged place)) played =
     turn_refused clients files files' j j' s to place so_far same next moves played
-turn_played clients decided one files files' j j' s s' to so_far same next moves (Err load.DiskFault) played = tt
-turn_played clients decided one files files' j j' s s' to so_far same next moves (Err load.Memory) played = tt
+turn_played clients decided one take files files' j j' s s' to so_far same next moves (Err load.DiskFault) played = tt
+turn_played clients decided one take files files' j j' s s' to so_far same next moves (Err load.Memory) played = tt
 
 -- playing a batch makes no call on the disk
 pub play_faultless : (clients : Meaning) (j : JournalValue) (s s' : StateValue) (to : List ℕ) (r : Result Bool LoadFault) → Plays clients j s s' to r → r ≡ Err load.DiskFault → ⊥

@@ -9,7 +9,7 @@ use Rattle.frame_journal.specs.Gates.{Settles}
 use Rattle.frame_journal.specs.Journal.{JournalValue}
 use Rattle.sync_rules.specs.declared.entries.Entry.{Entry}
 use Rattle.sync_rules.specs.Clients.{Meaning}
-use Rattle.sync_rules.specs.Facts.{after_all, facts, nothing}
+use Rattle.sync_rules.specs.Facts.{after_all, facts, nothing, takes_of}
 use Rattle.entry_codec.specs.Spelling.{IsEntry}
 use Rattle.entry_codec.specs.Laws.{payload}
 use Rattle.entry_codec.specs.Allows.{allows}
@@ -57,6 +57,7 @@ pub record HasRead (clients : Meaning) (two : Two File) (j : JournalValue) (s : 
 pub record SoFar (clients : Meaning) (files : Option (Two File)) (j : JournalValue) (s : StateValue) : Type 0 where
   pub knows : Knows clients s
   pub few : length s.facts.held + length s.facts.sessions ≤ j.end
+  pub records : (session : ℕ) → takes_of s.facts.takes session ≤ j.end
   pub started : 15 ≤ j.end
   pub bounded : j.end ≤ most_bytes
   -- the place of the last frame is that of a frame, once there was one

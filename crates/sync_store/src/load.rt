@@ -1,11 +1,11 @@
 //! Loading a store: the journal is read batch by batch, and never held.
-ghost use Rattle.std.specs.Prelude.{◌≡◌, ◌+◌, ◌-◌, ◌<◌, ◌≤◌, false, length, IfOk, IsErrOf, Some};
+ghost use Rattle.std.specs.Prelude.{◌≡◌, ℕ, ◌+◌, ◌-◌, ◌^◌, ◌<◌, ◌≤◌, false, length, IfOk, IsErrOf, Some};
 ghost use Rattle.outside.specs.Faults.{Rose};
 ghost use Rattle.outside.specs.Files.{Two, File, read_files};
 ghost use Rattle.outside.specs.Outside.{DiskRun, Looks};
 ghost use Rattle.frame_journal.specs.Gates.{AnyImage};
 ghost use Rattle.journal_state.specs.Whole.{Knows};
-ghost use Rattle.sync_rules.specs.Facts.{nothing};
+ghost use Rattle.sync_rules.specs.Facts.{nothing, takes_of};
 ghost use Rattle.sync_store.specs.Fitting.{FitsSome};
 ghost use Rattle.sync_store.specs.Loading.{HasItsRoom, IsLoaded, LeavesSettled, Plays, ReadsAll, SoFar, Turns};
 
@@ -33,6 +33,7 @@ fn play<C: Clients>(
     requires read { 14 ≤ journal.now.last }
     requires knows { Knows (C.meaning clients.now) state.old }
     requires few { length state.old.facts.held + length state.old.facts.sessions < 4294967295 }
+    requires few_records { (session : ℕ) → takes_of state.old.facts.takes session < 2 ^ 64 - 1 }
     ensures { Plays (C.meaning clients.now) journal.now state.old state.new payload.now result }
 {
     let place = journal.place();
@@ -66,6 +67,7 @@ fn read_next<D: Disk, C: Clients>(
 {
     laws::allows_is_allowed();
     laws::allowed_add_one();
+    laws::allowed_take_one();
     match journal.next_frame(disk, payload) {
         Ok(true) => play(alloc, clients, journal, state, payload.as_slice()),
         Ok(false) => Ok(false),

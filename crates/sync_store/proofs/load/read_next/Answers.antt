@@ -15,7 +15,7 @@ returns-in-Ok-true-clause-turn g c =
     let j' = c.next_frame.new.self in
     let to = c.next_frame.new.to.items in
     let full = c.in-Ok-true.field-0-test in
-    turn_played clients c.allows_is_allowed.ensures c.allowed_add_one.ensures files files' j j' c.args.state.now c.play.new.state to c.requires
+    turn_played clients c.allows_is_allowed.ensures c.allowed_add_one.ensures c.allowed_take_one.ensures files files' j j' c.args.state.now c.play.new.state to c.requires
     c.next_frame.ensures.looks.same_files (λ two told. next_true (file_of two j.file).now j j' to c.in-Ok-true.field-0 full (c.in-Ok-true.ensures.next two told))
     (moves_true j j' c.in-Ok-true.field-0 full c.in-Ok-true.ensures.moves) c.play.result
     (played_as clients j' c.args.state.now c.play.new.state c.as_slice.result.now to c.play.result c.as_slice.ensures.value c.play.ensures)
