@@ -9,6 +9,7 @@ use Rattle.outside.specs.Outside.{Outside, DiskRun}
 use Rattle.outside.specs.Steps.{Passed}
 use Rattle.frame_journal.specs.Append.{Appends, BeforeOrWith, IsFramed, payload_of}
 use Rattle.sync_rules.specs.declared.entries.Entry.{Entry}
+use Rattle.sync_rules.specs.declared.entries.Entry.TheVariants as entry
 use Rattle.sync_rules.specs.Clients.{Meaning}
 use Rattle.sync_rules.specs.Facts.{Facts, after, after_all, after_batches, takes_of}
 use Rattle.sync_rules.specs.Legal.{Allowed, AllSettling, IsSettling, IsSettlingBatch}
@@ -20,7 +21,7 @@ use Rattle.sync_store.specs.declared.fault.StoreFault.{StoreFault}
 use Rattle.sync_store.specs.declared.fault.StoreFault.TheVariants as fault
 use Rattle.sync_store.specs.Store.{StoreValue, IsStore}
 use Rattle.sync_store.specs.Fitting.{Fits, FitsSome}
-use Rattle.sync_store.specs.Commits.{Commits, Gains, MayAdd, Proceeds, SettlesSo, framed_of, needed}
+use Rattle.sync_store.specs.Commits.{Commits, Gains, IsStep, MayAdd, Proceeds, SettlesSo, framed_of, needed}
 use Rattle.sync_store.specs.Moments.{Adds, AtMost, Extends, Settles, added}
 use Rattle.sync_store.proofs.Batches.{after-append, framed_long, settling-append}
 use Rattle.sync_store.proofs.FitSteps.{adds_err, adds_ok, extends_none}
@@ -74,9 +75,15 @@ may_add clients s new batch framed law store facts end allowed within is fits =
 
 -- ---- settling
 
-pub all_settle : (clients : Meaning) (f : Facts) (es : List Entry) → IsSettling clients f es → AllByRecursion IsSettlingEntry es
+is_step : (e : Entry) → IsSettlingEntry e → IsStep e
+is_step (entry.Judged id) settles = tt
+is_step (entry.Deliver id) settles = tt
+is_step (entry.Invalid id) settles = tt
+is_step _ settles = absurd settles
+
+pub all_settle : (clients : Meaning) (f : Facts) (es : List Entry) → IsSettling clients f es → AllByRecursion IsStep es
 all_settle clients f [] settling = tt
-all_settle clients f (e ∷ es) settling = (next_is_settling clients f e settling.0, all_settle clients (after f e) es settling.1)
+all_settle clients f (e ∷ es) settling = (is_step e (next_is_settling clients f e settling.0), all_settle clients (after f e) es settling.1)
 
 pub settling_batch : (clients : Meaning) (f : Facts) (es : List Entry) → IsSettling clients f es → 1 ≤ length es → length es ≤ 256 → IsSettlingBatch clients f es
 settling_batch clients f es settling some few = (some, few, settling)

@@ -6,6 +6,7 @@ use Rattle.outside.specs.Files.{Two, File}
 use Rattle.outside.specs.Frames.{most_bytes}
 use Rattle.frame_journal.specs.Append.{IsFramed, payload_of}
 use Rattle.sync_rules.specs.declared.entries.Entry.{Entry}
+use Rattle.sync_rules.specs.declared.entries.Entry.TheVariants as entry
 use Rattle.sync_rules.specs.Clients.{Meaning}
 use Rattle.sync_rules.specs.Facts.{Facts, after_all, after_batches}
 use Rattle.sync_rules.specs.Legal.{Allowed, AllSettling}
@@ -63,6 +64,13 @@ Untouched (Err fault.Closed) old new = new ≡ old
 Untouched (Err fault.Full) old new = new ≡ old
 Untouched (Err fault.Memory) old new = new ≡ old
 Untouched _ old new = Unit {0}
+
+-- an entry of settling
+abbrev pub IsStep : Entry → Type 0
+IsStep (entry.Judged id) = Unit {0}
+IsStep (entry.Deliver id) = Unit {0}
+IsStep (entry.Invalid id) = Unit {0}
+IsStep _ = ⊥
 
 -- facts after settling batches
 pub record Steps (clients : Meaning) (old new : Facts) : Type 0 where

@@ -3,8 +3,7 @@ ghost use Rattle.std.specs.Prelude.{◌≡◌, ◌+◌, ◌*◌, ◌<◌, ◌≤
 ghost use Rattle.std.specs.List.{AllByRecursion};
 ghost use Rattle.entry_codec.specs.Laws.{payload};
 ghost use Rattle.entry_codec.specs.Spelling.{HasLatency, IsEntry, spelling};
-ghost use Rattle.sync_store.specs.Commits.{framed_of};
-ghost use Rattle.sync_rules.proofs.StepLaws.{IsSettlingEntry};
+ghost use Rattle.sync_store.specs.Commits.{IsStep, framed_of};
 
 use entry_codec::{batch_len, write_batch};
 use std::alloc::{AllocError, Global};
@@ -33,7 +32,7 @@ pub(crate) fn frame_batch(alloc: Global, batch: &Batch) -> Result<Vec<u8>, Alloc
 
 /// The same of settling entries, into a buffer that has room for them.
 pub(crate) fn frame_steps(entries: &[Entry], to: &mut Vec<u8>)
-    requires steps { AllByRecursion IsSettlingEntry entries.now }
+    requires steps { AllByRecursion IsStep entries.now }
     requires few { length entries.now ≤ 256 }
     requires empty { to.old.items ≡ [] }
     requires room { 8453 ≤ vec_capacity to.old }
@@ -48,7 +47,7 @@ pub(crate) fn frame_steps(entries: &[Entry], to: &mut Vec<u8>)
 }
 
 fn write_steps(entries: &[Entry], to: &mut Vec<u8>)
-    requires steps { AllByRecursion IsSettlingEntry entries.now }
+    requires steps { AllByRecursion IsStep entries.now }
     requires few { length entries.now ≤ 256 }
     requires room { vec_len to.old + 33 * length entries.now ≤ vec_capacity to.old }
     ensures written { to.new.items ≡ to.old.items ++ payload entries.now }
@@ -63,7 +62,7 @@ fn write_steps(entries: &[Entry], to: &mut Vec<u8>)
 
 #[tactic(auto, unfolding(entry_codec::specs::Spelling::spelling))]
 fn write_step(entry: &Entry, to: &mut Vec<u8>)
-    requires step { IsSettlingEntry entry.now }
+    requires step { IsStep entry.now }
     requires room { vec_len to.old + 33 ≤ vec_capacity to.old }
     ensures written { to.new.items ≡ to.old.items ++ spelling entry.now }
     ensures within { IsEntry entry.now }

@@ -5,6 +5,7 @@ mod begin;
 mod committing;
 mod fault;
 mod frames;
+pub mod laws;
 mod load;
 mod refusals;
 mod settling;

@@ -85,9 +85,7 @@ fn test_room(journal: &Journal, state: &State) -> Result<(), LoadFault>
     ensures { HasItsRoom journal.now state.now result }
 {
     let end = journal.end();
-    let Ok(room) = stubs::room(state) else {
-        return Err(LoadFault::Memory);
-    };
+    let room = state.room();
     if room <= MOST_BYTES - end {
         return Ok(());
     }

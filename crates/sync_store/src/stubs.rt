@@ -25,13 +25,6 @@ pub(crate) fn admit<C: Clients>(state: &mut State, alloc: Global, clients: &C, b
     Err(AllocError)
 }
 
-pub(crate) fn room(state: &State) -> Result<u64, AllocError>
-    ensures { IfOk result (λ room. room ≡ room_of state.now.facts) }
-{
-    let _ = state;
-    Err(AllocError)
-}
-
 pub(crate) fn room_with(state: &State, batch: &Batch) -> u64
     requires allowed { (clients : Meaning) × Allowed clients state.now.facts batch.now }
     requires kind { is_settling_kind batch.now ≡ false }

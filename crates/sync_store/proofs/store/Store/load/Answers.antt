@@ -32,9 +32,9 @@ returns-in_err-state-clause-any_moment g c =
 pub read_all-requires : goal.read_all-requires
 read_all-requires g c =
     let clients = g.C.Clients.meaning c.args.clients.now in
-    let empty : c.in_ok-state.state.facts ≡ nothing = ap (λ (s : StateValue). s.facts) c.in_ok-state.ensures in
+    let empty : c.in_ok-state.state.facts ≡ nothing = c.in_ok-state.ensures.facts in
     starts_so_far clients (g.D.Disk.tells c.start.new.disk).files c.in-Ok.journal c.in_ok-state.state (λ two told. c.in-Ok.ensures.start two (sym c.start.ensures.looks.same_files ∙ told)) c.in-Ok.ensures.fresh.1 empty
-    (knows_none clients c.in_ok-state.state empty (ap (λ (s : StateValue). s.answers) c.in_ok-state.ensures))
+    (knows_none clients c.in_ok-state.state empty c.in_ok-state.ensures.answers)
 
 pub returns-in-Ok-read_all-clause-answer : goal.returns-in-Ok-read_all-clause-answer
 returns-in-Ok-read_all-clause-answer g c two told =
