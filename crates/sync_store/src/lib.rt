@@ -15,3 +15,6 @@ mod view;
 
 pub use fault::{InitFault, LoadFault, PostFault, StoreFault};
 pub use store::Store;
+
+#[cfg(test)]
+mod tests;
