@@ -19,4 +19,6 @@ pub use same::{ids_named, same_entries, same_entry, same_out};
 pub use writing::write_entry;
 
 #[cfg(test)]
+mod batch_tests;
+#[cfg(test)]
 mod tests;

@@ -1,6 +1,5 @@
 -- What a journal holds that took records: the messages that they bring to its group.
 use Rattle.std.proofs.Common.{◌≡◌, ℕ, ◌+◌, ◌-◌, length, Bool, true, false, cond, not, ◌&&◌, ◌||◌, List, [], ◌∷◌, ◌++◌, map, refl, sym, ◌∙◌, ap, subst, Option, Some, None, is_some}
-use Rattle.std.specs.List.{list_any}
 use Rattle.sync_ids.specs.Values.{GroupValue, MessageValue}
 use Rattle.sync_ids.specs.Ids.{group_id_of, message_id_of}
 use Rattle.sync_ids.specs.declared.records.Record.{Record}
@@ -10,7 +9,7 @@ use Rattle.sync_rules.specs.declared.entries.Entry.TheVariants as entry
 use Rattle.sync_rules.specs.Clients.{Meaning}
 use Rattle.sync_rules.specs.Lists.{same_id, firsts}
 use Rattle.sync_rules.specs.Facts.{Facts, Held, Id, after, after_all, after_batches, facts, nothing, known_of, arrived, contact_of, held_at, is_invisible, level_at, wanted_from}
-use Rattle.sync_rules.specs.Sessions.{taken, taken_message_of, is_welcome, one_if, wants_limit}
+use Rattle.sync_rules.specs.Sessions.{taken, taken_message_of, one_if, wants_limit}
 use Rattle.sync_rules.specs.Legal.{IsSettling, AllSettling}
 use Rattle.sync_rules.specs.Hearing.{Hears, take_batch, one_session}
 use Rattle.sync_rules.proofs.StepLaws.{IsSettlingEntry, next_is_settling}

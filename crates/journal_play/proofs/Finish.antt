@@ -16,7 +16,7 @@ use Rattle.sync_rules.proofs.Runs.{legal_sound}
 use Rattle.message_graph.specs.declared.nodes.Judged.{Judged}
 use Rattle.message_graph.specs.Nodes.{fate_by}
 use Rattle.journal_play.specs.Texts.{Line, told, unended, line_at, text_of}
-use Rattle.journal_play.specs.Playing.{Played, HasPlayed, IsTextOf, node_of, ending_by, answer_shown}
+use Rattle.journal_play.specs.Playing.{Story, IsStoryOf, IsTextOf, node_of, ending_by, answer_shown}
 use Rattle.journal_play.specs.Keeping.{pending_line, pending_text}
 use Rattle.journal_play.proofs.Texts.{text-append}
 
@@ -39,7 +39,7 @@ pending_same clients f whole (m ∷ ms) names =
     ∙ ap (λ t. pending_line (fate_by (answer_shown (answer_of clients f (arrived 0 m))) (ending_by (fin_set.contains f.invalid (message_id_of m)) (is_among f.delivered (message_id_of m)))) m ++ t)
     (pending_same clients f whole ms (λ h inside. names h (inr inside)))
 
-pub finishes : (clients : Meaning) (def : GroupValue) (records : List Record) (play : Played) (text : List ℕ) → HasPlayed clients def records play
+pub finishes : (clients : Meaning) (def : GroupValue) (records : List Record) (play : Story) (text : List ℕ) → IsStoryOf clients def records play
     → text ≡ play.text ++ pending_text play.messages play.nodes → IsTextOf clients def records text
 finishes clients def records play text p is =
     let j : List (List Entry) = p.journal in

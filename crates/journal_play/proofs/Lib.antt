@@ -9,4 +9,5 @@ pub mod Orders
 pub mod Named
 pub mod Says
 pub mod Work
+pub mod Shown
 pub mod Calls

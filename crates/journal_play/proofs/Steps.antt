@@ -30,7 +30,7 @@ use Rattle.message_graph.specs.Nodes as nodes
 use Rattle.message_graph.proofs.Steps.{next_judge, next_end}
 use Rattle.message_graph.proofs.Changes.{there_within}
 use Rattle.journal_play.specs.Texts.{Line, told, line_of, line_at, text_of}
-use Rattle.journal_play.specs.Playing.{Played, node_of, judged_of, Mirrors, StandsFor}
+use Rattle.journal_play.specs.Playing.{Story, node_of, judged_of, Mirrors, StandsFor}
 use Rattle.journal_play.specs.Keeping.{stepping, number_in, Reaches, IsStepped}
 use Rattle.journal_play.proofs.Same.{IsOneGroup, entry_of, id_at, next_same}
 use Rattle.journal_play.proofs.Changes.{judged_node, invalid_node, delivered_node}
@@ -137,7 +137,7 @@ verdict_of clients def kind groups m known one of_it =
 
 -- ---- a step
 
-module _ (clients : Meaning) (def : GroupValue) (k : ℕ) (f : Facts) (es : List Entry) (play : Played)
+module _ (clients : Meaning) (def : GroupValue) (k : ℕ) (f : Facts) (es : List Entry) (play : Story)
     (m : Mirrors clients def k f es play) (sound : SoundFacts clients f)
     (n : ℕ) (msg : MessageValue) (there : slice_get play.messages n ≡ Some msg) where
   held_there : slice_get f.held n ≡ Some (arrived 0 msg)
@@ -241,12 +241,12 @@ module _ (clients : Meaning) (def : GroupValue) (k : ℕ) (f : Facts) (es : List
       }
 
 -- what a step of what is kept is for a journal
-pub record IsBatch (clients : Meaning) (def : GroupValue) (k : ℕ) (f : Facts) (es : List Entry) (play : Played) : Type 0 where
+pub record IsBatch (clients : Meaning) (def : GroupValue) (k : ℕ) (f : Facts) (es : List Entry) (play : Story) : Type 0 where
   pub made : Entry
   pub is_next : next clients f ≡ Some made
   pub mirrors : Mirrors clients def k (after f made) (es ++ made ∷ []) play
 
-pub step_mirrors : (clients : Meaning) (def : GroupValue) (k : ℕ) (f : Facts) (es : List Entry) (play : Played)
+pub step_mirrors : (clients : Meaning) (def : GroupValue) (k : ℕ) (f : Facts) (es : List Entry) (play : Story)
     → Mirrors clients def k f es play → SoundFacts clients f → (s : Step) → nodes.next play.nodes ≡ Some s
     → (msg : MessageValue) → slice_get play.messages (number_in s) ≡ Some msg → IsBatch clients def k f es (stepping clients s msg play)
 step_mirrors clients def k f es play m sound (graph_step.Judge n) e msg at = record {
@@ -275,7 +275,7 @@ entries-push [] b = append-nil b
 entries-push (x ∷ j) b = ap (λ (es : List Entry). x ++ es) (entries-push j b) ∙ sym (append_assoc x (entries_of j) b)
 
 -- a message at the number of the next step
-pub message_there : (clients : Meaning) (def : GroupValue) (k : ℕ) (f : Facts) (es : List Entry) (play : Played) → Mirrors clients def k f es play
+pub message_there : (clients : Meaning) (def : GroupValue) (k : ℕ) (f : Facts) (es : List Entry) (play : Story) → Mirrors clients def k f es play
     → (s : Step) → nodes.next play.nodes ≡ Some s → (msg : MessageValue) × (slice_get play.messages (number_in s) ≡ Some msg)
 message_there clients def k f es play m s e =
     let t = next_there play.nodes s e in
@@ -284,7 +284,7 @@ message_there clients def k f es play m s e =
     let held = of_map (node_of clients f) (map (arrived 0) play.messages) (number_in s) t.0 node in
     of_map (arrived 0) play.messages (number_in s) held.0 held.1
 
-pub reaches_step : (clients : Meaning) (def : GroupValue) (k : ℕ) (old : List (List Entry)) (play now : Played) → Reaches clients def k old play
+pub reaches_step : (clients : Meaning) (def : GroupValue) (k : ℕ) (old : List (List Entry)) (play now : Story) → Reaches clients def k old play
     → (s : Step) → nodes.next play.nodes ≡ Some s → IsStepped clients s play now → Reaches clients def k old now
 reaches_step clients def k old play now r s e stepped =
     let j : List (List Entry) = r.journal in
@@ -299,8 +299,8 @@ reaches_step clients def k old play now r s e stepped =
     record {
       journal = j';
       settles = settles_step clients old j b.made r.settles b.is_next;
-      stands = record { legal = settles_legal clients j j' one r.stands.legal; mirrors = subst (λ (p : Played). Mirrors clients def k (facts j') (entries_of j') p) (sym (stepped at.0 at.1)) second };
+      stands = record { legal = settles_legal clients j j' one r.stands.legal; mirrors = subst (λ (p : Story). Mirrors clients def k (facts j') (entries_of j') p) (sym (stepped at.0 at.1)) second };
     }
 
-pub reaches_itself : (clients : Meaning) (def : GroupValue) (k : ℕ) (j : List (List Entry)) (play : Played) → StandsFor clients def k j play → Reaches clients def k j play
+pub reaches_itself : (clients : Meaning) (def : GroupValue) (k : ℕ) (j : List (List Entry)) (play : Story) → StandsFor clients def k j play → Reaches clients def k j play
 reaches_itself clients def k j play s = record { journal = j; settles = settles_itself clients j; stands = s }

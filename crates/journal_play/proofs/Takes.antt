@@ -34,7 +34,7 @@ use Rattle.message_graph.specs.declared.nodes.Node.{Node}
 use Rattle.message_graph.specs.Nodes as nodes
 use Rattle.message_graph.proofs.Named.{node_at, node_named-number, number_within}
 use Rattle.journal_play.specs.Texts.{Line, told_by, told, text_of}
-use Rattle.journal_play.specs.Playing.{Plays, Played, node_of, answer_shown, ending_by, Mirrors, StandsFor, HasPlayed}
+use Rattle.journal_play.specs.Playing.{Plays, Story, node_of, answer_shown, ending_by, Mirrors, StandsFor, IsStoryOf}
 use Rattle.journal_play.specs.Keeping.{holding, taking, taking_message, Reaches}
 use Rattle.journal_play.proofs.Same.{node_named-held, next_same, entry_of, id_at}
 use Rattle.journal_play.proofs.Changes.{ids_of}
@@ -52,7 +52,7 @@ pub record Alike (f g : Facts) : Type 0 where
   pub invalid : g.invalid ≡ f.invalid
   pub delivered : g.delivered ≡ f.delivered
 
-pub alike_mirrors : (clients : Meaning) (def : GroupValue) (k k' : ℕ) (f g : Facts) (es es' : List Entry) (play : Played)
+pub alike_mirrors : (clients : Meaning) (def : GroupValue) (k k' : ℕ) (f g : Facts) (es es' : List Entry) (play : Story)
     → Alike f g → takes_of g.takes 0 ≡ k' → told es' ≡ told es → Mirrors clients def k f es play → Mirrors clients def k' g es' play
 alike_mirrors clients def k k' f g es es' play a takes same m = record {
   kind = m.kind;
@@ -141,7 +141,7 @@ one_more_take takes s =
     ∙ ap (λ b. count_or (cond b (Some (takes_of takes s + 1)) (fin_map.get takes s))) (unsigned_tied s s ∙ nat_eq_equiv.refl s)
 
 -- the Take entry and quiet ones
-quiet_mirrors : (clients : Meaning) (def : GroupValue) (k : ℕ) (f : Facts) (es ts : List Entry) (play : Played) → Mirrors clients def k f es play → AllQuiet ts
+quiet_mirrors : (clients : Meaning) (def : GroupValue) (k : ℕ) (f : Facts) (es ts : List Entry) (play : Story) → Mirrors clients def k f es play → AllQuiet ts
     → Mirrors clients def (k + 1) (after_all f (entry.Take 0 k ∷ ts)) (es ++ entry.Take 0 k ∷ ts) play
 quiet_mirrors clients def k f es ts play m q =
     let g : Facts = after f (entry.Take 0 k) in
@@ -179,7 +179,7 @@ once-push (h ∷ hs) x once none =
     let here : is_among (ids_of (hs ++ x ∷ [])) h.id ≡ false = none_among hs x h.id both.0 (same_id_swap x.id h.id ∙ apart.0) in
     (λ i. here i || once-push hs x both.1 apart.1 i)
 
-arrive_mirrors : (clients : Meaning) (def : GroupValue) (k : ℕ) (f : Facts) (es : List Entry) (play : Played) → Mirrors clients def k f es play
+arrive_mirrors : (clients : Meaning) (def : GroupValue) (k : ℕ) (f : Facts) (es : List Entry) (play : Story) → Mirrors clients def k f es play
     → SoundFacts clients f → (msg : MessageValue) → held_at f.held (message_id_of msg) ≡ None
     → Mirrors clients def k (after f (entry.Arrive 0 msg)) (es ++ entry.Arrive 0 msg ∷ []) (holding play msg)
 arrive_mirrors clients def k f es play m sound msg none =
@@ -285,7 +285,7 @@ module _ (def : GroupValue) (f : Facts) (groups : f.groups ≡ known_of def ∷ 
 
 -- ---- a record
 
-module _ (clients : Meaning) (def : GroupValue) (k : ℕ) (f : Facts) (es : List Entry) (play : Played)
+module _ (clients : Meaning) (def : GroupValue) (k : ℕ) (f : Facts) (es : List Entry) (play : Story)
     (m : Mirrors clients def k f es play) (sound : SoundFacts clients f) where
   module _ (msg : MessageValue) where
     -- what is taken, by whether the message is of the group, and what is held under its id
@@ -334,7 +334,7 @@ module _ (clients : Meaning) (def : GroupValue) (k : ℕ) (f : Facts) (es : List
 
 -- ---- journals
 
-pub take_stands : (clients : Meaning) (def : GroupValue) (k : ℕ) (j : List (List Entry)) (play : Played) → StandsFor clients def k j play
+pub take_stands : (clients : Meaning) (def : GroupValue) (k : ℕ) (j : List (List Entry)) (play : Story) → StandsFor clients def k j play
     → IsSettled clients (facts j) → (r : Record) → IsRecord r → StandsFor clients def (k + 1) (j ++ take_batch j 0 k r ∷ []) (taking play r)
 take_stands clients def k j play s settled r within =
     let b : List Entry = take_batch j 0 k r in
@@ -361,7 +361,7 @@ take_stands clients def k j play s settled r within =
     }
 
 -- no step of what is kept, no step of the journal
-pub settled_by : (clients : Meaning) (def : GroupValue) (k : ℕ) (j : List (List Entry)) (play : Played) → StandsFor clients def k j play
+pub settled_by : (clients : Meaning) (def : GroupValue) (k : ℕ) (j : List (List Entry)) (play : Story) → StandsFor clients def k j play
     → nodes.next play.nodes ≡ None → IsSettled clients (facts j)
 settled_by clients def k j play s none =
     let f : Facts = facts j in
@@ -380,17 +380,16 @@ plays_more clients j k (x ∷ records) j' j'' r p within h =
     (let e : k + length (x ∷ records) ≡ (k + 1) + length records = omega arith in subst (λ (n : ℕ). Hears clients j' 0 n r j'') e h) in
     (p.0, p.1, p.2, plays_more clients p.0 (k + 1) records j' j'' r p.3 within at)
 
-pub hears : (clients : Meaning) (def : GroupValue) (records : List Record) (old taken_by now : Played) (r : Record) → HasPlayed clients def records old → IsRecord r
-    → taken_by ≡ taking old r
-    → ((d : GroupValue) (k : ℕ) (j : List (List Entry)) → StandsFor clients d k j taken_by → Reaches clients d k j now)
-    → nodes.next now.nodes ≡ None → HasPlayed clients def (records ++ r ∷ []) now
-hears clients def records old taken_by now r p within takes reaches none =
+-- the record that comes next is taken
+abbrev pub after_record : List (List Entry) → ℕ → Record → List (List Entry)
+after_record j k r = j ++ take_batch j 0 k r ∷ []
+
+pub hears : (clients : Meaning) (def : GroupValue) (records : List Record) (old now : Story) (r : Record) (p : IsStoryOf clients def records old) → IsRecord r
+    → Reaches clients def (length records + 1) (after_record p.journal (length records) r) now
+    → nodes.next now.nodes ≡ None → IsStoryOf clients def (records ++ r ∷ []) now
+hears clients def records old now r p within reached none =
     let k : ℕ = length records in
     let j : List (List Entry) = p.journal in
-    let j' : List (List Entry) = j ++ take_batch j 0 k r ∷ [] in
-    let taken_stands : StandsFor clients def (k + 1) j' taken_by =
-    subst (λ (q : Played). StandsFor clients def (k + 1) j' q) (sym takes) (take_stands clients def k j old p.stands p.settled r within) in
-    let reached : Reaches clients def (k + 1) j' now = reaches def (k + 1) j' taken_stands in
     let settled : IsSettled clients (facts reached.journal) = settled_by clients def (k + 1) reached.journal now reached.stands none in
     let count : length (records ++ r ∷ []) ≡ k + 1 = length-append records (r ∷ []) in
     let heard : Hears clients j 0 (0 + k) r reached.journal =
@@ -406,7 +405,7 @@ hears clients def records old taken_by now r p within takes reaches none =
 -- ---- the beginning
 
 pub begins : (clients : Meaning) (def : GroupValue) (kind : ℕ) → kind_of_def clients def ≡ Some kind
-    → HasPlayed clients def [] (record { kind = kind; group = group_id_of def; messages = []; nodes = []; text = [] })
+    → IsStoryOf clients def [] (record { kind = kind; group = group_id_of def; messages = []; nodes = []; text = [] })
 begins clients def kind known =
     let start = one_session_hears clients def (ap is_some known) in
     record {

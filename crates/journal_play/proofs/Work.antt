@@ -1,7 +1,5 @@
 -- Each step leaves fewer messages without an answer or without an end.
 use Rattle.std.proofs.Common.{◌≡◌, ℕ, zero, suc, ◌+◌, ◌<◌, List, [], ◌∷◌, length, refl, sym, ◌∙◌, ap, subst, arith, Option, Some, None, slice_get}
-use Rattle.sync_ids.specs.Values.{MessageValue}
-use Rattle.sync_rules.specs.Clients.{Meaning}
 use Rattle.message_graph.specs.declared.nodes.Node.{Node}
 use Rattle.message_graph.specs.declared.nodes.Judged.{Judged}
 use Rattle.message_graph.specs.declared.nodes.Ending.{Ending}
@@ -11,9 +9,7 @@ use Rattle.message_graph.specs.declared.nodes.Step.TheVariants as graph_step
 use Rattle.message_graph.specs.Nodes.{next, with_answer, with_ending, after_step}
 use Rattle.message_graph.proofs.Steps.{next_judge, next_end}
 use Rattle.message_graph.proofs.Changes.{length-change}
-use Rattle.journal_play.specs.Playing.{Played}
-use Rattle.journal_play.specs.Keeping.{stepping, number_in, IsStepped}
-use Rattle.journal_play.proofs.Steps.{next_within}
+use Rattle.journal_play.specs.Keeping.{IsDone}
 
 abbrev pub left : {A : Type 0} → Option A → ℕ
 left None = 1
@@ -39,23 +35,16 @@ less_ended (x ∷ nodes) zero node end at open_now =
     omega (arith, none)
 less_ended (x ∷ nodes) (suc n) node end at open_now = omega (arith, less_ended nodes n node end at open_now)
 
-less_stepped : (clients : Meaning) (s : Step) (m : MessageValue) (play : Played) → next play.nodes ≡ Some s → work (stepping clients s m play).nodes < work play.nodes
-less_stepped clients (graph_step.Judge n) m play e = let t = next_judge play.nodes n e in less_judged play.nodes n t.0 _ t.1 t.2
-less_stepped clients (graph_step.Invalid n) m play e = let t = next_end play.nodes n ending.Invalid e in less_ended play.nodes n t.0 ending.Invalid t.1 t.2.goes_on
-less_stepped clients (graph_step.Deliver n) m play e = let t = next_end play.nodes n ending.Delivered e in less_ended play.nodes n t.0 ending.Delivered t.1 t.2.goes_on
-
-there : {A : Type 0} (xs : List A) (n : ℕ) → n < length xs → (x : A) × (slice_get xs n ≡ Some x)
-there [] n h = absurd (omega arith)
-there (x ∷ xs) zero h = (x, refl)
-there (x ∷ xs) (suc n) h = there xs n (omega arith)
-
-pub less_work : (clients : Meaning) (s : Step) (old new : Played) → next old.nodes ≡ Some s → length old.nodes ≡ length old.messages → IsStepped clients s old new
-    → work new.nodes < work old.nodes
-less_work clients s old new e each stepped =
-    let within : number_in s < length old.messages = omega (arith, next_within old.nodes s e, each) in
-    let m = there old.messages (number_in s) within in
-    let less = less_stepped clients s m.0 old e in
-    subst (λ (p : Played). work p.nodes < work old.nodes) (sym (stepped m.0 m.1)) less
+pub less_done : (s : Step) (old new : List Node) → next old ≡ Some s → IsDone s old new → work new < work old
+less_done (graph_step.Judge n) old new e d =
+    let t = next_judge old n e in
+    subst (λ (ns : List Node). work ns < work old) (sym d.1) (less_judged old n t.0 d.0 t.1 t.2)
+less_done (graph_step.Invalid n) old new e d =
+    let t = next_end old n ending.Invalid e in
+    subst (λ (ns : List Node). work ns < work old) (sym d) (less_ended old n t.0 ending.Invalid t.1 t.2.goes_on)
+less_done (graph_step.Deliver n) old new e d =
+    let t = next_end old n ending.Delivered e in
+    subst (λ (ns : List Node). work ns < work old) (sym d) (less_ended old n t.0 ending.Delivered t.1 t.2.goes_on)
 
 pub length_after : (s : Step) (nodes : List Node) → length (after_step s nodes) ≡ length nodes
 length_after (graph_step.Judge n) nodes = refl

@@ -3,7 +3,7 @@ use Rattle.std.specs.Prelude.{◌≡◌, ℕ, ◌+◌, Bool, true, false, List, 
 use Rattle.std.specs.List.{list_all}
 use Rattle.std.specs.FinSet as fin_set
 use Rattle.sync_ids.specs.Values.{GroupValue, MessageValue}
-use Rattle.sync_ids.specs.Ids.{group_id_of}
+use Rattle.sync_ids.specs.Ids.{group_id_of, message_id_of}
 use Rattle.sync_ids.specs.Records.{IsRecord}
 use Rattle.sync_ids.specs.declared.records.Record.{Record}
 use Rattle.sync_rules.specs.declared.answers.Judgement.{Judgement}
@@ -20,6 +20,7 @@ use Rattle.message_graph.specs.declared.nodes.Judged.{Judged}
 use Rattle.message_graph.specs.declared.nodes.Judged.TheVariants as judged
 use Rattle.message_graph.specs.declared.nodes.Ending.{Ending}
 use Rattle.message_graph.specs.declared.nodes.Ending.TheVariants as ending
+use Rattle.journal_play.specs.declared.kept.Head.{Head}
 use Rattle.journal_play.specs.Texts.{told, text_of, play_text}
 
 -- a journal takes records on its session 0, the first as that of number k, and is settled after each
@@ -34,11 +35,11 @@ pub record IsTextOf (clients : Meaning) (def : GroupValue) (records : List Recor
   pub plays : Plays clients (one_session def) 0 records journal
   pub printed : text ≡ play_text journal
 
--- ---- what is kept in memory
+-- ---- what is played
 
--- the client's kind and the group's id, the held messages in order of arrival, the nodes of a graph over them, and the
--- lines so far
-pub record Played : Type 0 where
+-- what is told of a journal: the kind of the group's client and the group's id, the held messages in order of arrival, the
+-- nodes of a graph over them, and the lines so far
+pub record Story : Type 0 where
   pub kind : ℕ
   pub group : Id
   pub messages : List MessageValue
@@ -66,8 +67,8 @@ ending_of f id = ending_by (fin_set.contains f.invalid id) (is_among f.delivered
 abbrev pub node_of : Meaning → Facts → Held → Node
 node_of clients f h = record { name = h.id; group = 0; answer = answer_shown (answer_of clients f h); ending = ending_of f h.id }
 
--- what is kept suits the facts and the entries of a journal whose session has taken k records
-pub record Mirrors (clients : Meaning) (def : GroupValue) (k : ℕ) (f : Facts) (entries : List Entry) (play : Played) : Type 0 where
+-- a story suits the facts and the entries of a journal whose session has taken k records
+pub record Mirrors (clients : Meaning) (def : GroupValue) (k : ℕ) (f : Facts) (entries : List Entry) (play : Story) : Type 0 where
   pub kind : kind_of_def clients def ≡ Some play.kind
   pub group : play.group ≡ group_id_of def
   pub groups : f.groups ≡ known_of def ∷ []
@@ -82,14 +83,37 @@ pub record Mirrors (clients : Meaning) (def : GroupValue) (k : ℕ) (f : Facts) 
   pub judged : (id : Id) → fin_set.contains f.judged id ≡ true → is_held f.held id ≡ true
   pub within : list_all (λ line. is_held f.held line.1) (told entries) ≡ true
 
--- what is kept stands for a legal journal whose session has taken k records
-pub record StandsFor (clients : Meaning) (def : GroupValue) (k : ℕ) (journal : List (List Entry)) (play : Played) : Type 0 where
+-- a story is that of a legal journal whose session has taken k records
+pub record StandsFor (clients : Meaning) (def : GroupValue) (k : ℕ) (journal : List (List Entry)) (play : Story) : Type 0 where
   pub legal : Legal clients journal
   pub mirrors : Mirrors clients def k (facts journal) (entries_of journal) play
 
--- what is kept stands for a settled journal of this group that has taken these records
-pub record HasPlayed (clients : Meaning) (def : GroupValue) (records : List Record) (play : Played) : Type 0 where
+-- a story is that of a settled journal of this group that has taken these records
+pub record IsStoryOf (clients : Meaning) (def : GroupValue) (records : List Record) (play : Story) : Type 0 where
   pub journal : List (List Entry)
   pub plays : Plays clients (one_session def) 0 records journal
   pub stands : StandsFor clients def (length records) journal play
   pub settled : IsSettled clients (facts journal)
+
+-- ---- what is kept in memory
+
+-- what is kept of a message: what its line says
+abbrev pub head_of : MessageValue → Head
+head_of m = record { id = message_id_of m; timestamp = m.timestamp; len = length m.body }
+
+-- as a story, with no more of a message than that
+pub record Played : Type 0 where
+  pub kind : ℕ
+  pub group : Id
+  pub heads : List Head
+  pub nodes : List Node
+  pub text : List ℕ
+
+abbrev pub shown_of : Story → Played
+shown_of s = record { kind = s.kind; group = s.group; heads = map head_of s.messages; nodes = s.nodes; text = s.text }
+
+-- what is kept stands for a settled journal of this group that has taken these records
+pub record HasPlayed (clients : Meaning) (def : GroupValue) (records : List Record) (play : Played) : Type 0 where
+  pub story : Story
+  pub told : IsStoryOf clients def records story
+  pub shows : shown_of story ≡ play

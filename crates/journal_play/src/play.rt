@@ -1,21 +1,20 @@
 //! A journal of one group and one session in memory.
 ghost use Rattle.std.specs.Prelude.{◌≡◌, ◌≢◌, ℕ, ◌++◌, ◌<◌, ◌^◌, List, [], ◌∷◌, length, IfOk, OnOk, Some, None, slice_get};
 ghost use Rattle.std.specs.String.{string_bytes};
-ghost use Rattle.sync_ids.specs.Ids.{message_id_of};
 ghost use Rattle.sync_ids.specs.Records.{IsRecord};
-ghost use Rattle.sync_ids.specs.Values.{GroupValue, MessageValue};
+ghost use Rattle.sync_ids.specs.Values.{GroupValue};
 ghost use Rattle.sync_ids.specs.declared.records.Record.{Record};
 ghost use Rattle.sync_rules.specs.Clients.{Meaning};
 ghost use Rattle.sync_rules.specs.Steps.{kind_of_def};
 ghost use Rattle.sync_rules.specs.declared.entries.Entry.{Entry};
 ghost use Rattle.sync_rules.specs.declared.states.Fate.TheVariants as fate_kind;
 ghost use Rattle.message_graph.specs.Nodes.{after_step, Ends, next, number_of};
-ghost use Rattle.journal_play.specs.Keeping.{holding, IsStepped, number_in, pending_line, pending_text, Reaches, taking, taking_message};
-ghost use Rattle.journal_play.specs.Playing.{HasPlayed, IsTextOf, judged_of, StandsFor};
-ghost use Rattle.journal_play.specs.Texts.{line_of};
+ghost use Rattle.journal_play.specs.declared.kept.Head.{Head};
+ghost use Rattle.journal_play.specs.Keeping.{ended_as, fresh_in, fresh_one, IsDone, IsFresh, IsJudged, number_in, open_line, open_text, ReachesShown, ShowsStep, taking_in, taking_one, with_head};
+ghost use Rattle.journal_play.specs.Playing.{HasPlayed, IsTextOf, judged_of, shown_of, StandsFor, Story};
 
-use crate::kept::Kept;
-use crate::lines::add_line;
+use crate::kept::{Fresh, Head};
+use crate::lines::{add_line, make_head};
 use message_graph::{Fate, Graph, Judged, Names, Step};
 use std::alloc::{AllocError, Global};
 use std::marker::Model;
@@ -26,12 +25,13 @@ use sync_rules::{Clients, Judgement};
 const GROUP: u32 = 0;
 
 /// A journal of one group and one session, as far as its lines need it. Contracts see the kind of the group's client, the
-/// group's id, the held messages, their nodes in a graph, and the lines so far.
+/// group's id, what the lines say of the held messages, their nodes in a graph, and the lines so far. A message is let go of
+/// once it was judged.
 #[derive(Drop)]
 pub struct Play {
     kind: u8,
     group: GroupId,
-    held: Vec<Kept>,
+    held: Vec<Head>,
     graph: Graph,
     text: String,
 }
@@ -43,7 +43,7 @@ impl Model for Play {
 
     ghost Value = { Played };
 
-    ghost view = { λ p. record { kind = p.kind; group = p.group; messages = p.held.items; nodes = p.graph.nodes; text = string_bytes p.text } };
+    ghost view = { λ p. record { kind = p.kind; group = p.group; heads = p.held.items; nodes = p.graph.nodes; text = string_bytes p.text } };
 
     ghost invariant = { λ p. (length p.graph.nodes ≡ length p.held.items) × (length p.held.items < 2 ^ 32) };
 }
@@ -65,7 +65,8 @@ impl Play {
         })
     }
 
-    /// Takes a record, and settles. It fails only for want of memory, also where 2^32 - 1 messages are held.
+    /// Takes a record, and settles. It fails only for want of memory, also where 2^32 - 1 messages are held, and then it may
+    /// fail from then on.
     pub fn hear<C: Clients>(
         &mut self,
         alloc: Global,
@@ -76,8 +77,8 @@ impl Play {
             → HasPlayed (C.meaning clients.now) def (records ++ heard ∷ []) self.new) }
     {
         check_limits(&heard);
-        self.take(heard)?;
-        self.settle(alloc, clients)
+        let just = self.take(heard)?;
+        self.settle(alloc, clients, &just)
     }
 
     /// What is printed: the lines so far, and then a line for each message that has none. It fails only for want of memory.
@@ -98,8 +99,10 @@ impl Play {
 
     // ---- a record
 
-    fn take(&mut self, heard: Record) -> Result<(), AllocError>
-        ensures { OnOk result (self.new ≡ taking self.old heard) }
+    // Takes a record; the message that is held then, if one is.
+    fn take(&mut self, heard: Record) -> Result<Option<Fresh>, AllocError>
+        ensures taken { OnOk result (self.new ≡ taking_in self.old heard) }
+        ensures just { IfOk result (λ just. just ≡ fresh_in self.old heard) }
     {
         match heard {
             Record::Message(message) => self.take_message(message),
@@ -107,76 +110,105 @@ impl Play {
             | Record::Offer(_)
             | Record::Request(_)
             | Record::Versions(_)
-            | Record::Priority(_) => Ok(()),
+            | Record::Priority(_) => Ok(None),
         }
     }
 
     // Holds a message of the group whose id is new.
-    fn take_message(&mut self, message: Message) -> Result<(), AllocError>
-        ensures { OnOk result (self.new ≡ taking_message self.old message) }
+    fn take_message(&mut self, message: Message) -> Result<Option<Fresh>, AllocError>
+        ensures taken { OnOk result (self.new ≡ taking_one self.old message) }
+        ensures just { IfOk result (λ just. just ≡ fresh_one self.old message) }
     {
         if message.group() != self.group {
-            return Ok(());
+            return Ok(None);
         }
-        let kept = Kept::new(message);
-        if self.graph.number(&kept.id().0).is_some() {
-            return Ok(());
+        let head = make_head(&message);
+        if self.graph.number(&head.id.0).is_some() {
+            return Ok(None);
         }
-        self.hold(kept)
+        let number = self.hold(head)?;
+        Ok(Some(Fresh { number, message }))
     }
 
-    fn hold(&mut self, kept: Kept) -> Result<(), AllocError>
-        requires { number_of self.old.nodes (message_id_of kept) ≡ None }
-        ensures { OnOk result (self.new ≡ holding self.old kept) }
+    // Holds a message, and answers its number.
+    fn hold(&mut self, head: Head) -> Result<u32, AllocError>
+        requires { number_of self.old.nodes head.id ≡ None }
+        ensures held { OnOk result (self.new ≡ with_head head self.old) }
+        ensures number { IfOk result (λ number. number ≡ length self.old.heads) }
     {
         if self.held.len() >= u32::MAX as usize {
             return Err(AllocError);
         }
-        let id = kept.id();
+        let number = self.held.len() as u32;
+        let id = head.id;
         self.graph.reserve(1)?;
-        self.held.push(kept)?;
+        self.held.push(head)?;
         self.graph.hold(id.0, GROUP);
-        Ok(())
+        Ok(number)
     }
 
     // ---- settling
 
     // Makes steps until there is none.
-    fn settle<C: Clients>(&mut self, alloc: Global, clients: &C) -> Result<(), AllocError>
-        ensures reaches { OnOk result ((def : GroupValue) (k : ℕ) (j : List (List Entry)) → StandsFor (C.meaning clients.now) def k j self.old
-            → Reaches (C.meaning clients.now) def k j self.new) }
+    fn settle<C: Clients>(
+        &mut self,
+        alloc: Global,
+        clients: &C,
+        just: &Option<Fresh>,
+    ) -> Result<(), AllocError>
+        ensures reaches { OnOk result ((story : Story) (def : GroupValue) (k : ℕ) (j : List (List Entry)) → shown_of story ≡ self.old
+            → IsFresh just.now story → StandsFor (C.meaning clients.now) def k j story
+            → ReachesShown (C.meaning clients.now) def k j story self.new) }
         ensures settled { OnOk result (next self.new.nodes ≡ None) }
     {
         'steps: while let Some(step) = self.next() {
-            self.make(alloc, clients, step)?;
+            self.make(alloc, clients, just, step)?;
         }
         Ok(())
     }
 
     fn next(&self) -> Option<Step>
-        ensures step { result ≡ next self.now.nodes }
-        ensures each { length self.now.nodes ≡ length self.now.messages }
+        ensures { result ≡ next self.now.nodes }
     {
         self.graph.next()
     }
 
-    fn make<C: Clients>(&mut self, alloc: Global, clients: &C, step: Step) -> Result<(), AllocError>
+    fn make<C: Clients>(
+        &mut self,
+        alloc: Global,
+        clients: &C,
+        just: &Option<Fresh>,
+        step: Step,
+    ) -> Result<(), AllocError>
         requires { next self.old.nodes ≡ Some step }
-        ensures { OnOk result (IsStepped (C.meaning clients.now) step self.old self.new) }
+        ensures shows { OnOk result (ShowsStep (C.meaning clients.now) just.now step self.old self.new) }
+        ensures done { OnOk result (IsDone step self.old.nodes self.new.nodes) }
     {
         match step {
-            Step::Judge(n) => self.judge(alloc, clients, n),
+            Step::Judge(n) => self.judge(alloc, clients, just, n),
             Step::Invalid(n) => self.end(alloc, step, n, sync_rules::Fate::Invalid),
             Step::Deliver(n) => self.end(alloc, step, n, sync_rules::Fate::Delivered),
         }
     }
 
-    fn judge<C: Clients>(&mut self, alloc: Global, clients: &C, n: u32) -> Result<(), AllocError>
+    // Judges the message that was just held. Another one that is not judged is left of a call that found no memory.
+    fn judge<C: Clients>(
+        &mut self,
+        alloc: Global,
+        clients: &C,
+        just: &Option<Fresh>,
+        n: u32,
+    ) -> Result<(), AllocError>
         requires { next self.old.nodes ≡ Some (Step.Judge n) }
-        ensures { OnOk result (IsStepped (C.meaning clients.now) (Step.Judge n) self.old self.new) }
+        ensures { OnOk result (IsJudged (C.meaning clients.now) just.now n self.old self.new) }
     {
-        let kept = &self.held[n as usize];
-        let judgement = clients.judge(alloc, self.kind, kept.message())?;
+        let Some(one) = just else {
+            return Err(AllocError);
+        };
+        if one.number != n {
+            return Err(AllocError);
+        }
+        let judgement = clients.judge(alloc, self.kind, &one.message)?;
         let answer = answer_of(alloc, &judgement)?;
         self.graph.judged(n, answer)
     }
@@ -193,13 +225,11 @@ impl Play {
         requires ends { Ends step }
         requires number { number_in step ≡ n }
         requires state { state ≢ fate_kind.Unknown }
-        ensures { OnOk result ((m : MessageValue) → slice_get self.old.messages n ≡ Some m → self.new ≡ record self.old {
-          nodes = after_step step self.old.nodes;
-          text = self.old.text ++ line_of state (message_id_of m) m;
-        }) }
+        ensures ended { OnOk result ((h : Head) → slice_get self.old.heads n ≡ Some h → self.new ≡ ended_as step state h self.old) }
+        ensures done { OnOk result (self.new.nodes ≡ after_step step self.old.nodes) }
     {
-        let kept = &self.held[n as usize];
-        add_line(alloc, state, kept, &mut self.text)?;
+        let head = &self.held[n as usize];
+        add_line(alloc, state, head, &mut self.text)?;
         self.graph.apply(step);
         Ok(())
     }
@@ -251,11 +281,11 @@ fn answer_of(alloc: Global, judgement: &Judgement) -> Result<Judged, AllocError>
 
 // ---- the messages that have no end
 
-fn add_if_open(alloc: Global, fate: Fate, kept: &Kept, text: &mut String) -> Result<(), AllocError>
-    ensures { OnOk result (string_bytes text.new ≡ string_bytes text.old ++ pending_line fate kept.now) }
+fn add_if_open(alloc: Global, fate: Fate, head: &Head, text: &mut String) -> Result<(), AllocError>
+    ensures { OnOk result (string_bytes text.new ≡ string_bytes text.old ++ open_line fate head.now) }
 {
     match fate {
-        Fate::Unknown | Fate::Pending => add_line(alloc, sync_rules::Fate::Pending, kept, text),
+        Fate::Unknown | Fate::Pending => add_line(alloc, sync_rules::Fate::Pending, head, text),
         Fate::Invalid | Fate::Delivered => Ok(()),
     }
 }
@@ -263,16 +293,16 @@ fn add_if_open(alloc: Global, fate: Fate, kept: &Kept, text: &mut String) -> Res
 // Adds a line for each message whose node has no end.
 fn add_pending(
     alloc: Global,
-    held: &[Kept],
+    held: &[Head],
     graph: &Graph,
     text: &mut String,
 ) -> Result<(), AllocError>
     requires each { length graph.now.nodes ≡ length held.now }
     requires few { length held.now < 2 ^ 32 }
-    ensures { OnOk result (string_bytes text.new ≡ string_bytes text.old ++ pending_text held.now graph.now.nodes) }
+    ensures { OnOk result (string_bytes text.new ≡ string_bytes text.old ++ open_text held.now graph.now.nodes) }
 {
-    for (n, kept) in held.iter().enumerate() {
-        add_if_open(alloc, graph.fate(n as u32), kept, text)?;
+    for (n, head) in held.iter().enumerate() {
+        add_if_open(alloc, graph.fate(n as u32), head, text)?;
     }
     Ok(())
 }

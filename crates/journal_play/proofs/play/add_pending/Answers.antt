@@ -1,12 +1,12 @@
 -- One more message: its line, or none.
 use Rattle.std.proofs.Common.{◌++◌}
 use Rattle.std.specs.String.{string_bytes}
-use Rattle.journal_play.specs.Keeping.{pending_text}
+use Rattle.journal_play.specs.Keeping.{open_text}
 use Rattle.journal_play.proofs.Calls.{pending_more}
 use Rattle.journal_play.proofs.play.add_pending.Goals as goal
 
 pub loop-n-preserved : goal.loop-n-preserved
 loop-n-preserved c =
-    pending_more (string_bytes c.args.text.now ++ pending_text c.args.held.now c.args.graph.now.nodes) (string_bytes c.loop-n.text)
+    pending_more (string_bytes c.args.text.now ++ open_text c.args.held.now c.args.graph.now.nodes) (string_bytes c.loop-n.text)
     (string_bytes c.add_if_open.new.text) c.args.held.now c.args.graph.now.nodes c.loop-n.n c.index-held-n.result c.fate.result c.loop-n-test.true
     c.index-held-n.is c.fate.ensures c.in_ok-add_if_open.ensures c.loop-n.invariant

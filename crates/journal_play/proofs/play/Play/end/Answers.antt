@@ -1,7 +1,7 @@
 -- The number of the next step is that of a held message.
 use Rattle.std.proofs.Common.{◌≡◌, ◌<◌, Some, length, ap, ◌∙◌, arith, rules}
 use Rattle.std.specs.String.{string_bytes}
-use Rattle.message_graph.specs.Nodes.{Shown, next}
+use Rattle.message_graph.specs.Nodes.{Shown, next, after_step}
 use Rattle.journal_play.specs.Playing.{Played}
 use Rattle.journal_play.specs.Keeping.{number_in}
 use Rattle.journal_play.proofs.Steps.{next_within}
@@ -9,8 +9,8 @@ use Rattle.journal_play.proofs.Work.{length_after}
 use Rattle.journal_play.proofs.Calls.{end_is}
 use Rattle.journal_play.proofs.play.Play.end.Goals as goal
 
-pub index-kept-requires : goal.index-kept-requires
-index-kept-requires c =
+pub index-head-requires : goal.index-head-requires
+index-head-requires c =
     let inside = c.self.inside in
     let step : next inside.graph.nodes ≡ Some c.args.step = ap (λ (p : Played). next p.nodes) c.self.view_is ∙ c.requires.next in
     let within : number_in c.args.step < length inside.graph.nodes = next_within inside.graph.nodes c.args.step step in
@@ -24,9 +24,12 @@ invariant_of-self-2 c =
     let inside = c.self.inside in
     (ap (λ (g : Shown). length g.nodes) c.apply.ensures ∙ (length_after c.args.step inside.graph.nodes ∙ c.self.invariant.0), c.self.invariant.1)
 
-pub returns : goal.returns
-returns c = λ m at.
+pub returns-clause-ended : goal.returns-clause-ended
+returns-clause-ended c = λ h at.
     let inside = c.self.inside in
-    let view : Played = record { kind = inside.kind; group = inside.group; messages = inside.held.items; nodes = inside.graph.nodes; text = string_bytes inside.text } in
-    end_is view c.args.self.now c.index-kept.result.now m c.apply.new.self.nodes (string_bytes c.add_line.new.text) c.args.step c.args.n c.args.state c.self.view_is
-    (ap (λ (g : Shown). g.nodes) c.apply.ensures) c.in_ok-add_line.ensures at c.index-kept.ensures
+    let view : Played = record { kind = inside.kind; group = inside.group; heads = inside.held.items; nodes = inside.graph.nodes; text = string_bytes inside.text } in
+    end_is view c.args.self.now c.index-head.result.now h c.apply.new.self.nodes (string_bytes c.add_line.new.text) c.args.step c.args.n c.args.state c.self.view_is
+    (ap (λ (g : Shown). g.nodes) c.apply.ensures) c.in_ok-add_line.ensures at c.index-head.ensures
+
+pub returns-clause-done : goal.returns-clause-done
+returns-clause-done c = ap (λ (g : Shown). g.nodes) c.apply.ensures ∙ ap (λ (p : Played). after_step c.args.step p.nodes) c.self.view_is

@@ -2,13 +2,13 @@
 use Rattle.std.proofs.Common.{◌++◌, ap, ◌∙◌}
 use Rattle.std.specs.String.{string_bytes}
 use Rattle.journal_play.specs.Playing.{Played}
-use Rattle.journal_play.specs.Keeping.{pending_text}
-use Rattle.journal_play.proofs.Finish.{finishes}
+use Rattle.journal_play.specs.Keeping.{open_text}
+use Rattle.journal_play.proofs.Shown.{finishes_shown}
 use Rattle.journal_play.proofs.play.Play.finish.Goals as goal
 
 pub returns : goal.returns
 returns c = λ clients def records played.
-    finishes clients def records c.args.self (string_bytes c.add_pending.new.text) played
+    finishes_shown clients def records c.args.self (string_bytes c.add_pending.new.text) played
     (c.in_ok-add_pending.ensures
-    ∙ (λ i. string_bytes c.self.inside.text ++ pending_text (c.as_slice.ensures.value i) c.self.inside.graph.nodes)
-    ∙ ap (λ (p : Played). p.text ++ pending_text p.messages p.nodes) c.self.view_is)
+    ∙ (λ i. string_bytes c.self.inside.text ++ open_text (c.as_slice.ensures.value i) c.self.inside.graph.nodes)
+    ∙ ap (λ (p : Played). p.text ++ open_text p.heads p.nodes) c.self.view_is)

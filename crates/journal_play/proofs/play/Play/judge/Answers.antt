@@ -1,24 +1,12 @@
--- The number of the next step is that of a held message.
-use Rattle.std.proofs.Common.{◌≡◌, ◌<◌, Some, length, ap, ◌∙◌, arith, rules}
+-- The message that was just held is judged.
+use Rattle.std.proofs.Common.{◌≡◌, Some, length, ap, ◌∙◌}
 use Rattle.std.specs.String.{string_bytes}
-use Rattle.sync_ids.specs.Values.{MessageValue}
 use Rattle.message_graph.specs.declared.nodes.Node.{Node}
-use Rattle.message_graph.specs.declared.nodes.Step.TheVariants as graph_step
-use Rattle.message_graph.specs.Nodes.{Shown, next, with_answer}
+use Rattle.message_graph.specs.Nodes.{Shown, with_answer}
 use Rattle.message_graph.proofs.Changes.{length-change}
 use Rattle.journal_play.specs.Playing.{Played, judged_of}
-use Rattle.journal_play.proofs.Steps.{next_within}
 use Rattle.journal_play.proofs.Calls.{judge_is, on_ok, either_way}
 use Rattle.journal_play.proofs.play.Play.judge.Goals as goal
-
-pub index-kept-requires : goal.index-kept-requires
-index-kept-requires g c =
-    let inside = c.self.inside in
-    let step : next inside.graph.nodes ≡ Some (graph_step.Judge c.args.n) = ap (λ (p : Played). next p.nodes) c.self.view_is ∙ c.requires in
-    let within : c.args.n < length inside.graph.nodes = next_within inside.graph.nodes (graph_step.Judge c.args.n) step in
-    let each : length inside.graph.nodes ≡ length inside.held.items = c.self.invariant.0 in
-    let there : c.args.n < length inside.held.items = omega (arith, within, each) in
-    search rules
 
 pub invariant_of-self : goal.invariant_of-self
 invariant_of-self g c =
@@ -34,10 +22,7 @@ pub returns : goal.returns
 returns g c =
     let inside = c.self.inside in
     let clients = g.C.Clients.meaning c.args.clients.now in
-    let view : Played = record { kind = inside.kind; group = inside.group; messages = inside.held.items; nodes = inside.graph.nodes; text = string_bytes inside.text } in
-    let read : MessageValue = c.index-kept.result.now in
-    let judgement : c.in_ok-judgement.judgement ≡ clients.verdict inside.kind read =
-    c.in_ok-judgement.ensures ∙ ap (clients.verdict inside.kind) c.message.ensures in
-    on_ok c.judged.result (λ e. λ m at.
-    judge_is clients view c.args.self.now read m c.in_ok-answer.answer c.judged.new.self.nodes c.args.n c.self.view_is (ap (λ (s : Shown). s.nodes) e)
-    (c.in_ok-answer.ensures ∙ ap judged_of judgement) at c.index-kept.ensures) c.judged.ensures.ok
+    let view : Played = record { kind = inside.kind; group = inside.group; heads = inside.held.items; nodes = inside.graph.nodes; text = string_bytes inside.text } in
+    on_ok c.judged.result (λ e.
+    judge_is clients view c.args.self.now c.args.just.now c.in-Some.one c.in_ok-answer.answer c.judged.new.self.nodes c.args.n c.self.view_is
+    c.in-Some.is c.if-one-n.false (ap (λ (s : Shown). s.nodes) e) (c.in_ok-answer.ensures ∙ ap judged_of c.in_ok-judgement.ensures)) c.judged.ensures.ok
