@@ -34,3 +34,4 @@ pub mod MoreHeld
 pub mod Levelled
 pub mod Served
 pub mod Allowed
+pub mod Roomy

@@ -16,3 +16,4 @@ pub mod Stepping
 pub mod Changes
 pub mod Delivery
 pub mod Allowing
+pub mod Bringing

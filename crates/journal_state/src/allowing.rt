@@ -12,8 +12,8 @@ ghost use Rattle.entry_codec.specs.Allows.{allows, gives, ids_named, is_due, is_
 ghost use Rattle.journal_state.specs.Allowing.{allows_alone, is_new};
 ghost use Rattle.journal_state.specs.Whole.{Knows};
 
+use crate::judging::judgement_of;
 use crate::state::State;
-use crate::verdicts::judgement_of;
 use entry_codec::{ids_named, same_entries, same_out};
 use session_core::{due, take};
 use std::alloc::{AllocError, Global};

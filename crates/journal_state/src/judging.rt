@@ -8,12 +8,30 @@ ghost use Rattle.journal_state.specs.Parts.{answer_of_node};
 ghost use Rattle.journal_state.specs.Whole.{id_at, Knows};
 
 use crate::state::State;
-use crate::verdicts::judgement_of;
 use message_graph::{Judged, Names, Step};
 use std::alloc::{AllocError, Global};
 use sync_ids::{Message, MessageId};
 use sync_rules::{Clients, Entry, Judgement};
 use visibility_table::Levels;
+
+/// What its client says of a message; Refuse where its group or its client is not known. It fails only for want of memory.
+pub(crate) fn judgement_of<C: Clients>(
+    alloc: Global,
+    clients: &C,
+    table: &Levels,
+    message: &Message,
+) -> Result<Judgement, AllocError>
+    ensures { IfOk result (λ j. j ≡ verdict_in (C.meaning clients.now) table.now.groups message.now) }
+{
+    let Some(number) = table.group(&message.group()) else {
+        return Ok(Judgement::Refuse);
+    };
+    let def = table.def(number);
+    match clients.kind_of(def.name(), def.major()) {
+        Some(kind) => clients.judge(alloc, kind, message),
+        None => Ok(Judgement::Refuse),
+    }
+}
 
 /// The names by which the graph knows messages of these ids.
 fn names_of(alloc: Global, ids: &[MessageId]) -> Result<Vec<[u8; 32]>, AllocError>

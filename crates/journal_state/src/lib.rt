@@ -1,7 +1,9 @@
 //! The state of a journal without a disk.
 #![tactic(auto)]
 
+mod admitting;
 mod allowing;
+mod bringing;
 mod counted;
 mod delivering;
 mod fates;
@@ -17,7 +19,6 @@ mod sessions;
 mod state;
 mod steps;
 mod taking;
-mod verdicts;
 mod view;
 mod wanting;
 

@@ -15,7 +15,6 @@ ghost use Rattle.sync_store.specs.Moments.{Adds};
 use crate::StoreFault;
 use crate::frames::frame_batch;
 use crate::store::Store;
-use crate::stubs::room_with;
 use entry_codec::{batch_len, laws};
 use outside::Disk;
 use sync_rules::{Batch, Clients};
@@ -77,7 +76,7 @@ impl Store {
         ensures { result ≡ nat_lt self.now.limit (needed self.now batch.now) }
     {
         let _meaning = clients;
-        let room = room_with(&self.state, batch);
+        let room = self.state.room_with(batch);
         let len = batch_len(batch) as u64;
         let all = room.saturating_add(len).saturating_add(self.journal.end() + 5);
         self.limit < all

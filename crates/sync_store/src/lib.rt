@@ -10,7 +10,6 @@ mod load;
 mod refusals;
 mod settling;
 mod store;
-mod stubs;
 mod view;
 
 pub use fault::{InitFault, LoadFault, PostFault, StoreFault};

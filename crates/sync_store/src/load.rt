@@ -11,7 +11,6 @@ ghost use Rattle.sync_store.specs.Loading.{HasItsRoom, IsLoaded, LeavesSettled, 
 
 use crate::LoadFault;
 use crate::store::Store;
-use crate::stubs;
 use entry_codec::{laws, read_batch};
 use frame_journal::{FrameFault, Journal, StartFault, barrier};
 use journal_state::State;
@@ -41,7 +40,7 @@ fn play<C: Clients>(
         return Err(LoadFault::Damaged(place));
     }
     match read_batch(alloc, payload) {
-        Ok(Some(batch)) => match stubs::admit(state, alloc, clients, batch) {
+        Ok(Some(batch)) => match state.admit(alloc, clients, batch) {
             Ok(true) => Ok(true),
             Ok(false) => Err(LoadFault::Damaged(place)),
             Err(_) => Err(LoadFault::Memory),
