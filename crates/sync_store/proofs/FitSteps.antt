@@ -235,13 +235,13 @@ extends_none clients P Q s new j two o fits roomy told same p q = record {
   moments =
       moments_none o (JournalMoment clients P j (sent_of o.links.told))
       (λ m w.
-          let now = o.now_is two m told w in
-          record {
-            more = [];
-            has = p;
-            stands_for = fits_image clients s j two m.files fits roomy now.image ∙ ap journal (sym (append-nil j));
-            nothing_sent = now.sent;
-          });
+      let now = o.now_is two m told w in
+      record {
+        more = [];
+        has = p;
+        stands_for = fits_image clients s j two m.files fits roomy now.image ∙ ap journal (sym (append-nil j));
+        nothing_sent = now.sent;
+      });
   ends = λ still two' told'.
       let one : two ≡ two' = cc in
       ([], q, subst (λ (k : List (List Entry)). Fits clients new k two') (sym (append-nil j)) (subst (λ (t : Two File). Fits clients new j t) one (fits_same clients s new j two fits same)));

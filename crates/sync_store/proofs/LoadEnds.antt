@@ -151,20 +151,22 @@ fits_loaded clients o0 o1 o2 j s limit settles same all is_open two told =
     let old = becomes_back Settles o0.files o1.files two (sym same ∙ told) settles in
     let read = all.so_far.known two told in
     let stand = loaded clients two o2.files j (store_of j s limit) all told in
-    let At : List ℕ → Type 0 = λ b. HasFrames b (take 14 (file_of (read_files two) j.file)) (map payload read.done) in
-    (read.done, record {
-      first_settled = settled_first old.0 two old.2;
-      second_settled = settled_second old.0 two old.2;
-      stands_for = stand.stands_for;
-      facts_are = read.facts_are;
-      legal = read.front.legal;
-      file_is = read.front.found;
-      format_is = ap format_in (sym (as_read two j.file)) ∙ read.front.format_is;
-      header = take 14 (file_of (read_files two) j.file);
-      frames = subst At (as_read two j.file) (front_frames clients (read_files two) j.file read.done j.end read.front (all.at_end two told));
-      end_is = read.front.end_is;
-      within = read.front.within;
-    })
+    let At : List ℕ → Type 0 = λ b. HasFrames b (take 14 (file_of (read_files two) j.file)) (map payload read.done) in (
+      read.done,
+      record {
+        first_settled = settled_first old.0 two old.2;
+        second_settled = settled_second old.0 two old.2;
+        stands_for = stand.stands_for;
+        facts_are = read.facts_are;
+        legal = read.front.legal;
+        file_is = read.front.found;
+        format_is = ap format_in (sym (as_read two j.file)) ∙ read.front.format_is;
+        header = take 14 (file_of (read_files two) j.file);
+        frames = subst At (as_read two j.file) (front_frames clients (read_files two) j.file read.done j.end read.front (all.at_end two told));
+        end_is = read.front.end_is;
+        within = read.front.within;
+      },
+    )
 
 -- ---- faults
 

@@ -71,16 +71,19 @@ turn_more clients decided one take files files' j j' s s' to so_far same next mo
     let held : length s'.facts.held ≡ length (after_all s.facts played.batch).held = ap (λ (f : Facts). length f.held) played.facts_are in
     let sessions : length s'.facts.sessions ≡ length (after_all s.facts played.batch).sessions = ap (λ (f : Facts). length f.sessions) played.facts_are in
     let far : j.end + 6 ≤ j'.end = moves.3 in
-    let last : j'.last ≡ j.end - 1 = moves.2 in
-    (record {
-      knows = played.knows;
-      few = omega (arith, so_far.few);
-      records = λ session. one_record s.facts s'.facts played.batch session j.end j'.end (take clients s.facts played.batch session allowed) (so_far.records session) played.facts_are (omega arith);
-      started = omega (arith, so_far.started);
-      bounded = bounded;
-      begun = λ early. absurd (omega (arith, so_far.started));
-      known = λ two told. let told' = sym same ∙ told in has_more clients decided two j j' s s' to (so_far.known two told') (next two told') played;
-    }, omega arith, moves.0)
+    let last : j'.last ≡ j.end - 1 = moves.2 in (
+      record {
+        knows = played.knows;
+        few = omega (arith, so_far.few);
+        records = λ session. one_record s.facts s'.facts played.batch session j.end j'.end (take clients s.facts played.batch session allowed) (so_far.records session) played.facts_are (omega arith);
+        started = omega (arith, so_far.started);
+        bounded = bounded;
+        begun = λ early. absurd (omega (arith, so_far.started));
+        known = λ two told. let told' = sym same ∙ told in has_more clients decided two j j' s s' to (so_far.known two told') (next two told') played;
+      },
+      omega arith,
+      moves.0,
+    )
 
 -- ---- damage
 

@@ -25,7 +25,12 @@ impl Store {
     /// journal, the frame and the room that settling may then need pass the limit; after `Full` and `Memory` all is as before, and
     /// after `DiskFault` the store is closed. At each moment the files stand for the journal or for it with the batch, and after
     /// `Ok` every crash leaves the latter.
-    pub fn commit<D: Disk, C: Clients>(&mut self, disk: &mut D, clients: &C, batch: Batch) -> Result<(), StoreFault>
+    pub fn commit<D: Disk, C: Clients>(
+        &mut self,
+        disk: &mut D,
+        clients: &C,
+        batch: Batch,
+    ) -> Result<(), StoreFault>
         requires fits { FitsSome (C.meaning clients.now) self.old (D.tells disk.old).files }
         requires knows { self.old.closed ≡ false → Knows (C.meaning clients.now) self.old.state }
         requires allowed { self.old.closed ≡ false → Allowed (C.meaning clients.now) self.old.state.facts batch }
@@ -42,7 +47,12 @@ impl Store {
         self.commit_batch(disk, clients, batch)
     }
 
-    fn commit_batch<D: Disk, C: Clients>(&mut self, disk: &mut D, clients: &C, batch: Batch) -> Result<(), StoreFault>
+    fn commit_batch<D: Disk, C: Clients>(
+        &mut self,
+        disk: &mut D,
+        clients: &C,
+        batch: Batch,
+    ) -> Result<(), StoreFault>
         requires fits { FitsSome (C.meaning clients.now) self.old (D.tells disk.old).files }
         requires knows { self.old.closed ≡ false → Knows (C.meaning clients.now) self.old.state }
         requires allowed { self.old.closed ≡ false → Allowed (C.meaning clients.now) self.old.state.facts batch }
@@ -78,12 +88,20 @@ impl Store {
         let _meaning = clients;
         let room = self.state.room_with(batch);
         let len = batch_len(batch) as u64;
-        let all = room.saturating_add(len).saturating_add(self.journal.end() + 5);
+        let all = room
+            .saturating_add(len)
+            .saturating_add(self.journal.end() + 5);
         self.limit < all
     }
 
     // Adds the batch in its frame, with no memory.
-    fn add<D: Disk, C: Clients>(&mut self, disk: &mut D, clients: &C, framed: &[u8], batch: Batch) -> Result<(), StoreFault>
+    fn add<D: Disk, C: Clients>(
+        &mut self,
+        disk: &mut D,
+        clients: &C,
+        framed: &[u8],
+        batch: Batch,
+    ) -> Result<(), StoreFault>
         requires fits { FitsSome (C.meaning clients.now) self.old (D.tells disk.old).files }
         requires still_open { self.old.closed ≡ false }
         requires may { MayAdd (C.meaning clients.now) self.old batch framed.now }

@@ -64,7 +64,11 @@ impl Store {
     /// The id of a message that may be written here. In this order, each exactly but for want of memory: `UnknownGroup`,
     /// `AlreadyHeld`, `InvalidPost` where its client refuses it, `DependencyNotDelivered` where a dependency is no delivered
     /// message of the same group.
-    pub fn may_post<C: Clients>(&self, clients: &C, message: &Message) -> Result<MessageId, PostFault>
+    pub fn may_post<C: Clients>(
+        &self,
+        clients: &C,
+        message: &Message,
+    ) -> Result<MessageId, PostFault>
         ensures { IsPost (post_answer (C.meaning clients.now) self.now.state.facts message.now) result }
     {
         let group = message.group();
@@ -89,7 +93,11 @@ impl Store {
     }
 
     // What its client says of a message; Refuse where its group or its client is not known.
-    fn judgement_of<C: Clients>(&self, clients: &C, message: &Message) -> Result<Judgement, AllocError>
+    fn judgement_of<C: Clients>(
+        &self,
+        clients: &C,
+        message: &Message,
+    ) -> Result<Judgement, AllocError>
         ensures { IfOk result (λ answer. answer ≡ verdict_in (C.meaning clients.now) self.now.state.facts.groups message.now) }
     {
         let Some(number) = self.state.group(&message.group()) else {

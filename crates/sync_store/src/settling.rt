@@ -30,7 +30,11 @@ impl Store {
     /// `Full`: each commit leaves room for settling. `Closed` comes exactly where an earlier call answered `DiskFault`. After
     /// `Memory` the journal is extended by the steps made before it, and after `DiskFault` the store is closed. At each moment the
     /// files stand for the journal with some settling batches.
-    pub fn settle<D: Disk, C: Clients>(&mut self, disk: &mut D, clients: &C) -> Result<(), StoreFault>
+    pub fn settle<D: Disk, C: Clients>(
+        &mut self,
+        disk: &mut D,
+        clients: &C,
+    ) -> Result<(), StoreFault>
         requires fits { FitsSome (C.meaning clients.now) self.old (D.tells disk.old).files }
         requires knows { self.old.closed ≡ false → Knows (C.meaning clients.now) self.old.state }
         ensures answer { SettlesSo (C.meaning clients.now) self.old self.new result }
@@ -44,7 +48,11 @@ impl Store {
         self.settle_all(disk, clients)
     }
 
-    fn settle_all<D: Disk, C: Clients>(&mut self, disk: &mut D, clients: &C) -> Result<(), StoreFault>
+    fn settle_all<D: Disk, C: Clients>(
+        &mut self,
+        disk: &mut D,
+        clients: &C,
+    ) -> Result<(), StoreFault>
         requires fits { FitsSome (C.meaning clients.now) self.old (D.tells disk.old).files }
         requires knows { self.old.closed ≡ false → Knows (C.meaning clients.now) self.old.state }
         ensures answer { SettlesSo (C.meaning clients.now) self.old self.new result }
@@ -64,7 +72,11 @@ impl Store {
     }
 
     // Commits one settling batch where a step is left.
-    fn settle_batch<D: Disk, C: Clients>(&mut self, disk: &mut D, clients: &C) -> Result<(), StoreFault>
+    fn settle_batch<D: Disk, C: Clients>(
+        &mut self,
+        disk: &mut D,
+        clients: &C,
+    ) -> Result<(), StoreFault>
         requires fits { FitsSome (C.meaning clients.now) self.old (D.tells disk.old).files }
         requires still_open { self.old.closed ≡ false }
         requires knows { Knows (C.meaning clients.now) self.old.state }
@@ -82,7 +94,13 @@ impl Store {
     }
 
     // The same, with room for the entries and for their frame.
-    fn settle_into<D: Disk, C: Clients>(&mut self, disk: &mut D, clients: &C, mut entries: Vec<Entry>, mut framed: Vec<u8>) -> Result<(), StoreFault>
+    fn settle_into<D: Disk, C: Clients>(
+        &mut self,
+        disk: &mut D,
+        clients: &C,
+        mut entries: Vec<Entry>,
+        mut framed: Vec<u8>,
+    ) -> Result<(), StoreFault>
         requires fits { FitsSome (C.meaning clients.now) self.old (D.tells disk.old).files }
         requires still_open { self.old.closed ≡ false }
         requires knows { Knows (C.meaning clients.now) self.old.state }
@@ -132,7 +150,12 @@ impl Store {
 }
 
 // Makes the next steps of a state, at most as many as a batch has; those that were made before an error stay.
-fn fill<C: Clients>(state: &mut State, alloc: Global, clients: &C, entries: &mut Vec<Entry>) -> Result<(), AllocError>
+fn fill<C: Clients>(
+    state: &mut State,
+    alloc: Global,
+    clients: &C,
+    entries: &mut Vec<Entry>,
+) -> Result<(), AllocError>
     requires knows { Knows (C.meaning clients.now) state.old }
     requires empty { entries.old.items ≡ [] }
     requires room { 256 ≤ vec_capacity entries.old }

@@ -84,7 +84,12 @@ impl Clients for Nobody {
         None
     }
 
-    fn judge(&self, _alloc: Global, _kind: u8, _message: &Message) -> Result<Judgement, AllocError> {
+    fn judge(
+        &self,
+        _alloc: Global,
+        _kind: u8,
+        _message: &Message,
+    ) -> Result<Judgement, AllocError> {
         Ok(Judgement::Refuse)
     }
 }
