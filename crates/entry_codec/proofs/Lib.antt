@@ -1,5 +1,5 @@
 pub mod BatchLaws
-mod Journals
+pub mod Journals
 mod Latencies
 mod OfBatches
 mod Counts

@@ -1,2 +1,14 @@
 mod LoadSteps
 mod LoadEnds
+mod Headers
+mod Stands
+mod Batches
+mod FitSteps
+mod SettleSteps
+mod RoomSteps
+mod BeginSteps
+mod Latencies
+mod Counts
+mod Framing
+pub mod Limits
+mod Growth

@@ -141,7 +141,7 @@ all_read clients files j s (Ok u) so_far at_end room = record { so_far = so_far;
 all_read clients files j s (Err load.NoStore) so_far at_end room = room
 all_read clients files j s (Err (load.Damaged place)) so_far at_end room = room_refused clients files j s place so_far at_end room
 all_read clients files j s (Err load.DiskFault) so_far at_end room = tt
-all_read clients files j s (Err load.Memory) so_far at_end room = absurd room
+all_read clients files j s (Err load.Memory) so_far at_end room = tt
 
 -- ---- what a turn answers
 

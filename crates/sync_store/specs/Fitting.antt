@@ -1,15 +1,15 @@
 -- The disk fits a store: its files stand for a journal that has the store's facts.
-use Rattle.std.specs.Prelude.{◌≡◌, ℕ, false, List, map, Option, Some}
+use Rattle.std.specs.Prelude.{◌≡◌, ℕ, ◌+◌, ◌≤◌, false, List, map, Option, Some}
 use Rattle.std.specs.List.{AllByRecursion}
-use Rattle.outside.specs.Files.{Two, File, file_of, read_files, NothingPending}
-use Rattle.outside.specs.Frames.{HasFrames, end_of, format_in, journal_file}
+use Rattle.outside.specs.Files.{Two, File, IsImage, file_of, read_files, NothingPending}
+use Rattle.outside.specs.Frames.{HasFrames, end_of, format_in, journal_file, most_bytes}
 use Rattle.sync_rules.specs.declared.entries.Entry.{Entry}
 use Rattle.sync_rules.specs.Clients.{Meaning}
 use Rattle.sync_rules.specs.Facts.{facts}
 use Rattle.sync_rules.specs.Legal.{Legal}
 use Rattle.entry_codec.specs.Laws.{payload}
 use Rattle.entry_codec.specs.Spelling.{IsEntry}
-use Rattle.entry_codec.specs.Standing.{stands, journal}
+use Rattle.entry_codec.specs.Standing.{stands, journal, room_of}
 use Rattle.sync_store.specs.Store.{StoreValue}
 
 pub record Fits (clients : Meaning) (s : StoreValue) (j : List (List Entry)) (two : Two File) : Type 0 where
@@ -31,3 +31,9 @@ pub record Fits (clients : Meaning) (s : StoreValue) (j : List (List Entry)) (tw
 -- where the store is not closed and the files are told they fit it with some journal
 abbrev pub FitsSome : Meaning → StoreValue → Option (Two File) → Type 0
 FitsSome clients s files = s.closed ≡ false → (two : Two File) → files ≡ Some two → (j : List (List Entry)) × Fits clients s j two
+
+-- whatever a crash leaves of a disk that fits a store stands for the journal
+abbrev pub ImagesStand : Type 0
+ImagesStand =
+    (clients : Meaning) (s : StoreValue) (j : List (List Entry)) (two : Two File) (left : Two (List ℕ)) → Fits clients s j two → s.end + room_of s.state.facts ≤ most_bytes → IsImage two left
+    → stands clients left ≡ journal j

@@ -115,7 +115,7 @@ HasItsRoom j s (Ok u) = j.end + room_of s.facts ≤ most_bytes
 HasItsRoom j s (Err load.NoStore) = ⊥
 HasItsRoom j s (Err (load.Damaged place)) = (place.file ≡ j.file) × (place.at ≡ j.end - 1) × (most_bytes < j.end + room_of s.facts)
 HasItsRoom j s (Err load.DiskFault) = ⊥
-HasItsRoom j s (Err load.Memory) = ⊥
+HasItsRoom j s (Err load.Memory) = Unit {0}
 
 -- the whole journal was read and played, and its room is left
 pub record HasReadAll (clients : Meaning) (files : Option (Two File)) (j : JournalValue) (s : StateValue) : Type 0 where

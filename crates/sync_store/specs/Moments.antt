@@ -5,6 +5,7 @@ use Rattle.outside.specs.Links.{sent_of}
 use Rattle.outside.specs.Outside.{Outside, Moment, MomentsAre}
 use Rattle.sync_rules.specs.declared.entries.Entry.{Entry}
 use Rattle.sync_rules.specs.Clients.{Meaning}
+use Rattle.sync_rules.specs.Legal.{AllSettling}
 use Rattle.entry_codec.specs.Standing.{stands, journal}
 use Rattle.sync_store.specs.Store.{StoreValue}
 use Rattle.sync_store.specs.Fitting.{Fits}
@@ -35,3 +36,9 @@ added batch (Err _) = []
 -- the run that commits a batch
 abbrev pub Adds : Meaning → List Entry → Result (Unit {0}) StoreFault → StoreValue → Outside → Outside → List (List Entry) → Type 0
 Adds clients batch result s old new j = Extends clients (AtMost batch) (λ more. more ≡ added batch result) s old new j
+
+-- a run that settles: where the disk fitted the store it extends its journal by settling batches alone
+abbrev pub Settles : Meaning → StoreValue → StoreValue → Outside → Outside → Type 0
+Settles clients s s' old new =
+    (two : Two File) → old.files ≡ Some two → (j : List (List Entry)) → Fits clients s j two
+    → Extends clients (AllSettling clients s.state.facts) (AllSettling clients s.state.facts) s' old new j

@@ -1,8 +1,14 @@
 //! A legal journal on a disk: at every moment the two files stand for a legal journal, and the store has its facts.
 #![tactic(auto)]
 
+mod begin;
+mod committing;
 mod fault;
+mod frames;
+pub mod laws;
 mod load;
+mod refusals;
+mod settling;
 mod store;
 mod view;
 
@@ -11,3 +17,5 @@ pub use store::Store;
 
 #[cfg(test)]
 mod load_tests;
+#[cfg(test)]
+mod tests;

@@ -84,7 +84,8 @@ fn test_room(journal: &Journal, state: &State) -> Result<(), LoadFault>
     ensures { HasItsRoom journal.now state.now result }
 {
     let end = journal.end();
-    if state.room() <= MOST_BYTES - end {
+    let room = state.room();
+    if room <= MOST_BYTES - end {
         return Ok(());
     }
     let last = journal.place();

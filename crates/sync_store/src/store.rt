@@ -1,15 +1,22 @@
 //! `Store`.
-ghost use Rattle.std.specs.Prelude.{◌≡◌, ◌<◌, length, Some, slice_get};
+ghost use Rattle.std.specs.Prelude.{◌≡◌, ◌+◌, ◌<◌, ◌≤◌, ◌↔◌, IsTrue, length, Some, slice_get};
 ghost use Rattle.std.specs.Option.{option_map};
-ghost use Rattle.journal_state.specs.Lent.{StandsForRows};
+ghost use Rattle.entry_codec.specs.Standing.{room_of};
+ghost use Rattle.journal_state.specs.Lent.{StandsForNodes, StandsForRows};
+ghost use Rattle.journal_state.specs.Whole.{Knows};
+ghost use Rattle.sync_rules.specs.Clients.{Meaning};
+ghost use Rattle.sync_rules.specs.Facts.{Id};
+ghost use Rattle.sync_rules.specs.Steps.{IsSettled, fate_held};
+ghost use Rattle.sync_rules.specs.Views.{IsPlace};
 
 use frame_journal::Journal;
 use journal_state::State;
+use message_graph::Graph;
 use retry_table::Retry;
 use std::alloc::Global;
 use std::marker::Model;
 use sync_ids::{GroupDef, GroupId, Message, MessageId};
-use sync_rules::Origin;
+use sync_rules::{Fate, Origin};
 
 /// A legal journal on a disk. Contracts see the facts of the journal and the judgements of its messages, the number of its file
 /// and the place of its closed gate plus one, the length that commits may fill, and whether a call on the disk failed.
@@ -37,6 +44,8 @@ impl Model for Store {
 }
 
 impl Store {
+    ghost use Rattle.sync_store.specs.Store.{IsStore};
+
     /// The number of held messages.
     pub fn held(&self) -> u32
         ensures { result ≡ length self.now.state.facts.held }
@@ -72,11 +81,67 @@ impl Store {
         self.journal.end()
     }
 
+    /// Whether the journal is settled.
+    pub fn is_settled(&self) -> bool
+        ensures { (clients : Meaning) → Knows clients self.now.state → (IsTrue result ↔ IsSettled clients self.now.state.facts) }
+    {
+        self.state.is_settled()
+    }
+
+    /// The room in bytes that settling may yet need: 76 for each held message that is not judged, 38 for each that is judged and
+    /// neither delivered nor invalid. Behind the journal it is within the greatest length.
+    pub fn room(&self) -> u64
+        ensures room { result ≡ room_of self.now.state.facts }
+        ensures within { self.now.end + result ≤ 268435456 }
+    {
+        let _end = self.journal.end();
+        self.state.room()
+    }
+
     /// Whether a call on the disk failed.
     pub fn is_closed(&self) -> bool
         ensures { result ≡ self.now.closed }
     {
         self.closed
+    }
+
+    // The same, with the numbers that every store keeps.
+    pub(crate) fn is_shut(&self) -> bool
+        ensures closed { result ≡ self.now.closed }
+        ensures numbers { IsStore self.now }
+    {
+        self.closed
+    }
+
+    /// The number of delivered messages.
+    pub fn delivered(&self) -> u32
+        ensures { result ≡ length self.now.state.facts.delivered }
+    {
+        self.state.delivered()
+    }
+
+    /// The arrival number of the k-th delivered message, from 0, in the order of delivery.
+    pub fn delivered_at(&self, k: u32) -> u32
+        requires { k < length self.now.state.facts.delivered }
+        ensures within { result < length self.now.state.facts.held }
+        ensures place { (id : Id) → slice_get self.now.state.facts.delivered k ≡ Some id → IsPlace self.now.state.facts.held id result }
+    {
+        self.state.delivered_at(k)
+    }
+
+    /// The state of the held message of this arrival number, which is below the number of held messages.
+    pub fn fate(&self, n: u32) -> Fate
+        requires { n < length self.now.state.facts.held }
+        ensures { option_map (λ h. fate_held self.now.state.facts h.id) (slice_get self.now.state.facts.held n) ≡ Some result }
+    {
+        self.state.fate(n)
+    }
+
+    /// The waiting graph: it stands for the journal of the store.
+    pub fn graph(&self) -> &Graph
+        ensures { StandsForNodes self.now.state result.now.nodes }
+    {
+        self.state.graph()
     }
 
     /// The definition of the group of this number, which is below the number of groups.

@@ -1,6 +1,8 @@
-use Rattle.std.proofs.Common.{sym, ◌∙◌}
+use Rattle.std.proofs.Common.{◌≡◌, ap, sym, ◌∙◌}
+use Rattle.sync_rules.specs.Facts.{nothing}
 use Rattle.outside.specs.Files.{read_files}
 use Rattle.outside.specs.Steps.{looks_then}
+use Rattle.journal_state.specs.Whole.{StateValue}
 use Rattle.sync_store.proofs.LoadEnds.{answers, answers_fault, damaged_is, fits_loaded, images_then, knows_none, none_is, starts_damaged, starts_none, starts_so_far, store_of}
 use Rattle.sync_store.proofs.store.Store.load.Goals as goal
 
@@ -30,8 +32,9 @@ returns-in_err-state-clause-any_moment g c =
 pub read_all-requires : goal.read_all-requires
 read_all-requires g c =
     let clients = g.C.Clients.meaning c.args.clients.now in
-    starts_so_far clients (g.D.Disk.tells c.start.new.disk).files c.in-Ok.journal c.in_ok-state.state (λ two told. c.in-Ok.ensures.start two (sym c.start.ensures.looks.same_files ∙ told)) c.in-Ok.ensures.fresh.1 c.in_ok-state.ensures.facts
-    (knows_none clients c.in_ok-state.state c.in_ok-state.ensures.facts c.in_ok-state.ensures.answers)
+    let empty : c.in_ok-state.state.facts ≡ nothing = c.in_ok-state.ensures.facts in
+    starts_so_far clients (g.D.Disk.tells c.start.new.disk).files c.in-Ok.journal c.in_ok-state.state (λ two told. c.in-Ok.ensures.start two (sym c.start.ensures.looks.same_files ∙ told)) c.in-Ok.ensures.fresh.1 empty
+    (knows_none clients c.in_ok-state.state empty c.in_ok-state.ensures.answers)
 
 pub returns-in-Ok-read_all-clause-answer : goal.returns-in-Ok-read_all-clause-answer
 returns-in-Ok-read_all-clause-answer g c two told =

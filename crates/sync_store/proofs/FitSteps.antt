@@ -1,0 +1,261 @@
+-- What a frame more makes of files that fit a store.
+use Rattle.std.proofs.Common.{◌≡◌, ℕ, zero, suc, ◌+◌, ◌≤◌, Bool, true, false, List, [], ◌∷◌, ◌++◌, map, length, Option, None, Some, Result, Ok, Err, refl, sym, ap, ◌∙◌, subst, inl, inr, arith, append-nil, append_assoc}
+use Rattle.std.specs.List.{AllByRecursion}
+use Rattle.std.specs.Option.{ForSome}
+use Rattle.std.proofs.lemmas.List.{ext_get_or}
+use Rattle.outside.specs.Files.{Two, File, IsFileImage, IsImage, NothingPending, file_of, read_files, settled}
+use Rattle.outside.specs.Frames.{HasFrames, IsAtRest, end_of, format_in, journal_file, most_bytes}
+use Rattle.outside.specs.Images.{settled_image}
+use Rattle.outside.specs.Links.{Links, sent_of}
+use Rattle.outside.specs.Disk.{Becomes}
+use Rattle.outside.specs.Outside.{Outside, Moment, MomentsAre}
+use Rattle.outside.specs.Steps.{FileMoment, Passed, becomes_told, image_file, image_other, moments_map, moments_none, other_of}
+use Rattle.frame_journal.specs.Append.{payload_of, IsFramed, Appends, BeforeOrWith}
+use Rattle.sync_rules.specs.declared.entries.Entry.{Entry}
+use Rattle.sync_rules.specs.Clients.{Meaning}
+use Rattle.sync_rules.specs.Facts.{Facts, after_all, facts}
+use Rattle.sync_rules.specs.Legal.{Allowed, Legal}
+use Rattle.entry_codec.specs.Laws.{payload}
+use Rattle.entry_codec.specs.Spelling.{IsEntry}
+use Rattle.entry_codec.specs.Standing.{stands, journal, room_of}
+use Rattle.sync_store.specs.declared.fault.StoreFault.{StoreFault}
+use Rattle.sync_store.specs.Store.{StoreValue, IsStore}
+use Rattle.sync_store.specs.Fitting.{Fits, FitsSome}
+use Rattle.sync_store.specs.Commits.{Gains, MayAdd}
+use Rattle.sync_store.specs.Moments.{JournalMoment, Extends, AtMost, added, Adds}
+use Rattle.sync_store.proofs.Headers.{one_format, one_journal_file}
+use Rattle.sync_store.proofs.Batches.{All-push, facts-push, legal_push, payloads-push, end-push, framed_long}
+use Rattle.sync_store.proofs.Stands.{stands_has}
+
+-- ---- the two files
+
+-- a crash leaves of a file in which nothing is pending what it reads as
+pub settled_only : (bytes c : List ℕ) → IsFileImage (settled bytes) c → c ≡ bytes
+settled_only bytes c image =
+    ext_get_or 0 c bytes (omega (arith, image.no_shorter, image.no_longer))
+    (λ i below. image.kept i (omega (arith, image.no_shorter, image.no_longer)) refl)
+
+other_settled : (two : Two File) (file : ℕ) → NothingPending two 0 → NothingPending two 1 → other_of two file ≡ settled (other_of two file).now
+other_settled two zero first second = second
+other_settled two (suc _) first second = first
+
+this_settled : (two : Two File) (file : ℕ) → NothingPending two 0 → NothingPending two 1 → NothingPending two file
+this_settled two zero first second = first
+this_settled two (suc _) first second = second
+
+first_of : (two : Two File) (file : ℕ) → NothingPending two file → other_of two file ≡ settled (other_of two file).now → NothingPending two 0
+first_of two zero this other = this
+first_of two (suc _) this other = other
+
+second_of : (two : Two File) (file : ℕ) → NothingPending two file → other_of two file ≡ settled (other_of two file).now → NothingPending two 1
+second_of two zero this other = other
+second_of two (suc _) this other = this
+
+other_reads : (two : Two File) (file : ℕ) → other_of (read_files two) file ≡ (other_of two file).now
+other_reads two zero = refl
+other_reads two (suc _) = refl
+
+this_reads : (two : Two File) (file : ℕ) → file_of (read_files two) file ≡ (file_of two file).now
+this_reads two zero = refl
+this_reads two (suc _) = refl
+
+-- ---- what the files of a moment stand for
+
+-- frames of a journal behind the store's header, and the other file as it was
+stands_at : (clients : Meaning) (s : StoreValue) (j : List (List Entry)) (two : Two File) (fits : Fits clients s j two) (m : Two (List ℕ)) (k : List (List Entry))
+    → HasFrames (file_of m s.file) fits.header (map payload k) → other_of m s.file ≡ (other_of two s.file).now → Legal clients k
+    → AllByRecursion (λ batch. AllByRecursion IsEntry batch) k → end_of (map payload k) + room_of (facts k) ≤ most_bytes → stands clients m ≡ journal k
+stands_at clients s j two fits m k frames other legal within bounded =
+    let reads : HasFrames (file_of (read_files two) s.file) fits.header (map payload j) =
+    subst (λ (bytes : List ℕ). HasFrames bytes fits.header (map payload j)) (sym (this_reads two s.file)) fits.frames in
+    stands_has clients m s.file fits.header k
+    (one_journal_file m (read_files two) s.file fits.header (map payload k) (map payload j) frames reads (other ∙ sym (other_reads two s.file)) ∙ fits.file_is)
+    (one_format (file_of m s.file) (file_of two s.file).now fits.header (map payload k) (map payload j) frames fits.frames ∙ fits.format_is)
+    frames legal within bounded
+
+-- the room of a store in words of its journal
+bounded_now : (clients : Meaning) (s : StoreValue) (j : List (List Entry)) (two : Two File) → Fits clients s j two → s.end + room_of s.state.facts ≤ most_bytes
+    → end_of (map payload j) + room_of (facts j) ≤ most_bytes
+bounded_now clients s j two fits roomy =
+    let same : room_of (facts j) ≡ room_of s.state.facts = ap room_of fits.facts_are in
+    omega (arith, fits.end_is, same, roomy)
+
+-- every crash of now leaves files that stand for the journal
+pub fits_image : (clients : Meaning) (s : StoreValue) (j : List (List Entry)) (two : Two File) (m : Two (List ℕ)) → Fits clients s j two → s.end + room_of s.state.facts ≤ most_bytes → IsImage two m
+    → stands clients m ≡ journal j
+fits_image clients s j two m fits roomy image =
+    let this : file_of m s.file ≡ (file_of two s.file).now =
+    settled_only (file_of two s.file).now (file_of m s.file)
+    (subst (λ (f : File). IsFileImage f (file_of m s.file)) (this_settled two s.file fits.first_settled fits.second_settled) (image_file two m s.file image)) in
+    let other : other_of m s.file ≡ (other_of two s.file).now =
+    settled_only (other_of two s.file).now (other_of m s.file)
+    (subst (λ (f : File). IsFileImage f (other_of m s.file)) (other_settled two s.file fits.first_settled fits.second_settled) (image_other two m s.file image)) in
+    stands_at clients s j two fits m j (subst (λ (bytes : List ℕ). HasFrames bytes fits.header (map payload j)) (sym this) fits.frames) other fits.legal fits.within
+    (bounded_now clients s j two fits roomy)
+
+-- ---- a batch more
+
+allowed_here : (clients : Meaning) (s : StoreValue) (j : List (List Entry)) (two : Two File) (batch : List Entry) (framed : List ℕ) → Fits clients s j two → MayAdd clients s batch framed
+    → Allowed clients (facts j) batch
+allowed_here clients s j two batch framed fits may = subst (λ (f : Facts). Allowed clients f batch) (sym fits.facts_are) may.allowed
+
+bounded_then : (clients : Meaning) (s : StoreValue) (j : List (List Entry)) (two : Two File) (batch : List Entry) (framed : List ℕ) → Fits clients s j two → MayAdd clients s batch framed
+    → end_of (map payload (j ++ batch ∷ [])) + room_of (facts (j ++ batch ∷ [])) ≤ most_bytes
+bounded_then clients s j two batch framed fits may =
+    let same : room_of (facts (j ++ batch ∷ [])) ≡ room_of (after_all s.state.facts batch) =
+    ap room_of (facts-push j batch ∙ ap (λ (f : Facts). after_all f batch) fits.facts_are) in
+    omega (arith, end-push j batch framed may.is_framed may.payload_is, fits.end_is, same, may.still_roomy)
+
+more_frames : (bytes header : List ℕ) (j : List (List Entry)) (batch : List Entry) (framed : List ℕ) → payload_of framed ≡ payload batch → HasFrames bytes header (map payload j ++ payload_of framed ∷ [])
+    → HasFrames bytes header (map payload (j ++ batch ∷ []))
+more_frames bytes header j batch framed same frames =
+    subst (λ (ps : List (List ℕ)). HasFrames bytes header ps) (ap (λ p. map payload j ++ p ∷ []) same ∙ sym (payloads-push j batch)) frames
+
+-- a moment of an append: the files stand for the journal, or for it with the batch
+adds_moment : (clients : Meaning) (s : StoreValue) (j : List (List Entry)) (two : Two File) (batch : List Entry) (framed : List ℕ) (sent : List (List ℕ)) → Fits clients s j two
+    → MayAdd clients s batch framed → (m : Moment) → FileMoment (BeforeOrWith (file_of two s.file).now s.end framed) two sent s.file m → JournalMoment clients (AtMost batch) j sent m
+adds_moment clients s j two batch framed sent fits may m moment =
+    let other : other_of m.files s.file ≡ (other_of two s.file).now =
+    settled_only (other_of two s.file).now (other_of m.files s.file)
+    (subst (λ (f : File). IsFileImage f (other_of m.files s.file)) (other_settled two s.file fits.first_settled fits.second_settled) moment.other) in
+    elim (moment.this fits.header (map payload j) fits.frames fits.end_is) [
+      | inl before ↦ record {
+        more = [];
+        has = inl refl;
+        stands_for =
+            stands_at clients s j two fits m.files j before other fits.legal fits.within (bounded_now clients s j two fits may.roomy)
+            ∙ ap journal (sym (append-nil j));
+        nothing_sent = moment.nothing_sent;
+      }
+      | inr with_it ↦ record {
+        more = batch ∷ [];
+        has = inr refl;
+        stands_for =
+            stands_at clients s j two fits m.files (j ++ batch ∷ []) (more_frames (file_of m.files s.file) fits.header j batch framed may.payload_is with_it) other
+            (legal_push clients j batch fits.legal (allowed_here clients s j two batch framed fits may))
+            (All-push (λ b. AllByRecursion IsEntry b) j batch fits.within may.within) (bounded_then clients s j two batch framed fits may);
+        nothing_sent = moment.nothing_sent;
+      }
+    ]
+
+-- after an append the disk fits the store with the batch
+pub adds_fits : (clients : Meaning) (s new : StoreValue) (j : List (List Entry)) (two two' : Two File) (batch : List Entry) (framed : List ℕ) → Fits clients s j two → MayAdd clients s batch framed
+    → Appends s.file s.end framed two two' → Gains s new batch → Fits clients new (j ++ batch ∷ []) two'
+adds_fits clients s new j two two' batch framed fits may appends is_with =
+    let long : length framed ≡ 5 + length (payload batch) = framed_long framed may.is_framed ∙ ap (λ p. 5 + length p) may.payload_is in
+    let grows : new.end ≡ s.end + length framed = omega (arith, is_with.end, long) in
+    let other : other_of two' s.file ≡ settled (other_of two' s.file).now =
+    appends.other ∙ other_settled two s.file fits.first_settled fits.second_settled ∙ ap (λ (f : File). settled f.now) (sym appends.other) in
+    let reads_other : other_of (read_files two') s.file ≡ (other_of two s.file).now = other_reads two' s.file ∙ ap (λ (f : File). f.now) appends.other in
+    let frames : HasFrames (file_of two' s.file).now fits.header (map payload (j ++ batch ∷ [])) =
+    more_frames (file_of two' s.file).now fits.header j batch framed may.payload_is (appends.frames fits.header (map payload j) fits.frames fits.end_is) in
+    let read_frames : HasFrames (file_of (read_files two') s.file) fits.header (map payload (j ++ batch ∷ [])) =
+    subst (λ (bytes : List ℕ). HasFrames bytes fits.header (map payload (j ++ batch ∷ []))) (sym (this_reads two' s.file)) frames in
+    let before : HasFrames (file_of (read_files two) s.file) fits.header (map payload j) =
+    subst (λ (bytes : List ℕ). HasFrames bytes fits.header (map payload j)) (sym (this_reads two s.file)) fits.frames in
+    let legal = legal_push clients j batch fits.legal (allowed_here clients s j two batch framed fits may) in
+    let within = All-push (λ b. AllByRecursion IsEntry b) j batch fits.within may.within in
+    record {
+      first_settled = first_of two' s.file appends.at_rest.settled other;
+      second_settled = second_of two' s.file appends.at_rest.settled other;
+      stands_for = stands_at clients s j two fits (read_files two') (j ++ batch ∷ []) read_frames reads_other legal within (bounded_then clients s j two batch framed fits may);
+      facts_are = facts-push j batch ∙ ap (λ (f : Facts). after_all f batch) fits.facts_are ∙ sym is_with.facts;
+      legal = legal;
+      file_is =
+          one_journal_file (read_files two') (read_files two) s.file fits.header (map payload (j ++ batch ∷ [])) (map payload j) read_frames before (reads_other ∙ sym (other_reads two s.file))
+          ∙ fits.file_is ∙ ap Some (sym is_with.file);
+      format_is =
+          ap (λ k. format_in (file_of two' k).now) is_with.file
+          ∙ one_format (file_of two' s.file).now (file_of two s.file).now fits.header (map payload (j ++ batch ∷ [])) (map payload j) frames fits.frames ∙ fits.format_is;
+      header = fits.header;
+      frames = subst (λ k. HasFrames (file_of two' k).now fits.header (map payload (j ++ batch ∷ []))) (sym is_with.file) frames;
+      end_is = grows ∙ ap (λ e. e + length framed) fits.end_is ∙ sym (end-push j batch framed may.is_framed may.payload_is);
+      within = within;
+    }
+
+-- ---- the run of an append
+
+pub adds_moments : (clients : Meaning) (s : StoreValue) (j : List (List Entry)) (two : Two File) (batch : List Entry) (framed : List ℕ) (o o' : Outside) → Fits clients s j two
+    → MayAdd clients s batch framed → Passed two o o' s.file (BeforeOrWith (file_of two s.file).now s.end framed)
+    → MomentsAre o o' (JournalMoment clients (AtMost batch) j (sent_of o.links.told))
+adds_moments clients s j two batch framed o o' fits may passed =
+    moments_map o o' (FileMoment (BeforeOrWith (file_of two s.file).now s.end framed) two (sent_of o.links.told) s.file) (JournalMoment clients (AtMost batch) j (sent_of o.links.told))
+    (adds_moment clients s j two batch framed (sent_of o.links.told) fits may) passed
+
+true≢false : {A : Type 0} (b : Bool) → b ≡ true → b ≡ false → A
+true≢false b is_true is_false = cc
+
+told_same : (a b c : Two File) (o o' : Option (Two File)) → o ≡ Some a → o ≡ Some b → a ≡ b
+told_same a b c o o' first second = cc
+
+pub adds_ok : (clients : Meaning) (s new : StoreValue) (j : List (List Entry)) (two : Two File) (batch : List Entry) (framed : List ℕ) (u : Unit {0}) (o o' : Outside) → Fits clients s j two
+    → MayAdd clients s batch framed → o.files ≡ Some two → Passed two o o' s.file (BeforeOrWith (file_of two s.file).now s.end framed)
+    → Becomes (Appends s.file s.end framed) o.files o'.files → Gains s new batch → Adds clients batch (Ok u) new o o' j
+adds_ok clients s new j two batch framed u o o' fits may told passed becomes is_with = record {
+  moments = adds_moments clients s j two batch framed o o' fits may passed;
+  ends = λ still two' told'.
+      let there = becomes_told (Appends s.file s.end framed) o.files o'.files two told becomes in
+      let same : there.0 ≡ two' = cc in
+      (batch ∷ [], refl, adds_fits clients s new j two two' batch framed fits may (subst (λ (t : Two File). Appends s.file s.end framed two t) same there.2) is_with);
+}
+
+pub adds_err : (clients : Meaning) (s new : StoreValue) (j : List (List Entry)) (two : Two File) (batch : List Entry) (framed : List ℕ) (e : StoreFault) (o o' : Outside) → Fits clients s j two
+    → MayAdd clients s batch framed → Passed two o o' s.file (BeforeOrWith (file_of two s.file).now s.end framed)
+    → new.closed ≡ true → Adds clients batch (Err e) new o o' j
+adds_err clients s new j two batch framed e o o' fits may passed closed = record {
+  moments = adds_moments clients s j two batch framed o o' fits may passed;
+  ends = λ still two' told'. true≢false new.closed closed still;
+}
+
+-- the facts of a store, its file and its end are as before
+pub record IsSame (s new : StoreValue) : Type 0 where
+  pub facts : new.state.facts ≡ s.state.facts
+  pub file : new.file ≡ s.file
+  pub end : new.end ≡ s.end
+
+pub fits_same : (clients : Meaning) (s new : StoreValue) (j : List (List Entry)) (two : Two File) → Fits clients s j two → IsSame s new → Fits clients new j two
+fits_same clients s new j two fits same = record {
+  first_settled = fits.first_settled;
+  second_settled = fits.second_settled;
+  stands_for = fits.stands_for;
+  facts_are = fits.facts_are ∙ sym same.facts;
+  legal = fits.legal;
+  file_is = fits.file_is ∙ ap Some (sym same.file);
+  format_is = ap (λ k. format_in (file_of two k).now) same.file ∙ fits.format_is;
+  header = fits.header;
+  frames = subst (λ k. HasFrames (file_of two k).now fits.header (map payload j)) (sym same.file) fits.frames;
+  end_is = same.end ∙ fits.end_is;
+  within = fits.within;
+}
+
+-- no call on the disk
+pub extends_none : (clients : Meaning) (P Q : List (List Entry) → Type 0) (s new : StoreValue) (j : List (List Entry)) (two : Two File) (o : Outside) → Fits clients s j two
+    → s.end + room_of s.state.facts ≤ most_bytes → o.files ≡ Some two → IsSame s new → P [] → Q [] → Extends clients P Q new o o j
+extends_none clients P Q s new j two o fits roomy told same p q = record {
+  moments =
+      moments_none o (JournalMoment clients P j (sent_of o.links.told))
+      (λ m w.
+      let now = o.now_is two m told w in
+      record {
+        more = [];
+        has = p;
+        stands_for = fits_image clients s j two m.files fits roomy now.image ∙ ap journal (sym (append-nil j));
+        nothing_sent = now.sent;
+      });
+  ends = λ still two' told'.
+      let one : two ≡ two' = cc in
+      ([], q, subst (λ (k : List (List Entry)). Fits clients new k two') (sym (append-nil j)) (subst (λ (t : Two File). Fits clients new j t) one (fits_same clients s new j two fits same)));
+}
+
+-- a journal's file at rest, as an append asks
+at_rest : (clients : Meaning) (s : StoreValue) (j : List (List Entry)) (two : Two File) → Fits clients s j two → IsAtRest two s.file s.end
+at_rest clients s j two fits = record {
+  settled = this_settled two s.file fits.first_settled fits.second_settled;
+  header = fits.header;
+  payloads = map payload j;
+  frames = fits.frames;
+  end_is = fits.end_is;
+}
+
+pub rests : (clients : Meaning) (s : StoreValue) (files : Option (Two File)) → FitsSome clients s files → s.closed ≡ false → ForSome files (λ two. IsAtRest two s.file s.end)
+rests clients s files fits still two told = let there = fits still two told in at_rest clients s there.0 two there.1

@@ -1,0 +1,15 @@
+use Rattle.std.proofs.Common.{◌≡◌, ◌≤◌, vec_capacity, vec_len}
+use Rattle.journal_state.specs.Whole.{Knows}
+use Rattle.sync_rules.specs.Facts.{after_all}
+use Rattle.sync_rules.specs.Legal.{IsSettling}
+use Rattle.sync_store.proofs.settling.fill.Given as goal
+
+-- the steps so far are the entries, and the state has made them
+abbrev pub invariant-steps : goal.invariant-steps
+invariant-steps g l = record {
+  settling : IsSettling (g.C.Clients.meaning l.clients) l.fn.state.facts l.entries.items;
+  made : l.state.facts ≡ after_all l.fn.state.facts l.entries.items;
+  knows : Knows (g.C.Clients.meaning l.clients) l.state;
+  count : vec_len l.entries ≡ l._made;
+  capacity : 256 ≤ vec_capacity l.entries;
+}

@@ -1,0 +1,130 @@
+//! A batch committed.
+ghost use Rattle.std.specs.Prelude.{◌≡◌, ◌+◌, ◌^◌, ◌<◌, ◌≤◌, false, true, List, Some, length, nat_lt, IfErr, IsErrOf, OnOk};
+ghost use Rattle.outside.specs.Faults.{HasCause, Rose};
+ghost use Rattle.outside.specs.Files.{Two, File};
+ghost use Rattle.outside.specs.Outside.{DiskRun};
+ghost use Rattle.journal_state.specs.Whole.{Knows};
+ghost use Rattle.sync_rules.specs.declared.entries.Entry.{Entry};
+ghost use Rattle.sync_rules.specs.Legal.{Allowed};
+ghost use Rattle.entry_codec.specs.Allows.{is_settling_kind};
+ghost use Rattle.journal_state.specs.Taking.{HasRoom};
+ghost use Rattle.sync_store.specs.Commits.{Commits, Gains, MayAdd, Untouched, needed};
+ghost use Rattle.sync_store.specs.Fitting.{Fits, FitsSome};
+ghost use Rattle.sync_store.specs.Moments.{Adds};
+
+use crate::StoreFault;
+use crate::frames::frame_batch;
+use crate::store::Store;
+use entry_codec::{batch_len, laws};
+use outside::Disk;
+use sync_rules::{Batch, Clients};
+
+impl Store {
+    /// Commits a batch, which may follow the journal and is no settling batch. Before its first call on the disk it takes all the
+    /// memory that it needs. `Closed` comes exactly where an earlier call answered `DiskFault`; then `Full` exactly where the
+    /// journal, the frame and the room that settling may then need pass the limit; after `Full` and `Memory` all is as before, and
+    /// after `DiskFault` the store is closed. At each moment the files stand for the journal or for it with the batch, and after
+    /// `Ok` every crash leaves the latter.
+    pub fn commit<D: Disk, C: Clients>(
+        &mut self,
+        disk: &mut D,
+        clients: &C,
+        batch: Batch,
+    ) -> Result<(), StoreFault>
+        requires fits { FitsSome (C.meaning clients.now) self.old (D.tells disk.old).files }
+        requires knows { self.old.closed ≡ false → Knows (C.meaning clients.now) self.old.state }
+        requires allowed { self.old.closed ≡ false → Allowed (C.meaning clients.now) self.old.state.facts batch }
+        requires kind { is_settling_kind batch ≡ false }
+        ensures answer { Commits self.old self.new batch result }
+        ensures extends { self.old.closed ≡ false → (two : Two File) → (D.tells disk.old).files ≡ Some two → (j : List (List Entry)) → Fits (C.meaning clients.now) self.old j two
+            → Adds (C.meaning clients.now) batch result self.new (D.tells disk.old) (D.tells disk.new) j }
+        ensures fits { FitsSome (C.meaning clients.now) self.new (D.tells disk.new).files }
+        ensures knows { self.new.closed ≡ false → Knows (C.meaning clients.now) self.new.state }
+        ensures untouched { Untouched result (D.tells disk.old).files (D.tells disk.new).files }
+        ensures run { DiskRun (D.tells disk.old) (D.tells disk.new) }
+        ensures fault { IsErrOf result StoreFault.DiskFault → Rose (D.tells disk.old).disk_faults (D.tells disk.new).disk_faults }
+    {
+        self.commit_batch(disk, clients, batch)
+    }
+
+    fn commit_batch<D: Disk, C: Clients>(
+        &mut self,
+        disk: &mut D,
+        clients: &C,
+        batch: Batch,
+    ) -> Result<(), StoreFault>
+        requires fits { FitsSome (C.meaning clients.now) self.old (D.tells disk.old).files }
+        requires knows { self.old.closed ≡ false → Knows (C.meaning clients.now) self.old.state }
+        requires allowed { self.old.closed ≡ false → Allowed (C.meaning clients.now) self.old.state.facts batch }
+        requires kind { is_settling_kind batch ≡ false }
+        ensures answer { Commits self.old self.new batch result }
+        ensures extends { self.old.closed ≡ false → (two : Two File) → (D.tells disk.old).files ≡ Some two → (j : List (List Entry)) → Fits (C.meaning clients.now) self.old j two
+            → Adds (C.meaning clients.now) batch result self.new (D.tells disk.old) (D.tells disk.new) j }
+        ensures knows { self.new.closed ≡ false → Knows (C.meaning clients.now) self.new.state }
+        ensures untouched { Untouched result (D.tells disk.old).files (D.tells disk.new).files }
+        ensures run { DiskRun (D.tells disk.old) (D.tells disk.new) }
+        ensures fault { IsErrOf result StoreFault.DiskFault → Rose (D.tells disk.old).disk_faults (D.tells disk.new).disk_faults }
+    {
+        if self.closed {
+            return Err(StoreFault::Closed);
+        }
+        if self.is_full(clients, &batch) {
+            return Err(StoreFault::Full);
+        }
+        laws::payloads_fit_frames();
+        let framed = frame_batch(self.alloc, &batch)?;
+        self.state.reserve(&batch)?;
+        self.add(disk, clients, framed.as_slice(), batch)
+    }
+
+    // Whether the journal with the batch and the room for settling passes the limit.
+    #[tactic(auto, using(crate::proofs::Limits::passes))]
+    fn is_full<C: Clients>(&self, clients: &C, batch: &Batch) -> bool
+        requires knows { Knows (C.meaning clients.now) self.now.state }
+        requires allowed { Allowed (C.meaning clients.now) self.now.state.facts batch.now }
+        requires kind { is_settling_kind batch.now ≡ false }
+        ensures { result ≡ nat_lt self.now.limit (needed self.now batch.now) }
+    {
+        let _meaning = clients;
+        let room = self.state.room_with(batch);
+        let len = batch_len(batch) as u64;
+        let all = room
+            .saturating_add(len)
+            .saturating_add(self.journal.end() + 5);
+        self.limit < all
+    }
+
+    // Adds the batch in its frame, with no memory.
+    fn add<D: Disk, C: Clients>(
+        &mut self,
+        disk: &mut D,
+        clients: &C,
+        framed: &[u8],
+        batch: Batch,
+    ) -> Result<(), StoreFault>
+        requires fits { FitsSome (C.meaning clients.now) self.old (D.tells disk.old).files }
+        requires still_open { self.old.closed ≡ false }
+        requires may { MayAdd (C.meaning clients.now) self.old batch framed.now }
+        requires kind { is_settling_kind batch ≡ false }
+        requires room { HasRoom self.old.state batch }
+        ensures ok { OnOk result (Gains self.old self.new batch) }
+        ensures err { IfErr result (λ e. (e ≡ StoreFault.DiskFault) × (self.new.closed ≡ true)) }
+        ensures extends { (two : Two File) → (D.tells disk.old).files ≡ Some two → (j : List (List Entry)) → Fits (C.meaning clients.now) self.old j two
+            → Adds (C.meaning clients.now) batch result self.new (D.tells disk.old) (D.tells disk.new) j }
+        ensures knows { OnOk result (Knows (C.meaning clients.now) self.old.state → Knows (C.meaning clients.now) self.new.state) }
+        ensures run { DiskRun (D.tells disk.old) (D.tells disk.new) }
+        ensures fault { HasCause (D.tells disk.old).disk_faults (D.tells disk.new).disk_faults result }
+    {
+        let _meaning = clients;
+        match self.journal.append(disk, framed) {
+            Ok(()) => {
+                self.state.take(batch);
+                Ok(())
+            }
+            Err(_) => {
+                self.closed = true;
+                Err(StoreFault::DiskFault)
+            }
+        }
+    }
+}

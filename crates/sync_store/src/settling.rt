@@ -1,0 +1,175 @@
+//! The steps of a journal, committed until it is settled.
+ghost use Rattle.std.specs.Prelude.{◌≡◌, ◌+◌, ◌<◌, ◌≤◌, [], false, true, Some, length, max, vec_capacity, vec_len, IfErr, IsErrOf, OnErr, OnOk};
+ghost use Rattle.std.specs.Option.{ForSome};
+ghost use Rattle.outside.specs.Faults.{HasCause, Rose};
+ghost use Rattle.outside.specs.Files.{Two, File, file_of};
+ghost use Rattle.outside.specs.Frames.{IsAtRest};
+ghost use Rattle.outside.specs.Outside.{DiskRun};
+ghost use Rattle.outside.specs.Disk.{Becomes};
+ghost use Rattle.outside.specs.Steps.{Passed};
+ghost use Rattle.frame_journal.specs.Append.{IsFramed, Appends, BeforeOrWith};
+ghost use Rattle.journal_state.specs.Whole.{Knows};
+ghost use Rattle.sync_rules.specs.Facts.{after_all};
+ghost use Rattle.sync_rules.specs.Legal.{IsSettling};
+ghost use Rattle.sync_rules.specs.Steps.{IsSettled};
+ghost use Rattle.entry_codec.specs.Standing.{room_of};
+ghost use Rattle.sync_store.specs.Commits.{Proceeds, SettlesOne, SettlesSo};
+ghost use Rattle.sync_store.specs.Fitting.{FitsSome};
+ghost use Rattle.sync_store.specs.Moments.{Settles};
+
+use crate::StoreFault;
+use crate::frames::{MOST_FRAMED, MOST_STEPS, frame_steps};
+use crate::store::Store;
+use journal_state::State;
+use outside::Disk;
+use std::alloc::{AllocError, Global};
+use sync_rules::{Clients, Entry};
+
+impl Store {
+    /// Commits settling batches, each filled to 256 entries while a step is left, until the journal is settled. It never answers
+    /// `Full`: each commit leaves room for settling. `Closed` comes exactly where an earlier call answered `DiskFault`. After
+    /// `Memory` the journal is extended by the steps made before it, and after `DiskFault` the store is closed. At each moment the
+    /// files stand for the journal with some settling batches.
+    pub fn settle<D: Disk, C: Clients>(
+        &mut self,
+        disk: &mut D,
+        clients: &C,
+    ) -> Result<(), StoreFault>
+        requires fits { FitsSome (C.meaning clients.now) self.old (D.tells disk.old).files }
+        requires knows { self.old.closed ≡ false → Knows (C.meaning clients.now) self.old.state }
+        ensures answer { SettlesSo (C.meaning clients.now) self.old self.new result }
+        ensures proceeds { Proceeds (C.meaning clients.now) self.old self.new }
+        ensures settles { self.old.closed ≡ false → Settles (C.meaning clients.now) self.old self.new (D.tells disk.old) (D.tells disk.new) }
+        ensures fits { FitsSome (C.meaning clients.now) self.new (D.tells disk.new).files }
+        ensures knows { self.new.closed ≡ false → Knows (C.meaning clients.now) self.new.state }
+        ensures run { DiskRun (D.tells disk.old) (D.tells disk.new) }
+        ensures fault { IsErrOf result StoreFault.DiskFault → Rose (D.tells disk.old).disk_faults (D.tells disk.new).disk_faults }
+    {
+        self.settle_all(disk, clients)
+    }
+
+    fn settle_all<D: Disk, C: Clients>(
+        &mut self,
+        disk: &mut D,
+        clients: &C,
+    ) -> Result<(), StoreFault>
+        requires fits { FitsSome (C.meaning clients.now) self.old (D.tells disk.old).files }
+        requires knows { self.old.closed ≡ false → Knows (C.meaning clients.now) self.old.state }
+        ensures answer { SettlesSo (C.meaning clients.now) self.old self.new result }
+        ensures proceeds { Proceeds (C.meaning clients.now) self.old self.new }
+        ensures settles { self.old.closed ≡ false → Settles (C.meaning clients.now) self.old self.new (D.tells disk.old) (D.tells disk.new) }
+        ensures knows { self.new.closed ≡ false → Knows (C.meaning clients.now) self.new.state }
+        ensures run { DiskRun (D.tells disk.old) (D.tells disk.new) }
+        ensures fault { IsErrOf result StoreFault.DiskFault → Rose (D.tells disk.old).disk_faults (D.tells disk.new).disk_faults }
+    {
+        if self.is_shut() {
+            return Err(StoreFault::Closed);
+        }
+        'batches: while !self.is_settled() {
+            self.settle_batch(disk, clients)?;
+        }
+        Ok(())
+    }
+
+    // Commits one settling batch where a step is left.
+    fn settle_batch<D: Disk, C: Clients>(
+        &mut self,
+        disk: &mut D,
+        clients: &C,
+    ) -> Result<(), StoreFault>
+        requires fits { FitsSome (C.meaning clients.now) self.old (D.tells disk.old).files }
+        requires still_open { self.old.closed ≡ false }
+        requires knows { Knows (C.meaning clients.now) self.old.state }
+        requires unsettled { IsSettled (C.meaning clients.now) self.old.state.facts → ⊥ }
+        ensures answer { SettlesOne self.old self.new result }
+        ensures proceeds { Proceeds (C.meaning clients.now) self.old self.new }
+        ensures settles { Settles (C.meaning clients.now) self.old self.new (D.tells disk.old) (D.tells disk.new) }
+        ensures knows { Knows (C.meaning clients.now) self.new.state }
+        ensures run { DiskRun (D.tells disk.old) (D.tells disk.new) }
+        ensures fault { IsErrOf result StoreFault.DiskFault → Rose (D.tells disk.old).disk_faults (D.tells disk.new).disk_faults }
+    {
+        let entries = Vec::with_capacity(self.alloc, MOST_STEPS)?;
+        let framed = Vec::with_capacity(self.alloc, MOST_FRAMED)?;
+        self.settle_into(disk, clients, entries, framed)
+    }
+
+    // The same, with room for the entries and for their frame.
+    fn settle_into<D: Disk, C: Clients>(
+        &mut self,
+        disk: &mut D,
+        clients: &C,
+        mut entries: Vec<Entry>,
+        mut framed: Vec<u8>,
+    ) -> Result<(), StoreFault>
+        requires fits { FitsSome (C.meaning clients.now) self.old (D.tells disk.old).files }
+        requires still_open { self.old.closed ≡ false }
+        requires knows { Knows (C.meaning clients.now) self.old.state }
+        requires unsettled { IsSettled (C.meaning clients.now) self.old.state.facts → ⊥ }
+        requires no_entries { entries.items ≡ [] }
+        requires entries_room { 256 ≤ vec_capacity entries }
+        requires no_frame { framed.items ≡ [] }
+        requires frame_room { 8453 ≤ vec_capacity framed }
+        ensures answer { SettlesOne self.old self.new result }
+        ensures proceeds { Proceeds (C.meaning clients.now) self.old self.new }
+        ensures settles { Settles (C.meaning clients.now) self.old self.new (D.tells disk.old) (D.tells disk.new) }
+        ensures knows { Knows (C.meaning clients.now) self.new.state }
+        ensures run { DiskRun (D.tells disk.old) (D.tells disk.new) }
+        ensures fault { IsErrOf result StoreFault.DiskFault → Rose (D.tells disk.old).disk_faults (D.tells disk.new).disk_faults }
+    {
+        let filled = fill(&mut self.state, self.alloc, clients, &mut entries);
+        if entries.is_empty() {
+            filled?;
+            return Ok(());
+        }
+        frame_steps(entries.as_slice(), &mut framed);
+        self.write(disk, framed.as_slice())?;
+        filled?;
+        Ok(())
+    }
+
+    // Adds a frame to the journal's file, and closes the store where that fails.
+    fn write<D: Disk>(&mut self, disk: &mut D, framed: &[u8]) -> Result<(), StoreFault>
+        requires framed { IsFramed framed.now }
+        requires room { self.old.end + length framed.now + room_of self.old.state.facts ≤ 268435456 }
+        requires fits { ForSome (D.tells disk.old).files (λ two. IsAtRest two self.old.file self.old.end) }
+        ensures ok { OnOk result (self.new ≡ record self.old { end = self.old.end + length framed.now }) }
+        ensures err { IfErr result (λ e. (e ≡ StoreFault.DiskFault) × (self.new ≡ record self.old { closed = true })) }
+        ensures appended { OnOk result (Becomes (Appends self.old.file self.old.end framed.now) (D.tells disk.old).files (D.tells disk.new).files) }
+        ensures any_moment { (two : Two File) → (D.tells disk.old).files ≡ Some two → Passed two (D.tells disk.old) (D.tells disk.new) self.old.file (BeforeOrWith (file_of two self.old.file).now self.old.end framed.now) }
+        ensures run { DiskRun (D.tells disk.old) (D.tells disk.new) }
+        ensures fault { HasCause (D.tells disk.old).disk_faults (D.tells disk.new).disk_faults result }
+    {
+        match self.journal.append(disk, framed) {
+            Ok(()) => Ok(()),
+            Err(_) => {
+                self.closed = true;
+                Err(StoreFault::DiskFault)
+            }
+        }
+    }
+}
+
+// Makes the next steps of a state, at most as many as a batch has; those that were made before an error stay.
+fn fill<C: Clients>(
+    state: &mut State,
+    alloc: Global,
+    clients: &C,
+    entries: &mut Vec<Entry>,
+) -> Result<(), AllocError>
+    requires knows { Knows (C.meaning clients.now) state.old }
+    requires empty { entries.old.items ≡ [] }
+    requires room { 256 ≤ vec_capacity entries.old }
+    ensures steps { IsSettling (C.meaning clients.now) state.old.facts entries.new.items }
+    ensures few { vec_len entries.new ≤ 256 }
+    ensures facts { state.new.facts ≡ after_all state.old.facts entries.new.items }
+    ensures knows { Knows (C.meaning clients.now) state.new }
+    ensures none { OnOk result (entries.new.items ≡ [] → IsSettled (C.meaning clients.now) state.old.facts) }
+{
+    'steps: for _made in 0..MOST_STEPS {
+        let Some(entry) = state.step(alloc, clients)? else {
+            return Ok(());
+        };
+        entries.push(entry).unwrap();
+    }
+    Ok(())
+}
