@@ -8,11 +8,13 @@ use sync_ids::{
 };
 use sync_rules::{Batch, Entry, Level, Mode, Out, Session, id_of};
 
-/// The most batches behind those that each journal begins with, which are four.
+/// The most batches behind those that each journal begins with, which are four, and the least.
 const MOST_STEPS: u64 = 16;
 
+const LEAST_STEPS: u64 = 6;
+
 /// How many contacts there may be, and how many groups.
-const FEW: u8 = 3;
+const FEW: u8 = 2;
 
 /// How many messages there may be.
 const MESSAGES: u8 = 12;
@@ -49,9 +51,11 @@ const KINDS: [Kind; 16] = [
     Kind::Out,
 ];
 
-const LEVELS: [Level; 4] = [
+const LEVELS: [Level; 6] = [
     Level::Invisible,
     Level::Visible,
+    Level::Shared,
+    Level::Shared,
     Level::Shared,
     Level::Shared,
 ];
@@ -72,6 +76,8 @@ enum Stage {
 struct Post {
     time: u64,
     group: GroupId,
+    /// The number of its group.
+    turn: u8,
     id: MessageId,
     stage: Stage,
 }
@@ -120,12 +126,14 @@ fn make_session(number: u32, contact: u8, mode: Mode, latency: u32) -> Session {
 fn make_posts(alloc: Global) -> Result<Vec<Post>> {
     let mut posts = Vec::new(alloc);
     for number in 0..MESSAGES {
-        let group = group_id(&group_def(alloc, number % FEW)?);
+        let turn = number % FEW;
+        let group = group_id(&group_def(alloc, turn)?);
         let time = u64::from(number);
         let id = id_of(&make_message(alloc, group, time)?);
         posts.push(Post {
             time,
             group,
+            turn,
             id,
             stage: Stage::Absent,
         })?;
@@ -166,7 +174,7 @@ impl Draft {
     }
 
     fn go_on(&mut self) -> Result<()> {
-        for _ in 0..self.dice.below(MOST_STEPS + 1) {
+        for _ in 0..LEAST_STEPS + self.dice.below(MOST_STEPS - LEAST_STEPS + 1) {
             if let Some(kind) = self.dice.pick(&KINDS) {
                 self.add_batch(*kind)?;
             }
@@ -210,7 +218,12 @@ impl Draft {
         if kind == Kind::Heard {
             entries.push(Entry::Take(number, self.dice.below(9)))?;
         }
-        for _ in 0..1 + self.dice.below(4) {
+        let tries = match kind {
+            Kind::Settle => 24,
+            Kind::Level => 4,
+            _ => 1 + self.dice.below(4),
+        };
+        for _ in 0..tries {
             if let Some(entry) = self.entry(kind, number)? {
                 entries.push(entry)?;
             }
@@ -297,7 +310,7 @@ impl Draft {
     fn hold(&mut self, place: usize) -> Result<Option<Message>> {
         let known = self.groups;
         match self.posts.get_mut(place) {
-            Some(post) if post.stage == Stage::Absent && place % 3 < known as usize => {
+            Some(post) if post.stage == Stage::Absent && post.turn < known => {
                 post.stage = Stage::Held;
                 Ok(Some(make_message(self.alloc, post.group, post.time)?))
             }
@@ -318,7 +331,7 @@ impl Draft {
                 return Ok(Some(Entry::Arrive(number, message)));
             }
         }
-        let choice = self.dice.below(3);
+        let choice = self.dice.below(4);
         match self.posts.get(place) {
             Some(post) if post.stage != Stage::Absent => Ok(Some(match choice {
                 0 => Entry::Again(number, post.id),
@@ -326,7 +339,7 @@ impl Draft {
                 _ => Entry::Asked(number, post.id),
             })),
             Some(post) if choice == 0 => Ok(Some(Entry::Offered(number, post.id))),
-            _ => Ok(Some(Entry::Offered(number, strange(self.dice.below(16))))),
+            _ => Ok(Some(Entry::Offered(number, strange(12 + self.dice.below(4))))),
         }
     }
 
@@ -354,10 +367,10 @@ impl Draft {
 
     fn output(&mut self) -> Result<Out> {
         let mut dice = self.dice;
-        let what = match dice.below(6) {
-            0 => Out::Acks(self.ids(&mut dice, 4)?),
-            1 => Out::Requests(self.ids(&mut dice, 8)?),
-            2 | 3 => Out::Offers(self.ids(&mut dice, 6)?),
+        let what = match dice.below(5) {
+            0 => Out::Acks(self.ids(&mut dice, 40)?),
+            1 => Out::Requests(self.ids(&mut dice, 40)?),
+            2 => Out::Offers(self.ids(&mut dice, 6)?),
             _ => Out::Send(self.id(&mut dice)),
         };
         self.dice = dice;
