@@ -22,7 +22,7 @@ use Rattle.journal_state.specs.Fates.{fate_as}
 use Rattle.journal_state.specs.Left.{left_in, left_of, one_if_delivered, one_if_none, sum_of}
 use Rattle.journal_state.specs.Lent.{IsNodeOf, StandsForNodes, ending_by, judged_of}
 use Rattle.journal_state.specs.Parts.{Parts, answer_of_node, answers_of, facts_of, is_invalid, is_judged, name_at}
-use Rattle.journal_state.specs.Settling.{room_among, room_for, room_of}
+use Rattle.entry_codec.specs.Standing.{room_among, room_for, room_of}
 use Rattle.journal_state.specs.Whole.{IsState, id_at, is_delivered_in, value_of}
 use Rattle.journal_state.proofs.Places.{place_found}
 use Rattle.journal_state.proofs.Listed.{id_there, below_is}

@@ -2,7 +2,6 @@ pub mod Codes
 pub mod Holding
 pub mod Begun
 pub mod Left
-pub mod Settling
 pub mod Fates
 pub mod Room
 pub mod Marks

@@ -6,7 +6,7 @@ ghost use Rattle.sync_rules.specs.Steps.{fate_held};
 ghost use Rattle.sync_rules.specs.Views.{IsPlace};
 ghost use Rattle.journal_state.specs.Fates.{fate_as};
 ghost use Rattle.journal_state.specs.Lent.{StandsForNodes};
-ghost use Rattle.journal_state.specs.Settling.{room_of};
+ghost use Rattle.entry_codec.specs.Standing.{room_of};
 
 use crate::state::State;
 use message_graph::{Fate as NodeFate, Graph};

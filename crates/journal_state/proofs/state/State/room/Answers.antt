@@ -1,5 +1,5 @@
 use Rattle.std.proofs.Common.{◌≡◌, ◌*◌, sym, ap, ◌∙◌}
-use Rattle.journal_state.specs.Settling.{room_of}
+use Rattle.entry_codec.specs.Standing.{room_of}
 use Rattle.journal_state.specs.Whole.{StateValue}
 use Rattle.journal_state.specs.Inside.{parts}
 use Rattle.journal_state.proofs.Fated.{room_left}
