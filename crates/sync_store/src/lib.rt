@@ -14,8 +14,3 @@ mod view;
 
 pub use fault::{InitFault, LoadFault, PostFault, StoreFault};
 pub use store::Store;
-
-#[cfg(test)]
-mod load_tests;
-#[cfg(test)]
-mod tests;
