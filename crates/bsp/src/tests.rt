@@ -148,7 +148,7 @@ fn words_of_a_command(rt: HostRuntime) -> Result<(), Fail> {
         (&[], "usage: word 0\n"),
         (&["Try", "note", "d"], "usage: word 0\n"),
         (&["records", "x"], "usage: word 1\n"),
-        (&["show"], "usage: word 0\n"),
+        (&["sync"], "usage: word 0\n"),
         (&["try"], "usage: word 1\n"),
         (&["try", "", "d"], "usage: word 1\n"),
         (&["try", "note"], "usage: word 2\n"),

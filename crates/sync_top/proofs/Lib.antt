@@ -1,4 +1,3 @@
-pub mod TextLemmas
 pub mod PieceLemmas
 pub mod StreamLemmas
 pub mod StateLemmas

@@ -10,7 +10,8 @@ use Rattle.record_grammar.specs.declared.stream.Ending.{Ending}
 use Rattle.record_stream.specs.Reading.{ReaderState, fresh}
 use Rattle.record_stream.specs.Answers.{Continues}
 use Rattle.std.specs.Io.KnownBytes.{Consumes, Keeps, IsAtEnd}
-use Rattle.sync_top.specs.Flow.{Flow, limit}
+use Rattle.store_commands.specs.Flow.{Flow}
+use Rattle.sync_top.specs.Flow.{limit}
 use Rattle.sync_top.specs.Pieces.{Subject, Takes, Hearing, HearsInput, IsWaiting, Reading, StopsAt}
 use Rattle.sync_top.specs.declared.pieces.Stop.{Stop}
 use Rattle.sync_top.specs.declared.pieces.Stop.TheVariants as stop

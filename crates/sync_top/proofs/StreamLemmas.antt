@@ -15,7 +15,8 @@ use Rattle.sync_top.specs.declared.pieces.Stop.{Stop}
 use Rattle.sync_top.specs.declared.pieces.Stop.TheVariants as stop
 use Rattle.sync_top.specs.declared.outcome.Outcome.{Outcome}
 use Rattle.sync_top.specs.declared.outcome.Outcome.TheVariants as outcome
-use Rattle.sync_top.specs.Flow.{Flow, limit}
+use Rattle.store_commands.specs.Flow.{Flow}
+use Rattle.sync_top.specs.Flow.{limit}
 use Rattle.sync_top.specs.Pieces.{StopsAt, Subject}
 use Rattle.sync_top.specs.Run.{outcome_of, PrintEnds, PrintsPlay, Streams}
 

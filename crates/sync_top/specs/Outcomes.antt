@@ -3,6 +3,7 @@ use Rattle.std.specs.Prelude.{ℕ, List, []}
 use Rattle.record_grammar.specs.declared.front.Reason.{Reason}
 use Rattle.record_grammar.specs.declared.front.Reason.TheVariants as reason
 use Rattle.sync_rules.specs.declared.states.Refused.TheVariants as refused
+use Rattle.store_commands.specs.Outcomes as store
 use Rattle.sync_top.specs.declared.outcome.Outcome.{Outcome}
 use Rattle.sync_top.specs.declared.outcome.Outcome.TheVariants as outcome
 use Rattle.sync_words.specs.ErrorTexts.{bad_record_text, inside_text, plain_text, refused_text, usage_text}
@@ -22,6 +23,7 @@ status_of outcome.WriteFault = status.WriteFault
 status_of outcome.TooMuch = status.TooMuch
 status_of (outcome.Bad place why) = status.BadStream
 status_of (outcome.Inside place) = status.BadStream
+status_of (outcome.OfStore came) = store.status_of came
 
 -- a reason, as it is put in words
 abbrev pub in_words : Reason → ReasonText
@@ -46,3 +48,4 @@ line_of outcome.WriteFault = plain_text status.WriteFault
 line_of outcome.TooMuch = plain_text status.TooMuch
 line_of (outcome.Bad place why) = bad_record_text place (in_words why)
 line_of (outcome.Inside place) = inside_text place
+line_of (outcome.OfStore came) = store.line_of came

@@ -8,7 +8,8 @@ use Rattle.record_grammar.specs.declared.stream.Item.{Item}
 use Rattle.record_stream.specs.Reading.{ReaderState, fresh}
 use Rattle.sync_ids.specs.Values.{GroupValue}
 use Rattle.sync_rules.specs.Clients.{Meaning}
-use Rattle.sync_top.specs.Flow.{Flow, limit}
+use Rattle.store_commands.specs.Flow.{Flow}
+use Rattle.sync_top.specs.Flow.{limit}
 use Rattle.sync_top.specs.declared.pieces.Stop.{Stop}
 use Rattle.sync_top.specs.declared.pieces.Stop.TheVariants as stop
 

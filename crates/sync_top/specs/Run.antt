@@ -1,7 +1,9 @@
 -- What a run of a command reads and writes, and what it comes to.
-use Rattle.std.specs.Prelude.{◌≡◌, ℕ, ◌+◌, ◌≤◌, ◌⊎◌, List, Option, None, Some, length, take}
+use Rattle.std.specs.Prelude.{◌≡◌, false, ℕ, ◌+◌, ◌≤◌, ◌⊎◌, List, Option, None, Some, length, take}
 use Rattle.std.specs.Io.KnownBytes.{Consumes, Appends, IsAtEnd}
 use Rattle.outside.specs.Faults.{Rose}
+use Rattle.outside.specs.Files.{Two, File, read_files}
+use Rattle.outside.specs.Outside.{Outside, DiskRun}
 use Rattle.record_grammar.specs.Stream.{ending, items, records_of}
 use Rattle.record_grammar.specs.declared.stream.Ending.{Ending}
 use Rattle.record_grammar.specs.declared.stream.Ending.TheVariants as ends
@@ -10,13 +12,21 @@ use Rattle.journal_play.specs.Playing.{Played, HasPlayed, IsTextOf}
 use Rattle.sync_ids.specs.Values.{GroupValue}
 use Rattle.sync_ids.specs.declared.records.Record.{Record}
 use Rattle.sync_rules.specs.Clients.{Meaning}
+use Rattle.store_commands.specs.declared.outcome.Outcome.{Outcome as StoreOutcome}
+use Rattle.store_commands.specs.Adding.{HasAdded}
+use Rattle.store_commands.specs.Beginning.{HasBegun}
+use Rattle.store_commands.specs.Looking.{HasLooked, Rests}
+use Rattle.store_commands.specs.Plans.{contact_plan, group_plan, level_plan}
+use Rattle.store_commands.specs.Posting.{HasPosted}
+use Rattle.store_commands.specs.Shown.{body_shown, inbox_shown, show_shown}
 use Rattle.sync_top.specs.declared.pieces.Stop.{Stop}
 use Rattle.sync_top.specs.declared.pieces.Stop.TheVariants as stop
 use Rattle.sync_words.specs.declared.status.Status.{Status}
 use Rattle.sync_words.specs.declared.status.Status.TheVariants as status
 use Rattle.sync_top.specs.declared.outcome.Outcome.{Outcome}
 use Rattle.sync_top.specs.declared.outcome.Outcome.TheVariants as outcome
-use Rattle.sync_top.specs.Flow.{Flow, IsIdle, GetsFront, Gets, limit}
+use Rattle.store_commands.specs.Flow.{Flow, IsIdle, GetsFront, Gets}
+use Rattle.sync_top.specs.Flow.{limit}
 use Rattle.sync_top.specs.Outcomes.{line_of, status_of}
 use Rattle.sync_top.specs.RecordText.{items_text}
 use Rattle.sync_words.specs.Reading.{Asked}
@@ -95,13 +105,43 @@ Faulty place input out (outcome.Usage at) = (at ≡ place) × Untouched input ou
 Faulty place input out outcome.Memory = IsIdle out
 Faulty place input out _ = ⊥
 
--- what the words ask for, and what it comes to; a command that is not built is a faulty first word
-abbrev pub Comes : Meaning → Asked → (input out : Flow) → Outcome → Type 0
-Comes clients (Usage place) input out came = Faulty place input out came
-Comes clients (Do (command.Try name descriptor)) input out came =
+-- no call was made on the disk but such as leave it as it was, and nothing was read or written
+pub record DoesNothing (old new : Outside) (input out : Flow) : Type 0 where
+  pub run : DiskRun old new
+  pub rests : (two : Two File) → old.files ≡ Some two → Rests (λ two'. read_files two' ≡ read_files two) two old new
+  pub untouched : Untouched input out
+
+-- a command of a store; where memory was wanting before it was begun nothing was done
+abbrev pub ComesOfStore : (StoreOutcome → Type 0) → (old new : Outside) → (input out : Flow) → Outcome → Type 0
+ComesOfStore did old new input out (outcome.OfStore came) = did came
+ComesOfStore did old new input out outcome.Memory = DoesNothing old new input out
+ComesOfStore did old new input out came = ⊥
+
+-- what the words ask for, and what it comes to
+abbrev pub Comes : Meaning → Asked → (old new : Outside) → (input out : Flow) → Outcome → Type 0
+Comes clients (Usage place) old new input out came = Faulty place input out came
+Comes clients (Do (command.Try name descriptor)) old new input out came =
     TriesClient clients name descriptor (clients.kind_of name 0) input out came
-Comes clients (Do command.Records) input out came = Streams (λ items text. text ≡ items_text items) input out came
-Comes clients (Do _) input out came = Faulty 0 input out came
+Comes clients (Do command.Records) old new input out came = Streams (λ items text. text ≡ items_text items) input out came
+Comes clients (Do command.Init) old new input out came = ComesOfStore (λ did. HasBegun old new out did × IsIdle input) old new input out came
+Comes clients (Do command.Contact) old new input out came =
+    ComesOfStore (λ did. HasAdded clients contact_plan false old new out did × IsIdle input) old new input out came
+Comes clients (Do (command.Group name major descriptor)) old new input out came =
+    ComesOfStore (λ did. HasAdded clients (λ f. group_plan clients f (record { name = name; major = major; descriptor = descriptor })) false old new out did × IsIdle input) old new input out came
+Comes clients (Do (command.Share contact group level)) old new input out came =
+    ComesOfStore (λ did. HasAdded clients (λ f. level_plan f contact group level) false old new out did × IsIdle input) old new input out came
+Comes clients (Do (command.Post group timestamp)) old new input out came =
+    ComesOfStore (λ did. HasPosted clients group timestamp old new input out did) old new input out came
+Comes clients (Do command.Show) old new input out came = ComesOfStore (λ did. HasLooked clients show_shown old new out did × IsIdle input) old new input out came
+Comes clients (Do command.Inbox) old new input out came = ComesOfStore (λ did. HasLooked clients inbox_shown old new out did × IsIdle input) old new input out came
+Comes clients (Do (command.Body id)) old new input out came = ComesOfStore (λ did. HasLooked clients (body_shown id) old new out did × IsIdle input) old new input out came
+
+-- the host is as before, but for the commands of a store
+abbrev pub KeepsHost : {H : Type 0} → Asked → H → H → Type 0
+KeepsHost (Usage place) old new = new ≡ old
+KeepsHost (Do (command.Try name descriptor)) old new = new ≡ old
+KeepsHost (Do command.Records) old new = new ≡ old
+KeepsHost (Do _) old new = Unit {0}
 
 -- the error output got the line of the outcome, unless memory was wanting for the line: then the status says so
 abbrev pub Reports : Outcome → (err : Flow) → Status → Type 0
@@ -109,7 +149,7 @@ Reports came err given =
     ((given ≡ status_of came) × Gets err (line_of came)) ⊎ ((given ≡ status.Memory) × Gets err (line_of outcome.Memory))
 
 -- a run of a command: what the words ask for came to an outcome, and the status and the error output tell it
-pub record Ran (clients : Meaning) (words : Asked) (input out err : Flow) (given : Status) : Type 0 where
+pub record Ran (clients : Meaning) (words : Asked) (old new : Outside) (input out err : Flow) (given : Status) : Type 0 where
   pub came : Outcome
-  pub comes : Comes clients words input out came
+  pub comes : Comes clients words old new input out came
   pub reports : Reports came err given

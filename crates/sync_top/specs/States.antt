@@ -9,7 +9,7 @@ use Rattle.sync_ids.specs.Values.{GroupValue}
 use Rattle.sync_rules.specs.Clients.{Meaning}
 use Rattle.sync_words.specs.declared.status.Status.{Status}
 use Rattle.sync_words.specs.declared.status.Status.TheVariants as status
-use Rattle.sync_top.specs.Flow.{Flow}
+use Rattle.store_commands.specs.Flow.{Flow}
 use Rattle.sync_top.specs.Run.{ReadsWhole}
 use Rattle.sync_words.specs.Reading.{Asked}
 use Rattle.sync_words.specs.Reading.Asked.{Usage, Do}

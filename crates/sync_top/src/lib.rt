@@ -7,7 +7,6 @@ mod pieces;
 mod player;
 mod program;
 mod streams;
-mod text;
 
 pub use outcome::Outcome;
 pub use program::{report, run};

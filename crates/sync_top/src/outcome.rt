@@ -31,6 +31,8 @@ pub enum Outcome {
     Bad(u64, Reason),
     /// The input ends inside a record that begins at this place.
     Inside(u64),
+    /// What a command of a store came to.
+    OfStore(store_commands::Outcome),
 }
 
 impl Outcome {
@@ -48,6 +50,7 @@ impl Outcome {
             Outcome::TooMuch => Status::TooMuch,
             Outcome::Bad(_, _) => Status::BadStream,
             Outcome::Inside(_) => Status::BadStream,
+            Outcome::OfStore(came) => came.status(),
         }
     }
 
@@ -77,6 +80,7 @@ impl Outcome {
             Outcome::TooMuch => plain_line(Status::TooMuch, to),
             Outcome::Bad(place, reason) => bad_record_line(place, in_words(reason), to),
             Outcome::Inside(place) => inside_line(place, to),
+            Outcome::OfStore(came) => came.add_line(to),
         }
     }
 }

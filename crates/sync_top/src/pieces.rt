@@ -5,7 +5,7 @@ ghost use Rattle.std.specs.Io.KnownBytes.{ReadConsumes};
 ghost use Rattle.outside.specs.Faults.{HasCause};
 ghost use Rattle.record_grammar.specs.Stream.{IsRest, ending, items};
 ghost use Rattle.record_stream.specs.Reading.{ReaderState, fresh};
-ghost use Rattle.sync_top.specs.Flow.{Flow};
+ghost use Rattle.store_commands.specs.Flow.{Flow};
 ghost use Rattle.sync_top.specs.Pieces.{Drops, Hearing, HearsInput, IsWaiting, Leaves, Takes};
 
 use crate::listener::Listener;

@@ -4,7 +4,7 @@ ghost use Rattle.std.specs.String.{string_bytes};
 ghost use Rattle.journal_play.specs.Playing.{IsTextOf};
 ghost use Rattle.record_grammar.specs.Stream.{records_of};
 ghost use Rattle.sync_rules.specs.Steps.{kind_of_def};
-ghost use Rattle.sync_top.specs.Flow.{Flow};
+ghost use Rattle.store_commands.specs.Flow.{Flow};
 ghost use Rattle.sync_top.specs.RecordText.{items_text};
 ghost use Rattle.sync_top.specs.Run.{outcome_of, PrintEnds, PrintsPlay, Streams, TriesClient};
 
@@ -12,11 +12,11 @@ use crate::listener::Lister;
 use crate::outcome::Outcome;
 use crate::pieces::{Heard, Stop, hear_input};
 use crate::player::Player;
-use crate::text::write_text;
 use journal_play::Play;
 use outside::{Sink, Source};
 use record_grammar::Ending;
 use std::alloc::{AllocError, Global};
+use store_commands::write_text;
 use sync_ids::GroupDef;
 use sync_rules::Clients;
 
@@ -41,22 +41,27 @@ pub fn try_group<S: Source, W: Sink, C: Clients>(
     let Some(kind) = clients.kind_of(name, 0) else {
         return Outcome::UnknownClient;
     };
-    match group_of(alloc, name, descriptor) {
+    match group_of(alloc, name, 0, descriptor) {
         Ok(def) => try_input(alloc, kind, def, input, out, clients),
         Err(_) => Outcome::Memory,
     }
 }
 
-// The definition of the group.
-fn group_of(alloc: Global, name: &str, descriptor: &str) -> Result<GroupDef, AllocError>
+/// The definition of the group of these words.
+pub fn group_of(
+    alloc: Global,
+    name: &str,
+    major: u32,
+    descriptor: &str,
+) -> Result<GroupDef, AllocError>
     requires some_name { 1 ≤ length name.now }
     requires short_name { length name.now ≤ 255 }
     requires short_descriptor { length descriptor.now ≤ 16384 }
-    ensures { IfOk result (λ def. def ≡ record { name = name.now; major = 0; descriptor = descriptor.now }) }
+    ensures { IfOk result (λ def. def ≡ record { name = name.now; major = major; descriptor = descriptor.now }) }
 {
     let name = String::from_str(alloc, name)?;
     let descriptor = descriptor.as_bytes().to_vec(alloc)?;
-    match GroupDef::new(name, 0, descriptor) {
+    match GroupDef::new(name, major, descriptor) {
         Ok(def) => Ok(def),
         Err(_) => unreachable!(),
     }

@@ -1,5 +1,5 @@
 use Rattle.sync_top.proofs.StateLemmas.{tells}
-use Rattle.sync_top.specs.Flow.{Flow}
+use Rattle.store_commands.specs.Flow.{Flow}
 use Rattle.sync_top.proofs.program.run.Goals as goal
 
 pub returns-clause-states : goal.returns-clause-states
@@ -22,4 +22,5 @@ returns-clause-states g c =
       faults = g.E.Sink.sink_faults c.args.err.now;
       faults' = g.E.Sink.sink_faults c.report.new.err;
     } in
-    tells c.play_says.ensures (g.C.Clients.meaning c.args.clients.now) input out _ err _ _ c.command-outcome.ensures c.report.ensures
+    tells c.play_says.ensures (g.C.Clients.meaning c.args.clients.now) input out _ (g.H.Disk.tells c.args.host.now) (g.H.Disk.tells c.command-outcome.new.host) err _ _
+    c.command-outcome.ensures.comes c.report.ensures

@@ -5,7 +5,7 @@ use Rattle.std.specs.Prelude.{OnOk, OnErr}
 use Rattle.std.specs.Io.KnownBytes.{Appends}
 use Rattle.outside.specs.Faults.{HasCause}
 use Rattle.outside.specs.Streams.{AppendsPart}
-use Rattle.sync_top.specs.Flow.{Flow, Gets}
+use Rattle.store_commands.specs.Flow.{Flow, Gets}
 
 pub gets_of : {T E : Type 0} (result : Result T E) (flow : Flow) (text : List ℕ) →
     OnOk result (Appends flow.before flow.after text) → OnErr result (AppendsPart flow.before flow.after text) →

@@ -1,0 +1,57 @@
+-- A store that was begun, and its line.
+use Rattle.std.proofs.Common.{◌≡◌, Option, Some, Ok, Err, sym, ◌∙◌, subst}
+use Rattle.std.specs.Option.{ForSome}
+use Rattle.outside.specs.Disk.{Becomes}
+use Rattle.outside.specs.Faults.{Rose}
+use Rattle.outside.specs.Files.{Two, File}
+use Rattle.outside.specs.Outside.{Outside, MomentsAre, DiskRun}
+use Rattle.outside.specs.Steps.{becomes_told}
+use Rattle.sync_store.specs.Begin.{Begins, InitMoment, IsAnswer}
+use Rattle.sync_store.specs.declared.fault.InitFault.TheVariants as init
+use Rattle.store_commands.specs.declared.outcome.Outcome.{Outcome}
+use Rattle.store_commands.specs.declared.outcome.Outcome.TheVariants as outcome
+use Rattle.store_commands.specs.Beginning.{BeginsBy, BeginsEnds, HasBegun, PrintsReady}
+use Rattle.store_commands.specs.Flow.{Flow, IsIdle}
+
+begins_at : (old new : Option (Two File)) (two two' : Two File) → Becomes Begins old new → old ≡ Some two → new ≡ Some two' → Begins two two'
+begins_at old new two two' becomes told told' =
+    let at = becomes_told Begins old new two told becomes in
+    let same : at.0 ≡ two' = let it = sym at.1 ∙ told' in cc in
+    subst (Begins two) same at.2
+
+ready_by : (old new : Outside) (out : Flow) (came : Outcome) → PrintsReady out came → BeginsBy old new out came
+ready_by old new out outcome.Done p = p
+ready_by old new out outcome.WriteFault p = p
+ready_by old new out _ p = absurd p
+
+ready_ends : (two two' : Two File) (out : Flow) (came : Outcome) → PrintsReady out came → IsAnswer two (Ok tt) → Begins two two' → BeginsEnds two two' came
+ready_ends two two' out outcome.Done p none begins = (none, begins)
+ready_ends two two' out outcome.WriteFault p none begins = (none, begins)
+ready_ends two two' out _ p none begins = absurd p
+
+pub begun_ready : (old new : Outside) (out : Flow) (came : Outcome) → DiskRun old new → ForSome old.files (λ two. IsAnswer two (Ok tt)) → Becomes Begins old.files new.files
+    → ((two : Two File) → old.files ≡ Some two → MomentsAre old new (InitMoment two old.links)) → PrintsReady out came → HasBegun old new out came
+begun_ready old new out came run none begins moments printed = record {
+  run = run;
+  by = ready_by old new out came printed;
+  told = λ two told. record {
+    moments = moments two told;
+    ends = λ two' told'. ready_ends two two' out came printed (none two told) (begins_at old.files new.files two two' begins told told');
+  };
+}
+
+pub begun_exists : (old new : Outside) (out : Flow) → DiskRun old new → ForSome old.files (λ two. IsAnswer two (Err init.Exists))
+    → ((two : Two File) → old.files ≡ Some two → MomentsAre old new (InitMoment two old.links)) → IsIdle out → HasBegun old new out outcome.Exists
+begun_exists old new out run some moments idle = record {
+  run = run;
+  by = idle;
+  told = λ two told. record { moments = moments two told; ends = λ two' told'. some two told };
+}
+
+pub begun_failed : (old new : Outside) (out : Flow) → DiskRun old new → Rose old.disk_faults new.disk_faults
+    → ((two : Two File) → old.files ≡ Some two → MomentsAre old new (InitMoment two old.links)) → IsIdle out → HasBegun old new out outcome.DiskFault
+begun_failed old new out run rose moments idle = record {
+  run = run;
+  by = (rose, idle);
+  told = λ two told. record { moments = moments two told; ends = λ two' told'. tt };
+}

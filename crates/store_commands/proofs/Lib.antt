@@ -1,0 +1,11 @@
+pub mod TextLemmas
+pub mod Lines
+pub mod Looks
+pub mod Adds
+pub mod Follow
+pub mod Entries
+pub mod Commits
+pub mod Loads
+pub mod Planned
+pub mod Posts
+pub mod Begins

@@ -1,0 +1,10 @@
+pub mod Flow
+pub mod Outcomes
+pub mod Plans
+pub mod Shown
+pub mod Looking
+pub mod Loading
+pub mod Adding
+pub mod Extending
+pub mod Beginning
+pub mod Posting

@@ -1,0 +1,89 @@
+-- What the commands of a store print, by the facts of its journal.
+use Rattle.std.specs.Prelude.{ℕ, zero, suc, min, List, [], ◌++◌, length, Option, Some, None}
+use Rattle.std.specs.List.{flat_map}
+use Rattle.sync_ids.specs.Ids.{group_id_of, message_id_of}
+use Rattle.sync_rules.specs.declared.entries.Entry.{Entry}
+use Rattle.sync_rules.specs.declared.entries.Entry.TheVariants as entry
+use Rattle.sync_rules.specs.declared.entries.Level.{Level}
+use Rattle.sync_rules.specs.declared.entries.Level.TheVariants as level
+use Rattle.sync_rules.specs.declared.states.Refused.{Refused}
+use Rattle.sync_rules.specs.declared.states.Refused.TheVariants as refused
+use Rattle.sync_rules.specs.Facts.{Facts, Held, Id, Known, held_at, level_at}
+use Rattle.sync_rules.specs.Steps.{fate_held}
+use Rattle.sync_words.specs.EntryTexts.{contact_text, group_text, posted_text, set_level_text}
+use Rattle.sync_words.specs.HeldTexts.{contacts_text, inbox_text, known_group_text, message_state_text, sessions_text}
+
+-- the line of the entry that a command adds
+abbrev pub added_text : Entry → List ℕ
+added_text (entry.Contact c) = contact_text c
+added_text (entry.Group def) = group_text (group_id_of def)
+added_text (entry.Level c g l) = set_level_text c g l
+added_text (entry.Author m) = posted_text (message_id_of m)
+added_text _ = []
+
+-- ---- `show`
+
+-- a group
+abbrev pub group_line : Known → List ℕ
+group_line g = known_group_text g.id g.def
+
+-- a group's level for a contact, where it is not Invisible
+abbrev pub level_line : ℕ → Id → Level → List ℕ
+level_line contact group level.Invisible = []
+level_line contact group level.Visible = set_level_text contact group level.Visible
+level_line contact group level.Shared = set_level_text contact group level.Shared
+
+abbrev pub group_level : Facts → ℕ → Known → List ℕ
+group_level f contact g = level_line contact g.id (level_at f.levels contact g.id)
+
+-- a contact's levels, group after group
+abbrev pub contact_levels : Facts → ℕ → List ℕ
+contact_levels f contact = flat_map (group_level f contact) f.groups
+
+-- the levels of the contacts below this number, contact after contact
+abbrev pub levels_below : Facts → ℕ → List ℕ
+levels_below f zero = []
+levels_below f (suc n) = levels_below f n ++ contact_levels f n
+
+-- a held message with its state
+abbrev pub message_line : Facts → Held → List ℕ
+message_line f h = message_state_text h.id h.message.group (fate_held f h.id)
+
+-- All that `show` prints: the contacts, the groups, the levels, the messages in order of arrival, the sessions. A contact's
+-- number is below 256, and a legal journal has no more contacts.
+abbrev pub show_text : Facts → List ℕ
+show_text f =
+    contacts_text f.contacts
+    ++ (flat_map group_line f.groups
+    ++ (levels_below f (min 256 f.contacts) ++ (flat_map (message_line f) f.held ++ sessions_text (length f.sessions))))
+
+-- ---- `inbox`
+
+abbrev pub delivered_line : Option Held → List ℕ
+delivered_line None = []
+delivered_line (Some h) = inbox_text h.id h.message.group h.message.timestamp h.origin (length h.message.body)
+
+-- all that `inbox` prints: the delivered messages in the order of their delivery
+abbrev pub inbox_of : Facts → List ℕ
+inbox_of f = flat_map (λ id. delivered_line (held_at f.held id)) f.delivered
+
+-- ---- what a command shows
+
+-- what a command that only looks shows: a text, or it is refused
+pub data Showing : Type 0 where
+  denies : Refused → Showing
+  shows : List ℕ → Showing
+
+abbrev pub show_shown : Facts → Showing
+show_shown f = shows (show_text f)
+
+abbrev pub inbox_shown : Facts → Showing
+inbox_shown f = shows (inbox_of f)
+
+-- `body`: the bytes of the body as they are, of a message that is held
+abbrev pub body_of : Option Held → Showing
+body_of None = denies refused.UnknownMessage
+body_of (Some h) = shows h.message.body
+
+abbrev pub body_shown : Id → Facts → Showing
+body_shown id f = body_of (held_at f.held id)

@@ -1,0 +1,137 @@
+// What the commands print of a store. Each call appends its lines; it fails only for want of memory.
+ghost use Rattle.std.specs.Prelude.{◌≡◌, ◌+◌, ◌<◌, ◌≤◌, ◌++◌, min, length, OnOk, Some, slice_get};
+ghost use Rattle.std.specs.List.{flat_map};
+ghost use Rattle.std.specs.String.{string_bytes};
+ghost use Rattle.sync_rules.specs.Facts.{Held, Id, Known, held_at};
+ghost use Rattle.store_commands.specs.Shown.{contact_levels, delivered_line, group_level, group_line, inbox_of, level_line, levels_below, message_line, show_text};
+
+use std::alloc::{AllocError, Global};
+use sync_rules::{Level, View};
+use sync_store::Store;
+use sync_words::{
+    contacts_line, inbox_line, known_group_line, level_line, sessions_line, state_line,
+};
+
+/// All that `show` prints.
+pub fn add_show(alloc: Global, store: &Store, to: &mut String) -> Result<(), AllocError>
+    ensures { OnOk result (string_bytes to.new ≡ string_bytes to.old ++ show_text store.now.state.facts) }
+{
+    contacts_line(store.contacts(), to)?;
+    add_groups(alloc, store, to)?;
+    add_levels(alloc, store, to)?;
+    add_messages(alloc, store, to)?;
+    sessions_line(store.sessions(), to)
+}
+
+// The groups.
+fn add_groups(alloc: Global, store: &Store, to: &mut String) -> Result<(), AllocError>
+    ensures { OnOk result (string_bytes to.new ≡ string_bytes to.old ++ flat_map group_line store.now.state.facts.groups) }
+{
+    'groups: for n in 0..store.groups() {
+        add_group(alloc, store, n, to)?;
+    }
+    Ok(())
+}
+
+fn add_group(alloc: Global, store: &Store, n: u32, to: &mut String) -> Result<(), AllocError>
+    requires { n < length store.now.state.facts.groups }
+    ensures { OnOk result ((g : Known) → slice_get store.now.state.facts.groups n ≡ Some g → string_bytes to.new ≡ string_bytes to.old ++ group_line g) }
+{
+    let id = store.group_id_at(n);
+    known_group_line(alloc, &id, store.group_def(n), to)
+}
+
+// The levels that are not Invisible.
+fn add_levels(alloc: Global, store: &Store, to: &mut String) -> Result<(), AllocError>
+    ensures { OnOk result (string_bytes to.new ≡ string_bytes to.old ++ levels_below store.now.state.facts (min 256 store.now.state.facts.contacts)) }
+{
+    'contacts: for contact in 0..store.contacts().min(256) {
+        add_contact_levels(alloc, store, contact as u8, to)?;
+    }
+    Ok(())
+}
+
+// Those of a contact.
+fn add_contact_levels(
+    alloc: Global,
+    store: &Store,
+    contact: u8,
+    to: &mut String,
+) -> Result<(), AllocError>
+    ensures { OnOk result (string_bytes to.new ≡ string_bytes to.old ++ contact_levels store.now.state.facts contact) }
+{
+    'groups: for n in 0..store.groups() {
+        add_level(alloc, store, contact, n, to)?;
+    }
+    Ok(())
+}
+
+fn add_level(
+    alloc: Global,
+    store: &Store,
+    contact: u8,
+    n: u32,
+    to: &mut String,
+) -> Result<(), AllocError>
+    requires { n < length store.now.state.facts.groups }
+    ensures { OnOk result ((g : Known) → slice_get store.now.state.facts.groups n ≡ Some g → string_bytes to.new ≡ string_bytes to.old ++ group_level store.now.state.facts contact g) }
+{
+    let group = store.group_id_at(n);
+    match store.level(contact, &group) {
+        Level::Invisible => Ok(()),
+        Level::Visible => level_line(alloc, contact, &group, Level::Visible, to),
+        Level::Shared => level_line(alloc, contact, &group, Level::Shared, to),
+    }
+}
+
+// The messages, in order of arrival.
+fn add_messages(alloc: Global, store: &Store, to: &mut String) -> Result<(), AllocError>
+    ensures { OnOk result (string_bytes to.new ≡ string_bytes to.old ++ flat_map (message_line store.now.state.facts) store.now.state.facts.held) }
+{
+    'messages: for n in 0..store.held() {
+        add_message(alloc, store, n, to)?;
+    }
+    Ok(())
+}
+
+fn add_message(alloc: Global, store: &Store, n: u32, to: &mut String) -> Result<(), AllocError>
+    requires { n < length store.now.state.facts.held }
+    ensures { OnOk result ((h : Held) → slice_get store.now.state.facts.held n ≡ Some h → string_bytes to.new ≡ string_bytes to.old ++ message_line store.now.state.facts h) }
+{
+    let id = store.id_at(n);
+    let group = store.message(n).group();
+    state_line(alloc, &id, &group, store.fate(n), to)
+}
+
+/// All that `inbox` prints.
+pub fn add_inbox(alloc: Global, store: &Store, to: &mut String) -> Result<(), AllocError>
+    ensures { OnOk result (string_bytes to.new ≡ string_bytes to.old ++ inbox_of store.now.state.facts) }
+{
+    'delivered: for k in 0..store.delivered() {
+        add_delivered(alloc, store, k, to)?;
+    }
+    Ok(())
+}
+
+// The k-th of the delivered messages.
+fn add_delivered(alloc: Global, store: &Store, k: u32, to: &mut String) -> Result<(), AllocError>
+    requires { k < length store.now.state.facts.delivered }
+    ensures { OnOk result ((id : Id) → slice_get store.now.state.facts.delivered k ≡ Some id
+        → string_bytes to.new ≡ string_bytes to.old ++ delivered_line (held_at store.now.state.facts.held id)) }
+{
+    let n = store.delivered_at(k);
+    let id = store.id_at(n);
+    let message = store.message(n);
+    let group = message.group();
+    let len = message.body().len() as u32;
+    inbox_line(
+        alloc,
+        &id,
+        &group,
+        message.timestamp(),
+        store.origin(n),
+        len,
+        to,
+    )?;
+    Ok(())
+}

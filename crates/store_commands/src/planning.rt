@@ -1,0 +1,91 @@
+// What a command plans to add to a store, as it was loaded.
+ghost use Rattle.std.specs.Prelude.{◌≡◌, ◌≤◌, true, is_some};
+ghost use Rattle.sync_rules.specs.Facts.{group_at};
+ghost use Rattle.store_commands.specs.Plans.{contact_plan, group_plan, level_plan, message_plan, plan_of, post_plan};
+ghost use Rattle.store_commands.specs.Posting.{IsPlanned, message_of};
+
+use sync_ids::{GroupDef, GroupId, Message, MessageFault};
+use sync_rules::{Clients, Entry, Level, Refused};
+use sync_store::{PostFault, Store};
+
+/// The next contact.
+pub fn plan_contact(store: &Store) -> Result<Entry, Refused>
+    ensures { contact_plan store.now.state.facts ≡ plan_of result }
+{
+    match store.may_contact() {
+        Ok(n) => Ok(Entry::Contact(n)),
+        Err(why) => Err(why),
+    }
+}
+
+/// The group of this definition.
+pub fn plan_group<C: Clients>(store: &Store, clients: &C, def: GroupDef) -> Result<Entry, Refused>
+    ensures { group_plan (C.meaning clients.now) store.now.state.facts def ≡ plan_of result }
+{
+    match store.may_group(clients, &def) {
+        Ok(_) => Ok(Entry::Group(def)),
+        Err(why) => Err(why),
+    }
+}
+
+/// The level of a group for a contact.
+pub fn plan_level(
+    store: &Store,
+    contact: u8,
+    group: &GroupId,
+    level: Level,
+) -> Result<Entry, Refused>
+    ensures { level_plan store.now.state.facts contact group.now level ≡ plan_of result }
+{
+    match store.may_level(contact, group) {
+        Ok(()) => Ok(Entry::Level(contact, *group, level)),
+        Err(why) => Err(why),
+    }
+}
+
+/// Whether a group is known.
+pub fn knows_group(store: &Store, group: &GroupId) -> bool
+    ensures { result ≡ is_some (group_at store.now.state.facts.groups group.now) }
+{
+    'groups: for n in 0..store.groups() {
+        if store.group_id_at(n) == *group {
+            return true;
+        }
+    }
+    false
+}
+
+/// The message of this body in a known group.
+pub fn plan_post<C: Clients>(
+    store: &Store,
+    clients: &C,
+    group: GroupId,
+    timestamp: u64,
+    body: Vec<u8>,
+) -> Result<Entry, PostFault>
+    requires known { is_some (group_at store.now.state.facts.groups group) ≡ true }
+    requires timestamp { timestamp ≤ 9223372036854775807 }
+    ensures { IsPlanned (post_plan (C.meaning clients.now) store.now.state.facts (message_of group timestamp body.items)) result }
+{
+    match Message::new(group, timestamp, body) {
+        Ok(message) => plan_message(store, clients, message),
+        Err(MessageFault::EmptyBody) => Err(PostFault::Refused(Refused::EmptyBody)),
+        Err(MessageFault::BodyTooLong) => Err(PostFault::Refused(Refused::BodyTooLong)),
+        Err(MessageFault::BadTimestamp) => unreachable!(),
+    }
+}
+
+// A message within its limits.
+fn plan_message<C: Clients>(
+    store: &Store,
+    clients: &C,
+    message: Message,
+) -> Result<Entry, PostFault>
+    requires { is_some (group_at store.now.state.facts.groups message.group) ≡ true }
+    ensures { IsPlanned (message_plan (C.meaning clients.now) store.now.state.facts message) result }
+{
+    match store.may_post(clients, &message) {
+        Ok(_) => Ok(Entry::Author(message)),
+        Err(fault) => Err(fault),
+    }
+}
