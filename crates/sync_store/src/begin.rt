@@ -16,10 +16,12 @@ use outside::Disk;
 impl Store {
     /// Begins a store in two files: in file 0, with generation 1. `Exists` comes exactly where a file has an open header. At each
     /// moment the files are as a crash might have left them before, or stand for no store or for the empty journal; after `Ok`
-    /// every crash leaves the empty journal. It takes no memory.
+    /// every crash leaves the empty journal, and after `Exists` the files read as before. It takes no memory.
     pub fn init<D: Disk>(disk: &mut D) -> Result<(), InitFault>
         ensures answer { ForSome (D.tells disk.old).files (λ two. IsAnswer two result) }
         ensures begun { OnOk result (Becomes Begins (D.tells disk.old).files (D.tells disk.new).files) }
+        ensures kept { IsErrOf result InitFault.Exists → Becomes Settles (D.tells disk.old).files (D.tells disk.new).files }
+        ensures untouched { IsErrOf result InitFault.Exists → AnyImage (D.tells disk.old) (D.tells disk.new) }
         ensures any_moment { (two : Two File) → (D.tells disk.old).files ≡ Some two → MomentsAre (D.tells disk.old) (D.tells disk.new) (InitMoment two (D.tells disk.old).links) }
         ensures run { DiskRun (D.tells disk.old) (D.tells disk.new) }
         ensures fault { IsErrOf result InitFault.DiskFault → Rose (D.tells disk.old).disk_faults (D.tells disk.new).disk_faults }

@@ -1,12 +1,12 @@
 //! A batch committed.
-ghost use Rattle.std.specs.Prelude.{◌≡◌, ◌+◌, ◌^◌, ◌<◌, ◌≤◌, false, true, List, Some, length, nat_lt, IfErr, IsErrOf, OnOk};
+ghost use Rattle.std.specs.Prelude.{◌≡◌, ◌+◌, ◌^◌, ◌<◌, ◌≤◌, false, true, List, Some, length, nat_lt, IfErr, IfOk, IsErrOf, OnOk};
 ghost use Rattle.outside.specs.Faults.{HasCause, Rose};
 ghost use Rattle.outside.specs.Files.{Two, File};
 ghost use Rattle.outside.specs.Outside.{DiskRun};
 ghost use Rattle.journal_state.specs.Whole.{Knows};
 ghost use Rattle.sync_rules.specs.declared.entries.Entry.{Entry};
 ghost use Rattle.sync_rules.specs.Legal.{Allowed};
-ghost use Rattle.entry_codec.specs.Allows.{is_settling_kind};
+ghost use Rattle.entry_codec.specs.Allows.{allows, is_settling_kind};
 ghost use Rattle.journal_state.specs.Taking.{HasRoom};
 ghost use Rattle.sync_store.specs.Commits.{Commits, Gains, MayAdd, Untouched, needed};
 ghost use Rattle.sync_store.specs.Fitting.{Fits, FitsSome};
@@ -17,9 +17,19 @@ use crate::frames::frame_batch;
 use crate::store::Store;
 use entry_codec::{batch_len, laws};
 use outside::Disk;
+use std::alloc::AllocError;
 use sync_rules::{Batch, Clients};
 
 impl Store {
+    /// Whether a batch that does not begin with a step may follow the journal. It fails only for want of memory.
+    pub fn allows<C: Clients>(&self, clients: &C, batch: &Batch) -> Result<bool, AllocError>
+        requires knows { Knows (C.meaning clients.now) self.now.state }
+        requires kind { is_settling_kind batch.now ≡ false }
+        ensures { IfOk result (λ yes. yes ≡ allows (C.meaning clients.now) self.now.state.facts batch.now) }
+    {
+        self.state.allows(self.alloc, clients, batch)
+    }
+
     /// Commits a batch, which may follow the journal and is no settling batch. Before its first call on the disk it takes all the
     /// memory that it needs. `Closed` comes exactly where an earlier call answered `DiskFault`; then `Full` exactly where the
     /// journal, the frame and the room that settling may then need pass the limit; after `Full` and `Memory` all is as before, and
