@@ -117,7 +117,7 @@ def measure_posts(count):
     print(f'{count} messages: {spread}', flush=True)
     return [f'ratio post_{count}_bare {middle["post"] / middle["bare"]:.2f}',
             f'ratio post_{count}_sqlite {middle["post"] / middle["sqlite"]:.2f}',
-            f'ratio post_{count}_load {middle["load"] / middle["post"]:.2f}']
+            f'ratio load_of_post_{count} {middle["load"] / middle["post"]:.2f}']
 
 
 def look_run(command, count, text):
