@@ -65,7 +65,8 @@ impl State {
         requires { CanTake self.old (Entry.Author message) }
         ensures { Takes self.old self.new (Entry.Author message) }
     {
-        self.hold(message, Origin::Author);
+        let id = id_of(&message);
+        self.hold(id, message, Origin::Author);
     }
 
     /// A message arrived on a session.
@@ -75,7 +76,7 @@ impl State {
     {
         let contact = self.session(session).contact;
         let id = id_of(&message);
-        self.hold(message, Origin::From(contact));
+        self.hold(id, message, Origin::From(contact));
         self.mark(contact, &id, Mark::Heard);
     }
 
