@@ -1,8 +1,5 @@
 //! Why a step came to no end.
 use std::alloc::AllocError;
-use sync_ids::{DefFault, MessageFault};
-use sync_rules::EmptyBatch;
-use sync_store::{LoadFault, StoreFault};
 use thiserror::Error;
 
 /// Why a step came to no end.
