@@ -5,7 +5,7 @@
 # with no contact, and once more with CONTACTS (1). The last lines are `ratio NAME VALUE`.
 set -eu
 cd "$(dirname "$0")/.."
-(cd crates/store_growth && rt run >/dev/null 2>&1)
+(cd crates/store_growth && rt run -- load 50 200 1 >/dev/null)
 exec python3 - "${RUNS:-5}" "${CONTACTS:-1}" <<'PY'
 import hashlib, os, struct, subprocess, sys, tempfile
 
