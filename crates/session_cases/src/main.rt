@@ -1,11 +1,7 @@
 //! Compares what records are taken as and what is due, over many random journals, with the rules as they are told.
 #![tactic(auto)]
 
-mod answers;
 mod compare;
-mod dice;
-mod drafts;
-mod rules;
 
 use crate::compare::compare_case;
 use anyhow::{Context, Result};

@@ -1,0 +1,176 @@
+//! The plain side of a case: the batches that a store is to have, and what is to be tried next.
+
+use crate::following::may_follow;
+use crate::frames::read_batches;
+use crate::listed::list;
+use anyhow::Result;
+use journal_drafts::told::lines_of;
+use journal_drafts::{Dice, Draft, Kind, Timing, moment_near};
+use session_core::{due, take};
+use std::alloc::Global;
+use sync_ids::Record;
+use sync_rules::{Batch, Entry, PlainView, Session, settle_in};
+
+/// The most batches that a case tries.
+const MOST_STEPS: u64 = 30;
+
+/// A look-up that was not as it should be, and the number of the batch behind which it was asked.
+#[derive(Clone, Copy)]
+pub(crate) struct Finding {
+    pub(crate) step: u64,
+    pub(crate) what: &'static str,
+}
+
+/// What a case is to do with a batch.
+#[derive(Clone, Copy, PartialEq, Eq)]
+pub(crate) struct Plan {
+    /// Whether the rules let the batch follow.
+    pub(crate) follows: bool,
+    /// Whether all is settled behind it.
+    pub(crate) settles: bool,
+}
+
+/// A case that is being played.
+#[derive(Drop)]
+pub(crate) struct Game {
+    pub(crate) alloc: Global,
+    pub(crate) dice: Dice,
+    pub(crate) draft: Draft,
+    pub(crate) batches: Vec<Batch>,
+    pub(crate) findings: Vec<Finding>,
+    /// How many batches are tried.
+    pub(crate) steps: u64,
+    pub(crate) step: u64,
+    /// The text of the batch that was tried last, if it may follow.
+    tried: Option<String>,
+}
+
+impl Game {
+    /// The case of this number.
+    pub(crate) fn new(alloc: Global, number: u32) -> Result<Game> {
+        let mut dice = Dice::new(number);
+        let draft = Draft::new(alloc, dice)?;
+        let steps = MOST_STEPS - dice.below(MOST_STEPS / 2).min(MOST_STEPS / 2);
+        Ok(Game {
+            alloc,
+            dice,
+            draft,
+            batches: Vec::new(alloc),
+            findings: Vec::new(alloc),
+            steps,
+            step: 0,
+            tried: None,
+        })
+    }
+
+    /// Keeps what is not as it should be.
+    pub(crate) fn note(&mut self, what: &'static str, same: bool) -> Result<()> {
+        if !same {
+            let step = self.step;
+            self.findings.push(Finding { step, what })?;
+        }
+        Ok(())
+    }
+
+    // ---- what is tried
+
+    /// The batch that is tried next, if there is one: mostly one that may follow, or one of those that are made up.
+    pub(crate) fn next_batch(&mut self) -> Result<Option<Batch>> {
+        let is_wild = self.dice.one_in(6);
+        let most = if is_wild { 3 } else { 1 };
+        match self.draft.kind(self.step) {
+            Kind::Heard | Kind::Settle if is_wild => Ok(self.draft.batch(Kind::Heard, most)?),
+            Kind::Heard | Kind::Settle => self.heard_batch(),
+            Kind::Out if !is_wild => self.out_batch(),
+            kind => Ok(self.draft.batch(kind, most)?),
+        }
+    }
+
+    /// What some record is taken as on some session.
+    fn heard_batch(&mut self) -> Result<Option<Batch>> {
+        let Ok(session) = self.draft.session(&mut self.dice) else {
+            return Ok(None);
+        };
+        let record = self.record()?;
+        let view = PlainView::new(self.alloc, self.batches.as_slice(), &Timing)?;
+        let k = list(self.alloc, self.batches.as_slice())?.taken(session.number);
+        Ok(Some(take(self.alloc, &view, &session, k, record)?))
+    }
+
+    fn record(&mut self) -> Result<Record> {
+        if self.dice.one_in(60) {
+            return Ok(self.draft.posts().crowd(&mut self.dice)?);
+        }
+        Ok(self.draft.posts().record(&mut self.dice)?)
+    }
+
+    /// What is due on some session at some moment.
+    fn out_batch(&mut self) -> Result<Option<Batch>> {
+        let Ok(session) = self.draft.session(&mut self.dice) else {
+            return Ok(None);
+        };
+        let now = self.moment(&session)?;
+        let view = PlainView::new(self.alloc, self.batches.as_slice(), &Timing)?;
+        let Some(out) = due(self.alloc, &view, &session, now)? else {
+            return Ok(None);
+        };
+        let mut entries = Vec::new(self.alloc);
+        entries.push(Entry::Out(session.number, now, out))?;
+        Ok(Batch::new(entries).ok())
+    }
+
+    fn moment(&mut self, session: &Session) -> Result<u64> {
+        let lines = lines_of(self.alloc, self.batches.as_slice())?;
+        let posts = self.draft.posts();
+        Ok(moment_near(lines.as_slice(), posts, session.contact, &mut self.dice))
+    }
+
+    // ---- what is to come of it
+
+    /// What is to be done with this batch. One that may not follow is forgotten.
+    pub(crate) fn plan(&mut self, batch: &Batch) -> Result<Plan> {
+        let follows = may_follow(self.alloc, self.batches.as_slice(), batch)?;
+        if follows {
+            self.tried = Some(format!(in self.alloc; "{batch:?}")?);
+        } else {
+            self.draft.forget(batch);
+            self.tried = None;
+        }
+        let settles = !self.dice.one_in(4);
+        Ok(Plan { follows, settles })
+    }
+
+    /// Reads the journal's file, which is to have the batch where it may follow, and the settling batches behind it.
+    pub(crate) fn read(&mut self, bytes: &[u8], settles: bool) -> Result<()> {
+        let before = self.batches.len();
+        let found = read_batches(self.alloc, bytes)?;
+        let mut batches = read_batches(self.alloc, bytes)?;
+        let tried = self.tried.take();
+        batches.truncate(before.saturating_add(usize::from(tried.is_some())));
+        let last = batches
+            .as_slice()
+            .get(before..)
+            .and_then(|added| added.first());
+        let same = match (&tried, last) {
+            (Some(text), Some(batch)) => text.as_str()
+                == format!(in self.alloc; "{batch:?}")?.as_str(),
+            (None, None) => true,
+            _ => false,
+        };
+        self.note("the batch in its frame", same)?;
+        if settles {
+            settle_in(self.alloc, &mut batches, &Timing)?;
+        }
+        let same = same_behind(self.alloc, found.as_slice(), batches.as_slice(), before)?;
+        self.note("the settling batches", same)?;
+        self.batches = batches;
+        Ok(())
+    }
+}
+
+/// Whether two lists of batches are the same from this place on.
+fn same_behind(alloc: Global, left: &[Batch], right: &[Batch], from: usize) -> Result<bool> {
+    let left = format!(in alloc; "{:?}", left.get(from..))?;
+    let right = format!(in alloc; "{:?}", right.get(from..))?;
+    Ok(left.as_str() == right.as_str())
+}

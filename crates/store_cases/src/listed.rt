@@ -1,0 +1,108 @@
+//! What the entries of a journal list, as they are told one by one.
+
+use std::alloc::{AllocError, Global};
+use sync_ids::{GroupDef, GroupId, Message, MessageId, group_id};
+use sync_rules::{Batch, Entry, Origin, Session, id_of};
+
+/// A message that an entry brings.
+#[derive(Clone, Copy)]
+pub(crate) struct Brought<'a> {
+    pub(crate) id: MessageId,
+    pub(crate) message: &'a Message,
+    pub(crate) origin: Origin,
+}
+
+/// What the entries list, in their order.
+#[derive(Drop)]
+pub(crate) struct Listed<'a> {
+    pub(crate) contacts: u32,
+    pub(crate) groups: Vec<&'a GroupDef>,
+    pub(crate) sessions: Vec<Session>,
+    pub(crate) held: Vec<Brought<'a>>,
+    pub(crate) delivered: Vec<MessageId>,
+    /// The session of each Take entry.
+    pub(crate) takes: Vec<u32>,
+}
+
+/// What these batches list.
+pub(crate) fn list(alloc: Global, batches: &[Batch]) -> Result<Listed<'_>, AllocError> {
+    let mut listed = Listed {
+        contacts: 0,
+        groups: Vec::new(alloc),
+        sessions: Vec::new(alloc),
+        held: Vec::new(alloc),
+        delivered: Vec::new(alloc),
+        takes: Vec::new(alloc),
+    };
+    for entry in batches.iter().flat_map(|batch| batch.entries().iter()) {
+        listed.add(entry)?;
+    }
+    Ok(listed)
+}
+
+impl<'a> Listed<'a> {
+    fn add(&mut self, entry: &'a Entry) -> Result<(), AllocError> {
+        match entry {
+            Entry::Contact(_) => self.contacts = self.contacts.saturating_add(1),
+            Entry::Group(def) => self.groups.push(def)?,
+            Entry::Session(session) => self.sessions.push(*session)?,
+            Entry::Take(session, _) => self.takes.push(*session)?,
+            Entry::Author(message) => self.bring(message, Origin::Author)?,
+            Entry::Arrive(session, message) => {
+                let from = self.session(*session).map_or(0, |session| session.contact);
+                self.bring(message, Origin::From(from))?;
+            }
+            Entry::Deliver(id) => self.delivered.push(*id)?,
+            _ => {}
+        }
+        Ok(())
+    }
+
+    fn bring(&mut self, message: &'a Message, origin: Origin) -> Result<(), AllocError> {
+        let id = id_of(message);
+        self.held.push(Brought {
+            id,
+            message,
+            origin,
+        })?;
+        Ok(())
+    }
+
+    /// The session of this number.
+    pub(crate) fn session(&self, number: u32) -> Option<Session> {
+        self.sessions
+            .iter()
+            .find(|session| session.number == number)
+            .copied()
+    }
+
+    /// How many records were taken on the session of this number.
+    pub(crate) fn taken(&self, number: u32) -> u64 {
+        self.takes
+            .iter()
+            .filter(|session| **session == number)
+            .count() as u64
+    }
+
+    /// Whether a group is known.
+    pub(crate) fn knows(&self, group: &GroupId) -> bool {
+        self.groups.iter().any(|def| group_id(def) == *group)
+    }
+
+    /// The held message of this id.
+    pub(crate) fn message(&self, id: &MessageId) -> Option<&'a Message> {
+        self.held
+            .iter()
+            .find(|brought| brought.id == *id)
+            .map(|brought| brought.message)
+    }
+
+    /// The ids of the held messages of these arrival numbers.
+    pub(crate) fn ids(&self, alloc: Global, numbers: &[u32]) -> Result<Vec<MessageId>, AllocError> {
+        numbers
+            .iter()
+            .filter_map(|number| self.held.get(*number as usize))
+            .map(|brought| brought.id)
+            .collect(alloc)
+    }
+}

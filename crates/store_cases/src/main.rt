@@ -1,0 +1,37 @@
+//! Plays many random journals through a store, and compares each of its look-ups with the plain functions over the batches.
+#![tactic(auto)]
+
+mod calls;
+mod compare;
+mod following;
+mod frames;
+mod game;
+mod listed;
+mod lookups;
+mod play;
+mod tables;
+
+use crate::play::play_case;
+use anyhow::{Context, Result};
+use std::env;
+
+fn main(rt: HostRuntime) -> Result<()> {
+    let mut words = env::args(&rt)?.skip(1);
+    let count = words
+        .next()
+        .context("a count")?
+        .parse::<u32>()
+        .context("reading the count")?;
+    let mut apart = 0u32;
+    for case in 0..count {
+        if !play_case(&rt, rt.alloc(), case)? {
+            apart = apart.saturating_add(1);
+        }
+    }
+    if apart == 0 {
+        println!(rt; "cases {count} agree")?;
+    } else {
+        println!(rt; "cases {count}, {apart} of them apart")?;
+    }
+    Ok(())
+}
