@@ -6,6 +6,7 @@ mod drafts;
 mod fault;
 mod moments;
 mod posts;
+mod tally;
 mod timing;
 pub mod told;
 
@@ -14,4 +15,5 @@ pub use drafts::{Draft, Kind, draft_journal};
 pub use fault::DraftFault;
 pub use moments::{moment, moment_near};
 pub use posts::Posts;
+pub use tally::Tally;
 pub use timing::{Timing, may_share};

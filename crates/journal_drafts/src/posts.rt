@@ -176,7 +176,7 @@ impl Posts {
     }
 
     /// A message, or one of a group that is never known.
-    fn message(&self, dice: &mut Dice) -> Result<Message, DraftFault> {
+    pub fn message(&self, dice: &mut Dice) -> Result<Message, DraftFault> {
         if dice.one_in(12) {
             return make_message(self.alloc, Fixed([9; 32]), 5, [None, None]);
         }

@@ -61,10 +61,10 @@ pub(crate) fn load_picture<C: Clients>(
 fn is_steps(batch: &Batch) -> bool
     ensures { result ≡ is_settling_kind batch.now }
 {
-    match batch.entries() {
-        [Entry::Judged(_) | Entry::Deliver(_) | Entry::Invalid(_), ..] => true,
-        _ => false,
-    }
+    matches!(
+        batch.entries().first(),
+        Some(Entry::Judged(_) | Entry::Deliver(_) | Entry::Invalid(_))
+    )
 }
 
 /// Whether a batch may follow, which does not begin with a step; `false` of one that does.

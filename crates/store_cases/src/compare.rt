@@ -2,8 +2,8 @@
 
 use crate::game::Game;
 use crate::listed::{Listed, list};
-use crate::lookups::{groups_agree, messages_agree, numbers, view_lists, views_of};
-use crate::tables::{graph_agrees, rows_agree, sends_agree, tables};
+use crate::lookups::{groups_agree, messages, numbers, view_lists, views_of};
+use crate::tables::{expiries_agree, graph_agrees, seen_agree, sends_agree, tables};
 use anyhow::Result;
 use journal_drafts::told::{Lines, lines_of};
 use journal_drafts::{Posts, Timing, moment_near};
@@ -63,7 +63,7 @@ pub(crate) fn compare(game: &mut Game, store: &Store) -> Result<()> {
 fn add_whole(sides: &Sides<'_>, tests: &mut Vec<Test>) -> Result<()> {
     tests.extend(numbers(sides).iter().copied())?;
     tests.push(("group_def, group_id_at", groups_agree(sides)))?;
-    tests.push(("message, id_at, origin, fate", messages_agree(sides)))?;
+    tests.extend(messages(sides).iter().copied())?;
     tests.push(("graph", graph_agrees(sides)?))?;
     Ok(())
 }
@@ -79,9 +79,10 @@ fn add_contact(
     tests.extend(view_lists(sides, contact, now)?.iter().copied())?;
     tests.extend(tables(sides, contact, now)?.iter().copied())?;
     tests.push(("retry: due_message", sends_agree(sides, contact, now)))?;
-    tests.push(("retry: expiry, is_seen", rows_agree(sides, contact)))?;
+    tests.push(("retry: expiry", expiries_agree(sides, contact)))?;
+    tests.push(("retry: is_seen", seen_agree(sides, contact)))?;
     for number in 0..MESSAGES {
-        let id = posts.id_at(number.wrapping_add(number / 12));
+        let id = posts.id_at(number);
         tests.extend(views_of(sides, contact, &id).iter().copied())?;
     }
     Ok(())

@@ -1,5 +1,6 @@
 //! Whether a batch may follow a journal, by the rules as they are told.
 
+use crate::frames::behind;
 use crate::listed::{Listed, list};
 use anyhow::Result;
 use journal_drafts::Timing;
@@ -104,7 +105,7 @@ fn is_taken(
     };
     let lines = lines_of(alloc, j)?;
     let taken = told::taken(alloc, lines.as_slice(), &session, k, record)?;
-    let taken = format!(in alloc; "{:?}", &taken.as_slice()[1.min(taken.len())..])?;
+    let taken = format!(in alloc; "{:?}", behind(taken.as_slice(), 1))?;
     let asked = format!(in alloc; "{heard:?}")?;
     Ok(taken.as_str() == asked.as_str())
 }

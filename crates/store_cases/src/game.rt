@@ -1,7 +1,7 @@
 //! The plain side of a case: the batches that a store is to have, and what is to be tried next.
 
 use crate::following::may_follow;
-use crate::frames::read_batches;
+use crate::frames::{behind, read_batches};
 use crate::listed::list;
 use anyhow::Result;
 use journal_drafts::told::lines_of;
@@ -13,6 +13,9 @@ use sync_rules::{Batch, Entry, PlainView, Session, settle_in};
 
 /// The most batches that a case tries.
 const MOST_STEPS: u64 = 30;
+
+/// How many batches each case begins with that may follow.
+const BEGIN: u64 = 4;
 
 /// A look-up that was not as it should be, and the number of the batch behind which it was asked.
 #[derive(Clone, Copy)]
@@ -50,7 +53,7 @@ impl Game {
     pub(crate) fn new(alloc: Global, number: u32) -> Result<Game> {
         let mut dice = Dice::new(number);
         let draft = Draft::new(alloc, dice)?;
-        let steps = MOST_STEPS - dice.below(MOST_STEPS / 2).min(MOST_STEPS / 2);
+        let steps = MOST_STEPS - dice.below(MOST_STEPS / 2);
         Ok(Game {
             alloc,
             dice,
@@ -76,7 +79,7 @@ impl Game {
 
     /// The batch that is tried next, if there is one: mostly one that may follow, or one of those that are made up.
     pub(crate) fn next_batch(&mut self) -> Result<Option<Batch>> {
-        let is_wild = self.dice.one_in(6);
+        let is_wild = self.step >= BEGIN && self.dice.one_in(6);
         let most = if is_wild { 3 } else { 1 };
         match self.draft.kind(self.step) {
             Kind::Heard | Kind::Settle if is_wild => Ok(self.draft.batch(Kind::Heard, most)?),
@@ -100,6 +103,10 @@ impl Game {
     fn record(&mut self) -> Result<Record> {
         if self.dice.one_in(60) {
             return Ok(self.draft.posts().crowd(&mut self.dice)?);
+        }
+        if self.dice.one_in(2) {
+            let message = self.draft.posts().message(&mut self.dice)?;
+            return Ok(Record::Message(message));
         }
         Ok(self.draft.posts().record(&mut self.dice)?)
     }
@@ -146,11 +153,9 @@ impl Game {
         let found = read_batches(self.alloc, bytes)?;
         let mut batches = read_batches(self.alloc, bytes)?;
         let tried = self.tried.take();
-        batches.truncate(before.saturating_add(usize::from(tried.is_some())));
-        let last = batches
-            .as_slice()
-            .get(before..)
-            .and_then(|added| added.first());
+        let added = if tried.is_some() { 1 } else { 0 };
+        batches.truncate(before.saturating_add(added));
+        let last = behind(batches.as_slice(), before).first();
         let same = match (&tried, last) {
             (Some(text), Some(batch)) => text.as_str()
                 == format!(in self.alloc; "{batch:?}")?.as_str(),
@@ -170,7 +175,7 @@ impl Game {
 
 /// Whether two lists of batches are the same from this place on.
 fn same_behind(alloc: Global, left: &[Batch], right: &[Batch], from: usize) -> Result<bool> {
-    let left = format!(in alloc; "{:?}", left.get(from..))?;
-    let right = format!(in alloc; "{:?}", right.get(from..))?;
+    let left = format!(in alloc; "{:?}", behind(left, from))?;
+    let right = format!(in alloc; "{:?}", behind(right, from))?;
     Ok(left.as_str() == right.as_str())
 }

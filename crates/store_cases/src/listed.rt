@@ -24,6 +24,11 @@ pub(crate) struct Listed<'a> {
     pub(crate) takes: Vec<u32>,
 }
 
+/// A place as a store counts it.
+pub(crate) fn number(place: usize) -> u32 {
+    u32::try_from(place).unwrap_or(u32::MAX)
+}
+
 /// What these batches list.
 pub(crate) fn list(alloc: Global, batches: &[Batch]) -> Result<Listed<'_>, AllocError> {
     let mut listed = Listed {

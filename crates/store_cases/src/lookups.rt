@@ -1,7 +1,7 @@
 //! What a store lists, and what a session may ask of it.
 
 use crate::compare::{Sides, Test};
-use crate::listed::Brought;
+use crate::listed::{Brought, number};
 use anyhow::Result;
 use entry_codec::batch_len;
 use sync_ids::{GroupDef, GroupId, Message, MessageId, group_id};
@@ -57,12 +57,8 @@ fn room_of(sides: &Sides<'_>) -> u64 {
 }
 
 fn deliveries_agree(sides: &Sides<'_>) -> bool {
-    sides
-        .listed
-        .delivered
-        .iter()
-        .enumerate()
-        .all(|(k, id)| delivered_id(sides.store, k as u32) == Some(*id))
+    sides.listed.delivered.iter().enumerate().all(|(k, id)| delivered_id(sides.store, number(k))
+        == Some(*id))
 }
 
 /// The id of the message that was delivered at this place.
@@ -82,7 +78,7 @@ pub(crate) fn groups_agree(sides: &Sides<'_>) -> bool {
         .groups
         .iter()
         .enumerate()
-        .all(|(n, def)| is_group(sides.store, n as u32, def))
+        .all(|(n, def)| is_group(sides.store, number(n), def))
 }
 
 fn is_group(store: &Store, n: u32, def: &GroupDef) -> bool {
@@ -99,22 +95,49 @@ fn is_same_group(left: &GroupDef, right: &GroupDef) -> bool {
 
 // ---- messages
 
-pub(crate) fn messages_agree(sides: &Sides<'_>) -> bool {
+/// What is said of each message by its number.
+pub(crate) fn messages(sides: &Sides<'_>) -> [Test; 4] {
+    let Sides { store, batches, .. } = *sides;
+    [
+        (
+            "id_at",
+            every(
+                sides,
+                |n, brought| n < store.held() && store.id_at(n) == brought.id,
+            ),
+        ),
+        (
+            "origin",
+            every(
+                sides,
+                |n, brought| n < store.held() && store.origin(n) == brought.origin,
+            ),
+        ),
+        (
+            "fate",
+            every(sides, |n, brought| {
+                n < store.held() && Some(store.fate(n)) == fate_in(batches, &brought.id)
+            }),
+        ),
+        (
+            "message",
+            every(sides, |n, brought| {
+                n < store.held() && is_same_message(store.message(n), brought.message)
+            }),
+        ),
+    ]
+}
+
+/// Whether each held message, with its number, passes a test.
+fn every<F: Fn(u32, &Brought<'_>) -> bool>(sides: &Sides<'_>, test: F) -> bool
+    requires { F.IsAlwaysCallable test }
+{
     sides
         .listed
         .held
         .iter()
         .enumerate()
-        .all(|(n, brought)| is_message(sides, n as u32, brought))
-}
-
-fn is_message(sides: &Sides<'_>, n: u32, brought: &Brought<'_>) -> bool {
-    let store = sides.store;
-    n < store.held()
-        && store.id_at(n) == brought.id
-        && store.origin(n) == brought.origin
-        && Some(store.fate(n)) == fate_in(sides.batches, &brought.id)
-        && is_same_message(store.message(n), brought.message)
+        .all(|(n, brought)| test(number(n), brought))
 }
 
 fn is_same_message(left: &Message, right: &Message) -> bool {

@@ -13,6 +13,7 @@ mod tables;
 
 use crate::play::play_case;
 use anyhow::{Context, Result};
+use journal_drafts::Tally;
 use std::env;
 
 fn main(rt: HostRuntime) -> Result<()> {
@@ -22,16 +23,10 @@ fn main(rt: HostRuntime) -> Result<()> {
         .context("a count")?
         .parse::<u32>()
         .context("reading the count")?;
-    let mut apart = 0u32;
+    let mut tally = Tally::default();
     for case in 0..count {
-        if !play_case(&rt, rt.alloc(), case)? {
-            apart = apart.saturating_add(1);
-        }
+        tally.add(play_case(&rt, rt.alloc(), case)?);
     }
-    if apart == 0 {
-        println!(rt; "cases {count} agree")?;
-    } else {
-        println!(rt; "cases {count}, {apart} of them apart")?;
-    }
+    println!(rt; "{tally}")?;
     Ok(())
 }

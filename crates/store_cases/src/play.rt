@@ -17,7 +17,7 @@ pub(crate) fn play_case(rt: &impl Print, alloc: Global, number: u32) -> Result<b
     let mut game = Game::new(alloc, number)?;
     let mut disk = MemDisk::new(alloc, Vec::new(alloc), Vec::new(alloc))?;
     play_all(&mut game, &mut disk, &Timing)?;
-    for finding in &game.findings {
+    for finding in game.findings.iter() {
         println!(rt; "case {number}, batch {}: {}", finding.step, finding.what)?;
     }
     Ok(game.findings.is_empty())

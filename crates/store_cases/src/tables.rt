@@ -1,7 +1,7 @@
 //! The two tables that a store lends.
 
 use crate::compare::{Sides, Test};
-use crate::listed::Brought;
+use crate::listed::{Brought, number};
 use anyhow::Result;
 use journal_drafts::Timing;
 use journal_drafts::told::expiry;
@@ -21,7 +21,7 @@ pub(crate) fn graph_agrees(sides: &Sides<'_>) -> Result<bool> {
         .held
         .iter()
         .enumerate()
-        .all(|(n, brought)| is_node(sides, graph, n as u32, brought));
+        .all(|(n, brought)| is_node(sides, graph, number(n), brought));
     let settled = sides.store.is_settled() == step.is_none();
     Ok(fates && settled && is_step(sides, graph.next(), step.as_ref()))
 }
@@ -100,12 +100,19 @@ pub(crate) fn sends_agree(sides: &Sides<'_>, contact: u8, now: u64) -> bool {
     })
 }
 
-/// Whether the row of each message is as it is told.
-pub(crate) fn rows_agree(sides: &Sides<'_>, contact: u8) -> bool {
+/// Whether the time from which each message may go again is as it is told.
+pub(crate) fn expiries_agree(sides: &Sides<'_>, contact: u8) -> bool {
     let retry = sides.store.retry();
     sides.listed.held.iter().enumerate().all(|(n, brought)| {
-        retry.expiry(contact, n as u32) == expiry(sides.lines, contact, &brought.id)
-            && retry.is_seen(contact, n as u32) == is_seen(sides, contact, &brought.id)
+        retry.expiry(contact, number(n)) == expiry(sides.lines, contact, &brought.id)
+    })
+}
+
+/// Whether the contact has the messages that the view says it has.
+pub(crate) fn seen_agree(sides: &Sides<'_>, contact: u8) -> bool {
+    let retry = sides.store.retry();
+    sides.listed.held.iter().enumerate().all(|(n, brought)| {
+        retry.is_seen(contact, number(n)) == is_seen(sides, contact, &brought.id)
     })
 }
 
