@@ -30,8 +30,9 @@ pub(crate) struct Post {
     group: GroupId,
     /// The number of its group.
     pub(crate) turn: u8,
-    /// The messages that it depends on; no two are the same.
-    needs: [Option<MessageId>; 2],
+    /// A message that it depends on, if there is one, and another.
+    need: Option<MessageId>,
+    other_need: Option<MessageId>,
     pub(crate) id: MessageId,
     pub(crate) stage: Stage,
 }
@@ -39,7 +40,7 @@ pub(crate) struct Post {
 impl Post {
     /// The message.
     pub(crate) fn message(&self, alloc: Global) -> Result<Message, DraftFault> {
-        make_message(alloc, self.group, self.time, self.needs)
+        make_message(alloc, self.group, self.time, self.need, self.other_need)
     }
 }
 
@@ -61,14 +62,16 @@ fn make_message(
     alloc: Global,
     group: GroupId,
     time: u64,
-    needs: [Option<MessageId>; 2],
+    need: Option<MessageId>,
+    other_need: Option<MessageId>,
 ) -> Result<Message, DraftFault> {
-    let count = match needs {
-        [Some(_), Some(_)] => 2,
-        [None, None] => 0,
+    let count = match (need, other_need) {
+        (Some(_), Some(_)) => 2,
+        (None, None) => 0,
         _ => 1,
     };
     let mut body = vec![in alloc; count]?;
+    let needs = [need, other_need];
     for id in needs.iter().flatten() {
         body.extend_from_slice(id.as_bytes())?;
     }
@@ -84,18 +87,7 @@ pub(crate) fn strange(number: u64) -> MessageId {
     Fixed(id)
 }
 
-/// What the next message depends on: on none, or on up to two of the messages before it, mostly of its own group.
-fn needs_of(earlier: &[Post], turn: u8, dice: &mut Dice) -> [Option<MessageId>; 2] {
-    let first = need_of(earlier, turn, dice);
-    let second = need_of(earlier, turn, dice);
-    if first == second {
-        [first, None]
-    } else {
-        [first, second]
-    }
-}
-
-/// None, or one of the messages.
+/// What the next message may depend on: on none, or on one of the messages before it, mostly of its own group.
 fn need_of(earlier: &[Post], turn: u8, dice: &mut Dice) -> Option<MessageId> {
     if dice.one_in(2) {
         return None;
@@ -115,15 +107,17 @@ impl Posts {
         let mut posts = Vec::new(alloc);
         for number in 0..MESSAGES {
             let turn = number % GROUPS;
-            let needs = needs_of(posts.as_slice(), turn, dice);
+            let need = need_of(posts.as_slice(), turn, dice);
+            let other_need = need_of(posts.as_slice(), turn, dice).filter(|id| need != Some(*id));
             let group = group_id(&group_def(alloc, turn)?);
             let time = u64::from(number);
-            let id = id_of(&make_message(alloc, group, time, needs)?);
+            let id = id_of(&make_message(alloc, group, time, need, other_need)?);
             posts.push(Post {
                 time,
                 group,
                 turn,
-                needs,
+                need,
+                other_need,
                 id,
                 stage: Stage::Absent,
             })?;
@@ -178,7 +172,7 @@ impl Posts {
     /// A message, or one of a group that is never known.
     pub fn message(&self, dice: &mut Dice) -> Result<Message, DraftFault> {
         if dice.one_in(12) {
-            return make_message(self.alloc, Fixed([9; 32]), 5, [None, None]);
+            return make_message(self.alloc, Fixed([9; 32]), 5, None, None);
         }
         match dice.pick(self.posts.as_slice()) {
             Some(post) => post.message(self.alloc),

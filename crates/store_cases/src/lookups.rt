@@ -5,7 +5,7 @@ use crate::listed::{Brought, number};
 use anyhow::Result;
 use entry_codec::batch_len;
 use sync_ids::{GroupDef, GroupId, Message, MessageId, group_id};
-use sync_rules::{Fate, Level, Mode, View, fate_in};
+use sync_rules::{Fate, Level, Mode, Origin, View, fate_in};
 use sync_store::Store;
 
 /// The length of a file that has no frame.
@@ -101,31 +101,40 @@ pub(crate) fn messages(sides: &Sides<'_>) -> [Test; 4] {
     [
         (
             "id_at",
-            every(
-                sides,
-                |n, brought| n < store.held() && store.id_at(n) == brought.id,
-            ),
+            every(sides, |n, brought| has_id(store, n, &brought.id)),
         ),
         (
             "origin",
-            every(
-                sides,
-                |n, brought| n < store.held() && store.origin(n) == brought.origin,
-            ),
+            every(sides, |n, brought| has_origin(store, n, brought.origin)),
         ),
         (
             "fate",
-            every(sides, |n, brought| {
-                n < store.held() && Some(store.fate(n)) == fate_in(batches, &brought.id)
-            }),
+            every(
+                sides,
+                |n, brought| has_fate(store, n, fate_in(batches, &brought.id)),
+            ),
         ),
         (
             "message",
-            every(sides, |n, brought| {
-                n < store.held() && is_same_message(store.message(n), brought.message)
-            }),
+            every(sides, |n, brought| has_message(store, n, brought.message)),
         ),
     ]
+}
+
+fn has_id(store: &Store, n: u32, id: &MessageId) -> bool {
+    n < store.held() && store.id_at(n) == *id
+}
+
+fn has_origin(store: &Store, n: u32, origin: Origin) -> bool {
+    n < store.held() && store.origin(n) == origin
+}
+
+fn has_fate(store: &Store, n: u32, fate: Option<Fate>) -> bool {
+    n < store.held() && fate == Some(store.fate(n))
+}
+
+fn has_message(store: &Store, n: u32, message: &Message) -> bool {
+    n < store.held() && is_same_message(store.message(n), message)
 }
 
 /// Whether each held message, with its number, passes a test.
