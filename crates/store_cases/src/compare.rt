@@ -7,8 +7,8 @@ use crate::tables::{expiries_agree, graph_agrees, seen_agree, sends_agree, table
 use anyhow::Result;
 use journal_drafts::told::{Lines, lines_of};
 use journal_drafts::{Posts, Timing, moment_near};
-use std::alloc::Global;
-use sync_rules::{Batch, PlainView};
+use std::alloc::{AllocError, Global};
+use sync_rules::{Batch, Fate, PlainView, fate_in};
 use sync_store::Store;
 
 /// How many contacts are asked about, and how many messages: of each kind some are not known.
@@ -23,6 +23,8 @@ pub(crate) struct Sides<'a> {
     pub(crate) store: &'a Store,
     pub(crate) batches: &'a [Batch],
     pub(crate) listed: &'a Listed<'a>,
+    /// The state of each held message.
+    pub(crate) fates: &'a [Option<Fate>],
     pub(crate) lines: Lines<'a>,
     pub(crate) view: &'a PlainView<'a>,
 }
@@ -30,33 +32,56 @@ pub(crate) struct Sides<'a> {
 /// Whether a look-up agreed, and which.
 pub(crate) type Test = (&'static str, bool);
 
-/// Asks all of a store, and keeps what differs.
-pub(crate) fn compare(game: &mut Game, store: &Store) -> Result<()> {
-    let mut tests = Vec::new(game.alloc);
-    {
-        let batches = game.batches.as_slice();
-        let listed = list(game.alloc, batches)?;
-        let lines = lines_of(game.alloc, batches)?;
-        let view = PlainView::new(game.alloc, batches, &Timing)?;
-        let sides = Sides {
-            alloc: game.alloc,
-            store,
-            batches,
-            listed: &listed,
-            lines: lines.as_slice(),
-            view: &view,
-        };
-        add_whole(&sides, &mut tests)?;
-        for contact in 0..CONTACTS {
-            let posts = game.draft.posts();
-            let now = moment_near(sides.lines, posts, contact, &mut game.dice);
-            add_contact(&sides, posts, contact, now, &mut tests)?;
-        }
-    }
+/// Asks all of a store, and of the one that was loaded from its files, and keeps what differs.
+pub(crate) fn compare(game: &mut Game, store: &Store, loaded: &Store) -> Result<()> {
+    let tests = ask(game, store, loaded)?;
     for (what, same) in tests.as_slice() {
         game.note(*what, *same)?;
     }
     Ok(())
+}
+
+fn ask(game: &mut Game, store: &Store, loaded: &Store) -> Result<Vec<Test>> {
+    let batches = game.batches.as_slice();
+    let listed = list(game.alloc, batches)?;
+    let fates = fates_of(game.alloc, batches, &listed)?;
+    let lines = lines_of(game.alloc, batches)?;
+    let view = PlainView::new(game.alloc, batches, &Timing)?;
+    let sides = Sides {
+        alloc: game.alloc,
+        store,
+        batches,
+        listed: &listed,
+        fates: fates.as_slice(),
+        lines: lines.as_slice(),
+        view: &view,
+    };
+    let again = Sides {
+        store: loaded,
+        ..sides
+    };
+    let posts = game.draft.posts();
+    let mut tests = Vec::new(game.alloc);
+    add_whole(&sides, &mut tests)?;
+    add_whole(&again, &mut tests)?;
+    for contact in 0..CONTACTS {
+        let now = moment_near(sides.lines, posts, contact, &mut game.dice);
+        add_contact(&sides, posts, contact, now, &mut tests)?;
+        add_contact(&again, posts, contact, now, &mut tests)?;
+    }
+    Ok(tests)
+}
+
+fn fates_of(
+    alloc: Global,
+    batches: &[Batch],
+    listed: &Listed<'_>,
+) -> Result<Vec<Option<Fate>>, AllocError> {
+    listed
+        .held
+        .iter()
+        .map(|brought| fate_in(batches, &brought.id))
+        .collect(alloc)
 }
 
 /// What is asked once.

@@ -66,9 +66,9 @@ impl Game {
         })
     }
 
-    /// Keeps what is not as it should be.
+    /// Keeps what is not as it should be, once each.
     pub(crate) fn note(&mut self, what: &'static str, same: bool) -> Result<()> {
-        if !same {
+        if !same && !self.findings.iter().any(|finding| finding.what == what) {
             let step = self.step;
             self.findings.push(Finding { step, what })?;
         }
@@ -81,11 +81,15 @@ impl Game {
     pub(crate) fn next_batch(&mut self) -> Result<Option<Batch>> {
         let is_wild = self.step >= BEGIN && self.dice.one_in(6);
         let most = if is_wild { 3 } else { 1 };
-        match self.draft.kind(self.step) {
-            Kind::Heard | Kind::Settle if is_wild => Ok(self.draft.batch(Kind::Heard, most)?),
-            Kind::Heard | Kind::Settle => self.heard_batch(),
-            Kind::Out if !is_wild => self.out_batch(),
-            kind => Ok(self.draft.batch(kind, most)?),
+        let drawn = match self.draft.kind(self.step) {
+            Kind::Heard | Kind::Settle if is_wild => self.draft.batch(Kind::Heard, most)?,
+            Kind::Heard | Kind::Settle => None,
+            Kind::Out if !is_wild => self.out_batch()?,
+            kind => self.draft.batch(kind, most)?,
+        };
+        match drawn {
+            Some(batch) => Ok(Some(batch)),
+            None => self.heard_batch(),
         }
     }
 

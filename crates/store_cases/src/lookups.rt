@@ -5,7 +5,7 @@ use crate::listed::{Brought, number};
 use anyhow::Result;
 use entry_codec::batch_len;
 use sync_ids::{GroupDef, GroupId, Message, MessageId, group_id};
-use sync_rules::{Fate, Level, Mode, Origin, View, fate_in};
+use sync_rules::{Fate, Level, Mode, Origin, View};
 use sync_store::Store;
 
 /// The length of a file that has no frame.
@@ -46,8 +46,8 @@ fn end_of(sides: &Sides<'_>) -> u64 {
 /// What settling may yet add.
 fn room_of(sides: &Sides<'_>) -> u64 {
     let mut room = 0u64;
-    for brought in sides.listed.held.as_slice() {
-        room = room.saturating_add(match fate_in(sides.batches, &brought.id) {
+    for fate in sides.fates {
+        room = room.saturating_add(match fate {
             Some(Fate::Unknown) => 76,
             Some(Fate::Pending) => 38,
             _ => 0,
@@ -97,7 +97,7 @@ fn is_same_group(left: &GroupDef, right: &GroupDef) -> bool {
 
 /// What is said of each message by its number.
 pub(crate) fn messages(sides: &Sides<'_>) -> [Test; 4] {
-    let Sides { store, batches, .. } = *sides;
+    let Sides { store, .. } = *sides;
     [
         (
             "id_at",
@@ -107,13 +107,7 @@ pub(crate) fn messages(sides: &Sides<'_>) -> [Test; 4] {
             "origin",
             every(sides, |n, brought| has_origin(store, n, brought.origin)),
         ),
-        (
-            "fate",
-            every(
-                sides,
-                |n, brought| has_fate(store, n, fate_in(batches, &brought.id)),
-            ),
-        ),
+        ("fate", fates_agree(sides)),
         (
             "message",
             every(sides, |n, brought| has_message(store, n, brought.message)),
@@ -127,6 +121,15 @@ fn has_id(store: &Store, n: u32, id: &MessageId) -> bool {
 
 fn has_origin(store: &Store, n: u32, origin: Origin) -> bool {
     n < store.held() && store.origin(n) == origin
+}
+
+fn fates_agree(sides: &Sides<'_>) -> bool {
+    let Sides { store, .. } = *sides;
+    sides
+        .fates
+        .iter()
+        .enumerate()
+        .all(|(n, fate)| has_fate(store, number(n), *fate))
 }
 
 fn has_fate(store: &Store, n: u32, fate: Option<Fate>) -> bool {

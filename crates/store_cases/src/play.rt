@@ -79,9 +79,8 @@ fn compare_all<D: Pictured, C: Clients>(
 ) -> Result<()> {
     let picture = disk.picture()?;
     game.read(picture.file(0), settles)?;
-    compare(game, store)?;
     match load_picture(game.alloc, picture, clients) {
-        Ok(again) => compare(game, &again),
+        Ok(loaded) => compare(game, store, &loaded),
         Err(_) => game.note("load", false),
     }
 }

@@ -1,14 +1,14 @@
 //! The two tables that a store lends.
 
 use crate::compare::{Sides, Test};
-use crate::listed::{Brought, number};
+use crate::listed::number;
 use anyhow::Result;
 use journal_drafts::Timing;
 use journal_drafts::told::expiry;
 use message_graph::{Fate as NodeFate, Graph, Step};
 use retry_table::Retry;
 use sync_ids::MessageId;
-use sync_rules::{Entry, Fate, Mode, View, fate_in, next_step_in};
+use sync_rules::{Entry, Fate, Mode, View, next_step_in};
 
 // ---- the waiting graph
 
@@ -17,17 +17,16 @@ pub(crate) fn graph_agrees(sides: &Sides<'_>) -> Result<bool> {
     let graph = sides.store.graph();
     let step = next_step_in(sides.alloc, sides.batches, &Timing)?;
     let fates = sides
-        .listed
-        .held
+        .fates
         .iter()
         .enumerate()
-        .all(|(n, brought)| is_node(sides, graph, number(n), brought));
+        .all(|(n, fate)| has_fate(graph, number(n), *fate));
     let settled = sides.store.is_settled() == step.is_none();
     Ok(fates && settled && is_step(sides, graph.next(), step.as_ref()))
 }
 
-fn is_node(sides: &Sides<'_>, graph: &Graph, n: u32, brought: &Brought<'_>) -> bool {
-    n < graph.len() && fate_in(sides.batches, &brought.id) == Some(fate_of(graph.fate(n)))
+fn has_fate(graph: &Graph, n: u32, fate: Option<Fate>) -> bool {
+    n < graph.len() && fate == Some(fate_of(graph.fate(n)))
 }
 
 fn fate_of(fate: NodeFate) -> Fate {
