@@ -14,6 +14,9 @@ use sync_rules::{Batch, Entry, PlainView, Session, settle_in};
 /// The most batches that a case tries.
 const MOST_STEPS: u64 = 30;
 
+/// How many records are drawn for one that says something new.
+const MOST_RECORDS: u32 = 4;
+
 /// How many batches each case begins with that may follow.
 const BEGIN: u64 = 4;
 
@@ -82,8 +85,8 @@ impl Game {
         let is_wild = self.step >= BEGIN && self.dice.one_in(6);
         let most = if is_wild { 3 } else { 1 };
         let drawn = match self.draft.kind(self.step) {
-            Kind::Heard | Kind::Settle if is_wild => self.draft.batch(Kind::Heard, most)?,
-            Kind::Heard | Kind::Settle => None,
+            Kind::Settle => self.draft.batch(Kind::Author, most)?,
+            Kind::Heard if !is_wild => None,
             Kind::Out if !is_wild => self.out_batch()?,
             kind => self.draft.batch(kind, most)?,
         };
@@ -93,15 +96,25 @@ impl Game {
         }
     }
 
-    /// What some record is taken as on some session.
+    /// What some record is taken as on some session: one that says something new, if one of a few does.
     fn heard_batch(&mut self) -> Result<Option<Batch>> {
         let Ok(session) = self.draft.session(&mut self.dice) else {
             return Ok(None);
         };
+        let k = list(self.alloc, self.batches.as_slice())?.taken(session.number);
+        for _ in 1..MOST_RECORDS {
+            let batch = self.taken(&session, k)?;
+            if batch.entries().len() > 1 {
+                return Ok(Some(batch));
+            }
+        }
+        Ok(Some(self.taken(&session, k)?))
+    }
+
+    fn taken(&mut self, session: &Session, k: u64) -> Result<Batch> {
         let record = self.record()?;
         let view = PlainView::new(self.alloc, self.batches.as_slice(), &Timing)?;
-        let k = list(self.alloc, self.batches.as_slice())?.taken(session.number);
-        Ok(Some(take(self.alloc, &view, &session, k, record)?))
+        Ok(take(self.alloc, &view, session, k, record)?)
     }
 
     fn record(&mut self) -> Result<Record> {
