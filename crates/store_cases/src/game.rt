@@ -160,7 +160,7 @@ impl Game {
             self.draft.forget(batch);
             self.tried = None;
         }
-        let settles = !self.dice.one_in(4);
+        let settles = !self.dice.one_in(6);
         Ok(Plan { follows, settles })
     }
 
