@@ -1,14 +1,15 @@
 //! The look-ups of a store beside the plain functions over its batches.
 
+use crate::finding::{Lookup, Test};
 use crate::game::Game;
 use crate::listed::{Listed, list};
-use crate::lookups::{groups_agree, messages, numbers, view_lists, views_of};
-use crate::tables::{expiries_agree, graph_agrees, seen_agree, sends_agree, tables};
+use crate::lookups::{counts, groups_agree, lists_agree, messages, sends_same, views_of};
+use crate::tables::{fates_agree, is_next, rows_of, tables_agree};
 use anyhow::Result;
-use journal_drafts::told::{Lines, lines_of};
+use journal_drafts::told::{Line, lines_of};
 use journal_drafts::{Posts, Timing, moment_near};
 use std::alloc::{AllocError, Global};
-use sync_rules::{Batch, Fate, PlainView, fate_in};
+use sync_rules::{Batch, Fate, Mode, PlainView, fate_in};
 use sync_store::Store;
 
 /// How many contacts are asked about, and how many messages: of each kind some are not known.
@@ -16,60 +17,60 @@ const CONTACTS: u8 = 3;
 
 const MESSAGES: u64 = 14;
 
-/// A store, and what it is compared with.
-#[derive(Clone, Copy)]
-pub(crate) struct Sides<'a> {
+/// What a store is compared with.
+#[derive(Drop)]
+pub(crate) struct Plain<'a> {
     pub(crate) alloc: Global,
-    pub(crate) store: &'a Store,
     pub(crate) batches: &'a [Batch],
-    pub(crate) listed: &'a Listed<'a>,
+    pub(crate) listed: Listed<'a>,
     /// The state of each held message.
-    pub(crate) fates: &'a [Option<Fate>],
-    pub(crate) lines: Lines<'a>,
-    pub(crate) view: &'a PlainView<'a>,
+    pub(crate) fates: Vec<Option<Fate>>,
+    pub(crate) lines: Vec<Line<'a>>,
+    pub(crate) view: PlainView<'a>,
 }
 
-/// Whether a look-up agreed, and which.
-pub(crate) type Test = (&'static str, bool);
+/// What is told of these batches.
+fn plain_of(alloc: Global, batches: &[Batch]) -> Result<Plain<'_>> {
+    let listed = list(alloc, batches)?;
+    let fates = fates_of(alloc, batches, &listed)?;
+    let lines = lines_of(alloc, batches)?;
+    let view = PlainView::new(alloc, batches, &Timing)?;
+    Ok(Plain {
+        alloc,
+        batches,
+        listed,
+        fates,
+        lines,
+        view,
+    })
+}
 
 /// Asks all of a store, and of the one that was loaded from its files, and keeps what differs.
 pub(crate) fn compare(game: &mut Game, store: &Store, loaded: &Store) -> Result<()> {
-    let tests = ask(game, store, loaded)?;
+    let mut tests = Vec::new(game.alloc);
+    ask(game, store, loaded, &mut tests)?;
     for (what, same) in tests.as_slice() {
         game.note(*what, *same)?;
     }
     Ok(())
 }
 
-fn ask(game: &mut Game, store: &Store, loaded: &Store) -> Result<Vec<Test>> {
-    let batches = game.batches.as_slice();
-    let listed = list(game.alloc, batches)?;
-    let fates = fates_of(game.alloc, batches, &listed)?;
-    let lines = lines_of(game.alloc, batches)?;
-    let view = PlainView::new(game.alloc, batches, &Timing)?;
-    let sides = Sides {
-        alloc: game.alloc,
-        store,
-        batches,
-        listed: &listed,
-        fates: fates.as_slice(),
-        lines: lines.as_slice(),
-        view: &view,
-    };
-    let again = Sides {
-        store: loaded,
-        ..sides
-    };
+fn ask(game: &Game, store: &Store, loaded: &Store, tests: &mut Vec<Test>) -> Result<()> {
+    let plain = plain_of(game.alloc, game.batches.as_slice())?;
+    add_tests(&plain, store, game, tests)?;
+    add_tests(&plain, loaded, game, tests)
+}
+
+/// What is asked of a store: what is asked once, and of each contact at a moment of its own.
+fn add_tests(plain: &Plain<'_>, store: &Store, game: &Game, tests: &mut Vec<Test>) -> Result<()> {
+    add_whole(plain, store, tests)?;
     let posts = game.draft.posts();
-    let mut tests = Vec::new(game.alloc);
-    add_whole(&sides, &mut tests)?;
-    add_whole(&again, &mut tests)?;
+    let mut dice = game.dice;
     for contact in 0..CONTACTS {
-        let now = moment_near(sides.lines, posts, contact, &mut game.dice);
-        add_contact(&sides, posts, contact, now, &mut tests)?;
-        add_contact(&again, posts, contact, now, &mut tests)?;
+        let now = moment_near(plain.lines.as_slice(), posts, contact, &mut dice);
+        add_contact(plain, store, posts, contact, now, tests)?;
     }
-    Ok(tests)
+    Ok(())
 }
 
 fn fates_of(
@@ -78,37 +79,45 @@ fn fates_of(
     listed: &Listed<'_>,
 ) -> Result<Vec<Option<Fate>>, AllocError> {
     listed
-        .held
+        .ids
         .iter()
-        .map(|brought| fate_in(batches, &brought.id))
+        .map(|id| fate_in(batches, id))
         .collect(alloc)
 }
 
 /// What is asked once.
-fn add_whole(sides: &Sides<'_>, tests: &mut Vec<Test>) -> Result<()> {
-    tests.extend(numbers(sides).iter().copied())?;
-    tests.push(("group_def, group_id_at", groups_agree(sides)))?;
-    tests.extend(messages(sides).iter().copied())?;
-    tests.push(("graph", graph_agrees(sides)?))?;
+fn add_whole(plain: &Plain<'_>, store: &Store, tests: &mut Vec<Test>) -> Result<()> {
+    tests.extend(counts(plain, store).iter().copied())?;
+    tests.extend(messages(plain, store).iter().copied())?;
+    tests.push((Lookup::GroupDef, groups_agree(plain, store)))?;
+    tests.push((Lookup::GraphFate, fates_agree(plain, store)))?;
+    tests.push((Lookup::GraphNext, is_next(plain, store)?))?;
     Ok(())
 }
 
 /// What is asked of a contact at this time.
 fn add_contact(
-    sides: &Sides<'_>,
+    plain: &Plain<'_>,
+    store: &Store,
     posts: &Posts,
     contact: u8,
     now: u64,
     tests: &mut Vec<Test>,
 ) -> Result<()> {
-    tests.extend(view_lists(sides, contact, now)?.iter().copied())?;
-    tests.extend(tables(sides, contact, now)?.iter().copied())?;
-    tests.push(("retry: due_message", sends_agree(sides, contact, now)))?;
-    tests.push(("retry: expiry", expiries_agree(sides, contact)))?;
-    tests.push(("retry: is_seen", seen_agree(sides, contact)))?;
+    tests.push((
+        Lookup::NextSend,
+        sends_same(plain, store, contact, Mode::Batch, now),
+    ))?;
+    tests.push((
+        Lookup::NextSend,
+        sends_same(plain, store, contact, Mode::Interactive, now),
+    ))?;
+    tests.extend(rows_of(plain, store, contact, now).iter().copied())?;
+    lists_agree(plain, store, contact, now, tests)?;
+    tables_agree(plain, store, contact, now, tests)?;
     for number in 0..MESSAGES {
         let id = posts.id_at(number);
-        tests.extend(views_of(sides, contact, &id).iter().copied())?;
+        tests.extend(views_of(plain, store, contact, &id).iter().copied())?;
     }
     Ok(())
 }

@@ -49,7 +49,7 @@ fn may_begin(listed: &Listed<'_>, session: &Session) -> bool {
 /// A message may be written in a known group where it is not held, its client accepts it, and all that it depends on is
 /// delivered in its group.
 fn may_author(alloc: Global, j: &[Batch], listed: &Listed<'_>, message: &Message) -> Result<bool> {
-    let is_new = listed.message(&id_of(message)).is_none();
+    let is_new = listed.place(&id_of(message)).is_none();
     if !is_new || !listed.knows(&message.group()) {
         return Ok(false);
     }
@@ -65,8 +65,7 @@ fn may_author(alloc: Global, j: &[Batch], listed: &Listed<'_>, message: &Message
 
 /// Whether the message of this id is delivered, in the group of another.
 fn is_served(j: &[Batch], listed: &Listed<'_>, message: &Message, id: &MessageId) -> bool {
-    let group = listed.message(id).map(|held| held.group());
-    group == Some(message.group()) && fate_in(j, id) == Some(Fate::Delivered)
+    listed.group(id) == Some(message.group()) && fate_in(j, id) == Some(Fate::Delivered)
 }
 
 /// Whether this is what is due on a session at this time.

@@ -1,5 +1,6 @@
 //! The plain side of a case: the batches that a store is to have, and what is to be tried next.
 
+use crate::finding::{Finding, Lookup};
 use crate::following::may_follow;
 use crate::frames::{behind, read_batches};
 use crate::listed::list;
@@ -19,13 +20,6 @@ const MOST_RECORDS: u32 = 4;
 
 /// How many batches each case begins with that may follow.
 const BEGIN: u64 = 4;
-
-/// A look-up that was not as it should be, and the number of the batch behind which it was asked.
-#[derive(Clone, Copy)]
-pub(crate) struct Finding {
-    pub(crate) step: u64,
-    pub(crate) what: &'static str,
-}
 
 /// What a case is to do with a batch.
 #[derive(Clone, Copy, PartialEq, Eq)]
@@ -70,7 +64,7 @@ impl Game {
     }
 
     /// Keeps what is not as it should be, once each.
-    pub(crate) fn note(&mut self, what: &'static str, same: bool) -> Result<()> {
+    pub(crate) fn note(&mut self, what: Lookup, same: bool) -> Result<()> {
         if !same && !self.findings.iter().any(|finding| finding.what == what) {
             let step = self.step;
             self.findings.push(Finding { step, what })?;
@@ -179,12 +173,12 @@ impl Game {
             (None, None) => true,
             _ => false,
         };
-        self.note("the batch in its frame", same)?;
+        self.note(Lookup::Frames, same)?;
         if settles {
             settle_in(self.alloc, &mut batches, &Timing)?;
         }
         let same = same_behind(self.alloc, found.as_slice(), batches.as_slice(), before)?;
-        self.note("the settling batches", same)?;
+        self.note(Lookup::Settling, same)?;
         self.batches = batches;
         Ok(())
     }

@@ -4,21 +4,16 @@ use std::alloc::{AllocError, Global};
 use sync_ids::{GroupDef, GroupId, Message, MessageId, group_id};
 use sync_rules::{Batch, Entry, Origin, Session, id_of};
 
-/// A message that an entry brings.
-#[derive(Clone, Copy)]
-pub(crate) struct Brought<'a> {
-    pub(crate) id: MessageId,
-    pub(crate) message: &'a Message,
-    pub(crate) origin: Origin,
-}
-
 /// What the entries list, in their order.
 #[derive(Drop)]
 pub(crate) struct Listed<'a> {
     pub(crate) contacts: u32,
     pub(crate) groups: Vec<&'a GroupDef>,
     pub(crate) sessions: Vec<Session>,
-    pub(crate) held: Vec<Brought<'a>>,
+    /// The held messages: the id of each, the message and its origin.
+    pub(crate) ids: Vec<MessageId>,
+    pub(crate) messages: Vec<&'a Message>,
+    pub(crate) origins: Vec<Origin>,
     pub(crate) delivered: Vec<MessageId>,
     /// The session of each Take entry.
     pub(crate) takes: Vec<u32>,
@@ -35,7 +30,9 @@ pub(crate) fn list(alloc: Global, batches: &[Batch]) -> Result<Listed<'_>, Alloc
         contacts: 0,
         groups: Vec::new(alloc),
         sessions: Vec::new(alloc),
-        held: Vec::new(alloc),
+        ids: Vec::new(alloc),
+        messages: Vec::new(alloc),
+        origins: Vec::new(alloc),
         delivered: Vec::new(alloc),
         takes: Vec::new(alloc),
     };
@@ -64,12 +61,9 @@ impl<'a> Listed<'a> {
     }
 
     fn bring(&mut self, message: &'a Message, origin: Origin) -> Result<(), AllocError> {
-        let id = id_of(message);
-        self.held.push(Brought {
-            id,
-            message,
-            origin,
-        })?;
+        self.ids.push(id_of(message))?;
+        self.messages.push(message)?;
+        self.origins.push(origin)?;
         Ok(())
     }
 
@@ -94,20 +88,32 @@ impl<'a> Listed<'a> {
         self.groups.iter().any(|def| group_id(def) == *group)
     }
 
-    /// The held message of this id.
-    pub(crate) fn message(&self, id: &MessageId) -> Option<&'a Message> {
-        self.held
-            .iter()
-            .find(|brought| brought.id == *id)
-            .map(|brought| brought.message)
+    /// The arrival number of the message of this id.
+    pub(crate) fn place(&self, id: &MessageId) -> Option<usize> {
+        self.ids.iter().position(|held| held == id)
+    }
+
+    /// The group of the held message of this id.
+    pub(crate) fn group(&self, id: &MessageId) -> Option<GroupId> {
+        let place = self.place(id)?;
+        let message = self.messages.get(place)?;
+        Some(message.group())
+    }
+
+    /// The id of the held message of this arrival number.
+    pub(crate) fn id(&self, number: u32) -> Option<MessageId> {
+        self.ids.get(number as usize).copied()
     }
 
     /// The ids of the held messages of these arrival numbers.
-    pub(crate) fn ids(&self, alloc: Global, numbers: &[u32]) -> Result<Vec<MessageId>, AllocError> {
+    pub(crate) fn ids_at(
+        &self,
+        alloc: Global,
+        numbers: &[u32],
+    ) -> Result<Vec<MessageId>, AllocError> {
         numbers
             .iter()
-            .filter_map(|number| self.held.get(*number as usize))
-            .map(|brought| brought.id)
+            .filter_map(|number| self.id(*number))
             .collect(alloc)
     }
 }

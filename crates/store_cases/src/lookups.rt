@@ -1,41 +1,48 @@
 //! What a store lists, and what a session may ask of it.
 
-use crate::compare::{Sides, Test};
-use crate::listed::{Brought, number};
+use crate::compare::Plain;
+use crate::finding::{Lookup, Test};
+use crate::listed::number;
 use anyhow::Result;
 use entry_codec::batch_len;
 use sync_ids::{GroupDef, GroupId, Message, MessageId, group_id};
-use sync_rules::{Fate, Level, Mode, Origin, View};
+use sync_rules::{Batch, Fate, Level, Mode, Origin, View};
 use sync_store::Store;
 
 /// The length of a file that has no frame.
 const BEGUN: u64 = 15;
 
 /// What is counted.
-pub(crate) fn numbers(sides: &Sides<'_>) -> [Test; 8] {
-    let Sides { store, listed, .. } = *sides;
+pub(crate) fn counts(plain: &Plain<'_>, store: &Store) -> [Test; 8] {
+    let listed = &plain.listed;
     [
-        ("held", store.held() as usize == listed.held.len()),
-        ("contacts", store.contacts() == listed.contacts),
-        ("groups", store.groups() as usize == listed.groups.len()),
+        (Lookup::Held, store.held() as usize == listed.ids.len()),
+        (Lookup::Contacts, store.contacts() == listed.contacts),
         (
-            "sessions",
+            Lookup::Groups,
+            store.groups() as usize == listed.groups.len(),
+        ),
+        (
+            Lookup::Sessions,
             store.sessions() as usize == listed.sessions.len(),
         ),
         (
-            "delivered",
+            Lookup::Delivered,
             store.delivered() as usize == listed.delivered.len(),
         ),
-        ("delivered_at", deliveries_agree(sides)),
-        ("end", store.end() == end_of(sides)),
-        ("room", store.room() == room_of(sides)),
+        (Lookup::DeliveredAt, deliveries_agree(plain, store)),
+        (Lookup::End, store.end() == end_of(plain.batches)),
+        (
+            Lookup::Room,
+            store.room() == room_of(plain.fates.as_slice()),
+        ),
     ]
 }
 
-/// The end of the frames of all batches.
-fn end_of(sides: &Sides<'_>) -> u64 {
+/// The end of the frames of these batches.
+fn end_of(batches: &[Batch]) -> u64 {
     let mut end = BEGUN;
-    for batch in sides.batches {
+    for batch in batches {
         end = end
             .saturating_add(5)
             .saturating_add(batch_len(batch) as u64);
@@ -43,10 +50,10 @@ fn end_of(sides: &Sides<'_>) -> u64 {
     end
 }
 
-/// What settling may yet add.
-fn room_of(sides: &Sides<'_>) -> u64 {
+/// What settling may yet add where messages have these states.
+fn room_of(fates: &[Option<Fate>]) -> u64 {
     let mut room = 0u64;
-    for fate in sides.fates {
+    for fate in fates {
         room = room.saturating_add(match fate {
             Some(Fate::Unknown) => 76,
             Some(Fate::Pending) => 38,
@@ -56,9 +63,13 @@ fn room_of(sides: &Sides<'_>) -> u64 {
     room
 }
 
-fn deliveries_agree(sides: &Sides<'_>) -> bool {
-    sides.listed.delivered.iter().enumerate().all(|(k, id)| delivered_id(sides.store, number(k))
-        == Some(*id))
+fn deliveries_agree(plain: &Plain<'_>, store: &Store) -> bool {
+    plain
+        .listed
+        .delivered
+        .iter()
+        .enumerate()
+        .all(|(k, id)| delivered_id(store, number(k)) == Some(*id))
 }
 
 /// The id of the message that was delivered at this place.
@@ -72,13 +83,13 @@ fn delivered_id(store: &Store, k: u32) -> Option<MessageId> {
 
 // ---- groups
 
-pub(crate) fn groups_agree(sides: &Sides<'_>) -> bool {
-    sides
+pub(crate) fn groups_agree(plain: &Plain<'_>, store: &Store) -> bool {
+    plain
         .listed
         .groups
         .iter()
         .enumerate()
-        .all(|(n, def)| is_group(sides.store, number(n), def))
+        .all(|(n, def)| is_group(store, number(n), def))
 }
 
 fn is_group(store: &Store, n: u32, def: &GroupDef) -> bool {
@@ -96,60 +107,49 @@ fn is_same_group(left: &GroupDef, right: &GroupDef) -> bool {
 // ---- messages
 
 /// What is said of each message by its number.
-pub(crate) fn messages(sides: &Sides<'_>) -> [Test; 4] {
-    let Sides { store, .. } = *sides;
+pub(crate) fn messages(plain: &Plain<'_>, store: &Store) -> [Test; 4] {
     [
-        (
-            "id_at",
-            every(sides, |n, brought| has_id(store, n, &brought.id)),
-        ),
-        (
-            "origin",
-            every(sides, |n, brought| has_origin(store, n, brought.origin)),
-        ),
-        ("fate", fates_agree(sides)),
-        (
-            "message",
-            every(sides, |n, brought| has_message(store, n, brought.message)),
-        ),
+        (Lookup::IdAt, ids_agree(plain, store)),
+        (Lookup::Origin, origins_agree(plain, store)),
+        (Lookup::Fate, states_agree(plain, store)),
+        (Lookup::Message, messages_agree(plain, store)),
     ]
+}
+
+fn ids_agree(plain: &Plain<'_>, store: &Store) -> bool {
+    let mut ids = plain.listed.ids.iter().enumerate();
+    ids.all(|(n, id)| has_id(store, number(n), id))
 }
 
 fn has_id(store: &Store, n: u32, id: &MessageId) -> bool {
     n < store.held() && store.id_at(n) == *id
 }
 
+fn origins_agree(plain: &Plain<'_>, store: &Store) -> bool {
+    let mut origins = plain.listed.origins.iter().enumerate();
+    origins.all(|(n, origin)| has_origin(store, number(n), *origin))
+}
+
 fn has_origin(store: &Store, n: u32, origin: Origin) -> bool {
     n < store.held() && store.origin(n) == origin
 }
 
-fn fates_agree(sides: &Sides<'_>) -> bool {
-    let Sides { store, .. } = *sides;
-    sides
-        .fates
-        .iter()
-        .enumerate()
-        .all(|(n, fate)| has_fate(store, number(n), *fate))
+fn states_agree(plain: &Plain<'_>, store: &Store) -> bool {
+    let mut fates = plain.fates.iter().enumerate();
+    fates.all(|(n, fate)| has_fate(store, number(n), *fate))
 }
 
 fn has_fate(store: &Store, n: u32, fate: Option<Fate>) -> bool {
     n < store.held() && fate == Some(store.fate(n))
 }
 
-fn has_message(store: &Store, n: u32, message: &Message) -> bool {
-    n < store.held() && is_same_message(store.message(n), message)
+fn messages_agree(plain: &Plain<'_>, store: &Store) -> bool {
+    let mut messages = plain.listed.messages.iter().enumerate();
+    messages.all(|(n, message)| has_message(store, number(n), message))
 }
 
-/// Whether each held message, with its number, passes a test.
-fn every<F: Fn(u32, &Brought<'_>) -> bool>(sides: &Sides<'_>, test: F) -> bool
-    requires { F.IsAlwaysCallable test }
-{
-    sides
-        .listed
-        .held
-        .iter()
-        .enumerate()
-        .all(|(n, brought)| test(number(n), brought))
+fn has_message(store: &Store, n: u32, message: &Message) -> bool {
+    n < store.held() && is_same_message(store.message(n), message)
 }
 
 fn is_same_message(left: &Message, right: &Message) -> bool {
@@ -161,75 +161,96 @@ fn is_same_message(left: &Message, right: &Message) -> bool {
 // ---- a view
 
 /// What a view says of a contact and an id.
-pub(crate) fn views_of(sides: &Sides<'_>, contact: u8, id: &MessageId) -> [Test; 4] {
-    let Sides { store, view, .. } = *sides;
-    let stored = seen_of(store, contact, id);
-    let plain = seen_of(view, contact, id);
+pub(crate) fn views_of(plain: &Plain<'_>, store: &Store, contact: u8, id: &MessageId) -> [Test; 5] {
+    let view = &plain.view;
     [
-        ("find", store.find(id) == view.find(id)),
+        (Lookup::Find, store.find(id) == view.find(id)),
+        (Lookup::GroupAt, group_of(store, id) == group_of(view, id)),
         (
-            "level, group_at",
-            stored.map(|seen| seen.0) == plain.map(|seen| seen.0),
+            Lookup::Level,
+            level_of(store, contact, id) == level_of(view, contact, id),
         ),
         (
-            "is_seen",
-            stored.map(|seen| seen.1) == plain.map(|seen| seen.1),
+            Lookup::IsSeen,
+            is_seen(store, contact, id) == is_seen(view, contact, id),
         ),
         (
-            "is_wanted",
+            Lookup::IsWanted,
             store.is_wanted(contact, id) == view.is_wanted(contact, id),
         ),
     ]
 }
 
-/// The group of the message of this id and its level for the contact, and whether the contact has it.
-fn seen_of<V: View>(view: &V, contact: u8, id: &MessageId) -> Option<((GroupId, Level), bool)> {
+fn group_of<V: View>(view: &V, id: &MessageId) -> Option<GroupId> {
     let n = view.find(id)?;
-    let group = view.group_at(n);
-    let level = view.level(contact, &group);
-    Some(((group, level), view.is_seen(contact, n)))
+    Some(view.group_at(n))
 }
 
-/// What a view lists for a contact, and what it would send and offer at this time.
-pub(crate) fn view_lists(sides: &Sides<'_>, contact: u8, now: u64) -> Result<[Test; 7]> {
-    let Sides {
-        alloc,
-        store,
-        view,
-        ..
-    } = *sides;
-    let owed = store.owed(alloc, contact)?.as_slice() == view.owed(alloc, contact)?.as_slice();
-    let wanted = store.wanted(alloc, contact)?.as_slice()
-        == view.wanted(alloc, contact)?.as_slice();
-    let offers = store.offers(alloc, contact, now)?.as_slice()
-        == view.offers(alloc, contact, now)?.as_slice();
-    Ok([
-        ("owed", owed),
-        ("wanted", wanted),
-        ("offers", offers),
-        (
-            "wanted_count",
-            store.wanted_count(contact) == view.wanted_count(contact),
-        ),
-        ("level", levels_agree(sides, contact)),
-        (
-            "next_send in batch mode",
-            sends_same(sides, contact, Mode::Batch, now),
-        ),
-        (
-            "next_send in interactive mode",
-            sends_same(sides, contact, Mode::Interactive, now),
-        ),
-    ])
+/// The level of the group of the message of this id; that of a group that is never known where it is not held.
+fn level_of<V: View>(view: &V, contact: u8, id: &MessageId) -> Level {
+    match group_of(view, id) {
+        Some(group) => view.level(contact, &group),
+        None => view.level(contact, id),
+    }
 }
 
-fn sends_same(sides: &Sides<'_>, contact: u8, mode: Mode, now: u64) -> bool {
-    sides.store.next_send(contact, mode, now) == sides.view.next_send(contact, mode, now)
+/// Whether the contact has the message of this id.
+pub(crate) fn is_seen<V: View>(view: &V, contact: u8, id: &MessageId) -> bool {
+    match view.find(id) {
+        Some(n) => view.is_seen(contact, n),
+        None => false,
+    }
 }
 
-fn levels_agree(sides: &Sides<'_>, contact: u8) -> bool {
-    sides.listed.groups.iter().all(|def| {
-        let group = group_id(def);
-        sides.store.level(contact, &group) == sides.view.level(contact, &group)
-    })
+/// Whether the same would be sent to a contact at this time.
+pub(crate) fn sends_same(
+    plain: &Plain<'_>,
+    store: &Store,
+    contact: u8,
+    mode: Mode,
+    now: u64,
+) -> bool {
+    store.next_send(contact, mode, now) == plain.view.next_send(contact, mode, now)
+}
+
+/// Whether a view lists the same for a contact at this time.
+pub(crate) fn lists_agree(
+    plain: &Plain<'_>,
+    store: &Store,
+    contact: u8,
+    now: u64,
+    tests: &mut Vec<Test>,
+) -> Result<()> {
+    let Plain { alloc, view, .. } = plain;
+    let owed = store.owed(*alloc, contact)?;
+    tests.push((
+        Lookup::Owed,
+        owed.as_slice() == view.owed(*alloc, contact)?.as_slice(),
+    ))?;
+    let wanted = store.wanted(*alloc, contact)?;
+    tests.push((
+        Lookup::Wanted,
+        wanted.as_slice() == view.wanted(*alloc, contact)?.as_slice(),
+    ))?;
+    let offers = store.offers(*alloc, contact, now)?;
+    tests.push((
+        Lookup::Offers,
+        offers.as_slice() == view.offers(*alloc, contact, now)?.as_slice(),
+    ))?;
+    let count = store.wanted_count(contact) == view.wanted_count(contact);
+    tests.push((Lookup::WantedCount, count))?;
+    tests.push((Lookup::Level, levels_agree(plain, store, contact)))?;
+    Ok(())
+}
+
+fn levels_agree(plain: &Plain<'_>, store: &Store, contact: u8) -> bool {
+    plain
+        .listed
+        .groups
+        .iter()
+        .all(|def| has_level(plain, store, contact, &group_id(def)))
+}
+
+fn has_level(plain: &Plain<'_>, store: &Store, contact: u8, group: &GroupId) -> bool {
+    store.level(contact, group) == plain.view.level(contact, group)
 }

@@ -3,6 +3,7 @@
 
 mod calls;
 mod compare;
+mod finding;
 mod following;
 mod frames;
 mod game;

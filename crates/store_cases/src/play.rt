@@ -4,6 +4,7 @@ ghost use Rattle.store_cases.specs.Ready.{IsReady};
 
 use crate::calls::{Pictured, begin, load_picture, settle, try_batch};
 use crate::compare::compare;
+use crate::finding::Lookup;
 use crate::game::Game;
 use anyhow::Result;
 use journal_drafts::Timing;
@@ -18,7 +19,7 @@ pub(crate) fn play_case(rt: &impl Print, alloc: Global, number: u32) -> Result<b
     let mut disk = MemDisk::new(alloc, Vec::new(alloc), Vec::new(alloc))?;
     play_all(&mut game, &mut disk, &Timing)?;
     for finding in game.findings.iter() {
-        println!(rt; "case {number}, batch {}: {}", finding.step, finding.what)?;
+        println!(rt; "case {number}, batch {}: {:?}", finding.step, finding.what)?;
     }
     Ok(game.findings.is_empty())
 }
@@ -64,7 +65,7 @@ fn play_batch<D: Disk + Pictured, C: Clients>(
 {
     let plan = game.plan(&batch)?;
     let may = try_batch(store, disk, clients, batch, plan.follows)?;
-    game.note("allows", may == plan.follows)?;
+    game.note(Lookup::Allows, may == plan.follows)?;
     settle(store, disk, clients, plan.settles)?;
     compare_all(game, store, disk, clients, plan.settles)
 }
@@ -81,6 +82,6 @@ fn compare_all<D: Pictured, C: Clients>(
     game.read(picture.file(0), settles)?;
     match load_picture(game.alloc, picture, clients) {
         Ok(loaded) => compare(game, store, &loaded),
-        Err(_) => game.note("load", false),
+        Err(_) => game.note(Lookup::Load, false),
     }
 }
