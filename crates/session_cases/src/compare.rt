@@ -1,10 +1,8 @@
 //! A case: a journal, some records, some moments, and whether both answers are the same.
 
-use crate::answers::Timing;
-use crate::dice::Dice;
-use crate::drafts::{Draft, moment};
-use crate::rules::{self, Lines, lines_of};
 use anyhow::Result;
+use journal_drafts::told::{self, Lines, lines_of};
+use journal_drafts::{Dice, Draft, Timing, draft_journal, moment_near};
 use session_core::{due, take};
 use std::alloc::Global;
 use sync_rules::{Mode, PlainView, Session};
@@ -24,9 +22,10 @@ struct Case<'a> {
 /// Plays the case of this number, and prints each answer that differs. Whether all were the same.
 pub(crate) fn compare_case(rt: &impl Print, alloc: Global, number: u32) -> Result<bool> {
     let mut dice = Dice::new(number);
-    let draft = Draft::new(alloc, dice)?;
-    let lines = lines_of(alloc, draft.batches())?;
-    let view = PlainView::new(alloc, draft.batches(), &Timing)?;
+    let mut draft = Draft::new(alloc, dice)?;
+    let batches = draft_journal(alloc, &mut draft)?;
+    let lines = lines_of(alloc, batches.as_slice())?;
+    let view = PlainView::new(alloc, batches.as_slice(), &Timing)?;
     let case = Case {
         number,
         draft: &draft,
@@ -47,9 +46,15 @@ fn compare_take(rt: &impl Print, alloc: Global, case: &Case<'_>, dice: &mut Dice
     let session = case.draft.session(dice)?;
     let k = dice.below(9);
     let mut again = *dice;
-    let batch = take(alloc, case.view, &session, k, case.draft.record(dice)?)?;
-    let record = case.draft.record(&mut again)?;
-    let entries = rules::taken(alloc, case.lines, &session, k, record)?;
+    let batch = take(
+        alloc,
+        case.view,
+        &session,
+        k,
+        case.draft.posts().record(dice)?,
+    )?;
+    let record = case.draft.posts().record(&mut again)?;
+    let entries = told::taken(alloc, case.lines, &session, k, record)?;
     let got = format!(in alloc; "{:?}", batch.entries())?;
     let want = format!(in alloc; "{:?}", entries.as_slice())?;
     report(rt, case, got.as_str(), want.as_str())
@@ -58,7 +63,7 @@ fn compare_take(rt: &impl Print, alloc: Global, case: &Case<'_>, dice: &mut Dice
 /// What is due at some moment, in either mode.
 fn compare_due(rt: &impl Print, alloc: Global, case: &Case<'_>, dice: &mut Dice) -> Result<bool> {
     let begun = case.draft.session(dice)?;
-    let now = some_moment(case, &begun, dice);
+    let now = moment_near(case.lines, case.draft.posts(), begun.contact, dice);
     let mode = if dice.one_in(2) {
         Mode::Batch
     } else {
@@ -66,20 +71,10 @@ fn compare_due(rt: &impl Print, alloc: Global, case: &Case<'_>, dice: &mut Dice)
     };
     let session = Session { mode, ..begun };
     let out = due(alloc, case.view, &session, now)?;
-    let told = rules::due(alloc, case.lines, &session, now)?;
+    let told = told::due(alloc, case.lines, &session, now)?;
     let got = format!(in alloc; "{out:?}")?;
     let want = format!(in alloc; "{told:?}")?;
     report(rt, case, got.as_str(), want.as_str())
-}
-
-/// A moment, often just at the end of some message's wait, or beside it.
-fn some_moment(case: &Case<'_>, session: &Session, dice: &mut Dice) -> u64 {
-    if dice.one_in(2) {
-        return moment(dice);
-    }
-    let id = case.draft.id(dice);
-    let expiry = rules::expiry(case.lines, session.contact, &id);
-    expiry.wrapping_add(dice.below(3)).wrapping_sub(1)
 }
 
 fn report(rt: &impl Print, case: &Case<'_>, got: &str, want: &str) -> Result<bool> {

@@ -1,14 +1,11 @@
 //! Compares what records are taken as and what is due, over many random journals, with the rules as they are told.
 #![tactic(auto)]
 
-mod answers;
 mod compare;
-mod dice;
-mod drafts;
-mod rules;
 
 use crate::compare::compare_case;
 use anyhow::{Context, Result};
+use journal_drafts::Tally;
 use std::env;
 
 fn main(rt: HostRuntime) -> Result<()> {
@@ -18,16 +15,10 @@ fn main(rt: HostRuntime) -> Result<()> {
         .context("a count")?
         .parse::<u32>()
         .context("reading the count")?;
-    let mut apart = 0u32;
+    let mut tally = Tally::default();
     for case in 0..count {
-        if !compare_case(&rt, rt.alloc(), case)? {
-            apart = apart.saturating_add(1);
-        }
+        tally.add(compare_case(&rt, rt.alloc(), case)?);
     }
-    if apart == 0 {
-        println!(rt; "cases {count} agree")?;
-    } else {
-        println!(rt; "cases {count}, {apart} of them apart")?;
-    }
+    println!(rt; "{tally}")?;
     Ok(())
 }

@@ -1,7 +1,7 @@
 //! The rules of a session as they are told, over the list of a journal's entries: which entry names a pair last, how many
 //! stand behind another. Nothing is kept from one question to the next.
 
-use crate::answers::may_share;
+use crate::timing::may_share;
 use std::alloc::{AllocError, Global};
 use sync_ids::{GroupId, IdList, Message, MessageId, Record, group_id};
 use sync_rules::{Batch, Entry, Level, Mode, Out, Session, id_of};
@@ -14,13 +14,13 @@ const MOST_IDS: usize = 1536;
 
 /// An entry of the journal, and the id of the message that it brings.
 #[derive(Clone, Copy)]
-pub(crate) struct Line<'a> {
+pub struct Line<'a> {
     entry: &'a Entry,
     brings: Option<MessageId>,
 }
 
 /// A journal's entries, first to last.
-pub(crate) type Lines<'a> = &'a [Line<'a>];
+pub type Lines<'a> = &'a [Line<'a>];
 
 fn line_of(entry: &Entry) -> Line<'_> {
     let brings = match entry {
@@ -31,7 +31,7 @@ fn line_of(entry: &Entry) -> Line<'_> {
 }
 
 /// The entries of these batches.
-pub(crate) fn lines_of(alloc: Global, j: &[Batch]) -> Result<Vec<Line<'_>>, AllocError> {
+pub fn lines_of(alloc: Global, j: &[Batch]) -> Result<Vec<Line<'_>>, AllocError> {
     let mut lines = Vec::new(alloc);
     for batch in j {
         lines.extend(batch.entries().iter().map(line_of))?;
@@ -203,7 +203,7 @@ fn count_after_asked(lines: Lines<'_>, contact: u8, id: &MessageId) -> usize {
 }
 
 /// The time from which the message may be sent or offered to the contact again, in milliseconds.
-pub(crate) fn expiry(lines: Lines<'_>, contact: u8, id: &MessageId) -> u64 {
+pub fn expiry(lines: Lines<'_>, contact: u8, id: &MessageId) -> u64 {
     let behind = count_after_asked(lines, contact, id);
     let tries = lines
         .iter()
@@ -313,7 +313,7 @@ fn firsts(alloc: Global, ids: &[MessageId]) -> Result<Vec<MessageId>, AllocError
 // ---- what a record is taken as
 
 /// The entries of the session's `k`-th record.
-pub(crate) fn taken(
+pub fn taken(
     alloc: Global,
     lines: Lines<'_>,
     session: &Session,
@@ -424,7 +424,7 @@ fn add_offers(
 // ---- what is due
 
 /// The output that is due on the session at this time.
-pub(crate) fn due(
+pub fn due(
     alloc: Global,
     lines: Lines<'_>,
     session: &Session,
