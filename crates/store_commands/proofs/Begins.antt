@@ -6,12 +6,14 @@ use Rattle.outside.specs.Faults.{Rose}
 use Rattle.outside.specs.Files.{Two, File}
 use Rattle.outside.specs.Outside.{Outside, MomentsAre, DiskRun}
 use Rattle.outside.specs.Steps.{becomes_told}
+use Rattle.frame_journal.specs.Gates.{Settles}
 use Rattle.sync_store.specs.Begin.{Begins, InitMoment, IsAnswer}
 use Rattle.sync_store.specs.declared.fault.InitFault.TheVariants as init
 use Rattle.store_commands.specs.declared.outcome.Outcome.{Outcome}
 use Rattle.store_commands.specs.declared.outcome.Outcome.TheVariants as outcome
 use Rattle.store_commands.specs.Beginning.{BeginsBy, BeginsEnds, HasBegun, PrintsReady}
 use Rattle.store_commands.specs.Flow.{Flow, IsIdle}
+use Rattle.store_commands.proofs.Loads.{reads_same}
 
 begins_at : (old new : Option (Two File)) (two two' : Two File) → Becomes Begins old new → old ≡ Some two → new ≡ Some two' → Begins two two'
 begins_at old new two two' becomes told told' =
@@ -40,12 +42,12 @@ begun_ready old new out came run none begins moments printed = record {
   };
 }
 
-pub begun_exists : (old new : Outside) (out : Flow) → DiskRun old new → ForSome old.files (λ two. IsAnswer two (Err init.Exists))
+pub begun_exists : (old new : Outside) (out : Flow) → DiskRun old new → ForSome old.files (λ two. IsAnswer two (Err init.Exists)) → Becomes Settles old.files new.files
     → ((two : Two File) → old.files ≡ Some two → MomentsAre old new (InitMoment two old.links)) → IsIdle out → HasBegun old new out outcome.Exists
-begun_exists old new out run some moments idle = record {
+begun_exists old new out run some settled moments idle = record {
   run = run;
   by = idle;
-  told = λ two told. record { moments = moments two told; ends = λ two' told'. some two told };
+  told = λ two told. record { moments = moments two told; ends = λ two' told'. (some two told, reads_same old.files new.files two two' settled told told') };
 }
 
 pub begun_failed : (old new : Outside) (out : Flow) → DiskRun old new → Rose old.disk_faults new.disk_faults

@@ -1,6 +1,6 @@
 -- An entry that a loaded journal lets a command plan may follow once the journal is settled: settling keeps contacts, groups
 -- and held messages, and delivered messages stay so.
-use Rattle.std.proofs.Common.{◌≡◌, ℕ, ◌<◌, Bool, true, false, cond, List, [], ◌∷◌, ◌++◌, length, refl, sym, ap, ◌∙◌, subst, Option, Some, None}
+use Rattle.std.proofs.Common.{◌≡◌, ℕ, ◌<◌, Bool, true, false, cond, List, [], ◌∷◌, length, refl, sym, ap, ◌∙◌, subst, Option, Some, None, Ok, Err}
 use Rattle.std.specs.Prelude.{◌&&◌, ◌||◌, ◌==◌, nat_lt, is_none, is_some, if◌then◌else◌}
 use Rattle.std.specs.List.{list_all, list_any}
 use Rattle.std.proofs.lemmas.List.Folds.{list_any-append}
@@ -17,11 +17,12 @@ use Rattle.sync_rules.specs.declared.entries.Level.{Level}
 use Rattle.sync_rules.specs.declared.states.Refused.TheVariants as refused
 use Rattle.sync_rules.specs.Clients.{Meaning}
 use Rattle.sync_rules.specs.Lists.{is_among, same_id}
-use Rattle.sync_rules.specs.Facts.{Facts, Held, Id, Known, after, after_all, after_batches, group_at, held_at, is_held}
+use Rattle.sync_rules.specs.Facts.{Facts, Held, Id, Known, after, after_all, after_batches, group_at, held_at}
 use Rattle.sync_rules.specs.Legal.{accepts_served, AllSettling, IsSettling}
 use Rattle.sync_rules.specs.Steps.{answer_of, first_or_next, first_step, is_beside, is_ended, is_failing, is_served, kind_of_def, step, step_by, step_open, verdict_in}
 use Rattle.store_commands.specs.Extending.{MayFollow}
-use Rattle.store_commands.specs.Plans.{adds, refuses, body_plan, contact_plan, group_plan, judged_plan, level_plan, message_plan, post_plan}
+use Rattle.sync_store.specs.Refusals.{judged_answer}
+use Rattle.store_commands.specs.Plans.{adds, refuses, body_plan, contact_plan, group_plan, level_plan, message_plan, planned, post_plan}
 
 -- ---- the entries of settling
 
@@ -115,7 +116,7 @@ as_planned clients f d e is may = let same : d ≡ e = cc in subst (MayAdd clien
 
 pub contact_follows : (clients : Meaning) (f : Facts) (e : Entry) → contact_plan f ≡ adds e → MayAdd clients f e
 contact_follows clients f e is =
-    elim (nat_lt f.contacts 256) as (λ b. nat_lt f.contacts 256 ≡ b → (if b then adds (entry.Contact f.contacts) else refuses refused.TooManyContacts) ≡ adds e → MayAdd clients f e) [
+    elim (nat_lt f.contacts 256) as (λ b. nat_lt f.contacts 256 ≡ b → planned (λ n. entry.Contact n) (if b then Ok f.contacts else Err refused.TooManyContacts) ≡ adds e → MayAdd clients f e) [
       | true ↦ λ few w.
           as_planned clients f (entry.Contact f.contacts) e w (record {
             follows = record { follows = λ more settles settled. let s = stays clients f more settles in (refl, settled, sym s.contacts, ltb-true f.contacts 256 few) };
@@ -149,44 +150,48 @@ group_may clients f def known new few = record {
 
 pub group_follows : (clients : Meaning) (f : Facts) (def : GroupValue) (e : Entry) → group_plan clients f def ≡ adds e → MayAdd clients f e
 group_follows clients f def e is =
-    elim (is_none (kind_of_def clients def)) as (λ b. is_none (kind_of_def clients def) ≡ b → (if b then refuses refused.UnknownClient
-    else if is_some (group_at f.groups (group_id_of def)) then refuses refused.GroupExists
-    else if nat_lt (length f.groups) 1024 then adds (entry.Group def)
-    else refuses refused.TooManyGroups) ≡ adds e → MayAdd clients f e) [
+    elim (is_none (kind_of_def clients def)) as (λ b. is_none (kind_of_def clients def) ≡ b → planned (λ (id : Id). entry.Group def) (if b
+    then Err refused.UnknownClient
+    else (if is_some (group_at f.groups (group_id_of def))
+    then Err refused.GroupExists
+    else (if nat_lt (length f.groups) 1024 then Ok (group_id_of def) else Err refused.TooManyGroups))) ≡ adds e → MayAdd clients f e) [
       | true ↦ λ known w. cc
       | false ↦ λ known w.
-          elim (is_some (group_at f.groups (group_id_of def))) as (λ b. is_some (group_at f.groups (group_id_of def)) ≡ b → (if b then refuses refused.GroupExists
-          else if nat_lt (length f.groups) 1024 then adds (entry.Group def)
-          else refuses refused.TooManyGroups) ≡ adds e → MayAdd clients f e) [
+          elim (is_some (group_at f.groups (group_id_of def))) as (λ b. is_some (group_at f.groups (group_id_of def)) ≡ b → planned (λ (id : Id). entry.Group def) (if b
+          then Err refused.GroupExists
+          else (if nat_lt (length f.groups) 1024 then Ok (group_id_of def) else Err refused.TooManyGroups)) ≡ adds e → MayAdd clients f e) [
             | true ↦ λ new v. cc
             | false ↦ λ new v.
-                elim (nat_lt (length f.groups) 1024) as (λ b. nat_lt (length f.groups) 1024 ≡ b → (if b then adds (entry.Group def) else refuses refused.TooManyGroups) ≡ adds e → MayAdd clients f e) [
+                elim (nat_lt (length f.groups) 1024) as (λ b. nat_lt (length f.groups) 1024 ≡ b → planned (λ (id : Id). entry.Group def) (if b then Ok (group_id_of def) else Err refused.TooManyGroups) ≡ adds e → MayAdd clients f e) [
                   | true ↦ λ few u. as_planned clients f (entry.Group def) e u (group_may clients f def known new few)
                   | false ↦ λ few u. cc
                 ] refl v
           ] refl w
     ] refl is
 
+level_may : (clients : Meaning) (f : Facts) (c : ℕ) (g : Id) (l : Level) → nat_lt c f.contacts ≡ true → is_some (group_at f.groups g) ≡ true → MayAdd clients f (entry.Level c g l)
+level_may clients f c g l known there = record {
+  follows = record {
+    follows = λ more settles settled.
+        let s = stays clients f more settles in
+        let below : c < f.contacts = ltb-true c f.contacts known in (
+          refl,
+          settled,
+          subst (λ n. c < n) (sym s.contacts) below,
+          ap (λ (gs : List Known). is_some (group_at gs g)) s.groups ∙ there,
+        );
+  };
+  kind = refl;
+}
+
 pub level_follows : (clients : Meaning) (f : Facts) (c : ℕ) (g : Id) (l : Level) (e : Entry) → level_plan f c g l ≡ adds e → MayAdd clients f e
 level_follows clients f c g l e is =
-    elim (nat_lt c f.contacts) as (λ b. nat_lt c f.contacts ≡ b → (if b then (if is_some (group_at f.groups g) then adds (entry.Level c g l) else refuses refused.UnknownGroup)
-    else refuses refused.UnknownContact) ≡ adds e → MayAdd clients f e) [
+    elim (nat_lt c f.contacts) as (λ b. nat_lt c f.contacts ≡ b → planned (λ (u : Unit {0}). entry.Level c g l) (if b
+    then (if is_some (group_at f.groups g) then Ok tt else Err refused.UnknownGroup)
+    else Err refused.UnknownContact) ≡ adds e → MayAdd clients f e) [
       | true ↦ λ known w.
-          elim (is_some (group_at f.groups g)) as (λ b. is_some (group_at f.groups g) ≡ b → (if b then adds (entry.Level c g l) else refuses refused.UnknownGroup) ≡ adds e → MayAdd clients f e) [
-            | true ↦ λ there v.
-                as_planned clients f (entry.Level c g l) e v (record {
-                  follows = record {
-                    follows = λ more settles settled.
-                        let s = stays clients f more settles in
-                        let below : c < f.contacts = ltb-true c f.contacts known in (
-                          refl,
-                          settled,
-                          subst (λ n. c < n) (sym s.contacts) below,
-                          ap (λ (gs : List Known). is_some (group_at gs g)) s.groups ∙ there,
-                        );
-                  };
-                  kind = refl;
-                })
+          elim (is_some (group_at f.groups g)) as (λ b. is_some (group_at f.groups g) ≡ b → planned (λ (u : Unit {0}). entry.Level c g l) (if b then Ok tt else Err refused.UnknownGroup) ≡ adds e → MayAdd clients f e) [
+            | true ↦ λ there v. as_planned clients f (entry.Level c g l) e v (level_may clients f c g l known there)
             | false ↦ λ there v. cc
           ] refl w
       | false ↦ λ known w. cc
@@ -227,35 +232,43 @@ author_may clients f m deps share known new verdict served = record {
 }
 
 judged_follows : (clients : Meaning) (f : Facts) (m : MessageValue) (answer : Judgement) (e : Entry) → is_some (group_at f.groups m.group) ≡ true → is_some (held_at f.held (message_id_of m)) ≡ false
-    → verdict_in clients f.groups m ≡ answer → judged_plan f m answer ≡ adds e → MayAdd clients f e
+    → verdict_in clients f.groups m ≡ answer → planned (λ (id : Id). entry.Author m) (judged_answer f m answer) ≡ adds e → MayAdd clients f e
 judged_follows clients f m judgement.Refuse e known new verdict is = cc
 judged_follows clients f m (judgement.Accept deps share) e known new verdict is =
-    elim (list_all (is_served f m.group) deps) as (λ b. list_all (is_served f m.group) deps ≡ b → (if b then adds (entry.Author m) else refuses refused.DependencyNotDelivered) ≡ adds e → MayAdd clients f e) [
+    elim (list_all (is_served f m.group) deps) as (λ b. list_all (is_served f m.group) deps ≡ b → planned (λ (id : Id). entry.Author m) (if b then Ok (message_id_of m) else Err refused.DependencyNotDelivered) ≡ adds e → MayAdd clients f e) [
       | true ↦ λ served w. as_planned clients f (entry.Author m) e w (author_may clients f m deps share known new verdict served)
       | false ↦ λ served w. cc
     ] refl is
 
-message_follows : (clients : Meaning) (f : Facts) (m : MessageValue) (e : Entry) → is_some (group_at f.groups m.group) ≡ true → message_plan clients f m ≡ adds e → MayAdd clients f e
-message_follows clients f m e known is =
-    elim (is_held f.held (message_id_of m)) as (λ b. is_held f.held (message_id_of m) ≡ b → (if b then refuses refused.AlreadyHeld else judged_plan f m (verdict_in clients f.groups m)) ≡ adds e → MayAdd clients f e) [
-      | true ↦ λ new w. cc
-      | false ↦ λ new w. judged_follows clients f m (verdict_in clients f.groups m) e known new refl w
+message_follows : (clients : Meaning) (f : Facts) (m : MessageValue) (e : Entry) → message_plan clients f m ≡ adds e → MayAdd clients f e
+message_follows clients f m e is =
+    elim (is_some (group_at f.groups m.group)) as (λ b. is_some (group_at f.groups m.group) ≡ b → planned (λ (id : Id). entry.Author m) (if b
+    then (if is_some (held_at f.held (message_id_of m)) then Err refused.AlreadyHeld else judged_answer f m (verdict_in clients f.groups m))
+    else Err refused.UnknownGroup) ≡ adds e → MayAdd clients f e) [
+      | true ↦ λ known w.
+          elim (is_some (held_at f.held (message_id_of m))) as (λ b. is_some (held_at f.held (message_id_of m)) ≡ b → planned (λ (id : Id). entry.Author m) (if b
+          then Err refused.AlreadyHeld
+          else judged_answer f m (verdict_in clients f.groups m)) ≡ adds e → MayAdd clients f e) [
+            | true ↦ λ new v. cc
+            | false ↦ λ new v. judged_follows clients f m (verdict_in clients f.groups m) e known new refl v
+          ] refl w
+      | false ↦ λ known w. cc
     ] refl is
 
-body_follows : (clients : Meaning) (f : Facts) (m : MessageValue) (e : Entry) → is_some (group_at f.groups m.group) ≡ true → body_plan clients f m ≡ adds e → MayAdd clients f e
-body_follows clients f m e known is =
+body_follows : (clients : Meaning) (f : Facts) (m : MessageValue) (e : Entry) → body_plan clients f m ≡ adds e → MayAdd clients f e
+body_follows clients f m e is =
     elim (length m.body == 0) as (λ b. (if b then refuses refused.EmptyBody else if nat_lt 32768 (length m.body) then refuses refused.BodyTooLong else message_plan clients f m) ≡ adds e → MayAdd clients f e) [
       | true ↦ λ w. cc
       | false ↦ λ w.
           elim (nat_lt 32768 (length m.body)) as (λ b. (if b then refuses refused.BodyTooLong else message_plan clients f m) ≡ adds e → MayAdd clients f e) [
             | true ↦ λ v. cc
-            | false ↦ λ v. message_follows clients f m e known v
+            | false ↦ λ v. message_follows clients f m e v
           ] w
     ] is
 
 pub post_follows : (clients : Meaning) (f : Facts) (m : MessageValue) (e : Entry) → post_plan clients f m ≡ adds e → MayAdd clients f e
 post_follows clients f m e is =
-    elim (is_some (group_at f.groups m.group)) as (λ b. is_some (group_at f.groups m.group) ≡ b → (if b then body_plan clients f m else refuses refused.UnknownGroup) ≡ adds e → MayAdd clients f e) [
-      | true ↦ λ known w. body_follows clients f m e known w
-      | false ↦ λ known w. cc
-    ] refl is
+    elim (is_some (group_at f.groups m.group)) as (λ b. (if b then body_plan clients f m else refuses refused.UnknownGroup) ≡ adds e → MayAdd clients f e) [
+      | true ↦ λ w. body_follows clients f m e w
+      | false ↦ λ w. cc
+    ] is

@@ -6,6 +6,5 @@ pub mod Follow
 pub mod Entries
 pub mod Commits
 pub mod Loads
-pub mod Planned
 pub mod Posts
 pub mod Begins

@@ -7,7 +7,7 @@ use Rattle.outside.specs.Steps.{becomes_told}
 use Rattle.frame_journal.specs.Gates.{AnyImage, Settles}
 use Rattle.store_commands.specs.Looking.{Rests}
 
-reads_same : (old new : Option (Two File)) (two two' : Two File) → Becomes Settles old new → old ≡ Some two → new ≡ Some two' → read_files two' ≡ read_files two
+pub reads_same : (old new : Option (Two File)) (two two' : Two File) → Becomes Settles old new → old ≡ Some two → new ≡ Some two' → read_files two' ≡ read_files two
 reads_same old new two two' becomes told told' =
     let at = becomes_told Settles old new two told becomes in
     let same : two' ≡ at.0 = let it = sym told' ∙ at.1 in cc in

@@ -16,9 +16,10 @@ use Rattle.sync_rules.specs.declared.states.Refused.{Refused}
 use Rattle.sync_rules.specs.declared.states.Refused.TheVariants as refused
 use Rattle.sync_rules.specs.Clients.{Meaning}
 use Rattle.sync_rules.specs.Lists.{same_id}
-use Rattle.sync_rules.specs.Facts.{Facts, Id, Known, group_at, is_held}
+use Rattle.sync_rules.specs.Facts.{Facts, Id, Known, group_at, held_at}
 use Rattle.sync_rules.specs.Steps.{is_served, verdict_in}
 use Rattle.entry_codec.specs.Standing.{stands}
+use Rattle.sync_store.specs.Refusals.{judged_answer}
 use Rattle.sync_store.specs.Store.{StoreValue}
 use Rattle.sync_store.specs.declared.fault.PostFault.{PostFault}
 use Rattle.sync_store.specs.declared.fault.PostFault.TheVariants as post
@@ -29,7 +30,7 @@ use Rattle.store_commands.specs.Extending.{EntryAdded}
 use Rattle.store_commands.specs.Flow.{Flow, IsIdle}
 use Rattle.store_commands.specs.Loading.{HasFacts, IsLoaded, IsReady, LoadedBy, LoadKeeps}
 use Rattle.store_commands.specs.Looking.{Rests}
-use Rattle.store_commands.specs.Plans.{Plan, adds, refuses, body_plan, judged_plan, message_plan, post_plan}
+use Rattle.store_commands.specs.Plans.{Plan, adds, refuses, body_plan, message_plan, planned, post_plan}
 use Rattle.store_commands.specs.Posting.{HasPosted, IsBody, IsPlanned, IsRead, ReadsBody, message_of, post_came}
 use Rattle.store_commands.proofs.Lines.{item_at}
 use Rattle.store_commands.proofs.Entries.{added_entry, added_none, added_refused}
@@ -74,26 +75,34 @@ plan_long clients f m known long =
     plan_known clients f m known
     ∙ ap (λ n. if n == 0 then refuses refused.EmptyBody else if nat_lt 32768 n then refuses refused.BodyTooLong else message_plan clients f m) long
 
-judged_other : (f : Facts) (m : MessageValue) (answer : Judgement) → judged_plan f m answer ≡ refuses refused.UnknownGroup → ⊥
+judged_other : (f : Facts) (m : MessageValue) (answer : Judgement) → planned (λ (id : Id). entry.Author m) (judged_answer f m answer) ≡ refuses refused.UnknownGroup → ⊥
 judged_other f m judgement.Refuse is = cc
 judged_other f m (judgement.Accept deps share) is =
-    elim (list_all (is_served f m.group) deps) as (λ b. (if b then adds (entry.Author m) else refuses refused.DependencyNotDelivered) ≡ refuses refused.UnknownGroup → ⊥) [
+    elim (list_all (is_served f m.group) deps) as (λ b. planned (λ (id : Id). entry.Author m) (if b then Ok (message_id_of m) else Err refused.DependencyNotDelivered) ≡ refuses refused.UnknownGroup → ⊥) [
       | true ↦ λ w. cc
       | false ↦ λ w. cc
     ] is
 
-body_other : (clients : Meaning) (f : Facts) (m : MessageValue) → body_plan clients f m ≡ refuses refused.UnknownGroup → ⊥
-body_other clients f m is =
+message_other : (clients : Meaning) (f : Facts) (m : MessageValue) → is_some (group_at f.groups m.group) ≡ true → message_plan clients f m ≡ refuses refused.UnknownGroup → ⊥
+message_other clients f m known is = by_group (is_some (group_at f.groups m.group)) known is where
+  by_held : (b : Bool) → planned (λ (id : Id). entry.Author m) (if b then Err refused.AlreadyHeld else judged_answer f m (verdict_in clients f.groups m)) ≡ refuses refused.UnknownGroup → ⊥
+  by_held true w = cc
+  by_held false w = judged_other f m (verdict_in clients f.groups m) w
+
+  by_group : (a : Bool) → a ≡ true
+      → planned (λ (id : Id). entry.Author m) (if a then (if is_some (held_at f.held (message_id_of m)) then Err refused.AlreadyHeld else judged_answer f m (verdict_in clients f.groups m)) else Err refused.UnknownGroup)
+      ≡ refuses refused.UnknownGroup → ⊥
+  by_group true e w = by_held (is_some (held_at f.held (message_id_of m))) w
+  by_group false e w = cc
+
+body_other : (clients : Meaning) (f : Facts) (m : MessageValue) → is_some (group_at f.groups m.group) ≡ true → body_plan clients f m ≡ refuses refused.UnknownGroup → ⊥
+body_other clients f m known is =
     elim (length m.body == 0) as (λ b. (if b then refuses refused.EmptyBody else if nat_lt 32768 (length m.body) then refuses refused.BodyTooLong else message_plan clients f m) ≡ refuses refused.UnknownGroup → ⊥) [
       | true ↦ λ w. cc
       | false ↦ λ w.
           elim (nat_lt 32768 (length m.body)) as (λ b. (if b then refuses refused.BodyTooLong else message_plan clients f m) ≡ refuses refused.UnknownGroup → ⊥) [
             | true ↦ λ v. cc
-            | false ↦ λ v.
-                elim (is_held f.held (message_id_of m)) as (λ b. (if b then refuses refused.AlreadyHeld else judged_plan f m (verdict_in clients f.groups m)) ≡ refuses refused.UnknownGroup → ⊥) [
-                  | true ↦ λ u. cc
-                  | false ↦ λ u. judged_other f m (verdict_in clients f.groups m) u
-                ] v
+            | false ↦ λ v. message_other clients f m known v
           ] w
     ] is
 
@@ -150,8 +159,8 @@ posted_unread clients group timestamp old new input out s _ run rests loaded kno
 
 reads_refused : (clients : Meaning) (f : Facts) (m : MessageValue) (input : Flow) (body : List ℕ) (why : Refused) → is_some (group_at f.groups m.group) ≡ true → post_plan clients f m ≡ refuses why
     → IsBody input body → ReadsBody input body (outcome.Refused why)
-reads_refused clients f m input body refused.UnknownGroup known planned read = absurd (body_other clients f m (sym (plan_known clients f m known) ∙ planned))
-reads_refused clients f m input body _ known planned read = read
+reads_refused clients f m input body refused.UnknownGroup known is read = absurd (body_other clients f m known (sym (plan_known clients f m known) ∙ is))
+reads_refused clients f m input body _ known is read = read
 
 -- the message is refused
 pub posted_refused : (clients : Meaning) (group : Id) (timestamp : ℕ) (old new : Outside) (input out : Flow) (s : StoreValue) (body : List ℕ) (why : Refused) → DiskRun old new

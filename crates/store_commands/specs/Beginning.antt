@@ -9,6 +9,7 @@ use Rattle.sync_store.specs.Begin.{Begins, InitMoment, has_open}
 use Rattle.store_commands.specs.declared.outcome.Outcome.{Outcome}
 use Rattle.store_commands.specs.declared.outcome.Outcome.TheVariants as outcome
 use Rattle.store_commands.specs.Flow.{Flow, IsIdle, GetsFront}
+use Rattle.store_commands.specs.Adding.{ReadsAs}
 
 -- the line is printed
 abbrev pub PrintsReady : Flow → Outcome → Type 0
@@ -24,15 +25,16 @@ BeginsBy old new out outcome.DiskFault = Rose old.disk_faults new.disk_faults ×
 BeginsBy old new out outcome.Exists = IsIdle out
 BeginsBy old new out _ = ⊥
 
--- The outcome by the files: a store exists exactly where a file has an open header. At Done every crash leaves the empty journal.
+-- The outcome by the files: a store exists exactly where a file has an open header, and is left as it reads. At Done every crash
+-- leaves the empty journal.
 abbrev pub BeginsEnds : Two File → Two File → Outcome → Type 0
 BeginsEnds two two' outcome.Done = (has_open two ≡ false) × Begins two two'
 BeginsEnds two two' outcome.WriteFault = (has_open two ≡ false) × Begins two two'
-BeginsEnds two two' outcome.Exists = has_open two ≡ true
+BeginsEnds two two' outcome.Exists = (has_open two ≡ true) × ReadsAs two two'
 BeginsEnds two two' _ = Unit {0}
 
--- what is so where the files are told: each moment is as a crash might have left them before, or they stand for no store or for
--- the empty journal
+-- What is so where the files are told: each moment is as a crash might have left them before, or, where no header was open, they
+-- stand for no store or for the empty journal.
 pub record BeginsTold (two : Two File) (old new : Outside) (came : Outcome) : Type 0 where
   pub moments : MomentsAre old new (InitMoment two old.links)
   pub ends : (two' : Two File) → new.files ≡ Some two' → BeginsEnds two two' came

@@ -1,55 +1,41 @@
 -- What a command that adds to a journal plans, by the facts of the journal as it was loaded, before it is settled: the test
--- that refuses it, of several that fail the first in order, or the one entry that it adds.
-use Rattle.std.specs.Prelude.{ℕ, ◌==◌, nat_lt, if◌then◌else◌, length, is_none, is_some, Result, Ok, Err}
-use Rattle.std.specs.List.{list_all}
+-- that refuses it, of several that fail the first in order, or the one entry that it adds. The tests are those of a store.
+use Rattle.std.specs.Prelude.{ℕ, ◌==◌, nat_lt, if◌then◌else◌, length, is_some, Result, Ok, Err}
 use Rattle.sync_ids.specs.Values.{GroupValue, MessageValue}
-use Rattle.sync_ids.specs.Ids.{group_id_of, message_id_of}
-use Rattle.sync_rules.specs.declared.answers.Judgement.{Judgement}
-use Rattle.sync_rules.specs.declared.answers.Judgement.TheVariants as judgement
 use Rattle.sync_rules.specs.declared.entries.Entry.{Entry}
 use Rattle.sync_rules.specs.declared.entries.Entry.TheVariants as entry
 use Rattle.sync_rules.specs.declared.entries.Level.{Level}
 use Rattle.sync_rules.specs.declared.states.Refused.{Refused}
 use Rattle.sync_rules.specs.declared.states.Refused.TheVariants as refused
 use Rattle.sync_rules.specs.Clients.{Meaning}
-use Rattle.sync_rules.specs.Facts.{Facts, Id, group_at, is_held}
-use Rattle.sync_rules.specs.Steps.{is_served, kind_of_def, verdict_in}
+use Rattle.sync_rules.specs.Facts.{Facts, Id, group_at}
+use Rattle.sync_store.specs.Refusals.{contact_answer, group_answer, level_answer, post_answer}
 
 -- what a command plans: it is refused, or adds this entry
 pub data Plan : Type 0 where
   refuses : Refused → Plan
   adds : Entry → Plan
 
--- `contact`: the next number, of at most 256
+-- what a store's test answers, as a plan: to add the entry made of it, or the refusal
+abbrev pub planned : {A : Type 0} → (A → Entry) → Result A Refused → Plan
+planned entry_of (Ok a) = adds (entry_of a)
+planned entry_of (Err why) = refuses why
+
+-- `contact`: the next number
 abbrev pub contact_plan : Facts → Plan
-contact_plan f = if nat_lt f.contacts 256 then adds (entry.Contact f.contacts) else refuses refused.TooManyContacts
+contact_plan f = planned (λ n. entry.Contact n) (contact_answer f)
 
--- `group`: its client is known, it is new, and fewer than 1,024 groups are known
+-- `group`
 abbrev pub group_plan : Meaning → Facts → GroupValue → Plan
-group_plan clients f def =
-    if is_none (kind_of_def clients def) then refuses refused.UnknownClient
-    else if is_some (group_at f.groups (group_id_of def)) then refuses refused.GroupExists
-    else if nat_lt (length f.groups) 1024 then adds (entry.Group def)
-    else refuses refused.TooManyGroups
+group_plan clients f def = planned (λ (id : Id). entry.Group def) (group_answer clients f def)
 
--- `share`: the contact and the group are known; the level is set also where it stays the same
+-- `share`: the level is set also where it stays the same
 abbrev pub level_plan : Facts → ℕ → Id → Level → Plan
-level_plan f contact group l =
-    if nat_lt contact f.contacts
-    then (if is_some (group_at f.groups group) then adds (entry.Level contact group l) else refuses refused.UnknownGroup)
-    else refuses refused.UnknownContact
+level_plan f contact group l = planned (λ (u : Unit {0}). entry.Level contact group l) (level_answer f contact group)
 
--- a message that its client judges so: each dependency has to be a delivered message of the same group
-abbrev pub judged_plan : Facts → MessageValue → Judgement → Plan
-judged_plan f m judgement.Refuse = refuses refused.InvalidPost
-judged_plan f m (judgement.Accept deps share) =
-    if list_all (is_served f m.group) deps then adds (entry.Author m) else refuses refused.DependencyNotDelivered
-
--- a message of a known group, within its limits: it is new, and its client accepts it
+-- a message within its limits
 abbrev pub message_plan : Meaning → Facts → MessageValue → Plan
-message_plan clients f m =
-    if is_held f.held (message_id_of m) then refuses refused.AlreadyHeld
-    else judged_plan f m (verdict_in clients f.groups m)
+message_plan clients f m = planned (λ (id : Id). entry.Author m) (post_answer clients f m)
 
 -- a body of a known group, of 1 to 32,768 bytes
 abbrev pub body_plan : Meaning → Facts → MessageValue → Plan
@@ -58,7 +44,7 @@ body_plan clients f m =
     else if nat_lt 32768 (length m.body) then refuses refused.BodyTooLong
     else message_plan clients f m
 
--- `post`: the group is known
+-- `post`: the group is known before the body is read
 abbrev pub post_plan : Meaning → Facts → MessageValue → Plan
 post_plan clients f m =
     if is_some (group_at f.groups m.group) then body_plan clients f m else refuses refused.UnknownGroup

@@ -81,7 +81,6 @@ fn plan_message<C: Clients>(
     clients: &C,
     message: Message,
 ) -> Result<Entry, PostFault>
-    requires { is_some (group_at store.now.state.facts.groups message.group) ≡ true }
     ensures { IsPlanned (message_plan (C.meaning clients.now) store.now.state.facts message) result }
 {
     match store.may_post(clients, &message) {

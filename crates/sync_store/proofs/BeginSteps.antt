@@ -61,15 +61,15 @@ shut_by two left free either = elim either [ inl same ↦ ap is_open same ∙ fi
 -- what passes while file 0 is emptied
 clear_moment : (two : Two File) (links : Links) → IsFree two → (m : Moment) → FileMoment (BeforeOrShut two.first.now) two (sent_of links.told) 0 m → InitMoment two links m
 clear_moment two links free m moment =
-    inr (inl (λ clients. shut_stands clients m.files (shut_by two m.files.first free moment.this) (second_only two m.files.second free moment.other)), moment.nothing_sent)
+    inr (free.none_open, inl (λ clients. shut_stands clients m.files (shut_by two m.files.first free moment.this) (second_only two m.files.second free moment.other)), moment.nothing_sent)
 
 -- and while a journal is begun in it
 create_moment : (two : Two File) (links : Links) → IsFree two → (at : Two File) → at.second ≡ two.second → (m : Moment) → FileMoment (ShutOrBegun 1) at (sent_of links.told) 0 m → InitMoment two links m
 create_moment two links free at same m moment =
     let other : is_open m.files.second ≡ false = second_only two m.files.second free (subst (λ (f : File). IsFileImage f m.files.second) same moment.other) in
     elim moment.this [
-      | inl shut ↦ inr (inl (λ clients. shut_stands clients m.files shut other), moment.nothing_sent)
-      | inr begun ↦ inr (inr (λ clients. begun_stands clients m.files begun other), moment.nothing_sent)
+      | inl shut ↦ inr (free.none_open, inl (λ clients. shut_stands clients m.files shut other), moment.nothing_sent)
+      | inr begun ↦ inr (free.none_open, inr (λ clients. begun_stands clients m.files begun other), moment.nothing_sent)
     ]
 
 pub clear_moments : (two : Two File) (o0 o o' : Outside) → IsFree two → o.links ≡ o0.links → Passed two o o' 0 (BeforeOrShut (file_of two 0).now) → MomentsAre o o' (InitMoment two o0.links)
@@ -139,7 +139,8 @@ begins_first two at end settles begins = record {
 
 -- a moment of the later calls
 pub moment_first : (o : Outside) (two at : Two File) (links : Links) (m : Moment) → o.files ≡ Some two → Settles two at → InitMoment at links m → InitMoment two links m
-moment_first o two at links m told settles moment = elim moment [ inl now ↦ inl (settled_now o two at links m told settles now) | inr none ↦ inr none ]
+moment_first o two at links m told settles moment =
+    elim moment [ inl now ↦ inl (settled_now o two at links m told settles now) | inr none ↦ inr (sym (open_same two at settles) ∙ none.0, none.1, none.2) ]
 
 pub init_looks : (o0 o1 : Outside) (two : Two File) → o0.files ≡ Some two → AnyImage o0 o1 → MomentsAre o0 o1 (InitMoment two o0.links)
 init_looks o0 o1 two told looks = moments_map o0 o1 (IsNow two o0.links) (InitMoment two o0.links) (λ m now. inl now) (looks two told)

@@ -14,13 +14,14 @@ use Rattle.sync_store.specs.declared.fault.InitFault.TheVariants as init
 abbrev pub StandsForNone : Two (List ℕ) → Type 0
 StandsForNone files = ((clients : Meaning) → stands clients files ≡ no_store) ⊎ ((clients : Meaning) → stands clients files ≡ journal [])
 
--- a moment while a store is begun: one from before, or the files stand for no store or for the empty journal, nothing more being sent
-abbrev pub InitMoment : Two File → Links → Moment → Type 0
-InitMoment two links m = IsNow two links m ⊎ (StandsForNone m.files × (m.sent ≡ sent_of links.told))
-
 -- some file has an open header
 abbrev pub has_open : Two File → Bool
 has_open two = is_open two.first.now || is_open two.second.now
+
+-- A moment while a store is begun: one from before, or, where no header is open, the files stand for no store or for the empty
+-- journal, nothing more being sent.
+abbrev pub InitMoment : Two File → Links → Moment → Type 0
+InitMoment two links m = IsNow two links m ⊎ ((has_open two ≡ false) × StandsForNone m.files × (m.sent ≡ sent_of links.told))
 
 -- nothing is pending in either file, and no header is open
 pub record IsFree (two : Two File) : Type 0 where

@@ -65,6 +65,13 @@ Untouched (Err fault.Full) old new = new ≡ old
 Untouched (Err fault.Memory) old new = new ≡ old
 Untouched _ old new = Unit {0}
 
+-- the disk itself is as before after an error for which no call on it was made, whether it tells its files or not
+abbrev pub Unasked : {D : Type 0} → Result (Unit {0}) StoreFault → D → D → Type 0
+Unasked (Err fault.Closed) old new = new ≡ old
+Unasked (Err fault.Full) old new = new ≡ old
+Unasked (Err fault.Memory) old new = new ≡ old
+Unasked _ old new = Unit {0}
+
 -- an entry of settling
 abbrev pub IsStep : Entry → Type 0
 IsStep (entry.Judged id) = Unit {0}

@@ -14,9 +14,9 @@ use frame_journal::{DiskFault, barrier, clear, create, read_header};
 use outside::Disk;
 
 impl Store {
-    /// Begins a store in two files: in file 0, with generation 1. `Exists` comes exactly where a file has an open header. At each
-    /// moment the files are as a crash might have left them before, or stand for no store or for the empty journal; after `Ok`
-    /// every crash leaves the empty journal, and after `Exists` the files read as before. It takes no memory.
+    /// Begins a store in two files: in file 0, with generation 1. `Exists` comes exactly where a file has an open header, and then
+    /// the files read as before. At each moment the files are as a crash might have left them before, or, where no header was
+    /// open, stand for no store or for the empty journal; after `Ok` every crash leaves the empty journal. It takes no memory.
     pub fn init<D: Disk>(disk: &mut D) -> Result<(), InitFault>
         ensures answer { ForSome (D.tells disk.old).files (λ two. IsAnswer two result) }
         ensures begun { OnOk result (Becomes Begins (D.tells disk.old).files (D.tells disk.new).files) }

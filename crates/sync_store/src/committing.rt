@@ -8,7 +8,7 @@ ghost use Rattle.sync_rules.specs.declared.entries.Entry.{Entry};
 ghost use Rattle.sync_rules.specs.Legal.{Allowed};
 ghost use Rattle.entry_codec.specs.Allows.{allows, is_settling_kind};
 ghost use Rattle.journal_state.specs.Taking.{HasRoom};
-ghost use Rattle.sync_store.specs.Commits.{Commits, Gains, MayAdd, Untouched, needed};
+ghost use Rattle.sync_store.specs.Commits.{Commits, Gains, MayAdd, Unasked, Untouched, needed};
 ghost use Rattle.sync_store.specs.Fitting.{Fits, FitsSome};
 ghost use Rattle.sync_store.specs.Moments.{Adds};
 
@@ -32,9 +32,9 @@ impl Store {
 
     /// Commits a batch, which may follow the journal and is no settling batch. Before its first call on the disk it takes all the
     /// memory that it needs. `Closed` comes exactly where an earlier call answered `DiskFault`; then `Full` exactly where the
-    /// journal, the frame and the room that settling may then need pass the limit; after `Full` and `Memory` all is as before, and
-    /// after `DiskFault` the store is closed. At each moment the files stand for the journal or for it with the batch, and after
-    /// `Ok` every crash leaves the latter.
+    /// journal, the frame and the room that settling may then need pass the limit. After `Closed`, `Full` and `Memory` all is as
+    /// before, and no call on the disk was made; after `DiskFault` the store is closed. At each moment the files stand for the
+    /// journal or for it with the batch, and after `Ok` every crash leaves the latter.
     pub fn commit<D: Disk, C: Clients>(
         &mut self,
         disk: &mut D,
@@ -51,6 +51,7 @@ impl Store {
         ensures fits { FitsSome (C.meaning clients.now) self.new (D.tells disk.new).files }
         ensures knows { self.new.closed ≡ false → Knows (C.meaning clients.now) self.new.state }
         ensures untouched { Untouched result (D.tells disk.old).files (D.tells disk.new).files }
+        ensures unasked { Unasked result disk.old disk.new }
         ensures run { DiskRun (D.tells disk.old) (D.tells disk.new) }
         ensures fault { IsErrOf result StoreFault.DiskFault → Rose (D.tells disk.old).disk_faults (D.tells disk.new).disk_faults }
     {
@@ -72,6 +73,7 @@ impl Store {
             → Adds (C.meaning clients.now) batch result self.new (D.tells disk.old) (D.tells disk.new) j }
         ensures knows { self.new.closed ≡ false → Knows (C.meaning clients.now) self.new.state }
         ensures untouched { Untouched result (D.tells disk.old).files (D.tells disk.new).files }
+        ensures unasked { Unasked result disk.old disk.new }
         ensures run { DiskRun (D.tells disk.old) (D.tells disk.new) }
         ensures fault { IsErrOf result StoreFault.DiskFault → Rose (D.tells disk.old).disk_faults (D.tells disk.new).disk_faults }
     {

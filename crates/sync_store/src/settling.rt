@@ -27,9 +27,9 @@ use sync_rules::{Clients, Entry};
 
 impl Store {
     /// Commits settling batches, each filled to 256 entries while a step is left, until the journal is settled. It never answers
-    /// `Full`: each commit leaves room for settling. `Closed` comes exactly where an earlier call answered `DiskFault`. After
-    /// `Memory` the journal is extended by the steps made before it, and after `DiskFault` the store is closed. At each moment the
-    /// files stand for the journal with some settling batches.
+    /// `Full`: each commit leaves room for settling. `Closed` comes exactly where an earlier call answered `DiskFault`, and no call
+    /// on the disk is made then. After `Memory` the journal is extended by the steps made before it, and after `DiskFault` the store
+    /// is closed. At each moment the files stand for the journal with some settling batches.
     pub fn settle<D: Disk, C: Clients>(
         &mut self,
         disk: &mut D,
@@ -40,6 +40,7 @@ impl Store {
         ensures answer { SettlesSo (C.meaning clients.now) self.old self.new result }
         ensures proceeds { Proceeds (C.meaning clients.now) self.old self.new }
         ensures settles { self.old.closed ≡ false → Settles (C.meaning clients.now) self.old self.new (D.tells disk.old) (D.tells disk.new) }
+        ensures closed { self.old.closed ≡ true → disk.new ≡ disk.old }
         ensures fits { FitsSome (C.meaning clients.now) self.new (D.tells disk.new).files }
         ensures knows { self.new.closed ≡ false → Knows (C.meaning clients.now) self.new.state }
         ensures run { DiskRun (D.tells disk.old) (D.tells disk.new) }
@@ -58,6 +59,7 @@ impl Store {
         ensures answer { SettlesSo (C.meaning clients.now) self.old self.new result }
         ensures proceeds { Proceeds (C.meaning clients.now) self.old self.new }
         ensures settles { self.old.closed ≡ false → Settles (C.meaning clients.now) self.old self.new (D.tells disk.old) (D.tells disk.new) }
+        ensures closed { self.old.closed ≡ true → disk.new ≡ disk.old }
         ensures knows { self.new.closed ≡ false → Knows (C.meaning clients.now) self.new.state }
         ensures run { DiskRun (D.tells disk.old) (D.tells disk.new) }
         ensures fault { IsErrOf result StoreFault.DiskFault → Rose (D.tells disk.old).disk_faults (D.tells disk.new).disk_faults }

@@ -7,7 +7,8 @@ returns-in-Ok g c = begun_ready _ _ _ c.print_ready.result c.in-Ok.ensures.run c
 
 pub returns-in-Err-Exists : goal.returns-in-Err-Exists
 returns-in-Err-Exists g c =
-    begun_exists _ _ _ c.in-Err-Exists.ensures.run (rw c.in-Err-Exists.field-0-is at c.in-Err-Exists.ensures.answer) c.in-Err-Exists.ensures.any_moment
+    begun_exists _ _ _ c.in-Err-Exists.ensures.run (rw c.in-Err-Exists.field-0-is at c.in-Err-Exists.ensures.answer)
+    ((rw c.in-Err-Exists.field-0-is at c.in-Err-Exists.ensures.kept) refl) c.in-Err-Exists.ensures.any_moment
     (record { same = refl; same_faults = refl })
 
 pub returns-in-Err-DiskFault : goal.returns-in-Err-DiskFault

@@ -1,9 +1,9 @@
-use Rattle.std.proofs.Common.{◌∙◌, ap, sym}
-use Rattle.store_commands.proofs.Planned.{contact_planned, planned}
+use Rattle.std.proofs.Common.{ap, sym}
+use Rattle.store_commands.specs.Plans.{planned}
 use Rattle.store_commands.proofs.planning.plan_contact.Goals as goal
 
 pub returns-in-Ok : goal.returns-in-Ok
-returns-in-Ok c = contact_planned c.args.store.now.state.facts ∙ ap (planned _) (sym c.in-Ok.ensures)
+returns-in-Ok c = ap (planned _) (sym c.in-Ok.ensures)
 
 pub returns-in-Err : goal.returns-in-Err
-returns-in-Err c = contact_planned c.args.store.now.state.facts ∙ ap (planned _) (sym c.in-Err.ensures)
+returns-in-Err c = ap (planned _) (sym c.in-Err.ensures)
