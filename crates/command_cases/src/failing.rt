@@ -2,10 +2,11 @@
 
 ghost use Rattle.std.specs.Prelude.{◌<◌};
 
-use crate::play::{Came, Failing, Order, play};
+use crate::play::{Failing, Order};
 use crate::scenes::{SCENES, Scene};
 use crate::slow::{PIECE, part_of};
-use crate::tally::{Tally, Want, agrees, expect};
+use crate::tally::{Tally, expect};
+use crate::want::{Files, Said};
 use anyhow::Result;
 use std::alloc::Global;
 use sync_top::Status;
@@ -23,23 +24,20 @@ pub(crate) fn play_all<P: Print>(rt: &P, alloc: Global, tally: &mut Tally) -> Re
     Ok(())
 }
 
-// Each call of the disk fails in turn; the next command finds the journal from before or the one behind the append.
+// Each call of the disk fails in turn; the next command finds the journal from before or the one behind the append,
+// whose gate reads as open from the write on.
 fn fail_disk<P: Print>(rt: &P, alloc: Global, scene: &Scene, tally: &mut Tally) -> Result<()> {
+    let said = Said::line(alloc, Status::DiskFault, b"disk fault\n")?;
     let calls = scene.calls(alloc)?;
     for call in 0..calls {
-        let came = play(alloc, &scene.order(Failing::Disk(call)), scene.disk(alloc)?)?;
-        let stage = scene.stage_at(calls, call, |at| at == 3);
-        let said = is_fault(&came, Status::DiskFault, b"", b"disk fault\n");
-        if !tally.count(said && scene.is_at(alloc, stage, came.disk)?) {
+        let came = scene.play(alloc, Failing::Disk(call))?;
+        let is_told = said.is_of(&came);
+        let stage = scene.stage_at(calls, call, 3);
+        if !tally.count(is_told && scene.is_at(alloc, stage, came.disk)?) {
             println!(rt; "apart: {} with call {call} failing", scene.words)?;
         }
     }
     Ok(())
-}
-
-// The status, and both texts.
-fn is_fault(came: &Came, status: Status, out: &[u8], err: &[u8]) -> bool {
-    came.status == status && came.out() == out && came.err() == err
 }
 
 // How many calls move so many bytes, at most so many at a call.
@@ -59,11 +57,11 @@ fn fail_reads<P: Print>(rt: &P, alloc: Global, scene: &Scene, tally: &mut Tally)
     if scene.input.is_empty() {
         return Ok(());
     }
-    let file = scene.file(alloc, 0)?;
-    let want = Want::nothing(Status::ReadFault, b"read fault\n", [file.as_slice(), &[]]);
+    let said = Said::line(alloc, Status::ReadFault, b"read fault\n")?;
+    let files = scene.files(alloc, 0)?;
     for call in 0..=reads_of(scene.input) {
-        let came = play(alloc, &scene.order(Failing::Read(call)), scene.disk(alloc)?)?;
-        if !tally.count(agrees(&came, &want)) {
+        let came = scene.play(alloc, Failing::Read(call))?;
+        if !tally.count(said.is_of(&came) && files.are_on(&came.disk)) {
             println!(rt; "apart: {} with read {call} failing", scene.words)?;
         }
     }
@@ -72,16 +70,12 @@ fn fail_reads<P: Print>(rt: &P, alloc: Global, scene: &Scene, tally: &mut Tally)
 
 // Each write of the output fails in turn: what was added stands, and the front of the text was written.
 fn fail_out<P: Print>(rt: &P, alloc: Global, scene: &Scene, tally: &mut Tally) -> Result<()> {
-    let file = scene.file(alloc, scene.stages())?;
+    let files = scene.files(alloc, scene.stages())?;
     for call in 0..calls_of(scene.out.len(), PIECE) {
-        let want = Want {
-            status: Status::WriteFault,
-            out: front(scene.out, call),
-            err: b"write fault\n",
-            files: [file.as_slice(), &[]],
-        };
-        let came = play(alloc, &scene.order(Failing::Out(call)), scene.disk(alloc)?)?;
-        if !tally.count(agrees(&came, &want)) {
+        let text = front(scene.out, call);
+        let said = Said::new(alloc, Status::WriteFault, text, b"write fault\n")?;
+        let came = scene.play(alloc, Failing::Out(call))?;
+        if !tally.count(said.is_of(&came) && files.are_on(&came.disk)) {
             println!(rt; "apart: {} with write {call} failing", scene.words)?;
         }
     }
@@ -96,15 +90,14 @@ fn front(text: &[u8], calls: u64) -> &[u8] {
 
 // Each write of a line fails in turn: the status is that of the line.
 fn fail_err<P: Print>(rt: &P, alloc: Global, line: &Line, tally: &mut Tally) -> Result<()> {
-    let file = hex::decode(alloc, line.file)?;
-    let files = [file.as_slice(), &[]];
+    let files = Files::one(alloc, hex::decode(alloc, line.file)?);
     for call in 0..calls_of(line.text.len(), PIECE) {
-        let want = Want::nothing(line.status, front(line.text, call), files);
+        let said = Said::line(alloc, line.status, front(line.text, call))?;
         let order = Order {
             failing: Failing::Err(call),
             ..Order::new(line.words, b"x")
         };
-        expect(rt, alloc, &order, files, &want, tally)?;
+        expect(rt, alloc, &order, &files, &said, &files, tally)?;
     }
     Ok(())
 }

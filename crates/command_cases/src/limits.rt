@@ -1,8 +1,10 @@
 //! The greatest numbers of contacts and groups, and the longest body, name and descriptor, each from both sides.
 
-use crate::journal::{add_frame, journal_of};
+use crate::journal::{add_frame, add_frames, journal_of};
+use crate::journals::EMPTY;
 use crate::play::Order;
-use crate::tally::{Tally, Want, expect};
+use crate::tally::{Tally, expect};
+use crate::want::{Files, Said};
 use anyhow::Result;
 use std::alloc::{AllocError, Global};
 use sync_top::Status;
@@ -15,27 +17,27 @@ pub(crate) fn play_all<P: Print>(rt: &P, alloc: Global, tally: &mut Tally) -> Re
     play_names(rt, alloc, tally)
 }
 
-// A command that adds frames with these payloads to the file.
-fn play_added<P: Print>(
+// A command that is done, with this file before it and this one after it.
+fn play_done<P: Print>(
     rt: &P,
     alloc: Global,
     order: &Order<'_>,
-    file: &[u8],
-    payloads: &[&[u8]],
+    before: &[u8],
+    after: Vec<u8>,
     out: &[u8],
     tally: &mut Tally,
 ) -> Result<()> {
-    let mut after = file.to_vec(alloc)?;
-    for payload in payloads {
-        add_frame(&mut after, payload)?;
-    }
-    let want = Want {
-        status: Status::Done,
-        out,
-        err: b"",
-        files: [after.as_slice(), &[]],
-    };
-    expect(rt, alloc, order, [file, &[]], &want, tally)
+    let said = Said::done(alloc, out)?;
+    let files = Files::of(alloc, before, &[])?;
+    expect(
+        rt,
+        alloc,
+        order,
+        &files,
+        &said,
+        &Files::one(alloc, after),
+        tally,
+    )
 }
 
 // A command that is refused with this line.
@@ -47,29 +49,36 @@ fn play_refused<P: Print>(
     line: &[u8],
     tally: &mut Tally,
 ) -> Result<()> {
-    let want = Want::nothing(Status::Refused, line, [file, &[]]);
-    expect(rt, alloc, order, [file, &[]], &want, tally)
+    let files = Files::of(alloc, file, &[])?;
+    let said = Said::line(alloc, Status::Refused, line)?;
+    expect(rt, alloc, order, &files, &said, &files, tally)
 }
 
 // The 256th contact and the 257th.
 fn play_contacts<P: Print>(rt: &P, alloc: Global, tally: &mut Tally) -> Result<()> {
-    let mut file = journal_of(alloc, "")?;
+    let mut file = journal_of(alloc, EMPTY)?;
     for n in 0..u8::MAX {
         add_frame(&mut file, &[1, n])?;
     }
+    let mut full = file.clone()?;
+    add_frame(&mut full, &[1, u8::MAX])?;
     let order = Order::new("contact", b"");
-    let last = [1, u8::MAX];
-    let payloads: [&[u8]; 1] = [&last];
-    let out = b"contact 255\n";
-    play_added(rt, alloc, &order, file.as_slice(), &payloads, out, tally)?;
-    add_frame(&mut file, &last)?;
     let line = b"refused: too many contacts\n";
-    play_refused(rt, alloc, &order, file.as_slice(), line, tally)
+    play_refused(rt, alloc, &order, full.as_slice(), line, tally)?;
+    play_done(
+        rt,
+        alloc,
+        &order,
+        file.as_slice(),
+        full,
+        b"contact 255\n",
+        tally,
+    )
 }
 
 // The journal of the groups with these many two-byte descriptors.
 fn groups_of(alloc: Global, count: u16) -> Result<Vec<u8>> {
-    let mut file = journal_of(alloc, "")?;
+    let mut file = journal_of(alloc, EMPTY)?;
     for n in 0..count {
         let [high, low] = n.to_be_bytes();
         add_frame(
@@ -82,24 +91,15 @@ fn groups_of(alloc: Global, count: u16) -> Result<Vec<u8>> {
 
 // The 1,024th group and the 1,025th; the tests that come before that of their number.
 fn play_groups<P: Print>(rt: &P, alloc: Global, tally: &mut Tally) -> Result<()> {
-    let mut file = groups_of(alloc, 1023)?;
-    let order = Order::new("group note 0 d", b"");
-    let payloads: [&[u8]; 1] = [&NOTE];
-    play_added(
-        rt,
-        alloc,
-        &order,
-        file.as_slice(),
-        &payloads,
-        NOTE_LINE,
-        tally,
-    )?;
-    add_frame(&mut file, &NOTE)?;
+    let file = groups_of(alloc, 1023)?;
+    let mut full = file.clone()?;
+    add_frame(&mut full, &NOTE)?;
     for (words, line) in PAST_GROUPS {
         let order = Order::new(words, b"");
-        play_refused(rt, alloc, &order, file.as_slice(), line, tally)?;
+        play_refused(rt, alloc, &order, full.as_slice(), line, tally)?;
     }
-    Ok(())
+    let order = Order::new("group note 0 d", b"");
+    play_done(rt, alloc, &order, file.as_slice(), full, NOTE_LINE, tally)
 }
 
 // A body of so many letters.
@@ -109,27 +109,33 @@ fn letters(alloc: Global, count: usize) -> Result<Vec<u8>, AllocError> {
 
 // The longest body, and longer ones.
 fn play_bodies<P: Print>(rt: &P, alloc: Global, tally: &mut Tally) -> Result<()> {
-    let mut file = journal_of(alloc, "")?;
+    let mut file = journal_of(alloc, EMPTY)?;
     add_frame(&mut file, &NOTE)?;
-    let longest = letters(alloc, 32_768)?;
-    let order = Order::new(POST, longest.as_slice());
-    let mut payload = hex::decode(alloc, LONGEST_FRONT)?;
-    payload.extend_from_slice(longest.as_slice())?;
-    let settled = hex::decode(alloc, LONGEST_SETTLED)?;
-    let payloads = [payload.as_slice(), settled.as_slice()];
-    play_added(
+    for count in [32_769, 65_537] {
+        play_too_long(rt, alloc, file.as_slice(), count, tally)?;
+    }
+    let body = letters(alloc, 32_768)?;
+    let after = longest_added(alloc, file.as_slice(), body.as_slice())?;
+    let order = Order::new(POST, body.as_slice());
+    play_done(
         rt,
         alloc,
         &order,
         file.as_slice(),
-        &payloads,
+        after,
         LONGEST_LINE,
         tally,
-    )?;
-    for count in [32_769, 65_537] {
-        play_too_long(rt, alloc, file.as_slice(), count, tally)?;
-    }
-    Ok(())
+    )
+}
+
+// The file with the message of the longest body, settled.
+fn longest_added(alloc: Global, file: &[u8], body: &[u8]) -> Result<Vec<u8>> {
+    let mut payload = hex::decode(alloc, LONGEST_FRONT)?;
+    payload.extend_from_slice(body)?;
+    let mut after = file.to_vec(alloc)?;
+    add_frame(&mut after, payload.as_slice())?;
+    add_frames(alloc, &mut after, LONGEST_SETTLED)?;
+    Ok(after)
 }
 
 fn play_too_long<P: Print>(
@@ -146,7 +152,7 @@ fn play_too_long<P: Print>(
 
 // The longest names, which no client has, and the longest descriptor.
 fn play_names<P: Print>(rt: &P, alloc: Global, tally: &mut Tally) -> Result<()> {
-    let file = journal_of(alloc, "")?;
+    let file = journal_of(alloc, EMPTY)?;
     let line = b"refused: unknown client\n";
     for (letter, count) in [("n", 255), ("é", 127)] {
         let name = letter.repeat(alloc, count)?;
@@ -162,9 +168,10 @@ fn play_descriptor<P: Print>(rt: &P, alloc: Global, file: &[u8], tally: &mut Tal
     let words = format!(in alloc; "group note 0 {descriptor}")?;
     let mut payload = hex::decode(alloc, "02046e6f7465000000004000")?;
     payload.extend_from_slice(descriptor.as_bytes())?;
-    let payloads = [payload.as_slice()];
+    let mut after = file.to_vec(alloc)?;
+    add_frame(&mut after, payload.as_slice())?;
     let order = Order::new(words.as_str(), b"");
-    play_added(rt, alloc, &order, file, &payloads, DESCRIPTOR_LINE, tally)
+    play_done(rt, alloc, &order, file, after, DESCRIPTOR_LINE, tally)
 }
 
 // The group `note`, major 0, descriptor `d`.

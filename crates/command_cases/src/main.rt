@@ -4,8 +4,10 @@
 #![tactic(auto)]
 
 mod damage;
+mod damage_tables;
 mod failing;
 mod journal;
+mod journals;
 mod limits;
 mod play;
 mod refusals;
@@ -16,6 +18,7 @@ mod steps;
 mod stops;
 mod stored;
 mod tally;
+mod want;
 mod words;
 
 use crate::tally::Tally;

@@ -16,6 +16,22 @@ pub(crate) enum Failing {
     Err(u64),
 }
 
+impl Failing {
+    fn of_out(self) -> Option<u64> {
+        match self {
+            Failing::Out(call) => Some(call),
+            _ => None,
+        }
+    }
+
+    fn of_err(self) -> Option<u64> {
+        match self {
+            Failing::Err(call) => Some(call),
+            _ => None,
+        }
+    }
+}
+
 /// A command: its words with single spaces between them, its input, and the call that fails.
 #[derive(Clone, Copy)]
 pub(crate) struct Order<'a> {
@@ -58,7 +74,8 @@ impl Came {
 pub(crate) fn play(alloc: Global, order: &Order<'_>, disk: MemDisk) -> Result<Came, AllocError> {
     let words = words_of(alloc, order.words)?;
     let source = source_of(alloc, order)?;
-    let [out, err] = sinks_of(alloc, order.failing)?;
+    let out = sink_of(alloc, order.failing.of_out())?;
+    let err = sink_of(alloc, order.failing.of_err())?;
     let disk = failing_disk(alloc, disk, order.failing)?;
     let host = MemHost::new(alloc, disk)?;
     Ok(command(alloc, words.as_slice(), host, source, out, err))
@@ -119,18 +136,12 @@ fn source_of(alloc: Global, order: &Order<'_>) -> Result<SlowSource, AllocError>
     })
 }
 
-// The output and the error output.
-fn sinks_of(alloc: Global, failing: Failing) -> Result<[SlowSink; 2], AllocError> {
-    let mut of_out = Vec::new(alloc);
-    let mut of_err = Vec::new(alloc);
-    match failing {
-        Failing::Out(call) => of_out.push(call)?,
-        Failing::Err(call) => of_err.push(call)?,
-        _ => (),
+fn sink_of(alloc: Global, call: Option<u64>) -> Result<SlowSink, AllocError> {
+    let mut failing = Vec::new(alloc);
+    if let Some(call) = call {
+        failing.push(call)?;
     }
-    let out = SlowSink(MemSink::new(alloc, of_out));
-    let err = SlowSink(MemSink::new(alloc, of_err));
-    Ok([out, err])
+    Ok(SlowSink(MemSink::new(alloc, failing)))
 }
 
 // The disk, which is to fail at the call counted from now on.

@@ -1,8 +1,12 @@
 //! What the commands refuse, each with its line, the files as they were.
 
 use crate::journal::journal_of;
+use crate::journals::{
+    BOTH, EMPTY, FEED, FRESH, HELD, INVALID, NOTE, ONE, PENDING, THREAD, UNKNOWN,
+};
 use crate::play::{Failing, Order};
-use crate::tally::{Tally, Want, expect};
+use crate::tally::{Tally, expect};
+use crate::want::{Files, Said};
 use anyhow::Result;
 use std::alloc::Global;
 use sync_top::Status;
@@ -36,35 +40,33 @@ fn play_refusal<P: Print>(
     refusal: &Refusal,
     tally: &mut Tally,
 ) -> Result<()> {
-    let file = journal_of(alloc, refusal.before)?;
-    let files = [file.as_slice(), &[]];
+    let files = Files::one(alloc, journal_of(alloc, refusal.before)?);
     let line = format!(in alloc; "refused: {}\n", refusal.line)?;
+    let said = Said::line(alloc, Status::Refused, line.as_bytes())?;
     let order = Order::new(refusal.words, refusal.input);
-    let want = Want::nothing(Status::Refused, line.as_bytes(), files);
-    expect(rt, alloc, &order, files, &want, tally)
+    expect(rt, alloc, &order, &files, &said, &files, tally)
 }
 
 // A command of a store where there is none; a failing source makes no difference.
 fn play_without<P: Print>(rt: &P, alloc: Global, words: &str, tally: &mut Tally) -> Result<()> {
-    let order = unread(words);
-    let want = Want::nothing(Status::NoStore, b"no store\n", [&[], &[]]);
-    expect(rt, alloc, &order, [&[], &[]], &want, tally)
+    let files = Files::none(alloc);
+    let said = Said::line(alloc, Status::NoStore, b"no store\n")?;
+    expect(rt, alloc, &unread(words), &files, &said, &files, tally)
 }
 
 // A second `init`, over the journal of these payloads.
 fn play_again<P: Print>(rt: &P, alloc: Global, before: &str, tally: &mut Tally) -> Result<()> {
-    let file = journal_of(alloc, before)?;
-    let files = [file.as_slice(), &[]];
-    let want = Want::nothing(Status::Exists, b"store exists\n", files);
-    expect(rt, alloc, &Order::new("init", b""), files, &want, tally)
+    let files = Files::one(alloc, journal_of(alloc, before)?);
+    let said = Said::line(alloc, Status::Exists, b"store exists\n")?;
+    let order = Order::new("init", b"");
+    expect(rt, alloc, &order, &files, &said, &files, tally)
 }
 
 // A post to an unknown group is refused before its body is read.
 fn play_unread<P: Print>(rt: &P, alloc: Global, tally: &mut Tally) -> Result<()> {
-    let file = journal_of(alloc, ONE)?;
-    let files = [file.as_slice(), &[]];
-    let want = Want::nothing(Status::Refused, b"refused: unknown group\n", files);
-    expect(rt, alloc, &unread(UNREAD), files, &want, tally)
+    let files = Files::one(alloc, journal_of(alloc, ONE)?);
+    let said = Said::line(alloc, Status::Refused, b"refused: unknown group\n")?;
+    expect(rt, alloc, &unread(UNREAD), &files, &said, &files, tally)
 }
 
 // A command whose first read would fail.
@@ -89,34 +91,6 @@ const OF_A_STORE: [&str; 8] = [
 const BEGUN: [&str; 4] = [EMPTY, ONE, HELD, "00"];
 
 const UNREAD: &str = "post 76ff4980d3b5f63962cee45401b6b1bb92efe989c27de4629aac92b18163e6e0 0";
-
-const EMPTY: &str = "";
-
-const ONE: &str = "0100";
-
-const NOTE: &str = "0100 02046e6f746500000000000164";
-
-const HELD: &str =
-    "0100 02046e6f746500000000000164 0676ff4980d3b5f63962cee45401b6b1bb92efe989c27de4629aac92b18163e6e00000000000000000000178 083443418c0382800e42ae01fb9d676b7b25405d2875809cf8d6808f04741c96a4093443418c0382800e42ae01fb9d676b7b25405d2875809cf8d6808f04741c96a4";
-
-const FRESH: &str =
-    "0100 02046e6f746500000000000164 0676ff4980d3b5f63962cee45401b6b1bb92efe989c27de4629aac92b18163e6e00000000000000000000178";
-
-const THREAD: &str = "0100 0206746872656164000000000000";
-
-const PENDING: &str =
-    "0100 0206746872656164000000000000 06c1af82673999b1a2e9fa43bb9059dffe0c9aae24bcb4e2d70ebeaa554b9a57360000000000000005000500726f6f74 085398cac9cce3e6b94d4af7305b1218f56a84d7418170bdeeec206c64a872a478";
-
-const UNKNOWN: &str =
-    "0100 0206746872656164000000000000 06c1af82673999b1a2e9fa43bb9059dffe0c9aae24bcb4e2d70ebeaa554b9a57360000000000000005000500726f6f74";
-
-const BOTH: &str =
-    "0100 02046e6f746500000000000164 0206746872656164000000000000 0676ff4980d3b5f63962cee45401b6b1bb92efe989c27de4629aac92b18163e6e00000000000000000000178 083443418c0382800e42ae01fb9d676b7b25405d2875809cf8d6808f04741c96a4093443418c0382800e42ae01fb9d676b7b25405d2875809cf8d6808f04741c96a4";
-
-const INVALID: &str =
-    "0100 02046e6f746500000000000164 030076ff4980d3b5f63962cee45401b6b1bb92efe989c27de4629aac92b18163e6e001 04000000000001000003e800 05000000000000000000000000070000000076ff4980d3b5f63962cee45401b6b1bb92efe989c27de4629aac92b18163e6e000000000000000000001ff 08f3c078734405d1e3152fc6548e466217931d53878072075aaa1919563f46b3530af3c078734405d1e3152fc6548e466217931d53878072075aaa1919563f46b353";
-
-const FEED: &str = "0100 020466656564000000000002c3a9";
 
 const REFUSALS: [Refusal; 32] = [
     Refusal {

@@ -1,8 +1,9 @@
 //! Commands that are stopped or meet a failing call, and the journals that may be left of them.
 
-use crate::journal::journal_of;
-use crate::play::{Failing, Order, play};
-use crate::tally::{Want, agrees, disk_of, starts};
+use crate::journal::{add_frames, journal_of};
+use crate::journals::{EMPTY, FRESH, HELD, NOTE, ONE};
+use crate::play::{Came, Failing, Order, play};
+use crate::want::{Files, Said};
 use anyhow::Result;
 use outside::MemDisk;
 use std::alloc::Global;
@@ -28,14 +29,6 @@ pub(crate) struct Scene {
 const CALLS: u64 = 4;
 
 impl Scene {
-    /// The command with this failing call.
-    pub(crate) fn order(&self, failing: Failing) -> Order<'static> {
-        Order {
-            failing,
-            ..Order::new(self.words, self.input)
-        }
-    }
-
     /// How many journals there are after the one before.
     pub(crate) fn stages(&self) -> u64 {
         if !self.begun {
@@ -53,81 +46,68 @@ impl Scene {
         if !self.begun && stage == 0 {
             return Ok(Vec::new(alloc));
         }
-        let mut payloads = String::from_str(alloc, self.before)?;
+        let mut file = journal_of(alloc, self.before)?;
         let mut left = stage;
         for payload in self.adds.split(' ') {
-            if left > 0 && !payload.is_empty() {
-                if !payloads.is_empty() {
-                    payloads.push(' ')?;
-                }
-                payloads.push_str(payload)?;
-                left = left.saturating_sub(1);
+            if left > 0 {
+                add_frames(alloc, &mut file, payload)?;
             }
+            left = left.saturating_sub(1);
         }
-        journal_of(alloc, payloads.as_str())
+        Ok(file)
     }
 
-    /// The disk before.
-    pub(crate) fn disk(&self, alloc: Global) -> Result<MemDisk> {
-        let file = self.file(alloc, 0)?;
-        disk_of(alloc, [file.as_slice(), &[]])
+    /// The files after so many of them.
+    pub(crate) fn files(&self, alloc: Global, stage: u64) -> Result<Files> {
+        Ok(Files::one(alloc, self.file(alloc, stage)?))
+    }
+
+    /// What comes of the command with this failing call.
+    pub(crate) fn play(&self, alloc: Global, failing: Failing) -> Result<Came> {
+        let order = Order {
+            failing,
+            ..Order::new(self.words, self.input)
+        };
+        let disk = self.files(alloc, 0)?.disk(alloc)?;
+        Ok(play(alloc, &order, disk)?)
     }
 
     /// How many calls of the disk the command makes.
     pub(crate) fn calls(&self, alloc: Global) -> Result<u64> {
-        let came = play(alloc, &self.order(Failing::Nothing), self.disk(alloc)?)?;
-        Ok(came.disk.calls())
+        Ok(self.play(alloc, Failing::Nothing)?.disk.calls())
     }
 
     /// The journal that stands when the call of this number did not come to its end: that before the append which it
-    /// belongs to, or where the gate may have been written, as `opens` says, the one behind it.
-    pub(crate) fn stage_at(&self, calls: u64, call: u64, opens: impl Fn(u64) -> bool) -> u64 {
+    /// belongs to, or the one behind it from that call of the append on which `opened` names.
+    pub(crate) fn stage_at(&self, calls: u64, call: u64, opened: u64) -> u64 {
         let appends = self.stages().saturating_mul(CALLS);
         let first = calls.saturating_sub(appends);
         if call < first {
             return 0;
         }
         let at = call.saturating_sub(first);
-        (at / CALLS).saturating_add(u64::from(opens(at % CALLS)))
+        (at / CALLS).saturating_add(u64::from(at % CALLS >= opened))
     }
 
     /// Whether the disk has the journal of this stage, by its bytes and by `show`.
     pub(crate) fn is_at(&self, alloc: Global, stage: u64, disk: MemDisk) -> Result<bool> {
         let file = self.file(alloc, stage)?;
-        let whole = starts(disk.file(0), file.as_slice());
-        let first = disk.file(0).to_vec(alloc)?;
-        let second = disk.file(1).to_vec(alloc)?;
-        let files = [first.as_slice(), second.as_slice()];
+        let whole = disk.file(0).starts_with(file.as_slice());
+        let files = Files::on(alloc, &disk)?;
+        let said = self.said_at(alloc, stage)?;
         let came = play(alloc, &Order::new("show", b""), disk)?;
-        Ok(whole && agrees(&came, &self.shows(stage, files)))
+        Ok(whole && said.is_of(&came) && files.are_on(&came.disk))
     }
 
     // What `show` comes to at a stage.
-    fn shows<'a>(&self, stage: u64, files: [&'a [u8]; 2]) -> Want<'a> {
+    fn said_at(&self, alloc: Global, stage: u64) -> Result<Said> {
         if !self.begun && stage == 0 {
-            return Want::nothing(Status::NoStore, b"no store\n", files);
+            return Ok(Said::line(alloc, Status::NoStore, b"no store\n")?);
         }
         let text = self.shown.get(stage as usize).copied().unwrap_or("");
-        Want {
-            status: Status::Done,
-            out: text.as_bytes(),
-            err: b"",
-            files,
-        }
+        Ok(Said::done(alloc, text.as_bytes())?)
     }
 }
-
-const EMPTY: &str = "";
-
-const ONE: &str = "0100";
-
-const NOTE: &str = "0100 02046e6f746500000000000164";
-
-const HELD: &str =
-    "0100 02046e6f746500000000000164 0676ff4980d3b5f63962cee45401b6b1bb92efe989c27de4629aac92b18163e6e00000000000000000000178 083443418c0382800e42ae01fb9d676b7b25405d2875809cf8d6808f04741c96a4093443418c0382800e42ae01fb9d676b7b25405d2875809cf8d6808f04741c96a4";
-
-const FRESH: &str =
-    "0100 02046e6f746500000000000164 0676ff4980d3b5f63962cee45401b6b1bb92efe989c27de4629aac92b18163e6e00000000000000000000178";
 
 pub(crate) const SCENES: [Scene; 9] = [
     Scene {

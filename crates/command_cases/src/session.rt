@@ -1,6 +1,7 @@
 //! A session with a store, from its beginning: what each command prints, and what it adds to the journal.
 
 use crate::journal::journal_of;
+use crate::journals::EMPTY;
 use crate::steps::{Step, play_steps};
 use crate::tally::Tally;
 use anyhow::Result;
@@ -9,7 +10,7 @@ use std::alloc::Global;
 
 /// Plays the session.
 pub(crate) fn play_all<P: Print>(rt: &P, alloc: Global, tally: &mut Tally) -> Result<()> {
-    let start = journal_of(alloc, "")?;
+    let start = journal_of(alloc, EMPTY)?;
     let disk = MemDisk::new(alloc, Vec::new(alloc), Vec::new(alloc))?;
     play_steps(rt, alloc, &STEPS, start, disk, tally)
 }

@@ -2,11 +2,11 @@
 
 use crate::journal::add_frames;
 use crate::play::{Order, play};
-use crate::tally::{Tally, Want, agrees};
+use crate::tally::Tally;
+use crate::want::{Files, Said};
 use anyhow::Result;
 use outside::MemDisk;
 use std::alloc::Global;
-use sync_top::Status;
 
 /// A command that is done: what it reads and prints, and the payloads of the frames that it adds.
 #[derive(Clone, Copy)]
@@ -30,29 +30,25 @@ pub(crate) fn play_steps<P: Print>(
     let mut disk = disk;
     for step in steps {
         add_frames(alloc, &mut file, step.adds)?;
-        disk = play_step(rt, alloc, step, file.as_slice(), disk, tally)?;
+        let files = Files::of(alloc, file.as_slice(), &[])?;
+        disk = play_step(rt, alloc, step, &files, disk, tally)?;
     }
     Ok(())
 }
 
-// Plays one step, which should leave this file.
+// Plays one step, which should leave these files.
 fn play_step<P: Print>(
     rt: &P,
     alloc: Global,
     step: &Step,
-    file: &[u8],
+    files: &Files,
     disk: MemDisk,
     tally: &mut Tally,
 ) -> Result<MemDisk> {
     let order = Order::new(step.words, step.input);
-    let want = Want {
-        status: Status::Done,
-        out: step.out,
-        err: b"",
-        files: [file, &[]],
-    };
+    let said = Said::done(alloc, step.out)?;
     let came = play(alloc, &order, disk)?;
-    if !tally.count(agrees(&came, &want)) {
+    if !tally.count(said.is_of(&came) && files.are_on(&came.disk)) {
         println!(rt; "apart: {}", step.words)?;
     }
     Ok(came.disk)

@@ -3,10 +3,11 @@
 use crate::journal::BEGUN;
 use crate::play::{Came, Failing, Order, play};
 use crate::scenes::{SCENES, Scene};
-use crate::tally::{Tally, Want, agrees, disk_of, starts};
+use crate::tally::Tally;
+use crate::want::{Files, Said};
 use anyhow::Result;
-use outside::{MemDisk, Pick};
-use std::alloc::Global;
+use outside::Pick;
+use std::alloc::{AllocError, Global};
 use sync_top::Status;
 
 const PICKS: [Pick; 4] = [Pick::Old, Pick::New, Pick::Zero, Pick::Ones];
@@ -19,18 +20,14 @@ pub(crate) fn play_all<P: Print>(rt: &P, alloc: Global, tally: &mut Tally) -> Re
     begin_thrice(rt, alloc, tally)
 }
 
-// Stops a command at each of its calls, under each pick of what a crash leaves.
+// Stops a command at each of its calls.
 fn stop_scene<P: Print>(rt: &P, alloc: Global, scene: &Scene, tally: &mut Tally) -> Result<()> {
     let calls = scene.calls(alloc)?;
     for call in 0..calls {
         for pick in PICKS {
-            let left = stopped(
-                alloc,
-                &scene.order(Failing::Disk(call)),
-                scene.disk(alloc)?,
-                pick,
-            )?;
-            let stage = scene.stage_at(calls, call, |at| may_be_open(at, pick));
+            let stage = scene.stage_at(calls, call, opened(pick));
+            let came = scene.play(alloc, Failing::Disk(call))?;
+            let left = came.disk.image(pick)?;
             if !tally.count(scene.is_at(alloc, stage, left)?) {
                 println!(rt; "apart: {} stopped at call {call}, {pick:?}", scene.words)?;
             }
@@ -39,55 +36,52 @@ fn stop_scene<P: Print>(rt: &P, alloc: Global, scene: &Scene, tally: &mut Tally)
     Ok(())
 }
 
-// The disk that a crash leaves of a command whose call fails.
-fn stopped(alloc: Global, order: &Order<'_>, disk: MemDisk, pick: Pick) -> Result<MemDisk> {
-    let came = play(alloc, order, disk)?;
-    Ok(came.disk.image(pick)?)
+// From which call of an append on a crash may leave the gate open: the third writes it, and until the sync behind it
+// it may be as it was or any byte.
+fn opened(pick: Pick) -> u64 {
+    match pick {
+        Pick::New | Pick::Ones => 2,
+        Pick::Old | Pick::Zero => 4,
+    }
 }
 
-// The gate is the third call of an append; until the sync behind it a crash may leave it as it was, or any byte.
-fn may_be_open(at: u64, pick: Pick) -> bool {
-    at >= 2 && matches!(pick, Pick::New | Pick::Ones)
+fn begin(alloc: Global, failing: Failing, files: &Files) -> Result<Came, AllocError> {
+    let order = Order {
+        failing,
+        ..Order::new("init", b"")
+    };
+    play(alloc, &order, files.disk(alloc)?)
+}
+
+// How many calls of the disk an `init` makes.
+fn calls_of(alloc: Global, files: &Files) -> Result<u64, AllocError> {
+    Ok(begin(alloc, Failing::Nothing, files)?.disk.calls())
+}
+
+// The files that a crash leaves of an `init` that is stopped.
+fn stopped(alloc: Global, call: u64, pick: Pick, files: &Files) -> Result<Files, AllocError> {
+    let came = begin(alloc, Failing::Disk(call), files)?;
+    Files::on(alloc, &came.disk.image(pick)?)
 }
 
 // An `init` that is stopped, a second one that is stopped, and a third.
 fn begin_thrice<P: Print>(rt: &P, alloc: Global, tally: &mut Tally) -> Result<()> {
-    let calls = begin(alloc, Failing::Nothing, disk_of(alloc, [&[], &[]])?)?
-        .disk
-        .calls();
-    for call in 0..calls {
+    let none = Files::none(alloc);
+    for call in 0..calls_of(alloc, &none)? {
         for pick in PICKS {
-            let came = begin(alloc, Failing::Disk(call), disk_of(alloc, [&[], &[]])?)?;
-            let left = came.disk.image(pick)?;
-            begin_twice(rt, alloc, [left.file(0), left.file(1)], tally)?;
+            let files = stopped(alloc, call, pick, &none)?;
+            begin_twice(rt, alloc, &files, tally)?;
         }
     }
     Ok(())
 }
 
-fn begin(alloc: Global, failing: Failing, disk: MemDisk) -> Result<Came> {
-    let order = Order {
-        failing,
-        ..Order::new("init", b"")
-    };
-    Ok(play(alloc, &order, disk)?)
-}
-
 // An `init` over these files that is stopped, and one that is not.
-fn begin_twice<P: Print>(
-    rt: &P,
-    alloc: Global,
-    files: [&[u8]; 2],
-    tally: &mut Tally,
-) -> Result<()> {
-    let calls = begin(alloc, Failing::Nothing, disk_of(alloc, files)?)?
-        .disk
-        .calls();
-    for call in 0..calls {
+fn begin_twice<P: Print>(rt: &P, alloc: Global, files: &Files, tally: &mut Tally) -> Result<()> {
+    for call in 0..calls_of(alloc, files)? {
         for pick in PICKS {
-            let came = begin(alloc, Failing::Disk(call), disk_of(alloc, files)?)?;
-            let good = begin_last(alloc, came.disk.image(pick)?)?;
-            if !tally.count(good) {
+            let left = stopped(alloc, call, pick, files)?;
+            if !tally.count(begins(alloc, &left)?) {
                 println!(rt; "apart: a second init stopped at call {call}, {pick:?}")?;
             }
         }
@@ -96,18 +90,13 @@ fn begin_twice<P: Print>(
 }
 
 // Whether an `init` leaves the empty journal: done where no file has an open header, and else refused.
-fn begin_last(alloc: Global, disk: MemDisk) -> Result<bool> {
-    let files: [&[u8]; 2] = [&BEGUN, &[]];
-    let want = if starts(disk.file(0), &BEGUN[..14]) {
-        Want::nothing(Status::Exists, b"store exists\n", files)
+fn begins(alloc: Global, files: &Files) -> Result<bool, AllocError> {
+    let said = if files.are_begun() {
+        Said::line(alloc, Status::Exists, b"store exists\n")?
     } else {
-        Want {
-            status: Status::Done,
-            out: b"ready\n",
-            err: b"",
-            files,
-        }
+        Said::done(alloc, b"ready\n")?
     };
-    let came = begin(alloc, Failing::Nothing, disk)?;
-    Ok(agrees(&came, &want))
+    let came = begin(alloc, Failing::Nothing, files)?;
+    let empty = Files::of(alloc, &BEGUN, &[])?;
+    Ok(said.is_of(&came) && empty.are_on(&came.disk))
 }

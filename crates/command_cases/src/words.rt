@@ -1,8 +1,10 @@
 //! Words of the commands of a store that are wrong, missing or too many.
 
 use crate::journal::journal_of;
+use crate::journals::ONE;
 use crate::play::{Came, Order, play};
-use crate::tally::{Tally, Want, agrees, disk_of};
+use crate::tally::Tally;
+use crate::want::{Files, Said};
 use anyhow::Result;
 use std::alloc::Global;
 use sync_top::Status;
@@ -44,12 +46,11 @@ fn play_wrong<P: Print>(
     place: u32,
     tally: &mut Tally,
 ) -> Result<()> {
-    let file = journal_of(alloc, "0100")?;
-    let files = [file.as_slice(), &[]];
+    let files = Files::one(alloc, journal_of(alloc, ONE)?);
     let line = format!(in alloc; "usage: word {place}\n")?;
-    let want = Want::nothing(Status::Usage, line.as_bytes(), files);
-    let came = play(alloc, &Order::new(words, b"x"), disk_of(alloc, files)?)?;
-    if !tally.count(agrees(&came, &want) && is_untouched(&came)) {
+    let said = Said::line(alloc, Status::Usage, line.as_bytes())?;
+    let came = play(alloc, &Order::new(words, b"x"), files.disk(alloc)?)?;
+    if !tally.count(said.is_of(&came) && files.are_on(&came.disk) && is_untouched(&came)) {
         println!(rt; "apart: {words}")?;
     }
     Ok(())
