@@ -6,21 +6,13 @@
 cd "$(dirname "$0")/.." || exit 1
 bsp=$PWD/crates/bsp/out/bsp
 if [ ! -x "$bsp" ]; then (cd crates/bsp && rt run -- try note d <stdin >/dev/null) || exit 1; fi
-exec python3 - "$bsp" "${RUNS:-3}" <<'PY'
-import hashlib, os, struct, subprocess, sys, tempfile
+exec env PYTHONPATH=bench PYTHONDONTWRITEBYTECODE=1 python3 - "$bsp" "${RUNS:-3}" <<'PY'
+import os, struct, subprocess, sys, tempfile
+
+from store_file import group_id, message_id
 
 bsp, runs = sys.argv[1], int(sys.argv[2])
-LABEL = b'org.briarproject.bramble/'
-
-
-def digest(*parts):
-    h = hashlib.blake2b(digest_size=32)
-    for part in parts:
-        h.update(struct.pack('>I', len(part)) + part)
-    return h.digest()
-
-
-GROUP = digest(LABEL + b'GROUP_ID', b'\x01', b'thread', struct.pack('>I', 0), b'd')
+GROUP = group_id(b'thread', 0, b'd')
 
 
 def chain(count):
@@ -28,9 +20,8 @@ def chain(count):
     records, lines, parents = [], [], b'\x00'
     for number in range(count):
         body = parents + b't'
-        moment = struct.pack('>Q', number)
-        name = digest(LABEL + b'MESSAGE_ID', b'\x01', GROUP, moment, digest(LABEL + b'MESSAGE_BLOCK', b'\x01', body))
-        records.append(struct.pack('>BBH', 0, 1, 40 + len(body)) + GROUP + moment + body)
+        name = message_id(GROUP, number, body)
+        records.append(struct.pack('>BBH', 0, 1, 40 + len(body)) + GROUP + struct.pack('>Q', number) + body)
         lines.append(f'deliver {name.hex()} {number} {len(body)}\n')
         parents = b'\x01' + name
     return b''.join(reversed(records)), ''.join(lines)

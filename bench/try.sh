@@ -5,21 +5,13 @@
 cd "$(dirname "$0")/.." || exit 1
 bsp=$PWD/crates/bsp/out/bsp
 if [ ! -x "$bsp" ]; then (cd crates/bsp && rt run -- try note d <stdin >/dev/null) || exit 1; fi
-exec python3 - "$bsp" <<'PY'
-import hashlib, os, resource, struct, subprocess, sys, tempfile, time
+exec env PYTHONPATH=bench PYTHONDONTWRITEBYTECODE=1 python3 - "$bsp" <<'PY'
+import os, resource, struct, subprocess, sys, tempfile, time
+
+from store_file import group_id
 
 bsp, runs = sys.argv[1], 5
-LABEL = b'org.briarproject.bramble/'
-
-
-def digest(*parts):
-    h = hashlib.blake2b(digest_size=32)
-    for part in parts:
-        h.update(struct.pack('>I', len(part)) + part)
-    return h.digest()
-
-
-GROUP = digest(LABEL + b'GROUP_ID', b'\x01', b'note', struct.pack('>I', 0), b'd')
+GROUP = group_id(b'note', 0, b'd')
 
 
 def records(path, size, length):

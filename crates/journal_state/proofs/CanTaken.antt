@@ -299,7 +299,7 @@ can_batch clients s (entry.Group def ∷ rest) a kind r few apart =
     alone s (entry.Group def) rest a.0 (room_first s (entry.Group def) rest r) (no_group (group_at s.facts.groups (group_id_of def)) a.2.new, omega (arith, small))
 can_batch clients s (entry.Level c g l ∷ rest) a kind r few apart =
     let rows = rows_enough (length s.facts.held) (rows_room s.room c) few.held r.contact.rows in
-    alone s (entry.Level c g l) rest a.0 (room_first s (entry.Level c g l) rest r) (a.3, omega (arith, rows))
+    alone s (entry.Level c g l) rest a.0 (room_first s (entry.Level c g l) rest r) (a.3, omega (arith, rows), a.2)
 can_batch clients s (entry.Session x ∷ rest) a kind r few apart =
     alone s (entry.Session x) rest a.0 (room_first s (entry.Session x) rest r) (a.2.numbered, a.2.known_contact, few.sessions)
 can_batch clients s (entry.Take n k ∷ rest) a kind r few apart =

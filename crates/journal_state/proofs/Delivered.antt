@@ -170,7 +170,7 @@ module _ (p : Parts) (s : IsState p) (n : ℕ) (y : Node) (h : Held) (at : slice
       ∙ ap is_delivered_in (sym (named_changed end_delivered (λ x. refl) p.nodes n y at apart d))))
 
   module _ (share outgoing : Bool) (lets : slice_get p.shares n ≡ Some share) (opens : outgoing ≡ (is_author h.origin || share))
-      (t : retry.Table) (r : Readies p.retry t (goes_to p.table.levels h.message.group outgoing) n) where
+      (t : retry.Table) (r : Readies p.retry t (goes_to p.table.levels h.message.group outgoing) p.table.contacts n) where
     shared_now : is_among (shared_among p.held (answers_of (nodes.with_ending n ending.Delivered p.nodes) p.shares)) h.id ≡ share
     shared_now =
         ap (λ (os : List (Option Judgement)). is_among (shared_among p.held os) h.id) (answers_kept p.nodes p.shares n ending.Delivered)
@@ -178,20 +178,33 @@ module _ (p : Parts) (s : IsState p) (n : ℕ) (y : Node) (h : Held) (at : slice
         ∙ ap (λ o. may_share (answer_of_node o share)) has)
 
     -- the message itself
-    ready_here : (contact : ℕ) → contact < 256 → (retry.kept_at t contact n).ready
+    ready_by : (contact : ℕ) → contact < 256 → (b : Bool) → nat_lt contact p.table.contacts ≡ b → (retry.kept_at t contact n).ready
         ≡ may_go p.table.levels (map (name_at (nodes.with_ending n ending.Delivered p.nodes)) (p.delivered ++ n ∷ []))
         (shared_among p.held (answers_of (nodes.with_ending n ending.Delivered p.nodes) p.shares)) contact h
-    ready_here contact known =
-        let lvl = is_level_shared (level_at p.table.levels contact h.message.group) in
+    ready_by contact known b e =
         let was : (retry.kept_at p.retry contact n).ready ≡ false =
         s.ready contact n h known there
         ∙ ap (λ b. b && (is_level_shared (level_at p.table.levels contact h.message.group) && (is_author h.origin || is_among (shared_among p.held (answers_of p.nodes p.shares)) h.id))) not_before in
         let is_now : is_among (map (name_at (nodes.with_ending n ending.Delivered p.nodes)) (p.delivered ++ n ∷ [])) h.id ≡ true =
         among_now h.id ∙ (ap (λ b. is_among (map (name_at p.nodes) p.delivered) h.id || b) (id_itself h.id) ∙ or_true (is_among (map (name_at p.nodes) p.delivered) h.id)) in
-        ap (λ (k : retry.Kept). k.ready) (r.here contact known)
-        ∙ (readied (goes_to p.table.levels h.message.group outgoing contact) (retry.kept_at p.retry contact n) was
-        ∙ (ap (λ b. is_level_shared (level_at p.table.levels contact h.message.group) && b) opens
-        ∙ (λ i. sym is_now i && (is_level_shared (level_at p.table.levels contact h.message.group) && (is_author h.origin || sym shared_now i)))))
+        by b e was is_now
+      where
+        by : (b : Bool) → nat_lt contact p.table.contacts ≡ b → (retry.kept_at p.retry contact n).ready ≡ false
+            → is_among (map (name_at (nodes.with_ending n ending.Delivered p.nodes)) (p.delivered ++ n ∷ [])) h.id ≡ true
+            → (retry.kept_at t contact n).ready
+            ≡ may_go p.table.levels (map (name_at (nodes.with_ending n ending.Delivered p.nodes)) (p.delivered ++ n ∷ []))
+            (shared_among p.held (answers_of (nodes.with_ending n ending.Delivered p.nodes) p.shares)) contact h
+        by true e was is_now =
+            ap (λ (k : retry.Kept). k.ready) (r.here contact (grind (arith, e)))
+            ∙ (readied (goes_to p.table.levels h.message.group outgoing contact) (retry.kept_at p.retry contact n) was
+            ∙ (ap (λ b. is_level_shared (level_at p.table.levels contact h.message.group) && b) opens
+            ∙ (λ i. sym is_now i && (is_level_shared (level_at p.table.levels contact h.message.group) && (is_author h.origin || sym shared_now i)))))
+        by false e was is_now =
+            let hidden = s.hidden contact h.message.group (grind (arith, e)) in
+            ap (λ (ks : List retry.Kept). (retry.kept_in ks n).ready) (r.beyond contact (grind (arith, e)))
+            ∙ (was
+            ∙ sym (λ i. is_now i && (is_level_shared (hidden i)
+            && (is_author h.origin || is_among (shared_among p.held (answers_of (nodes.with_ending n ending.Delivered p.nodes) p.shares)) h.id))))
 
     -- another message
     ready_there : (contact k : ℕ) (x : Held) → contact < 256 → slice_get p.held k ≡ Some x → k ≢ n → (retry.kept_at t contact k).ready
@@ -217,7 +230,7 @@ module _ (p : Parts) (s : IsState p) (n : ℕ) (y : Node) (h : Held) (at : slice
         let number : k ≡ n = eqb-true k n e in
         let own : h ≡ x = (let both : Some h ≡ Some x = sym there ∙ (ap (slice_get p.held) (sym number) ∙ here) in cc) in
         ap (λ j. (retry.kept_at t contact j).ready) number
-        ∙ (ready_here contact known
+        ∙ (ready_by contact known (nat_lt contact p.table.contacts) refl
         ∙ ap (may_go p.table.levels (map (name_at (nodes.with_ending n ending.Delivered p.nodes)) (p.delivered ++ n ∷ []))
         (shared_among p.held (answers_of (nodes.with_ending n ending.Delivered p.nodes) p.shares)) contact) own)
     ready_now contact k x known here false e = ready_there contact k x known here (let ne : k ≢ n = (λ q. grind (arith, e, q)) in ne)
@@ -245,11 +258,12 @@ module _ (p : Parts) (s : IsState p) (n : ℕ) (y : Node) (h : Held) (at : slice
           r.apart contact k (λ q. let below : n < length p.held = within_list p.held n h there in absurd (omega (arith, below, q, beyond)))
           ∙ s.free_rows contact k beyond;
       free_wants = λ contact beyond. ap (λ (ws : List retry.Wants). (slice_index_or ws contact retry.no_wants).ids) r.wants ∙ s.free_wants contact beyond;
+      hidden = s.hidden;
       shown = s.shown;
       ready = λ contact k x known here. ready_now contact k x known here (nat_eq k n) refl;
     }
 
-    row_here : (contact k : ℕ) (b : Bool) → nat_eq k n ≡ b → (c : Bool) → nat_lt contact 256 ≡ c → (retry.kept_at t contact k).row ≡ (retry.kept_at p.retry contact k).row
+    row_here : (contact k : ℕ) (b : Bool) → nat_eq k n ≡ b → (c : Bool) → nat_lt contact p.table.contacts ≡ c → (retry.kept_at t contact k).row ≡ (retry.kept_at p.retry contact k).row
     row_here contact k false e c f = ap (λ (w : retry.Kept). w.row) (r.apart contact k (let ne : k ≢ n = (λ q. grind (arith, e, q)) in ne))
     row_here contact k true e true f =
         let number : k ≡ n = eqb-true k n e in
@@ -270,7 +284,7 @@ module _ (p : Parts) (s : IsState p) (n : ℕ) (y : Node) (h : Held) (at : slice
         ap fin_set.from_list (names_same end_delivered (λ x. refl) is_judged p.nodes n y at refl) in
         let invalid_same : ids_where is_invalid (nodes.with_ending n ending.Delivered p.nodes) ≡ ids_where is_invalid p.nodes =
         ap fin_set.from_list (names_same end_delivered (λ x. refl) is_invalid p.nodes n y at (sym (ap nodes.is_invalid open_now))) in
-        let rows : rows_in t p.held ≡ rows_in p.retry p.held = rows_same p.retry t p.held (λ contact k. row_here contact k (nat_eq k n) refl (nat_lt contact 256) refl) in
+        let rows : rows_in t p.held ≡ rows_in p.retry p.held = rows_same p.retry t p.held (λ contact k. row_here contact k (nat_eq k n) refl (nat_lt contact p.table.contacts) refl) in
         let wants : wants_in t p.table.contacts ≡ wants_in p.retry p.table.contacts =
         wants_same p.retry t (λ contact. ap (λ (ws : List retry.Wants). (slice_index_or ws contact retry.no_wants).ids) r.wants) p.table.contacts in
         λ i. record (facts_of p) { judged = judged_same i; invalid = invalid_same i; delivered = ids_more i; rows = rows i; wanted = wants i }

@@ -44,6 +44,7 @@ empty_is_state table none = record {
   many = refl;
   free_rows = λ contact n beyond. ap (λ (ks : List retry.Kept). retry.kept_in ks n) (none contact).0;
   free_wants = λ contact beyond. ap (λ (w : retry.Wants). w.ids) (none contact).1;
+  hidden = λ contact group beyond. ap level_or (fin_map.get-empty pair_cmp (contact, group));
   shown = λ contact group e. absurd (false≢true (sym e ∙ ap (λ o. is_invisible (level_or o)) (fin_map.get-empty pair_cmp (contact, group))));
   ready = λ contact n h known at. absurd (not_there n h at);
 }

@@ -44,6 +44,7 @@ module _ (p : Parts) (s : IsState p) (c : ℕ) (t : levels.Table) (made : t ≡ 
     many = s.many;
     free_rows = s.free_rows;
     free_wants = λ contact beyond. s.free_wants contact (omega arith);
+    hidden = λ contact group beyond. s.hidden contact group (omega arith);
     shown = s.shown;
     ready = s.ready;
   }
@@ -132,6 +133,7 @@ module _ (p : Parts) (s : IsState p) (def : GroupValue) (t : levels.Table)
     many = s.many;
     free_rows = s.free_rows;
     free_wants = s.free_wants;
+    hidden = s.hidden;
     shown = λ contact group e.
         let known = s.shown contact group e in
         ap (λ (o : Option Known). is_some o) (known_more p.table.groups (known_of def ∷ []) group known) ∙ known;
@@ -168,6 +170,7 @@ module _ (p : Parts) (s : IsState p) (begun : Begun) (space : ℕ) where
     many = s.many;
     free_rows = s.free_rows;
     free_wants = s.free_wants;
+    hidden = s.hidden;
     shown = s.shown;
     ready = s.ready;
   }

@@ -106,6 +106,7 @@ grown_state p s t g = record {
   many = s.many;
   free_rows = λ contact n beyond. g.kept contact n ∙ s.free_rows contact n beyond;
   free_wants = λ contact beyond. g.wants contact ∙ s.free_wants contact beyond;
+  hidden = s.hidden;
   shown = s.shown;
   ready = λ contact n h known at. ap (λ (k : retry.Kept). k.ready) (g.kept contact n) ∙ s.ready contact n h known at;
 }

@@ -47,6 +47,7 @@ module _ (p : Parts) (s : IsState p) (t : retry.Table) (space : ℕ) where
     many = s.many;
     free_rows = rows;
     free_wants = wants;
+    hidden = s.hidden;
     shown = s.shown;
     ready = λ contact n h known at. ready contact n ∙ s.ready contact n h known at;
   }

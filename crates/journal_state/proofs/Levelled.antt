@@ -328,8 +328,15 @@ module _ (p : Parts) (s : IsState p) (honest : Honest p.nodes p.shares) (c : ℕ
           (ap is_invisible (sym (level_put p.table.levels c g l contact group
           ∙ ap (λ b. cond b l (level_at p.table.levels contact group)) (ap (λ b. nat_eq contact c && b) q ∙ and_false (nat_eq contact c)))) ∙ e)
 
-  level_then : is_some (group_at p.table.groups g) ≡ true → IsState (record p { table = levels.after_entry p.table (entry.Level c g l); retry = new; space = space })
-  level_then known = record {
+  level_hidden : c < p.table.contacts → (contact : ℕ) (group : Id) → p.table.contacts ≤ contact → level_at (put_level p.table.levels (c, g) l) contact group ≡ level.Invisible
+  level_hidden met contact group beyond =
+      level_put p.table.levels c g l contact group
+      ∙ (ap (λ b. cond (b && same_id g group) l (level_at p.table.levels contact group)) (let other : nat_eq contact c ≡ false = grind (arith, met, beyond) in other)
+      ∙ s.hidden contact group beyond)
+
+  level_then : c < p.table.contacts → is_some (group_at p.table.groups g) ≡ true
+      → IsState (record p { table = levels.after_entry p.table (entry.Level c g l); retry = new; space = space })
+  level_then met known = record {
     named = s.named;
     grouped = s.grouped;
     distinct = s.distinct;
@@ -342,6 +349,7 @@ module _ (p : Parts) (s : IsState p) (honest : Honest p.nodes p.shares) (c : ℕ
         (λ e. ap (λ x. retry.kept_at new x n) e ∙ free_here n beyond)
         (λ apart. ap (λ (ks : List retry.Kept). retry.kept_in ks n) (r.others contact apart) ∙ s.free_rows contact n beyond);
     free_wants = λ contact beyond. ap (λ (ws : List retry.Wants). (retry.wants_of (record p.retry { wants = ws }) contact).ids) r.wants ∙ s.free_wants contact beyond;
+    hidden = level_hidden met;
     shown = level_shown known;
     ready = λ contact n h below at. either contact c
         (λ e. subst (λ x. (retry.kept_at new x n).ready ≡ may_go (put_level p.table.levels (c, g) l) (map (name_at p.nodes) p.delivered) (shared_among p.held (answers_of p.nodes p.shares)) x h)
@@ -349,8 +357,8 @@ module _ (p : Parts) (s : IsState p) (honest : Honest p.nodes p.shares) (c : ℕ
         (λ apart. ready_there contact n h apart below at);
   }
 
-  pub level_state : is_some (group_at p.table.groups g) ≡ true → IsState (record p { table = t; retry = new; space = space })
-  level_state known = subst (λ (x : levels.Table). IsState (record p { table = x; retry = new; space = space })) (sym made) (level_then known)
+  pub level_state : c < p.table.contacts → is_some (group_at p.table.groups g) ≡ true → IsState (record p { table = t; retry = new; space = space })
+  level_state met known = subst (λ (x : levels.Table). IsState (record p { table = x; retry = new; space = space })) (sym made) (level_then met known)
 
   pub level_facts : facts_of (record p { table = t; retry = new; space = space }) ≡ after (facts_of p) (entry.Level c g l)
   level_facts =

@@ -35,3 +35,4 @@ pub mod Levelled
 pub mod Served
 pub mod Allowed
 pub mod Roomy
+pub mod Unknown

@@ -107,7 +107,7 @@ got (y ∷ xs) (suc n) x within is = got xs n x (omega arith) is
 module _ (p : Parts) (s : IsState p) (n : ℕ) (e : nodes.next p.nodes ≡ Some (step.Deliver n)) (m : MessageValue) (m_is : option_map (λ (h : Held). h.message) (slice_get p.held n) ≡ Some m)
     (group : Id) (group_is : group ≡ m.group) (o : Origin) (o_is : option_map (λ (h : Held). h.origin) (slice_get p.held n) ≡ Some o)
     (share : Bool) (share_is : share ≡ slice_index_or p.shares n share) (outgoing : Bool) (out_is : outgoing ≡ (is_author o || share))
-    (t : retry.Table) (g : Grows p.retry t) (u : retry.Table) (r : Readies t u (goes_to p.table.levels group outgoing) n)
+    (t : retry.Table) (g : Grows p.retry t) (u : retry.Table) (r : Readies t u (goes_to p.table.levels group outgoing) p.table.contacts n)
     (ns : List Node) (ns_is : ns ≡ nodes.with_ending n ending.Delivered p.nodes) (ds : List ℕ) (ds_is : ds ≡ p.delivered ++ n ∷ []) where
   next_now : IsNext p (step.Deliver n)
   next_now = next_found p s (step.Deliver n) e
@@ -121,10 +121,10 @@ module _ (p : Parts) (s : IsState p) (n : ℕ) (e : nodes.next p.nodes ≡ Some 
   opens_now : (h : Held) → slice_get p.held n ≡ Some h → outgoing ≡ (is_author h.origin || share)
   opens_now h there = out_is ∙ ap (λ (x : Origin). is_author x || share) (sym (shown_as (λ (w : Held). w.origin) (slice_get p.held n) h o there o_is))
 
-  readies_now : (h : Held) → slice_get p.held n ≡ Some h → Readies t u (goes_to p.table.levels h.message.group outgoing) n
+  readies_now : (h : Held) → slice_get p.held n ≡ Some h → Readies t u (goes_to p.table.levels h.message.group outgoing) p.table.contacts n
   readies_now h there =
       let same : group ≡ h.message.group = group_is ∙ ap (λ (x : MessageValue). x.group) (sym (shown_as (λ (w : Held). w.message) (slice_get p.held n) h m there m_is)) in
-      subst (λ (d : Id). Readies t u (goes_to p.table.levels d outgoing) n) same r
+      subst (λ (d : Id). Readies t u (goes_to p.table.levels d outgoing) p.table.contacts n) same r
 
   pub delivered_then : IsState (record p { nodes = ns; delivered = ds; retry = u })
   delivered_then =

@@ -238,7 +238,7 @@ held_parts p h group t space = record p {
 }
 
 module _ (p : Parts) (s : IsState p) (h : Held) (group : ℕ) (t : retry.Table) (space : ℕ) (new : held_at p.held h.id ≡ None)
-    (known : levels.number_of p.table.groups h.message.group ≡ Some group) (u : UnwantsBelow 256 p.retry t h.id) (few : p.table.contacts ≤ 256) where
+    (known : levels.number_of p.table.groups h.message.group ≡ Some group) (u : UnwantsBelow p.table.contacts p.retry t h.id) where
   kept_still : (contact n : ℕ) → retry.kept_at t contact n ≡ retry.kept_at p.retry contact n
   kept_still contact n = ap (λ (rows : List (List retry.Kept)). retry.kept_in (slice_index_or rows contact []) n) u.rows
 
@@ -287,11 +287,7 @@ module _ (p : Parts) (s : IsState p) (h : Held) (group : ℕ) (t : retry.Table) 
       ∙ (λ i. or_end (no_place p.held h.id new i) (id_itself h.id i) (length p.held))
 
   wants_free : (contact : ℕ) → p.table.contacts ≤ contact → (retry.wants_of t contact).ids ≡ []
-  wants_free contact beyond = by (nat_lt contact 256) refl
-    where
-      by : (b : Bool) → nat_lt contact 256 ≡ b → (retry.wants_of t contact).ids ≡ []
-      by true e = u.wants contact (below_is contact 256 e) ∙ ap (without h.id) (s.free_wants contact beyond)
-      by false e = u.beyond contact (grind (arith, e)) ∙ s.free_wants contact beyond
+  wants_free contact beyond = u.beyond contact beyond ∙ s.free_wants contact beyond
 
   ready_old : (n : ℕ) (x : Held) → slice_get p.held n ≡ Some x → (contact : ℕ) → contact < 256
       → (retry.kept_at t contact n).ready ≡ may_go p.table.levels (map (name_at (p.nodes ++ nodes.fresh h.id group ∷ [])) p.delivered)
@@ -326,6 +322,7 @@ module _ (p : Parts) (s : IsState p) (h : Held) (group : ℕ) (t : retry.Table) 
     many = let sums : delivered_among (p.nodes ++ nodes.fresh h.id group ∷ []) ≡ delivered_among p.nodes + 0 = sum_more one_if_delivered p.nodes (nodes.fresh h.id group) in omega (arith, sums, s.many);
     free_rows = λ contact n beyond. kept_still contact n ∙ s.free_rows contact n (omega (arith, held_length));
     free_wants = wants_free;
+    hidden = s.hidden;
     shown = s.shown;
     ready = λ contact n x below at. end_cases
         {P = λ k w. (c : ℕ) → c < 256 → (retry.kept_at t c k).ready ≡ may_go p.table.levels (map (name_at (p.nodes ++ nodes.fresh h.id group ∷ [])) p.delivered)
@@ -349,7 +346,7 @@ module _ (p : Parts) (s : IsState p) (h : Held) (group : ℕ) (t : retry.Table) 
     invalid = fin_set.from_list (names_more is_invalid p.nodes (nodes.fresh h.id group) refl i);
     delivered = delivered_still i;
     rows = rows_still i;
-    wanted = wants_none p.retry t h.id p.table.contacts (λ c below. u.wants c (omega (arith, few))) i;
+    wanted = wants_none p.retry t h.id p.table.contacts u.wants i;
   }
 
   unjudged : (clients : Meaning) → answer_of clients (facts_of p) h ≡ None

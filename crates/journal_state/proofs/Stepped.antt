@@ -152,6 +152,7 @@ module _ (p : Parts) (s : IsState p) (n : ℕ) (y : Node) (h : Held) (at : slice
     many = s.many ∙ sym (sum_kept one_if_delivered (λ (x : Node). record x { answer = Some j }) n p.nodes y at refl);
     free_rows = s.free_rows;
     free_wants = s.free_wants;
+    hidden = s.hidden;
     shown = s.shown;
     ready = λ contact k x known here.
         s.ready contact k x known here
@@ -231,6 +232,7 @@ module _ (p : Parts) (s : IsState p) (n : ℕ) (y : Node) (h : Held) (at : slice
         ∙ sym (sum_kept one_if_delivered (λ (x : Node). record x { ending = Some ending.Invalid }) n p.nodes y at (sym (ap (λ e. cond (nodes.is_delivered e) 1 0) open_now)));
     free_rows = s.free_rows;
     free_wants = s.free_wants;
+    hidden = s.hidden;
     shown = s.shown;
     ready = λ contact k x known here.
         s.ready contact k x known here

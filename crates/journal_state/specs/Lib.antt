@@ -17,3 +17,4 @@ pub mod Changes
 pub mod Delivery
 pub mod Allowing
 pub mod Bringing
+pub mod Known

@@ -67,7 +67,7 @@ CanSend f (out.Send id) = is_held f.held id ≡ true
 abbrev pub CanTakeKind : StateValue → Entry → Type 0
 CanTakeKind s (entry.Contact c) = (c ≡ s.facts.contacts) × (c < 256)
 CanTakeKind s (entry.Group def) = (group_at s.facts.groups (group_id_of def) ≡ None) × (length s.facts.groups < 2 ^ 32 - 1)
-CanTakeKind s (entry.Level c g l) = (is_some (group_at s.facts.groups g) ≡ true) × (length s.facts.held ≤ rows_room s.room c)
+CanTakeKind s (entry.Level c g l) = (is_some (group_at s.facts.groups g) ≡ true) × (length s.facts.held ≤ rows_room s.room c) × (c < s.facts.contacts)
 CanTakeKind s (entry.Session x) = (x.number ≡ length s.facts.sessions) × (x.contact < s.facts.contacts) × (length s.facts.sessions < 2 ^ 32 - 1)
 CanTakeKind s (entry.Take n k) = takes_of s.facts.takes n < 2 ^ 64 - 1
 CanTakeKind s (entry.Author m) = CanHold s.facts m

@@ -5,6 +5,7 @@ use Rattle.std.specs.List.{list_all}
 use Rattle.std.specs.FinMap as fin_map
 use Rattle.std.specs.FinSet as fin_set
 use Rattle.sync_rules.specs.declared.answers.Judgement.{Judgement}
+use Rattle.sync_rules.specs.declared.entries.Level.TheVariants as level
 use Rattle.sync_rules.specs.Clients.{Meaning}
 use Rattle.sync_rules.specs.Lists.{is_among}
 use Rattle.sync_rules.specs.Facts.{Facts, Held, Id, Levels, group_at, level_at, is_invisible, is_level_shared}
@@ -74,6 +75,8 @@ pub record IsState (p : Parts) : Type 0 where
   -- there are no rows of messages that are not held, and no wanted ids of contacts that are not known
   pub free_rows : (contact n : ℕ) → length p.held ≤ n → retry.kept_at p.retry contact n ≡ retry.no_kept
   pub free_wants : (contact : ℕ) → p.table.contacts ≤ contact → (retry.wants_of p.retry contact).ids ≡ []
+  -- each group is Invisible to a contact that is not known
+  pub hidden : (contact : ℕ) (group : Id) → p.table.contacts ≤ contact → level_at p.table.levels contact group ≡ level.Invisible
   -- a group that is not Invisible to some contact is known
   pub shown : (contact : ℕ) (group : Id) → is_invisible (level_at p.table.levels contact group) ≡ false → is_some (group_at p.table.groups group) ≡ true
   -- a row says that its message may go to its contact where it may

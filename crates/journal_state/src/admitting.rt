@@ -5,6 +5,7 @@ ghost use Rattle.sync_rules.specs.Steps.{next};
 ghost use Rattle.entry_codec.specs.Allows.{allows, is_settling, is_settling_kind, is_some_of, same_entry, settles};
 ghost use Rattle.journal_state.specs.Whole.{Knows};
 
+use crate::naming::id_brought;
 use crate::state::State;
 use entry_codec::laws::allows_is_allowed;
 use entry_codec::same_entry;
@@ -98,12 +99,13 @@ impl State {
         ensures taken { IfOk result (λ yes. yes ≡ true → self.new.facts ≡ after_all self.old.facts batch) }
         ensures knows { Knows (C.meaning clients.now) self.new }
     {
-        if !self.allows(alloc, clients, &batch)? {
+        let known = id_brought(batch.entries());
+        if !self.allows_knowing(alloc, clients, &known, &batch)? {
             return Ok(false);
         }
         self.reserve(&batch)?;
         allows_is_allowed();
-        self.take(batch);
+        self.take_knowing(&known, batch);
         Ok(true)
     }
 

@@ -10,15 +10,17 @@ ghost use Rattle.sync_rules.specs.Sessions.{due};
 ghost use Rattle.sync_rules.specs.declared.entries.Entry.{Entry};
 ghost use Rattle.entry_codec.specs.Allows.{allows, gives, ids_named, is_due, is_record, is_settling_kind, may_add_group, may_author, may_begin, may_take, read_as, same_entry};
 ghost use Rattle.journal_state.specs.Allowing.{allows_alone, is_new};
+ghost use Rattle.journal_state.specs.Known.{IsIdOf, IsOfAll, IsOfEntry};
 ghost use Rattle.journal_state.specs.Whole.{Knows};
 
 use crate::judging::judgement_of;
+use crate::naming::id_known;
 use crate::state::State;
 use entry_codec::{ids_named, same_entries, same_out};
 use session_core::{due, take};
 use std::alloc::{AllocError, Global};
-use sync_ids::{GroupDef, GroupId, IdList, Message, Record, group_id};
-use sync_rules::{Batch, Clients, Entry, Level, Mode, Out, Session, View, id_of};
+use sync_ids::{GroupDef, GroupId, IdList, Message, MessageId, Record, group_id};
+use sync_rules::{Batch, Clients, Entry, Level, Mode, Out, Session, View};
 
 /// The greatest number of groups (this project's profile).
 const MAX_GROUPS: u32 = 1024;
@@ -85,12 +87,14 @@ impl State {
         &self,
         alloc: Global,
         clients: &C,
+        known: &Option<MessageId>,
         message: &Message,
     ) -> Result<bool, AllocError>
+        requires { IsIdOf known.now message.now }
         ensures { IfOk result (λ yes. yes ≡ may_author (C.meaning clients.now) self.now.facts message.now) }
     {
         let group = message.group();
-        if !self.knows_group(&group) || self.find(&id_of(message)).is_some() {
+        if !self.knows_group(&group) || self.find(&id_known(known, message)).is_some() {
             return Ok(false);
         }
         let judgement = judgement_of(alloc, clients, &self.table, message)?;
@@ -128,9 +132,11 @@ impl State {
         &self,
         alloc: Global,
         clients: &C,
+        known: &Option<MessageId>,
         entry: &Entry,
     ) -> Result<bool, AllocError>
-        requires { Knows (C.meaning clients.now) self.now }
+        requires knows { Knows (C.meaning clients.now) self.now }
+        requires named { IsOfEntry known.now entry.now }
         ensures { IfOk result (λ yes. yes ≡ allows_alone (C.meaning clients.now) self.now.facts entry.now) }
     {
         match entry {
@@ -138,7 +144,7 @@ impl State {
             Entry::Group(def) => Ok(self.allows_group(clients, def)),
             Entry::Level(contact, group, _) => Ok(self.allows_level(*contact, group)),
             Entry::Session(session) => Ok(self.allows_session(session)),
-            Entry::Author(message) => self.allows_author(alloc, clients, message),
+            Entry::Author(message) => self.allows_author(alloc, clients, known, message),
             Entry::Out(session, now, what) => self.allows_out(alloc, *session, *now, what),
             _ => Ok(false),
         }
@@ -217,7 +223,8 @@ impl State {
     }
 
     /// Whether a message arrives from the session's contact: its group is not Invisible to the contact, and its id is not held.
-    fn is_new(&self, session: &Session, message: &Message) -> bool
+    fn is_new(&self, session: &Session, known: &Option<MessageId>, message: &Message) -> bool
+        requires { IsIdOf known.now message.now }
         ensures new { result ≡ is_new self.now.facts session.now.contact message.now }
         ensures within { IsMessage message.now }
     {
@@ -225,7 +232,7 @@ impl State {
         if self.level(session.contact, &message.group()) == Level::Invisible {
             return false;
         }
-        self.find(&id_of(message)).is_none()
+        self.find(&id_known(known, message)).is_none()
     }
 
     /// Whether a message that arrived is taken as its arrival on a session of this number, and these entries.
@@ -234,13 +241,15 @@ impl State {
         &self,
         session: &Session,
         number: u32,
+        known: &Option<MessageId>,
         message: &Message,
         rest: &[Entry],
     ) -> bool
-        requires { session_at self.now.facts.sessions session.now.number ≡ Some session.now }
+        requires session { session_at self.now.facts.sessions session.now.number ≡ Some session.now }
+        requires named { IsIdOf known.now message.now }
         ensures { result ≡ gives self.now.facts session.now.number (Entry.Arrive number message.now ∷ rest.now) (record_kind.Message message.now) }
     {
-        let new = self.is_new(session, message);
+        let new = self.is_new(session, known, message);
         number == session.number && (rest.is_empty() && new)
     }
 
@@ -250,9 +259,11 @@ impl State {
         alloc: Global,
         session: &Session,
         k: u64,
+        known: &Option<MessageId>,
         entries: &[Entry],
     ) -> Result<bool, AllocError>
-        requires { session_at self.now.facts.sessions session.now.number ≡ Some session.now }
+        requires named { IsOfAll known.now entries.now }
+        requires session { session_at self.now.facts.sessions session.now.number ≡ Some session.now }
         ensures { IfOk result (λ yes. yes ≡ gives self.now.facts session.now.number entries.now (read_as entries.now)) }
     {
         let Some((first, rest)) = entries.split_first() else {
@@ -260,7 +271,7 @@ impl State {
         };
         match first {
             Entry::Arrive(number, message) => {
-                Ok(self.gives_arrival(session, *number, message, rest))
+                Ok(self.gives_arrival(session, *number, known, message, rest))
             }
             Entry::Again(_, _) | Entry::Offered(_, _) => {
                 self.gives_offers(alloc, session, k, entries)
@@ -286,8 +297,10 @@ impl State {
         alloc: Global,
         session: u32,
         k: u64,
+        known: &Option<MessageId>,
         entries: &[Entry],
     ) -> Result<bool, AllocError>
+        requires { IsOfAll known.now entries.now }
         ensures { IfOk result (λ yes. yes ≡ may_take self.now.facts session k entries.now) }
     {
         let Some(found) = self.find_session(session) else {
@@ -296,7 +309,7 @@ impl State {
         if k != self.sessions.takes(session) {
             return Ok(false);
         }
-        self.gives(alloc, &found, k, entries)
+        self.gives(alloc, &found, k, known, entries)
     }
 }
 
@@ -304,6 +317,7 @@ impl State {
 
 impl State {
     /// Whether a batch that does not begin with a step may follow the journal. It fails only for want of memory.
+    #[tactic(auto, using(crate::proofs::Unknown::unknown))]
     pub fn allows<C: Clients>(
         &self,
         alloc: Global,
@@ -314,6 +328,22 @@ impl State {
         requires kind { is_settling_kind batch.now ≡ false }
         ensures { IfOk result (λ yes. yes ≡ allows (C.meaning clients.now) self.now.facts batch.now) }
     {
+        self.allows_knowing(alloc, clients, &None, batch)
+    }
+
+    /// The same of a batch of whose message the id may be known.
+    pub(crate) fn allows_knowing<C: Clients>(
+        &self,
+        alloc: Global,
+        clients: &C,
+        known: &Option<MessageId>,
+        batch: &Batch,
+    ) -> Result<bool, AllocError>
+        requires knows { Knows (C.meaning clients.now) self.now }
+        requires kind { is_settling_kind batch.now ≡ false }
+        requires named { IsOfAll known.now batch.now }
+        ensures { IfOk result (λ yes. yes ≡ allows (C.meaning clients.now) self.now.facts batch.now) }
+    {
         let Some((first, rest)) = batch.entries().split_first() else {
             return Ok(false);
         };
@@ -321,11 +351,11 @@ impl State {
             return Ok(false);
         }
         if let Entry::Take(session, k) = first {
-            return self.allows_take(alloc, *session, *k, rest);
+            return self.allows_take(alloc, *session, *k, known, rest);
         }
         if !rest.is_empty() {
             return Ok(false);
         }
-        self.allows_alone(alloc, clients, first)
+        self.allows_alone(alloc, clients, known, first)
     }
 }

@@ -16,9 +16,6 @@ use sync_ids::GroupId;
 use sync_rules::{Entry, Level, Origin};
 use visibility_table::Levels;
 
-/// The number of contacts that there may be.
-const CONTACTS: usize = 256;
-
 /// Whether a message may be sent to others: it was written here, or its judgement lets it be sent on.
 fn is_open(origin: Origin, share: bool) -> bool
     ensures { result ≡ (is_author origin || share) }
@@ -50,7 +47,7 @@ fn reserve_row(retry: &mut Retry, contact: u8, numbers: u32, goes: bool) -> Resu
     retry.reserve(contact, numbers, 0)
 }
 
-/// Makes room for the rows of all numbers below `numbers` at each contact that a message goes to.
+/// Makes room for the rows of all numbers below `numbers` at each contact that is known and that a message goes to.
 fn reserve_rows(
     retry: &mut Retry,
     table: &Levels,
@@ -58,10 +55,11 @@ fn reserve_rows(
     outgoing: bool,
     numbers: u32,
 ) -> Result<(), AllocError>
+    requires few { table.now.contacts ≤ 256 }
     ensures same { Grows retry.old retry.new }
-    ensures room { OnOk result (HasRows retry.new (goes_to table.now.levels group.now outgoing) numbers) }
+    ensures room { OnOk result (HasRows retry.new (goes_to table.now.levels group.now outgoing) table.now.contacts numbers) }
 {
-    for place in 0..CONTACTS {
+    for place in 0..table.contacts() {
         let contact = place as u8;
         let goes = goes_to(table, group, outgoing, contact);
         reserve_row(retry, contact, numbers, goes)?;
@@ -80,12 +78,13 @@ fn ready_one(retry: &mut Retry, contact: u8, n: u32, goes: bool)
     retry.ready(contact, n);
 }
 
-/// Makes a message ready for each contact that it goes to.
+/// Makes a message ready for each contact that is known and that it goes to.
 fn make_ready(retry: &mut Retry, table: &Levels, group: &GroupId, outgoing: bool, n: u32)
-    requires { HasRows retry.old (goes_to table.now.levels group.now outgoing) (n + 1) }
-    ensures { Readies retry.old retry.new (goes_to table.now.levels group.now outgoing) n }
+    requires few { table.now.contacts ≤ 256 }
+    requires rows { HasRows retry.old (goes_to table.now.levels group.now outgoing) table.now.contacts (n + 1) }
+    ensures { Readies retry.old retry.new (goes_to table.now.levels group.now outgoing) table.now.contacts n }
 {
-    for place in 0..CONTACTS {
+    for place in 0..table.contacts() {
         let contact = place as u8;
         let goes = goes_to(table, group, outgoing, contact);
         ready_one(retry, contact, n, goes);
@@ -104,6 +103,7 @@ impl State {
         let group = self.messages.message(n).group();
         let outgoing = is_open(self.messages.origin(n), self.shares[n as usize]);
         let held = self.messages.len();
+        // No group has a level for a contact that is not known.
         reserve_rows(&mut self.retry, &self.table, &group, outgoing, held)?;
         self.delivered.reserve(1)?;
         self.graph.apply(Step::Deliver(n));

@@ -9,7 +9,7 @@ use indexmap::IndexMap;
 use std::alloc::{AllocError, Global};
 use std::marker::Model;
 use sync_ids::{Message, MessageId};
-use sync_rules::{Origin, id_of};
+use sync_rules::Origin;
 
 /// A held message, and where it came from.
 #[derive(Drop)]
@@ -59,8 +59,9 @@ impl Messages {
         Ok(())
     }
 
-    /// Holds a message whose id is new.
-    pub(crate) fn hold(&mut self, message: Message, origin: Origin)
+    /// Holds a message under its id, which is new.
+    pub(crate) fn hold(&mut self, id: MessageId, message: Message, origin: Origin)
+        requires named { id ≡ message_id_of message }
         requires new { held_at self.old.held (message_id_of message) ≡ None }
         requires room { 0 < self.old.room }
         requires few { length self.old.held < 2 ^ 32 - 1 }
@@ -69,7 +70,6 @@ impl Messages {
           room = self.old.room - 1;
         } }
     {
-        let id = id_of(&message);
         self.kept.insert(id, Kept { message, origin }).unwrap();
         self.space -= 1;
     }

@@ -10,23 +10,22 @@ ghost use Rattle.journal_state.specs.Whole.{Knows};
 use crate::state::State;
 use retry_table::Retry;
 use sync_ids::{Message, MessageId};
-use sync_rules::{Origin, id_of};
+use sync_rules::Origin;
 
-/// The number of contacts that there may be.
-const CONTACTS: u32 = 256;
-
-/// Takes an id out of what is wanted from each contact.
-fn unwant_from_all(retry: &mut Retry, id: &MessageId)
-    ensures { UnwantsBelow 256 retry.old retry.new id.now }
+/// Takes an id out of what is wanted from each of that many contacts.
+fn unwant_from_all(retry: &mut Retry, contacts: u32, id: &MessageId)
+    requires { contacts ≤ 256 }
+    ensures { UnwantsBelow contacts retry.old retry.new id.now }
 {
-    for contact in 0..CONTACTS {
+    for contact in 0..contacts {
         retry.unwant(contact as u8, id);
     }
 }
 
 impl State {
-    /// Holds a message whose group is known and whose id is new; it is then wanted from nobody.
-    pub(crate) fn hold(&mut self, message: Message, origin: Origin)
+    /// Holds a message under its id, where its group is known and the id is new; it is then wanted from nobody.
+    pub(crate) fn hold(&mut self, id: MessageId, message: Message, origin: Origin)
+        requires named { id ≡ message_id_of message }
         requires can { CanHold self.old.facts message }
         requires room { 1 ≤ self.old.room.entries }
         ensures facts { self.new.facts ≡ record self.old.facts {
@@ -36,12 +35,12 @@ impl State {
         ensures knows { (clients : Meaning) → Knows clients self.old → Knows clients self.new }
         ensures room { Spends self.old.room self.new.room }
     {
-        let id = id_of(&message);
         let group = self.table.group(&message.group()).unwrap();
         self.space -= 1;
         self.graph.hold(id.0, group);
         self.shares.push(false).unwrap();
-        unwant_from_all(&mut self.retry, &id);
-        self.messages.hold(message, origin);
+        // Nothing is wanted from a contact that is not known.
+        unwant_from_all(&mut self.retry, self.table.contacts(), &id);
+        self.messages.hold(id, message, origin);
     }
 }

@@ -13,6 +13,7 @@ mod judging;
 mod levelling;
 mod lookups;
 mod marks;
+mod naming;
 mod recording;
 mod reserve;
 mod sessions;

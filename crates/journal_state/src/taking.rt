@@ -4,16 +4,19 @@ ghost use Rattle.sync_rules.specs.Clients.{Meaning};
 ghost use Rattle.sync_rules.specs.Facts.{after_all, takes_of};
 ghost use Rattle.sync_rules.specs.Legal.{Allowed};
 ghost use Rattle.entry_codec.specs.Allows.{is_settling_kind};
+ghost use Rattle.journal_state.specs.Known.{IsIdOf, IsOfAll, IsOfEntry};
 ghost use Rattle.journal_state.specs.Taking.{CanTake, CanTakeAll, HasRoom, Takes, TakesAll};
 ghost use Rattle.journal_state.specs.Whole.{Knows};
 
 use crate::marks::Mark;
+use crate::naming::id_known;
 use crate::state::State;
 use sync_ids::{Message, MessageId};
-use sync_rules::{Batch, Entry, Origin, Out, id_of};
+use sync_rules::{Batch, Entry, Origin, Out};
 
 impl State {
     /// Takes an allowed batch for which room was made, and which is not a settling batch. It takes no memory.
+    #[tactic(auto, using(crate::proofs::Unknown::unknown))]
     pub fn take(&mut self, batch: Batch)
         requires allowed { (clients : Meaning) × Allowed clients self.old.facts batch }
         requires kind { is_settling_kind batch ≡ false }
@@ -24,23 +27,40 @@ impl State {
         ensures facts { self.new.facts ≡ after_all self.old.facts batch }
         ensures knows { (clients : Meaning) → Knows clients self.old → Knows clients self.new }
     {
+        self.take_knowing(&None, batch);
+    }
+
+    /// The same of a batch of whose message the id may be known.
+    pub(crate) fn take_knowing(&mut self, known: &Option<MessageId>, batch: Batch)
+        requires allowed { (clients : Meaning) × Allowed clients self.old.facts batch }
+        requires kind { is_settling_kind batch ≡ false }
+        requires named { IsOfAll known.now batch }
+        requires room { HasRoom self.old batch }
+        requires few_held { length self.old.facts.held < 2 ^ 32 - 1 }
+        requires few_sessions { length self.old.facts.sessions < 2 ^ 32 - 1 }
+        requires few_records { (session : ℕ) → takes_of self.old.facts.takes session < 2 ^ 64 - 1 }
+        ensures facts { self.new.facts ≡ after_all self.old.facts batch }
+        ensures knows { (clients : Meaning) → Knows clients self.old → Knows clients self.new }
+    {
         let _ = &self.table;
-        self.take_all(batch.into_entries());
+        self.take_all(known, batch.into_entries());
     }
 
     /// Takes entries, one after the other.
-    fn take_all(&mut self, entries: Vec<Entry>)
-        requires { CanTakeAll self.old entries.items }
+    fn take_all(&mut self, known: &Option<MessageId>, entries: Vec<Entry>)
+        requires can { CanTakeAll self.old entries.items }
+        requires named { IsOfAll known.now entries.items }
         ensures { TakesAll self.old self.new entries.items }
     {
         for entry in entries {
-            self.take_entry(entry);
+            self.take_entry(known, entry);
         }
     }
 
     /// Takes one entry.
-    fn take_entry(&mut self, entry: Entry)
-        requires { CanTake self.old entry }
+    fn take_entry(&mut self, known: &Option<MessageId>, entry: Entry)
+        requires can { CanTake self.old entry }
+        requires named { IsOfEntry known.now entry }
         ensures { Takes self.old self.new entry }
     {
         match entry {
@@ -49,8 +69,8 @@ impl State {
             Entry::Level(contact, group, level) => self.take_level(contact, group, level),
             Entry::Session(session) => self.take_session(session),
             Entry::Take(session, k) => self.take_record(session, k),
-            Entry::Author(message) => self.take_author(message),
-            Entry::Arrive(session, message) => self.take_arrival(session, message),
+            Entry::Author(message) => self.take_author(known, message),
+            Entry::Arrive(session, message) => self.take_arrival(known, session, message),
             Entry::Again(session, id) => self.take_again(session, id),
             Entry::Offered(session, id) => self.take_offered(session, id),
             Entry::Seen(session, id) => self.take_seen(session, id),
@@ -61,21 +81,24 @@ impl State {
     }
 
     /// A message was written on this device.
-    fn take_author(&mut self, message: Message)
-        requires { CanTake self.old (Entry.Author message) }
+    fn take_author(&mut self, known: &Option<MessageId>, message: Message)
+        requires can { CanTake self.old (Entry.Author message) }
+        requires named { IsIdOf known.now message }
         ensures { Takes self.old self.new (Entry.Author message) }
     {
-        self.hold(message, Origin::Author);
+        let id = id_known(known, &message);
+        self.hold(id, message, Origin::Author);
     }
 
     /// A message arrived on a session.
-    fn take_arrival(&mut self, session: u32, message: Message)
-        requires { CanTake self.old (Entry.Arrive session message) }
+    fn take_arrival(&mut self, known: &Option<MessageId>, session: u32, message: Message)
+        requires can { CanTake self.old (Entry.Arrive session message) }
+        requires named { IsIdOf known.now message }
         ensures { Takes self.old self.new (Entry.Arrive session message) }
     {
         let contact = self.session(session).contact;
-        let id = id_of(&message);
-        self.hold(message, Origin::From(contact));
+        let id = id_known(known, &message);
+        self.hold(id, message, Origin::From(contact));
         self.mark(contact, &id, Mark::Heard);
     }
 

@@ -12,14 +12,14 @@ use Rattle.journal_state.proofs.held.Messages.hold.Goals as goal
 pub returns : goal.returns
 returns c =
     let es = c.self.inside.kept.entries in
-    let id = c.id_of-id.result in
+    let id = c.args.id in
     let kept : Kept = record { message = c.args.message; origin = c.args.origin } in
     let more : Held = record { id = message_id_of c.args.message; message = c.args.message; origin = c.args.origin } in
     let absent : held_at (map held_of es) id ≡ None =
-    ap (held_at (map held_of es)) c.id_of-id.ensures ∙ (ap (λ (m : Holding). held_at m.held (message_id_of c.args.message)) c.self.view_is ∙ c.requires.new) in
+    ap (held_at (map held_of es)) c.requires.named ∙ (ap (λ (m : Holding). held_at m.held (message_id_of c.args.message)) c.self.view_is ∙ c.requires.new) in
     let put = insert_entry-new (pointwise nat_eq) c.self.inside.kept id kept (not_kept id es absent) in
     let all : map held_of c.insert.new.self.entries ≡ c.args.self.now.held ++ more ∷ [] =
     ap (map held_of) (rw c.unwrap.ensures at c.insert.ensures.entries ∙ put)
-    ∙ (map-append held_of es ((id, kept) ∷ []) ∙ (ap (λ (i : Id). map held_of es ++ held_of (i, kept) ∷ []) c.id_of-id.ensures
+    ∙ (map-append held_of es ((id, kept) ∷ []) ∙ (ap (λ (i : Id). map held_of es ++ held_of (i, kept) ∷ []) c.requires.named
     ∙ ap (λ (m : Holding). m.held ++ more ∷ []) c.self.view_is)) in
     λ k. record { held = all k; room = (c.self.view_is k).room - 1 }

@@ -24,7 +24,7 @@ pub hold-requires-clause-new : goal.hold-requires-clause-new
 hold-requires-clause-new c =
     let new : held_at c.self.inside.messages.held (message_id_of c.args.message) ≡ None =
     ap (λ (v : StateValue). held_at v.facts.held (message_id_of c.args.message)) c.self.view_is ∙ c.requires.can.new in
-    ap (nodes.number_of c.self.inside.graph.nodes) (c.id.view_is ∙ c.id_of-id.ensures)
+    ap (nodes.number_of c.self.inside.graph.nodes) (c.id.view_is ∙ c.requires.named)
     ∙ no_number c.self.inside.messages.held c.self.inside.graph.nodes c.self.invariant.state.named (message_id_of c.args.message) new
 
 new_id : (c : goal.After-hold-2) → held_at c.self.inside.messages.held (message_id_of c.args.message) ≡ None
@@ -33,8 +33,10 @@ new_id c = ap (λ (v : StateValue). held_at v.facts.held (message_id_of c.args.m
 known : (c : goal.After-hold-2) → levels.number_of c.self.inside.table.groups c.args.message.group ≡ Some c.unwrap-group.result
 known c = ap (levels.number_of c.self.inside.table.groups) (sym c.group.ensures) ∙ (sym c.group-2.ensures.number ∙ c.unwrap-group.ensures)
 
-unwanted : (c : goal.After-hold-2) → UnwantsBelow 256 c.self.inside.retry c.unwant_from_all.new.retry (message_id_of c.args.message)
-unwanted c = subst (λ (x : Id). UnwantsBelow 256 c.self.inside.retry c.unwant_from_all.new.retry x) c.id_of-id.ensures c.unwant_from_all.ensures
+unwanted : (c : goal.After-hold-2) → UnwantsBelow c.self.inside.table.contacts c.self.inside.retry c.unwant_from_all.new.retry (message_id_of c.args.message)
+unwanted c =
+    subst (λ n. UnwantsBelow n c.self.inside.retry c.unwant_from_all.new.retry (message_id_of c.args.message)) c.contacts.ensures
+    (subst (λ (x : Id). UnwantsBelow c.contacts.result c.self.inside.retry c.unwant_from_all.new.retry x) c.requires.named c.unwant_from_all.ensures)
 
 items : (c : goal.After-hold-2) → c.push.new.self.items ≡ c.self.inside.shares.items ++ false ∷ []
 items c = rw c.unwrap.ensures at c.push.ensures.items
@@ -42,7 +44,7 @@ items c = rw c.unwrap.ensures at c.push.ensures.items
 nodes_are : (c : goal.After-hold-2) → c.hold.new.self.nodes ≡ c.self.inside.graph.nodes ++ nodes.fresh (message_id_of c.args.message) c.unwrap-group.result ∷ []
 nodes_are c =
     ap (λ (g : nodes.Shown). g.nodes) c.hold.ensures.nodes
-    ∙ ap (λ (x : Id). c.self.inside.graph.nodes ++ nodes.fresh x c.unwrap-group.result ∷ []) (c.id.view_is ∙ c.id_of-id.ensures)
+    ∙ ap (λ (x : Id). c.self.inside.graph.nodes ++ nodes.fresh x c.unwrap-group.result ∷ []) (c.id.view_is ∙ c.requires.named)
 
 abbrev after_it : (c : goal.After-hold-2) → Parts
 after_it c = held_parts (parts c.self.inside) (message_held c) c.unwrap-group.result c.unwant_from_all.new.retry (c.self.inside.space - 1)
@@ -70,7 +72,7 @@ invariant_of-self c =
     let room : c.hold-2.new.self.room ≡ c.self.inside.messages.room - 1 = ap (λ (m : Holding). m.room) c.hold-2.ensures in
     record {
       state = subst IsState (sym (made c))
-          (held_state (parts c.self.inside) c.self.invariant.state (message_held c) c.unwrap-group.result c.unwant_from_all.new.retry (c.self.inside.space - 1) (new_id c) (known c) (unwanted c) c.self.invariant.few);
+          (held_state (parts c.self.inside) c.self.invariant.state (message_held c) c.unwrap-group.result c.unwant_from_all.new.retry (c.self.inside.space - 1) (new_id c) (known c) (unwanted c));
       roomy = record {
         table = let m = c.self.invariant.roomy.table in omega (arith, m);
         messages = let m = c.self.invariant.roomy.messages in omega (arith, m, room);
@@ -89,13 +91,13 @@ invariant_of-self c =
 pub returns-clause-facts : goal.returns-clause-facts
 returns-clause-facts c =
     ap facts_of (made c)
-    ∙ (held_facts (parts c.self.inside) c.self.invariant.state (message_held c) c.unwrap-group.result c.unwant_from_all.new.retry (c.self.inside.space - 1) (new_id c) (known c) (unwanted c) c.self.invariant.few
+    ∙ (held_facts (parts c.self.inside) c.self.invariant.state (message_held c) c.unwrap-group.result c.unwant_from_all.new.retry (c.self.inside.space - 1) (new_id c) (known c) (unwanted c)
     ∙ ap (λ (v : StateValue). record v.facts { held = v.facts.held ++ message_held c ∷ []; wanted = wanted_by_none v.facts.wanted (message_id_of c.args.message) }) c.self.view_is)
 
 pub returns-clause-knows : goal.returns-clause-knows
 returns-clause-knows c = λ clients k.
     subst (λ (p : Parts). Knows clients (value_of p)) (sym (made c))
-    (held_knows (parts c.self.inside) c.self.invariant.state (message_held c) c.unwrap-group.result c.unwant_from_all.new.retry (c.self.inside.space - 1) (new_id c) (known c) (unwanted c) c.self.invariant.few
+    (held_knows (parts c.self.inside) c.self.invariant.state (message_held c) c.unwrap-group.result c.unwant_from_all.new.retry (c.self.inside.space - 1) (new_id c) (known c) (unwanted c)
     clients (subst (Knows clients) (sym c.self.view_is) k))
 
 pub returns-clause-room : goal.returns-clause-room

@@ -16,12 +16,12 @@ held_now c = ap (λ (f : Facts). f.held) c.hold.ensures.facts
 pub mark-requires : goal.mark-requires
 mark-requires c = record {
   held =
-      ap (λ (hs : List Held). is_held hs c.id_of-id.result) (held_now c)
-      ∙ (ap (λ (x : Id). is_held (c.args.self.now.facts.held ++ one c ∷ []) x) c.id_of-id.ensures ∙ end_held c.args.self.now.facts.held (one c));
+      ap (λ (hs : List Held). is_held hs c.id_known-id.result) (held_now c)
+      ∙ (ap (λ (x : Id). is_held (c.args.self.now.facts.held ++ one c ∷ []) x) c.id_known-id.ensures ∙ end_held c.args.self.now.facts.held (one c));
   room =
       let long : length c.hold.new.self.facts.held ≡ length c.args.self.now.facts.held + 1 = ap (λ (hs : List Held). length hs) (held_now c) ∙ length-append c.args.self.now.facts.held (one c ∷ []) in
       let room : length c.args.self.now.facts.held + 1 ≤ rows_room c.args.self.now.room c.session-contact.result.contact =
-      subst (λ n. length c.args.self.now.facts.held + 1 ≤ rows_room c.args.self.now.room n) (ap contact_in c.session-contact.ensures.found) c.requires.kind.2 in
+      subst (λ n. length c.args.self.now.facts.held + 1 ≤ rows_room c.args.self.now.room n) (ap contact_in c.session-contact.ensures.found) c.requires.can.kind.2 in
       let more = c.hold.ensures.room.rows c.session-contact.result.contact in
       omega (arith, long, room, more);
 }
@@ -33,14 +33,14 @@ returns c =
     record {
       facts =
           c.mark.ensures.facts
-          ∙ ((λ i. record (c.hold.ensures.facts i) { rows = change_row (c.hold.ensures.facts i).rows c.session-contact.result.contact (c.id_of-id.ensures i) row_heard })
+          ∙ ((λ i. record (c.hold.ensures.facts i) { rows = change_row (c.hold.ensures.facts i).rows c.session-contact.result.contact (c.id_known-id.ensures i) row_heard })
           ∙ (λ i. record old {
             held = old.held ++ arrived (contact i) c.args.message ∷ [];
             rows = change_row old.rows (contact i) (message_id_of c.args.message) row_heard;
             wanted = wanted_by_none old.wanted (message_id_of c.args.message);
           }));
       knows = λ clients k. knows_after clients c.hold.new.self c.mark.new.self
-          (record c.hold.new.self.facts { rows = change_row c.hold.new.self.facts.rows c.session-contact.result.contact c.id_of-id.result row_heard })
+          (record c.hold.new.self.facts { rows = change_row c.hold.new.self.facts.rows c.session-contact.result.contact c.id_known-id.result row_heard })
           c.mark.ensures.facts c.mark.ensures.answers refl (c.hold.ensures.knows clients k);
       room = spends_kept c.args.self.now.room c.hold.new.self.room c.mark.new.self.room c.hold.ensures.room c.mark.ensures.room;
     }

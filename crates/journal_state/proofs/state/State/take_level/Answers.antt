@@ -30,9 +30,10 @@ invariant_of-self c =
     let contacts : c.self.inside.table.contacts ≡ c.apply.new.self.contacts = sym (ap (λ (t : levels.Table). t.contacts) c.apply.ensures) in
     let spare : c.apply.new.self.spare ≡ c.self.inside.table.spare - 1 = ap (λ (t : levels.Table). t.spare) c.apply.ensures in
     let known : is_some (group_at c.self.inside.table.groups c.args.group) ≡ true = ap (λ (v : StateValue). is_some (group_at v.facts.groups c.args.group)) c.self.view_is ∙ c.requires.kind.0 in
+    let met : c.args.contact < c.self.inside.table.contacts = subst (λ (v : StateValue). c.args.contact < v.facts.contacts) (sym c.self.view_is) c.requires.kind.2 in
     record {
       state = level_state (parts c.self.inside) c.self.invariant.state c.self.invariant.honest c.args.contact c.args.group c.args.level c.apply.new.self c.apply.ensures
-          c.level_all.new.retry (done c) (c.self.inside.space - 1) known;
+          c.level_all.new.retry (done c) (c.self.inside.space - 1) met known;
       roomy = record {
         table = let m = c.self.invariant.roomy.table in omega (arith, m, spare);
         messages = let m = c.self.invariant.roomy.messages in omega (arith, m);

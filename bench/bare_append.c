@@ -1,0 +1,74 @@
+/* The writes and syncs of one post, and nothing else: bare_append FILE0 FILE1 <frames
+ *
+ * Each file that is there is synced. Then each frame of the input (its length in four bytes, its payload, a closed gate)
+ * is added at the end of FILE0, whose last byte is the closed gate: written behind it and synced, then the gate opened
+ * and synced. */
+#include <fcntl.h>
+#include <stdint.h>
+#include <stdio.h>
+#include <stdlib.h>
+#include <sys/stat.h>
+#include <unistd.h>
+
+enum { MOST = 1 << 18 };
+
+static void check(int holds, const char *what)
+{
+    if (!holds) {
+        perror(what);
+        exit(1);
+    }
+}
+
+static int open_and_sync(const char *path)
+{
+    int file = open(path, O_RDWR | O_CLOEXEC);
+    if (file >= 0)
+        check(fsync(file) == 0, "fsync");
+    return file;
+}
+
+static size_t read_input(unsigned char *to)
+{
+    size_t have = 0;
+    ssize_t got;
+    while ((got = read(0, to + have, MOST - have)) > 0)
+        have += (size_t)got;
+    check(got == 0 && have < MOST, "read");
+    return have;
+}
+
+static void write_at(int file, off_t place, const unsigned char *bytes, size_t count)
+{
+    check(lseek(file, place, SEEK_SET) == place, "lseek");
+    check(write(file, bytes, count) == (ssize_t)count, "write");
+    check(fsync(file) == 0, "fsync");
+}
+
+/* The size of the frame at the front of some bytes. */
+static size_t frame_size(const unsigned char *at)
+{
+    return 5 + ((size_t)at[0] << 24 | (size_t)at[1] << 16 | (size_t)at[2] << 8 | at[3]);
+}
+
+int main(int count, char **words)
+{
+    static unsigned char frames[MOST];
+    const unsigned char open_gate = 1;
+    struct stat told;
+    check(count == 3, "two files");
+    int file = open_and_sync(words[1]);
+    open_and_sync(words[2]);
+    check(file >= 0 && fstat(file, &told) == 0, words[1]);
+    off_t gate = told.st_size - 1;
+    size_t have = read_input(frames);
+    for (size_t at = 0; at + 5 < have;) {
+        size_t size = frame_size(frames + at);
+        check(at + size <= have, "frames");
+        write_at(file, gate + 1, frames + at, size);
+        write_at(file, gate, &open_gate, 1);
+        gate += (off_t)size;
+        at += size;
+    }
+    return 0;
+}
