@@ -6,11 +6,12 @@ ghost use Rattle.hex.specs.Hex.{decode_of, encode_lower, is_hex_digit};
 
 use hex::FromHex;
 use std::alloc::{AllocError, Global};
+use std::hash::{Hash, Hasher};
 use std::marker::Model;
 use thiserror::Error;
 
 /// A value of exactly `N` bytes. Contracts see the list of its bytes.
-#[derive(Clone, Copy, PartialEq, Eq, PartialOrd, Ord, Hash, Debug)]
+#[derive(Clone, Copy, PartialEq, Eq, PartialOrd, Ord, Debug)]
 pub struct Fixed<const N: usize>(pub [u8; N]);
 
 impl<const N: usize> Model for Fixed<N> {
@@ -23,6 +24,21 @@ impl<const N: usize> Model for Fixed<N> {
     ghost invariant = { λ a. length a.0 ≡ N };
 
     ghost inverse = { λ bytes. record { 0 = bytes } };
+}
+
+// All bytes are fed at once: a table looks an id up several times for each message.
+impl<const N: usize> Hash for Fixed<N> {
+    ghost use Rattle.std.specs.Prelude.{◌∷◌, []};
+    ghost use Rattle.std.specs.Cmp.Rules.{hashing};
+    ghost use Rattle.std.proofs.Common.{rules};
+
+    ghost hash_input = { λ id. id ∷ [] };
+
+    ghost respects_eq = { Prim.search (hashing, rules) };
+
+    fn hash<H: Hasher>(&self, state: &mut H) {
+        state.write(&self.0);
+    }
 }
 
 /// The identifier of a message (BSP, "Message identifiers").
