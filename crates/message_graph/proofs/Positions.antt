@@ -1,5 +1,5 @@
 -- The place of the first element that passes a test, by recursion.
-use Rattle.std.proofs.Common.{◌≡◌, ℕ, zero, suc, ◌<◌, Bool, true, false, ◌||◌, cond, ltb, List, [], ◌∷◌, ◌++◌, length, Option, None, Some, position, refl, sym, ap, subst, ◌∙◌, get_or, arith}
+use Rattle.std.proofs.Common.{◌≡◌, ℕ, zero, suc, ◌<◌, Bool, true, false, ◌||◌, cond, ltb, List, [], ◌∷◌, ◌++◌, length, Option, None, Some, position, refl, sym, ap, subst, ◌∙◌, get_or, arith, true≢false}
 use Rattle.std.specs.Option.{option_map}
 use Rattle.std.specs.List.{list_any}
 use Rattle.std.proofs.lemmas.List.Sums.{position_or_len_is}
@@ -78,3 +78,15 @@ module _ {X : Type 0} (p : X → Bool) where
       by : (ys : List X) → Tells p ys None → list_any p ys ≡ false
       by [] t = refl
       by (y ∷ ys) t = (λ i. t 0 y (omega arith) i || by ys (λ k d l. t (suc k) d (omega arith)) i)
+
+  -- where no element passes, there is no place
+  pub passes_none : (xs : List X) → list_any p xs ≡ false → position p xs ≡ None
+  passes_none xs h = position-place xs ∙ by xs h
+    where
+      by : (ys : List X) → list_any p ys ≡ false → place p ys ≡ None
+      by [] t = refl
+      by (y ∷ ys) t =
+          elim (p y) as (λ b. (b || list_any p ys) ≡ false → cond b (Some 0) (option_map suc (place p ys)) ≡ None) [
+            | true ↦ λ no. absurd (true≢false no)
+            | false ↦ λ no. ap (option_map suc) (by ys no)
+          ] t

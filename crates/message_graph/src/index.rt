@@ -5,7 +5,39 @@ ghost use Rattle.message_graph.specs.Links.{place_of, holder_of, edge_at, last_b
 
 use indexmap::IndexSet;
 use std::alloc::{AllocError, Global};
+use std::hash::{Hash, Hasher};
 use std::marker::Model;
+
+/// A name as the table of names keeps it. Contracts see the list of its bytes.
+#[derive(Clone, Copy, PartialEq, Eq)]
+struct Key([u8; 32]);
+
+impl Model for Key {
+    ghost use Rattle.std.specs.Prelude.{◌≡◌, List, ℕ, length};
+
+    ghost Value = { List ℕ };
+
+    ghost view = { λ k. k.0 };
+
+    ghost invariant = { λ k. length k.0 ≡ 32 };
+
+    ghost inverse = { λ bytes. record { 0 = bytes } };
+}
+
+// All bytes are fed at once: a name is looked up several times for each message.
+impl Hash for Key {
+    ghost use Rattle.std.specs.Prelude.{◌∷◌, []};
+    ghost use Rattle.std.specs.Cmp.Rules.{hashing};
+    ghost use Rattle.std.proofs.Common.{rules};
+
+    ghost hash_input = { λ name. name ∷ [] };
+
+    ghost respects_eq = { Prim.search (hashing, rules) };
+
+    fn hash<H: Hasher>(&self, state: &mut H) {
+        state.write(&self.0);
+    }
+}
 
 /// What is kept for a name: the number of the node that holds it, and the last edge of those who wait for it.
 #[derive(Clone, Copy)]
@@ -25,7 +57,7 @@ pub(crate) struct Edge {
 /// Names, also those that no node holds yet, with their holders and waiters.
 #[derive(Drop)]
 pub(crate) struct Index {
-    names: IndexSet<[u8; 32]>,
+    names: IndexSet<Key>,
     slots: Vec<Slot>,
     edges: Vec<Edge>,
 }
@@ -79,7 +111,7 @@ impl Index {
     pub(crate) fn holder(&self, name: &[u8; 32]) -> Option<u32>
         ensures { result ≡ holder_of self.now name.now }
     {
-        let place = self.names.get_index_of(name)?;
+        let place = self.names.get_index_of(&Key(*name))?;
         self.slots[place].holder
     }
 
@@ -87,7 +119,7 @@ impl Index {
     pub(crate) fn last(&self, name: &[u8; 32]) -> Option<usize>
         ensures { result ≡ last_before self.now.edges name.now (length self.now.edges) }
     {
-        let place = self.names.get_index_of(name)?;
+        let place = self.names.get_index_of(&Key(*name))?;
         self.slots[place].last
     }
 
@@ -116,15 +148,14 @@ impl Index {
         ensures room { self.old.room ≤ self.new.room + 1 }
         ensures edge_room { self.new.edge_room ≡ self.old.edge_room }
     {
-        if let Some(place) = self.names.get_index_of(&name) {
+        let (place, is_new) = self.names.insert_full(Key(name)).unwrap();
+        if !is_new {
             return place;
         }
-        let place = self.names.len();
         let slot = Slot {
             holder: None,
             last: None,
         };
-        self.names.insert_full(name).unwrap();
         self.slots.push(slot).unwrap();
         place
     }
