@@ -1,5 +1,5 @@
 -- What a commit and a settling answer, and what stands after each answer.
-use Rattle.std.specs.Prelude.{◌≡◌, ℕ, ◌+◌, ◌<◌, ◌≤◌, Bool, true, false, List, [], ◌∷◌, ◌++◌, length, Option, Result, Ok, Err}
+use Rattle.std.specs.Prelude.{◌≡◌, ◌⊎◌, ℕ, ◌+◌, ◌*◌, ◌<◌, ◌≤◌, Bool, true, false, List, [], ◌∷◌, ◌++◌, length, Option, Result, Ok, Err}
 use Rattle.std.specs.Int.{w32, to_be_bytes}
 use Rattle.std.specs.List.{AllByRecursion}
 use Rattle.outside.specs.Files.{Two, File}
@@ -9,7 +9,7 @@ use Rattle.sync_rules.specs.declared.entries.Entry.{Entry}
 use Rattle.sync_rules.specs.declared.entries.Entry.TheVariants as entry
 use Rattle.sync_rules.specs.Clients.{Meaning}
 use Rattle.sync_rules.specs.Facts.{Facts, after_all, after_batches}
-use Rattle.sync_rules.specs.Legal.{Allowed, AllSettling}
+use Rattle.sync_rules.specs.Legal.{Allowed, AllSettling, IsSettling}
 use Rattle.sync_rules.specs.Steps.{IsSettled}
 use Rattle.entry_codec.specs.Laws.{payload}
 use Rattle.entry_codec.specs.Spelling.{IsEntry}
@@ -91,7 +91,23 @@ pub record Proceeds (clients : Meaning) (old new : StoreValue) : Type 0 where
   pub file : new.file ≡ old.file
   pub limit : new.limit ≡ old.limit
 
--- the same of one batch that was asked for where a step was left
+-- A store that was settled by filled batches: behind its journal stand the steps that were made, in the fewest frames that hold
+-- them, so that each frame but the last has 256. A step's entry has 33 bytes, and a frame has 5 beside its entries.
+pub record Fills (clients : Meaning) (old new : StoreValue) : Type 0 where
+  pub steps : List Entry
+  pub settling : IsSettling clients old.state.facts steps
+  pub facts : new.state.facts ≡ after_all old.state.facts steps
+  pub frames : ℕ
+  pub end : new.end ≡ old.end + 33 * length steps + 5 * frames
+  pub enough : length steps ≤ 256 * frames
+  pub fewest : 256 * frames < length steps + 256
+
+-- the same where each frame has 256 steps, or no step is left
+pub record FillsEach (clients : Meaning) (old new : StoreValue) : Type 0 where
+  pub fills : Fills clients old new
+  pub each : (length fills.steps ≡ 256 * fills.frames) ⊎ IsSettled clients new.state.facts
+
+-- what stands of one batch that was asked for where a step was left
 abbrev pub SettlesOne : StoreValue → StoreValue → Result (Unit {0}) StoreFault → Type 0
 SettlesOne old new (Ok _) = (new.closed ≡ false) × (room_of new.state.facts < room_of old.state.facts)
 SettlesOne old new (Err fault.Memory) = new.closed ≡ false
