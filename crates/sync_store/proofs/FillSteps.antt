@@ -1,5 +1,6 @@
 -- Settling by filled batches, one batch after another.
-use Rattle.std.proofs.Common.{◌≡◌, ◌⊎◌, ℕ, ◌+◌, ◌*◌, ◌<◌, ◌≤◌, List, [], ◌∷◌, ◌++◌, length, refl, sym, ap, ◌∙◌, subst, inl, inr, arith, length-append}
+use Rattle.std.proofs.Common.{◌≡◌, ◌⊎◌, ◌↔◌, ℕ, ◌+◌, ◌*◌, ◌<◌, ◌≤◌, Bool, false, IsTrue, List, [], ◌∷◌, ◌++◌, length, refl, sym, ap, ◌∙◌, subst, inl, inr, arith, length-append}
+use Rattle.std.proofs.lemmas.Bool.{false≢true}
 use Rattle.sync_rules.specs.declared.entries.Entry.{Entry}
 use Rattle.sync_rules.specs.Clients.{Meaning}
 use Rattle.sync_rules.specs.Facts.{Facts, after, after_all}
@@ -73,3 +74,7 @@ fills_each_then clients s0 s1 s2 so_far unsettled second =
             | inr settled ↦ inr settled
           ];
     }
+
+-- a store of which the test says so has a step left
+pub unsettled : (clients : Meaning) (f : Facts) (b : Bool) → IsTrue b ↔ IsSettled clients f → b ≡ false → IsSettled clients f → ⊥
+unsettled clients f b means failed settled = false≢true (sym failed ∙ means.1 settled)
