@@ -50,13 +50,14 @@ pub record MayAdd (clients : Meaning) (s : StoreValue) (batch : List Entry) (fra
   pub still_roomy : s.end + length framed + room_of (after_all s.state.facts batch) ≤ most_bytes
 
 -- Closed comes exactly where the store was closed, and Full exactly where it was not and the journal would pass the limit; the
--- others come only behind these. After DiskFault the store is closed, after any other error all is as before.
+-- others come only behind these. After any error all is as before, but that the store is closed after DiskFault.
 abbrev pub Commits : StoreValue → StoreValue → List Entry → Result (Unit {0}) StoreFault → Type 0
 Commits old new batch (Ok _) = (old.closed ≡ false) × (needed old batch ≤ old.limit) × Gains old new batch
 Commits old new batch (Err fault.Closed) = (old.closed ≡ true) × Stays old new
 Commits old new batch (Err fault.Full) = (old.closed ≡ false) × (old.limit < needed old batch) × Stays old new
 Commits old new batch (Err fault.Memory) = (old.closed ≡ false) × (needed old batch ≤ old.limit) × Stays old new
-Commits old new batch (Err fault.DiskFault) = (old.closed ≡ false) × (needed old batch ≤ old.limit) × (new.closed ≡ true)
+Commits old new batch (Err fault.DiskFault) =
+    (old.closed ≡ false) × (needed old batch ≤ old.limit) × Stays (record old { closed = true }) new
 
 -- the files are as before after an error for which no call on the disk was made
 abbrev pub Untouched : Result (Unit {0}) StoreFault → Option (Two File) → Option (Two File) → Type 0
