@@ -9,7 +9,7 @@ use std::alloc::Global;
 use sync_store::{InitFault, LoadFault, Store};
 
 /// The end of the journal that has no frames.
-const EMPTY: u64 = 15;
+pub(crate) const EMPTY: u64 = 15;
 
 /// How many images stood for no store, and how many for the empty journal.
 #[derive(Clone, Copy, Default)]

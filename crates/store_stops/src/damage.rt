@@ -78,7 +78,12 @@ fn load_two(rt: &impl Print, alloc: Global) -> Result<()> {
         let label = format_args!("generations {first} and {second}");
         load(rt, alloc, &label, &of_generation(first), &headed(1, second))?;
     }
-    let bad = changed(19, 0x63);
+    load_formats(rt, alloc)?;
+    load_fronts(rt, alloc)
+}
+
+/// Two files, one of which is of a format that is not known.
+fn load_formats(rt: &impl Print, alloc: Global) -> Result<()> {
     let other = changed(5, 9);
     load(
         rt,
@@ -107,7 +112,12 @@ fn load_two(rt: &impl Print, alloc: Global) -> Result<()> {
         &"file 0 of format 9, generations 1 and 2",
         &other,
         &headed(1, 2),
-    )?;
+    )
+}
+
+/// Two files, one of which has a bad frame, ends early or is closed.
+fn load_fronts(rt: &impl Print, alloc: Global) -> Result<()> {
+    let bad = changed(19, 0x63);
     load(
         rt,
         alloc,

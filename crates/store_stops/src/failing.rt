@@ -1,5 +1,5 @@
 //! Each call of a disk that fails in turn, with no crash: the answer, the store after it, and the next load.
-use crate::beginning::{begun, count_calls};
+use crate::beginning::{EMPTY, begun, count_calls};
 use crate::compare::compare;
 use crate::device::{AddFault, end_of};
 use crate::files::{GROUP, disk_with};
@@ -64,7 +64,7 @@ fn fail_init(rt: &impl Print, alloc: Global, bare: &MemDisk, stop: u64, calls: u
         &Err(InitFault::DiskFault),
     )?;
     let want = if stop.saturating_add(1) == calls {
-        Ok(15)
+        Ok(EMPTY)
     } else {
         Err(LoadFault::NoStore)
     };
