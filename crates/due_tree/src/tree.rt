@@ -2,7 +2,7 @@
 ghost use Rattle.std.specs.Prelude.{◌≡◌, ◌-◌, ◌<◌, ◌++◌, ◌↔◌, [], IfOk, OnOk, OnErr, IsTrue, None, Some, length, replicate, slice_set, slice_get};
 ghost use Rattle.due_tree.specs.Due.{first_due, next_due};
 
-use crate::cells::{first_cell, moved, put, size_for};
+use crate::cells::{at, descend, first_cell, is_due, moved, put, size_for};
 use std::alloc::{AllocError, Global};
 use std::marker::Model;
 
@@ -124,7 +124,12 @@ impl DueTree {
     pub fn first_at_most(&self, bound: u64) -> Option<usize>
         ensures { result ≡ first_due bound self.now }
     {
-        self.next_at_most(0, bound)
+        // The root has the least number of all.
+        if !is_due(at(&self.cells, 1), bound) {
+            return None;
+        }
+        let cell = descend(&self.cells, self.leaves, 1, self.height, bound);
+        Some(cell - self.leaves)
     }
 
     /// The first place from `from` on whose number is there and at most the bound; `None` exactly where there is none.

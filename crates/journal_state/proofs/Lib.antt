@@ -34,5 +34,6 @@ pub mod MoreHeld
 pub mod Levelled
 pub mod Served
 pub mod Allowed
+pub mod Authored
 pub mod Roomy
 pub mod Unknown

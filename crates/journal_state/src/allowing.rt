@@ -83,6 +83,7 @@ impl State {
     }
 
     /// Whether a message may be written.
+    #[tactic(auto, using(crate::proofs::Authored::authored))]
     fn allows_author<C: Clients>(
         &self,
         alloc: Global,
@@ -93,12 +94,12 @@ impl State {
         requires { IsIdOf known.now message.now }
         ensures { IfOk result (λ yes. yes ≡ may_author (C.meaning clients.now) self.now.facts message.now) }
     {
-        let group = message.group();
-        if !self.knows_group(&group) || self.find(&id_known(known, message)).is_some() {
+        if self.find(&id_known(known, message)).is_some() {
             return Ok(false);
         }
+        // A message whose group is not known is refused.
         let judgement = judgement_of(alloc, clients, &self.table, message)?;
-        Ok(self.accepts_served(&group, &judgement))
+        Ok(self.accepts_served(&message.group(), &judgement))
     }
 
     /// What is due on a session at this time.

@@ -126,8 +126,14 @@ impl States {
         requires { number < length self.old.waits }
         ensures { self.new ≡ record self.old { waits = slice_set self.old.waits number waiting } }
     {
+        let had = has_step(self.waits[number]);
+        let has = has_step(waiting);
         self.waits[number] = waiting;
-        if has_step(waiting) {
+        // The tree changes only where a step comes or goes.
+        if had == has {
+            return;
+        }
+        if has {
             self.ready.set(number, 0);
         } else {
             self.ready.clear(number);
