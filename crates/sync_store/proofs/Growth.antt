@@ -1,5 +1,5 @@
 -- A store that gains a batch.
-use Rattle.std.proofs.Common.{◌≡◌, ℕ, ◌+◌, ◌*◌, ◌≤◌, ◌<◌, Bool, true, false, eqb, nat_lt, List, [], ◌∷◌, ◌++◌, length, Option, Some, Result, Ok, Err, IsErr, refl, sym, ap, ◌∙◌, subst, inl, inr, arith}
+use Rattle.std.proofs.Common.{◌≡◌, ◌⊎◌, ℕ, ◌+◌, ◌*◌, ◌≤◌, ◌<◌, Bool, true, false, eqb, nat_lt, List, [], ◌∷◌, ◌++◌, length, Option, Some, Result, Ok, Err, IsErr, refl, sym, ap, ◌∙◌, subst, inl, inr, arith}
 use Rattle.std.specs.List.{AllByRecursion}
 use Rattle.std.proofs.lemmas.Bool.Decides.{nat_tests}
 use Rattle.outside.specs.Files.{Two, File, file_of}
@@ -13,6 +13,7 @@ use Rattle.sync_rules.specs.declared.entries.Entry.TheVariants as entry
 use Rattle.sync_rules.specs.Clients.{Meaning}
 use Rattle.sync_rules.specs.Facts.{Facts, after, after_all, after_batches, takes_of}
 use Rattle.sync_rules.specs.Legal.{Allowed, AllSettling, IsSettling, IsSettlingBatch}
+use Rattle.sync_rules.specs.Steps.{IsSettled}
 use Rattle.sync_rules.proofs.StepLaws.{IsSettlingEntry, next_is_settling}
 use Rattle.entry_codec.specs.Laws.{PayloadsFitFrames, payload}
 use Rattle.entry_codec.specs.Spelling.{IsEntry}
@@ -21,7 +22,7 @@ use Rattle.sync_store.specs.declared.fault.StoreFault.{StoreFault}
 use Rattle.sync_store.specs.declared.fault.StoreFault.TheVariants as fault
 use Rattle.sync_store.specs.Store.{StoreValue, IsStore}
 use Rattle.sync_store.specs.Fitting.{Fits, FitsSome}
-use Rattle.sync_store.specs.Commits.{Commits, Gains, IsStep, MayAdd, Proceeds, SettlesSo, framed_of, needed}
+use Rattle.sync_store.specs.Commits.{Commits, Fills, FillsEach, Gains, IsStep, MayAdd, Proceeds, SettlesSo, framed_of, needed}
 use Rattle.sync_store.specs.Moments.{Adds, AtMost, Extends, Settles, added}
 use Rattle.sync_store.proofs.Batches.{after-append, framed_long, settling-append}
 use Rattle.sync_store.proofs.FitSteps.{adds_err, adds_ok, extends_none}
@@ -188,6 +189,31 @@ filled_proceeds clients s new facts es framed f came = record {
   steps = record { more = es ∷ []; settling = ((f.some, f.few, f.settling), tt); after = came.facts_are ∙ f.facts_are };
   file = came.file;
   limit = came.limit;
+}
+
+-- the steps stand in one frame
+pub filled_one : (clients : Meaning) (s new : StoreValue) (facts : Facts) (es : List Entry) (framed : List ℕ) → Filled clients s facts es framed → Came s new facts → new.end ≡ s.end + length framed
+    → Fills clients s new
+filled_one clients s new facts es framed f came end = record {
+  steps = es;
+  settling = f.settling;
+  facts = came.facts_are ∙ f.facts_are;
+  frames = 1;
+  end = omega (arith, end, length_by es framed f.framed_is, f.long);
+  enough = omega (arith, f.few);
+  fewest = omega (arith, f.some);
+}
+
+pub filled_each : (clients : Meaning) (s new : StoreValue) (facts : Facts) (es : List Entry) (framed : List ℕ) (n : ℕ) → Filled clients s facts es framed → Came s new facts → new.end ≡ s.end + length framed
+    → length es ≡ n → (n ≡ 256) ⊎ IsSettled clients facts → FillsEach clients s new
+unfolding filled_one
+filled_each clients s new facts es framed n f came end long full = record {
+  fills = filled_one clients s new facts es framed f came end;
+  each =
+      elim full [
+        | inl all ↦ inl (long ∙ all)
+        | inr settled ↦ inr (subst (λ (g : Facts). IsSettled clients g) (sym came.facts_are) settled)
+      ];
 }
 
 pub filled_ok : (clients : Meaning) (s new : StoreValue) (facts : Facts) (es : List Entry) (framed : List ℕ) (o o' : Outside) → Filled clients s facts es framed → Came s new facts → new.end ≡ s.end + length framed → new.closed ≡ false

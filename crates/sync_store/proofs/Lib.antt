@@ -5,6 +5,7 @@ mod Stands
 mod Batches
 mod FitSteps
 mod SettleSteps
+mod FillSteps
 mod RoomSteps
 mod BeginSteps
 mod Latencies

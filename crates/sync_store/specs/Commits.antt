@@ -1,5 +1,5 @@
 -- What a commit and a settling answer, and what stands after each answer.
-use Rattle.std.specs.Prelude.{◌≡◌, ℕ, ◌+◌, ◌<◌, ◌≤◌, Bool, true, false, List, [], ◌∷◌, ◌++◌, length, Option, Result, Ok, Err}
+use Rattle.std.specs.Prelude.{◌≡◌, ◌⊎◌, ℕ, ◌+◌, ◌*◌, ◌<◌, ◌≤◌, Bool, true, false, List, [], ◌∷◌, ◌++◌, length, Option, Result, Ok, Err}
 use Rattle.std.specs.Int.{w32, to_be_bytes}
 use Rattle.std.specs.List.{AllByRecursion}
 use Rattle.outside.specs.Files.{Two, File}
@@ -9,7 +9,7 @@ use Rattle.sync_rules.specs.declared.entries.Entry.{Entry}
 use Rattle.sync_rules.specs.declared.entries.Entry.TheVariants as entry
 use Rattle.sync_rules.specs.Clients.{Meaning}
 use Rattle.sync_rules.specs.Facts.{Facts, after_all, after_batches}
-use Rattle.sync_rules.specs.Legal.{Allowed, AllSettling}
+use Rattle.sync_rules.specs.Legal.{Allowed, AllSettling, IsSettling}
 use Rattle.sync_rules.specs.Steps.{IsSettled}
 use Rattle.entry_codec.specs.Laws.{payload}
 use Rattle.entry_codec.specs.Spelling.{IsEntry}
@@ -50,13 +50,14 @@ pub record MayAdd (clients : Meaning) (s : StoreValue) (batch : List Entry) (fra
   pub still_roomy : s.end + length framed + room_of (after_all s.state.facts batch) ≤ most_bytes
 
 -- Closed comes exactly where the store was closed, and Full exactly where it was not and the journal would pass the limit; the
--- others come only behind these. After DiskFault the store is closed, after any other error all is as before.
+-- others come only behind these. After any error all is as before, but that the store is closed after DiskFault.
 abbrev pub Commits : StoreValue → StoreValue → List Entry → Result (Unit {0}) StoreFault → Type 0
 Commits old new batch (Ok _) = (old.closed ≡ false) × (needed old batch ≤ old.limit) × Gains old new batch
 Commits old new batch (Err fault.Closed) = (old.closed ≡ true) × Stays old new
 Commits old new batch (Err fault.Full) = (old.closed ≡ false) × (old.limit < needed old batch) × Stays old new
 Commits old new batch (Err fault.Memory) = (old.closed ≡ false) × (needed old batch ≤ old.limit) × Stays old new
-Commits old new batch (Err fault.DiskFault) = (old.closed ≡ false) × (needed old batch ≤ old.limit) × (new.closed ≡ true)
+Commits old new batch (Err fault.DiskFault) =
+    (old.closed ≡ false) × (needed old batch ≤ old.limit) × Stays (record old { closed = true }) new
 
 -- the files are as before after an error for which no call on the disk was made
 abbrev pub Untouched : Result (Unit {0}) StoreFault → Option (Two File) → Option (Two File) → Type 0
@@ -91,7 +92,23 @@ pub record Proceeds (clients : Meaning) (old new : StoreValue) : Type 0 where
   pub file : new.file ≡ old.file
   pub limit : new.limit ≡ old.limit
 
--- the same of one batch that was asked for where a step was left
+-- A store that was settled by filled batches: behind its journal stand the steps that were made, in the fewest frames that hold
+-- them, so that each frame but the last has 256. A step's entry has 33 bytes, and a frame has 5 beside its entries.
+pub record Fills (clients : Meaning) (old new : StoreValue) : Type 0 where
+  pub steps : List Entry
+  pub settling : IsSettling clients old.state.facts steps
+  pub facts : new.state.facts ≡ after_all old.state.facts steps
+  pub frames : ℕ
+  pub end : new.end ≡ old.end + 33 * length steps + 5 * frames
+  pub enough : length steps ≤ 256 * frames
+  pub fewest : 256 * frames < length steps + 256
+
+-- the same where each frame has 256 steps, or no step is left
+pub record FillsEach (clients : Meaning) (old new : StoreValue) : Type 0 where
+  pub fills : Fills clients old new
+  pub each : (length fills.steps ≡ 256 * fills.frames) ⊎ IsSettled clients new.state.facts
+
+-- what stands of one batch that was asked for where a step was left
 abbrev pub SettlesOne : StoreValue → StoreValue → Result (Unit {0}) StoreFault → Type 0
 SettlesOne old new (Ok _) = (new.closed ≡ false) × (room_of new.state.facts < room_of old.state.facts)
 SettlesOne old new (Err fault.Memory) = new.closed ≡ false

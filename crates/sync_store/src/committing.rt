@@ -33,8 +33,8 @@ impl Store {
     /// Commits a batch, which may follow the journal and is no settling batch. Before its first call on the disk it takes all the
     /// memory that it needs. `Closed` comes exactly where an earlier call answered `DiskFault`; then `Full` exactly where the
     /// journal, the frame and the room that settling may then need pass the limit. After `Closed`, `Full` and `Memory` all is as
-    /// before, and no call on the disk was made; after `DiskFault` the store is closed. At each moment the files stand for the
-    /// journal or for it with the batch, and after `Ok` every crash leaves the latter.
+    /// before, and no call on the disk was made; after `DiskFault` the store is closed, and else as before. At each moment the files
+    /// stand for the journal or for it with the batch, and after `Ok` every crash leaves the latter.
     pub fn commit<D: Disk, C: Clients>(
         &mut self,
         disk: &mut D,
@@ -120,7 +120,7 @@ impl Store {
         requires kind { is_settling_kind batch ≡ false }
         requires room { HasRoom self.old.state batch }
         ensures ok { OnOk result (Gains self.old self.new batch) }
-        ensures err { IfErr result (λ e. (e ≡ StoreFault.DiskFault) × (self.new.closed ≡ true)) }
+        ensures err { IfErr result (λ e. (e ≡ StoreFault.DiskFault) × (self.new ≡ record self.old { closed = true })) }
         ensures extends { (two : Two File) → (D.tells disk.old).files ≡ Some two → (j : List (List Entry)) → Fits (C.meaning clients.now) self.old j two
             → Adds (C.meaning clients.now) batch result self.new (D.tells disk.old) (D.tells disk.new) j }
         ensures knows { OnOk result (Knows (C.meaning clients.now) self.old.state → Knows (C.meaning clients.now) self.new.state) }

@@ -1,5 +1,5 @@
 //! The steps of a journal, committed until it is settled.
-ghost use Rattle.std.specs.Prelude.{◌≡◌, ◌+◌, ◌<◌, ◌≤◌, [], false, true, Some, length, max, vec_capacity, vec_len, IfErr, IsErrOf, OnErr, OnOk};
+ghost use Rattle.std.specs.Prelude.{◌≡◌, ◌⊎◌, ◌+◌, ◌<◌, ◌≤◌, [], false, true, Some, length, max, vec_capacity, vec_len, IfErr, IsErrOf, OnErr, OnOk};
 ghost use Rattle.std.specs.Option.{ForSome};
 ghost use Rattle.outside.specs.Faults.{HasCause, Rose};
 ghost use Rattle.outside.specs.Files.{Two, File, file_of};
@@ -13,7 +13,7 @@ ghost use Rattle.sync_rules.specs.Facts.{after_all};
 ghost use Rattle.sync_rules.specs.Legal.{IsSettling};
 ghost use Rattle.sync_rules.specs.Steps.{IsSettled};
 ghost use Rattle.entry_codec.specs.Standing.{room_of};
-ghost use Rattle.sync_store.specs.Commits.{Proceeds, SettlesOne, SettlesSo};
+ghost use Rattle.sync_store.specs.Commits.{Fills, FillsEach, Proceeds, SettlesOne, SettlesSo};
 ghost use Rattle.sync_store.specs.Fitting.{FitsSome};
 ghost use Rattle.sync_store.specs.Moments.{Settles};
 
@@ -39,6 +39,7 @@ impl Store {
         requires knows { self.old.closed ≡ false → Knows (C.meaning clients.now) self.old.state }
         ensures answer { SettlesSo (C.meaning clients.now) self.old self.new result }
         ensures proceeds { Proceeds (C.meaning clients.now) self.old self.new }
+        ensures filled { self.new.closed ≡ false → Fills (C.meaning clients.now) self.old self.new }
         ensures settles { self.old.closed ≡ false → Settles (C.meaning clients.now) self.old self.new (D.tells disk.old) (D.tells disk.new) }
         ensures closed { self.old.closed ≡ true → disk.new ≡ disk.old }
         ensures fits { FitsSome (C.meaning clients.now) self.new (D.tells disk.new).files }
@@ -58,6 +59,7 @@ impl Store {
         requires knows { self.old.closed ≡ false → Knows (C.meaning clients.now) self.old.state }
         ensures answer { SettlesSo (C.meaning clients.now) self.old self.new result }
         ensures proceeds { Proceeds (C.meaning clients.now) self.old self.new }
+        ensures filled { self.new.closed ≡ false → Fills (C.meaning clients.now) self.old self.new }
         ensures settles { self.old.closed ≡ false → Settles (C.meaning clients.now) self.old self.new (D.tells disk.old) (D.tells disk.new) }
         ensures closed { self.old.closed ≡ true → disk.new ≡ disk.old }
         ensures knows { self.new.closed ≡ false → Knows (C.meaning clients.now) self.new.state }
@@ -85,6 +87,8 @@ impl Store {
         requires unsettled { IsSettled (C.meaning clients.now) self.old.state.facts → ⊥ }
         ensures answer { SettlesOne self.old self.new result }
         ensures proceeds { Proceeds (C.meaning clients.now) self.old self.new }
+        ensures filled { self.new.closed ≡ false → Fills (C.meaning clients.now) self.old self.new }
+        ensures each { OnOk result (FillsEach (C.meaning clients.now) self.old self.new) }
         ensures settles { Settles (C.meaning clients.now) self.old self.new (D.tells disk.old) (D.tells disk.new) }
         ensures knows { Knows (C.meaning clients.now) self.new.state }
         ensures run { DiskRun (D.tells disk.old) (D.tells disk.new) }
@@ -113,6 +117,8 @@ impl Store {
         requires frame_room { 8453 ≤ vec_capacity framed }
         ensures answer { SettlesOne self.old self.new result }
         ensures proceeds { Proceeds (C.meaning clients.now) self.old self.new }
+        ensures filled { self.new.closed ≡ false → Fills (C.meaning clients.now) self.old self.new }
+        ensures each { OnOk result (FillsEach (C.meaning clients.now) self.old self.new) }
         ensures settles { Settles (C.meaning clients.now) self.old self.new (D.tells disk.old) (D.tells disk.new) }
         ensures knows { Knows (C.meaning clients.now) self.new.state }
         ensures run { DiskRun (D.tells disk.old) (D.tells disk.new) }
@@ -166,6 +172,7 @@ fn fill<C: Clients>(
     ensures facts { state.new.facts ≡ after_all state.old.facts entries.new.items }
     ensures knows { Knows (C.meaning clients.now) state.new }
     ensures none { OnOk result (entries.new.items ≡ [] → IsSettled (C.meaning clients.now) state.old.facts) }
+    ensures full { OnOk result ((vec_len entries.new ≡ 256) ⊎ IsSettled (C.meaning clients.now) state.new.facts) }
 {
     'steps: for _made in 0..MOST_STEPS {
         let Some(entry) = state.step(alloc, clients)? else {

@@ -5,11 +5,11 @@ use Rattle.sync_rules.specs.Facts.{Facts, after_all}
 use Rattle.sync_rules.specs.Legal.{IsSettling}
 use Rattle.entry_codec.specs.Standing.{room_of}
 use Rattle.sync_store.specs.Store.{StoreValue}
-use Rattle.sync_store.specs.Commits.{Proceeds}
+use Rattle.sync_store.specs.Commits.{Fills, FillsEach, Proceeds}
 use Rattle.sync_store.specs.Moments.{Settles}
 use Rattle.sync_store.specs.Inside.{value_of}
 use Rattle.sync_store.proofs.FitSteps.{rests}
-use Rattle.sync_store.proofs.Growth.{Came, Filled, all_settle, filled_err, filled_less, filled_may, filled_ok, filled_proceeds, filled_room, length_nil, none_by, settles_none, some_by, stepped_store}
+use Rattle.sync_store.proofs.Growth.{Came, Filled, all_settle, filled_each, filled_err, filled_less, filled_may, filled_ok, filled_one, filled_proceeds, filled_room, length_nil, none_by, settles_none, some_by, stepped_store}
 use Rattle.sync_store.specs.Fitting.{FitsSome}
 use Rattle.sync_store.proofs.store.Store.settle_into.Goals as goal
 
@@ -282,3 +282,85 @@ returns-clause-settles g c =
     subst (λ (v : StoreValue). Settles clients v c.write.new.self o o') c.self.view_is
     (filled_ok clients s c.write.new.self c.fill-filled.new.state.facts es framed o o' filled came (ap (λ (v : StoreValue). v.end) c.in_ok-write.ensures.ok) (ap (λ (v : StoreValue). v.closed) c.in_ok-write.ensures.ok ∙ still)
     c.in_ok-write.ensures.any_moment c.in_ok-write.ensures.appended)
+
+pub returns-in_err-filled-2-clause-filled : goal.returns-in_err-filled-2-clause-filled
+returns-in_err-filled-2-clause-filled g c _ =
+    let clients = g.C.Clients.meaning c.args.clients.now in
+    let s = value_of c.self.inside in
+    let es = c.as_slice.result.now in
+    let settling : IsSettling clients s.state.facts es = subst (λ (xs : List Entry). IsSettling clients s.state.facts xs) (sym c.as_slice.ensures.value) c.fill-filled.ensures.steps in
+    let facts : c.fill-filled.new.state.facts ≡ after_all s.state.facts es = c.fill-filled.ensures.facts ∙ ap (λ (xs : List Entry). after_all s.state.facts xs) (sym c.as_slice.ensures.value) in
+    let still : s.closed ≡ false = ap (λ (v : StoreValue). v.closed) c.self.view_is ∙ c.requires.still_open in
+    let framed = c.as_slice-2.result.now in
+    let filled : Filled clients s c.fill-filled.new.state.facts es framed = record {
+      settling = settling;
+      some = some_by c.is_empty.result _ (length es) c.is_empty.ensures c.if-is_empty.false c.as_slice.ensures.len;
+      few = omega (arith, c.fill-filled.ensures.few, c.as_slice.ensures.len);
+      facts_are = facts;
+      within = c.frame_steps.ensures.within;
+      framed_is = c.as_slice-2.ensures.value ∙ c.frame_steps.ensures.framed;
+      long = c.frame_steps.ensures.len;
+      store = c.self.invariant;
+      still = still;
+    } in
+    let came : Came s c.write.new.self c.fill-filled.new.state.facts = record {
+      facts_are = ap (λ (v : StoreValue). v.state.facts) c.in_ok-write.ensures.ok;
+      file = ap (λ (v : StoreValue). v.file) c.in_ok-write.ensures.ok;
+      limit = ap (λ (v : StoreValue). v.limit) c.in_ok-write.ensures.ok;
+    } in
+    subst (λ (v : StoreValue). Fills clients v c.write.new.self) c.self.view_is (filled_one clients s c.write.new.self c.fill-filled.new.state.facts es framed filled came (ap (λ (v : StoreValue). v.end) c.in_ok-write.ensures.ok))
+
+pub returns-clause-filled : goal.returns-clause-filled
+returns-clause-filled g c _ =
+    let clients = g.C.Clients.meaning c.args.clients.now in
+    let s = value_of c.self.inside in
+    let es = c.as_slice.result.now in
+    let settling : IsSettling clients s.state.facts es = subst (λ (xs : List Entry). IsSettling clients s.state.facts xs) (sym c.as_slice.ensures.value) c.fill-filled.ensures.steps in
+    let facts : c.fill-filled.new.state.facts ≡ after_all s.state.facts es = c.fill-filled.ensures.facts ∙ ap (λ (xs : List Entry). after_all s.state.facts xs) (sym c.as_slice.ensures.value) in
+    let still : s.closed ≡ false = ap (λ (v : StoreValue). v.closed) c.self.view_is ∙ c.requires.still_open in
+    let framed = c.as_slice-2.result.now in
+    let filled : Filled clients s c.fill-filled.new.state.facts es framed = record {
+      settling = settling;
+      some = some_by c.is_empty.result _ (length es) c.is_empty.ensures c.if-is_empty.false c.as_slice.ensures.len;
+      few = omega (arith, c.fill-filled.ensures.few, c.as_slice.ensures.len);
+      facts_are = facts;
+      within = c.frame_steps.ensures.within;
+      framed_is = c.as_slice-2.ensures.value ∙ c.frame_steps.ensures.framed;
+      long = c.frame_steps.ensures.len;
+      store = c.self.invariant;
+      still = still;
+    } in
+    let came : Came s c.write.new.self c.fill-filled.new.state.facts = record {
+      facts_are = ap (λ (v : StoreValue). v.state.facts) c.in_ok-write.ensures.ok;
+      file = ap (λ (v : StoreValue). v.file) c.in_ok-write.ensures.ok;
+      limit = ap (λ (v : StoreValue). v.limit) c.in_ok-write.ensures.ok;
+    } in
+    subst (λ (v : StoreValue). Fills clients v c.write.new.self) c.self.view_is (filled_one clients s c.write.new.self c.fill-filled.new.state.facts es framed filled came (ap (λ (v : StoreValue). v.end) c.in_ok-write.ensures.ok))
+
+pub returns-clause-each : goal.returns-clause-each
+returns-clause-each g c =
+    let clients = g.C.Clients.meaning c.args.clients.now in
+    let s = value_of c.self.inside in
+    let es = c.as_slice.result.now in
+    let settling : IsSettling clients s.state.facts es = subst (λ (xs : List Entry). IsSettling clients s.state.facts xs) (sym c.as_slice.ensures.value) c.fill-filled.ensures.steps in
+    let facts : c.fill-filled.new.state.facts ≡ after_all s.state.facts es = c.fill-filled.ensures.facts ∙ ap (λ (xs : List Entry). after_all s.state.facts xs) (sym c.as_slice.ensures.value) in
+    let still : s.closed ≡ false = ap (λ (v : StoreValue). v.closed) c.self.view_is ∙ c.requires.still_open in
+    let framed = c.as_slice-2.result.now in
+    let filled : Filled clients s c.fill-filled.new.state.facts es framed = record {
+      settling = settling;
+      some = some_by c.is_empty.result _ (length es) c.is_empty.ensures c.if-is_empty.false c.as_slice.ensures.len;
+      few = omega (arith, c.fill-filled.ensures.few, c.as_slice.ensures.len);
+      facts_are = facts;
+      within = c.frame_steps.ensures.within;
+      framed_is = c.as_slice-2.ensures.value ∙ c.frame_steps.ensures.framed;
+      long = c.frame_steps.ensures.len;
+      store = c.self.invariant;
+      still = still;
+    } in
+    let came : Came s c.write.new.self c.fill-filled.new.state.facts = record {
+      facts_are = ap (λ (v : StoreValue). v.state.facts) c.in_ok-write.ensures.ok;
+      file = ap (λ (v : StoreValue). v.file) c.in_ok-write.ensures.ok;
+      limit = ap (λ (v : StoreValue). v.limit) c.in_ok-write.ensures.ok;
+    } in
+    subst (λ (v : StoreValue). FillsEach clients v c.write.new.self) c.self.view_is
+    (filled_each clients s c.write.new.self c.fill-filled.new.state.facts es framed _ filled came (ap (λ (v : StoreValue). v.end) c.in_ok-write.ensures.ok) c.as_slice.ensures.len c.in_ok-filled-2.ensures.full)
