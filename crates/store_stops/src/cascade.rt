@@ -89,7 +89,14 @@ fn settle_whole(rt: &impl Print, alloc: Global, disk: &MemDisk) -> Result<u64> {
     let mut device = load(alloc, disk.image(Pick::New)?)?;
     let calls = device.disk().calls();
     settle_rest(rt, alloc, &mut device)?;
+    look_again(rt, alloc, device)?;
     Ok(calls)
+}
+
+/// Loads the settled journal, whose deliveries stand.
+fn look_again(rt: &impl Print, alloc: Global, device: Node) -> Result<()> {
+    let device = device.load_again(alloc)?;
+    compare(rt, &"a cascade loaded again", &counts(&device), &(600, 600))
 }
 
 /// Settles, whereupon all are delivered by the three batches.
