@@ -1,6 +1,7 @@
 // A message taken in piece by piece.
 
-ghost use Rattle.std.specs.Prelude.{◌≡◌, ℕ, ◌+◌, ◌-◌, ◌*◌, ◌^◌, ◌<◌, ◌≤◌, ◌↔◌, ◌++◌, List, [], length, take, replicate, IsErr, IfOk};
+ghost use Rattle.std.specs.Prelude.{◌≡◌, ℕ, ◌+◌, ◌-◌, ◌*◌, ◌^◌, ◌<◌, ◌≤◌, ◌↔◌, ◌++◌, List, []};
+ghost use Rattle.std.specs.Prelude.{length, take, replicate, IsErr, IfOk};
 ghost use Rattle.bramble_hash.specs.Blake2b.{Holds, blake2b, padded};
 
 use crate::block::{BLOCK_LEN, bytes_of, compress, initial};
@@ -68,7 +69,8 @@ impl<const OUT: usize> Blake2b<OUT> {
         }
     }
 
-    /// A hasher with a key of at most 64 bytes; an empty key is none. A longer key is `KeyTooLong` (RFC 7693, 2.1).
+    /// A hasher with a key of at most 64 bytes; an empty key is none. A longer key is `KeyTooLong`
+    /// (RFC 7693, 2.1).
     pub fn keyed(key: &[u8]) -> Result<Self, KeyTooLong>
         requires least { 1 ≤ OUT }
         requires most { OUT ≤ 64 }
@@ -93,7 +95,8 @@ impl<const OUT: usize> Blake2b<OUT> {
         })
     }
 
-    /// Adds bytes to the message. All bytes together, the key's block of 128 included, are below 2^64 - 128.
+    /// Adds bytes to the message. All bytes together, the key's block of 128 included, are below
+    /// 2^64 - 128.
     pub fn update(&mut self, bytes: &[u8])
         requires { self.old.count + length bytes.now < 2 ^ 64 - 128 }
         ensures count { self.new.count ≡ self.old.count + length bytes.now }
@@ -124,7 +127,8 @@ impl<const OUT: usize> Blake2b<OUT> {
 
     /// The digest of all bytes given (RFC 7693, 3.3).
     pub fn finalize(self) -> [u8; OUT]
-        ensures { (key bytes : List ℕ) → Holds OUT self.entry key bytes → result ≡ blake2b OUT key bytes }
+        ensures { (key bytes : List ℕ) → Holds OUT self.entry key bytes
+            → result ≡ blake2b OUT key bytes }
     {
         let kept = self.kept;
         let mut buffer = self.buffer;

@@ -6,7 +6,8 @@ ghost use Rattle.bramble_hash.specs.Parts.{HoldsParts, PreimagesDiffer, hash};
 use crate::hasher::Blake2b;
 use std::marker::Model;
 
-/// BLAKE2b-256 of a list of parts: of each, its length in four bytes, high byte first, and its bytes.
+/// BLAKE2b-256 of a list of parts: of each, its length in four bytes, high byte first, and its
+/// bytes.
 #[derive(Drop)]
 pub struct Parts {
     hasher: Blake2b<32>,
@@ -31,7 +32,8 @@ impl Parts {
         }
     }
 
-    /// Adds a part of fewer than 2^32 bytes. All parts and their lengths together are below 2^64 - 128.
+    /// Adds a part of fewer than 2^32 bytes. All parts and their lengths together are below 2^64 -
+    /// 128.
     pub fn part(&mut self, bytes: &[u8])
         requires length { length bytes.now < 2 ^ 32 }
         requires room { self.old.count + 4 + length bytes.now < 2 ^ 64 - 128 }

@@ -465,7 +465,8 @@ const CYCLE_B: &str = "831e960d8fba2e9bed19997cf5062ca0ff37bc10e22f56c5e22fcb65b
 const CYCLE_LINES: &str =
     "pending 531972ae2e6cd81929d723c74c35bb629933088dc8431f4372305604e95e6fdf 1 1\npending 831e960d8fba2e9bed19997cf5062ca0ff37bc10e22f56c5e22fcb65b618f33a 2 1\n";
 
-/// A client of every group: a message of time 1 depends on the second of two ids, any other one on the first.
+/// A client of every group: a message of time 1 depends on the second of two ids, any other one on
+/// the first.
 #[derive(Drop)]
 struct Crossed {
     first: MessageId,
@@ -478,7 +479,8 @@ impl Clients for Crossed {
 
     ghost meaning = { λ c. record {
       kind_of = λ name major. Some 0;
-      verdict = λ kind m. judgement.Accept ((if m.timestamp == 1 then c.second else c.first) ∷ []) true;
+      verdict = λ kind m. judgement.Accept ((if m.timestamp == 1 then c.second else c.first) ∷ [])
+          true;
     } };
 
     fn kind_of(&self, _name: &str, _major: u32) -> Option<u8> {

@@ -1,7 +1,8 @@
 //! What the clients say of a body (this project's profile).
 ghost use Rattle.std.specs.Prelude.{◌≡◌, ◌*◌, ◌+◌, ◌≤◌, [], length, take, drop, IfOk};
 ghost use Rattle.std.specs.Str.{is_utf8};
-ghost use Rattle.client_basic.specs.Bodies.{feed_verdict, ids_from, note_verdict, previous_of, thread_verdict, thread_verdict_of};
+ghost use Rattle.client_basic.specs.Bodies.{feed_verdict, ids_from, note_verdict, previous_of};
+ghost use Rattle.client_basic.specs.Bodies.{thread_verdict, thread_verdict_of};
 
 use std::alloc::{AllocError, Global};
 use sync_ids::{Fixed, MessageId};
@@ -65,8 +66,9 @@ fn read_ids(alloc: Global, count: u8, bytes: &[u8]) -> Result<Vec<MessageId>, Al
     Ok(ids)
 }
 
-/// A thread's judgement: a body whose ids are not whole, or of which two are equal, or whose text is not UTF-8, is refused,
-/// and any other depends on its parents in order. It fails only for want of memory.
+/// A thread's judgement: a body whose ids are not whole, or of which two are equal, or whose text
+/// is not UTF-8, is refused, and any other depends on its parents in order. It fails only for want
+/// of memory.
 pub fn judge_thread(alloc: Global, body: &[u8]) -> Result<Judgement, AllocError>
     ensures { IfOk result (λ a. a ≡ thread_verdict body.now) }
 {
@@ -111,8 +113,8 @@ fn previous(alloc: Global, id: MessageId) -> Result<DepList, AllocError>
     }
 }
 
-/// A feed's judgement: a body of fewer than 32 bytes, or whose text is not UTF-8, is refused, and any other depends on the
-/// previous message, if there is one. It fails only for want of memory.
+/// A feed's judgement: a body of fewer than 32 bytes, or whose text is not UTF-8, is refused, and
+/// any other depends on the previous message, if there is one. It fails only for want of memory.
 pub fn judge_feed(alloc: Global, body: &[u8]) -> Result<Judgement, AllocError>
     ensures { IfOk result (λ a. a ≡ feed_verdict body.now) }
 {

@@ -1,23 +1,26 @@
 //! The bundled clients.
 ghost use Rattle.std.specs.Prelude.{◌≡◌};
-ghost use Rattle.client_basic.specs.Bodies.{bundle_meaning, feed_meaning, note_meaning, thread_meaning};
+ghost use Rattle.client_basic.specs.Bodies.{bundle_meaning, feed_meaning, note_meaning};
+ghost use Rattle.client_basic.specs.Bodies.{thread_meaning};
 
 use crate::bodies::{judge_feed, judge_note, judge_thread};
 use std::alloc::{AllocError, Global};
 use sync_ids::Message;
 use sync_rules::{Clients, Judgement};
 
-/// The client of notes, kind 0: a body is a text in UTF-8. Its groups have the name `note` and major version 0.
+/// The client of notes, kind 0: a body is a text in UTF-8. Its groups have the name `note` and
+/// major version 0.
 #[derive(Clone, Copy, Debug)]
 pub struct Note;
 
-/// The client of threads, kind 1: a body is a count byte, so many parent ids of 32 bytes, and a text in UTF-8, perhaps
-/// empty. Its groups have the name `thread` and major version 0.
+/// The client of threads, kind 1: a body is a count byte, so many parent ids of 32 bytes, and a
+/// text in UTF-8, perhaps empty. Its groups have the name `thread` and major version 0.
 #[derive(Clone, Copy, Debug)]
 pub struct Thread;
 
-/// The client of feeds, kind 2: a body is the previous id of 32 bytes or 32 zero bytes, and a text in UTF-8, perhaps empty.
-/// A feed message is passed on by its author alone. Its groups have the name `feed` and major version 0.
+/// The client of feeds, kind 2: a body is the previous id of 32 bytes or 32 zero bytes, and a text
+/// in UTF-8, perhaps empty. A feed message is passed on by its author alone. Its groups have the
+/// name `feed` and major version 0.
 #[derive(Clone, Copy, Debug)]
 pub struct Feed;
 

@@ -1,4 +1,5 @@
-//! Bodies at each of their borders, and cascades through the bundled clients in every order of arrival.
+//! Bodies at each of their borders, and cascades through the bundled clients in every order of
+//! arrival.
 use crate::{Bundle, Feed, Note, Thread};
 use std::alloc::Global;
 use std::process::Abort;

@@ -1,4 +1,5 @@
-//! Files that are damaged, cut, or another program's: what a load says of them, and that no command changes them.
+//! Files that are damaged, cut, or another program's: what a load says of them, and that no command
+//! changes them.
 
 use crate::damage_tables::{
     CHANGED, CUT, FOREIGN, Found, GROWN, INVERTED, MAY_NOT_FOLLOW, NO_FRAME, ONE, PAIRS,
@@ -130,7 +131,8 @@ fn files_of(alloc: Global, first: &str, second: &str) -> Result<Files> {
     Ok(Files::new(first, second))
 }
 
-// Two files with open headers: of which the greater generation counts, and of two equal ones file 0.
+// Two files with open headers: of which the greater generation counts, and of two equal ones file
+// 0.
 fn play_pairs<P: Print>(rt: &P, alloc: Global, tally: &mut Tally) -> Result<()> {
     for (first, second, found) in PAIRS {
         let files = files_of(alloc, first, second)?;
@@ -169,7 +171,8 @@ fn play_raw<P: Print>(rt: &P, alloc: Global, tally: &mut Tally) -> Result<()> {
     Ok(())
 }
 
-// Whole frames whose payload is no list of entries, or no batch that may follow the journal before it.
+// Whole frames whose payload is no list of entries, or no batch that may follow the journal before
+// it.
 fn play_payloads<P: Print>(rt: &P, alloc: Global, tally: &mut Tally) -> Result<()> {
     for (before, payload) in MAY_NOT_FOLLOW {
         play_payload(rt, alloc, before, payload, tally)?;

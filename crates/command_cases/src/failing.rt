@@ -1,4 +1,5 @@
-//! Calls that fail: each of the disk, each read of the source, each write of the output and of the error output.
+//! Calls that fail: each of the disk, each read of the source, each write of the output and of the
+//! error output.
 
 ghost use Rattle.std.specs.Prelude.{◌<◌};
 
@@ -24,8 +25,8 @@ pub(crate) fn play_all<P: Print>(rt: &P, alloc: Global, tally: &mut Tally) -> Re
     Ok(())
 }
 
-// Each call of the disk fails in turn; the next command finds the journal from before or the one behind the append,
-// whose gate reads as open from the write on.
+// Each call of the disk fails in turn; the next command finds the journal from before or the one
+// behind the append, whose gate reads as open from the write on.
 fn fail_disk<P: Print>(rt: &P, alloc: Global, scene: &Scene, tally: &mut Tally) -> Result<()> {
     let said = Said::line(alloc, Status::DiskFault, b"disk fault\n")?;
     let calls = scene.calls(alloc)?;
@@ -52,7 +53,8 @@ fn reads_of(input: &[u8]) -> u64 {
     calls_of(input.len(), part_of(input.len()))
 }
 
-// Each read of a command with an input fails in turn, also the one that finds its end, and nothing is added.
+// Each read of a command with an input fails in turn, also the one that finds its end, and nothing
+// is added.
 fn fail_reads<P: Print>(rt: &P, alloc: Global, scene: &Scene, tally: &mut Tally) -> Result<()> {
     if scene.input.is_empty() {
         return Ok(());
@@ -68,7 +70,8 @@ fn fail_reads<P: Print>(rt: &P, alloc: Global, scene: &Scene, tally: &mut Tally)
     Ok(())
 }
 
-// Each write of the output fails in turn: what was added stands, and the front of the text was written.
+// Each write of the output fails in turn: what was added stands, and the front of the text was
+// written.
 fn fail_out<P: Print>(rt: &P, alloc: Global, scene: &Scene, tally: &mut Tally) -> Result<()> {
     let files = scene.files(alloc, scene.stages())?;
     for call in 0..calls_of(scene.out.len(), PIECE) {

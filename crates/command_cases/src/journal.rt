@@ -1,4 +1,5 @@
-//! The bytes that a journal's file should have, from the payloads of its frames in hexadecimal digits.
+//! The bytes that a journal's file should have, from the payloads of its frames in hexadecimal
+//! digits.
 
 use anyhow::Result;
 use std::alloc::Global;

@@ -1,4 +1,5 @@
-//! The greatest numbers of contacts and groups, and the longest body, name and descriptor, each from both sides.
+//! The greatest numbers of contacts and groups, and the longest body, name and descriptor, each
+//! from both sides.
 
 use crate::journal::{add_frame, add_frames, journal_of};
 use crate::journals::EMPTY;
@@ -188,7 +189,8 @@ const PAST_GROUPS: [(&str, &[u8]); 3] = [
 
 const POST: &str = "post 76ff4980d3b5f63962cee45401b6b1bb92efe989c27de4629aac92b18163e6e0 7";
 
-// The message of 32,768 times `x`: its payload but for the body, the payload that settles it, and its line.
+// The message of 32,768 times `x`: its payload but for the body, the payload that settles it, and
+// its line.
 const LONGEST_FRONT: &str =
     "0676ff4980d3b5f63962cee45401b6b1bb92efe989c27de4629aac92b18163e6e000000000000000078000";
 

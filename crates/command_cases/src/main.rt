@@ -1,6 +1,6 @@
-//! Plays the commands of a store over a host in memory, and compares what they print, their status and the files that they
-//! leave with tables. The bytes and ids of the tables are those of an independent program, whose BLAKE2b is that of
-//! Python's hashlib.
+//! Plays the commands of a store over a host in memory, and compares what they print, their status
+//! and the files that they leave with tables. The bytes and ids of the tables are those of an
+//! independent program, whose BLAKE2b is that of Python's hashlib.
 #![tactic(auto)]
 
 mod damage;

@@ -11,7 +11,8 @@ use anyhow::Result;
 use std::alloc::Global;
 use sync_top::Status;
 
-/// A command that is refused: the payloads of the journal, its words and input, and what follows `refused: ` in its line.
+/// A command that is refused: the payloads of the journal, its words and input, and what follows
+/// `refused: ` in its line.
 #[derive(Clone, Copy)]
 struct Refusal {
     before: &'static str,

@@ -9,7 +9,8 @@ use outside::MemDisk;
 use std::alloc::Global;
 use sync_top::Status;
 
-/// A command over a journal. It appends so many frames, and each time the gate of a frame opens there is a new journal.
+/// A command over a journal. It appends so many frames, and each time the gate of a frame opens
+/// there is a new journal.
 #[derive(Clone, Copy)]
 pub(crate) struct Scene {
     /// Whether there is a journal before; `init` begins one, in place of a frame.
@@ -25,7 +26,8 @@ pub(crate) struct Scene {
     pub(crate) shown: [&'static str; 3],
 }
 
-// How many calls of a disk begin a journal or append a frame: a write behind the gate, a sync, the gate, a sync.
+// How many calls of a disk begin a journal or append a frame: a write behind the gate, a sync, the
+// gate, a sync.
 const CALLS: u64 = 4;
 
 impl Scene {
@@ -77,8 +79,9 @@ impl Scene {
         Ok(self.play(alloc, Failing::Nothing)?.disk.calls())
     }
 
-    /// The journal that stands when the call of this number did not come to its end: that before the append which it
-    /// belongs to, or the one behind it from that call of the append on which `opened` names.
+    /// The journal that stands when the call of this number did not come to its end: that before
+    /// the append which it belongs to, or the one behind it from that call of the append on which
+    /// `opened` names.
     pub(crate) fn stage_at(&self, calls: u64, call: u64, opened: u64) -> u64 {
         let appends = self.stages().saturating_mul(CALLS);
         let first = calls.saturating_sub(appends);

@@ -1,4 +1,5 @@
-//! A session with a store, from its beginning: what each command prints, and what it adds to the journal.
+//! A session with a store, from its beginning: what each command prints, and what it adds to the
+//! journal.
 
 use crate::journal::journal_of;
 use crate::journals::EMPTY;

@@ -1,4 +1,5 @@
-//! A source and a sink in memory that move a few bytes at a time, so that a command makes many calls.
+//! A source and a sink in memory that move a few bytes at a time, so that a command makes many
+//! calls.
 ghost use Rattle.std.specs.Prelude.{◌<◌, None};
 
 use outside::{Failed, MemSink, MemSource, Sink, Source};
@@ -6,7 +7,8 @@ use outside::{Failed, MemSink, MemSource, Sink, Source};
 /// The most bytes that a sink takes at a call.
 pub(crate) const PIECE: usize = 7;
 
-/// The most bytes of a source of this length at a call: it is read in about four calls, and then there is its end.
+/// The most bytes of a source of this length at a call: it is read in about four calls, and then
+/// there is its end.
 pub(crate) fn part_of(len: usize) -> usize
     ensures { 0 < result }
 {

@@ -17,7 +17,8 @@ pub(crate) struct Step {
     pub(crate) adds: &'static str,
 }
 
-/// Plays the steps over a disk whose first file should become this one, with the frames of each step behind it.
+/// Plays the steps over a disk whose first file should become this one, with the frames of each
+/// step behind it.
 pub(crate) fn play_steps<P: Print>(
     rt: &P,
     alloc: Global,

@@ -36,8 +36,8 @@ fn stop_scene<P: Print>(rt: &P, alloc: Global, scene: &Scene, tally: &mut Tally)
     Ok(())
 }
 
-// From which call of an append on a crash may leave the gate open: the third writes it, and until the sync behind it
-// it may be as it was or any byte.
+// From which call of an append on a crash may leave the gate open: the third writes it, and until
+// the sync behind it it may be as it was or any byte.
 fn opened(pick: Pick) -> u64 {
     match pick {
         Pick::New | Pick::Ones => 2,
@@ -89,7 +89,8 @@ fn begin_twice<P: Print>(rt: &P, alloc: Global, files: &Files, tally: &mut Tally
     Ok(())
 }
 
-// Whether an `init` leaves the empty journal: done where no file has an open header, and else refused.
+// Whether an `init` leaves the empty journal: done where no file has an open header, and else
+// refused.
 fn begins(alloc: Global, files: &Files) -> Result<bool, AllocError> {
     let said = if files.are_begun() {
         Said::line(alloc, Status::Exists, b"store exists\n")?

@@ -47,7 +47,8 @@ impl Tally {
     }
 }
 
-/// Plays a command over files, and prints its words where it comes out otherwise than it should or leaves other files.
+/// Plays a command over files, and prints its words where it comes out otherwise than it should or
+/// leaves other files.
 pub(crate) fn expect<P: Print>(
     rt: &P,
     alloc: Global,

@@ -1,7 +1,9 @@
 //! Reading and mending the cells of a tree.
-ghost use Rattle.std.specs.Prelude.{◌≡◌, ◌+◌, ◌-◌, ◌*◌, ◌^◌, ◌<◌, ◌≤◌, ◌++◌, true, IfOk, IfSome, IfNone, None, length, drop, slice_set, replicate, vec_len};
+ghost use Rattle.std.specs.Prelude.{◌≡◌, ◌+◌, ◌-◌, ◌*◌, ◌^◌, ◌<◌, ◌≤◌, ◌++◌, true, IfOk, IfSome};
+ghost use Rattle.std.specs.Prelude.{IfNone, None, length, drop, slice_set, replicate, vec_len};
 ghost use Rattle.due_tree.specs.Due.{is_due};
-ghost use Rattle.due_tree.specs.Cells.{lesser, at, least_below, IsTree, IsTreeBut, IsClear, IsShape, IsWhole};
+ghost use Rattle.due_tree.specs.Cells.{lesser, at, least_below, IsTree, IsTreeBut, IsClear};
+ghost use Rattle.due_tree.specs.Cells.{IsShape, IsWhole};
 
 use std::alloc::AllocError;
 
@@ -149,7 +151,8 @@ pub(crate) fn moved(
     requires room { length cells.now.items - old ≤ places }
     requires places { places ≤ leaves }
     ensures tree { IfOk result (λ v. IsTree leaves v.items) }
-    ensures places { IfOk result (λ v. drop leaves v.items ≡ drop old cells.now.items ++ replicate (places - (length cells.now.items - old)) None) }
+    ensures places { IfOk result (λ v. drop leaves v.items ≡ drop old cells.now.items ++ replicate
+        (places - (length cells.now.items - old)) None) }
     ensures len { IfOk result (λ v. vec_len v ≡ leaves + places) }
 {
     let mut wider = Vec::with_capacity(*cells.allocator(), 2 * leaves)?;

@@ -1,13 +1,15 @@
 //! `DueTree`.
-ghost use Rattle.std.specs.Prelude.{◌≡◌, ◌-◌, ◌<◌, ◌++◌, ◌↔◌, [], IfOk, OnOk, OnErr, IsTrue, None, Some, length, replicate, slice_set, slice_get};
+ghost use Rattle.std.specs.Prelude.{◌≡◌, ◌-◌, ◌<◌, ◌++◌, ◌↔◌, [], IfOk, OnOk, OnErr, IsTrue, None};
+ghost use Rattle.std.specs.Prelude.{Some, length, replicate, slice_set, slice_get};
 ghost use Rattle.due_tree.specs.Due.{first_due, next_due};
 
 use crate::cells::{at, descend, first_cell, is_due, moved, put, size_for};
 use std::alloc::{AllocError, Global};
 use std::marker::Model;
 
-/// Places from 0 on, each absent or with a number, among which the first one with a number of at most some bound is found in time
-/// logarithmic in their count. Contracts see the list of the places, each an optional number.
+/// Places from 0 on, each absent or with a number, among which the first one with a number of at
+/// most some bound is found in time logarithmic in their count. Contracts see the list of the
+/// places, each an optional number.
 #[derive(Drop)]
 pub struct DueTree {
     height: usize,
@@ -54,10 +56,11 @@ impl DueTree {
         self.len() == 0
     }
 
-    /// Makes absent places at the end until there are `places` of them, and never takes one away. It alone takes memory; after an
-    /// error all is as before.
+    /// Makes absent places at the end until there are `places` of them, and never takes one away.
+    /// It alone takes memory; after an error all is as before.
     pub fn reserve(&mut self, places: usize) -> Result<(), AllocError>
-        ensures ok { OnOk result (self.new ≡ self.old ++ replicate (places - length self.old) None) }
+        ensures ok { OnOk result (self.new ≡ self.old ++ replicate (places - length self.old)
+            None) }
         ensures err { OnErr result (self.new ≡ self.old) }
     {
         if places <= self.len() {
@@ -73,7 +76,8 @@ impl DueTree {
     /// Makes absent places in the cells that the tree has.
     fn widen(&mut self, places: usize) -> Result<(), AllocError>
         requires more { length self.old < places }
-        ensures ok { OnOk result (self.new ≡ self.old ++ replicate (places - length self.old) None) }
+        ensures ok { OnOk result (self.new ≡ self.old ++ replicate (places - length self.old)
+            None) }
         ensures err { OnErr result (self.new ≡ self.old) }
     {
         if places > self.leaves {
@@ -120,7 +124,8 @@ impl DueTree {
         self.cells[self.leaves + place]
     }
 
-    /// The first place whose number is there and at most the bound; `None` exactly where there is none.
+    /// The first place whose number is there and at most the bound; `None` exactly where there is
+    /// none.
     pub fn first_at_most(&self, bound: u64) -> Option<usize>
         ensures { result ≡ first_due bound self.now }
     {
@@ -132,7 +137,8 @@ impl DueTree {
         Some(cell - self.leaves)
     }
 
-    /// The first place from `from` on whose number is there and at most the bound; `None` exactly where there is none.
+    /// The first place from `from` on whose number is there and at most the bound; `None` exactly
+    /// where there is none.
     pub fn next_at_most(&self, from: usize, bound: u64) -> Option<usize>
         ensures { result ≡ next_due from bound self.now }
     {

@@ -47,8 +47,8 @@ fn write_entries(entries: &[Entry], to: &mut Vec<u8>) -> Result<(), AllocError>
     Ok(())
 }
 
-/// Appends a batch's payload. A session's latency is at least 1. It fails only for want of memory, and
-/// then leaves the bytes as they were.
+/// Appends a batch's payload. A session's latency is at least 1. It fails only for want of memory,
+/// and then leaves the bytes as they were.
 pub fn write_batch(batch: &Batch, to: &mut Vec<u8>) -> Result<(), AllocError>
     requires { AllByRecursion HasLatency batch.now }
     ensures ok { OnOk result (to.new.items ≡ to.old.items ++ payload batch.now) }

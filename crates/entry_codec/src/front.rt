@@ -1,9 +1,11 @@
 //! The bytes that are still to be read, and the parts whose length is fixed.
-ghost use Rattle.std.specs.Prelude.{◌≡◌, ◌≤◌, ◌<◌, ◌^◌, Some, None, MatchResult, IfOk, length, nat_lt};
+ghost use Rattle.std.specs.Prelude.{◌≡◌, ◌≤◌, ◌<◌, ◌^◌, Some, None, MatchResult, IfOk, length};
+ghost use Rattle.std.specs.Prelude.{nat_lt};
 ghost use Rattle.std.specs.Int.{w16, w32, w64};
 ghost use Rattle.std.specs.Str.{IsUtf8};
 ghost use Rattle.entry_codec.specs.Answers.{Reads, ReadsSlice};
-ghost use Rattle.entry_codec.specs.Reading.{byte_in, counted_in, front_in, id_in, is_between, name_in, number_in, passed, time_in, latency_in};
+ghost use Rattle.entry_codec.specs.Reading.{byte_in, counted_in, front_in, id_in, is_between};
+ghost use Rattle.entry_codec.specs.Reading.{name_in, number_in, passed, time_in, latency_in};
 
 use crate::stop::Stop;
 use sync_ids::{Fixed, MAX_TIMESTAMP, MessageId, Nonce};
@@ -107,7 +109,8 @@ impl<'a> Front<'a> {
 
     // A number of two bytes within these limits.
     pub(crate) fn read_count(&mut self, least: usize, most: usize) -> Result<usize, Stop>
-        ensures read { Reads (λ bytes. passed (is_between least most) (number_in w16 bytes)) self.old.rest.now result self.new.rest.now }
+        ensures read { Reads (λ bytes. passed (is_between least most) (number_in w16 bytes))
+            self.old.rest.now result self.new.rest.now }
         ensures least { IfOk result (λ count. least ≤ count) }
         ensures most { IfOk result (λ count. count ≤ most) }
     {
@@ -121,7 +124,8 @@ impl<'a> Front<'a> {
     // Bytes behind their number, which has two bytes and these limits.
     #[tactic(auto, unfolding(crate::specs::Reading::counted_in))]
     pub(crate) fn read_counted(&mut self, least: usize, most: usize) -> Result<&'a [u8], Stop>
-        ensures read { ReadsSlice (counted_in least most) self.old.rest.now result self.new.rest.now }
+        ensures read { ReadsSlice (counted_in least most) self.old.rest.now result
+            self.new.rest.now }
         ensures least { IfOk result (λ front. least ≤ length front.now) }
         ensures most { IfOk result (λ front. length front.now ≤ most) }
     {

@@ -1,6 +1,9 @@
 //! What holds of all spellings. Each function's clause is the law; none does anything.
-ghost use Rattle.entry_codec.specs.Laws.{AllowsIsAllowed, NoneBeginsAnother, PayloadsFitFrames, SpellingsAreShort, SpellingsReadBack};
-ghost use Rattle.entry_codec.specs.StandingLaws.{AllowedAddOne, AllowedHaveLatency, AllowedTakeOne, BatchesReadBack, JournalsStand, PayloadsSpellOnce, StandingIsLegal};
+ghost use Rattle.entry_codec.specs.Laws.{AllowsIsAllowed, NoneBeginsAnother, PayloadsFitFrames};
+ghost use Rattle.entry_codec.specs.Laws.{SpellingsAreShort, SpellingsReadBack};
+ghost use Rattle.entry_codec.specs.StandingLaws.{AllowedAddOne, AllowedHaveLatency, AllowedTakeOne};
+ghost use Rattle.entry_codec.specs.StandingLaws.{BatchesReadBack, JournalsStand, PayloadsSpellOnce};
+ghost use Rattle.entry_codec.specs.StandingLaws.{StandingIsLegal};
 
 /// Whatever `read_entry` finds where an entry is spelled is that entry, whatever follows.
 pub fn spellings_read_back()
@@ -47,7 +50,8 @@ pub fn allowed_take_one()
     ensures { AllowedTakeOne }
 {}
 
-/// Files with the frames of a legal journal, and room for what settling may add, stand for that journal.
+/// Files with the frames of a legal journal, and room for what settling may add, stand for that
+/// journal.
 pub fn journals_stand()
     ensures { JournalsStand }
 {}

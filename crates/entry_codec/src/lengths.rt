@@ -1,7 +1,8 @@
 //! How long the spelling of an entry is.
 ghost use Rattle.std.specs.Prelude.{◌≡◌, ◌+◌, ◌*◌, ◌≤◌, length};
 ghost use Rattle.std.specs.List.{flat_map};
-ghost use Rattle.entry_codec.specs.Spelling.{def_bytes, ids_bytes, message_bytes, out_bytes, session_bytes, spelling, whole};
+ghost use Rattle.entry_codec.specs.Spelling.{def_bytes, ids_bytes, message_bytes, out_bytes};
+ghost use Rattle.entry_codec.specs.Spelling.{session_bytes, spelling, whole};
 
 use sync_ids::{GroupDef, IdList, Message, MessageId};
 use sync_rules::{Entry, Out, Session};

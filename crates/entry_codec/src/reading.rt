@@ -2,7 +2,8 @@
 ghost use Rattle.std.specs.Prelude.{IfOk};
 ghost use Rattle.entry_codec.specs.Laws.{IsRead};
 ghost use Rattle.entry_codec.specs.Answers.{Reads};
-ghost use Rattle.entry_codec.specs.Reading.{entry_of, entry_in, heard_of, known_of, meant, moved_of, id_in, pair_in, step_of};
+ghost use Rattle.entry_codec.specs.Reading.{entry_of, entry_in, heard_of, known_of, meant};
+ghost use Rattle.entry_codec.specs.Reading.{moved_of, id_in, pair_in, step_of};
 
 use crate::front::Front;
 use crate::stop::Stop;
@@ -71,7 +72,8 @@ fn read_moved(alloc: Global, tag: u8, front: &mut Front) -> Result<Entry, Stop>
 
 // What follows the tags 8 to 10.
 fn read_step(tag: u8, front: &mut Front) -> Result<Entry, Stop>
-    ensures { Reads (λ bytes. meant (step_of tag) (id_in bytes)) front.old.rest.now result front.new.rest.now }
+    ensures { Reads (λ bytes. meant (step_of tag) (id_in bytes)) front.old.rest.now result
+        front.new.rest.now }
 {
     let id = front.read_id()?;
     match tag {
@@ -84,7 +86,8 @@ fn read_step(tag: u8, front: &mut Front) -> Result<Entry, Stop>
 
 // What follows the tags 11 to 14.
 fn read_heard(tag: u8, front: &mut Front) -> Result<Entry, Stop>
-    ensures { Reads (λ bytes. meant (heard_of tag) (pair_in bytes)) front.old.rest.now result front.new.rest.now }
+    ensures { Reads (λ bytes. meant (heard_of tag) (pair_in bytes)) front.old.rest.now result
+        front.new.rest.now }
 {
     let (session, id) = read_pair(front)?;
     match tag {
@@ -109,8 +112,8 @@ pub(crate) fn read_tagged(alloc: Global, front: &mut Front) -> Result<Entry, Sto
     }
 }
 
-/// Reads the entry at the front of these bytes. `BadEntry` comes exactly where no front of them is the
-/// spelling of an entry within its limits. It fails only for want of memory.
+/// Reads the entry at the front of these bytes. `BadEntry` comes exactly where no front of them is
+/// the spelling of an entry within its limits. It fails only for want of memory.
 pub fn read_entry(alloc: Global, bytes: &[u8]) -> Result<EntryFound, AllocError>
     ensures { IfOk result (λ found. IsRead bytes.now found) }
 {

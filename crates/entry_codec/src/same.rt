@@ -1,7 +1,10 @@
 //! Whether two entries, or two outputs, are the same.
 ghost use Rattle.std.specs.Prelude.{◌≡◌, true, IfOk};
 ghost use Rattle.std.specs.Cmp.Lexicographic.{pointwise};
-ghost use Rattle.entry_codec.specs.Allows.{id_named, ids_named, is_acks, is_again, is_arrive, is_asked, is_deliver, is_invalid, is_judged, is_offered, is_offers, is_requests, is_seen, is_send, same_entry, same_message, same_out, same_pair};
+ghost use Rattle.entry_codec.specs.Allows.{id_named, ids_named, is_acks, is_again, is_arrive};
+ghost use Rattle.entry_codec.specs.Allows.{is_asked, is_deliver, is_invalid, is_judged, is_offered};
+ghost use Rattle.entry_codec.specs.Allows.{is_offers, is_requests, is_seen, is_send, same_entry};
+ghost use Rattle.entry_codec.specs.Allows.{same_message, same_out, same_pair};
 
 use std::alloc::{AllocError, Global};
 use sync_ids::{Message, MessageId};
@@ -97,7 +100,8 @@ fn is_invalid(id: &MessageId, entry: &Entry) -> bool
     }
 }
 
-/// Whether two entries are the same, of the kinds that settling and records make; never for another kind.
+/// Whether two entries are the same, of the kinds that settling and records make; never for another
+/// kind.
 pub fn same_entry(a: &Entry, b: &Entry) -> bool
     ensures test { result ≡ same_entry a.now b.now }
     ensures same { result ≡ true → a.now ≡ b.now }
@@ -200,7 +204,8 @@ fn id_named(entry: &Entry) -> Option<MessageId>
     }
 }
 
-/// The ids that the entries of a heard list of ids name, in their order. It fails only for want of memory.
+/// The ids that the entries of a heard list of ids name, in their order. It fails only for want of
+/// memory.
 pub fn ids_named(alloc: Global, entries: &[Entry]) -> Result<Vec<MessageId>, AllocError>
     ensures { IfOk result (λ ids. ids.items ≡ ids_named entries.now) }
 {

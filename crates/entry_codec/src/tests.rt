@@ -168,7 +168,8 @@ fn lists_sent(rt: HostRuntime) -> Result<(), Fail> {
     )
 }
 
-// How many bytes the entry takes that begins so and goes on with zeros; none where there is no such entry.
+// How many bytes the entry takes that begins so and goes on with zeros; none where there is no such
+// entry.
 fn used_of(alloc: Global, front: &[u8]) -> Result<Option<usize>, Fail> {
     let mut bytes = Vec::from_slice(alloc, front)?;
     bytes.extend_from_slice(&[0; 50_000])?;

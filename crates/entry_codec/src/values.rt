@@ -2,7 +2,9 @@
 ghost use Rattle.std.specs.Prelude.{◌≡◌, ◌≤◌, length, IfOk};
 ghost use Rattle.std.specs.Str.{IsUtf8};
 ghost use Rattle.entry_codec.specs.Answers.{Reads, ReadsList, ReadsText};
-ghost use Rattle.entry_codec.specs.Reading.{def_in, front_in, ids_in, level_in, list_in, message_in, mode_in, name_in, nonce_in, out_in, session_in};
+ghost use Rattle.entry_codec.specs.Reading.{def_in, front_in, ids_in, level_in, list_in};
+ghost use Rattle.entry_codec.specs.Reading.{message_in, mode_in, name_in, nonce_in, out_in};
+ghost use Rattle.entry_codec.specs.Reading.{session_in};
 
 use crate::front::Front;
 use crate::stop::Stop;
@@ -120,7 +122,8 @@ fn read_ids(alloc: Global, front: &mut Front) -> Result<IdList<1536>, Stop>
 }
 
 fn read_list(alloc: Global, front: &mut Front, count: usize) -> Result<Vec<MessageId>, Stop>
-    ensures read { ReadsList (list_in (front_in 32) count) front.old.rest.now result front.new.rest.now }
+    ensures read { ReadsList (list_in (front_in 32) count) front.old.rest.now result
+        front.new.rest.now }
     ensures len { IfOk result (λ ids. length ids.items ≡ count) }
 {
     let mut ids = Vec::new(alloc);

@@ -2,7 +2,10 @@
 ghost use Rattle.std.specs.Prelude.{◌≡◌, ◌+◌, ◌*◌, ◌++◌, ◌∷◌, ◌≤◌, [], length, OnOk, OnErr};
 ghost use Rattle.std.specs.Int.{w16, w32, w64, to_be_bytes};
 ghost use Rattle.std.specs.List.{AllByRecursion, flat_map};
-ghost use Rattle.entry_codec.specs.Spelling.{AddsTo, HasLatency, IsDef, IsEntry, IsIdList, IsOut, IsSession, Spells, def_bytes, entry_bytes, ids_bytes, level_byte, message_bytes, mode_byte, out_bytes, session_bytes, spelling, whole};
+ghost use Rattle.entry_codec.specs.Spelling.{AddsTo, HasLatency, IsDef, IsEntry, IsIdList, IsOut};
+ghost use Rattle.entry_codec.specs.Spelling.{IsSession, Spells, def_bytes, entry_bytes, ids_bytes};
+ghost use Rattle.entry_codec.specs.Spelling.{level_byte, message_bytes, mode_byte, out_bytes};
+ghost use Rattle.entry_codec.specs.Spelling.{session_bytes, spelling, whole};
 ghost use Rattle.sync_ids.specs.Values.{IsMessage};
 
 use std::alloc::AllocError;
@@ -128,7 +131,8 @@ fn append_number(tag: u8, session: u32, to: &mut Vec<u8>) -> Result<(), AllocErr
 }
 
 fn append_pair(tag: u8, session: u32, id: &MessageId, to: &mut Vec<u8>) -> Result<(), AllocError>
-    ensures ok { OnOk result (to.new.items ≡ to.old.items ++ (tag ∷ (to_be_bytes w32 session ++ whole id.now))) }
+    ensures ok { OnOk result
+        (to.new.items ≡ to.old.items ++ (tag ∷ (to_be_bytes w32 session ++ whole id.now))) }
     ensures within { OnOk result (length id.now ≡ 32) }
     ensures err { OnErr result (AddsTo to.old.items to.new.items) }
 {
@@ -142,7 +146,8 @@ fn append_level(
     level: Level,
     to: &mut Vec<u8>,
 ) -> Result<(), AllocError>
-    ensures ok { OnOk result (to.new.items ≡ to.old.items ++ (3 ∷ contact ∷ (group.now ++ level_byte level ∷ []))) }
+    ensures ok { OnOk result
+        (to.new.items ≡ to.old.items ++ (3 ∷ contact ∷ (group.now ++ level_byte level ∷ []))) }
     ensures within { OnOk result (length group.now ≡ 32) }
     ensures err { OnErr result (AddsTo to.old.items to.new.items) }
 {
@@ -153,7 +158,8 @@ fn append_level(
 }
 
 fn append_take(session: u32, k: u64, to: &mut Vec<u8>) -> Result<(), AllocError>
-    ensures ok { OnOk result (to.new.items ≡ to.old.items ++ (5 ∷ (to_be_bytes w32 session ++ to_be_bytes w64 k))) }
+    ensures ok { OnOk result
+        (to.new.items ≡ to.old.items ++ (5 ∷ (to_be_bytes w32 session ++ to_be_bytes w64 k))) }
     ensures err { OnErr result (AddsTo to.old.items to.new.items) }
 {
     append_number(5, session, to)?;
@@ -161,7 +167,9 @@ fn append_take(session: u32, k: u64, to: &mut Vec<u8>) -> Result<(), AllocError>
 }
 
 fn append_arrival(session: u32, message: &Message, to: &mut Vec<u8>) -> Result<(), AllocError>
-    ensures ok { OnOk result (to.new.items ≡ to.old.items ++ (7 ∷ (to_be_bytes w32 session ++ message_bytes message.now))) }
+    ensures ok { OnOk result
+        (to.new.items ≡ to.old.items
+        ++ (7 ∷ (to_be_bytes w32 session ++ message_bytes message.now))) }
     ensures within { OnOk result (IsMessage message.now) }
     ensures err { OnErr result (AddsTo to.old.items to.new.items) }
 {
@@ -170,7 +178,9 @@ fn append_arrival(session: u32, message: &Message, to: &mut Vec<u8>) -> Result<(
 }
 
 fn append_sent(session: u32, now: u64, what: &Out, to: &mut Vec<u8>) -> Result<(), AllocError>
-    ensures ok { OnOk result (to.new.items ≡ to.old.items ++ (15 ∷ (to_be_bytes w32 session ++ (to_be_bytes w64 now ++ out_bytes whole what.now)))) }
+    ensures ok { OnOk result
+        (to.new.items ≡ to.old.items
+        ++ (15 ∷ (to_be_bytes w32 session ++ (to_be_bytes w64 now ++ out_bytes whole what.now)))) }
     ensures within { OnOk result (IsOut what.now) }
     ensures err { OnErr result (AddsTo to.old.items to.new.items) }
 {
@@ -214,8 +224,8 @@ fn append_tagged(entry: &Entry, to: &mut Vec<u8>) -> Result<(), AllocError>
     }
 }
 
-/// Appends the one spelling of an entry. A session's latency is at least 1. It fails only for want of
-/// memory, and then leaves the bytes as they were.
+/// Appends the one spelling of an entry. A session's latency is at least 1. It fails only for want
+/// of memory, and then leaves the bytes as they were.
 #[tactic(auto, unfolding(crate::specs::Spelling::spelling))]
 pub fn write_entry(entry: &Entry, to: &mut Vec<u8>) -> Result<(), AllocError>
     requires { HasLatency entry.now }

@@ -1,5 +1,6 @@
 //! The frame at a place of a file.
-ghost use Rattle.std.specs.Prelude.{◌≡◌, ◌+◌, ◌-◌, ◌<◌, ◌≤◌, ◌⊎◌, ℕ, List, min, true, take, drop, length, vec_len, IfOk, IfErr, IsErrOf};
+ghost use Rattle.std.specs.Prelude.{◌≡◌, ◌+◌, ◌-◌, ◌<◌, ◌≤◌, ◌⊎◌, ℕ, List, min, true, take, drop};
+ghost use Rattle.std.specs.Prelude.{length, vec_len, IfOk, IfErr, IsErrOf};
 ghost use Rattle.frame_journal.specs.declared.fault.FrameFault.TheVariants as fault;
 ghost use Rattle.std.specs.Option.{ForSome};
 ghost use Rattle.outside.specs.Faults.{HasCause, Rose};
@@ -25,11 +26,13 @@ pub enum Gate {
     Open(u32),
 }
 
-/// Reads the gate at a place of a file of which this length is known, and the length of its payload.
+/// Reads the gate at a place of a file of which this length is known, and the length of its
+/// payload.
 pub fn read_gate<D: Disk>(disk: &mut D, file: u8, place: u64, len: u64) -> Result<Gate, Failed>
     requires file { file < 2 }
     requires place { place < 268435456 }
-    ensures gate { IfOk result (λ gate. ForSome (D.tells disk.old).files (λ two. length (file_of two file).now ≡ len → IsGate (file_of two file).now place gate)) }
+    ensures gate { IfOk result (λ gate. ForSome (D.tells disk.old).files
+        (λ two. length (file_of two file).now ≡ len → IsGate (file_of two file).now place gate)) }
     ensures size { IfOk result (HasSize place) }
     ensures looks { Looks (D.tells disk.old) (D.tells disk.new) }
     ensures fault { HasCause (D.tells disk.old).disk_faults (D.tells disk.new).disk_faults result }
@@ -46,7 +49,8 @@ pub fn read_gate<D: Disk>(disk: &mut D, file: u8, place: u64, len: u64) -> Resul
 // The gate and the length in five bytes, of which so many were read.
 fn gate_in(head: &[u8; 5], n: usize, place: u64, len: u64) -> Gate
     requires place { place < 268435456 }
-    ensures gate { (bytes : List ℕ) → length bytes ≡ len → place < len → n ≡ min 5 (len - place) → take n head.now ≡ take n (drop place bytes) → IsGate bytes place result }
+    ensures gate { (bytes : List ℕ) → length bytes ≡ len → place < len → n ≡ min 5 (len - place)
+        → take n head.now ≡ take n (drop place bytes) → IsGate bytes place result }
     ensures size { HasSize place result }
 {
     if n == 0 {
@@ -67,8 +71,8 @@ fn gate_in(head: &[u8; 5], n: usize, place: u64, len: u64) -> Gate
     Gate::Open(size)
 }
 
-/// Reads so many bytes from a place on into `to`, which afterwards holds them alone. Says whether all
-/// were there.
+/// Reads so many bytes from a place on into `to`, which afterwards holds them alone. Says whether
+/// all were there.
 pub fn read_payload<D: Disk>(
     disk: &mut D,
     file: u8,
@@ -77,11 +81,14 @@ pub fn read_payload<D: Disk>(
     to: &mut Vec<u8>,
 ) -> Result<bool, FrameFault>
     requires { file < 2 }
-    ensures bytes { IfOk result (λ all. ForSome (D.tells disk.old).files (λ two. at + size ≤ length (file_of two file).now → (all ≡ true) × (to.new.items ≡ take size (drop at (file_of two file).now)))) }
+    ensures bytes { IfOk result (λ all. ForSome (D.tells disk.old).files
+        (λ two. at + size ≤ length (file_of two file).now → (all ≡ true)
+        × (to.new.items ≡ take size (drop at (file_of two file).now)))) }
     ensures len { IfOk result (λ all. vec_len to.new ≡ size) }
     ensures looks { Looks (D.tells disk.old) (D.tells disk.new) }
     ensures later { (D.tells disk.old).disk_faults ≤ (D.tells disk.new).disk_faults }
-    ensures fault { IsErrOf result FrameFault.DiskFault → Rose (D.tells disk.old).disk_faults (D.tells disk.new).disk_faults }
+    ensures fault { IsErrOf result FrameFault.DiskFault
+        → Rose (D.tells disk.old).disk_faults (D.tells disk.new).disk_faults }
     ensures undamaged { IfErr result (λ e. e ≡ FrameFault.DiskFault ⊎ e ≡ FrameFault.Memory) }
 {
     to.truncate(0);
@@ -90,8 +97,8 @@ pub fn read_payload<D: Disk>(
     Ok(n == size as usize)
 }
 
-/// Reads the frame at a place of a file of which this length is known, its payload into `to`; answers the
-/// payload's length, or `None` where the gate is closed.
+/// Reads the frame at a place of a file of which this length is known, its payload into `to`;
+/// answers the payload's length, or `None` where the gate is closed.
 pub fn next_at<D: Disk>(
     disk: &mut D,
     file: u8,
@@ -102,11 +109,13 @@ pub fn next_at<D: Disk>(
     requires file { file < 2 }
     requires place { place < 268435456 }
     requires fits { ForSome (D.tells disk.old).files (λ two. length (file_of two file).now ≡ len) }
-    ensures next { ForSome (D.tells disk.old).files (λ two. IsNextAt (file_of two file).now file place to.new.items result) }
+    ensures next { ForSome (D.tells disk.old).files
+        (λ two. IsNextAt (file_of two file).now file place to.new.items result) }
     ensures size { IfOk result (IsSizeOf place (vec_len to.new)) }
     ensures looks { Looks (D.tells disk.old) (D.tells disk.new) }
     ensures later { (D.tells disk.old).disk_faults ≤ (D.tells disk.new).disk_faults }
-    ensures fault { IsErrOf result FrameFault.DiskFault → Rose (D.tells disk.old).disk_faults (D.tells disk.new).disk_faults }
+    ensures fault { IsErrOf result FrameFault.DiskFault
+        → Rose (D.tells disk.old).disk_faults (D.tells disk.new).disk_faults }
 {
     match read_gate(disk, file, place, len) {
         Ok(Gate::Closed) => Ok(None),

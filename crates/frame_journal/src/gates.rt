@@ -1,7 +1,9 @@
 //! Syncs of both files, and the gates of a journal's file.
-ghost use Rattle.std.specs.Prelude.{◌≡◌, ◌<◌, ◌≤◌, [], ◌∷◌, ◌++◌, Some, false, nat_lt, not, ◌&&◌, ◌==◌, length, OnOk};
+ghost use Rattle.std.specs.Prelude.{◌≡◌, ◌<◌, ◌≤◌, [], ◌∷◌, ◌++◌, Some, false, nat_lt, not, ◌&&◌};
+ghost use Rattle.std.specs.Prelude.{◌==◌, length, OnOk};
 ghost use Rattle.std.specs.Int.{w64, to_be_bytes};
-ghost use Rattle.frame_journal.specs.Create.{IsCleared, Clears, Creates, ShutOrBegun, BeforeOrShut, HasShutGate, ShutsGate, Shortens};
+ghost use Rattle.frame_journal.specs.Create.{IsCleared, Clears, Creates, ShutOrBegun, BeforeOrShut};
+ghost use Rattle.frame_journal.specs.Create.{HasShutGate, ShutsGate, Shortens};
 ghost use Rattle.outside.specs.Frames.{is_open};
 ghost use Rattle.std.specs.Option.{ForSome};
 ghost use Rattle.outside.specs.Files.{Two, File, file_of, NothingPending};
@@ -17,7 +19,8 @@ use outside::Disk;
 
 /// Syncs both files, file 0 first: after it a crash leaves what a read gives.
 pub fn barrier<D: Disk>(disk: &mut D) -> Result<(), DiskFault>
-    ensures settled { OnOk result (Becomes Settles (D.tells disk.old).files (D.tells disk.new).files) }
+    ensures settled { OnOk result (Becomes Settles (D.tells disk.old).files
+        (D.tells disk.new).files) }
 
     // At each moment a crash leaves what it might have left before.
     ensures any_moment { AnyImage (D.tells disk.old) (D.tells disk.new) }
@@ -29,13 +32,18 @@ pub fn barrier<D: Disk>(disk: &mut D) -> Result<(), DiskFault>
     Ok(())
 }
 
-/// Writes bytes behind a gate, which stands before `end`, and once they are on the disk opens the gate.
+/// Writes bytes behind a gate, which stands before `end`, and once they are on the disk opens the
+/// gate.
 pub fn open_behind<D: Disk>(disk: &mut D, file: u8, end: u64, bytes: &[u8]) -> Result<(), DiskFault>
     requires file { file < 2 }
     requires behind { 1 ≤ end }
-    requires fits { ForSome (D.tells disk.old).files (λ two. NothingPending two file × (end ≤ length (file_of two file).now)) }
-    ensures opened { OnOk result (Becomes (Opens file end bytes.now) (D.tells disk.old).files (D.tells disk.new).files) }
-    ensures any_moment { (two : Two File) → (D.tells disk.old).files ≡ Some two → Passed two (D.tells disk.old) (D.tells disk.new) file (Gated (file_of two file).now end bytes.now) }
+    requires fits { ForSome (D.tells disk.old).files (λ two. NothingPending two file
+        × (end ≤ length (file_of two file).now)) }
+    ensures opened { OnOk result (Becomes (Opens file end bytes.now) (D.tells disk.old).files
+        (D.tells disk.new).files) }
+    ensures any_moment { (two : Two File) → (D.tells disk.old).files ≡ Some two
+        → Passed two (D.tells disk.old) (D.tells disk.new) file
+        (Gated (file_of two file).now end bytes.now) }
     ensures run { DiskRun (D.tells disk.old) (D.tells disk.new) }
     ensures fault { HasCause (D.tells disk.old).disk_faults (D.tells disk.new).disk_faults result }
 {
@@ -46,13 +54,15 @@ pub fn open_behind<D: Disk>(disk: &mut D, file: u8, end: u64, bytes: &[u8]) -> R
     Ok(())
 }
 
-/// Begins a journal of this generation in a file that was cleared. At each moment the file has no open
-/// header or is that journal; after `Ok` every crash leaves the journal.
+/// Begins a journal of this generation in a file that was cleared. At each moment the file has no
+/// open header or is that journal; after `Ok` every crash leaves the journal.
 pub fn create<D: Disk>(disk: &mut D, file: u8, generation: u64) -> Result<(), DiskFault>
     requires file { file < 2 }
     requires cleared { ForSome (D.tells disk.old).files (λ two. IsCleared two file) }
-    ensures created { OnOk result (Becomes (Creates file generation) (D.tells disk.old).files (D.tells disk.new).files) }
-    ensures any_moment { (two : Two File) → (D.tells disk.old).files ≡ Some two → Passed two (D.tells disk.old) (D.tells disk.new) file (ShutOrBegun generation) }
+    ensures created { OnOk result (Becomes (Creates file generation) (D.tells disk.old).files
+        (D.tells disk.new).files) }
+    ensures any_moment { (two : Two File) → (D.tells disk.old).files ≡ Some two
+        → Passed two (D.tells disk.old) (D.tells disk.new) file (ShutOrBegun generation) }
     ensures run { DiskRun (D.tells disk.old) (D.tells disk.new) }
     ensures fault { HasCause (D.tells disk.old).disk_faults (D.tells disk.new).disk_faults result }
 {
@@ -68,12 +78,15 @@ fn behind_gate(generation: u64) -> [u8; 14]
     [b'B', b'S', b'P', b'J', 1, a, b, c, d, e, f, g, h, 0]
 }
 
-/// Empties a file for a journal: at each moment it is as it was, or has no open header. After `Ok` it is
-/// one byte long, which is no open gate, and nothing is pending in it.
+/// Empties a file for a journal: at each moment it is as it was, or has no open header. After `Ok`
+/// it is one byte long, which is no open gate, and nothing is pending in it.
 pub fn clear<D: Disk>(disk: &mut D, file: u8) -> Result<(), DiskFault>
     requires { file < 2 }
-    ensures cleared { OnOk result (Becomes (Clears file) (D.tells disk.old).files (D.tells disk.new).files) }
-    ensures any_moment { (two : Two File) → (D.tells disk.old).files ≡ Some two → NothingPending two file → Passed two (D.tells disk.old) (D.tells disk.new) file (BeforeOrShut (file_of two file).now) }
+    ensures cleared { OnOk result (Becomes (Clears file) (D.tells disk.old).files
+        (D.tells disk.new).files) }
+    ensures any_moment { (two : Two File) → (D.tells disk.old).files ≡ Some two
+        → NothingPending two file → Passed two (D.tells disk.old) (D.tells disk.new) file
+        (BeforeOrShut (file_of two file).now) }
     ensures run { DiskRun (D.tells disk.old) (D.tells disk.new) }
     ensures fault { HasCause (D.tells disk.old).disk_faults (D.tells disk.new).disk_faults result }
 {
@@ -84,8 +97,11 @@ pub fn clear<D: Disk>(disk: &mut D, file: u8) -> Result<(), DiskFault>
 // Puts a closed gate in the place of an open one, or of none.
 fn shut_gate<D: Disk>(disk: &mut D, file: u8) -> Result<(), DiskFault>
     requires { file < 2 }
-    ensures shut { OnOk result (Becomes (ShutsGate file) (D.tells disk.old).files (D.tells disk.new).files) }
-    ensures any_moment { (two : Two File) → (D.tells disk.old).files ≡ Some two → NothingPending two file → Passed two (D.tells disk.old) (D.tells disk.new) file (BeforeOrShut (file_of two file).now) }
+    ensures shut { OnOk result (Becomes (ShutsGate file) (D.tells disk.old).files
+        (D.tells disk.new).files) }
+    ensures any_moment { (two : Two File) → (D.tells disk.old).files ≡ Some two
+        → NothingPending two file → Passed two (D.tells disk.old) (D.tells disk.new) file
+        (BeforeOrShut (file_of two file).now) }
     ensures run { DiskRun (D.tells disk.old) (D.tells disk.new) }
     ensures fault { HasCause (D.tells disk.old).disk_faults (D.tells disk.new).disk_faults result }
 {
@@ -110,8 +126,11 @@ fn is_shut(n: usize, gate: u8) -> bool
 fn shorten<D: Disk>(disk: &mut D, file: u8) -> Result<(), DiskFault>
     requires file { file < 2 }
     requires shut { ForSome (D.tells disk.old).files (λ two. HasShutGate (file_of two file).now) }
-    ensures shortened { OnOk result (Becomes (Shortens file) (D.tells disk.old).files (D.tells disk.new).files) }
-    ensures any_moment { (two : Two File) → (D.tells disk.old).files ≡ Some two → NothingPending two file → Passed two (D.tells disk.old) (D.tells disk.new) file (λ left. is_open left ≡ false) }
+    ensures shortened { OnOk result (Becomes (Shortens file) (D.tells disk.old).files
+        (D.tells disk.new).files) }
+    ensures any_moment { (two : Two File) → (D.tells disk.old).files ≡ Some two
+        → NothingPending two file → Passed two (D.tells disk.old) (D.tells disk.new) file
+        (λ left. is_open left ≡ false) }
     ensures run { DiskRun (D.tells disk.old) (D.tells disk.new) }
     ensures fault { HasCause (D.tells disk.old).disk_faults (D.tells disk.new).disk_faults result }
 {

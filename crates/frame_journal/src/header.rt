@@ -53,7 +53,8 @@ ghost use Rattle.frame_journal.specs.Header.{IsHeaderOf};
 /// Reads the header of a file: `None` exactly where it is not open.
 pub fn read_header<D: Disk>(disk: &mut D, file: u8) -> Result<Option<Header>, DiskFault>
     requires { file < 2 }
-    ensures header { IfOk result (λ h. ForSome (D.tells disk.old).files (λ two. IsHeaderOf (file_of two file).now h)) }
+    ensures header { IfOk result
+        (λ h. ForSome (D.tells disk.old).files (λ two. IsHeaderOf (file_of two file).now h)) }
     ensures looks { Looks (D.tells disk.old) (D.tells disk.new) }
     ensures fault { HasCause (D.tells disk.old).disk_faults (D.tells disk.new).disk_faults result }
 {
@@ -64,8 +65,11 @@ pub fn read_header<D: Disk>(disk: &mut D, file: u8) -> Result<Option<Header>, Di
 
 // The journal's file by both headers, and its format.
 pub fn journal_of(first: Option<Header>, second: Option<Header>) -> Option<(u8, u8)>
-    ensures file { (two : Two (List ℕ)) → IsHeaderOf two.first first → IsHeaderOf two.second second → journal_file two ≡ option_map (λ found. found.0) result }
-    ensures format { (two : Two (List ℕ)) → IsHeaderOf two.first first → IsHeaderOf two.second second → IfSome result (λ found. found.1 ≡ format_in (file_of two found.0)) }
+    ensures file { (two : Two (List ℕ)) → IsHeaderOf two.first first → IsHeaderOf two.second second
+        → journal_file two ≡ option_map (λ found. found.0) result }
+    ensures format { (two : Two (List ℕ)) → IsHeaderOf two.first first
+        → IsHeaderOf two.second second
+        → IfSome result (λ found. found.1 ≡ format_in (file_of two found.0)) }
     ensures two_files { IfSome result (λ found. found.0 < 2) }
 {
     match (first, second) {

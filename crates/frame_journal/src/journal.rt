@@ -1,5 +1,6 @@
 //! The journal's file: its frames are read in order, and then further ones are added.
-ghost use Rattle.std.specs.Prelude.{◌≡◌, ◌+◌, ◌<◌, ◌≤◌, max, Some, length, OnOk, OnErr, IfOk, IsErrOf};
+ghost use Rattle.std.specs.Prelude.{◌≡◌, ◌+◌, ◌<◌, ◌≤◌, max, Some, length, OnOk, OnErr, IfOk};
+ghost use Rattle.std.specs.Prelude.{IsErrOf};
 ghost use Rattle.frame_journal.specs.Header.{Starts};
 ghost use Rattle.frame_journal.specs.Next.{IsNext, Moves};
 ghost use Rattle.std.specs.Option.{ForSome};
@@ -40,15 +41,16 @@ impl Model for Journal {
 }
 
 impl Journal {
-    /// Finds the journal's file: the one with an open header, of two the one with the greater generation,
-    /// of two equal ones file 0. `NoStore` comes exactly where no header is open, `Damaged` exactly where
-    /// that file's format is not 1.
+    /// Finds the journal's file: the one with an open header, of two the one with the greater
+    /// generation, of two equal ones file 0. `NoStore` comes exactly where no header is open,
+    /// `Damaged` exactly where that file's format is not 1.
     pub fn start<D: Disk>(disk: &mut D) -> Result<Journal, StartFault>
         ensures start { ForSome (D.tells disk.old).files (λ two. Starts (read_files two) result) }
         ensures fresh { IfOk result (λ j. (j.file < 2) × (j.end ≡ 15)) }
         ensures looks { Looks (D.tells disk.old) (D.tells disk.new) }
         ensures later { (D.tells disk.old).disk_faults ≤ (D.tells disk.new).disk_faults }
-        ensures fault { IsErrOf result StartFault.DiskFault → Rose (D.tells disk.old).disk_faults (D.tells disk.new).disk_faults }
+        ensures fault { IsErrOf result StartFault.DiskFault
+            → Rose (D.tells disk.old).disk_faults (D.tells disk.new).disk_faults }
     {
         let first = read_header(disk, 0)?;
         let second = read_header(disk, 1)?;
@@ -67,20 +69,23 @@ impl Journal {
         })
     }
 
-    /// Reads the next frame's payload into `to`, which afterwards holds it alone; `false` exactly at the
-    /// first closed gate. `Damaged` comes exactly where no gate or no whole frame stands at the place.
-    /// After a fault the reader is unchanged, and nothing is said of `to`.
+    /// Reads the next frame's payload into `to`, which afterwards holds it alone; `false` exactly
+    /// at the first closed gate. `Damaged` comes exactly where no gate or no whole frame stands at
+    /// the place. After a fault the reader is unchanged, and nothing is said of `to`.
     pub fn next_frame<D: Disk>(
         &mut self,
         disk: &mut D,
         to: &mut Vec<u8>,
     ) -> Result<bool, FrameFault>
-        requires { ForSome (D.tells disk.old).files (λ two. length (file_of two self.old.file).now ≡ self.old.len) }
-        ensures next { ForSome (D.tells disk.old).files (λ two. IsNext (file_of two self.old.file).now self.old self.new to.new.items result) }
+        requires { ForSome (D.tells disk.old).files
+            (λ two. length (file_of two self.old.file).now ≡ self.old.len) }
+        ensures next { ForSome (D.tells disk.old).files
+            (λ two. IsNext (file_of two self.old.file).now self.old self.new to.new.items result) }
         ensures moves { Moves self.old self.new result }
         ensures looks { Looks (D.tells disk.old) (D.tells disk.new) }
         ensures later { (D.tells disk.old).disk_faults ≤ (D.tells disk.new).disk_faults }
-        ensures fault { IsErrOf result FrameFault.DiskFault → Rose (D.tells disk.old).disk_faults (D.tells disk.new).disk_faults }
+        ensures fault { IsErrOf result FrameFault.DiskFault
+            → Rose (D.tells disk.old).disk_faults (D.tells disk.new).disk_faults }
     {
         let place = self.end - 1;
         match next_at(disk, self.file, place, self.len, to) {
@@ -105,19 +110,30 @@ impl Journal {
         }
     }
 
-    /// Adds a frame at the closed gate, in four calls of the disk. `framed` is the payload's length in
-    /// four bytes, big-endian, the payload of 1 to 65,536 bytes, and a zero byte. At each moment the
-    /// frames are those before or those with the new one whole; after `Ok` every crash leaves it.
+    /// Adds a frame at the closed gate, in four calls of the disk. `framed` is the payload's length
+    /// in four bytes, big-endian, the payload of 1 to 65,536 bytes, and a zero byte. At each moment
+    /// the frames are those before or those with the new one whole; after `Ok` every crash leaves
+    /// it.
     pub fn append<D: Disk>(&mut self, disk: &mut D, framed: &[u8]) -> Result<(), DiskFault>
         requires framed { IsFramed framed.now }
         requires room { self.old.end + length framed.now ≤ 268435456 }
-        requires fits { ForSome (D.tells disk.old).files (λ two. IsAtRest two self.old.file self.old.end) }
-        ensures ok { OnOk result (self.new ≡ record self.old { end = self.old.end + length framed.now; len = max self.old.len (self.old.end + length framed.now) }) }
+        requires fits { ForSome (D.tells disk.old).files
+            (λ two. IsAtRest two self.old.file self.old.end) }
+        ensures ok { OnOk result
+            (self.new ≡ record self.old {
+              end = self.old.end + length framed.now;
+              len = max
+                  self.old.len (self.old.end + length framed.now);
+            }) }
         ensures err { OnErr result (self.new ≡ self.old) }
-        ensures appended { OnOk result (Becomes (Appends self.old.file self.old.end framed.now) (D.tells disk.old).files (D.tells disk.new).files) }
-        ensures any_moment { (two : Two File) → (D.tells disk.old).files ≡ Some two → Passed two (D.tells disk.old) (D.tells disk.new) self.old.file (BeforeOrWith (file_of two self.old.file).now self.old.end framed.now) }
+        ensures appended { OnOk result (Becomes (Appends self.old.file self.old.end framed.now)
+            (D.tells disk.old).files (D.tells disk.new).files) }
+        ensures any_moment { (two : Two File) → (D.tells disk.old).files ≡ Some two
+            → Passed two (D.tells disk.old) (D.tells disk.new) self.old.file
+            (BeforeOrWith (file_of two self.old.file).now self.old.end framed.now) }
         ensures run { DiskRun (D.tells disk.old) (D.tells disk.new) }
-        ensures fault { HasCause (D.tells disk.old).disk_faults (D.tells disk.new).disk_faults result }
+        ensures fault { HasCause (D.tells disk.old).disk_faults (D.tells disk.new).disk_faults
+            result }
     {
         open_behind(disk, self.file, self.end, framed)?;
         self.end += framed.len() as u64;

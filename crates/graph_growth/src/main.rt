@@ -1,4 +1,5 @@
-//! Plays a list of messages that come in the worst order through the waiting graph, for its speed and memory.
+//! Plays a list of messages that come in the worst order through the waiting graph, for its speed
+//! and memory.
 #![tactic(auto)]
 
 ghost use Rattle.std.specs.Prelude.{◌≡◌, ◌<◌};

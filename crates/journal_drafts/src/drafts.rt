@@ -8,7 +8,8 @@ use std::alloc::Global;
 use sync_ids::{Message, group_id};
 use sync_rules::{Batch, Entry, Level, Mode, Out, Session, id_of};
 
-/// How many batches `draft_journal` makes behind those that each journal begins with, at least and at most.
+/// How many batches `draft_journal` makes behind those that each journal begins with, at least and
+/// at most.
 const LEAST_STEPS: u64 = 6;
 
 const MOST_STEPS: u64 = 16;
@@ -130,8 +131,8 @@ impl Draft {
         BEGIN.get(step as usize).copied().unwrap_or(drawn)
     }
 
-    /// A batch of this kind, of up to so many entries, but for steps and crowds; the journal has it then. `None` where it would
-    /// have no entry.
+    /// A batch of this kind, of up to so many entries, but for steps and crowds; the journal has it
+    /// then. `None` where it would have no entry.
     pub fn batch(&mut self, kind: Kind, most: u64) -> Result<Option<Batch>, DraftFault> {
         let number = self.session_number();
         let mut entries = Vec::new(self.alloc);
@@ -189,7 +190,8 @@ impl Draft {
         }
     }
 
-    /// An entry of this kind, on the session of this number where it is one of a session. `None` where there is none now.
+    /// An entry of this kind, on the session of this number where it is one of a session. `None`
+    /// where there is none now.
     fn entry(&mut self, kind: Kind, number: u32) -> Result<Option<Entry>, DraftFault> {
         match kind {
             Kind::Contact => Ok(self.contact_entry()),
@@ -322,7 +324,8 @@ impl Draft {
         Ok(what)
     }
 
-    /// Many entries: about a thousand ids that are offered, or about 64 outputs that send one message.
+    /// Many entries: about a thousand ids that are offered, or about 64 outputs that send one
+    /// message.
     fn add_crowd(
         &mut self,
         entries: &mut Vec<Entry>,

@@ -1,4 +1,5 @@
-//! Random journals, and the rules of a session as they are told: what the answers of other crates are compared with.
+//! Random journals, and the rules of a session as they are told: what the answers of other crates
+//! are compared with.
 #![tactic(auto)]
 
 mod dice;

@@ -87,7 +87,8 @@ pub(crate) fn strange(number: u64) -> MessageId {
     Fixed(id)
 }
 
-/// What the next message may depend on: on none, or on one of the messages before it, mostly of its own group.
+/// What the next message may depend on: on none, or on one of the messages before it, mostly of its
+/// own group.
 fn need_of(earlier: &[Post], turn: u8, dice: &mut Dice) -> Option<MessageId> {
     if dice.one_in(2) {
         return None;
@@ -180,7 +181,8 @@ impl Posts {
         }
     }
 
-    /// Many ids that no message has, some of them wanted where about a thousand are, and some others.
+    /// Many ids that no message has, some of them wanted where about a thousand are, and some
+    /// others.
     fn many_ids(&self, dice: &mut Dice) -> Result<IdList<1536>, DraftFault> {
         let mut ids = Vec::new(self.alloc);
         for _ in 0..40 {

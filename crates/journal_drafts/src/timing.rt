@@ -10,8 +10,8 @@ use sync_rules::{Clients, Judgement};
 /// The kind of a thread.
 const THREAD: u8 = 1;
 
-/// The client of all groups. A body is that of a thread. Of four messages with times in a row two may be sent on, one may
-/// not, and one is refused.
+/// The client of all groups. A body is that of a thread. Of four messages with times in a row two
+/// may be sent on, one may not, and one is refused.
 #[derive(Clone, Copy, Debug)]
 pub struct Timing;
 

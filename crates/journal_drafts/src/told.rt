@@ -1,5 +1,5 @@
-//! The rules of a session as they are told, over the list of a journal's entries: which entry names a pair last, how many
-//! stand behind another. Nothing is kept from one question to the next.
+//! The rules of a session as they are told, over the list of a journal's entries: which entry names
+//! a pair last, how many stand behind another. Nothing is kept from one question to the next.
 
 use crate::timing::may_share;
 use std::alloc::{AllocError, Global};
@@ -193,7 +193,8 @@ fn is_try(lines: Lines<'_>, line: &Line<'_>, contact: u8, id: &MessageId) -> boo
     }
 }
 
-/// How many entries stand behind the last Asked entry of the message on a session with the contact, or all.
+/// How many entries stand behind the last Asked entry of the message on a session with the contact,
+/// or all.
 fn count_after_asked(lines: Lines<'_>, contact: u8, id: &MessageId) -> usize {
     let last = lines
         .iter()

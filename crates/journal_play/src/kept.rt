@@ -1,7 +1,8 @@
 // What is kept of a held message.
 use sync_ids::{Message, MessageId};
 
-/// What the line of a message says: its id, its time in milliseconds, and the length of its body in bytes.
+/// What the line of a message says: its id, its time in milliseconds, and the length of its body in
+/// bytes.
 #[derive(Clone, Copy)]
 pub struct Head {
     pub id: MessageId,

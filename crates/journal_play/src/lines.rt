@@ -29,7 +29,8 @@ pub fn add_line(
     text: &mut String,
 ) -> Result<(), AllocError>
     requires { state ≢ Fate.Unknown }
-    ensures { OnOk result (string_bytes text.new ≡ string_bytes text.old ++ head_line state head.now) }
+    ensures { OnOk result (string_bytes text.new ≡ string_bytes text.old ++ head_line state
+        head.now) }
 {
     try_line(alloc, state, &head.id, head.timestamp, head.len, text)
 }

@@ -1,5 +1,6 @@
 //! A journal of one group and one session in memory.
-ghost use Rattle.std.specs.Prelude.{◌≡◌, ◌≢◌, ℕ, ◌++◌, ◌<◌, ◌^◌, List, [], ◌∷◌, length, IfOk, OnOk, Some, None, slice_get};
+ghost use Rattle.std.specs.Prelude.{◌≡◌, ◌≢◌, ℕ, ◌++◌, ◌<◌, ◌^◌, List, [], ◌∷◌, length, IfOk, OnOk};
+ghost use Rattle.std.specs.Prelude.{Some, None, slice_get};
 ghost use Rattle.std.specs.String.{string_bytes};
 ghost use Rattle.sync_ids.specs.Records.{IsRecord};
 ghost use Rattle.sync_ids.specs.Values.{GroupValue};
@@ -10,8 +11,12 @@ ghost use Rattle.sync_rules.specs.declared.entries.Entry.{Entry};
 ghost use Rattle.sync_rules.specs.declared.states.Fate.TheVariants as fate_kind;
 ghost use Rattle.message_graph.specs.Nodes.{after_step, Ends, next, number_of};
 ghost use Rattle.journal_play.specs.declared.kept.Head.{Head};
-ghost use Rattle.journal_play.specs.Keeping.{ended_as, fresh_in, fresh_one, IsDone, IsFresh, IsJudged, number_in, open_line, open_text, ReachesShown, ShowsStep, taking_in, taking_one, with_head};
-ghost use Rattle.journal_play.specs.Playing.{HasPlayed, IsTextOf, judged_of, shown_of, StandsFor, Story};
+ghost use Rattle.journal_play.specs.Keeping.{ended_as, fresh_in, fresh_one, IsDone, IsFresh};
+ghost use Rattle.journal_play.specs.Keeping.{IsJudged, number_in, open_line, open_text};
+ghost use Rattle.journal_play.specs.Keeping.{ReachesShown, ShowsStep, taking_in, taking_one};
+ghost use Rattle.journal_play.specs.Keeping.{with_head};
+ghost use Rattle.journal_play.specs.Playing.{HasPlayed, IsTextOf, judged_of, shown_of, StandsFor};
+ghost use Rattle.journal_play.specs.Playing.{Story};
 
 use crate::kept::{Fresh, Head};
 use crate::lines::{add_line, make_head};
@@ -24,9 +29,9 @@ use sync_rules::{Clients, Judgement};
 // The number of the one group.
 const GROUP: u32 = 0;
 
-/// A journal of one group and one session, as far as its lines need it. Contracts see the kind of the group's client, the
-/// group's id, what the lines say of the held messages, their nodes in a graph, and the lines so far. A message is let go of
-/// once it was judged.
+/// A journal of one group and one session, as far as its lines need it. Contracts see the kind of
+/// the group's client, the group's id, what the lines say of the held messages, their nodes in a
+/// graph, and the lines so far. A message is let go of once it was judged.
 #[derive(Drop)]
 pub struct Play {
     kind: u8,
@@ -43,16 +48,25 @@ impl Model for Play {
 
     ghost Value = { Played };
 
-    ghost view = { λ p. record { kind = p.kind; group = p.group; heads = p.held.items; nodes = p.graph.nodes; text = string_bytes p.text } };
+    ghost view = { λ p. record {
+      kind = p.kind;
+      group = p.group;
+      heads = p.held.items;
+      nodes =
+          p.graph.nodes;
+      text = string_bytes p.text;
+    } };
 
-    ghost invariant = { λ p. (length p.graph.nodes ≡ length p.held.items) × (length p.held.items < 2 ^ 32) };
+    ghost invariant = { λ p. (length p.graph.nodes ≡ length p.held.items)
+        × (length p.held.items < 2 ^ 32) };
 }
 
 impl Play {
-    /// A journal with this group, whose client has this kind, Visible to contact 0, and one batch session with that contact.
-    /// It fails only for want of memory.
+    /// A journal with this group, whose client has this kind, Visible to contact 0, and one batch
+    /// session with that contact. It fails only for want of memory.
     pub fn begin(alloc: Global, def: GroupDef, kind: u8) -> Result<Play, AllocError>
-        ensures { IfOk result (λ play. (clients : Meaning) → kind_of_def clients def ≡ Some kind → HasPlayed clients def [] play) }
+        ensures { IfOk result (λ play. (clients : Meaning) → kind_of_def clients def ≡ Some kind
+            → HasPlayed clients def [] play) }
     {
         let group = group_id(&def);
         let graph = Graph::new(alloc)?;
@@ -65,15 +79,16 @@ impl Play {
         })
     }
 
-    /// Takes a record, and settles. It fails only for want of memory, also where 2^32 - 1 messages are held, and then it may
-    /// fail from then on.
+    /// Takes a record, and settles. It fails only for want of memory, also where 2^32 - 1 messages
+    /// are held, and then it may fail from then on.
     pub fn hear<C: Clients>(
         &mut self,
         alloc: Global,
         clients: &C,
         heard: Record,
     ) -> Result<(), AllocError>
-        ensures { OnOk result ((def : GroupValue) (records : List Record) → HasPlayed (C.meaning clients.now) def records self.old
+        ensures { OnOk result ((def : GroupValue) (records : List Record)
+            → HasPlayed (C.meaning clients.now) def records self.old
             → HasPlayed (C.meaning clients.now) def (records ++ heard ∷ []) self.new) }
     {
         check_limits(&heard);
@@ -81,9 +96,11 @@ impl Play {
         self.settle(alloc, clients, &just)
     }
 
-    /// What is printed: the lines so far, and then a line for each message that has none. It fails only for want of memory.
+    /// What is printed: the lines so far, and then a line for each message that has none. It fails
+    /// only for want of memory.
     pub fn finish(self, alloc: Global) -> Result<String, AllocError>
-        ensures { IfOk result (λ text. (clients : Meaning) (def : GroupValue) (records : List Record) → HasPlayed clients def records self
+        ensures { IfOk result (λ text. (clients : Meaning) (def : GroupValue)
+            (records : List Record) → HasPlayed clients def records self
             → IsTextOf clients def records (string_bytes text)) }
     {
         let Play {
@@ -156,7 +173,8 @@ impl Play {
         clients: &C,
         just: &Option<Fresh>,
     ) -> Result<(), AllocError>
-        ensures reaches { OnOk result ((story : Story) (def : GroupValue) (k : ℕ) (j : List (List Entry)) → shown_of story ≡ self.old
+        ensures reaches { OnOk result ((story : Story) (def : GroupValue) (k : ℕ)
+            (j : List (List Entry)) → shown_of story ≡ self.old
             → IsFresh just.now story → StandsFor (C.meaning clients.now) def k j story
             → ReachesShown (C.meaning clients.now) def k j story self.new) }
         ensures settled { OnOk result (next self.new.nodes ≡ None) }
@@ -181,7 +199,8 @@ impl Play {
         step: Step,
     ) -> Result<(), AllocError>
         requires { next self.old.nodes ≡ Some step }
-        ensures shows { OnOk result (ShowsStep (C.meaning clients.now) just.now step self.old self.new) }
+        ensures shows { OnOk result (ShowsStep (C.meaning clients.now) just.now step self.old
+            self.new) }
         ensures done { OnOk result (IsDone step self.old.nodes self.new.nodes) }
     {
         match step {
@@ -191,7 +210,8 @@ impl Play {
         }
     }
 
-    // Judges the message that was just held. Another one that is not judged is left of a call that found no memory.
+    // Judges the message that was just held. Another one that is not judged is left of a call that
+    // found no memory.
     fn judge<C: Clients>(
         &mut self,
         alloc: Global,
@@ -225,7 +245,8 @@ impl Play {
         requires ends { Ends step }
         requires number { number_in step ≡ n }
         requires state { state ≢ fate_kind.Unknown }
-        ensures ended { OnOk result ((h : Head) → slice_get self.old.heads n ≡ Some h → self.new ≡ ended_as step state h self.old) }
+        ensures ended { OnOk result ((h : Head) → slice_get self.old.heads n ≡ Some h
+            → self.new ≡ ended_as step state h self.old) }
         ensures done { OnOk result (self.new.nodes ≡ after_step step self.old.nodes) }
     {
         let head = &self.held[n as usize];
@@ -235,7 +256,8 @@ impl Play {
     }
 }
 
-// A batch is legal only where its record is within its limits, which each kind of record says itself.
+// A batch is legal only where its record is within its limits, which each kind of record says
+// itself.
 fn check_limits(record: &Record)
     ensures { IsRecord record.now }
 {
@@ -282,7 +304,8 @@ fn answer_of(alloc: Global, judgement: &Judgement) -> Result<Judged, AllocError>
 // ---- the messages that have no end
 
 fn add_if_open(alloc: Global, fate: Fate, head: &Head, text: &mut String) -> Result<(), AllocError>
-    ensures { OnOk result (string_bytes text.new ≡ string_bytes text.old ++ open_line fate head.now) }
+    ensures { OnOk result (string_bytes text.new ≡ string_bytes text.old ++ open_line fate
+        head.now) }
 {
     match fate {
         Fate::Unknown | Fate::Pending => add_line(alloc, sync_rules::Fate::Pending, head, text),
@@ -299,7 +322,8 @@ fn add_pending(
 ) -> Result<(), AllocError>
     requires each { length graph.now.nodes ≡ length held.now }
     requires few { length held.now < 2 ^ 32 }
-    ensures { OnOk result (string_bytes text.new ≡ string_bytes text.old ++ open_text held.now graph.now.nodes) }
+    ensures { OnOk result (string_bytes text.new ≡ string_bytes text.old ++ open_text held.now
+        graph.now.nodes) }
 {
     for (n, head) in held.iter().enumerate() {
         add_if_open(alloc, graph.fate(n as u32), head, text)?;

@@ -1,5 +1,5 @@
-//! Chains and diamonds in several orders, a refused root, repeats, another group and other records. What is wanted was
-//! made by a program of its own, by the rules alone.
+//! Chains and diamonds in several orders, a refused root, repeats, another group and other records.
+//! What is wanted was made by a program of its own, by the rules alone.
 ghost use Rattle.std.specs.Prelude.{◌≡◌, ◌≤◌, cond, length, true};
 ghost use Rattle.sync_rules.specs.Lists.{has_repeat};
 ghost use Rattle.sync_rules.specs.declared.answers.Judgement.TheVariants as judgement;
@@ -30,8 +30,10 @@ impl Clients for Diamond {
     ghost meaning = { λ c. record {
       kind_of = λ name major. Some 0;
       verdict = λ kind m. cond (same_id (message_id_of m) c.last)
-          (cond (has_repeat (c.left ∷ c.right ∷ [])) judgement.Refuse (judgement.Accept (c.left ∷ c.right ∷ []) true))
-          (cond (same_id (message_id_of m) c.left || same_id (message_id_of m) c.right) (judgement.Accept (c.root ∷ []) true)
+          (cond (has_repeat (c.left ∷ c.right ∷ [])) judgement.Refuse
+          (judgement.Accept (c.left ∷ c.right ∷ []) true))
+          (cond (same_id (message_id_of m) c.left || same_id (message_id_of m) c.right)
+          (judgement.Accept (c.root ∷ []) true)
           (cond c.refuses judgement.Refuse (judgement.Accept [] true)));
     } };
 
@@ -61,7 +63,8 @@ impl Clients for Diamond {
 
 fn accept(ids: Vec<MessageId>) -> Judgement
     requires { length ids.items ≤ 255 }
-    ensures { result ≡ cond (has_repeat ids.items) judgement.Refuse (judgement.Accept ids.items true) }
+    ensures { result ≡ cond (has_repeat ids.items) judgement.Refuse
+        (judgement.Accept ids.items true) }
 {
     match DepList::new(ids) {
         Ok(deps) => Judgement::Accept { deps, share: true },

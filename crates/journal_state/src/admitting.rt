@@ -2,7 +2,8 @@
 ghost use Rattle.std.specs.Prelude.{◌≡◌, ℕ, ◌-◌, ◌^◌, ◌<◌, true, false, length, IfOk};
 ghost use Rattle.sync_rules.specs.Facts.{after, after_all, takes_of};
 ghost use Rattle.sync_rules.specs.Steps.{next};
-ghost use Rattle.entry_codec.specs.Allows.{allows, is_settling, is_settling_kind, is_some_of, same_entry, settles};
+ghost use Rattle.entry_codec.specs.Allows.{allows, is_settling, is_settling_kind, is_some_of};
+ghost use Rattle.entry_codec.specs.Allows.{same_entry, settles};
 ghost use Rattle.journal_state.specs.Whole.{Knows};
 
 use crate::naming::id_brought;
@@ -26,8 +27,8 @@ fn begins_settling(entries: &[Entry]) -> bool
 }
 
 impl State {
-    /// Makes the next step, and answers whether it is this entry; `false` also where no step is open. It fails only for want of
-    /// memory.
+    /// Makes the next step, and answers whether it is this entry; `false` also where no step is
+    /// open. It fails only for want of memory.
     fn play_one<C: Clients>(
         &mut self,
         alloc: Global,
@@ -35,8 +36,11 @@ impl State {
         entry: &Entry,
     ) -> Result<bool, AllocError>
         requires { Knows (C.meaning clients.now) self.old }
-        ensures answer { IfOk result (λ yes. yes ≡ is_some_of same_entry (next (C.meaning clients.now) self.old.facts) entry.now) }
-        ensures taken { IfOk result (λ yes. yes ≡ true → self.new.facts ≡ after self.old.facts entry.now) }
+        ensures answer { IfOk result
+            (λ yes. yes ≡ is_some_of same_entry (next (C.meaning clients.now) self.old.facts)
+            entry.now) }
+        ensures taken { IfOk result (λ yes. yes ≡ true
+            → self.new.facts ≡ after self.old.facts entry.now) }
         ensures knows { Knows (C.meaning clients.now) self.new }
     {
         match self.step(alloc, clients)? {
@@ -45,7 +49,8 @@ impl State {
         }
     }
 
-    /// Makes steps as long as they are these entries, and answers whether they were these. It fails only for want of memory.
+    /// Makes steps as long as they are these entries, and answers whether they were these. It fails
+    /// only for want of memory.
     fn play<C: Clients>(
         &mut self,
         alloc: Global,
@@ -53,8 +58,10 @@ impl State {
         entries: &[Entry],
     ) -> Result<bool, AllocError>
         requires { Knows (C.meaning clients.now) self.old }
-        ensures answer { IfOk result (λ yes. yes ≡ settles (C.meaning clients.now) self.old.facts entries.now) }
-        ensures taken { IfOk result (λ yes. yes ≡ true → self.new.facts ≡ after_all self.old.facts entries.now) }
+        ensures answer { IfOk result (λ yes. yes ≡ settles (C.meaning clients.now) self.old.facts
+            entries.now) }
+        ensures taken { IfOk result (λ yes. yes ≡ true
+            → self.new.facts ≡ after_all self.old.facts entries.now) }
         ensures knows { Knows (C.meaning clients.now) self.new }
     {
         for entry in entries {
@@ -73,8 +80,10 @@ impl State {
         entries: &[Entry],
     ) -> Result<bool, AllocError>
         requires { Knows (C.meaning clients.now) self.old }
-        ensures answer { IfOk result (λ yes. yes ≡ is_settling (C.meaning clients.now) self.old.facts entries.now) }
-        ensures taken { IfOk result (λ yes. yes ≡ true → self.new.facts ≡ after_all self.old.facts entries.now) }
+        ensures answer { IfOk result
+            (λ yes. yes ≡ is_settling (C.meaning clients.now) self.old.facts entries.now) }
+        ensures taken { IfOk result (λ yes. yes ≡ true
+            → self.new.facts ≡ after_all self.old.facts entries.now) }
         ensures knows { Knows (C.meaning clients.now) self.new }
     {
         if entries.len() > MAX_STEPS {
@@ -95,8 +104,10 @@ impl State {
         requires few_held { length self.old.facts.held < 2 ^ 32 - 1 }
         requires few_sessions { length self.old.facts.sessions < 2 ^ 32 - 1 }
         requires few_records { (session : ℕ) → takes_of self.old.facts.takes session < 2 ^ 64 - 1 }
-        ensures answer { IfOk result (λ yes. yes ≡ allows (C.meaning clients.now) self.old.facts batch) }
-        ensures taken { IfOk result (λ yes. yes ≡ true → self.new.facts ≡ after_all self.old.facts batch) }
+        ensures answer { IfOk result (λ yes. yes ≡ allows (C.meaning clients.now) self.old.facts
+            batch) }
+        ensures taken { IfOk result (λ yes. yes ≡ true
+            → self.new.facts ≡ after_all self.old.facts batch) }
         ensures knows { Knows (C.meaning clients.now) self.new }
     {
         let known = id_brought(batch.entries());
@@ -109,8 +120,9 @@ impl State {
         Ok(true)
     }
 
-    /// Tests whether a batch that was read from a file may follow the journal, and takes it where it may. After another answer
-    /// the state stands for the journal as before, with no, some or all of the batch's steps made. It fails only for want of memory.
+    /// Tests whether a batch that was read from a file may follow the journal, and takes it where
+    /// it may. After another answer the state stands for the journal as before, with no, some or
+    /// all of the batch's steps made. It fails only for want of memory.
     pub fn admit<C: Clients>(
         &mut self,
         alloc: Global,
@@ -121,8 +133,10 @@ impl State {
         requires few_held { length self.old.facts.held < 2 ^ 32 - 1 }
         requires few_sessions { length self.old.facts.sessions < 2 ^ 32 - 1 }
         requires few_records { (session : ℕ) → takes_of self.old.facts.takes session < 2 ^ 64 - 1 }
-        ensures answer { IfOk result (λ yes. yes ≡ allows (C.meaning clients.now) self.old.facts batch) }
-        ensures taken { IfOk result (λ yes. yes ≡ true → self.new.facts ≡ after_all self.old.facts batch) }
+        ensures answer { IfOk result (λ yes. yes ≡ allows (C.meaning clients.now) self.old.facts
+            batch) }
+        ensures taken { IfOk result (λ yes. yes ≡ true
+            → self.new.facts ≡ after_all self.old.facts batch) }
         ensures knows { Knows (C.meaning clients.now) self.new }
     {
         if begins_settling(batch.entries()) {

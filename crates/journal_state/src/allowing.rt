@@ -1,5 +1,6 @@
 //! Whether a batch may follow a journal.
-ghost use Rattle.std.specs.Prelude.{◌≡◌, ◌∷◌, ◌&&◌, true, false, is_some, nat_eq, nat_lt, List, IfOk, IfSome, Some};
+ghost use Rattle.std.specs.Prelude.{◌≡◌, ◌∷◌, ◌&&◌, true, false, is_some, nat_eq, nat_lt, List};
+ghost use Rattle.std.specs.Prelude.{IfOk, IfSome, Some};
 ghost use Rattle.std.specs.Cmp.Lexicographic.{pointwise};
 ghost use Rattle.sync_ids.specs.declared.records.Record.TheVariants as record_kind;
 ghost use Rattle.sync_rules.specs.Facts.{group_at, session_at};
@@ -8,7 +9,9 @@ ghost use Rattle.sync_rules.specs.Clients.{Meaning};
 ghost use Rattle.sync_rules.specs.Legal.{suits_nonce};
 ghost use Rattle.sync_rules.specs.Sessions.{due};
 ghost use Rattle.sync_rules.specs.declared.entries.Entry.{Entry};
-ghost use Rattle.entry_codec.specs.Allows.{allows, gives, ids_named, is_due, is_record, is_settling_kind, may_add_group, may_author, may_begin, may_take, read_as, same_entry};
+ghost use Rattle.entry_codec.specs.Allows.{allows, gives, ids_named, is_due, is_record};
+ghost use Rattle.entry_codec.specs.Allows.{is_settling_kind, may_add_group, may_author, may_begin};
+ghost use Rattle.entry_codec.specs.Allows.{may_take, read_as, same_entry};
 ghost use Rattle.journal_state.specs.Allowing.{allows_alone, is_new};
 ghost use Rattle.journal_state.specs.Known.{IsIdOf, IsOfAll, IsOfEntry};
 ghost use Rattle.journal_state.specs.Whole.{Knows};
@@ -37,7 +40,8 @@ fn suits_nonce(session: &Session) -> bool
 
 /// Whether these entries are those of a batch behind its first one.
 fn same_rest(entries: &[Entry], batch: &[Entry]) -> bool
-    ensures { (first : Entry) → (rest : List Entry) → batch.now ≡ first ∷ rest → result ≡ pointwise same_entry entries.now rest }
+    ensures { (first : Entry) → (rest : List Entry) → batch.now ≡ first ∷ rest
+        → result ≡ pointwise same_entry entries.now rest }
 {
     match batch.split_first() {
         None => false,
@@ -67,7 +71,8 @@ impl State {
 
     /// Whether a level may be set for this contact and group.
     fn allows_level(&self, contact: u8, group: &GroupId) -> bool
-        ensures { result ≡ (nat_lt contact self.now.facts.contacts && is_some (group_at self.now.facts.groups group.now)) }
+        ensures { result ≡ (nat_lt contact self.now.facts.contacts && is_some
+            (group_at self.now.facts.groups group.now)) }
     {
         u32::from(contact) < self.contacts() && self.knows_group(group)
     }
@@ -92,7 +97,8 @@ impl State {
         message: &Message,
     ) -> Result<bool, AllocError>
         requires { IsIdOf known.now message.now }
-        ensures { IfOk result (λ yes. yes ≡ may_author (C.meaning clients.now) self.now.facts message.now) }
+        ensures { IfOk result (λ yes. yes ≡ may_author (C.meaning clients.now) self.now.facts
+            message.now) }
     {
         if self.find(&id_known(known, message)).is_some() {
             return Ok(false);
@@ -104,7 +110,8 @@ impl State {
 
     /// What is due on a session at this time.
     fn due_on(&self, alloc: Global, session: &Session, now: u64) -> Result<Option<Out>, AllocError>
-        ensures { (clients : Meaning) → Knows clients self.now → IfOk result (λ what. what ≡ due clients self.now.facts session.now now) }
+        ensures { (clients : Meaning) → Knows clients self.now
+            → IfOk result (λ what. what ≡ due clients self.now.facts session.now now) }
     {
         due(alloc, self, session, now)
     }
@@ -117,7 +124,9 @@ impl State {
         now: u64,
         what: &Out,
     ) -> Result<bool, AllocError>
-        ensures { (clients : Meaning) → Knows clients self.now → IfOk result (λ yes. yes ≡ is_due clients self.now.facts (session_at self.now.facts.sessions session) now what.now) }
+        ensures { (clients : Meaning) → Knows clients self.now
+            → IfOk result (λ yes. yes ≡ is_due clients self.now.facts
+            (session_at self.now.facts.sessions session) now what.now) }
     {
         let Some(session) = self.sessions.find(session) else {
             return Ok(false);
@@ -138,7 +147,8 @@ impl State {
     ) -> Result<bool, AllocError>
         requires knows { Knows (C.meaning clients.now) self.now }
         requires named { IsOfEntry known.now entry.now }
-        ensures { IfOk result (λ yes. yes ≡ allows_alone (C.meaning clients.now) self.now.facts entry.now) }
+        ensures { IfOk result (λ yes. yes ≡ allows_alone (C.meaning clients.now) self.now.facts
+            entry.now) }
     {
         match entry {
             Entry::Contact(contact) => Ok(self.allows_contact(*contact)),
@@ -164,9 +174,11 @@ impl State {
         entries: &[Entry],
         rec: Record,
     ) -> Result<bool, AllocError>
-        requires session { session_at self.now.facts.sessions session.now.number ≡ Some session.now }
+        requires session { session_at self.now.facts.sessions session.now.number ≡ Some
+            session.now }
         requires within { is_record rec ≡ true }
-        ensures { IfOk result (λ yes. yes ≡ gives self.now.facts session.now.number entries.now rec) }
+        ensures { IfOk result (λ yes. yes ≡ gives self.now.facts session.now.number entries.now
+            rec) }
     {
         let batch = take(alloc, self, session, k, rec)?;
         Ok(same_rest(entries, batch.entries()))
@@ -181,7 +193,8 @@ impl State {
         entries: &[Entry],
     ) -> Result<bool, AllocError>
         requires { session_at self.now.facts.sessions session.now.number ≡ Some session.now }
-        ensures { IfOk result (λ yes. yes ≡ gives self.now.facts session.now.number entries.now (record_kind.Ack (ids_named entries.now))) }
+        ensures { IfOk result (λ yes. yes ≡ gives self.now.facts session.now.number entries.now
+            (record_kind.Ack (ids_named entries.now))) }
     {
         match IdList::new(ids_named(alloc, entries)?) {
             Ok(ids) => self.gives_record(alloc, session, k, entries, Record::Ack(ids)),
@@ -198,7 +211,8 @@ impl State {
         entries: &[Entry],
     ) -> Result<bool, AllocError>
         requires { session_at self.now.facts.sessions session.now.number ≡ Some session.now }
-        ensures { IfOk result (λ yes. yes ≡ gives self.now.facts session.now.number entries.now (record_kind.Request (ids_named entries.now))) }
+        ensures { IfOk result (λ yes. yes ≡ gives self.now.facts session.now.number entries.now
+            (record_kind.Request (ids_named entries.now))) }
     {
         match IdList::new(ids_named(alloc, entries)?) {
             Ok(ids) => self.gives_record(alloc, session, k, entries, Record::Request(ids)),
@@ -215,7 +229,8 @@ impl State {
         entries: &[Entry],
     ) -> Result<bool, AllocError>
         requires { session_at self.now.facts.sessions session.now.number ≡ Some session.now }
-        ensures { IfOk result (λ yes. yes ≡ gives self.now.facts session.now.number entries.now (record_kind.Offer (ids_named entries.now))) }
+        ensures { IfOk result (λ yes. yes ≡ gives self.now.facts session.now.number entries.now
+            (record_kind.Offer (ids_named entries.now))) }
     {
         match IdList::new(ids_named(alloc, entries)?) {
             Ok(ids) => self.gives_record(alloc, session, k, entries, Record::Offer(ids)),
@@ -223,7 +238,8 @@ impl State {
         }
     }
 
-    /// Whether a message arrives from the session's contact: its group is not Invisible to the contact, and its id is not held.
+    /// Whether a message arrives from the session's contact: its group is not Invisible to the
+    /// contact, and its id is not held.
     fn is_new(&self, session: &Session, known: &Option<MessageId>, message: &Message) -> bool
         requires { IsIdOf known.now message.now }
         ensures new { result ≡ is_new self.now.facts session.now.contact message.now }
@@ -236,7 +252,8 @@ impl State {
         self.find(&id_known(known, message)).is_none()
     }
 
-    /// Whether a message that arrived is taken as its arrival on a session of this number, and these entries.
+    /// Whether a message that arrived is taken as its arrival on a session of this number, and
+    /// these entries.
     #[tactic(auto, using(crate::proofs::Allowed::arrival_is))]
     fn gives_arrival(
         &self,
@@ -246,9 +263,11 @@ impl State {
         message: &Message,
         rest: &[Entry],
     ) -> bool
-        requires session { session_at self.now.facts.sessions session.now.number ≡ Some session.now }
+        requires session { session_at self.now.facts.sessions session.now.number ≡ Some
+            session.now }
         requires named { IsIdOf known.now message.now }
-        ensures { result ≡ gives self.now.facts session.now.number (Entry.Arrive number message.now ∷ rest.now) (record_kind.Message message.now) }
+        ensures { result ≡ gives self.now.facts session.now.number
+            (Entry.Arrive number message.now ∷ rest.now) (record_kind.Message message.now) }
     {
         let new = self.is_new(session, known, message);
         number == session.number && (rest.is_empty() && new)
@@ -264,8 +283,10 @@ impl State {
         entries: &[Entry],
     ) -> Result<bool, AllocError>
         requires named { IsOfAll known.now entries.now }
-        requires session { session_at self.now.facts.sessions session.now.number ≡ Some session.now }
-        ensures { IfOk result (λ yes. yes ≡ gives self.now.facts session.now.number entries.now (read_as entries.now)) }
+        requires session { session_at self.now.facts.sessions session.now.number ≡ Some
+            session.now }
+        ensures { IfOk result (λ yes. yes ≡ gives self.now.facts session.now.number entries.now
+            (read_as entries.now)) }
     {
         let Some((first, rest)) = entries.split_first() else {
             return Ok(true);
@@ -317,7 +338,8 @@ impl State {
 // ---- batches
 
 impl State {
-    /// Whether a batch that does not begin with a step may follow the journal. It fails only for want of memory.
+    /// Whether a batch that does not begin with a step may follow the journal. It fails only for
+    /// want of memory.
     #[tactic(auto, using(crate::proofs::Unknown::unknown))]
     pub fn allows<C: Clients>(
         &self,
@@ -327,7 +349,8 @@ impl State {
     ) -> Result<bool, AllocError>
         requires knows { Knows (C.meaning clients.now) self.now }
         requires kind { is_settling_kind batch.now ≡ false }
-        ensures { IfOk result (λ yes. yes ≡ allows (C.meaning clients.now) self.now.facts batch.now) }
+        ensures { IfOk result (λ yes. yes ≡ allows (C.meaning clients.now) self.now.facts
+            batch.now) }
     {
         self.allows_knowing(alloc, clients, &None, batch)
     }
@@ -343,7 +366,8 @@ impl State {
         requires knows { Knows (C.meaning clients.now) self.now }
         requires kind { is_settling_kind batch.now ≡ false }
         requires named { IsOfAll known.now batch.now }
-        ensures { IfOk result (λ yes. yes ≡ allows (C.meaning clients.now) self.now.facts batch.now) }
+        ensures { IfOk result (λ yes. yes ≡ allows (C.meaning clients.now) self.now.facts
+            batch.now) }
     {
         let Some((first, rest)) = batch.entries().split_first() else {
             return Ok(false);

@@ -37,7 +37,8 @@ fn brings_message(entries: &[Entry]) -> bool
 }
 
 impl State {
-    /// The room in bytes that settling may need after a batch that may follow the journal, and that is no settling batch.
+    /// The room in bytes that settling may need after a batch that may follow the journal, and that
+    /// is no settling batch.
     pub fn room_with(&self, batch: &Batch) -> u64
         requires allowed { (clients : Meaning) × Allowed clients self.now.facts batch.now }
         requires kind { is_settling_kind batch.now ≡ false }

@@ -1,15 +1,18 @@
 //! `CountedGraph`.
-ghost use Rattle.std.specs.Prelude.{◌≡◌, ◌+◌, ◌-◌, ◌^◌, ◌<◌, ◌++◌, ◌∷◌, [], max, length, IfOk, OnOk, OnErr, None, Some, slice_get};
+ghost use Rattle.std.specs.Prelude.{◌≡◌, ◌+◌, ◌-◌, ◌^◌, ◌<◌, ◌++◌, ◌∷◌, [], max, length, IfOk};
+ghost use Rattle.std.specs.Prelude.{OnOk, OnErr, None, Some, slice_get};
 ghost use Rattle.std.specs.Option.{option_map};
-ghost use Rattle.message_graph.specs.Nodes.{after_step, fate_of, fresh, next, number_of, with_answer, Ends};
+ghost use Rattle.message_graph.specs.Nodes.{after_step, fate_of, fresh, next, number_of};
+ghost use Rattle.message_graph.specs.Nodes.{with_answer, Ends};
 ghost use Rattle.journal_state.specs.Left.{left_in};
 
 use message_graph::{Fate, Graph, Judged, Step};
 use std::alloc::{AllocError, Global};
 use std::marker::Model;
 
-/// The waiting graph of the held messages, with the number of entries that settling may yet add, so that the room for them is told
-/// without a walk. Contracts see the nodes, and for how many more there is room.
+/// The waiting graph of the held messages, with the number of entries that settling may yet add, so
+/// that the room for them is told without a walk. Contracts see the nodes, and for how many more
+/// there is room.
 #[derive(Drop)]
 pub(crate) struct CountedGraph {
     graph: Graph,
@@ -38,7 +41,8 @@ impl CountedGraph {
         Ok(CountedGraph { graph, left: 0 })
     }
 
-    /// Makes room for that many more nodes; it never takes room away. After an error all is as before.
+    /// Makes room for that many more nodes; it never takes room away. After an error all is as
+    /// before.
     pub(crate) fn reserve(&mut self, nodes: usize) -> Result<(), AllocError>
         ensures ok { OnOk result (self.new ≡ record self.old { spare = max self.old.spare nodes }) }
         ensures err { OnErr result (self.new ≡ self.old) }
@@ -52,17 +56,23 @@ impl CountedGraph {
         requires room { 0 < self.old.spare }
         requires few { length self.old.nodes < 2 ^ 32 - 1 }
         ensures number { result ≡ length self.old.nodes }
-        ensures nodes { self.new ≡ record { nodes = self.old.nodes ++ fresh name group ∷ []; spare = self.old.spare - 1 } }
+        ensures nodes { self.new ≡ record {
+          nodes = self.old.nodes ++ fresh name group ∷ [];
+          spare =
+              self.old.spare - 1;
+        } }
     {
         let number = self.graph.hold(name, group);
         self.left += 2;
         number
     }
 
-    /// Takes the answer of a message's client, which is the next step. After an error all is as before.
+    /// Takes the answer of a message's client, which is the next step. After an error all is as
+    /// before.
     pub(crate) fn judged(&mut self, n: u32, answer: Judged) -> Result<(), AllocError>
         requires { next self.old.nodes ≡ Some (Step.Judge n) }
-        ensures ok { OnOk result (self.new ≡ record self.old { nodes = with_answer n answer self.old.nodes }) }
+        ensures ok { OnOk result
+            (self.new ≡ record self.old { nodes = with_answer n answer self.old.nodes }) }
         ensures err { OnErr result (self.new ≡ self.old) }
     {
         self.graph.judged(n, answer)?;
@@ -70,7 +80,8 @@ impl CountedGraph {
         Ok(())
     }
 
-    /// The next step: that of the least number that has one. `None` exactly where no node has a step.
+    /// The next step: that of the least number that has one. `None` exactly where no node has a
+    /// step.
     pub(crate) fn next(&self) -> Option<Step>
         ensures { result ≡ next self.now.nodes }
     {

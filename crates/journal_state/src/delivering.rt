@@ -16,7 +16,8 @@ use sync_ids::GroupId;
 use sync_rules::{Entry, Level, Origin};
 use visibility_table::Levels;
 
-/// Whether a message may be sent to others: it was written here, or its judgement lets it be sent on.
+/// Whether a message may be sent to others: it was written here, or its judgement lets it be sent
+/// on.
 fn is_open(origin: Origin, share: bool) -> bool
     ensures { result ≡ (is_author origin || share) }
 {
@@ -47,7 +48,8 @@ fn reserve_row(retry: &mut Retry, contact: u8, numbers: u32, goes: bool) -> Resu
     retry.reserve(contact, numbers, 0)
 }
 
-/// Makes room for the rows of all numbers below `numbers` at each contact that is known and that a message goes to.
+/// Makes room for the rows of all numbers below `numbers` at each contact that is known and that a
+/// message goes to.
 fn reserve_rows(
     retry: &mut Retry,
     table: &Levels,
@@ -57,7 +59,8 @@ fn reserve_rows(
 ) -> Result<(), AllocError>
     requires few { table.now.contacts ≤ 256 }
     ensures same { Grows retry.old retry.new }
-    ensures room { OnOk result (HasRows retry.new (goes_to table.now.levels group.now outgoing) table.now.contacts numbers) }
+    ensures room { OnOk result (HasRows retry.new (goes_to table.now.levels group.now outgoing)
+        table.now.contacts numbers) }
 {
     for place in 0..table.contacts() {
         let contact = place as u8;
@@ -81,8 +84,10 @@ fn ready_one(retry: &mut Retry, contact: u8, n: u32, goes: bool)
 /// Makes a message ready for each contact that is known and that it goes to.
 fn make_ready(retry: &mut Retry, table: &Levels, group: &GroupId, outgoing: bool, n: u32)
     requires few { table.now.contacts ≤ 256 }
-    requires rows { HasRows retry.old (goes_to table.now.levels group.now outgoing) table.now.contacts (n + 1) }
-    ensures { Readies retry.old retry.new (goes_to table.now.levels group.now outgoing) table.now.contacts n }
+    requires rows { HasRows retry.old (goes_to table.now.levels group.now outgoing)
+        table.now.contacts (n + 1) }
+    ensures { Readies retry.old retry.new (goes_to table.now.levels group.now outgoing)
+        table.now.contacts n }
 {
     for place in 0..table.contacts() {
         let contact = place as u8;
@@ -92,11 +97,15 @@ fn make_ready(retry: &mut Retry, table: &Levels, group: &GroupId, outgoing: bool
 }
 
 impl State {
-    /// Delivers the message of this number, which is the next step. After an error all is as before.
+    /// Delivers the message of this number, which is the next step. After an error all is as
+    /// before.
     pub(crate) fn deliver(&mut self, n: u32) -> Result<(), AllocError>
         requires held { n < length self.old.facts.held }
-        requires next { (clients : Meaning) × (Knows clients self.old × (next clients self.old.facts ≡ Some (Entry.Deliver (id_at self.old.facts.held n)))) }
-        ensures facts { OnOk result (self.new.facts ≡ after self.old.facts (Entry.Deliver (id_at self.old.facts.held n))) }
+        requires next { (clients : Meaning)
+            × (Knows clients self.old
+            × (next clients self.old.facts ≡ Some (Entry.Deliver (id_at self.old.facts.held n)))) }
+        ensures facts { OnOk result
+            (self.new.facts ≡ after self.old.facts (Entry.Deliver (id_at self.old.facts.held n))) }
         ensures answers { self.new.answers ≡ self.old.answers }
         ensures err { OnErr result (self.new.facts ≡ self.old.facts) }
     {

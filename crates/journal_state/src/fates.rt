@@ -28,18 +28,20 @@ fn fate_as(fate: NodeFate) -> Fate
 }
 
 impl State {
-    /// The room in bytes that settling may yet need: 76 for each held message that is not judged, 38 for each that is judged and neither
-    /// delivered nor invalid.
+    /// The room in bytes that settling may yet need: 76 for each held message that is not judged,
+    /// 38 for each that is judged and neither delivered nor invalid.
     pub fn room(&self) -> u64
         ensures { result ≡ room_of self.now.facts }
     {
         STEP_BYTES * self.graph.left()
     }
 
-    /// The state of the held message of this arrival number, which is below the number of held messages.
+    /// The state of the held message of this arrival number, which is below the number of held
+    /// messages.
     pub fn fate(&self, n: u32) -> Fate
         requires { n < length self.now.facts.held }
-        ensures { option_map (λ h. fate_held self.now.facts h.id) (slice_get self.now.facts.held n) ≡ Some result }
+        ensures { option_map (λ h. fate_held self.now.facts h.id) (slice_get self.now.facts.held n)
+            ≡ Some result }
     {
         fate_as(self.graph.fate(n))
     }
@@ -57,7 +59,8 @@ impl State {
     pub fn delivered_at(&self, k: u32) -> u32
         requires { k < length self.now.facts.delivered }
         ensures within { result < length self.now.facts.held }
-        ensures place { (id : Id) → slice_get self.now.facts.delivered k ≡ Some id → IsPlace self.now.facts.held id result }
+        ensures place { (id : Id) → slice_get self.now.facts.delivered k ≡ Some id
+            → IsPlace self.now.facts.held id result }
     {
         self.delivered[k as usize]
     }

@@ -1,5 +1,6 @@
 //! The held messages by id, in order of arrival.
-ghost use Rattle.std.specs.Prelude.{◌≡◌, ◌+◌, ◌-◌, ◌^◌, ◌<◌, ◌++◌, ◌∷◌, [], max, length, IfOk, OnOk, OnErr, None, Some, slice_get};
+ghost use Rattle.std.specs.Prelude.{◌≡◌, ◌+◌, ◌-◌, ◌^◌, ◌<◌, ◌++◌, ◌∷◌, [], max, length, IfOk};
+ghost use Rattle.std.specs.Prelude.{OnOk, OnErr, None, Some, slice_get};
 ghost use Rattle.std.specs.Option.{option_map};
 ghost use Rattle.sync_ids.specs.Ids.{message_id_of};
 ghost use Rattle.sync_rules.specs.Facts.{held_at};
@@ -18,7 +19,8 @@ pub(crate) struct Kept {
     pub(crate) origin: Origin,
 }
 
-/// The held messages by id, in order of arrival. Contracts see the list of them, and for how many more there is room.
+/// The held messages by id, in order of arrival. Contracts see the list of them, and for how many
+/// more there is room.
 #[derive(Drop)]
 pub(crate) struct Messages {
     kept: IndexMap<MessageId, Kept>,
@@ -49,9 +51,11 @@ impl Messages {
         }
     }
 
-    /// Makes room for that many more messages; it never takes room away. After an error all is as before.
+    /// Makes room for that many more messages; it never takes room away. After an error all is as
+    /// before.
     pub(crate) fn reserve(&mut self, messages: usize) -> Result<(), AllocError>
-        ensures ok { OnOk result (self.new ≡ record self.old { room = max self.old.room messages }) }
+        ensures ok { OnOk result
+            (self.new ≡ record self.old { room = max self.old.room messages }) }
         ensures err { OnErr result (self.new ≡ self.old) }
     {
         self.kept.reserve(messages)?;
@@ -66,7 +70,12 @@ impl Messages {
         requires room { 0 < self.old.room }
         requires few { length self.old.held < 2 ^ 32 - 1 }
         ensures { self.new ≡ record {
-          held = self.old.held ++ record { id = message_id_of message; message = message; origin = origin } ∷ [];
+          held = self.old.held ++ record {
+            id = message_id_of message;
+            message = message;
+            origin =
+                origin;
+          } ∷ [];
           room = self.old.room - 1;
         } }
     {

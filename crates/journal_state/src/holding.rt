@@ -1,5 +1,6 @@
 //! A message is held.
-ghost use Rattle.std.specs.Prelude.{◌≡◌, ◌+◌, ◌-◌, ◌^◌, ◌<◌, ◌≤◌, ◌++◌, ◌∷◌, [], true, length, None, is_some};
+ghost use Rattle.std.specs.Prelude.{◌≡◌, ◌+◌, ◌-◌, ◌^◌, ◌<◌, ◌≤◌, ◌++◌, ◌∷◌, [], true, length};
+ghost use Rattle.std.specs.Prelude.{None, is_some};
 ghost use Rattle.sync_ids.specs.Ids.{message_id_of};
 ghost use Rattle.sync_rules.specs.Clients.{Meaning};
 ghost use Rattle.sync_rules.specs.Facts.{group_at, held_at, wanted_by_none};
@@ -23,13 +24,18 @@ fn unwant_from_all(retry: &mut Retry, contacts: u32, id: &MessageId)
 }
 
 impl State {
-    /// Holds a message under its id, where its group is known and the id is new; it is then wanted from nobody.
+    /// Holds a message under its id, where its group is known and the id is new; it is then wanted
+    /// from nobody.
     pub(crate) fn hold(&mut self, id: MessageId, message: Message, origin: Origin)
         requires named { id ≡ message_id_of message }
         requires can { CanHold self.old.facts message }
         requires room { 1 ≤ self.old.room.entries }
         ensures facts { self.new.facts ≡ record self.old.facts {
-          held = self.old.facts.held ++ record { id = message_id_of message; message = message; origin = origin } ∷ [];
+          held = self.old.facts.held ++ record {
+            id = message_id_of message;
+            message = message;
+            origin = origin;
+          } ∷ [];
           wanted = wanted_by_none self.old.facts.wanted (message_id_of message);
         } }
         ensures knows { (clients : Meaning) → Knows clients self.old → Knows clients self.new }

@@ -14,14 +14,16 @@ use sync_ids::{Message, MessageId};
 use sync_rules::{Clients, Entry, Judgement};
 use visibility_table::Levels;
 
-/// What its client says of a message; Refuse where its group or its client is not known. It fails only for want of memory.
+/// What its client says of a message; Refuse where its group or its client is not known. It fails
+/// only for want of memory.
 pub(crate) fn judgement_of<C: Clients>(
     alloc: Global,
     clients: &C,
     table: &Levels,
     message: &Message,
 ) -> Result<Judgement, AllocError>
-    ensures { IfOk result (λ j. j ≡ verdict_in (C.meaning clients.now) table.now.groups message.now) }
+    ensures { IfOk result (λ j. j ≡ verdict_in (C.meaning clients.now) table.now.groups
+        message.now) }
 {
     let Some(number) = table.group(&message.group()) else {
         return Ok(Judgement::Refuse);
@@ -46,7 +48,8 @@ fn names_of(alloc: Global, ids: &[MessageId]) -> Result<Vec<[u8; 32]>, AllocErro
 
 /// A judgement as the graph takes it, and whether the message may be sent on.
 fn answer_of(alloc: Global, judgement: &Judgement) -> Result<(Judged, bool), AllocError>
-    ensures answer { IfOk result (λ answer. answer_of_node (Some answer.0) answer.1 ≡ Some judgement.now) }
+    ensures answer { IfOk result (λ answer. answer_of_node (Some answer.0) answer.1 ≡ Some
+        judgement.now) }
     ensures share { IfOk result (λ answer. answer.1 ≡ may_share (Some judgement.now)) }
 {
     match judgement {
@@ -68,10 +71,13 @@ impl State {
     ) -> Result<(), AllocError>
         requires knows { Knows (C.meaning clients.now) self.old }
         requires held { n < length self.old.facts.held }
-        requires next { next (C.meaning clients.now) self.old.facts ≡ Some (Entry.Judged (id_at self.old.facts.held n)) }
-        ensures facts { OnOk result (self.new.facts ≡ after self.old.facts (Entry.Judged (id_at self.old.facts.held n))) }
+        requires next { next (C.meaning clients.now) self.old.facts ≡ Some
+            (Entry.Judged (id_at self.old.facts.held n)) }
+        ensures facts { OnOk result
+            (self.new.facts ≡ after self.old.facts (Entry.Judged (id_at self.old.facts.held n))) }
         ensures knows { Knows (C.meaning clients.now) self.new }
-        ensures err { OnErr result ((self.new.facts ≡ self.old.facts) × (self.new.answers ≡ self.old.answers)) }
+        ensures err { OnErr result ((self.new.facts ≡ self.old.facts)
+            × (self.new.answers ≡ self.old.answers)) }
     {
         let judgement = judgement_of(alloc, clients, &self.table, self.messages.message(n))?;
         let (answer, share) = answer_of(alloc, &judgement)?;
@@ -83,8 +89,11 @@ impl State {
     /// Ends the message of this number as invalid, which is the next step. It takes no memory.
     pub(crate) fn refuse(&mut self, n: u32)
         requires held { n < length self.old.facts.held }
-        requires next { (clients : Meaning) × (Knows clients self.old × (next clients self.old.facts ≡ Some (Entry.Invalid (id_at self.old.facts.held n)))) }
-        ensures facts { self.new.facts ≡ after self.old.facts (Entry.Invalid (id_at self.old.facts.held n)) }
+        requires next { (clients : Meaning)
+            × (Knows clients self.old
+            × (next clients self.old.facts ≡ Some (Entry.Invalid (id_at self.old.facts.held n)))) }
+        ensures facts { self.new.facts ≡ after self.old.facts
+            (Entry.Invalid (id_at self.old.facts.held n)) }
         ensures knows { (clients : Meaning) → Knows clients self.old → Knows clients self.new }
     {
         self.graph.apply(Step::Invalid(n));

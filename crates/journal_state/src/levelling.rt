@@ -24,7 +24,8 @@ fn is_shared(level: Level) -> bool
 /// Says of a message whether it is ready.
 fn set_ready(retry: &mut Retry, contact: u8, number: u32, ready: bool)
     requires { number < length (rows_of retry.old contact) }
-    ensures { Keeps retry.old retry.new contact number (with_ready ready (kept_at retry.old contact number)) }
+    ensures { Keeps retry.old retry.new contact number
+        (with_ready ready (kept_at retry.old contact number)) }
 {
     if ready {
         retry.ready(contact, number);
@@ -33,7 +34,8 @@ fn set_ready(retry: &mut Retry, contact: u8, number: u32, ready: bool)
     }
 }
 
-/// Says of a delivered message of the group whether it is ready: its group is Shared, and it was written here or may be sent on.
+/// Says of a delivered message of the group whether it is ready: its group is Shared, and it was
+/// written here or may be sent on.
 fn level_one(
     retry: &mut Retry,
     messages: &Messages,
@@ -46,7 +48,9 @@ fn level_one(
     requires rows { number < length (rows_of retry.old contact) }
     requires held { number < length messages.now.held }
     requires share { number < length shares.now }
-    ensures { Keeps retry.old retry.new contact number (levelled_at group.now shared messages.now.held shares.now number (kept_at retry.old contact number)) }
+    ensures { Keeps retry.old retry.new contact number
+        (levelled_at group.now shared messages.now.held shares.now number
+        (kept_at retry.old contact number)) }
 {
     if messages.message(number).group() == *group {
         let own = messages.origin(number) == Origin::Author;
@@ -72,7 +76,8 @@ fn level_all(
     requires rows { length messages.now.held ≤ length (rows_of retry.old contact) }
     requires shares { length shares.now ≡ length messages.now.held }
     requires within { list_all (λ n. nat_lt n (length messages.now.held)) delivered.now ≡ true }
-    ensures { Levels retry.old retry.new contact delivered.now (levelled_at group.now shared messages.now.held shares.now) }
+    ensures { Levels retry.old retry.new contact delivered.now
+        (levelled_at group.now shared messages.now.held shares.now) }
 {
     for number in delivered {
         level_one(retry, messages, shares, *number, contact, group, shared);

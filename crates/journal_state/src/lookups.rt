@@ -1,5 +1,6 @@
 //! Look-ups of groups and of what is served.
-ghost use Rattle.std.specs.Prelude.{◌≡◌, ◌<◌, length, IfSome, MatchOption, None, Some, is_some, slice_get};
+ghost use Rattle.std.specs.Prelude.{◌≡◌, ◌<◌, length, IfSome, MatchOption, None, Some, is_some};
+ghost use Rattle.std.specs.Prelude.{slice_get};
 ghost use Rattle.std.specs.List.{list_all};
 ghost use Rattle.sync_rules.specs.Facts.{group_at};
 ghost use Rattle.sync_rules.specs.Legal.{accepts_served};
@@ -18,7 +19,8 @@ impl State {
     pub fn group(&self, id: &GroupId) -> Option<u32>
         ensures number { result ≡ number_of self.now.facts.groups id.now }
         ensures within { IfSome result (λ n. n < length self.now.facts.groups) }
-        ensures found { MatchOption result (group_at self.now.facts.groups id.now ≡ None) (λ n. slice_get self.now.facts.groups n ≡ group_at self.now.facts.groups id.now) }
+        ensures found { MatchOption result (group_at self.now.facts.groups id.now ≡ None)
+            (λ n. slice_get self.now.facts.groups n ≡ group_at self.now.facts.groups id.now) }
     {
         self.table.group(id)
     }
@@ -41,7 +43,8 @@ impl State {
         }
     }
 
-    /// Whether a dependency of a message of this group is served: it is held in the same group, and delivered.
+    /// Whether a dependency of a message of this group is served: it is held in the same group, and
+    /// delivered.
     pub fn is_served(&self, group: &GroupId, id: &MessageId) -> bool
         ensures { result ≡ is_served self.now.facts group.now id.now }
     {

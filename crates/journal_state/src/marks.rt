@@ -30,7 +30,8 @@ pub(crate) enum Mark {
 /// Notes it in the row of the message of this number.
 pub(crate) fn mark_row(retry: &mut Retry, contact: u8, n: u32, mark: Mark)
     requires { n < length (rows_of retry.old contact) }
-    ensures { Keeps retry.old retry.new contact n (with_row (marked mark) (kept_at retry.old contact n)) }
+    ensures { Keeps retry.old retry.new contact n
+        (with_row (marked mark) (kept_at retry.old contact n)) }
 {
     match mark {
         Mark::Heard => hear(retry, contact, n),
@@ -45,7 +46,8 @@ pub(crate) fn mark_row(retry: &mut Retry, contact: u8, n: u32, mark: Mark)
 /// The contact has the message and waits for our acknowledgement.
 fn hear(retry: &mut Retry, contact: u8, n: u32)
     requires { n < length (rows_of retry.old contact) }
-    ensures { Keeps retry.old retry.new contact n (with_row row_heard (kept_at retry.old contact n)) }
+    ensures { Keeps retry.old retry.new contact n
+        (with_row row_heard (kept_at retry.old contact n)) }
 {
     retry.saw(contact, n);
     retry.owe(contact, n);
@@ -56,7 +58,8 @@ impl State {
     pub(crate) fn mark(&mut self, contact: u8, id: &MessageId, mark: Mark)
         requires held { is_held self.old.facts.held id.now ≡ true }
         requires room { length self.old.facts.held ≤ rows_room self.old.room contact }
-        ensures facts { self.new.facts ≡ record self.old.facts { rows = change_row self.old.facts.rows contact id.now (marked mark) } }
+        ensures facts { self.new.facts ≡ record
+            self.old.facts { rows = change_row self.old.facts.rows contact id.now (marked mark) } }
         ensures answers { self.new.answers ≡ self.old.answers }
         ensures room { KeepsRoom self.old.room self.new.room }
     {
@@ -68,7 +71,11 @@ impl State {
     pub(crate) fn mark_all(&mut self, contact: u8, ids: &[MessageId], mark: Mark)
         requires held { list_all (is_held self.old.facts.held) ids.now ≡ true }
         requires room { length self.old.facts.held ≤ rows_room self.old.room contact }
-        ensures facts { self.new.facts ≡ record self.old.facts { rows = change_rows self.old.facts.rows contact ids.now (marked mark) } }
+        ensures facts { self.new.facts ≡ record
+            self.old.facts {
+              rows = change_rows self.old.facts.rows contact ids.now
+                  (marked mark);
+            } }
         ensures answers { self.new.answers ≡ self.old.answers }
         ensures room { KeepsRoom self.old.room self.new.room }
     {

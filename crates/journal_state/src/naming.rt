@@ -1,4 +1,5 @@
-//! The id of the message that a batch brings, which is computed once for the test of the batch and for its taking.
+//! The id of the message that a batch brings, which is computed once for the test of the batch and
+//! for its taking.
 ghost use Rattle.std.specs.Prelude.{◌≡◌};
 ghost use Rattle.sync_ids.specs.Ids.{message_id_of};
 ghost use Rattle.journal_state.specs.Known.{IsIdOf, IsOfAll};

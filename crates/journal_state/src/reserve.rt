@@ -8,8 +8,8 @@ use std::alloc::AllocError;
 use sync_rules::{Batch, Entry};
 
 impl State {
-    /// Makes room for the entries of a batch, so that they can be taken without memory; it never takes room away. It fails only for
-    /// want of memory; no fact changes either way.
+    /// Makes room for the entries of a batch, so that they can be taken without memory; it never
+    /// takes room away. It fails only for want of memory; no fact changes either way.
     pub fn reserve(&mut self, batch: &Batch) -> Result<(), AllocError>
         ensures ok { OnOk result (HasRoom self.new batch.now) }
         ensures facts { self.new.facts ≡ self.old.facts }
@@ -37,7 +37,8 @@ impl State {
         }
     }
 
-    /// Makes room for the contact's rows of all held messages and one more, and for so many wanted ids.
+    /// Makes room for the contact's rows of all held messages and one more, and for so many wanted
+    /// ids.
     fn reserve_rows(&mut self, contact: u8, wants: usize) -> Result<(), AllocError>
         ensures ok { OnOk result (HasContactRoom self.new wants contact) }
         ensures facts { self.new.facts ≡ self.old.facts }

@@ -1,5 +1,6 @@
 //! The sessions, and the records taken on each.
-ghost use Rattle.std.specs.Prelude.{◌≡◌, ◌+◌, ◌-◌, ◌^◌, ◌<◌, ◌++◌, ◌∷◌, [], max, length, IfOk, OnOk, OnErr};
+ghost use Rattle.std.specs.Prelude.{◌≡◌, ◌+◌, ◌-◌, ◌^◌, ◌<◌, ◌++◌, ◌∷◌, [], max, length, IfOk};
+ghost use Rattle.std.specs.Prelude.{OnOk, OnErr};
 ghost use Rattle.std.specs.FinMap as fin_map;
 ghost use Rattle.sync_rules.specs.Facts.{session_at, takes_of};
 
@@ -8,8 +9,9 @@ use std::alloc::{AllocError, Global};
 use std::marker::Model;
 use sync_rules::Session;
 
-/// The sessions, numbered from 0, and how many records were taken on each. Contracts see the list of the sessions, a map from
-/// the numbers of those on which a record was taken, and for how many more sessions and records there is room.
+/// The sessions, numbered from 0, and how many records were taken on each. Contracts see the list
+/// of the sessions, a map from the numbers of those on which a record was taken, and for how many
+/// more sessions and records there is room.
 #[derive(Drop)]
 pub(crate) struct Sessions {
     sessions: Vec<Session>,
@@ -29,9 +31,16 @@ impl Model for Sessions {
     ghost use Rattle.std.specs.Ordering.{nat_cmp};
     ghost use Rattle.indexmap.specs.IndexMap.{spare};
 
-    ghost view = { λ s. record { sessions = s.sessions.items; takes = fin_map.from_entries {R = nat_cmp} s.counts.entries; room = s.space } };
+    ghost view = { λ s. record {
+      sessions = s.sessions.items;
+      takes = fin_map.from_entries {R = nat_cmp}
+          s.counts.entries;
+      room = s.space;
+    } };
 
-    ghost invariant = { λ s. IsNumbered 0 s.sessions.items × (length s.sessions.items < 2 ^ 32) × (length s.sessions.items + s.space ≤ vec_capacity s.sessions) × (s.space ≤ spare s.counts) };
+    ghost invariant = { λ s. IsNumbered 0 s.sessions.items × (length s.sessions.items < 2 ^ 32)
+        × (length s.sessions.items + s.space ≤ vec_capacity s.sessions)
+        × (s.space ≤ spare s.counts) };
 }
 
 impl Sessions {
@@ -46,7 +55,8 @@ impl Sessions {
         }
     }
 
-    /// Makes room for that many more sessions and records; it never takes room away. After an error all is as before.
+    /// Makes room for that many more sessions and records; it never takes room away. After an error
+    /// all is as before.
     pub(crate) fn reserve(&mut self, entries: usize) -> Result<(), AllocError>
         ensures ok { OnOk result (self.new ≡ record self.old { room = max self.old.room entries }) }
         ensures err { OnErr result (self.new ≡ self.old) }
@@ -62,7 +72,10 @@ impl Sessions {
         requires numbered { session.now.number ≡ length self.old.sessions }
         requires room { 0 < self.old.room }
         requires few { length self.old.sessions < 2 ^ 32 - 1 }
-        ensures { self.new ≡ record self.old { sessions = self.old.sessions ++ session.now ∷ []; room = self.old.room - 1 } }
+        ensures { self.new ≡ record self.old {
+          sessions = self.old.sessions ++ session.now ∷ [];
+          room = self.old.room - 1;
+        } }
     {
         let nonce = session.nonce;
         self.sessions.push(Session { nonce, ..*session }).unwrap();
@@ -73,7 +86,11 @@ impl Sessions {
     pub(crate) fn take(&mut self, number: u32)
         requires room { 0 < self.old.room }
         requires few { takes_of self.old.takes number < 2 ^ 64 - 1 }
-        ensures { self.new ≡ record self.old { takes = fin_map.insert self.old.takes number (takes_of self.old.takes number + 1); room = self.old.room - 1 } }
+        ensures { self.new ≡ record self.old {
+          takes = fin_map.insert self.old.takes number
+              (takes_of self.old.takes number + 1);
+          room = self.old.room - 1;
+        } }
     {
         let count = self.takes(number);
         self.counts.insert(number, count + 1).unwrap();

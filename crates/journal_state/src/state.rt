@@ -14,8 +14,9 @@ use sync_ids::{GroupDef, GroupId, Message, MessageId};
 use sync_rules::Origin;
 use visibility_table::Levels;
 
-/// The state of a journal without a disk: all that is asked of a journal, kept so that no answer needs a walk over its entries.
-/// Contracts see the facts of the journal, the judgements of its messages, and for how much more there is room.
+/// The state of a journal without a disk: all that is asked of a journal, kept so that no answer
+/// needs a walk over its entries. Contracts see the facts of the journal, the judgements of its
+/// messages, and for how much more there is room.
 #[derive(Drop)]
 pub struct State {
     pub(crate) table: Levels,
@@ -115,7 +116,8 @@ impl State {
         self.messages.message(n)
     }
 
-    /// The id of the held message of this arrival number, which is below the number of held messages.
+    /// The id of the held message of this arrival number, which is below the number of held
+    /// messages.
     pub fn id_at(&self, n: u32) -> MessageId
         requires { n < length self.now.facts.held }
         ensures { option_map (λ h. h.id) (slice_get self.now.facts.held n) ≡ Some result }
@@ -123,7 +125,8 @@ impl State {
         self.messages.id(n)
     }
 
-    /// Where the held message of this arrival number came from; the number is below the number of held messages.
+    /// Where the held message of this arrival number came from; the number is below the number of
+    /// held messages.
     pub fn origin(&self, n: u32) -> Origin
         requires { n < length self.now.facts.held }
         ensures { option_map (λ h. h.origin) (slice_get self.now.facts.held n) ≡ Some result }

@@ -11,17 +11,18 @@ use std::alloc::{AllocError, Global};
 use sync_rules::{Clients, Entry};
 
 impl State {
-    /// The next step of the journal: that of the first held message, in order of arrival, that has one. `None` comes exactly where
-    /// the journal is settled.
+    /// The next step of the journal: that of the first held message, in order of arrival, that has
+    /// one. `None` comes exactly where the journal is settled.
     pub fn next_step(&self) -> Option<Entry>
-        ensures { (clients : Meaning) → Knows clients self.now → result ≡ next clients self.now.facts }
+        ensures { (clients : Meaning) → Knows clients self.now
+            → result ≡ next clients self.now.facts }
     {
         let step = self.graph.next()?;
         Some(self.entry_of(step))
     }
 
-    /// Makes the next step, and answers its entry; `None` comes exactly where the journal is settled. It fails only for want of
-    /// memory, and then the facts and the answers are as before.
+    /// Makes the next step, and answers its entry; `None` comes exactly where the journal is
+    /// settled. It fails only for want of memory, and then the facts and the answers are as before.
     pub fn step<C: Clients>(
         &mut self,
         alloc: Global,
@@ -31,7 +32,8 @@ impl State {
         ensures step { IfOk result (λ e. e ≡ next (C.meaning clients.now) self.old.facts) }
         ensures facts { IfOk result (λ e. self.new.facts ≡ stepped self.old.facts e) }
         ensures knows { Knows (C.meaning clients.now) self.new }
-        ensures err { OnErr result ((self.new.facts ≡ self.old.facts) × (self.new.answers ≡ self.old.answers)) }
+        ensures err { OnErr result ((self.new.facts ≡ self.old.facts)
+            × (self.new.answers ≡ self.old.answers)) }
     {
         let Some(step) = self.graph.next() else {
             return Ok(None);
@@ -59,7 +61,8 @@ impl State {
 
     /// Whether the journal is settled.
     pub fn is_settled(&self) -> bool
-        ensures { (clients : Meaning) → Knows clients self.now → (IsTrue result ↔ IsSettled clients self.now.facts) }
+        ensures { (clients : Meaning) → Knows clients self.now
+            → (IsTrue result ↔ IsSettled clients self.now.facts) }
     {
         self.graph.next().is_none()
     }

@@ -15,7 +15,8 @@ use sync_ids::{Message, MessageId};
 use sync_rules::{Batch, Entry, Origin, Out};
 
 impl State {
-    /// Takes an allowed batch for which room was made, and which is not a settling batch. It takes no memory.
+    /// Takes an allowed batch for which room was made, and which is not a settling batch. It takes
+    /// no memory.
     #[tactic(auto, using(crate::proofs::Unknown::unknown))]
     pub fn take(&mut self, batch: Batch)
         requires allowed { (clients : Meaning) × Allowed clients self.old.facts batch }

@@ -12,11 +12,13 @@ use crate::state::State;
 use retry_table::Retry;
 use sync_ids::MessageId;
 
-/// Puts an id at the end of those wanted from the contact, unless its message is held or the id is among them.
+/// Puts an id at the end of those wanted from the contact, unless its message is held or the id is
+/// among them.
 fn want_id(retry: &mut Retry, contact: u8, id: MessageId, held: bool)
     requires room { 1 ≤ (wants_of retry.old contact).room }
     requires few { length (wants_of retry.old contact).ids < 2 ^ 32 - 1 }
-    ensures { ChangesIds retry.old retry.new contact (with_want held (wants_of retry.old contact).ids id) }
+    ensures { ChangesIds retry.old retry.new contact
+        (with_want held (wants_of retry.old contact).ids id) }
 {
     if !held && !retry.is_wanted(contact, &id) {
         retry.want(contact, id);
@@ -25,7 +27,8 @@ fn want_id(retry: &mut Retry, contact: u8, id: MessageId, held: bool)
 
 /// Takes these ids out of those wanted from the contact.
 fn unwant_ids(retry: &mut Retry, contact: u8, ids: &[MessageId])
-    ensures { ChangesIds retry.old retry.new contact (without_each ids.now (wants_of retry.old contact).ids) }
+    ensures { ChangesIds retry.old retry.new contact
+        (without_each ids.now (wants_of retry.old contact).ids) }
 {
     for id in ids {
         retry.unwant(contact, id);
@@ -39,7 +42,9 @@ impl State {
         requires room { 1 ≤ wants_room self.old.room contact }
         requires few { length (wanted_from self.old.facts.wanted contact) < 2 ^ 32 - 1 }
         ensures facts { self.new.facts ≡ record self.old.facts {
-          wanted = fin_map.insert self.old.facts.wanted contact (with_want (is_held self.old.facts.held id) (wanted_from self.old.facts.wanted contact) id);
+          wanted = fin_map.insert self.old.facts.wanted contact
+              (with_want (is_held self.old.facts.held id) (wanted_from self.old.facts.wanted contact)
+              id);
         } }
         ensures answers { self.new.answers ≡ self.old.answers }
         ensures room { Spends self.old.room self.new.room }
@@ -52,7 +57,8 @@ impl State {
     pub(crate) fn unwant(&mut self, contact: u8, ids: &[MessageId])
         requires known { contact < self.old.facts.contacts }
         ensures facts { self.new.facts ≡ record self.old.facts {
-          wanted = fin_map.insert self.old.facts.wanted contact (without_each ids.now (wanted_from self.old.facts.wanted contact));
+          wanted = fin_map.insert self.old.facts.wanted contact
+              (without_each ids.now (wanted_from self.old.facts.wanted contact));
         } }
         ensures answers { self.new.answers ≡ self.old.answers }
         ensures room { Spends self.old.room self.new.room }

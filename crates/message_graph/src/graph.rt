@@ -1,7 +1,9 @@
 //! `Graph`.
-ghost use Rattle.std.specs.Prelude.{◌≡◌, ◌+◌, ◌-◌, ◌^◌, ◌<◌, ◌++◌, ◌∷◌, ◌↔◌, [], max, length, IsTrue, IfOk, OnOk, OnErr, None, Some, slice_get};
+ghost use Rattle.std.specs.Prelude.{◌≡◌, ◌+◌, ◌-◌, ◌^◌, ◌<◌, ◌++◌, ◌∷◌, ◌↔◌, [], max, length};
+ghost use Rattle.std.specs.Prelude.{IsTrue, IfOk, OnOk, OnErr, None, Some, slice_get};
 ghost use Rattle.std.specs.Option.{option_map};
-ghost use Rattle.message_graph.specs.Nodes.{number_of, next, fresh, fate_of, with_answer, with_ending, after_step, Ends};
+ghost use Rattle.message_graph.specs.Nodes.{number_of, next, fresh, fate_of, with_answer};
+ghost use Rattle.message_graph.specs.Nodes.{with_ending, after_step, Ends};
 ghost use Rattle.message_graph.specs.Whole.{ending_step, ending_news};
 
 use crate::index::Index;
@@ -12,8 +14,8 @@ use crate::waiters::{answered, tell};
 use std::alloc::{AllocError, Global};
 use std::marker::Model;
 
-/// Held messages by number, and the next step among them, found in time logarithmic in their count. Contracts see the list of the
-/// nodes, and for how many more there is room.
+/// Held messages by number, and the next step among them, found in time logarithmic in their count.
+/// Contracts see the list of the nodes, and for how many more there is room.
 #[derive(Drop)]
 pub struct Graph {
     nodes: Vec<Node>,
@@ -32,7 +34,8 @@ impl Model for Graph {
 
     ghost view = { λ g. record { nodes = g.nodes.items; spare = g.spare } };
 
-    ghost invariant = { λ g. IsGraph g.nodes.items g.index g.states g.spare × (length g.nodes.items + g.spare ≤ vec_capacity g.nodes) };
+    ghost invariant = { λ g. IsGraph g.nodes.items g.index g.states g.spare
+        × (length g.nodes.items + g.spare ≤ vec_capacity g.nodes) };
 }
 
 impl Graph {
@@ -49,7 +52,8 @@ impl Graph {
         })
     }
 
-    /// Makes room for that many more nodes; it never takes room away. After an error all is as before.
+    /// Makes room for that many more nodes; it never takes room away. After an error all is as
+    /// before.
     pub fn reserve(&mut self, nodes: usize) -> Result<(), AllocError>
         ensures ok { OnOk result (self.new ≡ record self.old { spare = max self.old.spare nodes }) }
         ensures err { OnErr result (self.new ≡ self.old) }
@@ -67,7 +71,11 @@ impl Graph {
         requires room { 0 < self.old.spare }
         requires few { length self.old.nodes < 2 ^ 32 - 1 }
         ensures number { result ≡ length self.old.nodes }
-        ensures nodes { self.new ≡ record { nodes = self.old.nodes ++ fresh name group ∷ []; spare = self.old.spare - 1 } }
+        ensures nodes { self.new ≡ record {
+          nodes = self.old.nodes ++ fresh name group ∷ [];
+          spare =
+              self.old.spare - 1;
+        } }
     {
         let number = self.nodes.len() as u32;
         let node = Node {
@@ -111,10 +119,12 @@ impl Graph {
         self.index.holder(name)
     }
 
-    /// Takes the answer of a message's client, which is the next step. After an error all is as before.
+    /// Takes the answer of a message's client, which is the next step. After an error all is as
+    /// before.
     pub fn judged(&mut self, n: u32, answer: Judged) -> Result<(), AllocError>
         requires { next self.old.nodes ≡ Some (Step.Judge n) }
-        ensures ok { OnOk result (self.new ≡ record self.old { nodes = with_answer n answer self.old.nodes }) }
+        ensures ok { OnOk result
+            (self.new ≡ record self.old { nodes = with_answer n answer self.old.nodes }) }
         ensures err { OnErr result (self.new ≡ self.old) }
     {
         let number = n as usize;
@@ -126,7 +136,8 @@ impl Graph {
         Ok(())
     }
 
-    /// The next step: that of the least number that has one. `None` exactly where no node has a step.
+    /// The next step: that of the least number that has one. `None` exactly where no node has a
+    /// step.
     pub fn next(&self) -> Option<Step>
         ensures { result ≡ next self.now.nodes }
     {

@@ -1,5 +1,6 @@
 //! Names, who holds each, and who waits for each.
-ghost use Rattle.std.specs.Prelude.{◌≡◌, ◌+◌, ◌-◌, ◌<◌, ◌≤◌, ◌++◌, ◌∷◌, [], IfOk, OnOk, OnErr, IfSome, Some, None, ℕ, List, length, if◌then◌else◌, slice_get};
+ghost use Rattle.std.specs.Prelude.{◌≡◌, ◌+◌, ◌-◌, ◌<◌, ◌≤◌, ◌++◌, ◌∷◌, [], IfOk, OnOk, OnErr};
+ghost use Rattle.std.specs.Prelude.{IfSome, Some, None, ℕ, List, length, if◌then◌else◌, slice_get};
 ghost use Rattle.message_graph.specs.Nodes.{same_name};
 ghost use Rattle.message_graph.specs.Links.{place_of, holder_of, edge_at, last_before};
 
@@ -39,14 +40,16 @@ impl Hash for Key {
     }
 }
 
-/// What is kept for a name: the number of the node that holds it, and the last edge of those who wait for it.
+/// What is kept for a name: the number of the node that holds it, and the last edge of those who
+/// wait for it.
 #[derive(Clone, Copy)]
 pub(crate) struct Slot {
     pub(crate) holder: Option<u32>,
     pub(crate) last: Option<usize>,
 }
 
-/// One node that waits for one name: the name's place, the node's number, and the edge before it of the same name.
+/// One node that waits for one name: the name's place, the node's number, and the edge before it of
+/// the same name.
 #[derive(Clone, Copy)]
 pub(crate) struct Edge {
     pub(crate) place: usize,
@@ -163,7 +166,9 @@ impl Index {
     /// A node holds the name from now on.
     pub(crate) fn hold(&mut self, name: [u8; 32], number: u32)
         requires { 0 < self.old.room }
-        ensures holders { (other : List ℕ) → holder_of self.new other ≡ (if same_name other name then Some number else holder_of self.old other) }
+        ensures holders { (other : List ℕ)
+            → holder_of self.new other ≡ (if same_name other name then Some number else holder_of
+            self.old other) }
         ensures edges { self.new.edges ≡ self.old.edges }
         ensures room { self.old.room ≤ self.new.room + 1 }
     {

@@ -34,7 +34,8 @@ impl Names {
     }
 }
 
-/// What its client says of a message: it is refused, or valid once all that it depends on is delivered.
+/// What its client says of a message: it is refused, or valid once all that it depends on is
+/// delivered.
 #[derive(Drop)]
 pub enum Judged {
     Refused,
@@ -48,7 +49,8 @@ pub enum Ending {
     Delivered,
 }
 
-/// A held message: its name, its group, its client's answer if it was judged, its ending if that is decided.
+/// A held message: its name, its group, its client's answer if it was judged, its ending if that is
+/// decided.
 #[derive(Drop)]
 pub struct Node {
     pub name: [u8; 32],
@@ -74,7 +76,8 @@ pub enum Fate {
     Delivered,
 }
 
-/// Whether a dependency can never be delivered to a node of the group: it is held in another group, or invalid.
+/// Whether a dependency can never be delivered to a node of the group: it is held in another group,
+/// or invalid.
 pub(crate) fn fails(held: Option<&Node>, group: u32) -> bool
     ensures { result ≡ fails group (option_copied held.entry) }
 {

@@ -1,7 +1,8 @@
 //! The same answers by a scan over a list of nodes: the yardstick of the tests.
 ghost use Rattle.std.specs.Prelude.{◌≡◌, ◌^◌, ◌<◌, ◌≤◌, length, option_copied};
 ghost use Rattle.std.specs.List.{list_any, list_all};
-ghost use Rattle.message_graph.specs.Nodes.{same_name, node_named, fails, serves, step_accepted, step_of, next, fate_of};
+ghost use Rattle.message_graph.specs.Nodes.{same_name, node_named, fails, serves, step_accepted};
+ghost use Rattle.message_graph.specs.Nodes.{step_of, next, fate_of};
 
 use crate::nodes::{Ending, Fate, Judged, Node, Step, fails, serves};
 

@@ -1,5 +1,6 @@
 //! What each node waits for, and the set of those that have a step.
-ghost use Rattle.std.specs.Prelude.{◌≡◌, ◌+◌, ◌-◌, ◌<◌, ◌≤◌, ◌++◌, ◌∷◌, [], IfOk, OnOk, OnErr, length, slice_set, slice_get};
+ghost use Rattle.std.specs.Prelude.{◌≡◌, ◌+◌, ◌-◌, ◌<◌, ◌≤◌, ◌++◌, ◌∷◌, [], IfOk, OnOk, OnErr};
+ghost use Rattle.std.specs.Prelude.{length, slice_set, slice_get};
 ghost use Rattle.std.specs.List.{position_from};
 ghost use Rattle.message_graph.specs.Waits.{has_step, told, missing_after, from_missing};
 
@@ -7,8 +8,8 @@ use due_tree::DueTree;
 use std::alloc::{AllocError, Global};
 use std::marker::Model;
 
-/// What a node waits for: its judgement; nothing, since it can only become invalid; that many dependencies that are not delivered;
-/// or nothing, since it has ended.
+/// What a node waits for: its judgement; nothing, since it can only become invalid; that many
+/// dependencies that are not delivered; or nothing, since it has ended.
 #[derive(Clone, Copy)]
 pub(crate) enum Waiting {
     Unjudged,
@@ -17,7 +18,8 @@ pub(crate) enum Waiting {
     Ended,
 }
 
-/// What a node hears of one that it depends on: it came in this group; it is invalid; it is delivered.
+/// What a node hears of one that it depends on: it came in this group; it is invalid; it is
+/// delivered.
 #[derive(Clone, Copy)]
 pub(crate) enum News {
     Arrived(u32),
@@ -33,14 +35,16 @@ pub(crate) struct States {
 }
 
 impl Model for States {
-    ghost use Rattle.std.specs.Prelude.{◌≡◌, ◌-◌, ◌≤◌, ◌++◌, length, map, replicate, None, vec_capacity};
+    ghost use Rattle.std.specs.Prelude.{◌≡◌, ◌-◌, ◌≤◌, ◌++◌, length, map, replicate, None};
+    ghost use Rattle.std.specs.Prelude.{vec_capacity};
     ghost use Rattle.message_graph.specs.Waits.{Waits, mark};
 
     ghost Value = { Waits };
 
     ghost view = { λ s. record { waits = s.waits.items; room = length s.ready - length s.waits.items } };
 
-    ghost invariant = { λ s. (s.ready ≡ map mark s.waits.items ++ replicate (length s.ready - length s.waits.items) None) × (length s.ready ≤ vec_capacity s.waits) };
+    ghost invariant = { λ s. (s.ready ≡ map mark s.waits.items ++ replicate
+        (length s.ready - length s.waits.items) None) × (length s.ready ≤ vec_capacity s.waits) };
 }
 
 /// Whether a node that waits for this has a step.

@@ -36,7 +36,8 @@ fn make(nodes: &mut [Node], step: Step) {
     }
 }
 
-/// Makes the next step of a graph and of the list; the answer of node n depends on `seed` and n alone.
+/// Makes the next step of a graph and of the list; the answer of node n depends on `seed` and n
+/// alone.
 fn step(
     alloc: Global,
     graph: &mut Graph,

@@ -1,7 +1,9 @@
 //! Telling those who wait, and noting who waits.
-ghost use Rattle.std.specs.Prelude.{◌≡◌, ℕ, List, ◌+◌, ◌<◌, ◌≤◌, ◌++◌, length, map, option_copied, IfOk, OnOk, OnErr, Some};
+ghost use Rattle.std.specs.Prelude.{◌≡◌, ℕ, List, ◌+◌, ◌<◌, ◌≤◌, ◌++◌, length, map, option_copied};
+ghost use Rattle.std.specs.Prelude.{IfOk, OnOk, OnErr, Some};
 ghost use Rattle.message_graph.specs.Nodes.{node_named, number_of};
-ghost use Rattle.message_graph.specs.Waits.{missing, from_missing, waiting_open, told_times, wait_at, group_at};
+ghost use Rattle.message_graph.specs.Waits.{missing, from_missing, waiting_open, told_times};
+ghost use Rattle.message_graph.specs.Waits.{wait_at, group_at};
 ghost use Rattle.message_graph.specs.Links.{holder_of, edge_at, count_before};
 ghost use Rattle.message_graph.specs.Whole.{dependencies};
 
@@ -13,10 +15,13 @@ use std::alloc::AllocError;
 /// Tells each node that waits for the name.
 pub(crate) fn tell(states: &mut States, index: &Index, nodes: &[Node], name: &[u8; 32], news: News)
     requires many { length states.old.waits ≡ length nodes.now }
-    requires waiters { (edge : ℕ) → edge < length index.now.edges → (edge_at index.now.edges edge).1 < length nodes.now }
+    requires waiters { (edge : ℕ) → edge < length index.now.edges
+        → (edge_at index.now.edges edge).1 < length nodes.now }
     ensures many { length states.new.waits ≡ length states.old.waits }
     ensures room { states.new.room ≡ states.old.room }
-    ensures waits { (number : ℕ) → wait_at states.new.waits number ≡ told_times news (group_at nodes.now number) (count_before index.now.edges name.now number (length index.now.edges)) (wait_at states.old.waits number) }
+    ensures waits { (number : ℕ) → wait_at states.new.waits number ≡ told_times news
+        (group_at nodes.now number) (count_before index.now.edges name.now number
+        (length index.now.edges)) (wait_at states.old.waits number) }
 {
     let mut cursor = index.last(name);
     while let Some(edge) = cursor {
@@ -67,7 +72,8 @@ pub(crate) fn enlist(index: &mut Index, names: &[[u8; 32]], waiter: u32)
     }
 }
 
-/// What an accepted node of the group waits for, noted with each of the names; `spare` more nodes can still be held after it.
+/// What an accepted node of the group waits for, noted with each of the names; `spare` more nodes
+/// can still be held after it.
 fn accepted(
     index: &mut Index,
     nodes: &[Node],
@@ -78,8 +84,10 @@ fn accepted(
 ) -> Result<Waiting, AllocError>
     requires holders { (other : List ℕ) → holder_of index.old other ≡ number_of nodes.now other }
     requires room { spare ≤ index.old.room }
-    ensures waiting { IfOk result (λ waiting. waiting ≡ from_missing (missing (node_named nodes.now) group names.now)) }
-    ensures edges { OnOk result (index.new.edges ≡ index.old.edges ++ map (λ name. (name, n)) names.now) }
+    ensures waiting { IfOk result
+        (λ waiting. waiting ≡ from_missing (missing (node_named nodes.now) group names.now)) }
+    ensures edges { OnOk result (index.new.edges ≡ index.old.edges ++ map (λ name. (name, n))
+        names.now) }
     ensures err { OnErr result (index.new.edges ≡ index.old.edges) }
     ensures holders { (other : List ℕ) → holder_of index.new other ≡ holder_of index.old other }
     ensures room { spare ≤ index.new.room }
@@ -105,8 +113,10 @@ pub(crate) fn answered(
 ) -> Result<Waiting, AllocError>
     requires holders { (other : List ℕ) → holder_of index.old other ≡ number_of nodes.now other }
     requires room { spare ≤ index.old.room }
-    ensures waiting { IfOk result (λ waiting. waiting ≡ waiting_open (node_named nodes.now) group answer.now) }
-    ensures edges { OnOk result (index.new.edges ≡ index.old.edges ++ map (λ name. (name, n)) (dependencies (Some answer.now))) }
+    ensures waiting { IfOk result (λ waiting. waiting ≡ waiting_open (node_named nodes.now) group
+        answer.now) }
+    ensures edges { OnOk result (index.new.edges ≡ index.old.edges ++ map (λ name. (name, n))
+        (dependencies (Some answer.now))) }
     ensures err { OnErr result (index.new.edges ≡ index.old.edges) }
     ensures holders { (other : List ℕ) → holder_of index.new other ≡ holder_of index.old other }
     ensures room { spare ≤ index.new.room }

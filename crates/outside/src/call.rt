@@ -20,7 +20,8 @@ pub enum Call {
     Dialled(Vec<u8>),
     /// Bytes went out on a link.
     Sent(u8, Vec<u8>),
-    /// A link answered: how many of its calls failed since the answer before, and the room there was.
+    /// A link answered: how many of its calls failed since the answer before, and the room there
+    /// was.
     Answered(u8, u64, usize, Reply),
     /// A host was made over the disk; it has no links.
     Hosted,

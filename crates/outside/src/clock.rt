@@ -1,7 +1,8 @@
 //! The clock of a host in memory.
 ghost use Rattle.std.specs.Prelude.{◌≡◌, [], OnOk, OnErr};
 ghost use Rattle.outside.specs.Faults.{one_more};
-ghost use Rattle.outside.specs.MemHost.{Readings, last_of, next_reading, reading_added, reading_set};
+ghost use Rattle.outside.specs.MemHost.{Readings, last_of, next_reading, reading_added};
+ghost use Rattle.outside.specs.MemHost.{reading_set};
 
 use std::alloc::{AllocError, Global};
 use std::marker::Model;

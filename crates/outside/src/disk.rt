@@ -17,8 +17,8 @@ pub struct Place {
     pub at: u64,
 }
 
-/// A disk with two files, 0 and 1. A file that is not there has length 0. What is said of contents is
-/// said where the disk tells them.
+/// A disk with two files, 0 and 1. A file that is not there has length 0. What is said of contents
+/// is said where the disk tells them.
 pub trait Disk {
     /// What the object tells of the outside, with the laws of it.
     ghost tells: { Self → Outside };
@@ -29,38 +29,46 @@ pub trait Disk {
         ensures call { DiskCall (tells self.old) (tells self.new) }
         ensures cause { HasCause (tells self.old).disk_faults (tells self.new).disk_faults result }
         ensures same { (tells self.new).files ≡ (tells self.old).files }
-        ensures length { IfOk result (λ n. ForSome (tells self.old).files (λ two. n ≡ length (file_of two file).now)) };
+        ensures length { IfOk result
+            (λ n. ForSome (tells self.old).files (λ two. n ≡ length (file_of two file).now)) };
 
-    /// Reads from place `at` on into the front of `buf` and says how many bytes: as many as there are,
-    /// or as `buf` has room for.
+    /// Reads from place `at` on into the front of `buf` and says how many bytes: as many as there
+    /// are, or as `buf` has room for.
     fn read_at(&mut self, file: u8, at: u64, buf: &mut [u8]) -> Result<usize, Failed>
         requires { file < 2 }
         ensures call { DiskCall (tells self.old) (tells self.new) }
         ensures cause { HasCause (tells self.old).disk_faults (tells self.new).disk_faults result }
         ensures same { (tells self.new).files ≡ (tells self.old).files }
         ensures bound { IfOk result (λ n. n ≤ length buf.new) }
-        ensures bytes { IfOk result (λ n. ForSome (tells self.old).files (λ two. Reads (file_of two file).now at buf.new n)) };
+        ensures bytes { IfOk result
+            (λ n. ForSome (tells self.old).files
+            (λ two. Reads (file_of two file).now at buf.new n)) };
 
     /// Writes from place `at` on, over what is there and past the end.
     fn write_at(&mut self, file: u8, at: u64, bytes: &[u8]) -> Result<(), Failed>
         requires file { file < 2 }
-        requires place { ForSome (tells self.old).files (λ two. at ≤ length (file_of two file).now) }
+        requires place { ForSome (tells self.old).files
+            (λ two. at ≤ length (file_of two file).now) }
         ensures call { DiskCall (tells self.old) (tells self.new) }
         ensures cause { HasCause (tells self.old).disk_faults (tells self.new).disk_faults result }
-        ensures written { Becomes (Writes file at bytes.now result) (tells self.old).files (tells self.new).files };
+        ensures written { Becomes (Writes file at bytes.now result) (tells self.old).files
+            (tells self.new).files };
 
     /// Cuts the file to a length.
     fn cut(&mut self, file: u8, len: u64) -> Result<(), Failed>
         requires file { file < 2 }
-        requires length { ForSome (tells self.old).files (λ two. len ≤ length (file_of two file).now) }
+        requires length { ForSome (tells self.old).files
+            (λ two. len ≤ length (file_of two file).now) }
         ensures call { DiskCall (tells self.old) (tells self.new) }
         ensures cause { HasCause (tells self.old).disk_faults (tells self.new).disk_faults result }
-        ensures cut { Becomes (Cuts file len result) (tells self.old).files (tells self.new).files };
+        ensures cut { Becomes (Cuts file len result) (tells self.old).files
+            (tells self.new).files };
 
     /// After it a crash leaves of this file what a read gives.
     fn sync(&mut self, file: u8) -> Result<(), Failed>
         requires { file < 2 }
         ensures call { DiskCall (tells self.old) (tells self.new) }
         ensures cause { HasCause (tells self.old).disk_faults (tells self.new).disk_faults result }
-        ensures synced { Becomes (Syncs file result) (tells self.old).files (tells self.new).files };
+        ensures synced { Becomes (Syncs file result) (tells self.old).files
+            (tells self.new).files };
 }

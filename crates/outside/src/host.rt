@@ -1,7 +1,8 @@
 //! A disk with links and a clock.
 ghost use Rattle.std.specs.Prelude.{◌≡◌, ◌<◌, length};
 ghost use Rattle.outside.specs.Outside.{LinkCall, QuietCall};
-ghost use Rattle.outside.specs.Host.{Dials, AsksNonce, Hears, IsCaused, Sends, SendsPart, ReadsClock};
+ghost use Rattle.outside.specs.Host.{Dials, AsksNonce, Hears, IsCaused, Sends, SendsPart};
+ghost use Rattle.outside.specs.Host.{ReadsClock};
 
 use crate::{Disk, Failed};
 
@@ -25,27 +26,33 @@ pub trait Host: Disk {
     fn dial(&mut self, spec: &str) -> Result<u8, Failed>
         requires { (Self.tells self.old).links.dialled < 8 }
         ensures call { QuietCall (Self.tells self.old) (Self.tells self.new) }
-        ensures links { Dials spec.now result (Self.tells self.old).links (Self.tells self.new).links };
+        ensures links { Dials spec.now result (Self.tells self.old).links
+            (Self.tells self.new).links };
 
     /// Sixteen bytes for a link that no one else has.
     fn nonce(&mut self, link: u8) -> Result<[u8; 16], Failed>
         requires { link < (Self.tells self.old).links.dialled }
         ensures call { QuietCall (Self.tells self.old) (Self.tells self.new) }
-        ensures links { AsksNonce link result (Self.tells self.old).links (Self.tells self.new).links };
+        ensures links { AsksNonce link result (Self.tells self.old).links
+            (Self.tells self.new).links };
 
     /// Hears on a link, into the front of `buf`.
     fn recv(&mut self, link: u8, buf: &mut [u8]) -> Heard
         requires link { link < (Self.tells self.old).links.dialled }
         requires room { 0 < length buf.old }
         ensures call { QuietCall (Self.tells self.old) (Self.tells self.new) }
-        ensures links { Hears link result buf.new (Self.tells self.old).links (Self.tells self.new).links }
-        ensures answer { IsCaused result (length buf.new) ((Self.tells self.old).links.faults link) ((Self.tells self.new).links.faults link) };
+        ensures links { Hears link result buf.new (Self.tells self.old).links
+            (Self.tells self.new).links }
+        ensures answer { IsCaused result (length buf.new) ((Self.tells self.old).links.faults link)
+            ((Self.tells self.new).links.faults link) };
 
     /// Sends all bytes on a link. At `Failed` a front of them went out.
     fn send(&mut self, link: u8, bytes: &[u8]) -> Result<(), Failed>
         requires { link < (Self.tells self.old).links.dialled }
-        ensures call { LinkCall (SendsPart (Self.tells self.old) link bytes.now) (Self.tells self.old) (Self.tells self.new) }
-        ensures links { Sends link bytes.now result (Self.tells self.old).links (Self.tells self.new).links };
+        ensures call { LinkCall (SendsPart (Self.tells self.old) link bytes.now)
+            (Self.tells self.old) (Self.tells self.new) }
+        ensures links { Sends link bytes.now result (Self.tells self.old).links
+            (Self.tells self.new).links };
 
     /// Ends a link on this side.
     fn hang_up(&mut self, link: u8)

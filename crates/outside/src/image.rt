@@ -16,7 +16,8 @@ pub fn image_of(
     file: u8,
     pick: Pick,
 ) -> Result<Vec<u8>, AllocError>
-    ensures { IfOk result (λ v. PickOf pick (one_after file (kept start.now) (map change_of calls.now)) v.items) }
+    ensures { IfOk result
+        (λ v. PickOf pick (one_after file (kept start.now) (map change_of calls.now)) v.items) }
 {
     let replay = replayed(alloc, start, calls, file)?;
     match pick {
@@ -43,7 +44,9 @@ fn replayed(alloc: Global, start: &[u8], calls: &[Call], file: u8) -> Result<Rep
 // How many calls there were up to the last sync of the file.
 fn last_sync(calls: &[Call], file: u8) -> usize
     ensures within { result ≤ length calls.now }
-    ensures settled { (bytes : List ℕ) → one_after file (kept bytes) (map change_of (take result calls.now)) ≡ kept (one_after file (kept bytes) (map change_of (take result calls.now))).file.now }
+    ensures settled { (bytes : List ℕ)
+        → one_after file (kept bytes) (map change_of (take result calls.now)) ≡ kept
+        (one_after file (kept bytes) (map change_of (take result calls.now))).file.now }
 {
     let mut synced = 0;
     for (i, call) in calls.iter().enumerate() {
@@ -76,7 +79,8 @@ fn base_of(alloc: Global, start: &[u8], calls: &[Call], file: u8) -> Result<Vec<
 
 // What a call does to the file as it reads.
 fn change_bytes(bytes: &mut Vec<u8>, call: &Call, file: u8) -> Result<(), AllocError>
-    ensures { OnOk result (bytes.new.items ≡ now_changed file bytes.old.items (change_of call.now)) }
+    ensures { OnOk result (bytes.new.items ≡ now_changed file bytes.old.items
+        (change_of call.now)) }
 {
     match call {
         Call::Wrote(other, at, written) if is_same(*other, file) => {

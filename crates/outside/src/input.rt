@@ -1,5 +1,6 @@
 //! Reading an input whole.
-ghost use Rattle.std.specs.Prelude.{◌≡◌, ℕ, ◌+◌, ◌^◌, ◌<◌, ◌-◌, ◌≤◌, [], length, take, drop, vec_len, IfOk, OnErr, IsErrOf};
+ghost use Rattle.std.specs.Prelude.{◌≡◌, ℕ, ◌+◌, ◌^◌, ◌<◌, ◌-◌, ◌≤◌, [], length, take, drop};
+ghost use Rattle.std.specs.Prelude.{vec_len, IfOk, OnErr, IsErrOf};
 ghost use Rattle.std.specs.Io.KnownBytes.{ReadConsumes};
 ghost use Rattle.outside.specs.declared.input.InputFault.TheVariants.{Memory};
 ghost use Rattle.outside.specs.Faults.{HasCause, Rose};
@@ -38,14 +39,16 @@ impl<T: Drop> From<AllocFailed<T>> for InputFault {
     }
 }
 
-/// Reads `input` to its end into `to`, which begins empty. `TooMuch` comes exactly where `limit + 1`
-/// bytes were read; `to` has the first `limit` of them then, and in each other case all bytes read.
+/// Reads `input` to its end into `to`, which begins empty. `TooMuch` comes exactly where `limit +
+/// 1` bytes were read; `to` has the first `limit` of them then, and in each other case all bytes
+/// read.
 pub fn read_input<S: Source>(input: &mut S, limit: u64, to: &mut Vec<u8>) -> Result<(), InputFault>
     requires empty { to.old.items ≡ [] }
     requires limit { limit < 2 ^ 32 }
     ensures reads { ReadsInput limit (S.left input.old) (S.left input.new) to.new.items result }
     ensures later { S.source_faults input.old ≤ S.source_faults input.new }
-    ensures fault { IsErrOf result InputFault.ReadFault → Rose (S.source_faults input.old) (S.source_faults input.new) }
+    ensures fault { IsErrOf result InputFault.ReadFault
+        → Rose (S.source_faults input.old) (S.source_faults input.new) }
 {
     let most = limit as usize;
     'pieces: loop {
@@ -75,7 +78,8 @@ fn read_behind<S: Source>(input: &mut S, to: &mut Vec<u8>, from: usize) -> Resul
     ensures len { vec_len to.new ≡ vec_len to.old }
     ensures front { take from to.new.items ≡ take from to.old.items }
     ensures bound { IfOk result (λ n. n ≤ vec_len to.old - from) }
-    ensures bytes { ReadConsumes (S.left input.old) (S.left input.new) result (drop from to.new.items) }
+    ensures bytes { ReadConsumes (S.left input.old) (S.left input.new) result
+        (drop from to.new.items) }
     ensures cause { HasCause (S.source_faults input.old) (S.source_faults input.new) result }
 {
     input.read(&mut to.as_mut_slice()[from..])

@@ -1,9 +1,13 @@
 //! A disk in memory.
-ghost use Rattle.std.specs.Prelude.{◌≡◌, ◌<◌, ◌≤◌, [], ◌++◌, ◌∷◌, None, Some, length, take, vec_len, vec_capacity, IfOk, OnOk, OnErr, if◌then◌else◌};
+ghost use Rattle.std.specs.Prelude.{◌≡◌, ◌<◌, ◌≤◌, [], ◌++◌, ◌∷◌, None, Some, length, take};
+ghost use Rattle.std.specs.Prelude.{vec_len, vec_capacity, IfOk, OnOk, OnErr, if◌then◌else◌};
 ghost use Rattle.outside.specs.Faults.{is_listed, one_more};
 ghost use Rattle.outside.specs.Files.{file_of, with_file, IsImage};
 ghost use Rattle.outside.specs.Disk.{Reads, overwritten};
-ghost use Rattle.outside.specs.MemDisk.{two_of, fresh, disk_files, files_of, bytes_of, wrote, wrote_not, cut, cut_not, synced, dialled, sent as bytes_sent, answered, hosted, reply_of, with_call, bytes_each, Makes};
+ghost use Rattle.outside.specs.MemDisk.{two_of, fresh, disk_files, files_of, bytes_of, wrote};
+ghost use Rattle.outside.specs.MemDisk.{wrote_not, cut, cut_not, synced, dialled};
+ghost use Rattle.outside.specs.MemDisk.{sent as bytes_sent, answered, hosted, reply_of, with_call};
+ghost use Rattle.outside.specs.MemDisk.{bytes_each, Makes};
 ghost use Rattle.outside.specs.MemImage.{Pictures};
 
 use crate::image::image_of;
@@ -28,13 +32,24 @@ pub struct MemDisk {
 
 impl Model for MemDisk {
     ghost use Rattle.std.specs.Prelude.{◌≡◌, map};
-    ghost use Rattle.outside.specs.MemDisk.{MemDiskValue, two_of, change_of, kept_after, both_kept, bytes_of};
+    ghost use Rattle.outside.specs.MemDisk.{MemDiskValue, two_of, change_of, kept_after, both_kept};
+    ghost use Rattle.outside.specs.MemDisk.{bytes_of};
 
     ghost Value = { MemDiskValue };
 
-    ghost view = { λ d. record { start = two_of d.start0.items d.start1.items; calls = map change_of d.calls.items; made = d.made; failing = d.failing.items; faults = d.faults; starved = d.starved } };
+    ghost view = { λ d. record {
+      start = two_of d.start0.items d.start1.items;
+      calls = map change_of
+          d.calls.items;
+      made = d.made;
+      failing = d.failing.items;
+      faults = d.faults;
+      starved =
+          d.starved;
+    } };
 
-    ghost invariant = { λ d. bytes_of (kept_after (both_kept (two_of d.start0.items d.start1.items)) (map change_of d.calls.items)) ≡ two_of d.file0.items d.file1.items };
+    ghost invariant = { λ d. bytes_of (kept_after (both_kept (two_of d.start0.items d.start1.items))
+        (map change_of d.calls.items)) ≡ two_of d.file0.items d.file1.items };
 }
 
 impl MemDisk {
@@ -58,7 +73,8 @@ impl MemDisk {
 
     /// The call of this number, counted from 0 over all calls made, is to fail.
     pub fn fail_at(&mut self, call: u64) -> Result<(), AllocError>
-        ensures ok { OnOk result (self.new ≡ record self.old { failing = self.old.failing ++ call ∷ [] }) }
+        ensures ok { OnOk result
+            (self.new ≡ record self.old { failing = self.old.failing ++ call ∷ [] }) }
         ensures err { OnErr result (self.new ≡ self.old) }
     {
         self.failing.push(call)?;
@@ -127,7 +143,11 @@ impl MemDisk {
 
     // Counts a failure for want of memory.
     fn starve(&mut self)
-        ensures faults { self.new ≡ record self.old { faults = one_more self.old.faults; starved = one_more self.old.starved } }
+        ensures faults { self.new ≡ record self.old {
+          faults = one_more self.old.faults;
+          starved =
+              one_more self.old.starved;
+        } }
         ensures later { self.old.faults ≤ self.new.faults }
     {
         self.faults = self.faults.saturating_add(1);
@@ -137,7 +157,8 @@ impl MemDisk {
     pub fn make_len(&mut self, file: u8) -> Result<u64, Failed>
         requires { file < 2 }
         ensures makes { Makes None None result self.old self.new }
-        ensures value { IfOk result (λ n. n ≡ length (file_of (bytes_of (disk_files self.old)) file)) }
+        ensures value { IfOk result
+            (λ n. n ≡ length (file_of (bytes_of (disk_files self.old)) file)) }
     {
         if self.count() {
             self.fail();
@@ -150,7 +171,8 @@ impl MemDisk {
         requires { file < 2 }
         ensures makes { Makes None None result self.old self.new }
         ensures bound { IfOk result (λ n. n ≤ length buf.new) }
-        ensures bytes { IfOk result (λ n. Reads (file_of (bytes_of (disk_files self.old)) file) at buf.new n) }
+        ensures bytes { IfOk result (λ n. Reads (file_of (bytes_of (disk_files self.old)) file) at
+            buf.new n) }
     {
         if self.count() {
             self.fail();
@@ -162,7 +184,8 @@ impl MemDisk {
     pub fn make_write(&mut self, file: u8, at: u64, bytes: &[u8]) -> Result<(), Failed>
         requires file { file < 2 }
         requires place { at ≤ length (file_of (bytes_of (disk_files self.old)) file) }
-        ensures makes { Makes (Some (wrote file at bytes.now)) (Some (wrote_not file at bytes.now)) result self.old self.new }
+        ensures makes { Makes (Some (wrote file at bytes.now)) (Some (wrote_not file at bytes.now))
+            result self.old self.new }
     {
         let fails = self.count();
         match self.keep_write(file, at, bytes, fails) {
@@ -180,7 +203,8 @@ impl MemDisk {
 
     pub fn make_cut(&mut self, file: u8, len: u64) -> Result<(), Failed>
         requires { file < 2 }
-        ensures makes { Makes (Some (cut file len)) (Some (cut_not file len)) result self.old self.new }
+        ensures makes { Makes (Some (cut file len)) (Some (cut_not file len)) result self.old
+            self.new }
     {
         let fails = self.count();
         match self.keep_cut(file, len, fails) {
@@ -217,7 +241,12 @@ impl MemDisk {
     fn keep_write(&mut self, file: u8, at: u64, bytes: &[u8], fails: bool) -> Result<(), AllocError>
         requires file { file < 2 }
         requires place { at ≤ length (file_of (bytes_of (disk_files self.old)) file) }
-        ensures ok { OnOk result (self.new ≡ record self.old { calls = self.old.calls ++ (if fails then wrote_not file at bytes.now else wrote file at bytes.now) ∷ [] }) }
+        ensures ok { OnOk result
+            (self.new ≡ record
+            self.old {
+              calls = self.old.calls ++ (if fails then wrote_not file at bytes.now else
+                  wrote file at bytes.now) ∷ [];
+            }) }
         ensures err { OnErr result (self.new ≡ self.old) }
     {
         let kept = Vec::from_slice(self.alloc, bytes)?;
@@ -234,7 +263,12 @@ impl MemDisk {
     // Cuts the file, unless the call fails, and keeps the call.
     fn keep_cut(&mut self, file: u8, len: u64, fails: bool) -> Result<(), AllocError>
         requires { file < 2 }
-        ensures ok { OnOk result (self.new ≡ record self.old { calls = self.old.calls ++ (if fails then cut_not file len else cut file len) ∷ [] }) }
+        ensures ok { OnOk result
+            (self.new ≡ record
+            self.old {
+              calls = self.old.calls ++ (if fails then cut_not file len else cut file len)
+                  ∷ [];
+            }) }
         ensures err { OnErr result (self.new ≡ self.old) }
     {
         self.calls.reserve(1)?;
@@ -249,7 +283,8 @@ impl MemDisk {
 
     fn keep_sync(&mut self, file: u8) -> Result<(), AllocError>
         requires { file < 2 }
-        ensures ok { OnOk result (self.new ≡ record self.old { calls = self.old.calls ++ synced file ∷ [] }) }
+        ensures ok { OnOk result
+            (self.new ≡ record self.old { calls = self.old.calls ++ synced file ∷ [] }) }
         ensures err { OnErr result (self.new ≡ self.old) }
     {
         self.calls.push(Call::Synced(file))?;
@@ -275,7 +310,8 @@ impl MemDisk {
         sent: &mut Vec<Vec<u8>>,
     ) -> Result<(), AllocError>
         ensures ok { OnOk result (self.new ≡ with_call (dialled spec.now) self.old) }
-        ensures sent { OnOk result (bytes_each sent.new.items ≡ bytes_each sent.old.items ++ [] ∷ []) }
+        ensures sent { OnOk result (bytes_each sent.new.items ≡ bytes_each sent.old.items ++ []
+            ∷ []) }
         ensures err { OnErr result (self.new ≡ self.old) }
         ensures same { OnErr result (sent.new.items ≡ sent.old.items) }
     {
@@ -313,7 +349,10 @@ impl MemDisk {
         room: usize,
         reply: Reply,
     ) -> Result<(), AllocError>
-        ensures ok { OnOk result (self.new ≡ with_call (answered link (record { failures = failures; room = room; reply = reply_of reply })) self.old) }
+        ensures ok { OnOk result
+            (self.new ≡ with_call
+            (answered link (record { failures = failures; room = room; reply = reply_of reply }))
+            self.old) }
         ensures err { OnErr result (self.new ≡ self.old) }
     {
         self.calls
@@ -364,8 +403,11 @@ fn put_in(
 ) -> Result<(), AllocError>
     requires file { file < 2 }
     requires place { at ≤ length (file_of (two_of file0.old.items file1.old.items) file) }
-    ensures ok { OnOk result (two_of file0.new.items file1.new.items ≡ with_file (two_of file0.old.items file1.old.items) file (overwritten (file_of (two_of file0.old.items file1.old.items) file) at bytes.now)) }
-    ensures err { OnErr result (two_of file0.new.items file1.new.items ≡ two_of file0.old.items file1.old.items) }
+    ensures ok { OnOk result (two_of file0.new.items file1.new.items ≡ with_file
+        (two_of file0.old.items file1.old.items) file
+        (overwritten (file_of (two_of file0.old.items file1.old.items) file) at bytes.now)) }
+    ensures err { OnErr result (two_of file0.new.items file1.new.items ≡ two_of file0.old.items
+        file1.old.items) }
 {
     if file == 0 {
         put_bytes(file0, at, bytes)
@@ -376,7 +418,9 @@ fn put_in(
 
 fn cut_in(file0: &mut Vec<u8>, file1: &mut Vec<u8>, file: u8, len: usize)
     requires { file < 2 }
-    ensures { two_of file0.new.items file1.new.items ≡ with_file (two_of file0.old.items file1.old.items) file (take len (file_of (two_of file0.old.items file1.old.items) file)) }
+    ensures { two_of file0.new.items file1.new.items ≡ with_file
+        (two_of file0.old.items file1.old.items) file
+        (take len (file_of (two_of file0.old.items file1.old.items) file)) }
 {
     if file == 0 {
         file0.truncate(len);

@@ -1,13 +1,18 @@
 //! A host in memory.
-ghost use Rattle.std.specs.Prelude.{◌≡◌, ℕ, ◌<◌, ◌≤◌, ◌/◌, [], ◌∷◌, ◌++◌, None, Some, length, take, replicate, slice_index, slice_index_or, IfOk, OnOk, OnErr, if◌then◌else◌};
+ghost use Rattle.std.specs.Prelude.{◌≡◌, ℕ, ◌<◌, ◌≤◌, ◌/◌, [], ◌∷◌, ◌++◌, None, Some, length, take};
+ghost use Rattle.std.specs.Prelude.{replicate, slice_index, slice_index_or, IfOk, OnOk, OnErr};
+ghost use Rattle.std.specs.Prelude.{if◌then◌else◌};
 ghost use Rattle.std.specs.Option.{option_map};
 ghost use Rattle.outside.specs.Files.{file_of};
 ghost use Rattle.outside.specs.Links.{Link, sent_of};
 ghost use Rattle.outside.specs.Disk.{Reads};
 ghost use Rattle.outside.specs.Host.{IsCaused};
-ghost use Rattle.outside.specs.MemDisk.{disk_files, bytes_of, wrote, wrote_not, cut, cut_not, synced, dialled, sent as bytes_sent, reply_of, with_call};
+ghost use Rattle.outside.specs.MemDisk.{disk_files, bytes_of, wrote, wrote_not, cut, cut_not};
+ghost use Rattle.outside.specs.MemDisk.{synced, dialled, sent as bytes_sent, reply_of, with_call};
 ghost use Rattle.outside.specs.Script.{planned_of, reply_to, FitsIn};
-ghost use Rattle.outside.specs.MemHost.{fresh_host, links_of, script_of, with_script, reading_added, reading_set, reply_in, OnDisk, MakesDial, MakesNonce, MakesAnswer, MakesSend, MakesReading, Raises};
+ghost use Rattle.outside.specs.MemHost.{fresh_host, links_of, script_of, with_script};
+ghost use Rattle.outside.specs.MemHost.{reading_added, reading_set, reply_in, OnDisk, MakesDial};
+ghost use Rattle.outside.specs.MemHost.{MakesNonce, MakesAnswer, MakesSend, MakesReading, Raises};
 ghost use Rattle.outside.specs.Faults.{one_more};
 
 use crate::clock::Clock;
@@ -19,8 +24,9 @@ use std::alloc::{AllocError, Global};
 use std::collections::VecDeque;
 use std::marker::Model;
 
-/// A disk in memory with links that answer by scripts, a clock with given readings, and given nonces.
-/// Its dials and sends fail at the calls of two lists. It tells all that it is asked, and what it heard.
+/// A disk in memory with links that answer by scripts, a clock with given readings, and given
+/// nonces. Its dials and sends fail at the calls of two lists. It tells all that it is asked, and
+/// what it heard.
 #[derive(Drop)]
 pub struct MemHost {
     alloc: Global,
@@ -42,13 +48,25 @@ impl Model for MemHost {
 
     ghost Value = { MemHostValue };
 
-    ghost view = { λ h. record { disk = h.disk; scripts = h.scripts.items; silences = h.silences; faults = h.faults; clock = h.clock; nonces = h.nonces.items; dials = h.dials; sends = h.sends; starved = h.starved } };
+    ghost view = { λ h. record {
+      disk = h.disk;
+      scripts = h.scripts.items;
+      silences = h.silences;
+      faults = h.faults;
+      clock = h.clock;
+      nonces = h.nonces.items;
+      dials = h.dials;
+      sends =
+          h.sends;
+      starved = h.starved;
+    } };
 
     ghost invariant = { λ h. IsWired h.disk (bytes_each h.sent.items) h.scripts.items };
 }
 
 impl MemHost {
-    /// A host over this disk without links, with scripts that are used up, no readings and no nonces.
+    /// A host over this disk without links, with scripts that are used up, no readings and no
+    /// nonces.
     pub fn new(alloc: Global, disk: MemDisk) -> Result<MemHost, AllocError>
         ensures host { IfOk result (λ h. h ≡ fresh_host disk) }
         ensures no_links { IfOk result (λ h. links_of h.disk ≡ []) }
@@ -70,9 +88,17 @@ impl MemHost {
         })
     }
 
-    /// The call of its disk of this number, counted from 0 over all calls made of a disk, is to fail.
+    /// The call of its disk of this number, counted from 0 over all calls made of a disk, is to
+    /// fail.
     pub fn fail_at(&mut self, call: u64) -> Result<(), AllocError>
-        ensures ok { OnOk result (self.new ≡ record self.old { disk = record self.old.disk { failing = self.old.disk.failing ++ call ∷ [] } }) }
+        ensures ok { OnOk result
+            (self.new ≡ record
+            self.old {
+              disk = record self.old.disk {
+                failing = self.old.disk.failing ++ call
+                    ∷ [];
+              };
+            }) }
         ensures err { OnErr result (self.new ≡ self.old) }
     {
         self.disk.fail_at(call)
@@ -88,16 +114,22 @@ impl MemHost {
     /// Adds an answer to the script of a link, made or not. Empty bytes are left out.
     pub fn script(&mut self, link: u8, answer: Answer) -> Result<(), AllocError>
         requires { link < 8 }
-        ensures ok { OnOk result (self.new ≡ record self.old { scripts = with_script link (script_of link self.old.scripts ++ planned_of answer) self.old.scripts }) }
+        ensures ok { OnOk result
+            (self.new ≡ record self.old {
+              scripts = with_script link
+                  (script_of link self.old.scripts ++ planned_of answer) self.old.scripts;
+            }) }
         ensures err { OnErr result (self.new ≡ self.old) }
     {
         let script = &mut self.scripts[link as usize];
         script.add(answer)
     }
 
-    /// Adds a reading of the clock, in milliseconds, behind those that were given and those that were made.
+    /// Adds a reading of the clock, in milliseconds, behind those that were given and those that
+    /// were made.
     pub fn reading(&mut self, at: u64) -> Result<(), AllocError>
-        ensures ok { OnOk result (self.new ≡ record self.old { clock = reading_added at self.old.clock }) }
+        ensures ok { OnOk result
+            (self.new ≡ record self.old { clock = reading_added at self.old.clock }) }
         ensures err { OnErr result (self.new ≡ self.old) }
     {
         self.clock.add(at)
@@ -105,7 +137,8 @@ impl MemHost {
 
     /// Puts this one reading in the place of all that were not made.
     pub fn set_clock(&mut self, at: u64) -> Result<(), AllocError>
-        ensures ok { OnOk result (self.new ≡ record self.old { clock = reading_set at self.old.clock }) }
+        ensures ok { OnOk result
+            (self.new ≡ record self.old { clock = reading_set at self.old.clock }) }
         ensures err { OnErr result (self.new ≡ self.old) }
     {
         self.clock.set(at)
@@ -113,7 +146,8 @@ impl MemHost {
 
     /// Gives a nonce, for the next call that no nonce was given for.
     pub fn give_nonce(&mut self, nonce: [u8; 16]) -> Result<(), AllocError>
-        ensures ok { OnOk result (self.new ≡ record self.old { nonces = self.old.nonces ++ nonce ∷ [] }) }
+        ensures ok { OnOk result
+            (self.new ≡ record self.old { nonces = self.old.nonces ++ nonce ∷ [] }) }
         ensures err { OnErr result (self.new ≡ self.old) }
     {
         self.nonces.push_back(nonce)?;
@@ -122,16 +156,30 @@ impl MemHost {
 
     /// The dial of this number, counted from 0, is to fail.
     pub fn fail_dial(&mut self, k: u8) -> Result<(), AllocError>
-        ensures ok { OnOk result (self.new ≡ record self.old { dials = record self.old.dials { failing = self.old.dials.failing ++ k ∷ [] } }) }
+        ensures ok { OnOk result
+            (self.new ≡ record
+            self.old {
+              dials = record self.old.dials {
+                failing = self.old.dials.failing ++ k
+                    ∷ [];
+              };
+            }) }
         ensures err { OnErr result (self.new ≡ self.old) }
     {
         self.dials.add(u64::from(k))
     }
 
-    /// The send of this number, counted from 0 over all links, is to fail; the first half of its bytes
-    /// goes out then.
+    /// The send of this number, counted from 0 over all links, is to fail; the first half of its
+    /// bytes goes out then.
     pub fn fail_send(&mut self, k: u64) -> Result<(), AllocError>
-        ensures ok { OnOk result (self.new ≡ record self.old { sends = record self.old.sends { failing = self.old.sends.failing ++ k ∷ [] } }) }
+        ensures ok { OnOk result
+            (self.new ≡ record
+            self.old {
+              sends = record self.old.sends {
+                failing = self.old.sends.failing ++ k
+                    ∷ [];
+              };
+            }) }
         ensures err { OnErr result (self.new ≡ self.old) }
     {
         self.sends.add(k)
@@ -185,7 +233,8 @@ impl MemHost {
     pub fn make_len(&mut self, file: u8) -> Result<u64, Failed>
         requires { file < 2 }
         ensures makes { OnDisk None None result self.old self.new }
-        ensures value { IfOk result (λ n. n ≡ length (file_of (bytes_of (disk_files self.old.disk)) file)) }
+        ensures value { IfOk result
+            (λ n. n ≡ length (file_of (bytes_of (disk_files self.old.disk)) file)) }
     {
         self.disk.make_len(file)
     }
@@ -194,7 +243,8 @@ impl MemHost {
         requires { file < 2 }
         ensures makes { OnDisk None None result self.old self.new }
         ensures bound { IfOk result (λ n. n ≤ length buf.new) }
-        ensures bytes { IfOk result (λ n. Reads (file_of (bytes_of (disk_files self.old.disk)) file) at buf.new n) }
+        ensures bytes { IfOk result (λ n. Reads (file_of (bytes_of (disk_files self.old.disk)) file)
+            at buf.new n) }
     {
         self.disk.make_read(file, at, buf)
     }
@@ -202,14 +252,16 @@ impl MemHost {
     pub fn make_write(&mut self, file: u8, at: u64, bytes: &[u8]) -> Result<(), Failed>
         requires file { file < 2 }
         requires place { at ≤ length (file_of (bytes_of (disk_files self.old.disk)) file) }
-        ensures makes { OnDisk (Some (wrote file at bytes.now)) (Some (wrote_not file at bytes.now)) result self.old self.new }
+        ensures makes { OnDisk (Some (wrote file at bytes.now)) (Some (wrote_not file at bytes.now))
+            result self.old self.new }
     {
         self.disk.make_write(file, at, bytes)
     }
 
     pub fn make_cut(&mut self, file: u8, len: u64) -> Result<(), Failed>
         requires { file < 2 }
-        ensures makes { OnDisk (Some (cut file len)) (Some (cut_not file len)) result self.old self.new }
+        ensures makes { OnDisk (Some (cut file len)) (Some (cut_not file len)) result self.old
+            self.new }
     {
         self.disk.make_cut(file, len)
     }
@@ -263,7 +315,8 @@ impl MemHost {
         requires link { link < length (links_of self.old.disk) }
         requires room { 0 < length buf.old }
         ensures makes { MakesAnswer link result buf.new self.old self.new }
-        ensures answer { IsCaused result (length buf.new) (slice_index self.old.faults link) (slice_index self.new.faults link) }
+        ensures answer { IsCaused result (length buf.new) (slice_index self.old.faults link)
+            (slice_index self.new.faults link) }
     {
         let place = link as usize;
         let room = buf.len();
@@ -283,10 +336,12 @@ impl MemHost {
     fn hear(&mut self, link: u8, reply: Reply, buf: &mut [u8]) -> Heard
         requires link { link < length (links_of self.old.disk) }
         requires room { 0 < length buf.old }
-        requires planned { reply_to (length buf.old) (script_of link self.old.scripts) ≡ Some (reply_of reply) }
+        requires planned { reply_to (length buf.old) (script_of link self.old.scripts) ≡ Some
+            (reply_of reply) }
         requires fits { FitsIn (length buf.old) (Some (reply_of reply)) }
         ensures makes { MakesAnswer link result buf.new self.old self.new }
-        ensures answer { IsCaused result (length buf.new) (slice_index self.old.faults link) (slice_index self.new.faults link) }
+        ensures answer { IsCaused result (length buf.new) (slice_index self.old.faults link)
+            (slice_index self.new.faults link) }
     {
         let place = link as usize;
         let room = buf.len();
@@ -306,7 +361,12 @@ impl MemHost {
     fn hear_none(&mut self, link: usize) -> Heard
         requires { link < 8 }
         ensures failed { result ≡ Heard.Failed }
-        ensures rest { self.new ≡ record self.old { silences = self.new.silences; faults = self.new.faults; starved = one_more self.old.starved } }
+        ensures rest { self.new ≡ record self.old {
+          silences = self.new.silences;
+          faults =
+              self.new.faults;
+          starved = one_more self.old.starved;
+        } }
         ensures silences { Raises link self.old.silences self.new.silences }
         ensures faults { Raises link self.old.faults self.new.faults }
     {

@@ -23,13 +23,25 @@ impl Model for MemSink {
 
     ghost Value = { SinkValue };
 
-    ghost view = { λ s. record { bytes = s.bytes.items; failing = s.failing.items; calls = s.calls; faults = s.faults; starved = s.starved } };
+    ghost view = { λ s. record {
+      bytes = s.bytes.items;
+      failing = s.failing.items;
+      calls = s.calls;
+      faults = s.faults;
+      starved = s.starved;
+    } };
 }
 
 impl MemSink {
     /// An empty sink whose calls with the numbers in `failing`, counted from 0, fail.
     pub fn new(alloc: Global, failing: Vec<u64>) -> MemSink
-        ensures { result ≡ record { bytes = []; failing = failing.items; calls = 0; faults = 0; starved = 0 } }
+        ensures { result ≡ record {
+          bytes = [];
+          failing = failing.items;
+          calls = 0;
+          faults = 0;
+          starved = 0;
+        } }
     {
         MemSink {
             bytes: Vec::new(alloc),
@@ -67,7 +79,8 @@ impl Sink for MemSink {
         ensures cause { HasCause self.old.faults self.new.faults result }
 
         // It fails exactly where the list says so or there was no memory, and else takes all bytes.
-        ensures fails { FailsAsListed self.old.failing self.old.calls self.old.starved self.new.starved result }
+        ensures fails { FailsAsListed self.old.failing self.old.calls self.old.starved
+            self.new.starved result }
         ensures takes { IfOk result (λ n. n ≡ length bytes.now) }
         ensures calls { self.new.calls ≡ one_more self.old.calls }
         ensures failing { self.new.failing ≡ self.old.failing }

@@ -1,5 +1,6 @@
 //! A source over bytes in memory.
-ghost use Rattle.std.specs.Prelude.{◌≡◌, ℕ, ◌+◌, ◌-◌, ◌^◌, ◌≤◌, min, length, drop, Some, IfOk, IfErr, OnErr, OnOk, is_err};
+ghost use Rattle.std.specs.Prelude.{◌≡◌, ℕ, ◌+◌, ◌-◌, ◌^◌, ◌≤◌, min, length, drop, Some, IfOk};
+ghost use Rattle.std.specs.Prelude.{IfErr, OnErr, OnOk, is_err};
 ghost use Rattle.std.specs.Io.KnownBytes.{ReadConsumes};
 ghost use Rattle.outside.specs.Faults.{HasCause, one_more, is_listed};
 ghost use Rattle.outside.specs.Streams.{SourceValue};
@@ -23,7 +24,13 @@ impl Model for MemSource {
 
     ghost Value = { SourceValue };
 
-    ghost view = { λ s. record { left = drop s.at s.bytes.items; failing = s.failing.items; calls = s.calls; faults = s.faults } };
+    ghost view = { λ s. record {
+      left = drop s.at s.bytes.items;
+      failing = s.failing.items;
+      calls =
+          s.calls;
+      faults = s.faults;
+    } };
 
     ghost invariant = { λ s. s.at ≤ vec_len s.bytes };
 }
@@ -31,7 +38,13 @@ impl Model for MemSource {
 impl MemSource {
     /// A source of these bytes whose calls with the numbers in `failing`, counted from 0, fail.
     pub fn new(bytes: Vec<u8>, failing: Vec<u64>) -> MemSource
-        ensures { result ≡ record { left = bytes.items; failing = failing.items; calls = 0; faults = 0 } }
+        ensures { result ≡ record {
+          left = bytes.items;
+          failing = failing.items;
+          calls = 0;
+          faults =
+              0;
+        } }
     {
         MemSource {
             bytes,
@@ -53,7 +66,8 @@ impl Source for MemSource {
         ensures bytes { ReadConsumes (Some self.old.left) (Some self.new.left) result buf.new }
         ensures cause { HasCause self.old.faults self.new.faults result }
 
-        // It fails exactly where the list says so, and else fills the buffer as far as bytes are left.
+        // It fails exactly where the list says so, and else fills the buffer as far as bytes are
+        // left.
         ensures fails { is_err result ≡ is_listed self.old.failing self.old.calls }
         ensures fills { IfOk result (λ n. n ≡ min (length buf.new) (length self.old.left)) }
         ensures calls { self.new.calls ≡ one_more self.old.calls }

@@ -6,7 +6,8 @@ ghost use Rattle.outside.specs.Streams.{AppendsPart};
 
 use crate::{Failed, Sink};
 
-/// Writes all bytes, in as many calls as the sink needs. At `Failed` a part of their front was written.
+/// Writes all bytes, in as many calls as the sink needs. At `Failed` a part of their front was
+/// written.
 pub fn write_all<S: Sink>(sink: &mut S, bytes: &[u8]) -> Result<(), Failed>
     ensures ok { OnOk result (Appends (S.written sink.old) (S.written sink.new) bytes.now) }
     ensures err { OnErr result (AppendsPart (S.written sink.old) (S.written sink.new) bytes.now) }

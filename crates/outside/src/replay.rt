@@ -10,8 +10,8 @@ use crate::mem_disk::put_bytes;
 use std::alloc::{AllocError, Global};
 use std::marker::Model;
 
-/// A file as it reads, as it was at the last sync, and with all its writes and cuts made; the ranges
-/// written since that sync, and the least and the greatest length.
+/// A file as it reads, as it was at the last sync, and with all its writes and cuts made; the
+/// ranges written since that sync, and the least and the greatest length.
 #[derive(Drop)]
 pub struct Replay {
     alloc: Global,
@@ -28,7 +28,17 @@ impl Model for Replay {
 
     ghost Value = { Kept };
 
-    ghost view = { λ r. record { file = record { now = r.reads.items; synced = r.synced.items; written = r.written.items; least = r.least; greatest = r.greatest }; whole = r.whole.items } };
+    ghost view = { λ r. record {
+      file = record {
+        now = r.reads.items;
+        synced = r.synced.items;
+        written =
+            r.written.items;
+        least = r.least;
+        greatest = r.greatest;
+      };
+      whole = r.whole.items;
+    } };
 }
 
 // Whether two numbers name one file.
@@ -103,7 +113,12 @@ impl Replay {
     // A write that is pending and not read.
     fn pend(&mut self, at: usize, bytes: &[u8]) -> Result<(), AllocError>
         requires { at ≤ length self.old.file.now }
-        ensures { OnOk result (self.new ≡ record { file = after_write self.old.file at (length bytes.now) self.old.file.now; whole = put self.old.whole at bytes.now }) }
+        ensures { OnOk result
+            (self.new ≡ record {
+              file = after_write self.old.file at (length bytes.now)
+                  self.old.file.now;
+              whole = put self.old.whole at bytes.now;
+            }) }
     {
         let _len = self.reads.len();
         self.written.push((at, bytes.len()))?;
@@ -112,14 +127,22 @@ impl Replay {
     }
 
     fn cut(&mut self, len: usize)
-        ensures { self.new ≡ record { file = after_cut self.old.file len (take len self.old.file.now); whole = take len self.old.whole } }
+        ensures { self.new ≡ record {
+          file = after_cut self.old.file len
+              (take len self.old.file.now);
+          whole = take len self.old.whole;
+        } }
     {
         self.reads.truncate(len);
         self.cut_not(len);
     }
 
     fn cut_not(&mut self, len: usize)
-        ensures { self.new ≡ record { file = after_cut self.old.file len self.old.file.now; whole = take len self.old.whole } }
+        ensures { self.new ≡ record {
+          file = after_cut self.old.file len self.old.file.now;
+          whole =
+              take len self.old.whole;
+        } }
     {
         self.whole.truncate(len);
         self.least = self.least.min(len);

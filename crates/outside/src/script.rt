@@ -2,13 +2,15 @@
 ghost use Rattle.std.specs.Prelude.{◌≡◌, [], ◌++◌, take, drop, MatchBool, IfOk, OnOk, OnErr};
 ghost use Rattle.std.specs.Option.{option_map};
 ghost use Rattle.outside.specs.MemDisk.{reply_of};
-ghost use Rattle.outside.specs.Script.{planned_of, plan_from, reply_to, script_after, left_in, FitsIn, IsFull, IsReady};
+ghost use Rattle.outside.specs.Script.{planned_of, plan_from, reply_to, script_after, left_in};
+ghost use Rattle.outside.specs.Script.{FitsIn, IsFull, IsReady};
 
 use crate::{Answer, Reply};
 use std::alloc::{AllocError, Global};
 use std::marker::Model;
 
-/// Answers to be given in order. Those before `next` were given, and of bytes at `next` those before `at`.
+/// Answers to be given in order. Those before `next` were given, and of bytes at `next` those
+/// before `at`.
 #[derive(Drop)]
 pub struct Script {
     answers: Vec<Answer>,
@@ -80,7 +82,8 @@ impl Script {
 fn behind(answers: &[Answer], next: usize, at: usize, room: usize) -> (usize, usize)
     requires { IsReady next at answers.now }
     ensures ready { IsReady result.0 result.1 answers.now }
-    ensures script { plan_from result.1 (drop result.0 answers.now) ≡ script_after room (plan_from at (drop next answers.now)) }
+    ensures script { plan_from result.1 (drop result.0 answers.now) ≡ script_after room
+        (plan_from at (drop next answers.now)) }
 {
     if next >= answers.len() {
         return (next, at);

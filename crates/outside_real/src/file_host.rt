@@ -10,8 +10,9 @@ use std::net::Net;
 use std::rt::Runtime;
 use std::time::Clock;
 
-/// A disk of the files `bsp.0` and `bsp.1` in a folder, the links and the clock of this machine. It tells
-/// its counts alone: of its links, and of the failures of the disk and of each link. No link is made yet.
+/// A disk of the files `bsp.0` and `bsp.1` in a folder, the links and the clock of this machine. It
+/// tells its counts alone: of its links, and of the failures of the disk and of each link. No link
+/// is made yet.
 #[derive(Drop)]
 pub struct FileHost<R: Runtime + Net> {
     rt: R,

@@ -9,8 +9,8 @@ use std::io::{ErrorKind, Read, Seek, SeekFrom, Write};
 use std::path::{Path, PathBuf};
 use std::rt::Files;
 
-/// A file in a folder. It is opened at the first call that finds it there, and made by the first write;
-/// until then it is empty.
+/// A file in a folder. It is opened at the first call that finds it there, and made by the first
+/// write; until then it is empty.
 #[derive(Drop)]
 pub struct RealFile<R: Files> {
     folder: PathBuf,
@@ -40,7 +40,8 @@ impl<R: Files> RealFile<R> {
         }
     }
 
-    /// Reads from place `at` on into the front of `buf`, as many bytes as there are, or as it has room for.
+    /// Reads from place `at` on into the front of `buf`, as many bytes as there are, or as it has
+    /// room for.
     pub fn read_at(&mut self, files: &R, at: u64, buf: &mut [u8]) -> io::Result<usize>
         ensures { IfOk result (λ n. n ≤ length buf.new) }
     {

@@ -1,6 +1,8 @@
 //! What stands at the front of some bytes, decided without taking memory.
 ghost use Rattle.std.specs.Prelude.{◌≡◌, ◌+◌, ◌≤◌, length, drop};
-ghost use Rattle.record_grammar.specs.Reading.{Backs, decided_header, decided_payload, front_in, kind_of, refused_for, refused_ids, refused_length, timestamp_in};
+ghost use Rattle.record_grammar.specs.Reading.{Backs, decided_header, decided_payload, front_in};
+ghost use Rattle.record_grammar.specs.Reading.{kind_of, refused_for, refused_ids, refused_length};
+ghost use Rattle.record_grammar.specs.Reading.{timestamp_in};
 
 /// The greatest length of a payload, in bytes (BSP, "Records").
 pub const MAX_PAYLOAD: usize = 49_152;
@@ -128,9 +130,9 @@ fn decided_header(kind: Kind, type_byte: u8, len: usize, rest: &[u8]) -> Front
     Front::Whole(type_byte, len)
 }
 
-/// What stands at the front of these bytes, decided as soon as it can be: a version other than 0 at the
-/// first byte, a wrong length at the fourth, and a time with its top bit set once the whole record is
-/// there. It takes no memory.
+/// What stands at the front of these bytes, decided as soon as it can be: a version other than 0 at
+/// the first byte, a wrong length at the fourth, and a time with its top bit set once the whole
+/// record is there. It takes no memory.
 pub fn front_of(bytes: &[u8]) -> Front
     ensures value { result ≡ front_in bytes.now }
     ensures backed { Backs bytes.now result }

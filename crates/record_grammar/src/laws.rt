@@ -1,5 +1,7 @@
 //! What holds of all spellings. Each function's clause is the law; none does anything.
-ghost use Rattle.record_grammar.specs.Laws.{DecisionsStay, ItemsAreLongest, NoneBeginsAnother, SkippedReadBack, SpellingsAreExact, SpellingsReadBack, StreamsAreMadeOfItems};
+ghost use Rattle.record_grammar.specs.Laws.{DecisionsStay, ItemsAreLongest, NoneBeginsAnother};
+ghost use Rattle.record_grammar.specs.Laws.{SkippedReadBack, SpellingsAreExact, SpellingsReadBack};
+ghost use Rattle.record_grammar.specs.Laws.{StreamsAreMadeOfItems};
 
 /// What spells a record is read as that record, whatever follows.
 pub fn spellings_read_back()
@@ -26,8 +28,8 @@ pub fn decisions_stay()
     ensures { DecisionsStay }
 {}
 
-/// Whatever whole records and skipped ones some bytes begin with, the items of the stream begin with
-/// theirs.
+/// Whatever whole records and skipped ones some bytes begin with, the items of the stream begin
+/// with theirs.
 pub fn items_are_longest()
     ensures { ItemsAreLongest }
 {}

@@ -2,7 +2,8 @@
 ghost use Rattle.std.specs.Prelude.{◌≡◌, ◌^◌, ◌<◌, ◌≤◌, length, IfOk};
 ghost use Rattle.record_grammar.specs.Laws.{IsSpelled};
 ghost use Rattle.record_grammar.specs.Stream.{GoesOn};
-ghost use Rattle.record_grammar.specs.Reading.{decided_payload, found_in, found_payload, ids_of, kind_of, message_of, refused_length, timestamp_in};
+ghost use Rattle.record_grammar.specs.Reading.{decided_payload, found_in, found_payload, ids_of};
+ghost use Rattle.record_grammar.specs.Reading.{kind_of, message_of, refused_length, timestamp_in};
 
 use crate::front::{Front, HEADER_LEN, ID_LEN, Kind, Reason, front_of, kind_of, timestamp_in};
 use std::alloc::{AllocError, Global};
@@ -90,8 +91,10 @@ fn nonce_of(payload: &[u8]) -> Nonce
 // The record of a whole payload whose length and time have passed.
 fn record_of(alloc: Global, type_byte: u8, payload: &[u8]) -> Result<Found, AllocError>
     requires passes { refused_length (kind_of type_byte) (length payload.now) ≡ None }
-    requires decided { decided_payload (kind_of type_byte) type_byte payload.now ≡ Front.Whole type_byte (length payload.now) }
-    ensures { IfOk result (λ found. found ≡ found_payload (kind_of type_byte) type_byte payload.now) }
+    requires decided { decided_payload (kind_of type_byte) type_byte payload.now ≡ Front.Whole
+        type_byte (length payload.now) }
+    ensures { IfOk result (λ found. found ≡ found_payload (kind_of type_byte) type_byte
+        payload.now) }
 {
     let used = HEADER_LEN + payload.len();
     Ok(match kind_of(type_byte) {
@@ -105,7 +108,8 @@ fn record_of(alloc: Global, type_byte: u8, payload: &[u8]) -> Result<Found, Allo
     })
 }
 
-/// Reads what stands at the front of these bytes (BSP, "Records"). It fails only for want of memory.
+/// Reads what stands at the front of these bytes (BSP, "Records"). It fails only for want of
+/// memory.
 pub fn read_one(alloc: Global, bytes: &[u8]) -> Result<Found, AllocError>
     ensures exact { IfOk result (λ found. found ≡ found_in bytes.now) }
     ensures spelled { IfOk result (λ found. IsSpelled bytes.now found) }

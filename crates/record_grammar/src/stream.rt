@@ -26,8 +26,8 @@ pub enum Ending {
     Bad(u64, Reason),
 }
 
-/// How a stream ends of which these bytes are the rest: no whole record and no skipped one stands at
-/// their front. It takes no memory.
+/// How a stream ends of which these bytes are the rest: no whole record and no skipped one stands
+/// at their front. It takes no memory.
 pub fn ending_of(place: u64, bytes: &[u8]) -> Ending
     requires { IsRest bytes.now }
     ensures ending { result ≡ ending place bytes.now }

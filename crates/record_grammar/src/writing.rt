@@ -1,6 +1,7 @@
 //! Spelling a record.
 ghost use Rattle.std.specs.Prelude.{◌≡◌, ◌++◌, ◌^◌, ◌<◌, length, OnOk, OnErr};
-ghost use Rattle.record_grammar.specs.Spelling.{AddsTo, AreIds, Spells, framed, header, joined, message_payload, spelling};
+ghost use Rattle.record_grammar.specs.Spelling.{AddsTo, AreIds, Spells, framed, header, joined};
+ghost use Rattle.record_grammar.specs.Spelling.{message_payload, spelling};
 ghost use Rattle.sync_ids.specs.Values.{IsMessage, IsWithin};
 
 use crate::front::ID_LEN;
@@ -39,7 +40,8 @@ fn append_list(type_byte: u8, ids: &IdList<1536>, to: &mut Vec<u8>) -> Result<()
 }
 
 fn append_message(message: &Message, to: &mut Vec<u8>) -> Result<(), AllocError>
-    ensures ok { OnOk result (to.new.items ≡ to.old.items ++ framed 1 (message_payload message.now)) }
+    ensures ok { OnOk result (to.new.items ≡ to.old.items ++ framed 1
+        (message_payload message.now)) }
     ensures within { IsMessage message.now }
     ensures err { OnErr result (AddsTo to.old.items to.new.items) }
 {
@@ -75,8 +77,8 @@ fn append(rec: &Record, to: &mut Vec<u8>) -> Result<(), AllocError>
     }
 }
 
-/// Appends the one spelling of a record (BSP, "Records"). It fails only for want of memory, and then
-/// leaves the bytes as they were.
+/// Appends the one spelling of a record (BSP, "Records"). It fails only for want of memory, and
+/// then leaves the bytes as they were.
 pub fn encode(rec: &Record, to: &mut Vec<u8>) -> Result<(), AllocError>
     ensures ok { OnOk result (to.new.items ≡ to.old.items ++ spelling rec.now) }
     ensures spells { OnOk result (Spells rec.now (spelling rec.now)) }

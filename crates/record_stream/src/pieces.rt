@@ -18,8 +18,8 @@ pub struct Heard {
     pub ending: Ending,
 }
 
-/// Takes every item that stands whole at the front of the bytes held, and adds it to the items. It fails
-/// only for want of memory.
+/// Takes every item that stands whole at the front of the bytes held, and adds it to the items. It
+/// fails only for want of memory.
 pub fn take_items(reader: &mut Reader, items: &mut Vec<Item>) -> Result<(), AllocError>
     ensures stream { OnOk result (Continues items.old.items reader.old items.new.items reader.new) }
     ensures ready { OnOk result (IsReady reader.new) }
@@ -35,15 +35,16 @@ pub fn take_items(reader: &mut Reader, items: &mut Vec<Item>) -> Result<(), Allo
     }
 }
 
-/// Hears a piece whole, and adds the items that it completes. Once the reader has failed nothing that
-/// comes counts. It fails only for want of memory.
+/// Hears a piece whole, and adds the items that it completes. Once the reader has failed nothing
+/// that comes counts. It fails only for want of memory.
 pub fn read_piece(
     reader: &mut Reader,
     piece: &[u8],
     items: &mut Vec<Item>,
 ) -> Result<(), AllocError>
     requires { IsReady reader.old }
-    ensures stream { OnOk result (Hears piece.now [] items.old.items reader.old items.new.items reader.new) }
+    ensures stream { OnOk result (Hears piece.now [] items.old.items reader.old items.new.items
+        reader.new) }
     ensures ready { OnOk result (IsReady reader.new) }
 {
     let mut at = 0;
@@ -61,8 +62,10 @@ pub fn read_piece(
 /// What a stream has that comes in these pieces: however it is cut, the items and the ending of the
 /// whole. It fails only for want of memory.
 pub fn read_pieces(alloc: Global, pieces: &[Vec<u8>]) -> Result<Heard, AllocError>
-    ensures items { IfOk result (λ heard. heard.items.items ≡ items 0 (flat_map (λ piece. piece.items) pieces.now)) }
-    ensures ending { IfOk result (λ heard. heard.ending ≡ ending 0 (flat_map (λ piece. piece.items) pieces.now)) }
+    ensures items { IfOk result
+        (λ heard. heard.items.items ≡ items 0 (flat_map (λ piece. piece.items) pieces.now)) }
+    ensures ending { IfOk result
+        (λ heard. heard.ending ≡ ending 0 (flat_map (λ piece. piece.items) pieces.now)) }
 {
     let mut reader = Reader::new(alloc)?;
     let mut items = Vec::new(alloc);

@@ -1,5 +1,6 @@
 //! The reader of a stream.
-ghost use Rattle.std.specs.Prelude.{◌≡◌, ◌≢◌, ℕ, ◌-◌, ◌<◌, ◌++◌, List, [], min, length, take, IfOk, OnOk, OnErr, true, if◌then◌else◌};
+ghost use Rattle.std.specs.Prelude.{◌≡◌, ◌≢◌, ℕ, ◌-◌, ◌<◌, ◌++◌, List, [], min, length, take, IfOk};
+ghost use Rattle.std.specs.Prelude.{OnOk, OnErr, true, if◌then◌else◌};
 ghost use Rattle.record_grammar.specs.Reading.{found_in};
 ghost use Rattle.record_grammar.specs.Stream.{IsRest, ending, items};
 ghost use Rattle.record_stream.specs.Reading.{after, fresh};
@@ -28,8 +29,8 @@ pub enum Next {
     Bad(u64, Reason),
 }
 
-/// A reader of a stream that comes in pieces. Contracts see its place in the stream, the bytes that it
-/// holds, and whether `next` has answered `Bad`.
+/// A reader of a stream that comes in pieces. Contracts see its place in the stream, the bytes that
+/// it holds, and whether `next` has answered `Bad`.
 #[derive(Drop)]
 pub struct Reader {
     alloc: Global,
@@ -46,7 +47,12 @@ impl Model for Reader {
 
     ghost Value = { ReaderState };
 
-    ghost view = { λ r. record { place = r.place; bytes = take (r.end - r.start) (drop r.start r.buffer.items); failed = r.failed } };
+    ghost view = { λ r. record {
+      place = r.place;
+      bytes = take (r.end - r.start)
+          (drop r.start r.buffer.items);
+      failed = r.failed;
+    } };
 
     ghost invariant = { λ r. IsSound r.buffer.items r.start r.end r.place r.failed };
 }
@@ -60,8 +66,8 @@ fn zeros(alloc: Global, len: usize) -> Result<Vec<u8>, AllocError>
 impl Reader {
     ghost use Rattle.record_stream.specs.Answers.{Continues, LeavesAt, next_of, told_by};
 
-    /// A reader at the start of a stream. It takes its whole buffer of 49,156 bytes here, and nothing
-    /// else later; it fails only for want of memory.
+    /// A reader at the start of a stream. It takes its whole buffer of 49,156 bytes here, and
+    /// nothing else later; it fails only for want of memory.
     pub fn new(alloc: Global) -> Result<Reader, AllocError>
         ensures fresh { IfOk result (λ r. r ≡ fresh) }
         ensures rest { IfOk result (λ r. IsRest r.bytes) }
@@ -79,12 +85,18 @@ impl Reader {
     /// Takes as many bytes of the piece's front as there is room for, and answers how many; 0 once
     /// `next` has answered `Bad`. It takes no memory.
     pub fn feed(&mut self, piece: &[u8]) -> usize
-        ensures count { result ≡ (if self.old.failed then 0 else min (length piece.now) (49156 - length self.old.bytes)) }
-        ensures taken { self.new ≡ record self.old { bytes = self.old.bytes ++ take result piece.now } }
+        ensures count { result ≡ (if self.old.failed then 0 else min (length piece.now)
+            (49156 - length self.old.bytes)) }
+        ensures taken { self.new ≡ record self.old {
+          bytes = self.old.bytes ++ take result
+              piece.now;
+        } }
 
         // Where it takes nothing of a piece, nothing that comes changes what the stream has.
         ensures dropped { self.old.failed ≡ true → (more : List ℕ)
-            → (items self.old.place (self.old.bytes ++ more) ≡ []) × (ending self.old.place (self.old.bytes ++ more) ≡ ending self.old.place self.old.bytes) }
+            → (items self.old.place (self.old.bytes ++ more) ≡ [])
+            × (ending self.old.place (self.old.bytes ++ more) ≡ ending self.old.place
+            self.old.bytes) }
     {
         if self.failed {
             return 0;
@@ -107,7 +119,8 @@ impl Reader {
     /// What stands next, taken off the bytes held. It fails only for want of memory, and then the
     /// reader is as it was. After `Bad` it answers that same `Bad` for good.
     pub fn next(&mut self) -> Result<Next, AllocError>
-        ensures answer { IfOk result (λ next. next ≡ next_of self.old.place (found_in self.old.bytes)) }
+        ensures answer { IfOk result
+            (λ next. next ≡ next_of self.old.place (found_in self.old.bytes)) }
         ensures after { OnOk result (self.new ≡ after self.old (found_in self.old.bytes)) }
         ensures stream { IfOk result (λ next. Continues [] self.old (told_by next) self.new) }
         ensures left { IfOk result (λ next. LeavesAt next self.old self.new) }

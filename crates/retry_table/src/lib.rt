@@ -1,4 +1,5 @@
-//! What is owed, wanted, to be sent and to be offered to each contact, found by descent and never by a walk.
+//! What is owed, wanted, to be sent and to be offered to each contact, found by descent and never
+//! by a walk.
 #![tactic(auto)]
 
 mod places;

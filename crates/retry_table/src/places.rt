@@ -27,7 +27,8 @@ pub(crate) fn put(queue: &mut DueTree, place: usize, number: Option<u64>)
 /// The first 1,536 places that are due, in order.
 pub(crate) fn due_places(alloc: Global, queue: &DueTree, bound: u64) -> Result<Vec<u32>, AllocError>
     requires { length queue.now < 2 ^ 32 }
-    ensures { IfOk result (λ v. v.items ≡ take ids_limit (numbers_where (is_due bound) 0 queue.now)) }
+    ensures { IfOk result
+        (λ v. v.items ≡ take ids_limit (numbers_where (is_due bound) 0 queue.now)) }
 {
     let mut places = Vec::new(alloc);
     let mut from = 0;

@@ -1,5 +1,6 @@
 //! The rows of one contact, with a queue for each thing that may be due.
-ghost use Rattle.std.specs.Prelude.{◌≡◌, ◌^◌, ◌<◌, [], IfSome, IfOk, OnOk, OnErr, length, slice_set};
+ghost use Rattle.std.specs.Prelude.{◌≡◌, ◌^◌, ◌<◌, [], IfSome, IfOk, OnOk, OnErr, length};
+ghost use Rattle.std.specs.Prelude.{slice_set};
 ghost use Rattle.retry_table.specs.Table.{kept_in, with_numbers};
 ghost use Rattle.retry_table.specs.Due.{owed_in, message_in, offers_in};
 
@@ -10,7 +11,8 @@ use std::alloc::{AllocError, Global};
 use std::marker::Model;
 use sync_rules::Mode;
 
-/// The rows of one contact by number, and the queues that follow them. Contracts see the list of what is kept.
+/// The rows of one contact by number, and the queues that follow them. Contracts see the list of
+/// what is kept.
 #[derive(Drop)]
 pub(crate) struct Queues {
     rows: Vec<KeptRow>,
@@ -50,7 +52,8 @@ impl Queues {
         })
     }
 
-    /// Makes rows for all numbers below this one. It alone takes memory; after an error all is as before.
+    /// Makes rows for all numbers below this one. It alone takes memory; after an error all is as
+    /// before.
     pub(crate) fn reserve(&mut self, numbers: u32) -> Result<(), AllocError>
         ensures ok { OnOk result (self.new ≡ with_numbers numbers self.old) }
         ensures err { OnErr result (self.new ≡ self.old) }

@@ -1,8 +1,11 @@
 //! `Retry`.
-ghost use Rattle.std.specs.Prelude.{◌≡◌, ◌+◌, ◌-◌, ◌^◌, ◌<◌, ◌++◌, ◌∷◌, [], ℕ, true, false, IfOk, OnOk, OnErr, length, slice_index_or};
+ghost use Rattle.std.specs.Prelude.{◌≡◌, ◌+◌, ◌-◌, ◌^◌, ◌<◌, ◌++◌, ◌∷◌, [], ℕ, true, false, IfOk};
+ghost use Rattle.std.specs.Prelude.{OnOk, OnErr, length, slice_index_or};
 ghost use Rattle.sync_rules.specs.Lists.{is_among, without};
 ghost use Rattle.sync_rules.specs.Facts.{row_seen, row_acked, row_asked, row_sent, row_offered};
-ghost use Rattle.retry_table.specs.Table.{no_wants, rows_of, wants_of, kept_at, with_row, with_ready, row_owed, IsEmpty, Keeps, ChangesWants, Reserves};
+ghost use Rattle.retry_table.specs.Table.{no_wants, rows_of, wants_of, kept_at, with_row};
+ghost use Rattle.retry_table.specs.Table.{with_ready, row_owed, IsEmpty, Keeps, ChangesWants};
+ghost use Rattle.retry_table.specs.Table.{Reserves};
 ghost use Rattle.retry_table.specs.Due.{owed_in, message_in, offers_in, requests_in};
 
 use crate::queues::Queues;
@@ -16,9 +19,10 @@ use sync_rules::Mode;
 /// The number of contacts that there may be.
 const CONTACTS: usize = 256;
 
-/// What is kept for each contact, a number from 0 to 255: a row for each message, by its arrival number, and the ids wanted from the
-/// contact. Contracts see for each contact the list of its rows, which is as long as there is room, and the list of its wanted ids
-/// with the room for more of them.
+/// What is kept for each contact, a number from 0 to 255: a row for each message, by its arrival
+/// number, and the ids wanted from the contact. Contracts see for each contact the list of its
+/// rows, which is as long as there is room, and the list of its wanted ids with the room for more
+/// of them.
 #[derive(Drop)]
 pub struct Retry {
     rows: Vec<Queues>,
@@ -50,7 +54,8 @@ fn no_rows(alloc: Global) -> Result<Vec<Queues>, AllocError>
 
 /// The wanted ids of all contacts: none.
 fn no_wants(alloc: Global) -> Result<Vec<Wanted>, AllocError>
-    ensures wants { IfOk result (λ v. (contact : ℕ) → slice_index_or v.items contact no_wants ≡ no_wants) }
+    ensures wants { IfOk result (λ v. (contact : ℕ)
+        → slice_index_or v.items contact no_wants ≡ no_wants) }
     ensures len { IfOk result (λ v. length v.items ≡ 256) }
 {
     let mut wants = Vec::new(alloc);
@@ -70,8 +75,9 @@ impl Retry {
         Ok(Retry { rows, wants })
     }
 
-    /// Makes room for the contact's rows of all numbers below `numbers` and for `wants` further calls of `want`, and never takes room
-    /// away. It alone of all changes takes memory; after an error all is as before.
+    /// Makes room for the contact's rows of all numbers below `numbers` and for `wants` further
+    /// calls of `want`, and never takes room away. It alone of all changes takes memory; after an
+    /// error all is as before.
     pub fn reserve(&mut self, contact: u8, numbers: u32, wants: usize) -> Result<(), AllocError>
         ensures ok { OnOk result (Reserves self.old self.new contact numbers wants) }
         ensures err { OnErr result (self.new ≡ self.old) }
@@ -106,7 +112,8 @@ impl Retry {
     /// An acknowledgement of the message is owed to the contact.
     pub fn owe(&mut self, contact: u8, n: u32)
         requires { n < length (rows_of self.old contact) }
-        ensures { Keeps self.old self.new contact n (with_row row_owed (kept_at self.old contact n)) }
+        ensures { Keeps self.old self.new contact n
+            (with_row row_owed (kept_at self.old contact n)) }
     {
         self.put(contact, n, self.row(contact, n).owe());
     }
@@ -114,7 +121,8 @@ impl Retry {
     /// The acknowledgement was sent.
     pub fn paid(&mut self, contact: u8, n: u32)
         requires { n < length (rows_of self.old contact) }
-        ensures { Keeps self.old self.new contact n (with_row row_acked (kept_at self.old contact n)) }
+        ensures { Keeps self.old self.new contact n
+            (with_row row_acked (kept_at self.old contact n)) }
     {
         self.put(contact, n, self.row(contact, n).pay());
     }
@@ -122,7 +130,8 @@ impl Retry {
     /// The contact asked for the message, which is due at once.
     pub fn ask(&mut self, contact: u8, n: u32)
         requires { n < length (rows_of self.old contact) }
-        ensures { Keeps self.old self.new contact n (with_row row_asked (kept_at self.old contact n)) }
+        ensures { Keeps self.old self.new contact n
+            (with_row row_asked (kept_at self.old contact n)) }
     {
         self.put(contact, n, self.row(contact, n).ask());
     }
@@ -130,30 +139,34 @@ impl Retry {
     /// The contact has the message.
     pub fn saw(&mut self, contact: u8, n: u32)
         requires { n < length (rows_of self.old contact) }
-        ensures { Keeps self.old self.new contact n (with_row row_seen (kept_at self.old contact n)) }
+        ensures { Keeps self.old self.new contact n
+            (with_row row_seen (kept_at self.old contact n)) }
     {
         self.put(contact, n, self.row(contact, n).see());
     }
 
-    /// The message was sent to the contact at `now`, on a session of this latency, both in milliseconds: no longer asked for, one try
-    /// more, and a new expiry (BSP, "Retransmission").
+    /// The message was sent to the contact at `now`, on a session of this latency, both in
+    /// milliseconds: no longer asked for, one try more, and a new expiry (BSP, "Retransmission").
     pub fn sent(&mut self, contact: u8, n: u32, now: u64, latency: u32)
         requires { n < length (rows_of self.old contact) }
-        ensures { Keeps self.old self.new contact n (with_row (row_sent now latency) (kept_at self.old contact n)) }
+        ensures { Keeps self.old self.new contact n
+            (with_row (row_sent now latency) (kept_at self.old contact n)) }
     {
         self.put(contact, n, self.row(contact, n).send(now, latency));
     }
 
-    /// The message was offered to the contact at `now`, on a session of this latency, both in milliseconds: one try more, and a new
-    /// expiry (BSP, "Retransmission").
+    /// The message was offered to the contact at `now`, on a session of this latency, both in
+    /// milliseconds: one try more, and a new expiry (BSP, "Retransmission").
     pub fn offered(&mut self, contact: u8, n: u32, now: u64, latency: u32)
         requires { n < length (rows_of self.old contact) }
-        ensures { Keeps self.old self.new contact n (with_row (row_offered now latency) (kept_at self.old contact n)) }
+        ensures { Keeps self.old self.new contact n
+            (with_row (row_offered now latency) (kept_at self.old contact n)) }
     {
         self.put(contact, n, self.row(contact, n).offer(now, latency));
     }
 
-    /// The message is ready: delivered, of a group that is Shared with the contact, and written here or judged to be shared.
+    /// The message is ready: delivered, of a group that is Shared with the contact, and written
+    /// here or judged to be shared.
     pub fn ready(&mut self, contact: u8, n: u32)
         requires { n < length (rows_of self.old contact) }
         ensures { Keeps self.old self.new contact n (with_ready true (kept_at self.old contact n)) }
@@ -164,7 +177,8 @@ impl Retry {
     /// The message is not ready.
     pub fn unready(&mut self, contact: u8, n: u32)
         requires { n < length (rows_of self.old contact) }
-        ensures { Keeps self.old self.new contact n (with_ready false (kept_at self.old contact n)) }
+        ensures { Keeps self.old self.new contact n
+            (with_ready false (kept_at self.old contact n)) }
     {
         self.put(contact, n, self.row(contact, n).make_ready(false));
     }
@@ -174,19 +188,29 @@ impl Retry {
         requires new { is_among (wants_of self.old contact).ids id ≡ false }
         requires room { 0 < (wants_of self.old contact).room }
         requires few { length (wants_of self.old contact).ids < 2 ^ 32 - 1 }
-        ensures { ChangesWants self.old self.new contact (record { ids = (wants_of self.old contact).ids ++ id ∷ []; room = (wants_of self.old contact).room - 1 }) }
+        ensures { ChangesWants self.old self.new contact
+            (record {
+              ids = (wants_of self.old contact).ids ++ id ∷ [];
+              room =
+                  (wants_of self.old contact).room - 1;
+            }) }
     {
         self.wants[contact as usize].want(id);
     }
 
     /// Takes an id out of those wanted from the contact; nothing changes where it is not there.
     pub fn unwant(&mut self, contact: u8, id: &MessageId)
-        ensures { ChangesWants self.old self.new contact (record (wants_of self.old contact) { ids = without id.now (wants_of self.old contact).ids }) }
+        ensures { ChangesWants self.old self.new contact
+            (record (wants_of self.old contact) {
+              ids = without id.now
+                  (wants_of self.old contact).ids;
+            }) }
     {
         self.wants[contact as usize].unwant(id);
     }
 
-    /// The time in milliseconds from which the message may be sent or offered to the contact again; 0 where there is no row.
+    /// The time in milliseconds from which the message may be sent or offered to the contact again;
+    /// 0 where there is no row.
     pub fn expiry(&self, contact: u8, n: u32) -> u64
         ensures { result ≡ (kept_at self.now contact n).row.expiry }
     {
@@ -200,31 +224,34 @@ impl Retry {
         self.row(contact, n).is_seen()
     }
 
-    /// The numbers of the messages whose acknowledgement is owed to the contact, in order, at most 1,536. Answers an error where there
-    /// is no memory.
+    /// The numbers of the messages whose acknowledgement is owed to the contact, in order, at most
+    /// 1,536. Answers an error where there is no memory.
     pub fn owed(&self, contact: u8) -> Result<Vec<u32>, AllocError>
         ensures { IfOk result (λ v. v.items ≡ owed_in (rows_of self.now contact)) }
     {
         self.rows[contact as usize].owed()
     }
 
-    /// The ids wanted from the contact, in order, at most 1,536. Answers an error where there is no memory.
+    /// The ids wanted from the contact, in order, at most 1,536. Answers an error where there is no
+    /// memory.
     pub fn wanted(&self, contact: u8) -> Result<Vec<MessageId>, AllocError>
         ensures { IfOk result (λ v. v.items ≡ requests_in (wants_of self.now contact).ids) }
     {
         self.wants[contact as usize].requests()
     }
 
-    /// The number of the message that is to be sent to the contact at `now`: the first that is ready, not seen, and in interactive mode
-    /// asked for, in batch mode with an expiry of at most `now`. `None` exactly where there is none.
+    /// The number of the message that is to be sent to the contact at `now`: the first that is
+    /// ready, not seen, and in interactive mode asked for, in batch mode with an expiry of at most
+    /// `now`. `None` exactly where there is none.
     pub fn due_message(&self, contact: u8, mode: Mode, now: u64) -> Option<u32>
         ensures { result ≡ message_in mode now (rows_of self.now contact) }
     {
         self.rows[contact as usize].due_message(mode, now)
     }
 
-    /// The numbers of the messages that are to be offered to the contact at `now`, in order, at most 1,536: those that are ready, not
-    /// seen, not asked for, and have an expiry of at most `now`. Answers an error where there is no memory.
+    /// The numbers of the messages that are to be offered to the contact at `now`, in order, at
+    /// most 1,536: those that are ready, not seen, not asked for, and have an expiry of at most
+    /// `now`. Answers an error where there is no memory.
     pub fn due_offers(&self, contact: u8, now: u64) -> Result<Vec<u32>, AllocError>
         ensures { IfOk result (λ v. v.items ≡ offers_in now (rows_of self.now contact)) }
     {

@@ -1,6 +1,7 @@
 //! What is kept of one message for one contact.
 ghost use Rattle.std.specs.Prelude.{◌≡◌, ◌≤◌, true, false};
-ghost use Rattle.sync_rules.specs.Facts.{one_more_try, expiry_after, row_seen, row_acked, row_asked, row_sent, row_offered};
+ghost use Rattle.sync_rules.specs.Facts.{one_more_try, expiry_after, row_seen, row_acked};
+ghost use Rattle.sync_rules.specs.Facts.{row_asked, row_sent, row_offered};
 ghost use Rattle.retry_table.specs.Table.{no_kept, with_row, with_ready, row_owed};
 ghost use Rattle.retry_table.specs.Due.{is_open};
 ghost use Rattle.retry_table.specs.Queues.{message_place, asked_place, offer_place, owed_place};
@@ -10,7 +11,8 @@ use std::marker::Model;
 /// The most tries that are counted.
 const MOST_TRIES: u8 = 64;
 
-/// What is kept of one message for one contact. Contracts see the row, and whether the message is ready.
+/// What is kept of one message for one contact. Contracts see the row, and whether the message is
+/// ready.
 #[derive(Clone, Copy)]
 pub(crate) struct KeptRow {
     seen: bool,
@@ -26,13 +28,32 @@ impl Model for KeptRow {
 
     ghost Value = { Kept };
 
-    ghost view = { λ r. record { ready = r.ready; row = record { seen = r.seen; owed = r.owed; asked = r.asked; tries = r.tries; expiry = r.expiry } } };
+    ghost view = { λ r. record {
+      ready = r.ready;
+      row = record {
+        seen = r.seen;
+        owed = r.owed;
+        asked =
+            r.asked;
+        tries = r.tries;
+        expiry = r.expiry;
+      };
+    } };
 
-    ghost inverse = { λ k. record { seen = k.row.seen; owed = k.row.owed; asked = k.row.asked; ready = k.ready; tries = k.row.tries; expiry = k.row.expiry } };
+    ghost inverse = { λ k. record {
+      seen = k.row.seen;
+      owed = k.row.owed;
+      asked = k.row.asked;
+      ready
+          = k.ready;
+      tries = k.row.tries;
+      expiry = k.row.expiry;
+    } };
 }
 
-/// The time in milliseconds from which a message may be sent or offered again after so many tries, the last one at `now`: two ways of
-/// the latency, doubled with each try (BSP, "Retransmission"), and at most `u64::MAX`.
+/// The time in milliseconds from which a message may be sent or offered again after so many tries,
+/// the last one at `now`: two ways of the latency, doubled with each try (BSP, "Retransmission"),
+/// and at most `u64::MAX`.
 fn expiry_after(now: u64, latency: u32, tries: u8) -> u64
     requires { tries ≤ 64 }
     ensures { result ≡ expiry_after now latency tries }

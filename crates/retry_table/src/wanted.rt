@@ -1,5 +1,6 @@
 //! The ids wanted from one contact.
-ghost use Rattle.std.specs.Prelude.{◌≡◌, ◌+◌, ◌-◌, ◌^◌, ◌<◌, ◌≤◌, ◌++◌, ◌∷◌, [], false, IfOk, OnOk, OnErr, length};
+ghost use Rattle.std.specs.Prelude.{◌≡◌, ◌+◌, ◌-◌, ◌^◌, ◌<◌, ◌≤◌, ◌++◌, ◌∷◌, [], false, IfOk, OnOk};
+ghost use Rattle.std.specs.Prelude.{OnErr, length};
 ghost use Rattle.sync_rules.specs.Lists.{is_among, without};
 ghost use Rattle.retry_table.specs.Table.{no_wants, with_room};
 ghost use Rattle.retry_table.specs.Due.{requests_in};
@@ -10,7 +11,8 @@ use std::alloc::{AllocError, Global};
 use std::marker::Model;
 use sync_ids::MessageId;
 
-/// The ids wanted from one contact, in the order in which they were added, and for how many more there is room.
+/// The ids wanted from one contact, in the order in which they were added, and for how many more
+/// there is room.
 #[derive(Drop)]
 pub(crate) struct Wanted {
     ids: IndexSet<MessageId>,

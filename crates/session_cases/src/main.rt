@@ -1,4 +1,5 @@
-//! Compares what records are taken as and what is due, over many random journals, with the rules as they are told.
+//! Compares what records are taken as and what is due, over many random journals, with the rules as
+//! they are told.
 #![tactic(auto)]
 
 mod compare;

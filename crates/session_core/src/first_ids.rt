@@ -6,7 +6,8 @@ use indexmap::IndexSet;
 use std::alloc::{AllocError, Global};
 use sync_ids::MessageId;
 
-/// The ids of a list, each once, in the order of their first places. It fails only for want of memory.
+/// The ids of a list, each once, in the order of their first places. It fails only for want of
+/// memory.
 pub(crate) fn first_ids(alloc: Global, ids: &[MessageId]) -> Result<IndexSet<MessageId>, AllocError>
     ensures { IfOk result (λ distinct. distinct.keys ≡ firsts ids.now) }
 {

@@ -11,7 +11,8 @@ pub fn versions_ok(list: &VersionList) -> bool
     list.has_zero()
 }
 
-/// The place of the first greatest nonce, compared by their bytes: that of the link which is kept (this project's profile).
+/// The place of the first greatest nonce, compared by their bytes: that of the link which is kept
+/// (this project's profile).
 pub fn keep(nonces: &[Nonce]) -> usize
     requires { nonces.now ≢ [] }
     ensures { IsFirstGreatest nonces.now result }

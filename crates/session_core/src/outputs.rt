@@ -1,20 +1,22 @@
 //! What output is due on a session.
 ghost use Rattle.std.specs.Prelude.{◌≡◌, ◌≤◌, [], length, IfOk, MatchOption};
-ghost use Rattle.sync_rules.specs.Sessions.{acks_due, due_by, offers_due, offers_of, owed_to, requests_due, wanted_of};
+ghost use Rattle.sync_rules.specs.Sessions.{acks_due, due_by, offers_due, offers_of, owed_to};
+ghost use Rattle.sync_rules.specs.Sessions.{requests_due, wanted_of};
 
 use std::alloc::{AllocError, Global};
 use sync_ids::{IdList, MessageId};
 use sync_rules::{Mode, Out, Session, View};
 
-/// The output that is due on a session at this time, in milliseconds, over the facts of the view. `None` comes exactly where
-/// nothing is due. It fails only for want of memory.
+/// The output that is due on a session at this time, in milliseconds, over the facts of the view.
+/// `None` comes exactly where nothing is due. It fails only for want of memory.
 pub fn due<V: View>(
     alloc: Global,
     view: &V,
     session: &Session,
     now: u64,
 ) -> Result<Option<Out>, AllocError>
-    ensures { IfOk result (λ what. what ≡ due_by (V.seen view.now).facts (V.seen view.now).shared session.now now) }
+    ensures { IfOk result (λ what. what ≡ due_by (V.seen view.now).facts (V.seen view.now).shared
+        session.now now) }
 {
     if let Some(acks) = acks(alloc, view, session)? {
         return Ok(Some(acks));
@@ -30,7 +32,8 @@ pub fn due<V: View>(
 
 // The acknowledgements that are owed.
 fn acks<V: View>(alloc: Global, view: &V, session: &Session) -> Result<Option<Out>, AllocError>
-    ensures { IfOk result (λ what. what ≡ acks_due (owed_to (V.seen view.now).facts session.now.contact)) }
+    ensures { IfOk result
+        (λ what. what ≡ acks_due (owed_to (V.seen view.now).facts session.now.contact)) }
 {
     let ids = view.owed(alloc, session.contact)?;
     Ok(id_list(ids).map(Out::Acks))
@@ -38,7 +41,8 @@ fn acks<V: View>(alloc: Global, view: &V, session: &Session) -> Result<Option<Ou
 
 // The requests for what was offered.
 fn requests<V: View>(alloc: Global, view: &V, session: &Session) -> Result<Option<Out>, AllocError>
-    ensures { IfOk result (λ what. what ≡ requests_due session.now.mode (wanted_of (V.seen view.now).facts session.now.contact)) }
+    ensures { IfOk result (λ what. what ≡ requests_due session.now.mode
+        (wanted_of (V.seen view.now).facts session.now.contact)) }
 {
     if session.mode == Mode::Batch {
         return Ok(None);
@@ -54,7 +58,8 @@ fn offers<V: View>(
     session: &Session,
     now: u64,
 ) -> Result<Option<Out>, AllocError>
-    ensures { IfOk result (λ what. what ≡ offers_due session.now.mode (offers_of (V.seen view.now).facts (V.seen view.now).shared session.now.contact now)) }
+    ensures { IfOk result (λ what. what ≡ offers_due session.now.mode
+        (offers_of (V.seen view.now).facts (V.seen view.now).shared session.now.contact now)) }
 {
     if session.mode == Mode::Batch {
         return Ok(None);

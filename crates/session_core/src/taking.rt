@@ -1,8 +1,11 @@
 //! What a record that was heard is taken as.
-ghost use Rattle.std.specs.Prelude.{◌≡◌, ◌<◌, ◌-◌, ◌++◌, ◌&&◌, false, not, length, slice_get, IfOk, OnOk, MatchOption};
+ghost use Rattle.std.specs.Prelude.{◌≡◌, ◌<◌, ◌-◌, ◌++◌, ◌&&◌, false, not, length, slice_get, IfOk};
+ghost use Rattle.std.specs.Prelude.{OnOk, MatchOption};
 ghost use Rattle.std.specs.Option.{option_to_list};
 ghost use Rattle.sync_rules.specs.Facts.{is_invisible, level_at, row_at, wanted_from};
-ghost use Rattle.sync_rules.specs.Sessions.{is_remembered, is_shown, room_after, taken_acks, taken_from, taken_message, taken_offer, taken_offers, taken_requests};
+ghost use Rattle.sync_rules.specs.Sessions.{is_remembered, is_shown, room_after, taken_acks};
+ghost use Rattle.sync_rules.specs.Sessions.{taken_from, taken_message, taken_offer, taken_offers};
+ghost use Rattle.sync_rules.specs.Sessions.{taken_requests};
 ghost use Rattle.sync_rules.specs.Views.{group_in};
 ghost use Rattle.session_core.specs.Taking.{IsShownPlace, take_of};
 
@@ -14,8 +17,8 @@ use sync_rules::{Batch, Entry, Level, Session, View, id_of};
 /// How many ids may be wanted from a contact (this project's profile).
 pub const MAX_WANTED: u32 = 1000;
 
-/// The batch that the session's `k`-th record makes, `k` counting from 0: that it was taken, and then exactly what it is
-/// taken as over the facts of the view. It fails only for want of memory.
+/// The batch that the session's `k`-th record makes, `k` counting from 0: that it was taken, and
+/// then exactly what it is taken as over the facts of the view. It fails only for want of memory.
 pub fn take<V: View>(
     alloc: Global,
     view: &V,
@@ -42,7 +45,8 @@ fn add_record<V: View>(
     rec: Record,
     entries: &mut Vec<Entry>,
 ) -> Result<(), AllocError>
-    ensures { OnOk result (entries.new.items ≡ entries.old.items ++ taken_from (V.seen view.now).facts session.now.number session.now.contact rec) }
+    ensures { OnOk result (entries.new.items ≡ entries.old.items ++ taken_from
+        (V.seen view.now).facts session.now.number session.now.contact rec) }
 {
     match rec {
         Record::Ack(ids) => {
@@ -65,14 +69,18 @@ fn add_record<V: View>(
 // Whether the held message of this number is in a group that is not Invisible to the contact.
 fn is_shown_at<V: View>(view: &V, contact: u8, number: u32) -> bool
     requires { number < length (V.seen view.now).facts.held }
-    ensures { result ≡ not (is_invisible (level_at (V.seen view.now).facts.levels contact (group_in (slice_get (V.seen view.now).facts.held number)))) }
+    ensures { result ≡ not
+        (is_invisible (level_at (V.seen view.now).facts.levels contact
+        (group_in (slice_get (V.seen view.now).facts.held number)))) }
 {
     view.level(contact, &view.group_at(number)) != Level::Invisible
 }
 
-// The number of the message of this id, where it is held in a group that is not Invisible to the contact.
+// The number of the message of this id, where it is held in a group that is not Invisible to the
+// contact.
 fn find_shown<V: View>(view: &V, contact: u8, id: &MessageId) -> Option<u32>
-    ensures { MatchOption result (is_shown (V.seen view.now).facts contact id.now ≡ false) (IsShownPlace (V.seen view.now).facts contact id.now) }
+    ensures { MatchOption result (is_shown (V.seen view.now).facts contact id.now ≡ false)
+        (IsShownPlace (V.seen view.now).facts contact id.now) }
 {
     let number = view.find(id)?;
     if is_shown_at(view, contact, number) {
@@ -90,7 +98,8 @@ fn add_message<V: View>(
     message: Message,
     entries: &mut Vec<Entry>,
 ) -> Result<(), AllocError>
-    ensures { OnOk result (entries.new.items ≡ entries.old.items ++ taken_message (V.seen view.now).facts session.now.number session.now.contact message) }
+    ensures { OnOk result (entries.new.items ≡ entries.old.items ++ taken_message
+        (V.seen view.now).facts session.now.number session.now.contact message) }
 {
     if let Some(entry) = message_entry(view, session, message) {
         entries.push(entry)?;
@@ -100,7 +109,8 @@ fn add_message<V: View>(
 
 // What a message is taken as.
 fn message_entry<V: View>(view: &V, session: &Session, message: Message) -> Option<Entry>
-    ensures { option_to_list result ≡ taken_message (V.seen view.now).facts session.now.number session.now.contact message }
+    ensures { option_to_list result ≡ taken_message (V.seen view.now).facts session.now.number
+        session.now.contact message }
 {
     if view.level(session.contact, &message.group()) == Level::Invisible {
         return None;
@@ -126,7 +136,8 @@ fn add_acks<V: View>(
     ids: &[MessageId],
     entries: &mut Vec<Entry>,
 ) -> Result<(), AllocError>
-    ensures { OnOk result (entries.new.items ≡ entries.old.items ++ taken_acks (V.seen view.now).facts session.now.number session.now.contact ids.now) }
+    ensures { OnOk result (entries.new.items ≡ entries.old.items ++ taken_acks
+        (V.seen view.now).facts session.now.number session.now.contact ids.now) }
 {
     for id in ids {
         if is_news(view, session.contact, id) {
@@ -136,9 +147,11 @@ fn add_acks<V: View>(
     Ok(())
 }
 
-// Whether an acknowledgement of this id says something new: the message is shown to the contact, which has not seen it.
+// Whether an acknowledgement of this id says something new: the message is shown to the contact,
+// which has not seen it.
 fn is_news<V: View>(view: &V, contact: u8, id: &MessageId) -> bool
-    ensures { result ≡ (is_shown (V.seen view.now).facts contact id.now && not (row_at (V.seen view.now).facts.rows contact id.now).seen) }
+    ensures { result ≡ (is_shown (V.seen view.now).facts contact id.now && not
+        (row_at (V.seen view.now).facts.rows contact id.now).seen) }
 {
     match find_shown(view, contact, id) {
         None => false,
@@ -152,7 +165,8 @@ fn add_requests<V: View>(
     ids: &[MessageId],
     entries: &mut Vec<Entry>,
 ) -> Result<(), AllocError>
-    ensures { OnOk result (entries.new.items ≡ entries.old.items ++ taken_requests (V.seen view.now).facts session.now.number session.now.contact ids.now) }
+    ensures { OnOk result (entries.new.items ≡ entries.old.items ++ taken_requests
+        (V.seen view.now).facts session.now.number session.now.contact ids.now) }
 {
     for id in ids {
         if find_shown(view, session.contact, id).is_some() {
@@ -168,7 +182,10 @@ fn add_offers<V: View>(
     ids: &[MessageId],
     entries: &mut Vec<Entry>,
 ) -> Result<(), AllocError>
-    ensures { OnOk result (entries.new.items ≡ entries.old.items ++ taken_offers (V.seen view.now).facts session.now.number session.now.contact (MAX_WANTED - length (wanted_from (V.seen view.now).facts.wanted session.now.contact)) ids.now) }
+    ensures { OnOk result (entries.new.items ≡ entries.old.items ++ taken_offers
+        (V.seen view.now).facts session.now.number session.now.contact
+        (MAX_WANTED - length (wanted_from (V.seen view.now).facts.wanted session.now.contact))
+        ids.now) }
 {
     let mut room = MAX_WANTED.saturating_sub(view.wanted_count(session.contact));
     for id in ids {
@@ -177,7 +194,8 @@ fn add_offers<V: View>(
     Ok(())
 }
 
-// Adds what an offered id is taken as, with room for so many further wanted ids, and answers the room that is left.
+// Adds what an offered id is taken as, with room for so many further wanted ids, and answers the
+// room that is left.
 fn add_offer<V: View>(
     view: &V,
     session: &Session,
@@ -185,8 +203,11 @@ fn add_offer<V: View>(
     id: &MessageId,
     entries: &mut Vec<Entry>,
 ) -> Result<u32, AllocError>
-    ensures entries { OnOk result (entries.new.items ≡ entries.old.items ++ taken_offer (V.seen view.now).facts session.now.number session.now.contact room id.now) }
-    ensures room { IfOk result (λ left. left ≡ room_after (is_remembered (V.seen view.now).facts session.now.contact room id.now) room) }
+    ensures entries { OnOk result (entries.new.items ≡ entries.old.items ++ taken_offer
+        (V.seen view.now).facts session.now.number session.now.contact room id.now) }
+    ensures room { IfOk result
+        (λ left. left ≡ room_after (is_remembered (V.seen view.now).facts session.now.contact room
+        id.now) room) }
 {
     if let Some(number) = view.find(id) {
         if is_shown_at(view, session.contact, number) {

@@ -1,4 +1,5 @@
-//! Takes an OFFER of 1,536 unknown ids, or asks what is due, over a view with so many messages, and so many times.
+//! Takes an OFFER of 1,536 unknown ids, or asks what is due, over a view with so many messages, and
+//! so many times.
 #![tactic(auto)]
 
 mod posts;

@@ -8,7 +8,8 @@ use std::alloc::{AllocError, Global};
 use sync_ids::{GroupId, MessageId};
 use sync_rules::{Level, Mode, View};
 
-/// Delivered messages that were written here, in one group that is Shared with contact 0, and of which no contact has heard yet.
+/// Delivered messages that were written here, in one group that is Shared with contact 0, and of
+/// which no contact has heard yet.
 #[derive(Drop)]
 pub(crate) struct Posts {
     group: GroupId,

@@ -29,7 +29,8 @@ impl Pictured for MemDisk {
 
 /// The store of a disk on which none is.
 pub(crate) fn begin<D: Disk, C: Clients>(alloc: Global, disk: &mut D, clients: &C) -> Result<Store>
-    ensures { IfOk result (λ store. IsReady (C.meaning clients.now) store (D.tells disk.new).files) }
+    ensures { IfOk result (λ store. IsReady (C.meaning clients.now) store
+        (D.tells disk.new).files) }
 {
     match Store::init(disk) {
         Ok(()) => load(alloc, disk, clients),
@@ -39,7 +40,8 @@ pub(crate) fn begin<D: Disk, C: Clients>(alloc: Global, disk: &mut D, clients: &
 
 /// The store of a disk.
 pub(crate) fn load<D: Disk, C: Clients>(alloc: Global, disk: &mut D, clients: &C) -> Result<Store>
-    ensures { IfOk result (λ store. IsReady (C.meaning clients.now) store (D.tells disk.new).files) }
+    ensures { IfOk result (λ store. IsReady (C.meaning clients.now) store
+        (D.tells disk.new).files) }
 {
     match Store::load(alloc, disk, clients, LIMIT) {
         Ok(store) => Ok(store),
@@ -70,7 +72,8 @@ fn is_steps(batch: &Batch) -> bool
 /// Whether a batch may follow, which does not begin with a step; `false` of one that does.
 fn ask<C: Clients>(store: &Store, clients: &C, batch: &Batch) -> Result<bool>
     requires { Knows (C.meaning clients.now) store.now.state }
-    ensures allowed { IfOk result (λ yes. yes ≡ true → Allowed (C.meaning clients.now) store.now.state.facts batch.now) }
+    ensures allowed { IfOk result (λ yes. yes ≡ true
+        → Allowed (C.meaning clients.now) store.now.state.facts batch.now) }
     ensures kind { IfOk result (λ yes. yes ≡ true → is_settling_kind batch.now ≡ false) }
 {
     if is_steps(batch) {

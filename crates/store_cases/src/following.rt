@@ -38,7 +38,8 @@ pub(crate) fn may_follow(alloc: Global, j: &[Batch], batch: &Batch) -> Result<bo
     }
 }
 
-/// A session has the next number, a known contact and a latency; one without a nonce may have either mode.
+/// A session has the next number, a known contact and a latency; one without a nonce may have
+/// either mode.
 fn may_begin(listed: &Listed<'_>, session: &Session) -> bool {
     session.number as usize == listed.sessions.len()
         && u32::from(session.contact) < listed.contacts
@@ -46,8 +47,8 @@ fn may_begin(listed: &Listed<'_>, session: &Session) -> bool {
         && session.nonce.is_none()
 }
 
-/// A message may be written in a known group where it is not held, its client accepts it, and all that it depends on is
-/// delivered in its group.
+/// A message may be written in a known group where it is not held, its client accepts it, and all
+/// that it depends on is delivered in its group.
 fn may_author(alloc: Global, j: &[Batch], listed: &Listed<'_>, message: &Message) -> Result<bool> {
     let is_new = listed.place(&id_of(message)).is_none();
     if !is_new || !listed.knows(&message.group()) {

@@ -74,7 +74,8 @@ impl Game {
 
     // ---- what is tried
 
-    /// The batch that is tried next, if there is one: mostly one that may follow, or one of those that are made up.
+    /// The batch that is tried next, if there is one: mostly one that may follow, or one of those
+    /// that are made up.
     pub(crate) fn next_batch(&mut self) -> Result<Option<Batch>> {
         let is_wild = self.step >= BEGIN && self.dice.one_in(6);
         let most = if is_wild { 3 } else { 1 };
@@ -90,7 +91,8 @@ impl Game {
         }
     }
 
-    /// What some record is taken as on some session: one that says something new, if one of a few does.
+    /// What some record is taken as on some session: one that says something new, if one of a few
+    /// does.
     fn heard_batch(&mut self) -> Result<Option<Batch>> {
         let Ok(session) = self.draft.session(&mut self.dice) else {
             return Ok(None);
@@ -158,7 +160,8 @@ impl Game {
         Ok(Plan { follows, settles })
     }
 
-    /// Reads the journal's file, which is to have the batch where it may follow, and the settling batches behind it.
+    /// Reads the journal's file, which is to have the batch where it may follow, and the settling
+    /// batches behind it.
     pub(crate) fn read(&mut self, bytes: &[u8], settles: bool) -> Result<()> {
         let before = self.batches.len();
         let found = read_batches(self.alloc, bytes)?;

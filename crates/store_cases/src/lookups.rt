@@ -186,7 +186,8 @@ fn group_of<V: View>(view: &V, id: &MessageId) -> Option<GroupId> {
     Some(view.group_at(n))
 }
 
-/// The level of the group of the message of this id; that of a group that is never known where it is not held.
+/// The level of the group of the message of this id; that of a group that is never known where it
+/// is not held.
 fn level_of<V: View>(view: &V, contact: u8, id: &MessageId) -> Level {
     match group_of(view, id) {
         Some(group) => view.level(contact, &group),

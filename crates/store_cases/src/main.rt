@@ -1,4 +1,5 @@
-//! Plays many random journals through a store, and compares each of its look-ups with the plain functions over the batches.
+//! Plays many random journals through a store, and compares each of its look-ups with the plain
+//! functions over the batches.
 #![tactic(auto)]
 
 mod calls;

@@ -70,7 +70,8 @@ fn play_batch<D: Disk + Pictured, C: Clients>(
     compare_all(game, store, disk, clients, plan.settles)
 }
 
-/// Compares what the disk has, the store's look-ups, and those of the store that is loaded of the disk.
+/// Compares what the disk has, the store's look-ups, and those of the store that is loaded of the
+/// disk.
 fn compare_all<D: Pictured, C: Clients>(
     game: &mut Game,
     store: &Store,

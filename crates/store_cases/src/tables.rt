@@ -34,7 +34,8 @@ fn fate_of(fate: NodeFate) -> Fate {
     }
 }
 
-/// Whether the graph has the next step of the batches, and the store is settled where there is none.
+/// Whether the graph has the next step of the batches, and the store is settled where there is
+/// none.
 pub(crate) fn is_next(plain: &Plain<'_>, store: &Store) -> Result<bool> {
     let step = store.graph().next();
     let entry = next_step_in(plain.alloc, plain.batches, &Timing)?;

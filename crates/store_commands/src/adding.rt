@@ -28,8 +28,15 @@ pub fn add_contact<D: Disk, W: Sink, C: Clients>(
     out: &mut W,
     clients: &C,
 ) -> Outcome
-    ensures { HasAdded (C.meaning clients.now) contact_plan false (D.tells disk.old) (D.tells disk.new)
-        (record { before = W.written out.old; after = W.written out.new; faults = W.sink_faults out.old; faults' = W.sink_faults out.new })
+    ensures { HasAdded (C.meaning clients.now) contact_plan false (D.tells disk.old)
+        (D.tells disk.new)
+        (record {
+          before = W.written out.old;
+          after = W.written out.new;
+          faults = W.sink_faults
+              out.old;
+          faults' = W.sink_faults out.new;
+        })
         result }
 {
     let store = match load_store(alloc, disk, clients) {
@@ -50,8 +57,15 @@ pub fn add_group<D: Disk, W: Sink, C: Clients>(
     out: &mut W,
     clients: &C,
 ) -> Outcome
-    ensures { HasAdded (C.meaning clients.now) (λ f. group_plan (C.meaning clients.now) f def) false (D.tells disk.old) (D.tells disk.new)
-        (record { before = W.written out.old; after = W.written out.new; faults = W.sink_faults out.old; faults' = W.sink_faults out.new })
+    ensures { HasAdded (C.meaning clients.now) (λ f. group_plan (C.meaning clients.now) f def) false
+        (D.tells disk.old) (D.tells disk.new)
+        (record {
+          before = W.written out.old;
+          after = W.written out.new;
+          faults = W.sink_faults
+              out.old;
+          faults' = W.sink_faults out.new;
+        })
         result }
 {
     let store = match load_store(alloc, disk, clients) {
@@ -74,8 +88,15 @@ pub fn set_level<D: Disk, W: Sink, C: Clients>(
     out: &mut W,
     clients: &C,
 ) -> Outcome
-    ensures { HasAdded (C.meaning clients.now) (λ f. level_plan f contact group.now level) false (D.tells disk.old) (D.tells disk.new)
-        (record { before = W.written out.old; after = W.written out.new; faults = W.sink_faults out.old; faults' = W.sink_faults out.new })
+    ensures { HasAdded (C.meaning clients.now) (λ f. level_plan f contact group.now level) false
+        (D.tells disk.old) (D.tells disk.new)
+        (record {
+          before = W.written out.old;
+          after = W.written out.new;
+          faults = W.sink_faults
+              out.old;
+          faults' = W.sink_faults out.new;
+        })
         result }
 {
     let store = match load_store(alloc, disk, clients) {
@@ -88,7 +109,8 @@ pub fn set_level<D: Disk, W: Sink, C: Clients>(
     }
 }
 
-/// Settles the journal, adds the entry, settles again where that is asked for, and prints the entry's line.
+/// Settles the journal, adds the entry, settles again where that is asked for, and prints the
+/// entry's line.
 pub fn add_entry<D: Disk, W: Sink, C: Clients>(
     alloc: Global,
     store: Store,
@@ -101,8 +123,15 @@ pub fn add_entry<D: Disk, W: Sink, C: Clients>(
     requires ready { IsReady (C.meaning clients.now) store (D.tells disk.old).files }
     requires follows { MayFollow (C.meaning clients.now) store.state.facts (entry ∷ []) }
     requires kind { is_settling_kind (entry ∷ []) ≡ false }
-    ensures { EntryAdded (C.meaning clients.now) again store entry (D.tells disk.old) (D.tells disk.new)
-        (record { before = W.written out.old; after = W.written out.new; faults = W.sink_faults out.old; faults' = W.sink_faults out.new })
+    ensures { EntryAdded (C.meaning clients.now) again store entry (D.tells disk.old)
+        (D.tells disk.new)
+        (record {
+          before = W.written out.old;
+          after = W.written out.new;
+          faults = W.sink_faults
+              out.old;
+          faults' = W.sink_faults out.new;
+        })
         result }
 {
     let mut store = store;

@@ -10,7 +10,13 @@ use sync_store::{InitFault, Store};
 /// Begins a store and prints that it is ready. It takes no memory.
 pub fn make_store<D: Disk, W: Sink>(disk: &mut D, out: &mut W) -> Outcome
     ensures { HasBegun (D.tells disk.old) (D.tells disk.new)
-        (record { before = W.written out.old; after = W.written out.new; faults = W.sink_faults out.old; faults' = W.sink_faults out.new })
+        (record {
+          before = W.written out.old;
+          after = W.written out.new;
+          faults = W.sink_faults
+              out.old;
+          faults' = W.sink_faults out.new;
+        })
         result }
 {
     match Store::init(disk) {
@@ -23,7 +29,13 @@ pub fn make_store<D: Disk, W: Sink>(disk: &mut D, out: &mut W) -> Outcome
 // Prints the line of a store that was begun.
 fn print_ready<W: Sink>(out: &mut W) -> Outcome
     ensures { PrintsReady
-        (record { before = W.written out.old; after = W.written out.new; faults = W.sink_faults out.old; faults' = W.sink_faults out.new })
+        (record {
+          before = W.written out.old;
+          after = W.written out.new;
+          faults = W.sink_faults
+              out.old;
+          faults' = W.sink_faults out.new;
+        })
         result }
 {
     match write_text(out, "ready\n") {

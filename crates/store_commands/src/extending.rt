@@ -26,8 +26,11 @@ pub fn extend<D: Disk, C: Clients>(
     requires kind { is_settling_kind batch ≡ false }
     ensures run { DiskRun (D.tells disk.old) (D.tells disk.new) }
     ensures by { ExtendsBy (D.tells disk.old) (D.tells disk.new) result }
-    ensures told { (two : Two File) → (D.tells disk.old).files ≡ Some two → (j : List (List Entry)) → Fits (C.meaning clients.now) store.old j two
-        → ExtendsTold (C.meaning clients.now) j batch (IsAdded (C.meaning clients.now) again j batch) (D.tells disk.old) (D.tells disk.new) result }
+    ensures told { (two : Two File) → (D.tells disk.old).files ≡ Some two → (j : List (List Entry))
+        → Fits (C.meaning clients.now) store.old j two
+        → ExtendsTold (C.meaning clients.now) j batch
+        (IsAdded (C.meaning clients.now) again j batch) (D.tells disk.old) (D.tells disk.new)
+        result }
 {
     if let Err(fault) = commit_settled(store, batch, disk, clients) {
         return Err(fault);
@@ -50,9 +53,13 @@ fn commit_settled<D: Disk, C: Clients>(
     requires kind { is_settling_kind batch ≡ false }
     ensures run { DiskRun (D.tells disk.old) (D.tells disk.new) }
     ensures by { ExtendsBy (D.tells disk.old) (D.tells disk.new) result }
-    ensures told { (two : Two File) → (D.tells disk.old).files ≡ Some two → (j : List (List Entry)) → Fits (C.meaning clients.now) store.old j two
-        → ExtendsTold (C.meaning clients.now) j batch (HasBatch (C.meaning clients.now) j batch store.new) (D.tells disk.old) (D.tells disk.new) result }
-    ensures ready { OnOk result (IsReady (C.meaning clients.now) store.new (D.tells disk.new).files) }
+    ensures told { (two : Two File) → (D.tells disk.old).files ≡ Some two → (j : List (List Entry))
+        → Fits (C.meaning clients.now) store.old j two
+        → ExtendsTold (C.meaning clients.now) j batch
+        (HasBatch (C.meaning clients.now) j batch store.new) (D.tells disk.old) (D.tells disk.new)
+        result }
+    ensures ready { OnOk result (IsReady (C.meaning clients.now) store.new
+        (D.tells disk.new).files) }
 {
     match store.settle(disk, clients) {
         Ok(()) => store.commit(disk, clients, batch),

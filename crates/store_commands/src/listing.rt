@@ -1,9 +1,12 @@
-// What the commands print of a store. Each call appends its lines; it fails only for want of memory.
+// What the commands print of a store. Each call appends its lines; it fails only for want of
+// memory.
 ghost use Rattle.std.specs.Prelude.{◌≡◌, ◌+◌, ◌<◌, ◌≤◌, ◌++◌, min, length, OnOk, Some, slice_get};
 ghost use Rattle.std.specs.List.{flat_map};
 ghost use Rattle.std.specs.String.{string_bytes};
 ghost use Rattle.sync_rules.specs.Facts.{Held, Id, Known, held_at};
-ghost use Rattle.store_commands.specs.Shown.{contact_levels, delivered_line, group_level, group_line, inbox_of, level_line, levels_below, message_line, show_text};
+ghost use Rattle.store_commands.specs.Shown.{contact_levels, delivered_line, group_level};
+ghost use Rattle.store_commands.specs.Shown.{group_line, inbox_of, level_line, levels_below};
+ghost use Rattle.store_commands.specs.Shown.{message_line, show_text};
 
 use std::alloc::{AllocError, Global};
 use sync_rules::{Level, View};
@@ -14,7 +17,8 @@ use sync_words::{
 
 /// All that `show` prints.
 pub fn add_show(alloc: Global, store: &Store, to: &mut String) -> Result<(), AllocError>
-    ensures { OnOk result (string_bytes to.new ≡ string_bytes to.old ++ show_text store.now.state.facts) }
+    ensures { OnOk result (string_bytes to.new ≡ string_bytes to.old ++ show_text
+        store.now.state.facts) }
 {
     contacts_line(store.contacts(), to)?;
     add_groups(alloc, store, to)?;
@@ -25,7 +29,8 @@ pub fn add_show(alloc: Global, store: &Store, to: &mut String) -> Result<(), All
 
 // The groups.
 fn add_groups(alloc: Global, store: &Store, to: &mut String) -> Result<(), AllocError>
-    ensures { OnOk result (string_bytes to.new ≡ string_bytes to.old ++ flat_map group_line store.now.state.facts.groups) }
+    ensures { OnOk result (string_bytes to.new ≡ string_bytes to.old ++ flat_map group_line
+        store.now.state.facts.groups) }
 {
     'groups: for n in 0..store.groups() {
         add_group(alloc, store, n, to)?;
@@ -35,7 +40,8 @@ fn add_groups(alloc: Global, store: &Store, to: &mut String) -> Result<(), Alloc
 
 fn add_group(alloc: Global, store: &Store, n: u32, to: &mut String) -> Result<(), AllocError>
     requires { n < length store.now.state.facts.groups }
-    ensures { OnOk result ((g : Known) → slice_get store.now.state.facts.groups n ≡ Some g → string_bytes to.new ≡ string_bytes to.old ++ group_line g) }
+    ensures { OnOk result ((g : Known) → slice_get store.now.state.facts.groups n ≡ Some g
+        → string_bytes to.new ≡ string_bytes to.old ++ group_line g) }
 {
     let id = store.group_id_at(n);
     known_group_line(alloc, &id, store.group_def(n), to)
@@ -43,7 +49,8 @@ fn add_group(alloc: Global, store: &Store, n: u32, to: &mut String) -> Result<()
 
 // The levels that are not Invisible.
 fn add_levels(alloc: Global, store: &Store, to: &mut String) -> Result<(), AllocError>
-    ensures { OnOk result (string_bytes to.new ≡ string_bytes to.old ++ levels_below store.now.state.facts (min 256 store.now.state.facts.contacts)) }
+    ensures { OnOk result (string_bytes to.new ≡ string_bytes to.old ++ levels_below
+        store.now.state.facts (min 256 store.now.state.facts.contacts)) }
 {
     'contacts: for contact in 0..store.contacts().min(256) {
         add_contact_levels(alloc, store, contact as u8, to)?;
@@ -58,7 +65,8 @@ fn add_contact_levels(
     contact: u8,
     to: &mut String,
 ) -> Result<(), AllocError>
-    ensures { OnOk result (string_bytes to.new ≡ string_bytes to.old ++ contact_levels store.now.state.facts contact) }
+    ensures { OnOk result (string_bytes to.new ≡ string_bytes to.old ++ contact_levels
+        store.now.state.facts contact) }
 {
     'groups: for n in 0..store.groups() {
         add_level(alloc, store, contact, n, to)?;
@@ -74,7 +82,9 @@ fn add_level(
     to: &mut String,
 ) -> Result<(), AllocError>
     requires { n < length store.now.state.facts.groups }
-    ensures { OnOk result ((g : Known) → slice_get store.now.state.facts.groups n ≡ Some g → string_bytes to.new ≡ string_bytes to.old ++ group_level store.now.state.facts contact g) }
+    ensures { OnOk result ((g : Known) → slice_get store.now.state.facts.groups n ≡ Some g
+        → string_bytes to.new ≡ string_bytes to.old ++ group_level store.now.state.facts contact
+        g) }
 {
     let group = store.group_id_at(n);
     match store.level(contact, &group) {
@@ -86,7 +96,8 @@ fn add_level(
 
 // The messages, in order of arrival.
 fn add_messages(alloc: Global, store: &Store, to: &mut String) -> Result<(), AllocError>
-    ensures { OnOk result (string_bytes to.new ≡ string_bytes to.old ++ flat_map (message_line store.now.state.facts) store.now.state.facts.held) }
+    ensures { OnOk result (string_bytes to.new ≡ string_bytes to.old ++ flat_map
+        (message_line store.now.state.facts) store.now.state.facts.held) }
 {
     'messages: for n in 0..store.held() {
         add_message(alloc, store, n, to)?;
@@ -96,7 +107,8 @@ fn add_messages(alloc: Global, store: &Store, to: &mut String) -> Result<(), All
 
 fn add_message(alloc: Global, store: &Store, n: u32, to: &mut String) -> Result<(), AllocError>
     requires { n < length store.now.state.facts.held }
-    ensures { OnOk result ((h : Held) → slice_get store.now.state.facts.held n ≡ Some h → string_bytes to.new ≡ string_bytes to.old ++ message_line store.now.state.facts h) }
+    ensures { OnOk result ((h : Held) → slice_get store.now.state.facts.held n ≡ Some h
+        → string_bytes to.new ≡ string_bytes to.old ++ message_line store.now.state.facts h) }
 {
     let id = store.id_at(n);
     let group = store.message(n).group();
@@ -105,7 +117,8 @@ fn add_message(alloc: Global, store: &Store, n: u32, to: &mut String) -> Result<
 
 /// All that `inbox` prints.
 pub fn add_inbox(alloc: Global, store: &Store, to: &mut String) -> Result<(), AllocError>
-    ensures { OnOk result (string_bytes to.new ≡ string_bytes to.old ++ inbox_of store.now.state.facts) }
+    ensures { OnOk result (string_bytes to.new ≡ string_bytes to.old ++ inbox_of
+        store.now.state.facts) }
 {
     'delivered: for k in 0..store.delivered() {
         add_delivered(alloc, store, k, to)?;
@@ -117,7 +130,8 @@ pub fn add_inbox(alloc: Global, store: &Store, to: &mut String) -> Result<(), Al
 fn add_delivered(alloc: Global, store: &Store, k: u32, to: &mut String) -> Result<(), AllocError>
     requires { k < length store.now.state.facts.delivered }
     ensures { OnOk result ((id : Id) → slice_get store.now.state.facts.delivered k ≡ Some id
-        → string_bytes to.new ≡ string_bytes to.old ++ delivered_line (held_at store.now.state.facts.held id)) }
+        → string_bytes to.new ≡ string_bytes to.old ++ delivered_line
+        (held_at store.now.state.facts.held id)) }
 {
     let n = store.delivered_at(k);
     let id = store.id_at(n);

@@ -23,8 +23,10 @@ pub fn load_store<D: Disk, C: Clients>(
 ) -> Result<Store, Outcome>
     ensures run { DiskRun (D.tells disk.old) (D.tells disk.new) }
     ensures by { LoadedBy (D.tells disk.old) (D.tells disk.new) result }
-    ensures rests { (two : Two File) → (D.tells disk.old).files ≡ Some two → Rests (LoadKeeps result two) two (D.tells disk.old) (D.tells disk.new) }
-    ensures loaded { (two : Two File) → (D.tells disk.old).files ≡ Some two → IsLoaded (stands (C.meaning clients.now) (read_files two)) result }
+    ensures rests { (two : Two File) → (D.tells disk.old).files ≡ Some two
+        → Rests (LoadKeeps result two) two (D.tells disk.old) (D.tells disk.new) }
+    ensures loaded { (two : Two File) → (D.tells disk.old).files ≡ Some two
+        → IsLoaded (stands (C.meaning clients.now) (read_files two)) result }
     ensures opened { IsOpened (C.meaning clients.now) (D.tells disk.new).files result }
 {
     match Store::load(alloc, disk, clients, LIMIT) {

@@ -2,7 +2,8 @@
 ghost use Rattle.std.specs.Prelude.{◌≡◌, List, Some};
 ghost use Rattle.store_commands.specs.Flow.{Flow};
 ghost use Rattle.store_commands.specs.Looking.{HasLooked, Prints, PrintsText};
-ghost use Rattle.store_commands.specs.Shown.{body_shown, inbox_of, inbox_shown, show_shown, show_text};
+ghost use Rattle.store_commands.specs.Shown.{body_shown, inbox_of, inbox_shown, show_shown};
+ghost use Rattle.store_commands.specs.Shown.{show_text};
 
 use crate::listing::{add_inbox, add_show};
 use crate::loading::load_store;
@@ -22,7 +23,13 @@ pub fn show<D: Disk, W: Sink, C: Clients>(
     clients: &C,
 ) -> Outcome
     ensures { HasLooked (C.meaning clients.now) show_shown (D.tells disk.old) (D.tells disk.new)
-        (record { before = W.written out.old; after = W.written out.new; faults = W.sink_faults out.old; faults' = W.sink_faults out.new })
+        (record {
+          before = W.written out.old;
+          after = W.written out.new;
+          faults = W.sink_faults
+              out.old;
+          faults' = W.sink_faults out.new;
+        })
         result }
 {
     match load_store(alloc, disk, clients) {
@@ -33,7 +40,13 @@ pub fn show<D: Disk, W: Sink, C: Clients>(
 
 fn print_show<W: Sink>(alloc: Global, store: &Store, out: &mut W) -> Outcome
     ensures { PrintsText (show_text store.now.state.facts)
-        (record { before = W.written out.old; after = W.written out.new; faults = W.sink_faults out.old; faults' = W.sink_faults out.new })
+        (record {
+          before = W.written out.old;
+          after = W.written out.new;
+          faults = W.sink_faults
+              out.old;
+          faults' = W.sink_faults out.new;
+        })
         result }
 {
     let mut text = String::new(alloc);
@@ -51,7 +64,13 @@ pub fn list_inbox<D: Disk, W: Sink, C: Clients>(
     clients: &C,
 ) -> Outcome
     ensures { HasLooked (C.meaning clients.now) inbox_shown (D.tells disk.old) (D.tells disk.new)
-        (record { before = W.written out.old; after = W.written out.new; faults = W.sink_faults out.old; faults' = W.sink_faults out.new })
+        (record {
+          before = W.written out.old;
+          after = W.written out.new;
+          faults = W.sink_faults
+              out.old;
+          faults' = W.sink_faults out.new;
+        })
         result }
 {
     match load_store(alloc, disk, clients) {
@@ -62,7 +81,13 @@ pub fn list_inbox<D: Disk, W: Sink, C: Clients>(
 
 fn print_inbox<W: Sink>(alloc: Global, store: &Store, out: &mut W) -> Outcome
     ensures { PrintsText (inbox_of store.now.state.facts)
-        (record { before = W.written out.old; after = W.written out.new; faults = W.sink_faults out.old; faults' = W.sink_faults out.new })
+        (record {
+          before = W.written out.old;
+          after = W.written out.new;
+          faults = W.sink_faults
+              out.old;
+          faults' = W.sink_faults out.new;
+        })
         result }
 {
     let mut text = String::new(alloc);
@@ -80,8 +105,15 @@ pub fn write_body<D: Disk, W: Sink, C: Clients>(
     out: &mut W,
     clients: &C,
 ) -> Outcome
-    ensures { HasLooked (C.meaning clients.now) (body_shown id.now) (D.tells disk.old) (D.tells disk.new)
-        (record { before = W.written out.old; after = W.written out.new; faults = W.sink_faults out.old; faults' = W.sink_faults out.new })
+    ensures { HasLooked (C.meaning clients.now) (body_shown id.now) (D.tells disk.old)
+        (D.tells disk.new)
+        (record {
+          before = W.written out.old;
+          after = W.written out.new;
+          faults = W.sink_faults
+              out.old;
+          faults' = W.sink_faults out.new;
+        })
         result }
 {
     match load_store(alloc, disk, clients) {
@@ -92,7 +124,13 @@ pub fn write_body<D: Disk, W: Sink, C: Clients>(
 
 fn print_body<W: Sink>(store: &Store, id: &MessageId, out: &mut W) -> Outcome
     ensures { Prints (body_shown id.now store.now.state.facts)
-        (record { before = W.written out.old; after = W.written out.new; faults = W.sink_faults out.old; faults' = W.sink_faults out.new })
+        (record {
+          before = W.written out.old;
+          after = W.written out.new;
+          faults = W.sink_faults
+              out.old;
+          faults' = W.sink_faults out.new;
+        })
         result }
 {
     match store.find(id) {

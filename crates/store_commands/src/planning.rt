@@ -1,7 +1,8 @@
 // What a command plans to add to a store, as it was loaded.
 ghost use Rattle.std.specs.Prelude.{◌≡◌, ◌≤◌, true, is_some};
 ghost use Rattle.sync_rules.specs.Facts.{group_at};
-ghost use Rattle.store_commands.specs.Plans.{contact_plan, group_plan, level_plan, message_plan, plan_of, post_plan};
+ghost use Rattle.store_commands.specs.Plans.{contact_plan, group_plan, level_plan, message_plan};
+ghost use Rattle.store_commands.specs.Plans.{plan_of, post_plan};
 ghost use Rattle.store_commands.specs.Posting.{IsPlanned, message_of};
 
 use sync_ids::{GroupDef, GroupId, Message, MessageFault};
@@ -65,7 +66,8 @@ pub fn plan_post<C: Clients>(
 ) -> Result<Entry, PostFault>
     requires known { is_some (group_at store.now.state.facts.groups group) ≡ true }
     requires timestamp { timestamp ≤ 9223372036854775807 }
-    ensures { IsPlanned (post_plan (C.meaning clients.now) store.now.state.facts (message_of group timestamp body.items)) result }
+    ensures { IsPlanned (post_plan (C.meaning clients.now) store.now.state.facts
+        (message_of group timestamp body.items)) result }
 {
     match Message::new(group, timestamp, body) {
         Ok(message) => plan_message(store, clients, message),
@@ -81,7 +83,8 @@ fn plan_message<C: Clients>(
     clients: &C,
     message: Message,
 ) -> Result<Entry, PostFault>
-    ensures { IsPlanned (message_plan (C.meaning clients.now) store.now.state.facts message) result }
+    ensures { IsPlanned (message_plan (C.meaning clients.now) store.now.state.facts message)
+        result }
 {
     match store.may_post(clients, &message) {
         Ok(_) => Ok(Entry::Author(message)),

@@ -27,9 +27,22 @@ pub fn post_message<D: Disk, S: Source, W: Sink, C: Clients>(
     clients: &C,
 ) -> Outcome
     requires { timestamp ≤ 9223372036854775807 }
-    ensures { HasPosted (C.meaning clients.now) group timestamp (D.tells disk.old) (D.tells disk.new)
-        (record { before = S.left input.old; after = S.left input.new; faults = S.source_faults input.old; faults' = S.source_faults input.new })
-        (record { before = W.written out.old; after = W.written out.new; faults = W.sink_faults out.old; faults' = W.sink_faults out.new })
+    ensures { HasPosted (C.meaning clients.now) group timestamp (D.tells disk.old)
+        (D.tells disk.new)
+        (record {
+          before = S.left input.old;
+          after = S.left input.new;
+          faults = S.source_faults
+              input.old;
+          faults' = S.source_faults input.new;
+        })
+        (record {
+          before = W.written out.old;
+          after = W.written out.new;
+          faults = W.sink_faults
+              out.old;
+          faults' = W.sink_faults out.new;
+        })
         result }
 {
     let store = match load_store(alloc, disk, clients) {
@@ -61,7 +74,14 @@ fn post_came(fault: PostFault) -> Outcome
 
 // Reads a body: the whole input, of which no more than 32,769 bytes are read.
 fn read_body<S: Source>(alloc: Global, input: &mut S) -> Result<Vec<u8>, Outcome>
-    ensures { IsRead (record { before = S.left input.old; after = S.left input.new; faults = S.source_faults input.old; faults' = S.source_faults input.new }) result }
+    ensures { IsRead
+        (record {
+          before = S.left input.old;
+          after = S.left input.new;
+          faults = S.source_faults
+              input.old;
+          faults' = S.source_faults input.new;
+        }) result }
 {
     let mut body = Vec::new(alloc);
     match read_input(input, MOST, &mut body) {

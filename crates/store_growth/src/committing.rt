@@ -22,7 +22,8 @@ pub(crate) fn load_store<D: Disk, C: Clients>(
     disk: &mut D,
     clients: &C,
 ) -> Result<Store, Stop>
-    ensures { IfOk result (λ store. IsReady (C.meaning clients.now) store (D.tells disk.new).files) }
+    ensures { IfOk result (λ store. IsReady (C.meaning clients.now) store
+        (D.tells disk.new).files) }
 {
     match Store::load(alloc, disk, clients, LIMIT) {
         Ok(store) => Ok(store),
@@ -36,7 +37,8 @@ pub(crate) fn begin_store<D: Disk, C: Clients>(
     disk: &mut D,
     clients: &C,
 ) -> Result<Store, Stop>
-    ensures { IfOk result (λ store. IsReady (C.meaning clients.now) store (D.tells disk.new).files) }
+    ensures { IfOk result (λ store. IsReady (C.meaning clients.now) store
+        (D.tells disk.new).files) }
 {
     match Store::init(disk) {
         Ok(()) => load_store(alloc, disk, clients),

@@ -1,5 +1,6 @@
-//! Commits messages to a store on a disk in memory, loads a store that has them, or computes their ids alone, for the speed and
-//! memory of a store. The error output has the microseconds of processor time that this alone took.
+//! Commits messages to a store on a disk in memory, loads a store that has them, or computes their
+//! ids alone, for the speed and memory of a store. The error output has the microseconds of
+//! processor time that this alone took.
 #![tactic(auto)]
 
 mod committing;

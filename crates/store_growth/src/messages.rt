@@ -8,7 +8,8 @@ use std::alloc::{AllocError, Global};
 use sync_ids::{Fixed, GroupDef, GroupId, Message, MessageId, group_id, message_id};
 use sync_rules::{Batch, Entry, Level};
 
-/// How many messages there are, how long each body is, and with how many contacts their group is shared.
+/// How many messages there are, how long each body is, and with how many contacts their group is
+/// shared.
 #[derive(Clone, Copy)]
 pub(crate) struct Plan {
     pub(crate) messages: u32,

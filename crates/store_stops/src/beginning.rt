@@ -58,7 +58,8 @@ pub(crate) fn stop_each(rt: &impl Print, alloc: Global) -> Result<()> {
     Ok(())
 }
 
-/// A copy of a disk in which nothing is pending, after an init whose call of this number fails; and what the init answered.
+/// A copy of a disk in which nothing is pending, after an init whose call of this number fails; and
+/// what the init answered.
 pub(crate) fn begun(base: &MemDisk, stop: u64) -> Result<(MemDisk, Result<(), InitFault>)> {
     let mut disk = base.image(Pick::New)?;
     disk.fail_at(stop)?;

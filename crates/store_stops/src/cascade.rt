@@ -18,8 +18,8 @@ use sync_store::StoreFault;
 /// How many messages wait.
 const WAITING: u64 = 599;
 
-/// How many frames the journal has once the last message arrived: four to begin with, two for each message that waits, and the
-/// arrival of the last.
+/// How many frames the journal has once the last message arrived: four to begin with, two for each
+/// message that waits, and the arrival of the last.
 const FRAMES: usize = 4 + 2 * 599 + 1;
 
 type Node = Device<MemDisk, Bundle>;

@@ -19,7 +19,8 @@ pub(crate) fn compare<P: Debug, T: PartialEq + Debug>(
     Ok(())
 }
 
-/// Whether a gate reads as open after a stop at this call of so many, the last two of which write the gate and sync it.
+/// Whether a gate reads as open after a stop at this call of so many, the last two of which write
+/// the gate and sync it.
 pub(crate) fn is_open(stop: u64, calls: u64, pick: Pick) -> bool {
     if stop >= calls {
         return true;

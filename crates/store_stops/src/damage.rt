@@ -1,4 +1,5 @@
-//! Files of which a byte was changed or the end is missing, and two files with open headers: what a load answers.
+//! Files of which a byte was changed or the end is missing, and two files with open headers: what a
+//! load answers.
 use crate::compare::{PICKS, compare};
 use crate::device::end_of;
 use crate::files::{CONTACT, disk_with};

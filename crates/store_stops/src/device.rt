@@ -87,7 +87,8 @@ impl<D: Disk + Drop, C: Clients + Drop> Device<D, C> {
         self.disk
     }
 
-    /// Commits a batch, where it may follow the journal and begins with no step. A closed store answers by itself.
+    /// Commits a batch, where it may follow the journal and begins with no step. A closed store
+    /// answers by itself.
     pub(crate) fn add(&mut self, batch: Batch) -> Result<(), AddFault> {
         add(&mut self.store, &mut self.disk, &self.clients, batch)
     }
@@ -119,10 +120,12 @@ fn add<D: Disk, C: Clients>(
     }
 }
 
-// Whether a batch may follow the journal and begins with no step; of a closed store the latter alone is asked.
+// Whether a batch may follow the journal and begins with no step; of a closed store the latter
+// alone is asked.
 fn may_add<C: Clients>(store: &Store, clients: &C, batch: &Batch) -> Result<bool, AllocError>
     requires knows { store.now.closed ≡ false → Knows (C.meaning clients.now) store.now.state }
-    ensures allowed { IfOk result (λ yes. yes ≡ true → store.now.closed ≡ false → Allowed (C.meaning clients.now) store.now.state.facts batch.now) }
+    ensures allowed { IfOk result (λ yes. yes ≡ true → store.now.closed ≡ false
+        → Allowed (C.meaning clients.now) store.now.state.facts batch.now) }
     ensures kind { IfOk result (λ yes. yes ≡ true → is_settling_kind batch.now ≡ false) }
 {
     if begins_with_step(batch.entries()) {

@@ -1,4 +1,5 @@
-//! Each call of a disk that fails in turn, with no crash: the answer, the store after it, and the next load.
+//! Each call of a disk that fails in turn, with no crash: the answer, the store after it, and the
+//! next load.
 use crate::beginning::{EMPTY, begun, count_calls};
 use crate::compare::compare;
 use crate::device::{AddFault, end_of};

@@ -1,5 +1,5 @@
-//! Stops a store at each call of its disk, lets each call fail, fills it, and damages its files, and compares what comes of it
-//! with what the rules say.
+//! Stops a store at each call of its disk, lets each call fail, fills it, and damages its files,
+//! and compares what comes of it with what the rules say.
 #![tactic(auto)]
 
 mod beginning;

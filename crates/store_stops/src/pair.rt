@@ -11,7 +11,8 @@ use std::alloc::{AllocError, Global};
 use sync_ids::{Message, MessageId, group_id};
 use sync_rules::{Clients, DepList, Fate, Judgement, id_of};
 
-/// Says of the message of time 0 that it depends on the second, and of any other that it depends on the first.
+/// Says of the message of time 0 that it depends on the second, and of any other that it depends on
+/// the first.
 #[derive(Clone, Copy)]
 struct Pair {
     first: MessageId,
@@ -43,7 +44,11 @@ impl Clients for Pair {
     ghost use Rattle.std.specs.Prelude.{Some};
     ghost use Rattle.store_stops.specs.Pair.{verdict_of};
 
-    ghost meaning = { λ c. record { kind_of = λ name major. Some 0; verdict = λ kind m. verdict_of c.first c.second m.timestamp } };
+    ghost meaning = { λ c. record {
+      kind_of = λ name major. Some 0;
+      verdict = λ kind m. verdict_of
+          c.first c.second m.timestamp;
+    } };
 
     fn kind_of(&self, _name: &str, _major: u32) -> Option<u8> {
         Some(0)

@@ -11,8 +11,8 @@ use sync_ids::{Message, group_id};
 use sync_rules::{Entry, id_of};
 use sync_store::StoreFault;
 
-/// How many calls a load of the file `GROUP` makes: two syncs, two headers, the length, two for each of two frames, and the
-/// closed gate.
+/// How many calls a load of the file `GROUP` makes: two syncs, two headers, the length, two for
+/// each of two frames, and the closed gate.
 pub(crate) const LOAD_CALLS: u64 = 10;
 
 /// How many calls a commit makes: two writes, and a sync behind each.
@@ -37,7 +37,8 @@ pub(crate) fn note(alloc: Global, time: u64) -> Result<Message> {
     message(alloc, group_id(&group_def(alloc, "note")?), time, b"x")
 }
 
-/// Posts the message in the store of the file `GROUP` and settles; behind the load the call of this number fails.
+/// Posts the message in the store of the file `GROUP` and settles; behind the load the call of this
+/// number fails.
 pub(crate) fn post(alloc: Global, stop: u64) -> Result<Posted> {
     let mut disk = disk_with(alloc, &GROUP, &[])?;
     disk.fail_at(LOAD_CALLS.saturating_add(stop))?;

@@ -26,9 +26,15 @@ impl Model for GroupDef {
 
     ghost Value = { GroupValue };
 
-    ghost view = { λ d. record { name = string_bytes d.name; major = d.major; descriptor = d.descriptor.items } };
+    ghost view = { λ d. record {
+      name = string_bytes d.name;
+      major = d.major;
+      descriptor =
+          d.descriptor.items;
+    } };
 
-    ghost invariant = { λ d. IsGroupDef (record { name = string_bytes d.name; major = d.major; descriptor = d.descriptor.items }) };
+    ghost invariant = { λ d. IsGroupDef
+        (record { name = string_bytes d.name; major = d.major; descriptor = d.descriptor.items }) };
 }
 
 /// Why a definition was refused.
@@ -49,11 +55,19 @@ impl GroupDef {
     /// bytes, and otherwise `DescriptorTooLong` exactly where the descriptor is over 16,384 bytes.
     /// It takes no memory.
     pub fn new(name: String, major: u32, descriptor: Vec<u8>) -> Result<GroupDef, DefFault>
-        ensures made { IfOk result (λ d. d ≡ record { name = string_bytes name; major = major; descriptor = descriptor.items }) }
+        ensures made { IfOk result
+            (λ d. d ≡ record {
+              name = string_bytes name;
+              major = major;
+              descriptor =
+                  descriptor.items;
+            }) }
         ensures within { IfOk result (λ d. IsGroupDef d) }
-        ensures bad_name { IsErrOf result DefFault.BadName ↔ ((length (string_bytes name) ≡ 0) ⊎ (255 < length (string_bytes name))) }
+        ensures bad_name { IsErrOf result DefFault.BadName ↔ ((length (string_bytes name) ≡ 0)
+            ⊎ (255 < length (string_bytes name))) }
         ensures long_descriptor { IsErrOf result DefFault.DescriptorTooLong
-            ↔ ((1 ≤ length (string_bytes name)) × (length (string_bytes name) ≤ 255) × (16384 < length descriptor.items)) }
+            ↔ ((1 ≤ length (string_bytes name)) × (length (string_bytes name) ≤ 255)
+            × (16384 < length descriptor.items)) }
     {
         if name.is_empty() || name.len() > MAX_NAME {
             return Err(DefFault::BadName);

@@ -75,7 +75,8 @@ impl<const N: usize> Fixed<N> {
     /// digits of either case.
     pub fn from_hex(text: &str) -> Result<Self, NotHex>
         ensures value { IfOk result (λ id. decode_of text.now ≡ Ok id) }
-        ensures accepted { IsOk result ↔ ((length text.now ≡ 2 * N) × AllPass is_hex_digit text.now) }
+        ensures accepted { IsOk result ↔ ((length text.now ≡ 2 * N)
+            × AllPass is_hex_digit text.now) }
     {
         match <[u8; N] as FromHex>::from_hex(text) {
             Ok(bytes) => Ok(Fixed(bytes)),

@@ -43,7 +43,8 @@ fn block_hash(body: &[u8]) -> [u8; 32]
 /// identifiers"). The body has fewer than 2^32 bytes. It takes no memory.
 pub fn message_id(group: &GroupId, timestamp: u64, body: &[u8]) -> MessageId
     requires { length body.now < 2 ^ 32 }
-    ensures { result ≡ message_id_of (record { group = group.now; timestamp = timestamp; body = body.now }) }
+    ensures { result ≡ message_id_of
+        (record { group = group.now; timestamp = timestamp; body = body.now }) }
 {
     let mut parts = Parts::new();
     parts.part(MESSAGE_LABEL);

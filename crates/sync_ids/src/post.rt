@@ -11,7 +11,8 @@ pub const MAX_BODY: usize = 32_768;
 /// The greatest time of a message, in milliseconds since 1970.
 pub const MAX_TIMESTAMP: u64 = 0x7fff_ffff_ffff_ffff;
 
-/// An immutable message of a group. Contracts see a record of the group's id, the time and the body.
+/// An immutable message of a group. Contracts see a record of the group's id, the time and the
+/// body.
 #[derive(Debug, Drop)]
 pub struct Message {
     group: GroupId,
@@ -26,7 +27,8 @@ impl Model for Message {
 
     ghost view = { λ m. record { group = m.group; timestamp = m.timestamp; body = m.body.items } };
 
-    ghost invariant = { λ m. IsMessage (record { group = m.group; timestamp = m.timestamp; body = m.body.items }) };
+    ghost invariant = { λ m. IsMessage
+        (record { group = m.group; timestamp = m.timestamp; body = m.body.items }) };
 }
 
 /// Why a message was refused.
@@ -46,10 +48,11 @@ pub enum MessageFault {
 impl Message {
     ghost use Rattle.sync_ids.specs.Values.{IsMessage};
 
-    /// A message of these parts. The refusals come in the order of `MessageFault`, each exactly where
-    /// its variant says and no earlier one came. It takes no memory.
+    /// A message of these parts. The refusals come in the order of `MessageFault`, each exactly
+    /// where its variant says and no earlier one came. It takes no memory.
     pub fn new(group: GroupId, timestamp: u64, body: Vec<u8>) -> Result<Message, MessageFault>
-        ensures made { IfOk result (λ m. m ≡ record { group = group; timestamp = timestamp; body = body.items }) }
+        ensures made { IfOk result
+            (λ m. m ≡ record { group = group; timestamp = timestamp; body = body.items }) }
         ensures within { IfOk result (λ m. IsMessage m) }
         ensures empty { IsErrOf result MessageFault.EmptyBody ↔ (length body.items ≡ 0) }
         ensures too_long { IsErrOf result MessageFault.BodyTooLong ↔ (32768 < length body.items) }

@@ -1,5 +1,5 @@
-//! Ids against an independent program (Python's `hashlib.blake2b` over the parts), and each limit on
-//! both of its sides.
+//! Ids against an independent program (Python's `hashlib.blake2b` over the parts), and each limit
+//! on both of its sides.
 use crate::{
     DefFault, Fixed, GroupDef, GroupId, IdList, ListFault, Message, MessageFault, MessageId,
     NotHex, VersionList, group_id, message_id,

@@ -110,7 +110,8 @@ impl Model for Batch {
 pub struct EmptyBatch;
 
 impl Batch {
-    /// A batch of these entries. `EmptyBatch` comes exactly where there are none. It takes no memory.
+    /// A batch of these entries. `EmptyBatch` comes exactly where there are none. It takes no
+    /// memory.
     pub fn new(entries: Vec<Entry>) -> Result<Batch, EmptyBatch>
         ensures made { IfOk result (λ b. b ≡ entries.items) }
         ensures empty { IsErr result ↔ (entries.items ≡ []) }

@@ -1,10 +1,13 @@
-//! A journal that is played without a disk: it takes records and settles after each, by plain scans.
-ghost use Rattle.std.specs.Prelude.{◌≡◌, ◌+◌, ◌≤◌, ◌<◌, length, [], ◌∷◌, ◌++◌, true, is_some, Some, IfOk, OnOk, OnErr, List};
+//! A journal that is played without a disk: it takes records and settles after each, by plain
+//! scans.
+ghost use Rattle.std.specs.Prelude.{◌≡◌, ◌+◌, ◌≤◌, ◌<◌, length, [], ◌∷◌, ◌++◌, true, is_some, Some};
+ghost use Rattle.std.specs.Prelude.{IfOk, OnOk, OnErr, List};
 ghost use Rattle.std.specs.Option.{option_to_list};
 ghost use Rattle.sync_ids.specs.declared.records.Record.TheVariants as record_kind;
 ghost use Rattle.sync_rules.specs.Clients.{Meaning};
 ghost use Rattle.sync_rules.specs.Facts.{contact_of, Extends, facts};
-ghost use Rattle.sync_rules.specs.Hearing.{AddsSettling, Hears, IsHearing, one_session, Settles, take_batch, with_last};
+ghost use Rattle.sync_rules.specs.Hearing.{AddsSettling, Hears, IsHearing, one_session, Settles};
+ghost use Rattle.sync_rules.specs.Hearing.{take_batch, with_last};
 ghost use Rattle.sync_rules.specs.Legal.{Legal};
 ghost use Rattle.sync_rules.specs.Sessions.{is_welcome, taken_message};
 ghost use Rattle.sync_rules.specs.Steps.{IsSettled, kind_of_def, next};
@@ -31,7 +34,8 @@ fn push_one(alloc: Global, j: &mut Vec<Batch>, entry: Entry) -> Result<(), Alloc
     push_batch(j, entries)
 }
 
-// A batch of these entries, of which there is one at least, at the end of the journal; after an error it is as before.
+// A batch of these entries, of which there is one at least, at the end of the journal; after an
+// error it is as before.
 fn push_batch(j: &mut Vec<Batch>, entries: Vec<Entry>) -> Result<(), AllocError>
     requires { 1 ≤ length entries.items }
     ensures ok { OnOk result (j.new.items ≡ j.old.items ++ entries.items ∷ []) }
@@ -57,8 +61,8 @@ fn push_to_last(j: &mut Vec<Batch>, entry: Entry) -> Result<(), AllocError>
     batch.push(entry)
 }
 
-// A settling batch at the end of the journal that begins with this step and goes on while a step is left, to 256 entries. It
-// fails only for want of memory, and then the steps made before stand.
+// A settling batch at the end of the journal that begins with this step and goes on while a step is
+// left, to 256 entries. It fails only for want of memory, and then the steps made before stand.
 fn settle_batch<C: Clients>(
     alloc: Global,
     j: &mut Vec<Batch>,
@@ -79,15 +83,17 @@ fn settle_batch<C: Clients>(
     Ok(())
 }
 
-/// Settles a list of batches: it is extended by settling batches until it has no next step. Each batch is filled to 256
-/// entries while a step is left. It fails only for want of memory, and then the steps made before stand.
+/// Settles a list of batches: it is extended by settling batches until it has no next step. Each
+/// batch is filled to 256 entries while a step is left. It fails only for want of memory, and then
+/// the steps made before stand.
 pub fn settle_in<C: Clients>(
     alloc: Global,
     j: &mut Vec<Batch>,
     clients: &C,
 ) -> Result<(), AllocError>
     ensures settles { Settles (C.meaning clients.now) j.old.items j.new.items }
-    ensures legal { Legal (C.meaning clients.now) j.old.items → Legal (C.meaning clients.now) j.new.items }
+    ensures legal { Legal (C.meaning clients.now) j.old.items
+        → Legal (C.meaning clients.now) j.new.items }
     ensures settled { OnOk result (IsSettled (C.meaning clients.now) (facts j.new.items)) }
 {
     'steps: while let Some(step) = next_step_in(alloc, j.as_slice(), clients)? {
@@ -128,8 +134,8 @@ fn is_welcome_in(j: &[Batch], contact: u8, group: &GroupId) -> bool
     }
 }
 
-/// The batch that takes this message as the session's `k`-th record, `contact` being the session's contact. It fails only
-/// for want of memory.
+/// The batch that takes this message as the session's `k`-th record, `contact` being the session's
+/// contact. It fails only for want of memory.
 pub fn take_message(
     alloc: Global,
     j: &[Batch],
@@ -152,8 +158,9 @@ pub fn take_message(
     }
 }
 
-/// Takes this message as the session's `k`-th record, `contact` being the session's contact, and settles. It fails only for
-/// want of memory, and then the journal is extended by the batches made before.
+/// Takes this message as the session's `k`-th record, `contact` being the session's contact, and
+/// settles. It fails only for want of memory, and then the journal is extended by the batches made
+/// before.
 pub fn hear_message<C: Clients>(
     alloc: Global,
     j: &mut Vec<Batch>,
@@ -164,8 +171,10 @@ pub fn hear_message<C: Clients>(
     message: Message,
 ) -> Result<(), AllocError>
     requires { IsHearing (C.meaning clients.now) j.old.items session contact k }
-    ensures heard { OnOk result (Hears (C.meaning clients.now) j.old.items session k (record_kind.Message message) j.new.items) }
-    ensures goes_on { OnOk result (IsHearing (C.meaning clients.now) j.new.items session contact (k + 1)) }
+    ensures heard { OnOk result (Hears (C.meaning clients.now) j.old.items session k
+        (record_kind.Message message) j.new.items) }
+    ensures goes_on { OnOk result (IsHearing (C.meaning clients.now) j.new.items session contact
+        (k + 1)) }
     ensures legal { Legal (C.meaning clients.now) j.new.items }
     ensures extends { Extends j.new.items j.old.items }
 {
@@ -176,11 +185,12 @@ pub fn hear_message<C: Clients>(
     settle_in(alloc, j, clients)
 }
 
-/// A journal that begins with contact 0, this group, Visible to the contact, and one batch session with it of latency 1. It
-/// fails only for want of memory.
+/// A journal that begins with contact 0, this group, Visible to the contact, and one batch session
+/// with it of latency 1. It fails only for want of memory.
 pub fn begin_session(alloc: Global, def: GroupDef) -> Result<Vec<Batch>, AllocError>
     ensures begun { IfOk result (λ j. j.items ≡ one_session def) }
-    ensures hearing { IfOk result (λ j. (clients : Meaning) → is_some (kind_of_def clients def) ≡ true → IsHearing clients j.items 0 0 0) }
+    ensures hearing { IfOk result (λ j. (clients : Meaning)
+        → is_some (kind_of_def clients def) ≡ true → IsHearing clients j.items 0 0 0) }
 {
     let group = group_id(&def);
     let mut j = Vec::new(alloc);

@@ -1,59 +1,69 @@
-//! The laws of legal journals. Each is the contract of a function that does nothing, over every journal and over every
-//! meaning of the clients.
+//! The laws of legal journals. Each is the contract of a function that does nothing, over every
+//! journal and over every meaning of the clients.
 ghost use Rattle.std.specs.Prelude.{◌≡◌, ℕ, List, true};
 ghost use Rattle.sync_rules.specs.Clients.{Meaning};
 ghost use Rattle.sync_rules.specs.Facts.{Extends, entries_of, facts};
-ghost use Rattle.sync_rules.specs.Laws.{BringsOnce, Decides, EndsOnce, HasOrigin, HasOwnOrigin, IsInOrder, IsKeptBy, JudgesOnce};
+ghost use Rattle.sync_rules.specs.Laws.{BringsOnce, Decides, EndsOnce, HasOrigin, HasOwnOrigin};
+ghost use Rattle.sync_rules.specs.Laws.{IsInOrder, IsKeptBy, JudgesOnce};
 ghost use Rattle.sync_rules.specs.Legal.{Legal};
 ghost use Rattle.sync_rules.specs.Output.{GoesOnFrom, sent, SendsTheOpen};
-ghost use Rattle.sync_rules.specs.PeerLaws.{AskedLaw, CutLaw, ExpiryLaw, NoExpiryLaw, OwedLaw, SeenLaw, TriesLaw, WantedLaw};
+ghost use Rattle.sync_rules.specs.PeerLaws.{AskedLaw, CutLaw, ExpiryLaw, NoExpiryLaw, OwedLaw};
+ghost use Rattle.sync_rules.specs.PeerLaws.{SeenLaw, TriesLaw, WantedLaw};
 ghost use Rattle.sync_rules.specs.Rounds.{bad, good, Graph};
 ghost use Rattle.sync_rules.specs.Steps.{IsSettled};
 ghost use Rattle.sync_rules.specs.Views.{KnowsShown};
 ghost use Rattle.sync_rules.specs.declared.entries.Entry.{Entry};
 
-/// Once: in a legal journal each id has at most one Author or Arrive entry, at most one Judged entry, and at most one of
-/// Deliver and Invalid.
+/// Once: in a legal journal each id has at most one Author or Arrive entry, at most one Judged
+/// entry, and at most one of Deliver and Invalid.
 pub fn once()
     ensures brings { (clients : Meaning) (j : List (List Entry)) → Legal clients j → BringsOnce j }
     ensures judges { (clients : Meaning) (j : List (List Entry)) → Legal clients j → JudgesOnce j }
     ensures ends { (clients : Meaning) (j : List (List Entry)) → Legal clients j → EndsOnce j }
 {}
 
-/// Order: in a legal journal each Deliver entry stands after the message's Judged entry, the verdict is Accept, and the
-/// Deliver entry of each dependency stands before it, all of the same group.
+/// Order: in a legal journal each Deliver entry stands after the message's Judged entry, the
+/// verdict is Accept, and the Deliver entry of each dependency stands before it, all of the same
+/// group.
 pub fn order()
     ensures { (clients : Meaning) (j : List (List Entry)) → Legal clients j → IsInOrder clients j }
 {}
 
-/// Origin: in a legal journal each held message stands in an Author entry, or in an Arrive entry of a session whose contact
-/// had a level other than Invisible for the message's group at that place.
+/// Origin: in a legal journal each held message stands in an Author entry, or in an Arrive entry of
+/// a session whose contact had a level other than Invisible for the message's group at that place.
 pub fn origin()
     ensures { (clients : Meaning) (j : List (List Entry)) → Legal clients j → HasOwnOrigin j }
 {}
 
-/// The settled law: in a legal and settled journal a held message is Delivered exactly where it is good, Invalid exactly
-/// where it is bad, and otherwise Pending. No message is good and bad, and both only grow where a journal is extended.
+/// The settled law: in a legal and settled journal a held message is Delivered exactly where it is
+/// good, Invalid exactly where it is bad, and otherwise Pending. No message is good and bad, and
+/// both only grow where a journal is extended.
 pub fn settled()
-    ensures decided { (clients : Meaning) (j : List (List Entry)) → Legal clients j → IsSettled clients (facts j) → Decides clients (facts j) }
-    ensures apart { (g : Graph) (k l : ℕ) (id : List ℕ) → good g k id ≡ true → bad g l id ≡ true → ⊥ }
-    ensures grow { (clients : Meaning) (j before : List (List Entry)) → Extends j before → Legal clients j → IsKeptBy clients (facts before) (facts j) }
+    ensures decided { (clients : Meaning) (j : List (List Entry)) → Legal clients j
+        → IsSettled clients (facts j) → Decides clients (facts j) }
+    ensures apart { (g : Graph) (k l : ℕ) (id : List ℕ) → good g k id ≡ true → bad g l id ≡ true
+        → ⊥ }
+    ensures grow { (clients : Meaning) (j before : List (List Entry)) → Extends j before
+        → Legal clients j → IsKeptBy clients (facts before) (facts j) }
 {}
 
 /// Prefix: each prefix of a legal journal is legal.
 pub fn prefix()
-    ensures { (clients : Meaning) (j before : List (List Entry)) → Extends j before → Legal clients j → Legal clients before }
+    ensures { (clients : Meaning) (j before : List (List Entry)) → Extends j before
+        → Legal clients j → Legal clients before }
 {}
 
-/// Output: in a legal journal each id that an output acknowledges is held, and each id that it sends or offers is Delivered
-/// and in a group Shared with the session's contact at that place.
+/// Output: in a legal journal each id that an output acknowledges is held, and each id that it
+/// sends or offers is Delivered and in a group Shared with the session's contact at that place.
 pub fn output()
     ensures { (clients : Meaning) (j : List (List Entry)) → Legal clients j → SendsTheOpen j }
 {}
 
-/// Sent: the list of the records that a session sends only grows where a legal journal extends another.
+/// Sent: the list of the records that a session sends only grows where a legal journal extends
+/// another.
 pub fn sent_grows()
-    ensures { (clients : Meaning) (j before : List (List Entry)) (session : ℕ) → Extends j before → Legal clients j
+    ensures { (clients : Meaning) (j before : List (List Entry)) (session : ℕ) → Extends j before
+        → Legal clients j
         → GoesOnFrom (sent j session) (sent before session) }
 {}
 
@@ -62,39 +72,43 @@ pub fn shown()
     ensures { (clients : Meaning) (j : List (List Entry)) → Legal clients j → KnowsShown (facts j) }
 {}
 
-/// Seen: a contact has a message exactly where there is an Arrive, Again or Seen entry of it on a session with the contact.
-/// This law and the next five hold over every list of batches, legal or not.
+/// Seen: a contact has a message exactly where there is an Arrive, Again or Seen entry of it on a
+/// session with the contact. This law and the next five hold over every list of batches, legal or
+/// not.
 pub fn seen()
     ensures { (j : List (List Entry)) → SeenLaw (entries_of j) }
 {}
 
-/// Owed: an acknowledgement is owed exactly where the last entry among the message's Arrive and Again entries on sessions
-/// with the contact and the Out entries to it whose Acks name the message is an Arrive or Again.
+/// Owed: an acknowledgement is owed exactly where the last entry among the message's Arrive and
+/// Again entries on sessions with the contact and the Out entries to it whose Acks name the message
+/// is an Arrive or Again.
 pub fn owed()
     ensures { (j : List (List Entry)) → OwedLaw (entries_of j) }
 {}
 
-/// Wanted: an id is wanted from a contact exactly where it is not held and the last entry among its Offered entries on
-/// sessions with the contact and the Out entries to it whose Requests name it is an Offered.
+/// Wanted: an id is wanted from a contact exactly where it is not held and the last entry among its
+/// Offered entries on sessions with the contact and the Out entries to it whose Requests name it is
+/// an Offered.
 pub fn wanted()
     ensures { (j : List (List Entry)) → WantedLaw (entries_of j) }
 {}
 
-/// Asked: a contact asks for a message exactly where the last entry among the message's Asked entries on sessions with the
-/// contact and the Out entries that send it the message is an Asked.
+/// Asked: a contact asks for a message exactly where the last entry among the message's Asked
+/// entries on sessions with the contact and the Out entries that send it the message is an Asked.
 pub fn asked()
     ensures { (j : List (List Entry)) → AskedLaw (entries_of j) }
 {}
 
-/// Tries: the number of Out entries to the contact that send or offer the message, after the last Asked entry of the pair
-/// or of all where there is none, cut at 64. There is always such a place behind the last Asked entry.
+/// Tries: the number of Out entries to the contact that send or offer the message, after the last
+/// Asked entry of the pair or of all where there is none, cut at 64. There is always such a place
+/// behind the last Asked entry.
 pub fn tries()
     ensures count { (j : List (List Entry)) → TriesLaw (entries_of j) }
     ensures cut { (j : List (List Entry)) → CutLaw (entries_of j) }
 {}
 
-/// Expiry: 0 where no entry counts for tries, and otherwise by the last Out entry that counts, its time, the latency of its
-/// session and the tries.
+/// Expiry: 0 where no entry counts for tries, and otherwise by the last Out entry that counts, its
+/// time, the latency of its session and the tries.
 pub fn expiry()
     ensures none { (j : List (List Entry)) → NoExpiryLaw (entries_of j) }
     ensures last { (j : List (List Entry)) → ExpiryLaw (entries_of j) }

@@ -1,6 +1,7 @@
-//! The rules of a node of the Bramble Synchronisation Protocol over its journal: what an entry says,
-//! what a journal makes known, when a message may be delivered, what is sent, and which batch may
-//! follow which journal. The definitions stand in `specs/`, and their laws in the module `laws`.
+//! The rules of a node of the Bramble Synchronisation Protocol over its journal: what an entry
+//! says, what a journal makes known, when a message may be delivered, what is sent, and which batch
+//! may follow which journal. The definitions stand in `specs/`, and their laws in the module
+//! `laws`.
 #![tactic(auto)]
 
 mod answers;

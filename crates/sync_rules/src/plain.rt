@@ -1,13 +1,23 @@
 //! A view of a list of batches by plain scans: what a session core, and a store, are compared with.
-ghost use Rattle.std.specs.Prelude.{◌≡◌, ◌+◌, ◌*◌, ◌-◌, ◌^◌, ◌<◌, ◌≤◌, ◌↔◌, ◌&&◌, ◌∷◌, ◌++◌, [], ◌==◌, Bool, length, min, nat_eq, cond, is_some, Some, ◌||◌, take, true, false, IfOk, OnOk, IsErrOf, List};
+ghost use Rattle.std.specs.Prelude.{◌≡◌, ◌+◌, ◌*◌, ◌-◌, ◌^◌, ◌<◌, ◌≤◌, ◌↔◌, ◌&&◌, ◌∷◌, ◌++◌, []};
+ghost use Rattle.std.specs.Prelude.{◌==◌, Bool, length, min, nat_eq, cond, is_some, Some, ◌||◌};
+ghost use Rattle.std.specs.Prelude.{take, true, false, IfOk, OnOk, IsErrOf, List};
 ghost use Rattle.std.specs.List.{list_all};
 ghost use Rattle.std.specs.Option.{option_copied, option_to_list};
 ghost use Rattle.sync_ids.specs.Ids.{message_id_of};
 ghost use Rattle.sync_rules.specs.Clients.{Meaning};
-ghost use Rattle.sync_rules.specs.Facts.{after, after_all, contact_of, expiry_after, facts, group_at, is_held, is_invisible, is_level_shared, level_at, latency_of, row_acked, row_asked, row_at, row_heard, row_offered, row_seen, row_sent, session_at};
+ghost use Rattle.sync_rules.specs.Facts.{after, after_all, contact_of, expiry_after, facts};
+ghost use Rattle.sync_rules.specs.Facts.{group_at, is_held, is_invisible, is_level_shared};
+ghost use Rattle.sync_rules.specs.Facts.{level_at, latency_of, row_acked, row_asked, row_at};
+ghost use Rattle.sync_rules.specs.Facts.{row_heard, row_offered, row_seen, row_sent, session_at};
 ghost use Rattle.sync_rules.specs.Legal.{Legal};
 ghost use Rattle.sync_rules.specs.Lists.{is_among, same_id};
-ghost use Rattle.sync_rules.specs.Plain.{all_entries, first_session, first_session_in, knows_level, line_by, line_ids, line_place, lines_among, lines_in, lines_of, lines_without, want_then, want_then_out, is_line_offered, is_line_owed, is_line_sendable, is_line_sent, row_then, row_then_out, session_named, shared_among, shared_by, shared_of, wanted_in, WantsAre};
+ghost use Rattle.sync_rules.specs.Plain.{all_entries, first_session, first_session_in, knows_level};
+ghost use Rattle.sync_rules.specs.Plain.{line_by, line_ids, line_place, lines_among, lines_in};
+ghost use Rattle.sync_rules.specs.Plain.{lines_of, lines_without, want_then, want_then_out};
+ghost use Rattle.sync_rules.specs.Plain.{is_line_offered, is_line_owed, is_line_sendable};
+ghost use Rattle.sync_rules.specs.Plain.{is_line_sent, row_then, row_then_out, session_named};
+ghost use Rattle.sync_rules.specs.Plain.{shared_among, shared_by, shared_of, wanted_in, WantsAre};
 ghost use Rattle.sync_rules.specs.Scans.{message_of};
 ghost use Rattle.sync_rules.specs.Sessions.{first_id, is_ripe, shared_ids};
 ghost use Rattle.sync_rules.specs.Views.{KnowsShown};
@@ -68,7 +78,8 @@ fn find_session_in(j: &[Batch], number: u32) -> Option<&Session>
 
 #[tactic(auto, using(crate::proofs::PlainLaws::session_found))]
 fn session_before<'a>(earlier: &'a [Batch], before: &'a [Entry], number: u32) -> Option<&'a Session>
-    ensures { option_copied result ≡ session_at (after_all (facts earlier.now) before.now).sessions number }
+    ensures { option_copied result ≡ session_at (after_all (facts earlier.now) before.now).sessions
+        number }
 {
     match find_session_in(earlier, number) {
         Some(session) => Some(session),
@@ -112,14 +123,27 @@ impl Model for PlainRow {
 
     ghost Value = { Row };
 
-    ghost view = { λ r. record { seen = r.seen; owed = r.owed; asked = r.asked; tries = r.tries; expiry = r.expiry } };
+    ghost view = { λ r. record {
+      seen = r.seen;
+      owed = r.owed;
+      asked = r.asked;
+      tries = r.tries;
+      expiry = r.expiry;
+    } };
 
     ghost invariant = { λ r. r.tries ≤ 64 };
 
-    ghost inverse = { λ r. record { seen = r.seen; owed = r.owed; asked = r.asked; tries = r.tries; expiry = r.expiry } };
+    ghost inverse = { λ r. record {
+      seen = r.seen;
+      owed = r.owed;
+      asked = r.asked;
+      tries = r.tries;
+      expiry = r.expiry;
+    } };
 }
 
-// The time from which a message may be sent or offered again after so many tries, the last one at `now`.
+// The time from which a message may be sent or offered again after so many tries, the last one at
+// `now`.
 fn expiry_of(now: u64, latency: u32, tries: u8) -> u64
     requires { 1 ≤ tries }
     ensures { result ≡ expiry_after now latency tries }
@@ -250,7 +274,9 @@ fn is_pair(
     contact: u8,
     id: &MessageId,
 ) -> bool
-    ensures { result ≡ (nat_eq contact (contact_of (after_all (facts earlier.now) before.now).sessions session) && same_id named.now id.now) }
+    ensures { result
+        ≡ (nat_eq contact (contact_of (after_all (facts earlier.now) before.now).sessions session)
+        && same_id named.now id.now) }
 {
     contact == contact_before(earlier, before, session) && named == id
 }
@@ -264,7 +290,8 @@ fn row_after_one(
     id: &MessageId,
     row: PlainRow,
 ) -> PlainRow
-    ensures { result ≡ row_then contact id.now (after_all (facts earlier.now) before.now) row entry.now }
+    ensures { result ≡ row_then contact id.now (after_all (facts earlier.now) before.now) row
+        entry.now }
 {
     match entry {
         Entry::Arrive(session, message) => {
@@ -458,7 +485,8 @@ fn without_held(
     lines: &[WantedLine],
     id: &MessageId,
 ) -> Result<Vec<WantedLine>, AllocError>
-    ensures { IfOk result (λ kept. kept.items ≡ lines_without (λ w. same_id w.id id.now) lines.now) }
+    ensures { IfOk result (λ kept. kept.items ≡ lines_without (λ w. same_id w.id id.now)
+        lines.now) }
 {
     let mut kept = Vec::new(alloc);
     for line in lines {
@@ -479,7 +507,9 @@ fn without_requested(
     contact: u8,
     ids: &[MessageId],
 ) -> Result<Vec<WantedLine>, AllocError>
-    ensures { IfOk result (λ kept. kept.items ≡ lines_without (λ w. nat_eq w.contact contact && is_among ids.now w.id) lines.now) }
+    ensures { IfOk result
+        (λ kept. kept.items ≡ lines_without (λ w. nat_eq w.contact contact && is_among ids.now w.id)
+        lines.now) }
 {
     let mut kept = Vec::new(alloc);
     for line in lines {
@@ -507,7 +537,9 @@ fn with_offered(
     contact: u8,
     id: &MessageId,
 ) -> Result<Vec<WantedLine>, AllocError>
-    ensures { IfOk result (λ kept. kept.items ≡ cond (is_held || is_among (wanted_in contact lines.items) id.now) lines.items
+    ensures { IfOk result
+        (λ kept. kept.items ≡ cond (is_held || is_among (wanted_in contact lines.items) id.now)
+        lines.items
         (lines.items ++ record { contact = contact; id = id.now } ∷ [])) }
 {
     if is_held || is_wanted_in(lines.as_slice(), contact, id) {
@@ -541,7 +573,8 @@ fn want_one(
     entry: &Entry,
     lines: Vec<WantedLine>,
 ) -> Result<Vec<WantedLine>, AllocError>
-    ensures { IfOk result (λ kept. kept.items ≡ want_then (after_all (facts earlier.now) before.now) lines.items entry.now) }
+    ensures { IfOk result (λ kept. kept.items ≡ want_then (after_all (facts earlier.now) before.now)
+        lines.items entry.now) }
 {
     match entry {
         Entry::Author(message) => without_held(alloc, lines.as_slice(), &id_of(message)),
@@ -575,7 +608,8 @@ fn want_batch(
     start: Vec<WantedLine>,
 ) -> Result<Vec<WantedLine>, AllocError>
     requires { WantsAre (facts earlier.now) start.items }
-    ensures { IfOk result (λ lines. WantsAre (after_all (facts earlier.now) entries.now) lines.items) }
+    ensures { IfOk result (λ lines. WantsAre (after_all (facts earlier.now) entries.now)
+        lines.items) }
 {
     let mut lines = start;
     for (k, entry) in entries.iter().enumerate() {
@@ -603,7 +637,8 @@ fn shared_in_entry<C: Clients>(
     clients: &C,
     entry: &Entry,
 ) -> Result<Option<MessageId>, AllocError>
-    ensures { IfOk result (λ id. option_to_list id ≡ shared_by (C.meaning clients.now) (facts j.now) (message_of entry.now)) }
+    ensures { IfOk result (λ id. option_to_list id ≡ shared_by (C.meaning clients.now) (facts j.now)
+        (message_of entry.now)) }
 {
     match message_in(entry) {
         Some(message) => shared_message(alloc, j, clients, message),
@@ -617,7 +652,8 @@ fn shared_message<C: Clients>(
     clients: &C,
     message: &Message,
 ) -> Result<Option<MessageId>, AllocError>
-    ensures { IfOk result (λ id. option_to_list id ≡ shared_by (C.meaning clients.now) (facts j.now) (Some message.now)) }
+    ensures { IfOk result (λ id. option_to_list id ≡ shared_by (C.meaning clients.now) (facts j.now)
+        (Some message.now)) }
 {
     let id = id_of(message);
     if !is_judged_in(j, &id) {
@@ -636,7 +672,8 @@ fn push_shared<C: Clients>(
     entries: &[Entry],
     ids: &mut Vec<MessageId>,
 ) -> Result<(), AllocError>
-    ensures { OnOk result (ids.new.items ≡ ids.old.items ++ shared_of (C.meaning clients.now) (facts j.now) entries.now) }
+    ensures { OnOk result (ids.new.items ≡ ids.old.items ++ shared_of (C.meaning clients.now)
+        (facts j.now) entries.now) }
 {
     for entry in entries {
         if let Some(id) = shared_in_entry(alloc, j, clients, entry)? {
@@ -674,7 +711,8 @@ fn is_level_known(j: &[Batch], entry: &Entry) -> bool
 }
 
 fn is_shown_known(j: &[Batch], contact: u8, group: &GroupId) -> bool
-    ensures { result ≡ (is_invisible (level_at (facts j.now).levels contact group.now) || is_some (group_at (facts j.now).groups group.now)) }
+    ensures { result ≡ (is_invisible (level_at (facts j.now).levels contact group.now) || is_some
+        (group_at (facts j.now).groups group.now)) }
 {
     match level_in(j, contact, group) {
         Level::Invisible => true,
@@ -768,7 +806,8 @@ fn owed_ids(
     lines: &[HeldLine],
     contact: u8,
 ) -> Result<Vec<MessageId>, AllocError>
-    ensures { IfOk result (λ ids. ids.items ≡ line_ids (is_line_owed (facts j.now) contact) lines.now) }
+    ensures { IfOk result (λ ids. ids.items ≡ line_ids (is_line_owed (facts j.now) contact)
+        lines.now) }
 {
     let mut ids = Vec::new(alloc);
     for line in lines {
@@ -787,7 +826,9 @@ fn offered_ids(
     contact: u8,
     now: u64,
 ) -> Result<Vec<MessageId>, AllocError>
-    ensures { IfOk result (λ ids. ids.items ≡ line_ids (is_line_offered (facts j.now) shared.now contact now) lines.now) }
+    ensures { IfOk result
+        (λ ids. ids.items ≡ line_ids (is_line_offered (facts j.now) shared.now contact now)
+        lines.now) }
 {
     let mut ids = Vec::new(alloc);
     for line in lines {
@@ -806,7 +847,8 @@ fn first_sent(
     mode: Mode,
     now: u64,
 ) -> Option<MessageId>
-    ensures { result ≡ first_id (line_ids (is_line_sent (facts j.now) shared.now contact mode now) lines.now) }
+    ensures { result ≡ first_id (line_ids (is_line_sent (facts j.now) shared.now contact mode now)
+        lines.now) }
 {
     for line in lines {
         if is_sent_line(j, shared, contact, mode, now, line) {
@@ -842,8 +884,9 @@ pub enum PlainFault {
     UnknownGroup,
 }
 
-/// A view of a list of batches by plain scans, which go over all entries at each call: what other views are compared with.
-/// Contracts see the batches, and the ids of the messages whose judgement lets them be sent on.
+/// A view of a list of batches by plain scans, which go over all entries at each call: what other
+/// views are compared with. Contracts see the batches, and the ids of the messages whose judgement
+/// lets them be sent on.
 #[derive(Debug, Drop)]
 pub struct PlainView<'a> {
     batches: &'a [Batch],
@@ -897,7 +940,8 @@ fn gather<'a, C: Clients>(
     clients: &C,
 ) -> Result<PlainView<'a>, PlainFault>
     requires { KnowsShown (facts batches.now) }
-    ensures made { IfOk result (λ v. v ≡ (batches.now, shared_ids (C.meaning clients.now) (facts batches.now))) }
+    ensures made { IfOk result
+        (λ v. v ≡ (batches.now, shared_ids (C.meaning clients.now) (facts batches.now))) }
     ensures refused { IsErrOf result PlainFault.UnknownGroup → ⊥ }
 {
     let Ok(held) = held_lines(alloc, batches) else {
@@ -913,16 +957,18 @@ fn gather<'a, C: Clients>(
 }
 
 impl<'a> PlainView<'a> {
-    /// A view of these batches, by what these clients judge. `UnknownGroup` comes exactly where a group that is not Invisible
-    /// to some contact is not known, which is so in no legal journal; else it fails only for want of memory, as which 2^32
-    /// held messages or wanted ids count.
+    /// A view of these batches, by what these clients judge. `UnknownGroup` comes exactly where a
+    /// group that is not Invisible to some contact is not known, which is so in no legal journal;
+    /// else it fails only for want of memory, as which 2^32 held messages or wanted ids count.
     pub fn new<C: Clients>(
         alloc: Global,
         batches: &'a [Batch],
         clients: &C,
     ) -> Result<PlainView<'a>, PlainFault>
-        ensures made { IfOk result (λ v. v ≡ (batches.now, shared_ids (C.meaning clients.now) (facts batches.now))) }
-        ensures unknown { IsErrOf result PlainFault.UnknownGroup ↔ (KnowsShown (facts batches.now) → ⊥) }
+        ensures made { IfOk result
+            (λ v. v ≡ (batches.now, shared_ids (C.meaning clients.now) (facts batches.now))) }
+        ensures unknown { IsErrOf result PlainFault.UnknownGroup ↔ (KnowsShown (facts batches.now)
+            → ⊥) }
     {
         if knows_levels(batches) {
             gather(alloc, batches, clients)

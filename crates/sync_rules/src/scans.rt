@@ -1,5 +1,5 @@
-//! The plain functions over lists of batches: they go over all entries at each call, and their contracts are the
-//! definitions themselves.
+//! The plain functions over lists of batches: they go over all entries at each call, and their
+//! contracts are the definitions themselves.
 ghost use Rattle.std.specs.Prelude.{◌≡◌, IfOk, MatchOption, Bool};
 ghost use Rattle.std.specs.List.{list_all, list_any};
 ghost use Rattle.std.specs.Option.{option_copied};
@@ -7,8 +7,12 @@ ghost use Rattle.std.specs.FinSet as fin_set;
 ghost use Rattle.sync_ids.specs.Ids.{group_id_of, message_id_of};
 ghost use Rattle.sync_rules.specs.Facts.{authored, facts, group_at, held_at, level_at};
 ghost use Rattle.sync_rules.specs.Lists.{is_among};
-ghost use Rattle.sync_rules.specs.Scans.{any_entry, def_at, def_named, def_of, first_def, first_def_in, first_message, first_message_in, first_step_in, first_step_of, last_level, last_level_in, level_then, message_at, message_named, message_of};
-ghost use Rattle.sync_rules.specs.Steps.{fate, fate_held, is_failing, is_served, next, step, step_accepted, step_open, verdict_in};
+ghost use Rattle.sync_rules.specs.Scans.{any_entry, def_at, def_named, def_of, first_def};
+ghost use Rattle.sync_rules.specs.Scans.{first_def_in, first_message, first_message_in};
+ghost use Rattle.sync_rules.specs.Scans.{first_step_in, first_step_of, last_level, last_level_in};
+ghost use Rattle.sync_rules.specs.Scans.{level_then, message_at, message_named, message_of};
+ghost use Rattle.sync_rules.specs.Steps.{fate, fate_held, is_failing, is_served, next, step};
+ghost use Rattle.sync_rules.specs.Steps.{step_accepted, step_open, verdict_in};
 ghost use Rattle.sync_rules.specs.EntryTests.{delivers, invalidates, judges};
 
 use crate::answers::{Clients, Judgement};
@@ -270,7 +274,8 @@ pub(crate) fn group_in<'a>(j: &'a [Batch], id: &GroupId) -> Option<&'a GroupDef>
     find_def_in(j, id)
 }
 
-/// The group's level for the contact: what the last Level entry of the pair says, else Invisible. It takes no memory.
+/// The group's level for the contact: what the last Level entry of the pair says, else Invisible.
+/// It takes no memory.
 #[tactic(auto, using(crate::proofs::ScanLaws::level_found))]
 pub fn level_in(j: &[Batch], contact: u8, group: &GroupId) -> Level
     ensures { result ≡ level_at (facts j.now).levels contact group.now }
@@ -278,7 +283,8 @@ pub fn level_in(j: &[Batch], contact: u8, group: &GroupId) -> Level
     last_level_over(j, contact, group)
 }
 
-/// The state of the message of this id. `None` comes exactly where the id is not held. It takes no memory.
+/// The state of the message of this id. `None` comes exactly where the id is not held. It takes no
+/// memory.
 pub fn fate_in(j: &[Batch], id: &MessageId) -> Option<Fate>
     ensures { result ≡ fate (facts j.now) id.now }
 {

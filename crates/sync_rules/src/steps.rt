@@ -4,8 +4,10 @@ ghost use Rattle.std.specs.List.{list_all, list_any};
 ghost use Rattle.std.specs.Option.{option_copied};
 ghost use Rattle.sync_rules.specs.Clients.{Meaning};
 ghost use Rattle.sync_rules.specs.Facts.{authored, facts, held_at};
-ghost use Rattle.sync_rules.specs.Scans.{first_step_in, first_step_of, is_beside_message, is_elsewhere_message, message_of, step_brought};
-ghost use Rattle.sync_rules.specs.Steps.{is_beside, is_elsewhere, is_ended, is_failing, is_served, next, step, step_accepted, step_open, verdict_in};
+ghost use Rattle.sync_rules.specs.Scans.{first_step_in, first_step_of, is_beside_message};
+ghost use Rattle.sync_rules.specs.Scans.{is_elsewhere_message, message_of, step_brought};
+ghost use Rattle.sync_rules.specs.Steps.{is_beside, is_elsewhere, is_ended, is_failing, is_served};
+ghost use Rattle.sync_rules.specs.Steps.{next, step, step_accepted, step_open, verdict_in};
 
 use crate::answers::{Clients, Judgement};
 use crate::entries::{Batch, Entry};
@@ -74,7 +76,8 @@ pub(crate) fn judge_in<C: Clients>(
     clients: &C,
     message: &Message,
 ) -> Result<Judgement, AllocError>
-    ensures { IfOk result (λ a. a ≡ verdict_in (C.meaning clients.now) (facts j.now).groups message.now) }
+    ensures { IfOk result (λ a. a ≡ verdict_in (C.meaning clients.now) (facts j.now).groups
+        message.now) }
 {
     let Some(def) = group_in(j, &message.group()) else {
         return Ok(Judgement::Refuse);
@@ -123,7 +126,8 @@ fn step_in<C: Clients>(
     clients: &C,
     message: &Message,
 ) -> Result<Option<Entry>, AllocError>
-    ensures { IfOk result (λ s. s ≡ step (C.meaning clients.now) (facts j.now) (authored message.now)) }
+    ensures { IfOk result (λ s. s ≡ step (C.meaning clients.now) (facts j.now)
+        (authored message.now)) }
 {
     let id = id_of(message);
     if !is_judged_in(j, &id) {
@@ -145,7 +149,8 @@ fn step_brought_in<C: Clients>(
     clients: &C,
     entry: &Entry,
 ) -> Result<Option<Entry>, AllocError>
-    ensures { IfOk result (λ s. s ≡ step_brought (C.meaning clients.now) (facts j.now) (message_of entry.now)) }
+    ensures { IfOk result (λ s. s ≡ step_brought (C.meaning clients.now) (facts j.now)
+        (message_of entry.now)) }
 {
     match message_in(entry) {
         Some(message) => step_in(alloc, j, clients, message),
@@ -160,7 +165,8 @@ fn first_step_among<C: Clients>(
     clients: &C,
     entries: &[Entry],
 ) -> Result<Option<Entry>, AllocError>
-    ensures { IfOk result (λ s. s ≡ first_step_of (C.meaning clients.now) (facts j.now) entries.now) }
+    ensures { IfOk result (λ s. s ≡ first_step_of (C.meaning clients.now) (facts j.now)
+        entries.now) }
 {
     for entry in entries {
         if let Some(step) = step_brought_in(alloc, j, clients, entry)? {
@@ -177,7 +183,8 @@ fn first_step_over<C: Clients>(
     clients: &C,
     batches: &[Batch],
 ) -> Result<Option<Entry>, AllocError>
-    ensures { IfOk result (λ s. s ≡ first_step_in (C.meaning clients.now) (facts j.now) batches.now) }
+    ensures { IfOk result (λ s. s ≡ first_step_in (C.meaning clients.now) (facts j.now)
+        batches.now) }
 {
     for batch in batches {
         if let Some(step) = first_step_among(alloc, j, clients, batch.entries())? {
@@ -187,8 +194,8 @@ fn first_step_over<C: Clients>(
     Ok(None)
 }
 
-/// The next step of a list of batches: that of the first held message, in order of arrival, that has one. `Ok(None)` comes
-/// exactly where the list is settled. It fails only for want of memory.
+/// The next step of a list of batches: that of the first held message, in order of arrival, that
+/// has one. `Ok(None)` comes exactly where the list is settled. It fails only for want of memory.
 pub fn next_step_in<C: Clients>(
     alloc: Global,
     j: &[Batch],

@@ -1,5 +1,5 @@
-//! The exact refusals, a cycle of two messages, each of which names the other as its dependency, and the waits of a message
-//! that is offered and sent, by a plain view.
+//! The exact refusals, a cycle of two messages, each of which names the other as its dependency,
+//! and the waits of a message that is offered and sent, by a plain view.
 use crate::{
     Batch, Clients, DepFault, DepList, EmptyBatch, Entry, Fate, Judgement, Level, Mode, Out,
     PlainFault, PlainView, Session, View, begin_session, fate_in, hear_message, id_of, level_in,
@@ -25,7 +25,8 @@ impl Clients for Crossed {
 
     ghost meaning = { λ c. record {
       kind_of = λ name major. Some 0;
-      verdict = λ kind m. judgement.Accept (cond (same_id (message_id_of m) c.first) c.second c.first ∷ []) true;
+      verdict = λ kind m. judgement.Accept
+          (cond (same_id (message_id_of m) c.first) c.second c.first ∷ []) true;
     } };
 
     fn kind_of(&self, _name: &str, _major: u32) -> Option<u8> {
@@ -118,8 +119,8 @@ fn list(alloc: Global, id: &MessageId) -> Result<IdList<1536>, Fail> {
     Ok(IdList::new(ids)?)
 }
 
-/// A journal of contact 0, with whom the group is Shared, a session with it of latency 30,000, and a delivered message that
-/// was written here.
+/// A journal of contact 0, with whom the group is Shared, a session with it of latency 30,000, and
+/// a delivered message that was written here.
 fn shared_message(
     alloc: Global,
     def: GroupDef,

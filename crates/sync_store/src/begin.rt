@@ -14,17 +14,24 @@ use frame_journal::{DiskFault, barrier, clear, create, read_header};
 use outside::Disk;
 
 impl Store {
-    /// Begins a store in two files: in file 0, with generation 1. `Exists` comes exactly where a file has an open header, and then
-    /// the files read as before. At each moment the files are as a crash might have left them before, or, where no header was
-    /// open, stand for no store or for the empty journal; after `Ok` every crash leaves the empty journal. It takes no memory.
+    /// Begins a store in two files: in file 0, with generation 1. `Exists` comes exactly where a
+    /// file has an open header, and then the files read as before. At each moment the files are as
+    /// a crash might have left them before, or, where no header was open, stand for no store or for
+    /// the empty journal; after `Ok` every crash leaves the empty journal. It takes no memory.
     pub fn init<D: Disk>(disk: &mut D) -> Result<(), InitFault>
         ensures answer { ForSome (D.tells disk.old).files (λ two. IsAnswer two result) }
-        ensures begun { OnOk result (Becomes Begins (D.tells disk.old).files (D.tells disk.new).files) }
-        ensures kept { IsErrOf result InitFault.Exists → Becomes Settles (D.tells disk.old).files (D.tells disk.new).files }
-        ensures untouched { IsErrOf result InitFault.Exists → AnyImage (D.tells disk.old) (D.tells disk.new) }
-        ensures any_moment { (two : Two File) → (D.tells disk.old).files ≡ Some two → MomentsAre (D.tells disk.old) (D.tells disk.new) (InitMoment two (D.tells disk.old).links) }
+        ensures begun { OnOk result (Becomes Begins (D.tells disk.old).files
+            (D.tells disk.new).files) }
+        ensures kept { IsErrOf result InitFault.Exists
+            → Becomes Settles (D.tells disk.old).files (D.tells disk.new).files }
+        ensures untouched { IsErrOf result InitFault.Exists
+            → AnyImage (D.tells disk.old) (D.tells disk.new) }
+        ensures any_moment { (two : Two File) → (D.tells disk.old).files ≡ Some two
+            → MomentsAre (D.tells disk.old) (D.tells disk.new)
+            (InitMoment two (D.tells disk.old).links) }
         ensures run { DiskRun (D.tells disk.old) (D.tells disk.new) }
-        ensures fault { IsErrOf result InitFault.DiskFault → Rose (D.tells disk.old).disk_faults (D.tells disk.new).disk_faults }
+        ensures fault { IsErrOf result InitFault.DiskFault
+            → Rose (D.tells disk.old).disk_faults (D.tells disk.new).disk_faults }
     {
         let found = look(disk)?;
         if found {
@@ -37,8 +44,10 @@ impl Store {
 
 // Syncs both files, and says whether some file has an open header.
 fn look<D: Disk>(disk: &mut D) -> Result<bool, DiskFault>
-    ensures settled { OnOk result (Becomes Settles (D.tells disk.old).files (D.tells disk.new).files) }
-    ensures found { IfOk result (λ found. ForSome (D.tells disk.old).files (λ two. has_open two ≡ found)) }
+    ensures settled { OnOk result (Becomes Settles (D.tells disk.old).files
+        (D.tells disk.new).files) }
+    ensures found { IfOk result (λ found. ForSome (D.tells disk.old).files
+        (λ two. has_open two ≡ found)) }
     ensures any_moment { AnyImage (D.tells disk.old) (D.tells disk.new) }
     ensures run { DiskRun (D.tells disk.old) (D.tells disk.new) }
     ensures fault { HasCause (D.tells disk.old).disk_faults (D.tells disk.new).disk_faults result }
@@ -49,7 +58,8 @@ fn look<D: Disk>(disk: &mut D) -> Result<bool, DiskFault>
 
 // Whether some file has an open header.
 fn any_open<D: Disk>(disk: &mut D) -> Result<bool, DiskFault>
-    ensures found { IfOk result (λ found. ForSome (D.tells disk.old).files (λ two. has_open two ≡ found)) }
+    ensures found { IfOk result (λ found. ForSome (D.tells disk.old).files
+        (λ two. has_open two ≡ found)) }
     ensures looks { Looks (D.tells disk.old) (D.tells disk.new) }
     ensures fault { HasCause (D.tells disk.old).disk_faults (D.tells disk.new).disk_faults result }
 {
@@ -62,7 +72,9 @@ fn any_open<D: Disk>(disk: &mut D) -> Result<bool, DiskFault>
 fn begin<D: Disk>(disk: &mut D) -> Result<(), DiskFault>
     requires { ForSome (D.tells disk.old).files IsFree }
     ensures begun { OnOk result (Becomes Begins (D.tells disk.old).files (D.tells disk.new).files) }
-    ensures any_moment { (two : Two File) → (D.tells disk.old).files ≡ Some two → MomentsAre (D.tells disk.old) (D.tells disk.new) (InitMoment two (D.tells disk.old).links) }
+    ensures any_moment { (two : Two File) → (D.tells disk.old).files ≡ Some two
+        → MomentsAre (D.tells disk.old) (D.tells disk.new)
+        (InitMoment two (D.tells disk.old).links) }
     ensures run { DiskRun (D.tells disk.old) (D.tells disk.new) }
     ensures fault { HasCause (D.tells disk.old).disk_faults (D.tells disk.new).disk_faults result }
 {

@@ -1,5 +1,6 @@
 //! A batch committed.
-ghost use Rattle.std.specs.Prelude.{◌≡◌, ◌+◌, ◌^◌, ◌<◌, ◌≤◌, false, true, List, Some, length, nat_lt, IfErr, IfOk, IsErrOf, OnOk};
+ghost use Rattle.std.specs.Prelude.{◌≡◌, ◌+◌, ◌^◌, ◌<◌, ◌≤◌, false, true, List, Some, length};
+ghost use Rattle.std.specs.Prelude.{nat_lt, IfErr, IfOk, IsErrOf, OnOk};
 ghost use Rattle.outside.specs.Faults.{HasCause, Rose};
 ghost use Rattle.outside.specs.Files.{Two, File};
 ghost use Rattle.outside.specs.Outside.{DiskRun};
@@ -21,20 +22,24 @@ use std::alloc::AllocError;
 use sync_rules::{Batch, Clients};
 
 impl Store {
-    /// Whether a batch that does not begin with a step may follow the journal. It fails only for want of memory.
+    /// Whether a batch that does not begin with a step may follow the journal. It fails only for
+    /// want of memory.
     pub fn allows<C: Clients>(&self, clients: &C, batch: &Batch) -> Result<bool, AllocError>
         requires knows { Knows (C.meaning clients.now) self.now.state }
         requires kind { is_settling_kind batch.now ≡ false }
-        ensures { IfOk result (λ yes. yes ≡ allows (C.meaning clients.now) self.now.state.facts batch.now) }
+        ensures { IfOk result (λ yes. yes ≡ allows (C.meaning clients.now) self.now.state.facts
+            batch.now) }
     {
         self.state.allows(self.alloc, clients, batch)
     }
 
-    /// Commits a batch, which may follow the journal and is no settling batch. Before its first call on the disk it takes all the
-    /// memory that it needs. `Closed` comes exactly where an earlier call answered `DiskFault`; then `Full` exactly where the
-    /// journal, the frame and the room that settling may then need pass the limit. After `Closed`, `Full` and `Memory` all is as
-    /// before, and no call on the disk was made; after `DiskFault` the store is closed, and else as before. At each moment the files
-    /// stand for the journal or for it with the batch, and after `Ok` every crash leaves the latter.
+    /// Commits a batch, which may follow the journal and is no settling batch. Before its first
+    /// call on the disk it takes all the memory that it needs. `Closed` comes exactly where an
+    /// earlier call answered `DiskFault`; then `Full` exactly where the journal, the frame and the
+    /// room that settling may then need pass the limit. After `Closed`, `Full` and `Memory` all is
+    /// as before, and no call on the disk was made; after `DiskFault` the store is closed, and else
+    /// as before. At each moment the files stand for the journal or for it with the batch, and
+    /// after `Ok` every crash leaves the latter.
     pub fn commit<D: Disk, C: Clients>(
         &mut self,
         disk: &mut D,
@@ -43,17 +48,22 @@ impl Store {
     ) -> Result<(), StoreFault>
         requires fits { FitsSome (C.meaning clients.now) self.old (D.tells disk.old).files }
         requires knows { self.old.closed ≡ false → Knows (C.meaning clients.now) self.old.state }
-        requires allowed { self.old.closed ≡ false → Allowed (C.meaning clients.now) self.old.state.facts batch }
+        requires allowed { self.old.closed ≡ false
+            → Allowed (C.meaning clients.now) self.old.state.facts batch }
         requires kind { is_settling_kind batch ≡ false }
         ensures answer { Commits self.old self.new batch result }
-        ensures extends { self.old.closed ≡ false → (two : Two File) → (D.tells disk.old).files ≡ Some two → (j : List (List Entry)) → Fits (C.meaning clients.now) self.old j two
-            → Adds (C.meaning clients.now) batch result self.new (D.tells disk.old) (D.tells disk.new) j }
+        ensures extends { self.old.closed ≡ false → (two : Two File)
+            → (D.tells disk.old).files ≡ Some two → (j : List (List Entry))
+            → Fits (C.meaning clients.now) self.old j two
+            → Adds (C.meaning clients.now) batch result self.new (D.tells disk.old)
+            (D.tells disk.new) j }
         ensures fits { FitsSome (C.meaning clients.now) self.new (D.tells disk.new).files }
         ensures knows { self.new.closed ≡ false → Knows (C.meaning clients.now) self.new.state }
         ensures untouched { Untouched result (D.tells disk.old).files (D.tells disk.new).files }
         ensures unasked { Unasked result disk.old disk.new }
         ensures run { DiskRun (D.tells disk.old) (D.tells disk.new) }
-        ensures fault { IsErrOf result StoreFault.DiskFault → Rose (D.tells disk.old).disk_faults (D.tells disk.new).disk_faults }
+        ensures fault { IsErrOf result StoreFault.DiskFault
+            → Rose (D.tells disk.old).disk_faults (D.tells disk.new).disk_faults }
     {
         self.commit_batch(disk, clients, batch)
     }
@@ -66,16 +76,21 @@ impl Store {
     ) -> Result<(), StoreFault>
         requires fits { FitsSome (C.meaning clients.now) self.old (D.tells disk.old).files }
         requires knows { self.old.closed ≡ false → Knows (C.meaning clients.now) self.old.state }
-        requires allowed { self.old.closed ≡ false → Allowed (C.meaning clients.now) self.old.state.facts batch }
+        requires allowed { self.old.closed ≡ false
+            → Allowed (C.meaning clients.now) self.old.state.facts batch }
         requires kind { is_settling_kind batch ≡ false }
         ensures answer { Commits self.old self.new batch result }
-        ensures extends { self.old.closed ≡ false → (two : Two File) → (D.tells disk.old).files ≡ Some two → (j : List (List Entry)) → Fits (C.meaning clients.now) self.old j two
-            → Adds (C.meaning clients.now) batch result self.new (D.tells disk.old) (D.tells disk.new) j }
+        ensures extends { self.old.closed ≡ false → (two : Two File)
+            → (D.tells disk.old).files ≡ Some two → (j : List (List Entry))
+            → Fits (C.meaning clients.now) self.old j two
+            → Adds (C.meaning clients.now) batch result self.new (D.tells disk.old)
+            (D.tells disk.new) j }
         ensures knows { self.new.closed ≡ false → Knows (C.meaning clients.now) self.new.state }
         ensures untouched { Untouched result (D.tells disk.old).files (D.tells disk.new).files }
         ensures unasked { Unasked result disk.old disk.new }
         ensures run { DiskRun (D.tells disk.old) (D.tells disk.new) }
-        ensures fault { IsErrOf result StoreFault.DiskFault → Rose (D.tells disk.old).disk_faults (D.tells disk.new).disk_faults }
+        ensures fault { IsErrOf result StoreFault.DiskFault
+            → Rose (D.tells disk.old).disk_faults (D.tells disk.new).disk_faults }
     {
         if self.closed {
             return Err(StoreFault::Closed);
@@ -120,12 +135,17 @@ impl Store {
         requires kind { is_settling_kind batch ≡ false }
         requires room { HasRoom self.old.state batch }
         ensures ok { OnOk result (Gains self.old self.new batch) }
-        ensures err { IfErr result (λ e. (e ≡ StoreFault.DiskFault) × (self.new ≡ record self.old { closed = true })) }
-        ensures extends { (two : Two File) → (D.tells disk.old).files ≡ Some two → (j : List (List Entry)) → Fits (C.meaning clients.now) self.old j two
-            → Adds (C.meaning clients.now) batch result self.new (D.tells disk.old) (D.tells disk.new) j }
-        ensures knows { OnOk result (Knows (C.meaning clients.now) self.old.state → Knows (C.meaning clients.now) self.new.state) }
+        ensures err { IfErr result (λ e. (e ≡ StoreFault.DiskFault)
+            × (self.new ≡ record self.old { closed = true })) }
+        ensures extends { (two : Two File) → (D.tells disk.old).files ≡ Some two
+            → (j : List (List Entry)) → Fits (C.meaning clients.now) self.old j two
+            → Adds (C.meaning clients.now) batch result self.new (D.tells disk.old)
+            (D.tells disk.new) j }
+        ensures knows { OnOk result (Knows (C.meaning clients.now) self.old.state
+            → Knows (C.meaning clients.now) self.new.state) }
         ensures run { DiskRun (D.tells disk.old) (D.tells disk.new) }
-        ensures fault { HasCause (D.tells disk.old).disk_faults (D.tells disk.new).disk_faults result }
+        ensures fault { HasCause (D.tells disk.old).disk_faults (D.tells disk.new).disk_faults
+            result }
     {
         let _meaning = clients;
         match self.journal.append(disk, framed) {

@@ -1,4 +1,5 @@
-//! A legal journal on a disk: at every moment the two files stand for a legal journal, and the store has its facts.
+//! A legal journal on a disk: at every moment the two files stand for a legal journal, and the
+//! store has its facts.
 #![tactic(auto)]
 
 mod begin;

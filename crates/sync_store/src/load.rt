@@ -1,5 +1,6 @@
 //! Loading a store: the journal is read batch by batch, and never held.
-ghost use Rattle.std.specs.Prelude.{◌≡◌, ℕ, ◌+◌, ◌-◌, ◌^◌, ◌<◌, ◌≤◌, false, length, IfOk, IsErrOf, Some};
+ghost use Rattle.std.specs.Prelude.{◌≡◌, ℕ, ◌+◌, ◌-◌, ◌^◌, ◌<◌, ◌≤◌, false, length, IfOk, IsErrOf};
+ghost use Rattle.std.specs.Prelude.{Some};
 ghost use Rattle.outside.specs.Faults.{Rose};
 ghost use Rattle.outside.specs.Files.{Two, File, read_files};
 ghost use Rattle.outside.specs.Outside.{DiskRun, Looks};
@@ -7,7 +8,8 @@ ghost use Rattle.frame_journal.specs.Gates.{AnyImage};
 ghost use Rattle.journal_state.specs.Whole.{Knows};
 ghost use Rattle.sync_rules.specs.Facts.{nothing, takes_of};
 ghost use Rattle.sync_store.specs.Fitting.{FitsSome};
-ghost use Rattle.sync_store.specs.Loading.{HasItsRoom, IsLoaded, LeavesSettled, Plays, ReadsAll, SoFar, Turns};
+ghost use Rattle.sync_store.specs.Loading.{HasItsRoom, IsLoaded, LeavesSettled, Plays, ReadsAll};
+ghost use Rattle.sync_store.specs.Loading.{SoFar, Turns};
 
 use crate::LoadFault;
 use crate::store::Store;
@@ -60,9 +62,11 @@ fn read_next<D: Disk, C: Clients>(
     payload: &mut Vec<u8>,
 ) -> Result<bool, LoadFault>
     requires { SoFar (C.meaning clients.now) (D.tells disk.old).files journal.old state.old }
-    ensures turn { Turns (C.meaning clients.now) (D.tells disk.new).files journal.old journal.new state.new result }
+    ensures turn { Turns (C.meaning clients.now) (D.tells disk.new).files journal.old journal.new
+        state.new result }
     ensures looks { Looks (D.tells disk.old) (D.tells disk.new) }
-    ensures fault { IsErrOf result LoadFault.DiskFault → Rose (D.tells disk.old).disk_faults (D.tells disk.new).disk_faults }
+    ensures fault { IsErrOf result LoadFault.DiskFault
+        → Rose (D.tells disk.old).disk_faults (D.tells disk.new).disk_faults }
 {
     laws::allows_is_allowed();
     laws::allowed_add_one();
@@ -104,9 +108,11 @@ fn read_all<D: Disk, C: Clients>(
     state: &mut State,
 ) -> Result<(), LoadFault>
     requires { SoFar (C.meaning clients.now) (D.tells disk.old).files journal.old state.old }
-    ensures all { ReadsAll (C.meaning clients.now) (D.tells disk.new).files journal.new state.new result }
+    ensures all { ReadsAll (C.meaning clients.now) (D.tells disk.new).files journal.new state.new
+        result }
     ensures looks { Looks (D.tells disk.old) (D.tells disk.new) }
-    ensures fault { IsErrOf result LoadFault.DiskFault → Rose (D.tells disk.old).disk_faults (D.tells disk.new).disk_faults }
+    ensures fault { IsErrOf result LoadFault.DiskFault
+        → Rose (D.tells disk.old).disk_faults (D.tells disk.new).disk_faults }
 {
     let mut payload = Vec::new(alloc);
     'frames: loop {
@@ -119,9 +125,11 @@ fn read_all<D: Disk, C: Clients>(
 }
 
 impl Store {
-    /// Loads the store of a disk: it begins with the barrier, reads the journal and writes nothing. `limit` is the length in bytes
-    /// that commits may fill, at most 268,435,456. `NoStore` comes exactly where no file has an open header, `Damaged` exactly where
-    /// the files stand for no legal journal, with the first place that shows it, and `DiskFault` only where a call on the disk failed.
+    /// Loads the store of a disk: it begins with the barrier, reads the journal and writes nothing.
+    /// `limit` is the length in bytes that commits may fill, at most 268,435,456. `NoStore` comes
+    /// exactly where no file has an open header, `Damaged` exactly where the files stand for no
+    /// legal journal, with the first place that shows it, and `DiskFault` only where a call on the
+    /// disk failed.
     pub fn load<D: Disk, C: Clients>(
         alloc: Global,
         disk: &mut D,
@@ -129,8 +137,10 @@ impl Store {
         limit: u64,
     ) -> Result<Store, LoadFault>
         requires { limit ≤ 268435456 }
-        ensures answer { (two : Two File) → (D.tells disk.old).files ≡ Some two → IsLoaded (C.meaning clients.now) (read_files two) result }
-        ensures fits { IfOk result (λ store. FitsSome (C.meaning clients.now) store (D.tells disk.new).files) }
+        ensures answer { (two : Two File) → (D.tells disk.old).files ≡ Some two
+            → IsLoaded (C.meaning clients.now) (read_files two) result }
+        ensures fits { IfOk result (λ store. FitsSome (C.meaning clients.now) store
+            (D.tells disk.new).files) }
         ensures knows { IfOk result (λ store. Knows (C.meaning clients.now) store.state) }
         ensures open { IfOk result (λ store. (store.closed ≡ false) × (store.limit ≡ limit)) }
 
@@ -138,7 +148,8 @@ impl Store {
         ensures any_moment { AnyImage (D.tells disk.old) (D.tells disk.new) }
         ensures settled { LeavesSettled (D.tells disk.old).files (D.tells disk.new).files result }
         ensures run { DiskRun (D.tells disk.old) (D.tells disk.new) }
-        ensures fault { IsErrOf result LoadFault.DiskFault → Rose (D.tells disk.old).disk_faults (D.tells disk.new).disk_faults }
+        ensures fault { IsErrOf result LoadFault.DiskFault
+            → Rose (D.tells disk.old).disk_faults (D.tells disk.new).disk_faults }
     {
         barrier(disk)?;
         let mut journal = match Journal::start(disk) {

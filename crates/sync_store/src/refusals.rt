@@ -1,7 +1,8 @@
 //! What may be added to a store.
 ghost use Rattle.std.specs.Prelude.{◌≡◌, ◌<◌, IfOk, length};
 ghost use Rattle.sync_rules.specs.Steps.{verdict_in};
-ghost use Rattle.sync_store.specs.Refusals.{IsPost, contact_answer, group_answer, level_answer, post_answer};
+ghost use Rattle.sync_store.specs.Refusals.{IsPost, contact_answer, group_answer, level_answer};
+ghost use Rattle.sync_store.specs.Refusals.{post_answer};
 
 use crate::PostFault;
 use crate::store::Store;
@@ -28,8 +29,8 @@ impl Store {
         }
     }
 
-    /// The id of a further group. In this order, each exactly: `UnknownClient`, `GroupExists`, `TooManyGroups` where 1,024 are
-    /// known.
+    /// The id of a further group. In this order, each exactly: `UnknownClient`, `GroupExists`,
+    /// `TooManyGroups` where 1,024 are known.
     pub fn may_group<C: Clients>(&self, clients: &C, def: &GroupDef) -> Result<GroupId, Refused>
         ensures { result ≡ group_answer (C.meaning clients.now) self.now.state.facts def.now }
     {
@@ -47,7 +48,8 @@ impl Store {
         }
     }
 
-    /// Whether the level of a group may be set for a contact. In this order, each exactly: `UnknownContact`, `UnknownGroup`.
+    /// Whether the level of a group may be set for a contact. In this order, each exactly:
+    /// `UnknownContact`, `UnknownGroup`.
     pub fn may_level(&self, contact: u8, group: &GroupId) -> Result<(), Refused>
         ensures { result ≡ level_answer self.now.state.facts contact group.now }
     {
@@ -61,15 +63,16 @@ impl Store {
         }
     }
 
-    /// The id of a message that may be written here. In this order, each exactly but for want of memory: `UnknownGroup`,
-    /// `AlreadyHeld`, `InvalidPost` where its client refuses it, `DependencyNotDelivered` where a dependency is no delivered
-    /// message of the same group.
+    /// The id of a message that may be written here. In this order, each exactly but for want of
+    /// memory: `UnknownGroup`, `AlreadyHeld`, `InvalidPost` where its client refuses it,
+    /// `DependencyNotDelivered` where a dependency is no delivered message of the same group.
     pub fn may_post<C: Clients>(
         &self,
         clients: &C,
         message: &Message,
     ) -> Result<MessageId, PostFault>
-        ensures { IsPost (post_answer (C.meaning clients.now) self.now.state.facts message.now) result }
+        ensures { IsPost (post_answer (C.meaning clients.now) self.now.state.facts message.now)
+            result }
     {
         let group = message.group();
         if !self.state.knows_group(&group) {
@@ -98,7 +101,8 @@ impl Store {
         clients: &C,
         message: &Message,
     ) -> Result<Judgement, AllocError>
-        ensures { IfOk result (λ answer. answer ≡ verdict_in (C.meaning clients.now) self.now.state.facts.groups message.now) }
+        ensures { IfOk result (λ answer. answer ≡ verdict_in (C.meaning clients.now)
+            self.now.state.facts.groups message.now) }
     {
         let Some(number) = self.state.group(&message.group()) else {
             return Ok(Judgement::Refuse);

@@ -1,5 +1,6 @@
 //! The steps of a journal, committed until it is settled.
-ghost use Rattle.std.specs.Prelude.{◌≡◌, ◌⊎◌, ◌+◌, ◌<◌, ◌≤◌, [], false, true, Some, length, max, vec_capacity, vec_len, IfErr, IsErrOf, OnErr, OnOk};
+ghost use Rattle.std.specs.Prelude.{◌≡◌, ◌⊎◌, ◌+◌, ◌<◌, ◌≤◌, [], false, true, Some, length, max};
+ghost use Rattle.std.specs.Prelude.{vec_capacity, vec_len, IfErr, IsErrOf, OnErr, OnOk};
 ghost use Rattle.std.specs.Option.{ForSome};
 ghost use Rattle.outside.specs.Faults.{HasCause, Rose};
 ghost use Rattle.outside.specs.Files.{Two, File, file_of};
@@ -26,10 +27,12 @@ use std::alloc::{AllocError, Global};
 use sync_rules::{Clients, Entry};
 
 impl Store {
-    /// Commits settling batches, each filled to 256 entries while a step is left, until the journal is settled. It never answers
-    /// `Full`: each commit leaves room for settling. `Closed` comes exactly where an earlier call answered `DiskFault`, and no call
-    /// on the disk is made then. After `Memory` the journal is extended by the steps made before it, and after `DiskFault` the store
-    /// is closed. At each moment the files stand for the journal with some settling batches.
+    /// Commits settling batches, each filled to 256 entries while a step is left, until the journal
+    /// is settled. It never answers `Full`: each commit leaves room for settling. `Closed` comes
+    /// exactly where an earlier call answered `DiskFault`, and no call on the disk is made then.
+    /// After `Memory` the journal is extended by the steps made before it, and after `DiskFault`
+    /// the store is closed. At each moment the files stand for the journal with some settling
+    /// batches.
     pub fn settle<D: Disk, C: Clients>(
         &mut self,
         disk: &mut D,
@@ -40,12 +43,15 @@ impl Store {
         ensures answer { SettlesSo (C.meaning clients.now) self.old self.new result }
         ensures proceeds { Proceeds (C.meaning clients.now) self.old self.new }
         ensures filled { self.new.closed ≡ false → Fills (C.meaning clients.now) self.old self.new }
-        ensures settles { self.old.closed ≡ false → Settles (C.meaning clients.now) self.old self.new (D.tells disk.old) (D.tells disk.new) }
+        ensures settles { self.old.closed ≡ false
+            → Settles (C.meaning clients.now) self.old self.new (D.tells disk.old)
+            (D.tells disk.new) }
         ensures closed { self.old.closed ≡ true → disk.new ≡ disk.old }
         ensures fits { FitsSome (C.meaning clients.now) self.new (D.tells disk.new).files }
         ensures knows { self.new.closed ≡ false → Knows (C.meaning clients.now) self.new.state }
         ensures run { DiskRun (D.tells disk.old) (D.tells disk.new) }
-        ensures fault { IsErrOf result StoreFault.DiskFault → Rose (D.tells disk.old).disk_faults (D.tells disk.new).disk_faults }
+        ensures fault { IsErrOf result StoreFault.DiskFault
+            → Rose (D.tells disk.old).disk_faults (D.tells disk.new).disk_faults }
     {
         self.settle_all(disk, clients)
     }
@@ -60,11 +66,14 @@ impl Store {
         ensures answer { SettlesSo (C.meaning clients.now) self.old self.new result }
         ensures proceeds { Proceeds (C.meaning clients.now) self.old self.new }
         ensures filled { self.new.closed ≡ false → Fills (C.meaning clients.now) self.old self.new }
-        ensures settles { self.old.closed ≡ false → Settles (C.meaning clients.now) self.old self.new (D.tells disk.old) (D.tells disk.new) }
+        ensures settles { self.old.closed ≡ false
+            → Settles (C.meaning clients.now) self.old self.new (D.tells disk.old)
+            (D.tells disk.new) }
         ensures closed { self.old.closed ≡ true → disk.new ≡ disk.old }
         ensures knows { self.new.closed ≡ false → Knows (C.meaning clients.now) self.new.state }
         ensures run { DiskRun (D.tells disk.old) (D.tells disk.new) }
-        ensures fault { IsErrOf result StoreFault.DiskFault → Rose (D.tells disk.old).disk_faults (D.tells disk.new).disk_faults }
+        ensures fault { IsErrOf result StoreFault.DiskFault
+            → Rose (D.tells disk.old).disk_faults (D.tells disk.new).disk_faults }
     {
         if self.is_shut() {
             return Err(StoreFault::Closed);
@@ -89,10 +98,12 @@ impl Store {
         ensures proceeds { Proceeds (C.meaning clients.now) self.old self.new }
         ensures filled { self.new.closed ≡ false → Fills (C.meaning clients.now) self.old self.new }
         ensures each { OnOk result (FillsEach (C.meaning clients.now) self.old self.new) }
-        ensures settles { Settles (C.meaning clients.now) self.old self.new (D.tells disk.old) (D.tells disk.new) }
+        ensures settles { Settles (C.meaning clients.now) self.old self.new (D.tells disk.old)
+            (D.tells disk.new) }
         ensures knows { Knows (C.meaning clients.now) self.new.state }
         ensures run { DiskRun (D.tells disk.old) (D.tells disk.new) }
-        ensures fault { IsErrOf result StoreFault.DiskFault → Rose (D.tells disk.old).disk_faults (D.tells disk.new).disk_faults }
+        ensures fault { IsErrOf result StoreFault.DiskFault
+            → Rose (D.tells disk.old).disk_faults (D.tells disk.new).disk_faults }
     {
         let entries = Vec::with_capacity(self.alloc, MOST_STEPS)?;
         let framed = Vec::with_capacity(self.alloc, MOST_FRAMED)?;
@@ -119,10 +130,12 @@ impl Store {
         ensures proceeds { Proceeds (C.meaning clients.now) self.old self.new }
         ensures filled { self.new.closed ≡ false → Fills (C.meaning clients.now) self.old self.new }
         ensures each { OnOk result (FillsEach (C.meaning clients.now) self.old self.new) }
-        ensures settles { Settles (C.meaning clients.now) self.old self.new (D.tells disk.old) (D.tells disk.new) }
+        ensures settles { Settles (C.meaning clients.now) self.old self.new (D.tells disk.old)
+            (D.tells disk.new) }
         ensures knows { Knows (C.meaning clients.now) self.new.state }
         ensures run { DiskRun (D.tells disk.old) (D.tells disk.new) }
-        ensures fault { IsErrOf result StoreFault.DiskFault → Rose (D.tells disk.old).disk_faults (D.tells disk.new).disk_faults }
+        ensures fault { IsErrOf result StoreFault.DiskFault
+            → Rose (D.tells disk.old).disk_faults (D.tells disk.new).disk_faults }
     {
         let filled = fill(&mut self.state, self.alloc, clients, &mut entries);
         if entries.is_empty() {
@@ -138,14 +151,22 @@ impl Store {
     // Adds a frame to the journal's file, and closes the store where that fails.
     fn write<D: Disk>(&mut self, disk: &mut D, framed: &[u8]) -> Result<(), StoreFault>
         requires framed { IsFramed framed.now }
-        requires room { self.old.end + length framed.now + room_of self.old.state.facts ≤ 268435456 }
-        requires fits { ForSome (D.tells disk.old).files (λ two. IsAtRest two self.old.file self.old.end) }
-        ensures ok { OnOk result (self.new ≡ record self.old { end = self.old.end + length framed.now }) }
-        ensures err { IfErr result (λ e. (e ≡ StoreFault.DiskFault) × (self.new ≡ record self.old { closed = true })) }
-        ensures appended { OnOk result (Becomes (Appends self.old.file self.old.end framed.now) (D.tells disk.old).files (D.tells disk.new).files) }
-        ensures any_moment { (two : Two File) → (D.tells disk.old).files ≡ Some two → Passed two (D.tells disk.old) (D.tells disk.new) self.old.file (BeforeOrWith (file_of two self.old.file).now self.old.end framed.now) }
+        requires room { self.old.end + length framed.now + room_of self.old.state.facts
+            ≤ 268435456 }
+        requires fits { ForSome (D.tells disk.old).files
+            (λ two. IsAtRest two self.old.file self.old.end) }
+        ensures ok { OnOk result
+            (self.new ≡ record self.old { end = self.old.end + length framed.now }) }
+        ensures err { IfErr result (λ e. (e ≡ StoreFault.DiskFault)
+            × (self.new ≡ record self.old { closed = true })) }
+        ensures appended { OnOk result (Becomes (Appends self.old.file self.old.end framed.now)
+            (D.tells disk.old).files (D.tells disk.new).files) }
+        ensures any_moment { (two : Two File) → (D.tells disk.old).files ≡ Some two
+            → Passed two (D.tells disk.old) (D.tells disk.new) self.old.file
+            (BeforeOrWith (file_of two self.old.file).now self.old.end framed.now) }
         ensures run { DiskRun (D.tells disk.old) (D.tells disk.new) }
-        ensures fault { HasCause (D.tells disk.old).disk_faults (D.tells disk.new).disk_faults result }
+        ensures fault { HasCause (D.tells disk.old).disk_faults (D.tells disk.new).disk_faults
+            result }
     {
         match self.journal.append(disk, framed) {
             Ok(()) => Ok(()),
@@ -157,7 +178,8 @@ impl Store {
     }
 }
 
-// Makes the next steps of a state, at most as many as a batch has; those that were made before an error stay.
+// Makes the next steps of a state, at most as many as a batch has; those that were made before an
+// error stay.
 fn fill<C: Clients>(
     state: &mut State,
     alloc: Global,
@@ -171,8 +193,10 @@ fn fill<C: Clients>(
     ensures few { vec_len entries.new ≤ 256 }
     ensures facts { state.new.facts ≡ after_all state.old.facts entries.new.items }
     ensures knows { Knows (C.meaning clients.now) state.new }
-    ensures none { OnOk result (entries.new.items ≡ [] → IsSettled (C.meaning clients.now) state.old.facts) }
-    ensures full { OnOk result ((vec_len entries.new ≡ 256) ⊎ IsSettled (C.meaning clients.now) state.new.facts) }
+    ensures none { OnOk result (entries.new.items ≡ []
+        → IsSettled (C.meaning clients.now) state.old.facts) }
+    ensures full { OnOk result ((vec_len entries.new ≡ 256)
+        ⊎ IsSettled (C.meaning clients.now) state.new.facts) }
 {
     'steps: for _made in 0..MOST_STEPS {
         let Some(entry) = state.step(alloc, clients)? else {

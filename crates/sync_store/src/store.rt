@@ -18,8 +18,9 @@ use std::marker::Model;
 use sync_ids::{GroupDef, GroupId, Message, MessageId};
 use sync_rules::{Fate, Origin};
 
-/// A legal journal on a disk. Contracts see the facts of the journal and the judgements of its messages, the number of its file
-/// and the place of its closed gate plus one, the length that commits may fill, and whether a call on the disk failed.
+/// A legal journal on a disk. Contracts see the facts of the journal and the judgements of its
+/// messages, the number of its file and the place of its closed gate plus one, the length that
+/// commits may fill, and whether a call on the disk failed.
 #[derive(Drop)]
 pub struct Store {
     pub(crate) alloc: Global,
@@ -83,13 +84,15 @@ impl Store {
 
     /// Whether the journal is settled.
     pub fn is_settled(&self) -> bool
-        ensures { (clients : Meaning) → Knows clients self.now.state → (IsTrue result ↔ IsSettled clients self.now.state.facts) }
+        ensures { (clients : Meaning) → Knows clients self.now.state
+            → (IsTrue result ↔ IsSettled clients self.now.state.facts) }
     {
         self.state.is_settled()
     }
 
-    /// The room in bytes that settling may yet need: 76 for each held message that is not judged, 38 for each that is judged and
-    /// neither delivered nor invalid. Behind the journal it is within the greatest length.
+    /// The room in bytes that settling may yet need: 76 for each held message that is not judged,
+    /// 38 for each that is judged and neither delivered nor invalid. Behind the journal it is
+    /// within the greatest length.
     pub fn room(&self) -> u64
         ensures room { result ≡ room_of self.now.state.facts }
         ensures within { self.now.end + result ≤ 268435456 }
@@ -124,15 +127,18 @@ impl Store {
     pub fn delivered_at(&self, k: u32) -> u32
         requires { k < length self.now.state.facts.delivered }
         ensures within { result < length self.now.state.facts.held }
-        ensures place { (id : Id) → slice_get self.now.state.facts.delivered k ≡ Some id → IsPlace self.now.state.facts.held id result }
+        ensures place { (id : Id) → slice_get self.now.state.facts.delivered k ≡ Some id
+            → IsPlace self.now.state.facts.held id result }
     {
         self.state.delivered_at(k)
     }
 
-    /// The state of the held message of this arrival number, which is below the number of held messages.
+    /// The state of the held message of this arrival number, which is below the number of held
+    /// messages.
     pub fn fate(&self, n: u32) -> Fate
         requires { n < length self.now.state.facts.held }
-        ensures { option_map (λ h. fate_held self.now.state.facts h.id) (slice_get self.now.state.facts.held n) ≡ Some result }
+        ensures { option_map (λ h. fate_held self.now.state.facts h.id)
+            (slice_get self.now.state.facts.held n) ≡ Some result }
     {
         self.state.fate(n)
     }
@@ -147,7 +153,8 @@ impl Store {
     /// The definition of the group of this number, which is below the number of groups.
     pub fn group_def(&self, n: u32) -> &GroupDef
         requires { n < length self.now.state.facts.groups }
-        ensures { option_map (λ g. g.def) (slice_get self.now.state.facts.groups n) ≡ Some result.now }
+        ensures { option_map (λ g. g.def) (slice_get self.now.state.facts.groups n) ≡ Some
+            result.now }
     {
         self.state.group_def(n)
     }
@@ -163,12 +170,14 @@ impl Store {
     /// The held message of this arrival number, which is below the number of held messages.
     pub fn message(&self, n: u32) -> &Message
         requires { n < length self.now.state.facts.held }
-        ensures { option_map (λ h. h.message) (slice_get self.now.state.facts.held n) ≡ Some result.now }
+        ensures { option_map (λ h. h.message) (slice_get self.now.state.facts.held n) ≡ Some
+            result.now }
     {
         self.state.message(n)
     }
 
-    /// The id of the held message of this arrival number, which is below the number of held messages.
+    /// The id of the held message of this arrival number, which is below the number of held
+    /// messages.
     pub fn id_at(&self, n: u32) -> MessageId
         requires { n < length self.now.state.facts.held }
         ensures { option_map (λ h. h.id) (slice_get self.now.state.facts.held n) ≡ Some result }
@@ -176,7 +185,8 @@ impl Store {
         self.state.id_at(n)
     }
 
-    /// Where the held message of this arrival number came from; the number is below the number of held messages.
+    /// Where the held message of this arrival number came from; the number is below the number of
+    /// held messages.
     pub fn origin(&self, n: u32) -> Origin
         requires { n < length self.now.state.facts.held }
         ensures { option_map (λ h. h.origin) (slice_get self.now.state.facts.held n) ≡ Some result }

@@ -16,7 +16,8 @@ pub trait Listener {
 
     /// Takes one item more. It fails only for want of memory, and then nothing is said of it.
     fn hear(&mut self, alloc: Global, item: Item) -> Result<(), AllocError>
-        ensures { OnOk result ((subject : Subject) (items : List Item) → heard self.old subject items → heard self.new subject (items ++ item ∷ [])) };
+        ensures { OnOk result ((subject : Subject) (items : List Item)
+            → heard self.old subject items → heard self.new subject (items ++ item ∷ [])) };
 }
 
 /// Lists the items of a stream, a line each.

@@ -38,15 +38,21 @@ pub struct Heard {
     pub ending: Ending,
 }
 
-/// Reads the input to its end, at most 268,435,456 bytes and one more, and hands all items of the first 268,435,456 bytes
-/// to the listener. It fails only for want of memory.
+/// Reads the input to its end, at most 268,435,456 bytes and one more, and hands all items of the
+/// first 268,435,456 bytes to the listener. It fails only for want of memory.
 pub fn hear_input<S: Source, L: Listener>(
     alloc: Global,
     input: &mut S,
     listener: &mut L,
 ) -> Result<Heard, AllocError>
     ensures { IfOk result (λ h. HearsInput L.heard
-        (record { before = S.left input.old; after = S.left input.new; faults = S.source_faults input.old; faults' = S.source_faults input.new })
+        (record {
+          before = S.left input.old;
+          after = S.left input.new;
+          faults = S.source_faults
+              input.old;
+          faults' = S.source_faults input.new;
+        })
         listener.old listener.new h.stop h.ending) }
 {
     let mut reader = Reader::new(alloc)?;
@@ -108,7 +114,8 @@ fn hear_piece<L: Listener>(
     piece: &[u8],
 ) -> Result<(), AllocError>
     requires { IsWaiting reader.old }
-    ensures heard { OnOk result (Hearing L.heard piece.now reader.old reader.new listener.old listener.new) }
+    ensures heard { OnOk result (Hearing L.heard piece.now reader.old reader.new listener.old
+        listener.new) }
     ensures waiting { OnOk result (IsWaiting reader.new) }
 {
     let mut at = 0;
@@ -123,8 +130,8 @@ fn hear_piece<L: Listener>(
     Ok(())
 }
 
-// Feeds the reader from the front of what is left of a piece. It takes nothing only where nothing that comes changes what
-// the stream has.
+// Feeds the reader from the front of what is left of a piece. It takes nothing only where nothing
+// that comes changes what the stream has.
 fn feed(reader: &mut Reader, piece: &[u8]) -> usize
     requires waiting { IsWaiting reader.old }
     requires some { 0 < length piece.now }
@@ -141,7 +148,8 @@ fn hear_items<L: Listener>(
     reader: &mut Reader,
     listener: &mut L,
 ) -> Result<(), AllocError>
-    ensures heard { OnOk result (Hearing L.heard [] reader.old reader.new listener.old listener.new) }
+    ensures heard { OnOk result (Hearing L.heard [] reader.old reader.new listener.old
+        listener.new) }
     ensures waiting { OnOk result (IsWaiting reader.new) }
 {
     'items: while let Some(item) = next_item(reader)? {

@@ -19,7 +19,8 @@ pub struct Player<'a, C: Clients> {
 }
 
 impl<'a, C: Clients> Listener for Player<'a, C> {
-    ghost heard = { λ p subject items. (C.meaning p.clients.now ≡ subject.0) × HasPlayed (C.meaning p.clients.now) subject.1 (records_of items) p.play };
+    ghost heard = { λ p subject items. (C.meaning p.clients.now ≡ subject.0)
+        × HasPlayed (C.meaning p.clients.now) subject.1 (records_of items) p.play };
 
     fn hear(&mut self, alloc: Global, item: Item) -> Result<(), AllocError> {
         let Some(record) = record_in(item) else {

@@ -18,9 +18,9 @@ use store_commands::{
 use sync_rules::Clients;
 use sync_words::{Command, Status, WordsFault, read_words};
 
-/// Runs the command that the words ask for: it reads `input`, writes its text to `out` and its line,
-/// if it has one, to `err`, and says what it came to. The words are those after the program's name.
-/// A failing `err` never changes the status.
+/// Runs the command that the words ask for: it reads `input`, writes its text to `out` and its
+/// line, if it has one, to `err`, and says what it came to. The words are those after the program's
+/// name. A failing `err` never changes the status.
 pub fn run<H: Host, S: Source, W: Sink, E: Sink, C: Clients>(
     alloc: Global,
     words: &[String],
@@ -30,14 +30,45 @@ pub fn run<H: Host, S: Source, W: Sink, E: Sink, C: Clients>(
     err: &mut E,
     clients: &C,
 ) -> Status
-    ensures ran { Ran (C.meaning clients.now) (asks (texts words.now)) (H.tells host.old) (H.tells host.new)
-        (record { before = S.left input.old; after = S.left input.new; faults = S.source_faults input.old; faults' = S.source_faults input.new })
-        (record { before = W.written out.old; after = W.written out.new; faults = W.sink_faults out.old; faults' = W.sink_faults out.new })
-        (record { before = E.written err.old; after = E.written err.new; faults = E.sink_faults err.old; faults' = E.sink_faults err.new })
+    ensures ran { Ran (C.meaning clients.now) (asks (texts words.now)) (H.tells host.old)
+        (H.tells host.new)
+        (record {
+          before = S.left input.old;
+          after = S.left input.new;
+          faults = S.source_faults
+              input.old;
+          faults' = S.source_faults input.new;
+        })
+        (record {
+          before = W.written out.old;
+          after = W.written out.new;
+          faults = W.sink_faults
+              out.old;
+          faults' = W.sink_faults out.new;
+        })
+        (record {
+          before = E.written err.old;
+          after = E.written err.new;
+          faults = E.sink_faults
+              err.old;
+          faults' = E.sink_faults err.new;
+        })
         result }
     ensures states { TellsWhole (C.meaning clients.now) (asks (texts words.now))
-        (record { before = S.left input.old; after = S.left input.new; faults = S.source_faults input.old; faults' = S.source_faults input.new })
-        (record { before = W.written out.old; after = W.written out.new; faults = W.sink_faults out.old; faults' = W.sink_faults out.new })
+        (record {
+          before = S.left input.old;
+          after = S.left input.new;
+          faults = S.source_faults
+              input.old;
+          faults' = S.source_faults input.new;
+        })
+        (record {
+          before = W.written out.old;
+          after = W.written out.new;
+          faults = W.sink_faults
+              out.old;
+          faults' = W.sink_faults out.new;
+        })
         result }
     ensures host { KeepsHost (asks (texts words.now)) host.old host.new }
 {
@@ -56,9 +87,22 @@ fn command<H: Host, S: Source, W: Sink, C: Clients>(
     out: &mut W,
     clients: &C,
 ) -> Outcome
-    ensures comes { Comes (C.meaning clients.now) (asks (texts words.now)) (H.tells host.old) (H.tells host.new)
-        (record { before = S.left input.old; after = S.left input.new; faults = S.source_faults input.old; faults' = S.source_faults input.new })
-        (record { before = W.written out.old; after = W.written out.new; faults = W.sink_faults out.old; faults' = W.sink_faults out.new })
+    ensures comes { Comes (C.meaning clients.now) (asks (texts words.now)) (H.tells host.old)
+        (H.tells host.new)
+        (record {
+          before = S.left input.old;
+          after = S.left input.new;
+          faults = S.source_faults
+              input.old;
+          faults' = S.source_faults input.new;
+        })
+        (record {
+          before = W.written out.old;
+          after = W.written out.new;
+          faults = W.sink_faults
+              out.old;
+          faults' = W.sink_faults out.new;
+        })
         result }
     ensures host { KeepsHost (asks (texts words.now)) host.old host.new }
 {
@@ -80,8 +124,20 @@ fn obey<H: Host, S: Source, W: Sink, C: Clients>(
 ) -> Outcome
     requires { IsWithin asked }
     ensures comes { Comes (C.meaning clients.now) (Do asked) (H.tells host.old) (H.tells host.new)
-        (record { before = S.left input.old; after = S.left input.new; faults = S.source_faults input.old; faults' = S.source_faults input.new })
-        (record { before = W.written out.old; after = W.written out.new; faults = W.sink_faults out.old; faults' = W.sink_faults out.new })
+        (record {
+          before = S.left input.old;
+          after = S.left input.new;
+          faults = S.source_faults
+              input.old;
+          faults' = S.source_faults input.new;
+        })
+        (record {
+          before = W.written out.old;
+          after = W.written out.new;
+          faults = W.sink_faults
+              out.old;
+          faults' = W.sink_faults out.new;
+        })
         result }
     ensures host { KeepsHost (Do asked) host.old host.new }
 {
@@ -115,10 +171,17 @@ fn obey<H: Host, S: Source, W: Sink, C: Clients>(
     }
 }
 
-/// Writes the line of an outcome, and says its status: `Memory` where memory is wanting for the line.
+/// Writes the line of an outcome, and says its status: `Memory` where memory is wanting for the
+/// line.
 pub fn report<E: Sink>(alloc: Global, outcome: Outcome, err: &mut E) -> Status
     ensures { Reports outcome
-        (record { before = E.written err.old; after = E.written err.new; faults = E.sink_faults err.old; faults' = E.sink_faults err.new })
+        (record {
+          before = E.written err.old;
+          after = E.written err.new;
+          faults = E.sink_faults
+              err.old;
+          faults' = E.sink_faults err.new;
+        })
         result }
 {
     match outcome.line(alloc) {

@@ -20,8 +20,8 @@ use store_commands::write_text;
 use sync_ids::GroupDef;
 use sync_rules::Clients;
 
-/// Plays the records of the input in a journal of the group of this client's name, major version 0 and this descriptor, and
-/// prints what becomes of each message.
+/// Plays the records of the input in a journal of the group of this client's name, major version 0
+/// and this descriptor, and prints what becomes of each message.
 pub fn try_group<S: Source, W: Sink, C: Clients>(
     alloc: Global,
     name: &str,
@@ -33,9 +33,22 @@ pub fn try_group<S: Source, W: Sink, C: Clients>(
     requires some_name { 1 ≤ length name.now }
     requires short_name { length name.now ≤ 255 }
     requires short_descriptor { length descriptor.now ≤ 16384 }
-    ensures { TriesClient (C.meaning clients.now) name.now descriptor.now ((C.meaning clients.now).kind_of name.now 0)
-        (record { before = S.left input.old; after = S.left input.new; faults = S.source_faults input.old; faults' = S.source_faults input.new })
-        (record { before = W.written out.old; after = W.written out.new; faults = W.sink_faults out.old; faults' = W.sink_faults out.new })
+    ensures { TriesClient (C.meaning clients.now) name.now descriptor.now
+        ((C.meaning clients.now).kind_of name.now 0)
+        (record {
+          before = S.left input.old;
+          after = S.left input.new;
+          faults = S.source_faults
+              input.old;
+          faults' = S.source_faults input.new;
+        })
+        (record {
+          before = W.written out.old;
+          after = W.written out.new;
+          faults = W.sink_faults
+              out.old;
+          faults' = W.sink_faults out.new;
+        })
         result }
 {
     let Some(kind) = clients.kind_of(name, 0) else {
@@ -57,7 +70,8 @@ pub fn group_of(
     requires some_name { 1 ≤ length name.now }
     requires short_name { length name.now ≤ 255 }
     requires short_descriptor { length descriptor.now ≤ 16384 }
-    ensures { IfOk result (λ def. def ≡ record { name = name.now; major = major; descriptor = descriptor.now }) }
+    ensures { IfOk result
+        (λ def. def ≡ record { name = name.now; major = major; descriptor = descriptor.now }) }
 {
     let name = String::from_str(alloc, name)?;
     let descriptor = descriptor.as_bytes().to_vec(alloc)?;
@@ -78,8 +92,20 @@ fn try_input<S: Source, W: Sink, C: Clients>(
 ) -> Outcome
     requires { kind_of_def (C.meaning clients.now) def ≡ Some kind }
     ensures { Streams (λ items text. IsTextOf (C.meaning clients.now) def (records_of items) text)
-        (record { before = S.left input.old; after = S.left input.new; faults = S.source_faults input.old; faults' = S.source_faults input.new })
-        (record { before = W.written out.old; after = W.written out.new; faults = W.sink_faults out.old; faults' = W.sink_faults out.new })
+        (record {
+          before = S.left input.old;
+          after = S.left input.new;
+          faults = S.source_faults
+              input.old;
+          faults' = S.source_faults input.new;
+        })
+        (record {
+          before = W.written out.old;
+          after = W.written out.new;
+          faults = W.sink_faults
+              out.old;
+          faults' = W.sink_faults out.new;
+        })
         result }
 {
     let Ok(play) = Play::begin(alloc, def, kind) else {
@@ -95,7 +121,13 @@ fn try_input<S: Source, W: Sink, C: Clients>(
 // Finishes a played journal and writes its text.
 fn print_play<W: Sink>(alloc: Global, play: Play, heard: &Heard, out: &mut W) -> Outcome
     ensures { PrintsPlay play heard.now.stop heard.now.ending
-        (record { before = W.written out.old; after = W.written out.new; faults = W.sink_faults out.old; faults' = W.sink_faults out.new })
+        (record {
+          before = W.written out.old;
+          after = W.written out.new;
+          faults = W.sink_faults
+              out.old;
+          faults' = W.sink_faults out.new;
+        })
         result }
 {
     match play.finish(alloc) {
@@ -107,8 +139,20 @@ fn print_play<W: Sink>(alloc: Global, play: Play, heard: &Heard, out: &mut W) ->
 /// Prints a line for each record and each skipped record of the input.
 pub fn list_records<S: Source, W: Sink>(alloc: Global, input: &mut S, out: &mut W) -> Outcome
     ensures { Streams (λ items text. text ≡ items_text items)
-        (record { before = S.left input.old; after = S.left input.new; faults = S.source_faults input.old; faults' = S.source_faults input.new })
-        (record { before = W.written out.old; after = W.written out.new; faults = W.sink_faults out.old; faults' = W.sink_faults out.new })
+        (record {
+          before = S.left input.old;
+          after = S.left input.new;
+          faults = S.source_faults
+              input.old;
+          faults' = S.source_faults input.new;
+        })
+        (record {
+          before = W.written out.old;
+          after = W.written out.new;
+          faults = W.sink_faults
+              out.old;
+          faults' = W.sink_faults out.new;
+        })
         result }
 {
     let mut lister = Lister {
@@ -123,7 +167,13 @@ pub fn list_records<S: Source, W: Sink>(alloc: Global, input: &mut S, out: &mut 
 // Writes the text, and says what the command came to.
 fn print<W: Sink>(heard: &Heard, text: &str, out: &mut W) -> Outcome
     ensures { PrintEnds heard.now.stop heard.now.ending text.now
-        (record { before = W.written out.old; after = W.written out.new; faults = W.sink_faults out.old; faults' = W.sink_faults out.new })
+        (record {
+          before = W.written out.old;
+          after = W.written out.new;
+          faults = W.sink_faults
+              out.old;
+          faults' = W.sink_faults out.new;
+        })
         result }
 {
     match heard.stop {

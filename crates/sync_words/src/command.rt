@@ -1,6 +1,8 @@
 //! The commands and their words.
 ghost use Rattle.std.specs.Prelude.{◌≡◌, drop, IfOk, IfSome};
-ghost use Rattle.sync_words.specs.Reading.{asks, asks_of, asks_try, asks_group, asks_share, asks_post, asks_body, ends, IsReadAs, IsWithin, plain_in, texts};
+ghost use Rattle.sync_words.specs.Reading.{asks, asks_of, asks_try, asks_group, asks_share};
+ghost use Rattle.sync_words.specs.Reading.{asks_post, asks_body, ends, IsReadAs, IsWithin};
+ghost use Rattle.sync_words.specs.Reading.{plain_in, texts};
 
 use crate::reading::{descriptor_at, id_at, is_left_at, level_at, name_at, number_at};
 use crate::word::Word;
@@ -44,7 +46,8 @@ pub enum Command {
 pub enum WordsFault {
     /// No memory was found.
     Memory,
-    /// The place of the first word that is wrong or too many, or the number of words where one is missing.
+    /// The place of the first word that is wrong or too many, or the number of words where one is
+    /// missing.
     Usage(usize),
 }
 
@@ -61,8 +64,8 @@ impl From<AllocError> for WordsFault {
 
 /// Reads the words of a command line, those after the program's name.
 ///
-/// # Errors
-/// `Usage` exactly where the words are not in the grammar, with the place; `Memory` for want of memory.
+/// # Errors `Usage` exactly where the words are not in the grammar, with the place; `Memory` for
+/// want of memory.
 pub fn read_words(alloc: Global, words: &[String]) -> Result<Command, WordsFault>
     ensures read { IsReadAs (asks (texts words.now)) result }
     ensures within { IfOk result IsWithin }

@@ -1,8 +1,9 @@
-//! The lines of the commands that add an entry to a journal. Each builder appends its line; it fails only
-//! for want of memory, and then nothing is said of what was appended.
+//! The lines of the commands that add an entry to a journal. Each builder appends its line; it
+//! fails only for want of memory, and then nothing is said of what was appended.
 ghost use Rattle.std.specs.Prelude.{◌≡◌, ◌++◌, OnOk};
 ghost use Rattle.std.specs.String.{string_bytes};
-ghost use Rattle.sync_words.specs.EntryTexts.{contact_text, group_text, posted_text, ready_text, set_level_text};
+ghost use Rattle.sync_words.specs.EntryTexts.{contact_text, group_text, posted_text, ready_text};
+ghost use Rattle.sync_words.specs.EntryTexts.{set_level_text};
 ghost use Rattle.sync_words.specs.Texts.{level_text};
 
 use std::alloc::{AllocError, Global};
@@ -50,7 +51,8 @@ pub fn level_line(
     level: Level,
     to: &mut String,
 ) -> Result<(), AllocError>
-    ensures { OnOk result (string_bytes to.new ≡ string_bytes to.old ++ set_level_text contact group.now level) }
+    ensures { OnOk result (string_bytes to.new ≡ string_bytes to.old ++ set_level_text contact
+        group.now level) }
 {
     let group = group.to_hex(alloc)?;
     let level = level_word(level);

@@ -1,8 +1,11 @@
-//! The lines of the error output. Each builder but `link_line` appends its line as it goes; it fails only for
-//! want of memory, and then nothing is said of what was appended.
+//! The lines of the error output. Each builder but `link_line` appends its line as it goes; it
+//! fails only for want of memory, and then nothing is said of what was appended.
 ghost use Rattle.std.specs.Prelude.{◌≡◌, ◌++◌, OnErr, OnOk, true};
 ghost use Rattle.std.specs.String.{string_bytes};
-ghost use Rattle.sync_words.specs.ErrorTexts.{bad_record_text, damaged_text, ending_text, inside_text, is_plain, link_text, plain_text, reason_text, refusal, refused_text, script_text, usage_text};
+ghost use Rattle.sync_words.specs.ErrorTexts.{bad_record_text, damaged_text, ending_text};
+ghost use Rattle.sync_words.specs.ErrorTexts.{inside_text, is_plain, link_text, plain_text};
+ghost use Rattle.sync_words.specs.ErrorTexts.{reason_text, refusal, refused_text, script_text};
+ghost use Rattle.sync_words.specs.ErrorTexts.{usage_text};
 
 use crate::status::Status;
 use std::alloc::{AllocError, Global};
@@ -145,7 +148,8 @@ fn reason_word(reason: ReasonText) -> &'static str
 
 /// The line of a stream in which at this place something begins that is no record.
 pub fn bad_record_line(place: u64, reason: ReasonText, to: &mut String) -> Result<(), AllocError>
-    ensures { OnOk result (string_bytes to.new ≡ string_bytes to.old ++ bad_record_text place reason) }
+    ensures { OnOk result (string_bytes to.new ≡ string_bytes to.old ++ bad_record_text place
+        reason) }
 {
     let reason = reason_word(reason);
     writeln!(to, "bad record at {place}: {reason}")
@@ -191,7 +195,8 @@ pub fn link_line(
     ending: &LinkText,
     to: &mut String,
 ) -> Result<(), AllocError>
-    ensures ok { OnOk result (string_bytes to.new ≡ string_bytes to.old ++ link_text link ending.now) }
+    ensures ok { OnOk result (string_bytes to.new ≡ string_bytes to.old ++ link_text link
+        ending.now) }
     ensures err { OnErr result (string_bytes to.new ≡ string_bytes to.old) }
 {
     let mut line = format!(in alloc; "link {link}: ")?;

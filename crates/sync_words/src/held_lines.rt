@@ -1,8 +1,11 @@
-//! The lines of the commands that show what a store holds, and of a played script. Each builder appends
-//! its line; it fails only for want of memory, and then nothing is said of what was appended.
+//! The lines of the commands that show what a store holds, and of a played script. Each builder
+//! appends its line; it fails only for want of memory, and then nothing is said of what was
+//! appended.
 ghost use Rattle.std.specs.Prelude.{◌≡◌, ◌++◌, OnOk};
 ghost use Rattle.std.specs.String.{string_bytes};
-ghost use Rattle.sync_words.specs.HeldTexts.{contacts_text, device_text, inbox_text, known_group_text, message_state_text, sessions_text, states_text};
+ghost use Rattle.sync_words.specs.HeldTexts.{contacts_text, device_text, inbox_text};
+ghost use Rattle.sync_words.specs.HeldTexts.{known_group_text, message_state_text, sessions_text};
+ghost use Rattle.sync_words.specs.HeldTexts.{states_text};
 ghost use Rattle.sync_words.specs.Texts.{origin_text, state_text};
 
 use std::alloc::{AllocError, Global};
@@ -35,7 +38,8 @@ pub fn known_group_line(
     def: &GroupDef,
     to: &mut String,
 ) -> Result<(), AllocError>
-    ensures { OnOk result (string_bytes to.new ≡ string_bytes to.old ++ known_group_text group.now def.now) }
+    ensures { OnOk result (string_bytes to.new ≡ string_bytes to.old ++ known_group_text group.now
+        def.now) }
 {
     let group = group.to_hex(alloc)?;
     let name = hex::encode(alloc, def.name().as_bytes())?;
@@ -52,7 +56,8 @@ pub fn state_line(
     fate: Fate,
     to: &mut String,
 ) -> Result<(), AllocError>
-    ensures { OnOk result (string_bytes to.new ≡ string_bytes to.old ++ message_state_text id.now group.now fate) }
+    ensures { OnOk result (string_bytes to.new ≡ string_bytes to.old ++ message_state_text id.now
+        group.now fate) }
 {
     let id = id.to_hex(alloc)?;
     let group = group.to_hex(alloc)?;
@@ -77,7 +82,8 @@ fn add_origin(origin: Origin, to: &mut String) -> Result<(), AllocError>
     }
 }
 
-/// A delivered message: its id, its group, its time, where it came from, and the length of its body.
+/// A delivered message: its id, its group, its time, where it came from, and the length of its
+/// body.
 pub fn inbox_line(
     alloc: Global,
     id: &MessageId,
@@ -87,7 +93,8 @@ pub fn inbox_line(
     len: u32,
     to: &mut String,
 ) -> Result<(), AllocError>
-    ensures { OnOk result (string_bytes to.new ≡ string_bytes to.old ++ inbox_text id.now group.now timestamp origin len) }
+    ensures { OnOk result (string_bytes to.new ≡ string_bytes to.old ++ inbox_text id.now group.now
+        timestamp origin len) }
 {
     let id = id.to_hex(alloc)?;
     let group = group.to_hex(alloc)?;
@@ -106,7 +113,8 @@ pub fn device_line(
     unknown: u32,
     to: &mut String,
 ) -> Result<(), AllocError>
-    ensures { OnOk result (string_bytes to.new ≡ string_bytes to.old ++ device_text device held delivered invalid pending unknown) }
+    ensures { OnOk result (string_bytes to.new ≡ string_bytes to.old ++ device_text device held
+        delivered invalid pending unknown) }
 {
     write!(to, "device {device} held {held}")?;
     add_states(delivered, invalid, pending, unknown, to)
@@ -119,7 +127,8 @@ fn add_states(
     unknown: u32,
     to: &mut String,
 ) -> Result<(), AllocError>
-    ensures { OnOk result (string_bytes to.new ≡ string_bytes to.old ++ states_text delivered invalid pending unknown) }
+    ensures { OnOk result (string_bytes to.new ≡ string_bytes to.old ++ states_text delivered
+        invalid pending unknown) }
 {
     writeln!(
         to,

@@ -3,7 +3,8 @@ ghost use Rattle.std.specs.Prelude.{◌≡◌, ◌+◌, ◌≤◌, ◌∷◌, []
 ghost use Rattle.std.specs.Char.{is_ascii_digit};
 ghost use Rattle.std.specs.List.{list_all};
 ghost use Rattle.sync_words.specs.Reading.{texts, is_left, IsDescriptor, IsName, Reads, Stops};
-ghost use Rattle.sync_words.specs.Words.{name_in, descriptor_in, number_in, id_in, level_in, is_digits, is_number, has_leading_zero};
+ghost use Rattle.sync_words.specs.Words.{name_in, descriptor_in, number_in, id_in, level_in};
+ghost use Rattle.sync_words.specs.Words.{is_digits, is_number, has_leading_zero};
 
 use crate::command::WordsFault;
 use crate::word::Word;
@@ -13,7 +14,8 @@ use sync_rules::Level;
 
 // The word at a place, if there is one.
 fn word_at(words: &[String], place: usize) -> Option<&str>
-    ensures { MatchOption result (drop place (texts words.now) ≡ []) (λ word. drop place (texts words.now) ≡ word.now ∷ drop (place + 1) (texts words.now)) }
+    ensures { MatchOption result (drop place (texts words.now) ≡ [])
+        (λ word. drop place (texts words.now) ≡ word.now ∷ drop (place + 1) (texts words.now)) }
 {
     match words.get(place) {
         Some(word) => Some(word.as_str()),

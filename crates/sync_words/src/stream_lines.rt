@@ -2,7 +2,8 @@
 ghost use Rattle.std.specs.Prelude.{◌≡◌, ◌≢◌, ◌++◌, codes, OnOk};
 ghost use Rattle.std.specs.String.{string_bytes};
 ghost use Rattle.hex.specs.Hex.{encode_lower};
-ghost use Rattle.sync_words.specs.StreamTexts.{ids_text, message_text, placed_text, record_text, skipped_text, try_text, try_word};
+ghost use Rattle.sync_words.specs.StreamTexts.{ids_text, message_text, placed_text, record_text};
+ghost use Rattle.sync_words.specs.StreamTexts.{skipped_text, try_text, try_word};
 
 use std::alloc::{AllocError, Global};
 use sync_ids::{Message, MessageId, Record, message_id};
@@ -19,8 +20,8 @@ fn try_word(fate: Fate) -> &'static str
     }
 }
 
-/// Appends the line of `try` on a message: its state, its id, its time and the length of its body. It
-/// fails only for want of memory, and then nothing is said of what was appended.
+/// Appends the line of `try` on a message: its state, its id, its time and the length of its body.
+/// It fails only for want of memory, and then nothing is said of what was appended.
 pub fn try_line(
     alloc: Global,
     fate: Fate,
@@ -30,32 +31,35 @@ pub fn try_line(
     to: &mut String,
 ) -> Result<(), AllocError>
     requires { fate ≢ Fate.Unknown }
-    ensures { OnOk result (string_bytes to.new ≡ string_bytes to.old ++ try_text fate id.now timestamp len) }
+    ensures { OnOk result (string_bytes to.new ≡ string_bytes to.old ++ try_text fate id.now
+        timestamp len) }
 {
     let id = id.to_hex(alloc)?;
     let word = try_word(fate);
     writeln!(to, "{word} {id} {timestamp} {len}")
 }
 
-/// Appends the line of `records` on a record at this place. It fails only for want of memory, and then
-/// nothing is said of what was appended.
+/// Appends the line of `records` on a record at this place. It fails only for want of memory, and
+/// then nothing is said of what was appended.
 pub fn record_line(
     alloc: Global,
     place: u64,
     record: &Record,
     to: &mut String,
 ) -> Result<(), AllocError>
-    ensures { OnOk result (string_bytes to.new ≡ string_bytes to.old ++ placed_text place «record».now) }
+    ensures { OnOk result (string_bytes to.new ≡ string_bytes to.old ++ placed_text place
+        «record».now) }
 {
     write!(to, "{place} ")?;
     add_record(alloc, record, to)?;
     to.push('\n')
 }
 
-/// Appends the line of `records` on a skipped record: its place, its byte of type and the length of its
-/// payload. It fails only for want of memory, and then nothing is said of what was appended.
+/// Appends the line of `records` on a skipped record: its place, its byte of type and the length of
+/// its payload. It fails only for want of memory, and then nothing is said of what was appended.
 pub fn skipped_line(place: u64, type_byte: u8, len: u64, to: &mut String) -> Result<(), AllocError>
-    ensures { OnOk result (string_bytes to.new ≡ string_bytes to.old ++ skipped_text place type_byte len) }
+    ensures { OnOk result (string_bytes to.new ≡ string_bytes to.old ++ skipped_text place type_byte
+        len) }
 {
     writeln!(to, "{place} SKIPPED {type_byte} {len}")
 }
@@ -76,7 +80,8 @@ fn add_record(alloc: Global, record: &Record, to: &mut String) -> Result<(), All
 
 // A word and the digits of some bytes.
 fn add_hex(alloc: Global, word: &str, bytes: &[u8], to: &mut String) -> Result<(), AllocError>
-    ensures { OnOk result (string_bytes to.new ≡ string_bytes to.old ++ (word.now ++ encode_lower bytes.now)) }
+    ensures { OnOk result
+        (string_bytes to.new ≡ string_bytes to.old ++ (word.now ++ encode_lower bytes.now)) }
 {
     let digits = hex::encode(alloc, bytes)?;
     to.push_str(word)?;
@@ -85,7 +90,8 @@ fn add_hex(alloc: Global, word: &str, bytes: &[u8], to: &mut String) -> Result<(
 
 // A word and ids.
 fn add_ids(alloc: Global, word: &str, ids: &[MessageId], to: &mut String) -> Result<(), AllocError>
-    ensures { OnOk result (string_bytes to.new ≡ string_bytes to.old ++ (word.now ++ ids_text ids.now)) }
+    ensures { OnOk result
+        (string_bytes to.new ≡ string_bytes to.old ++ (word.now ++ ids_text ids.now)) }
 {
     to.push_str(word)?;
     'ids: for id in ids {
@@ -96,7 +102,9 @@ fn add_ids(alloc: Global, word: &str, ids: &[MessageId], to: &mut String) -> Res
 
 // A message's id, its group, its time and the length of its body.
 fn add_message(alloc: Global, message: &Message, to: &mut String) -> Result<(), AllocError>
-    ensures { OnOk result (string_bytes to.new ≡ string_bytes to.old ++ (codes "MESSAGE" ++ message_text message.now)) }
+    ensures { OnOk result
+        (string_bytes to.new ≡ string_bytes to.old ++ (codes "MESSAGE" ++ message_text
+        message.now)) }
 {
     let group = message.group();
     let time = message.timestamp();

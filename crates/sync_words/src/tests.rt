@@ -1,4 +1,5 @@
-//! The words of each command, and each text. What is wanted was written from the description of the formats.
+//! The words of each command, and each text. What is wanted was written from the description of the
+//! formats.
 use crate::*;
 use std::alloc::Global;
 use std::process::Abort;

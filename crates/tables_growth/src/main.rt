@@ -1,4 +1,5 @@
-//! Marks, asks for, sends, offers and acknowledges messages for eight contacts, for the speed and memory of the table of these.
+//! Marks, asks for, sends, offers and acknowledges messages for eight contacts, for the speed and
+//! memory of the table of these.
 #![tactic(auto)]
 
 use anyhow::{Context, Result};

@@ -1,5 +1,6 @@
 //! `Levels`.
-ghost use Rattle.std.specs.Prelude.{◌≡◌, ◌-◌, ◌^◌, ◌<◌, ◌++◌, ◌∷◌, [], max, length, IfOk, OnOk, OnErr, MatchOption, IfSome, None, Some, slice_get};
+ghost use Rattle.std.specs.Prelude.{◌≡◌, ◌-◌, ◌^◌, ◌<◌, ◌++◌, ◌∷◌, [], max, length, IfOk, OnOk};
+ghost use Rattle.std.specs.Prelude.{OnErr, MatchOption, IfSome, None, Some, slice_get};
 ghost use Rattle.std.specs.Option.{option_map};
 ghost use Rattle.sync_ids.specs.Ids.{group_id_of};
 ghost use Rattle.sync_rules.specs.Facts.{group_at, known_of, level_at, put_level};
@@ -11,9 +12,10 @@ use std::marker::Model;
 use sync_ids::{GroupDef, GroupId, group_id};
 use sync_rules::{Entry, Level};
 
-/// The contacts and groups of a journal, and the level of each group for each contact (BSP, "Group visibility").
-/// Contacts are numbered from 0, and groups in the order in which they were added. Contracts see the number of contacts,
-/// the groups, the levels that are not Invisible, and for how many more groups and levels there is room.
+/// The contacts and groups of a journal, and the level of each group for each contact (BSP, "Group
+/// visibility"). Contacts are numbered from 0, and groups in the order in which they were added.
+/// Contracts see the number of contacts, the groups, the levels that are not Invisible, and for how
+/// many more groups and levels there is room.
 #[derive(Drop)]
 pub struct Levels {
     contacts: u32,
@@ -41,7 +43,8 @@ impl Model for Levels {
       spare = t.room;
     } };
 
-    ghost invariant = { λ t. (length t.groups.entries < 2 ^ 32) × (t.room ≤ spare t.groups) × (t.room ≤ spare t.levels) };
+    ghost invariant = { λ t. (length t.groups.entries < 2 ^ 32) × (t.room ≤ spare t.groups)
+        × (t.room ≤ spare t.levels) };
 }
 
 impl Levels {
@@ -57,9 +60,11 @@ impl Levels {
         })
     }
 
-    /// Makes room for that many more groups and levels; it never takes room away. After an error all is as before.
+    /// Makes room for that many more groups and levels; it never takes room away. After an error
+    /// all is as before.
     pub fn reserve(&mut self, entries: usize) -> Result<(), AllocError>
-        ensures ok { OnOk result (self.new ≡ record self.old { spare = max self.old.spare entries }) }
+        ensures ok { OnOk result
+            (self.new ≡ record self.old { spare = max self.old.spare entries }) }
         ensures err { OnErr result (self.new ≡ self.old) }
     {
         self.groups.reserve(entries)?;
@@ -68,8 +73,8 @@ impl Levels {
         Ok(())
     }
 
-    /// Takes an entry of the journal: one more contact, or a level, for which it takes room for one. Other entries change
-    /// nothing. It takes no memory.
+    /// Takes an entry of the journal: one more contact, or a level, for which it takes room for
+    /// one. Other entries change nothing. It takes no memory.
     pub fn apply(&mut self, entry: &Entry)
         requires { CanApply self.old entry.now }
         ensures { self.new ≡ after_entry self.old entry.now }
@@ -86,7 +91,11 @@ impl Levels {
         requires new { group_at self.old.groups (group_id_of def) ≡ None }
         requires room { 0 < self.old.spare }
         requires few { length self.old.groups < 2 ^ 32 - 1 }
-        ensures { self.new ≡ record self.old { groups = self.old.groups ++ known_of def ∷ []; spare = self.old.spare - 1 } }
+        ensures { self.new ≡ record self.old {
+          groups = self.old.groups ++ known_of def ∷ [];
+          spare
+              = self.old.spare - 1;
+        } }
     {
         let id = group_id(&def);
         self.groups.insert(id, def).unwrap();
@@ -121,7 +130,8 @@ impl Levels {
     pub fn group(&self, id: &GroupId) -> Option<u32>
         ensures number { result ≡ number_of self.now.groups id.now }
         ensures within { IfSome result (λ n. n < length self.now.groups) }
-        ensures found { MatchOption result (group_at self.now.groups id.now ≡ None) (λ n. slice_get self.now.groups n ≡ group_at self.now.groups id.now) }
+        ensures found { MatchOption result (group_at self.now.groups id.now ≡ None)
+            (λ n. slice_get self.now.groups n ≡ group_at self.now.groups id.now) }
     {
         let number = self.groups.get_index_of(id)?;
         Some(number as u32)
@@ -148,7 +158,11 @@ impl Levels {
     /// Sets a level; what is Invisible is not kept.
     fn set(&mut self, contact: u8, group: GroupId, level: Level)
         requires { 0 < self.old.spare }
-        ensures { self.new ≡ record self.old { levels = put_level self.old.levels (contact, group) level; spare = self.old.spare - 1 } }
+        ensures { self.new ≡ record self.old {
+          levels = put_level self.old.levels (contact, group)
+              level;
+          spare = self.old.spare - 1;
+        } }
     {
         self.room -= 1;
         match level {
