@@ -15,3 +15,6 @@ pub mod PeerFacts
 pub mod Outputs
 pub mod Levels
 pub mod PlainLaws
+pub mod Continuing
+pub mod StepKinds
+pub mod MeetingLaws

@@ -14,3 +14,5 @@ pub mod PeerLaws
 pub mod Views
 pub mod Output
 pub mod Plain
+pub mod Growth
+pub mod Meeting
