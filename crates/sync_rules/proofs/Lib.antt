@@ -18,3 +18,5 @@ pub mod PlainLaws
 pub mod Continuing
 pub mod StepKinds
 pub mod MeetingLaws
+pub mod SessionLaws
+pub mod OutputLaws

@@ -186,18 +186,18 @@ held_stays_one f (entry.Author m) id h at = held_at-push f.held (authored m) id 
 held_stays_one f (entry.Arrive s m) id h at = held_at-push f.held (arrived (contact_of f.sessions s) m) id h at
 held_stays_one f _ id h at = at
 
-held_stays : (f : Facts) (es : List Entry) (id : Id) (h : Held) → held_at f.held id ≡ Some h → held_at (after_all f es).held id ≡ Some h
+pub held_stays : (f : Facts) (es : List Entry) (id : Id) (h : Held) → held_at f.held id ≡ Some h → held_at (after_all f es).held id ≡ Some h
 held_stays f [] id h at = at
 held_stays f (e ∷ es) id h at = held_stays (after f e) es id h (held_stays_one f e id h at)
 
-records-append : (held : List Held) (session : ℕ) (es fs : List Entry) → records_in held session (es ++ fs) ≡ records_in held session es ++ records_in held session fs
+pub records-append : (held : List Held) (session : ℕ) (es fs : List Entry) → records_in held session (es ++ fs) ≡ records_in held session es ++ records_in held session fs
 records-append held session [] fs = refl
 records-append held session (e ∷ es) fs =
     ap (λ (t : List Record). records_by held session e ++ t) (records-append held session es fs)
     ∙ sym (append_assoc (records_by held session e) (records_in held session es) (records_in held session fs))
 
 -- held messages of one list that are found in another
-abbrev FoundIn : List Held → List Held → Type 0
+abbrev pub FoundIn : List Held → List Held → Type 0
 FoundIn held later = (id : Id) (h : Held) → held_at held id ≡ Some h → held_at later id ≡ Some h
 
 send_kept : (clients : Meaning) (f : Facts) (s : SoundFacts clients f) (o : Option Session) (now : ℕ) (id : Id) (held later : List Held)
@@ -228,7 +228,7 @@ records_kept clients f s (e ∷ es) session later fit then =
     records_kept clients g (sound_after clients f e fit.0 s) es session later fit.1 then in
     λ i. one i ++ rest i
 
-entries_of-append : (bs cs : List (List Entry)) → entries_of (bs ++ cs) ≡ entries_of bs ++ entries_of cs
+pub entries_of-append : (bs cs : List (List Entry)) → entries_of (bs ++ cs) ≡ entries_of bs ++ entries_of cs
 entries_of-append [] cs = refl
 entries_of-append (b ∷ bs) cs = ap (λ (t : List Entry). b ++ t) (entries_of-append bs cs) ∙ sym (append_assoc b (entries_of bs) (entries_of cs))
 

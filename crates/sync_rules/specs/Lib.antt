@@ -16,3 +16,4 @@ pub mod Output
 pub mod Plain
 pub mod Growth
 pub mod Meeting
+pub mod Consistency
