@@ -20,3 +20,4 @@ pub mod StepKinds
 pub mod MeetingLaws
 pub mod SessionLaws
 pub mod OutputLaws
+pub mod ConsistencyLaws
