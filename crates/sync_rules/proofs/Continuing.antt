@@ -75,9 +75,13 @@ no_fewer false n m e = omega (arith, e)
 
 -- ---- one entry
 
-continues_contacts : (n : ℕ) (e : Entry) (f : Facts) → f.contacts ≤ (after f e).contacts
-continues_contacts n (entry.Contact c) f = omega arith
-continues_contacts n _ f = omega arith
+continues_contacts : (f : Facts) (e : Entry) → f.contacts ≤ (after f e).contacts
+continues_contacts f (entry.Contact c) = omega arith
+continues_contacts f _ = omega arith
+
+continues_begun : (f : Facts) (e : Entry) → f.begun ≤ (after f e).begun
+continues_begun f (entry.Session s) = omega arith
+continues_begun f _ = omega arith
 
 continues_groups : (f : Facts) (e : Entry) → IsFront f.groups (after f e).groups
 continues_groups f (entry.Group def) = front_push f.groups (known_of def)
@@ -116,7 +120,8 @@ takes_after_one f _ n = omega arith
 
 pub continues_after : (f : Facts) (e : Entry) → Continues f (after f e)
 continues_after f e = record {
-  contacts = continues_contacts 0 e f;
+  contacts = continues_contacts f e;
+  begun = continues_begun f e;
   groups = continues_groups f e;
   sessions = continues_sessions f e;
   held = continues_held f e;
@@ -134,6 +139,7 @@ continues_after f e = record {
 pub continues_itself : (f : Facts) → Continues f f
 continues_itself f = record {
   contacts = omega arith;
+  begun = omega arith;
   groups = front_itself f.groups;
   sessions = front_itself f.sessions;
   held = front_itself f.held;
@@ -149,6 +155,7 @@ continues_itself f = record {
 pub continues_then : (f g h : Facts) → Continues f g → Continues g h → Continues f h
 continues_then f g h a b = record {
   contacts = let x : f.contacts ≤ g.contacts = a.contacts in let y : g.contacts ≤ h.contacts = b.contacts in omega (arith, x, y);
+  begun = let x : f.begun ≤ g.begun = a.begun in let y : g.begun ≤ h.begun = b.begun in omega (arith, x, y);
   groups = front_then f.groups g.groups h.groups a.groups b.groups;
   sessions = front_then f.sessions g.sessions h.sessions a.sessions b.sessions;
   held = front_then f.held g.held h.held a.held b.held;

@@ -14,7 +14,7 @@ use Rattle.sync_rules.specs.Facts.{Facts, Held, Id, after, after_all, after_batc
 use Rattle.sync_rules.specs.Legal.{Legal, Allowed, GoesOn, IsDue, IsSettling, MayBegin}
 use Rattle.sync_rules.specs.Output.{IsOpen, first_records, message_record, records_of, records_by, records_in, sent, sent_on}
 use Rattle.sync_rules.specs.Meeting.{Meets, AllMeet}
-use Rattle.sync_rules.specs.Consistency.{HasSessions, IsSessionOf, begun_in}
+use Rattle.sync_rules.specs.Consistency.{HasSessions, IsSessionOf}
 use Rattle.sync_rules.specs.Growth.{Continues, output_by, output_in, output_of, is_silent}
 use Rattle.sync_rules.proofs.StepLaws.{IsSettlingEntry, next_is_settling}
 use Rattle.sync_rules.proofs.Sound.{SoundFacts}
@@ -43,7 +43,7 @@ output_of-is f session (b ∷ bs) =
 -- ---- a session that is known
 
 -- a session that begins is not one that is known
-new_number : (f : Facts) → HasSessions f → (x s : Session) (n : ℕ) → x.number ≡ begun_in f → session_at f.sessions n ≡ Some s → (b : Bool) → nat_eq x.number n ≡ b → b ≡ false
+new_number : (f : Facts) → HasSessions f → (x s : Session) (n : ℕ) → x.number ≡ f.begun → session_at f.sessions n ≡ Some s → (b : Bool) → nat_eq x.number n ≡ b → b ≡ false
 new_number f h x s n is at true e =
     let same : x.number ≡ n = eqb-true x.number n e in
     let below = (h.each n s at).begun in
@@ -241,7 +241,7 @@ sent_begins clients j x l a =
     ∙ ((λ i. none (session_at (facts j).sessions x.number) refl h b.numbered i ++ (cond (nat_eq_equiv.refl x.number i) (first_records x) [] ++ []))
     ∙ append-nil (first_records x))
   where
-    none : (o : Option Session) → session_at (facts j).sessions x.number ≡ o → HasSessions (facts j) → x.number ≡ begun_in (facts j) → sent_on o j x.number ≡ []
+    none : (o : Option Session) → session_at (facts j).sessions x.number ≡ o → HasSessions (facts j) → x.number ≡ (facts j).begun → sent_on o j x.number ≡ []
     none None at h is = refl
     none (Some s) at h is = let below = (h.each x.number s at).begun in absurd (omega (arith, below, is))
 

@@ -11,7 +11,7 @@ use Rattle.sync_rules.specs.Clients.{Meaning}
 use Rattle.sync_rules.specs.Facts.{Facts, after, after_all, nothing, facts, entries_of, session_at, contact_of, contact_in, takes_of, count_or}
 use Rattle.sync_rules.specs.Legal.{Legal, MayBegin}
 use Rattle.sync_rules.specs.Meeting.{Meets, AllMeet}
-use Rattle.sync_rules.specs.Consistency.{begun_in, AreAscending, IsSessionOf, HasSessions}
+use Rattle.sync_rules.specs.Consistency.{AreAscending, IsSessionOf, HasSessions}
 use Rattle.sync_rules.proofs.Kept.{after_batches-is}
 use Rattle.sync_rules.proofs.Continuing.{one_more_there}
 use Rattle.sync_rules.proofs.MeetingLaws.{legal_meets}
@@ -69,13 +69,10 @@ more_of_contacts f n s c is = record {
   suited_nonce = is.suited_nonce;
 }
 
-one_session_longer : (f : Facts) (x : Session) → begun_in (after f (entry.Session x)) ≡ begun_in f + 1
-one_session_longer f x = length-append f.sessions (x ∷ [])
-
 more_of_sessions : (f : Facts) (n : ℕ) (s x : Session) → IsSessionOf f n s → IsSessionOf (after f (entry.Session x)) n s
 more_of_sessions f n s x is = record {
   numbered = is.numbered;
-  begun = let k : n < begun_in f = is.begun in let e = one_session_longer f x in omega (arith, k, e);
+  begun = let k : n < f.begun = is.begun in omega (arith, k);
   known_contact = is.known_contact;
   some_latency = is.some_latency;
   suited_nonce = is.suited_nonce;
@@ -84,7 +81,7 @@ more_of_sessions f n s x is = record {
 first_of_session : (f : Facts) (x : Session) → MayBegin f x → IsSessionOf (after f (entry.Session x)) x.number x
 first_of_session f x b = record {
   numbered = refl;
-  begun = let k : x.number ≡ begun_in f = b.numbered in let e = one_session_longer f x in omega (arith, k, e);
+  begun = let k : x.number ≡ f.begun = b.numbered in omega (arith, k);
   known_contact = b.known_contact;
   some_latency = b.some_latency;
   suited_nonce = b.suited_nonce;
@@ -92,14 +89,13 @@ first_of_session f x b = record {
 
 begins : (f : Facts) (x : Session) → MayBegin f x → HasSessions f → HasSessions (after f (entry.Session x))
 begins f x b h =
-    let e : begun_in (after f (entry.Session x)) ≡ begun_in f + 1 = one_session_longer f x in
-    let is : x.number ≡ begun_in f = b.numbered in
-    let last : x.number < begun_in (after f (entry.Session x)) = omega (arith, e, is) in
+    let is : x.number ≡ f.begun = b.numbered in
+    let last : x.number < (after f (entry.Session x)).begun = omega (arith, is) in
     record {
-      ascending = ascending-push (begun_in f) f.sessions x is h.below h.ascending;
-      below = all_by_push (λ (s : Session). s.number < begun_in (after f (entry.Session x))) f.sessions x
-          (all_by_weaker (λ (s : Session). s.number < begun_in f) (λ (s : Session). s.number < begun_in (after f (entry.Session x)))
-          (λ s k. omega (arith, k, e)) f.sessions h.below) last;
+      ascending = ascending-push (f.begun) f.sessions x is h.below h.ascending;
+      below = all_by_push (λ (s : Session). s.number < (after f (entry.Session x)).begun) f.sessions x
+          (all_by_weaker (λ (s : Session). s.number < f.begun) (λ (s : Session). s.number < (after f (entry.Session x)).begun)
+          (λ s k. omega (arith, k)) f.sessions h.below) last;
       each = λ n s at.
           elim (session_at-cases f.sessions x n s at) [
             | inl was ↦ more_of_sessions f n s x (h.each n s was)
@@ -134,15 +130,16 @@ takes_known f s k known h = record {
     other n none false e = h.untaken n none
 
 -- an entry that changes no session, no count and no contact
-same_sessions : (f g : Facts) → g.contacts ≡ f.contacts → g.sessions ≡ f.sessions → g.takes ≡ f.takes → HasSessions f → HasSessions g
-same_sessions f g c s t h = record {
+same_sessions : (f g : Facts) → g.contacts ≡ f.contacts → g.begun ≡ f.begun → g.sessions ≡ f.sessions → g.takes ≡ f.takes → HasSessions f → HasSessions g
+same_sessions f g c n_is s t h = record {
   ascending = subst AreAscending (sym s) h.ascending;
-  below = subst (λ (ss : List Session). AllByRecursion (λ (x : Session). x.number < length ss) ss) (sym s) h.below;
+  below = subst (λ (k : ℕ). AllByRecursion (λ (x : Session). x.number < k) g.sessions) (sym n_is)
+      (subst (λ (ss : List Session). AllByRecursion (λ (x : Session). x.number < f.begun) ss) (sym s) h.below);
   each = λ n x at.
       let is : IsSessionOf f n x = h.each n x (ap (λ (ss : List Session). session_at ss n) (sym s) ∙ at) in
       record {
         numbered = is.numbered;
-        begun = subst (λ (ss : List Session). n < length ss) (sym s) is.begun;
+        begun = subst (λ (k : ℕ). n < k) (sym n_is) is.begun;
         known_contact = subst (λ (m : ℕ). x.contact < m) (sym c) is.known_contact;
         some_latency = is.some_latency;
         suited_nonce = is.suited_nonce;
@@ -159,18 +156,18 @@ sessions_after_one clients f (entry.Contact c) m h = record {
 }
 sessions_after_one clients f (entry.Session x) m h = begins f x m.1 h
 sessions_after_one clients f (entry.Take s k) m h = takes_known f s k m.1 h
-sessions_after_one clients f (entry.Group def) m h = same_sessions f (after f (entry.Group def)) refl refl refl h
-sessions_after_one clients f (entry.Level c g l) m h = same_sessions f (after f (entry.Level c g l)) refl refl refl h
-sessions_after_one clients f (entry.Author x) m h = same_sessions f (after f (entry.Author x)) refl refl refl h
-sessions_after_one clients f (entry.Arrive s x) m h = same_sessions f (after f (entry.Arrive s x)) refl refl refl h
-sessions_after_one clients f (entry.Judged id) m h = same_sessions f (after f (entry.Judged id)) refl refl refl h
-sessions_after_one clients f (entry.Deliver id) m h = same_sessions f (after f (entry.Deliver id)) refl refl refl h
-sessions_after_one clients f (entry.Invalid id) m h = same_sessions f (after f (entry.Invalid id)) refl refl refl h
-sessions_after_one clients f (entry.Again s id) m h = same_sessions f (after f (entry.Again s id)) refl refl refl h
-sessions_after_one clients f (entry.Offered s id) m h = same_sessions f (after f (entry.Offered s id)) refl refl refl h
-sessions_after_one clients f (entry.Seen s id) m h = same_sessions f (after f (entry.Seen s id)) refl refl refl h
-sessions_after_one clients f (entry.Asked s id) m h = same_sessions f (after f (entry.Asked s id)) refl refl refl h
-sessions_after_one clients f (entry.Out s now what) m h = same_sessions f (after f (entry.Out s now what)) refl refl refl h
+sessions_after_one clients f (entry.Group def) m h = same_sessions f (after f (entry.Group def)) refl refl refl refl h
+sessions_after_one clients f (entry.Level c g l) m h = same_sessions f (after f (entry.Level c g l)) refl refl refl refl h
+sessions_after_one clients f (entry.Author x) m h = same_sessions f (after f (entry.Author x)) refl refl refl refl h
+sessions_after_one clients f (entry.Arrive s x) m h = same_sessions f (after f (entry.Arrive s x)) refl refl refl refl h
+sessions_after_one clients f (entry.Judged id) m h = same_sessions f (after f (entry.Judged id)) refl refl refl refl h
+sessions_after_one clients f (entry.Deliver id) m h = same_sessions f (after f (entry.Deliver id)) refl refl refl refl h
+sessions_after_one clients f (entry.Invalid id) m h = same_sessions f (after f (entry.Invalid id)) refl refl refl refl h
+sessions_after_one clients f (entry.Again s id) m h = same_sessions f (after f (entry.Again s id)) refl refl refl refl h
+sessions_after_one clients f (entry.Offered s id) m h = same_sessions f (after f (entry.Offered s id)) refl refl refl refl h
+sessions_after_one clients f (entry.Seen s id) m h = same_sessions f (after f (entry.Seen s id)) refl refl refl refl h
+sessions_after_one clients f (entry.Asked s id) m h = same_sessions f (after f (entry.Asked s id)) refl refl refl refl h
+sessions_after_one clients f (entry.Out s now what) m h = same_sessions f (after f (entry.Out s now what)) refl refl refl refl h
 
 pub sessions_of_nothing : HasSessions nothing
 sessions_of_nothing = record {

@@ -103,7 +103,7 @@ only_settles_itself f = record {
   contacts = refl;
   groups = refl;
   levels = refl;
-  sessions = refl;
+  begun = refl; sessions = refl;
   takes = refl;
   held = refl;
   rows = refl;
@@ -115,6 +115,7 @@ only_settles_then f g h a b = record {
   contacts = b.contacts ∙ a.contacts;
   groups = b.groups ∙ a.groups;
   levels = b.levels ∙ a.levels;
+  begun = b.begun ∙ a.begun;
   sessions = b.sessions ∙ a.sessions;
   takes = b.takes ∙ a.takes;
   held = b.held ∙ a.held;
@@ -123,9 +124,9 @@ only_settles_then f g h a b = record {
 }
 
 settles_one : (f : Facts) (e : Entry) → IsSettlingEntry e → OnlySettles f (after f e)
-settles_one f (entry.Judged id) k = record { contacts = refl; groups = refl; levels = refl; sessions = refl; takes = refl; held = refl; rows = refl; wanted = refl }
-settles_one f (entry.Deliver id) k = record { contacts = refl; groups = refl; levels = refl; sessions = refl; takes = refl; held = refl; rows = refl; wanted = refl }
-settles_one f (entry.Invalid id) k = record { contacts = refl; groups = refl; levels = refl; sessions = refl; takes = refl; held = refl; rows = refl; wanted = refl }
+settles_one f (entry.Judged id) k = record { contacts = refl; groups = refl; levels = refl; begun = refl; sessions = refl; takes = refl; held = refl; rows = refl; wanted = refl }
+settles_one f (entry.Deliver id) k = record { contacts = refl; groups = refl; levels = refl; begun = refl; sessions = refl; takes = refl; held = refl; rows = refl; wanted = refl }
+settles_one f (entry.Invalid id) k = record { contacts = refl; groups = refl; levels = refl; begun = refl; sessions = refl; takes = refl; held = refl; rows = refl; wanted = refl }
 settles_one f _ k = absurd k
 
 pub settling_only : (clients : Meaning) (f : Facts) (es : List Entry) → IsSettling clients f es → OnlySettles f (after_all f es)
@@ -229,6 +230,7 @@ pub record LeftByRecord (f later : Facts) : Type 0 where
   pub contacts : later.contacts ≡ f.contacts
   pub groups : later.groups ≡ f.groups
   pub levels : later.levels ≡ f.levels
+  pub begun : later.begun ≡ f.begun
   pub sessions : later.sessions ≡ f.sessions
   pub takes : later.takes ≡ f.takes
   pub judged : later.judged ≡ f.judged
@@ -240,7 +242,7 @@ left_itself f = record {
   contacts = refl;
   groups = refl;
   levels = refl;
-  sessions = refl;
+  begun = refl; sessions = refl;
   takes = refl;
   judged = refl;
   invalid = refl;
@@ -248,11 +250,11 @@ left_itself f = record {
 }
 
 left_one : (f : Facts) (e : Entry) → is_of_record e ≡ true → LeftByRecord f (after f e)
-left_one f (entry.Arrive s m) k = record { contacts = refl; groups = refl; levels = refl; sessions = refl; takes = refl; judged = refl; invalid = refl; delivered = refl }
-left_one f (entry.Again s id) k = record { contacts = refl; groups = refl; levels = refl; sessions = refl; takes = refl; judged = refl; invalid = refl; delivered = refl }
-left_one f (entry.Offered s id) k = record { contacts = refl; groups = refl; levels = refl; sessions = refl; takes = refl; judged = refl; invalid = refl; delivered = refl }
-left_one f (entry.Seen s id) k = record { contacts = refl; groups = refl; levels = refl; sessions = refl; takes = refl; judged = refl; invalid = refl; delivered = refl }
-left_one f (entry.Asked s id) k = record { contacts = refl; groups = refl; levels = refl; sessions = refl; takes = refl; judged = refl; invalid = refl; delivered = refl }
+left_one f (entry.Arrive s m) k = record { contacts = refl; groups = refl; levels = refl; begun = refl; sessions = refl; takes = refl; judged = refl; invalid = refl; delivered = refl }
+left_one f (entry.Again s id) k = record { contacts = refl; groups = refl; levels = refl; begun = refl; sessions = refl; takes = refl; judged = refl; invalid = refl; delivered = refl }
+left_one f (entry.Offered s id) k = record { contacts = refl; groups = refl; levels = refl; begun = refl; sessions = refl; takes = refl; judged = refl; invalid = refl; delivered = refl }
+left_one f (entry.Seen s id) k = record { contacts = refl; groups = refl; levels = refl; begun = refl; sessions = refl; takes = refl; judged = refl; invalid = refl; delivered = refl }
+left_one f (entry.Asked s id) k = record { contacts = refl; groups = refl; levels = refl; begun = refl; sessions = refl; takes = refl; judged = refl; invalid = refl; delivered = refl }
 left_one f _ k = absurd (false≢true k)
 
 pub left_all : (f : Facts) (es : List Entry) → list_all is_of_record es ≡ true → LeftByRecord f (after_all f es)
@@ -265,7 +267,8 @@ left_all f (e ∷ es) k =
       contacts = b.contacts ∙ a.contacts;
       groups = b.groups ∙ a.groups;
       levels = b.levels ∙ a.levels;
-      sessions = b.sessions ∙ a.sessions;
+      begun = b.begun ∙ a.begun;
+  sessions = b.sessions ∙ a.sessions;
       takes = b.takes ∙ a.takes;
       judged = b.judged ∙ a.judged;
       invalid = b.invalid ∙ a.invalid;
@@ -291,6 +294,7 @@ takes_one clients f session k rest a =
       contacts = left.contacts;
       groups = left.groups;
       levels = left.levels;
+      begun = left.begun;
       sessions = left.sessions;
       takes = λ n. ap (λ t. takes_of t n) left.takes ∙ one_more_there f.takes session n;
       judged = left.judged;

@@ -9,13 +9,10 @@ use Rattle.sync_rules.specs.declared.entries.Level.{Level}
 use Rattle.sync_rules.specs.declared.entries.Session.{Session}
 use Rattle.sync_rules.specs.declared.states.Origin.{Origin}
 use Rattle.sync_rules.specs.declared.states.Origin.TheVariants as origin
+use Rattle.sync_rules.specs.declared.limits.TheConstants.{MAX_CONTACTS, MAX_GROUPS, MAX_TRIES, MAX_WANTED}
 use Rattle.sync_rules.specs.Lists.{is_among, has_repeat}
 use Rattle.sync_rules.specs.Facts.{Facts, Held, Id, Known, Row, group_at, held_at, is_held, session_at, takes_of, is_invisible, is_no_row, wanted_from}
 use Rattle.sync_rules.specs.Legal.{suits_nonce}
-
--- how many sessions have begun
-abbrev pub begun_in : Facts → ℕ
-begun_in f = length f.sessions
 
 -- ---- sessions
 
@@ -28,14 +25,14 @@ AreAscending (s ∷ ss) = AllByRecursion (λ t. s.number < t.number) ss × AreAs
 -- latency is at least 1, and it has a nonce only in interactive mode
 pub record IsSessionOf (f : Facts) (n : ℕ) (s : Session) : Type 0 where
   pub numbered : s.number ≡ n
-  pub begun : n < begun_in f
+  pub begun : n < f.begun
   pub known_contact : s.contact < f.contacts
   pub some_latency : 1 ≤ s.latency
   pub suited_nonce : suits_nonce s.mode s.nonce ≡ true
 
 pub record HasSessions (f : Facts) : Type 0 where
   pub ascending : AreAscending f.sessions
-  pub below : AllByRecursion (λ s. s.number < begun_in f) f.sessions
+  pub below : AllByRecursion (λ s. s.number < f.begun) f.sessions
   pub each : (n : ℕ) (s : Session) → session_at f.sessions n ≡ Some s → IsSessionOf f n s
   -- a session that has not begun has taken nothing
   pub untaken : (n : ℕ) → session_at f.sessions n ≡ None → takes_of f.takes n ≡ 0
@@ -55,8 +52,8 @@ pub record IsGroupOf (id : Id) (g : Known) : Type 0 where
   pub is_id : id ≡ group_id_of g.def
 
 pub record HasGroups (f : Facts) : Type 0 where
-  pub few_contacts : f.contacts ≤ 256
-  pub few : length f.groups ≤ 1024
+  pub few_contacts : f.contacts ≤ MAX_CONTACTS
+  pub few : length f.groups ≤ MAX_GROUPS
   pub distinct : has_repeat (ids_of_groups f.groups) ≡ false
   pub each : (id : Id) (g : Known) → group_at f.groups id ≡ Some g → IsGroupOf id g
 
@@ -87,22 +84,22 @@ pub record IsLevelOf (f : Facts) (contact : ℕ) (group : Id) (l : Level) : Type
 abbrev pub HasLevels : Facts → Type 0
 HasLevels f = (contact : ℕ) (group : Id) (l : Level) → fin_map.get f.levels (contact, group) ≡ Some l → IsLevelOf f contact group l
 
--- a row that is stored is not empty, and is one of a held message for a known contact, with at most 64 tries
+-- a row that is stored is not empty, and is one of a held message for a known contact, with at most MAX_TRIES tries
 pub record IsRowOf (f : Facts) (contact : ℕ) (id : Id) (r : Row) : Type 0 where
   pub not_empty : is_no_row r ≡ false
   pub known_contact : contact < f.contacts
   pub held : is_held f.held id ≡ true
-  pub few_tries : r.tries ≤ 64
+  pub few_tries : r.tries ≤ MAX_TRIES
 
 abbrev pub HasRows : Facts → Type 0
 HasRows f = (contact : ℕ) (id : Id) (r : Row) → fin_map.get f.rows (contact, id) ≡ Some r → IsRowOf f contact id r
 
--- wanted ids are distinct, not held, and at most 1,000 for each contact; and lists of them are stored for known contacts
+-- wanted ids are distinct, not held, and at most MAX_WANTED for each contact; and lists of them are stored for known contacts
 pub record HasWanted (f : Facts) : Type 0 where
   pub known_contact : (contact : ℕ) (ids : List Id) → fin_map.get f.wanted contact ≡ Some ids → contact < f.contacts
   pub distinct : (contact : ℕ) → has_repeat (wanted_from f.wanted contact) ≡ false
   pub not_held : (contact : ℕ) (id : Id) → is_among (wanted_from f.wanted contact) id ≡ true → is_held f.held id ≡ false
-  pub few : (contact : ℕ) → length (wanted_from f.wanted contact) ≤ 1000
+  pub few : (contact : ℕ) → length (wanted_from f.wanted contact) ≤ MAX_WANTED
 
 -- ---- ends
 

@@ -19,6 +19,7 @@ pub record IsFront {A : Type 0} (front whole : List A) : Type 0 where
 -- the facts `later` go on from the facts `f`: lists go on, counts never fall, and what is known stays as it is
 pub record Continues (f later : Facts) : Type 0 where
   pub contacts : f.contacts ≤ later.contacts
+  pub begun : f.begun ≤ later.begun
   pub groups : IsFront f.groups later.groups
   pub sessions : IsFront f.sessions later.sessions
   pub held : IsFront f.held later.held
@@ -87,6 +88,7 @@ pub record OnlySettles (f later : Facts) : Type 0 where
   pub contacts : later.contacts ≡ f.contacts
   pub groups : later.groups ≡ f.groups
   pub levels : later.levels ≡ f.levels
+  pub begun : later.begun ≡ f.begun
   pub sessions : later.sessions ≡ f.sessions
   pub takes : later.takes ≡ f.takes
   pub held : later.held ≡ f.held
@@ -98,6 +100,7 @@ pub record TakesOne (f later : Facts) (session : ℕ) : Type 0 where
   pub contacts : later.contacts ≡ f.contacts
   pub groups : later.groups ≡ f.groups
   pub levels : later.levels ≡ f.levels
+  pub begun : later.begun ≡ f.begun
   pub sessions : later.sessions ≡ f.sessions
   pub takes : (n : ℕ) → takes_of later.takes n ≡ cond (nat_eq n session) (takes_of f.takes n + 1) (takes_of f.takes n)
   pub judged : later.judged ≡ f.judged

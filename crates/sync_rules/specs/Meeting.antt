@@ -4,6 +4,7 @@ use Rattle.sync_ids.specs.Values.{MessageValue}
 use Rattle.sync_ids.specs.Ids.{message_id_of}
 use Rattle.sync_rules.specs.declared.entries.Entry.{Entry}
 use Rattle.sync_rules.specs.declared.entries.Entry.TheVariants as entry
+use Rattle.sync_rules.specs.declared.limits.TheConstants.{MAX_CONTACTS, MAX_WANTED}
 use Rattle.sync_rules.specs.Clients.{Meaning}
 use Rattle.sync_rules.specs.Lists.{is_among}
 use Rattle.sync_rules.specs.Facts.{Facts, Id, after, after_all, nothing, entries_of, group_at, held_at, is_held, session_at, contact_of, level_at, is_invisible, takes_of, wanted_from}
@@ -26,16 +27,16 @@ pub record IsNamedHeld (f : Facts) (session : ℕ) (id : Id) : Type 0 where
   pub shown : is_shown f (contact_of f.sessions session) id ≡ true
 
 -- an id that is offered on a session and comes to be wanted: it is not held and not yet wanted from the session's contact,
--- and fewer than 1,000 ids are
+-- and fewer than MAX_WANTED ids are
 pub record IsNamedNew (f : Facts) (session : ℕ) (id : Id) : Type 0 where
   pub known_session : is_some (session_at f.sessions session) ≡ true
   pub not_held : is_held f.held id ≡ false
   pub not_wanted : is_among (wanted_from f.wanted (contact_of f.sessions session)) id ≡ false
-  pub few : length (wanted_from f.wanted (contact_of f.sessions session)) < 1000
+  pub few : length (wanted_from f.wanted (contact_of f.sessions session)) < MAX_WANTED
 
 -- each entry but a step stands where no step is open
 abbrev pub Meets : Meaning → Facts → Entry → Type 0
-Meets clients f (entry.Contact c) = IsSettled clients f × (c ≡ f.contacts) × (c < 256)
+Meets clients f (entry.Contact c) = IsSettled clients f × (c ≡ f.contacts) × (c < MAX_CONTACTS)
 Meets clients f (entry.Group def) = IsSettled clients f × MayAddGroup clients f def
 Meets clients f (entry.Level c g l) = IsSettled clients f × (c < f.contacts) × (is_some (group_at f.groups g) ≡ true)
 Meets clients f (entry.Session s) = IsSettled clients f × MayBegin f s
