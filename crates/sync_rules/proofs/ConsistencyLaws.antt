@@ -171,7 +171,7 @@ among_held (h ∷ hs) id =
       | false ↦ among_held hs id
     ]
 
-held_at-cases : (hs : List Held) (x : Held) (id : Id) (h : Held) → held_at (hs ++ x ∷ []) id ≡ Some h → (held_at hs id ≡ Some h) ⊎ ((h ≡ x) × (x.id ≡ id))
+pub held_at-cases : (hs : List Held) (x : Held) (id : Id) (h : Held) → held_at (hs ++ x ∷ []) id ≡ Some h → (held_at hs id ≡ Some h) ⊎ ((h ≡ x) × (x.id ≡ id))
 held_at-cases [] x id h e =
     elim (same_id x.id id) as (λ b. same_id x.id id ≡ b → cond b (Some x) None ≡ Some h → (held_at [] id ≡ Some h) ⊎ ((h ≡ x) × (x.id ≡ id))) [
       | true ↦ λ is e. let same : h ≡ x = cc in inr (same, same_id-is x.id id is)

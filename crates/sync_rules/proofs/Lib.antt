@@ -27,3 +27,4 @@ pub mod MeetingLaws
 pub mod SessionLaws
 pub mod OutputLaws
 pub mod ConsistencyLaws
+pub mod DueLaws

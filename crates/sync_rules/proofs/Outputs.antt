@@ -29,16 +29,16 @@ use Rattle.sync_rules.proofs.HearLaws.{session_after_batches}
 
 -- ---- the ids that pass a test
 
-record FoundBy (test : Held → Bool) (hs : List Held) (id : Id) : Type 0 where
-  of : Held
-  inside : In of hs
-  same : of.id ≡ id
-  passes : test of ≡ true
+pub record FoundBy (test : Held → Bool) (hs : List Held) (id : Id) : Type 0 where
+  pub of : Held
+  pub inside : In of hs
+  pub same : of.id ≡ id
+  pub passes : test of ≡ true
 
 found_later : (test : Held → Bool) (h : Held) (hs : List Held) (id : Id) → FoundBy test hs id → FoundBy test (h ∷ hs) id
 found_later test h hs id x = record { of = x.of; inside = inr x.inside; same = x.same; passes = x.passes }
 
-found_by : (test : Held → Bool) (hs : List Held) (id : Id) → is_among (ids_where test hs) id ≡ true → FoundBy test hs id
+pub found_by : (test : Held → Bool) (hs : List Held) (id : Id) → is_among (ids_where test hs) id ≡ true → FoundBy test hs id
 found_by test [] id e = absurd (false≢true e)
 found_by test (h ∷ hs) id e =
     elim (test h) as (λ b. test h ≡ b → is_among (cond b (h.id ∷ ids_where test hs) (ids_where test hs)) id ≡ true → FoundBy test (h ∷ hs) id) [
@@ -50,7 +50,7 @@ found_by test (h ∷ hs) id e =
       | false ↦ λ t e. found_later test h hs id (found_by test hs id e)
     ] refl e
 
-among-take : (n : ℕ) (ids : List Id) (id : Id) → is_among (take n ids) id ≡ true → is_among ids id ≡ true
+pub among-take : (n : ℕ) (ids : List Id) (id : Id) → is_among (take n ids) id ≡ true → is_among ids id ≡ true
 among-take zero [] id e = e
 among-take (suc n) [] id e = e
 among-take zero (x ∷ ids) id e = absurd (false≢true e)
@@ -60,7 +60,7 @@ among-take (suc n) (x ∷ ids) id e =
       | inr r ↦ or_right (same_id x id) (is_among ids id) (among-take n ids id r)
     ]
 
-first-among : (ids : List Id) (id : Id) → first_id ids ≡ Some id → is_among ids id ≡ true
+pub first-among : (ids : List Id) (id : Id) → first_id ids ≡ Some id → is_among ids id ≡ true
 first-among [] id e = cc
 first-among (x ∷ ids) id e =
     let same : x ≡ id = cc in
@@ -68,7 +68,7 @@ first-among (x ∷ ids) id e =
 
 -- ---- what is due names what is open
 
-out_or-cases : (a b : Option Out) (what : Out) → out_or a b ≡ Some what → (a ≡ Some what) ⊎ (b ≡ Some what)
+pub out_or-cases : (a b : Option Out) (what : Out) → out_or a b ≡ Some what → (a ≡ Some what) ⊎ (b ≡ Some what)
 out_or-cases None b what e = inr e
 out_or-cases (Some x) b what e = inl e
 

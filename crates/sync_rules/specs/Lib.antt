@@ -20,3 +20,4 @@ pub mod Plain
 pub mod Growth
 pub mod Meeting
 pub mod Consistency
+pub mod Naming
