@@ -14,7 +14,6 @@ pub mod RowLaws
 pub mod PeerFacts
 pub mod Outputs
 pub mod Levels
-pub mod PlainLaws
 pub mod PartsOfIds
 pub mod SameEntries
 pub mod TakenBack

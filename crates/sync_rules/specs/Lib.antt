@@ -16,4 +16,3 @@ pub mod Hearing
 pub mod PeerLaws
 pub mod Views
 pub mod Output
-pub mod Plain
