@@ -103,4 +103,3 @@ module _ (clients : Meaning) (old : List (List Entry)) (session contact k : ℕ)
             ∙ (sym (one_more_take f.takes session)
             ∙ sym (ap (λ (g : Facts). takes_of g.takes session) whole ∙ ap (λ t. takes_of t session) same));
       }
-

@@ -1,5 +1,5 @@
 -- Each group that is not Invisible to some contact is known, exactly where each Level entry passes.
-use Rattle.std.proofs.Common.{◌≡◌, ◌↔◌, ℕ, Bool, true, false, cond, ◌&&◌, ◌||◌, nat_eq, eqb-true, List, [], ◌∷◌, refl, sym, ◌∙◌, ap, is_some}
+use Rattle.std.proofs.Common.{not, ◌≡◌, ◌↔◌, ℕ, Bool, true, false, cond, ◌&&◌, ◌||◌, nat_eq, eqb-true, List, [], ◌∷◌, refl, sym, ◌∙◌, ap, is_some}
 use Rattle.std.specs.List.{list_all}
 use Rattle.std.proofs.lemmas.Bool.{and_parts, false≢true}
 use Rattle.sync_rules.specs.declared.entries.Entry.{Entry}

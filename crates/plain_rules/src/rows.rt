@@ -24,6 +24,7 @@ pub(crate) struct PlainRow {
 impl Model for PlainRow {
     ghost use Rattle.std.specs.Prelude.{◌≤◌};
     ghost use Rattle.sync_rules.specs.Facts.{Row};
+    ghost use Rattle.sync_rules.specs.declared.limits.TheConstants.{MAX_TRIES};
 
     ghost Value = { Row };
 
@@ -62,7 +63,11 @@ fn expiry_of(now: u64, latency: u32, tries: u8) -> u64
 fn offered(row: PlainRow, now: u64, latency: u32) -> PlainRow
     ensures { result ≡ row_offered now latency row }
 {
-    let tries = if row.tries < MAX_TRIES { row.tries + 1 } else { MAX_TRIES };
+    let tries = if row.tries < MAX_TRIES {
+        row.tries + 1
+    } else {
+        MAX_TRIES
+    };
     PlainRow {
         seen: row.seen,
         owed: row.owed,
