@@ -1,13 +1,13 @@
 -- The facts of every legal journal fit together: each entry keeps what holds of groups, held messages, levels, rows, wanted
 -- ids and ends.
-use Rattle.std.proofs.Common.{◌≡◌, ℕ, zero, suc, ◌+◌, ◌<◌, ◌≤◌, min, Bool, true, false, not, cond, ◌&&◌, ◌||◌, ◌⊎◌, nat_eq, eqb-true, List, [], ◌∷◌, ◌++◌, length, length-append, refl, sym, ◌∙◌, ap, subst, inl, inr, arith, Option, Some, None, is_some}
+use Rattle.std.proofs.Common.{◌≡◌, ℕ, ◌+◌, ◌<◌, ◌≤◌, Bool, true, false, not, cond, ◌&&◌, ◌||◌, ◌⊎◌, nat_eq, eqb-true, List, [], ◌∷◌, ◌++◌, length, length-append, refl, sym, ◌∙◌, ap, subst, inl, inr, arith, Option, Some, None, is_some}
 use Rattle.std.specs.FinMap as fin_map
 use Rattle.std.specs.FinSet as fin_set
 use Rattle.std.specs.Ordering.{nat_cmp, eq_by_cmp}
 use Rattle.std.specs.Cmp.{nat_cmp_total, unsigned_tied}
 use Rattle.std.specs.Cmp.Lexicographic.{slice_cmp}
 use Rattle.std.proofs.lemmas.Bool.{and_parts, or_parts, or_cases, or_left, or_right, false≢true, not-true}
-use Rattle.sync_ids.specs.Ids.{group_id_of, message_id_of}
+use Rattle.sync_ids.specs.Ids.{message_id_of}
 use Rattle.sync_rules.specs.declared.entries.Entry.{Entry}
 use Rattle.sync_rules.specs.declared.entries.Entry.TheVariants as entry
 use Rattle.sync_rules.specs.declared.entries.Level.{Level}
@@ -19,14 +19,14 @@ use Rattle.sync_rules.specs.declared.states.Origin.{Origin}
 use Rattle.sync_rules.specs.declared.states.Origin.TheVariants as origin
 use Rattle.sync_rules.specs.Clients.{Meaning}
 use Rattle.sync_rules.specs.Lists.{same_id, is_among, has_repeat, without, firsts}
-use Rattle.sync_rules.specs.Facts.{Facts, Held, Id, Known, Row, Rows, Levels, Wants, pair_cmp, after, after_all, nothing, facts, entries_of, group_at, held_at, is_held, session_at, contact_of, level_at, is_invisible, put_level, is_no_row, row_or, row_at, put_row, change_row, change_rows, row_heard, row_seen, row_acked, row_asked, row_offered, row_sent, one_more_try, latency_of, ids_or, wanted_from, change_each, wanted_by_none, with_want, without_each, authored, arrived, known_of}
-use Rattle.sync_rules.specs.Output.{IsOpen, NamesTheOpen}
+use Rattle.sync_rules.specs.Facts.{Facts, Held, Id, Known, Row, Rows, Levels, Wants, pair_cmp, after, after_all, nothing, facts, entries_of, group_at, held_at, is_held, session_at, contact_of, put_level, is_no_row, row_or, row_at, put_row, change_row, change_rows, row_heard, row_seen, row_acked, row_asked, row_offered, row_sent, one_more_try, latency_of, ids_or, wanted_from, change_each, wanted_by_none, with_want, without_each, authored, arrived, known_of}
+use Rattle.sync_rules.specs.Output.{NamesTheOpen}
 use Rattle.sync_rules.specs.Legal.{Legal, IsDue}
 use Rattle.sync_rules.specs.Meeting.{Meets, AllMeet}
 use Rattle.sync_rules.specs.Growth.{Continues}
 use Rattle.sync_rules.specs.Consistency.{ids_of_groups, ids_of_held, IsGroupOf, HasGroups, IsKnownOrigin, IsHeldOf, HasHeld, IsLevelOf, HasLevels, IsRowOf, HasRows, HasWanted, HasEnds, HasSessions, IsConsistent}
-use Rattle.sync_rules.specs.Elements.{In, same_id-is, same_id_itself, same_id_swap, among-push}
-use Rattle.sync_rules.specs.Sound.{SoundFacts, contains-more, held_at-push_new}
+use Rattle.sync_rules.specs.Elements.{same_id-is, same_id_itself, same_id_swap, among-push}
+use Rattle.sync_rules.specs.Sound.{SoundFacts, contains-more}
 use Rattle.sync_rules.specs.Kept.{IsDelivery, IsRefusal, delivery, refusal, sound_after, after_batches-is}
 use Rattle.sync_rules.specs.Runs.{sound_nothing}
 use Rattle.sync_rules.specs.Flags.{is_held-push}

@@ -1,5 +1,5 @@
 -- What is due is allowed, and its record is within its limits; so is all that a session sends.
-use Rattle.std.proofs.Common.{◌≡◌, ℕ, zero, suc, ◌≤◌, min, Bool, true, false, not, cond, ◌&&◌, ◌||◌, ◌⊎◌, nat_le, nat_eq, List, [], ◌∷◌, ◌++◌, length, take, refl, sym, ◌∙◌, ap, subst, inl, inr, arith, Option, Some, None, is_some}
+use Rattle.std.proofs.Common.{◌≡◌, ℕ, zero, suc, ◌≤◌, min, Bool, true, false, not, cond, ◌&&◌, ◌||◌, nat_le, nat_eq, List, [], ◌∷◌, ◌++◌, length, take, refl, sym, ◌∙◌, ap, subst, inl, inr, arith, Option, Some, None, is_some}
 use Rattle.std.specs.List.{AllByRecursion}
 use Rattle.std.specs.FinMap as fin_map
 use Rattle.std.specs.Ordering.{nat_cmp}
@@ -10,7 +10,6 @@ use Rattle.sync_ids.specs.Ids.{message_id_of}
 use Rattle.sync_ids.specs.Values.{IsMessage, AreIds}
 use Rattle.sync_ids.specs.Records.{IsRecord}
 use Rattle.sync_ids.specs.declared.records.Record.{Record}
-use Rattle.sync_ids.specs.declared.records.Record.TheVariants as record_kind
 use Rattle.sync_rules.specs.declared.entries.Entry.{Entry}
 use Rattle.sync_rules.specs.declared.entries.Entry.TheVariants as entry
 use Rattle.sync_rules.specs.declared.entries.Out.{Out}
@@ -20,21 +19,21 @@ use Rattle.sync_rules.specs.declared.entries.Mode.TheVariants as mode_kind
 use Rattle.sync_rules.specs.declared.entries.Session.{Session}
 use Rattle.sync_rules.specs.Clients.{Meaning}
 use Rattle.sync_rules.specs.Lists.{same_id, is_among, has_repeat, without}
-use Rattle.sync_rules.specs.Facts.{Facts, Held, Id, after, after_all, nothing, facts, entries_of, held_at, is_held, session_at, contact_of, contact_in, row_at, wanted_from, without_each, with_want, authored, arrived, ids_or, Wants}
+use Rattle.sync_rules.specs.Facts.{Facts, Held, Id, after, after_all, nothing, facts, entries_of, held_at, is_held, session_at, contact_of, contact_in, row_at, wanted_from, without_each, with_want, authored, arrived, ids_or}
 use Rattle.sync_rules.specs.Steps.{IsSettled}
-use Rattle.sync_rules.specs.Sessions.{ids_where, ids_limit, shared_ids, is_sendable, is_ripe, owed_to, wanted_of, send_of, offers_of, first_id, out_or, acks_due, requests_due, send_due, offers_due, due_by, due}
+use Rattle.sync_rules.specs.Sessions.{ids_where, ids_limit, shared_ids, is_sendable, is_ripe, owed_to, wanted_of, send_of, offers_of, out_or, acks_due, requests_due, send_due, offers_due, due_by, due}
 use Rattle.sync_rules.specs.Legal.{Legal, Allowed, IsDue}
 use Rattle.sync_rules.specs.Output.{AllHeld, records_of, first_records, nonce_record, message_record, sent}
 use Rattle.sync_rules.specs.Meeting.{Meets, AllMeet}
-use Rattle.sync_rules.specs.Consistency.{ids_of_held, HasHeld, HasWanted, HasSessions, IsConsistent}
+use Rattle.sync_rules.specs.Consistency.{ids_of_held, HasHeld, HasWanted, IsConsistent}
 use Rattle.sync_rules.specs.Growth.{output_by, output_in}
-use Rattle.sync_rules.specs.Naming.{AreDistinctIds, AreWanted, NamesDistinct, IsWholeNonce, BringsWithin, HasLimits, MessageIdsAreWhole}
-use Rattle.sync_rules.specs.Elements.{In, same_id-is, same_id_itself, among-push}
+use Rattle.sync_rules.specs.Naming.{AreWanted, NamesDistinct, IsWholeNonce, BringsWithin, HasLimits, MessageIdsAreWhole}
+use Rattle.sync_rules.specs.Elements.{same_id-is, same_id_itself, among-push}
 use Rattle.sync_rules.specs.Sound.{SoundFacts}
 use Rattle.sync_rules.specs.Kept.{sound_after, after_batches-is}
 use Rattle.sync_rules.specs.Runs.{sound_nothing}
 use Rattle.sync_rules.specs.PeerFacts.{want_changed, want_dropped, among-without, among-without_each}
-use Rattle.sync_rules.specs.Outputs.{FoundBy, found_by, among-take, first-among, out_or-cases}
+use Rattle.sync_rules.specs.Outputs.{found_by, among-take, first-among, out_or-cases}
 use Rattle.sync_rules.specs.StepKinds.{held_if_In}
 use Rattle.sync_rules.specs.MeetingLaws.{legal_meets, meets_fits}
 use Rattle.sync_rules.specs.SessionLaws.{session_at-cases}

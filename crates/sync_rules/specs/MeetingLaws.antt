@@ -13,14 +13,14 @@ use Rattle.sync_rules.specs.declared.entries.Entry.{Entry}
 use Rattle.sync_rules.specs.declared.entries.Entry.TheVariants as entry
 use Rattle.sync_rules.specs.Clients.{Meaning}
 use Rattle.sync_rules.specs.Lists.{same_id, is_among, has_repeat, firsts}
-use Rattle.sync_rules.specs.Facts.{Facts, Held, Id, Rows, Wants, after, after_all, after_batches, nothing, facts, entries_of, group_at, held_at, is_held, session_at, contact_of, level_at, is_invisible, row_at, wanted_from, change_row, row_heard, row_seen, row_asked, with_want}
+use Rattle.sync_rules.specs.Facts.{Facts, Held, Id, Rows, Wants, after, after_all, nothing, entries_of, group_at, held_at, is_held, session_at, contact_of, level_at, is_invisible, row_at, wanted_from, change_row, row_heard, row_seen, row_asked, with_want}
 use Rattle.sync_rules.specs.Steps.{IsSettled, next}
-use Rattle.sync_rules.specs.Sessions.{taken, taken_message, taken_message_of, taken_acks, taken_requests, taken_offers, taken_offer, one_if, is_welcome, is_shown, is_shown_held, is_remembered, room_after}
+use Rattle.sync_rules.specs.Sessions.{taken, taken_message, taken_message_of, taken_acks, taken_requests, taken_offers, one_if, is_welcome, is_shown, is_shown_held, is_remembered, room_after}
 use Rattle.sync_rules.specs.Legal.{Allowed, GoesOn, Legal, IsSettling}
-use Rattle.sync_rules.specs.Meeting.{ComesIn, IsNamedHeld, IsNamedNew, Meets, AllMeet, EachMeets}
-use Rattle.sync_rules.specs.Elements.{among-push, among_In, same_id-is, same_id_itself}
+use Rattle.sync_rules.specs.Meeting.{IsNamedHeld, Meets, AllMeet, EachMeets}
+use Rattle.sync_rules.specs.Elements.{among-push, same_id-is, same_id_itself}
 use Rattle.sync_rules.specs.StepLaws.{next_is_settling}
-use Rattle.sync_rules.specs.Kept.{Fits, AllFit, after_batches-is}
+use Rattle.sync_rules.specs.Kept.{Fits, AllFit}
 use Rattle.sync_rules.specs.RowLaws.{firsts_distinct}
 use Rattle.sync_rules.specs.PeerFacts.{want_changed}
 use Rattle.sync_rules.specs.StepKinds.{same_next}
@@ -143,21 +143,21 @@ module _ (clients : Meaning) (f : Facts) (session : ℕ) (known : is_some (sessi
       let offered : (rows : Rows) → AllMeet clients (at f takes rows wanted)
       (one_if (is_remembered f contact room id) (entry.Offered session id) ++ taken_offers f session contact (room_after (is_remembered f contact room id) room) ids) =
       λ rows.
-          elim (is_remembered f contact room id) as (λ b. is_remembered f contact room id ≡ b
-          → AllMeet clients (at f takes rows wanted) (one_if b (entry.Offered session id) ++ taken_offers f session contact (room_after b room) ids)) [
-            | true ↦ λ e.
-                let one = and_parts (not (is_some (held_at f.held id))) (not (is_among (wanted_from f.wanted contact) id) && nat_lt 0 room) e in
-                let two = and_parts (not (is_among (wanted_from f.wanted contact) id)) (nat_lt 0 room) one.1 in
-                let new : is_held f.held id ≡ false = none_there (held_at f.held id) one.0 in
-                let first : is_among (id ∷ ids) id ≡ true = or_left (same_id id id) (is_among ids id) (same_id_itself id) in
-                let none : is_among (wanted_from wanted contact) id ≡ false = h.same id first ∙ not-true (is_among (wanted_from f.wanted contact) id) two.0 in
-                let left : 0 < room = ltb-true 0 room two.1 in
-                let few : length (wanted_from wanted contact) + room ≤ 1000 = h.fits left in (
-                  (settled_at rows wanted, record { known_session = known; not_held = new; not_wanted = none; few = omega (arith, few, left) }),
-                  meets_offers rows (with_one wanted id) (room - 1) ids parts.1 (room_less wanted room id ids distinct h new none),
-                )
-            | false ↦ λ e. meets_offers rows wanted room ids parts.1 (room_there wanted room id ids distinct h)
-          ] refl
+      elim (is_remembered f contact room id) as (λ b. is_remembered f contact room id ≡ b
+      → AllMeet clients (at f takes rows wanted) (one_if b (entry.Offered session id) ++ taken_offers f session contact (room_after b room) ids)) [
+        | true ↦ λ e.
+            let one = and_parts (not (is_some (held_at f.held id))) (not (is_among (wanted_from f.wanted contact) id) && nat_lt 0 room) e in
+            let two = and_parts (not (is_among (wanted_from f.wanted contact) id)) (nat_lt 0 room) one.1 in
+            let new : is_held f.held id ≡ false = none_there (held_at f.held id) one.0 in
+            let first : is_among (id ∷ ids) id ≡ true = or_left (same_id id id) (is_among ids id) (same_id_itself id) in
+            let none : is_among (wanted_from wanted contact) id ≡ false = h.same id first ∙ not-true (is_among (wanted_from f.wanted contact) id) two.0 in
+            let left : 0 < room = ltb-true 0 room two.1 in
+            let few : length (wanted_from wanted contact) + room ≤ 1000 = h.fits left in (
+              (settled_at rows wanted, record { known_session = known; not_held = new; not_wanted = none; few = omega (arith, few, left) }),
+              meets_offers rows (with_one wanted id) (room - 1) ids parts.1 (room_less wanted room id ids distinct h new none),
+            )
+        | false ↦ λ e. meets_offers rows wanted room ids parts.1 (room_there wanted room id ids distinct h)
+      ] refl
       in
       elim (is_shown f contact id) as (λ b. is_shown f contact id ≡ b → AllMeet clients (at f takes rows wanted)
       ((one_if b (entry.Again session id) ++ one_if (is_remembered f contact room id) (entry.Offered session id))

@@ -1,5 +1,5 @@
 -- What each entry of a legal journal adds to a session's output.
-use Rattle.std.proofs.Common.{◌≡◌, ℕ, ◌<◌, arith, Bool, true, false, cond, ◌&&◌, nat_eq, eqb-true, List, [], ◌∷◌, ◌++◌, append_assoc, append-nil, refl, sym, ◌∙◌, ap, subst, Option, Some, None, is_some}
+use Rattle.std.proofs.Common.{◌≡◌, ℕ, arith, Bool, true, false, cond, nat_eq, eqb-true, List, [], ◌∷◌, ◌++◌, append_assoc, append-nil, refl, sym, ◌∙◌, ap, subst, Option, Some, None}
 use Rattle.std.specs.Cmp.{nat_eq_equiv}
 use Rattle.std.specs.List.{list_all}
 use Rattle.std.proofs.lemmas.Bool.{and_parts, and_from, false≢true}
@@ -10,18 +10,18 @@ use Rattle.sync_rules.specs.declared.entries.Out.{Out}
 use Rattle.sync_rules.specs.declared.entries.Out.TheVariants as out
 use Rattle.sync_rules.specs.declared.entries.Session.{Session}
 use Rattle.sync_rules.specs.Clients.{Meaning}
-use Rattle.sync_rules.specs.Facts.{Facts, Held, Id, after, after_all, after_batches, nothing, facts, entries_of, held_at, session_at, contact_in, takes_of}
-use Rattle.sync_rules.specs.Legal.{Legal, Allowed, GoesOn, IsDue, IsSettling, MayBegin}
+use Rattle.sync_rules.specs.Facts.{Facts, Held, Id, after, after_all, nothing, facts, entries_of, held_at, session_at, contact_in, takes_of}
+use Rattle.sync_rules.specs.Legal.{Legal, Allowed, IsDue, IsSettling, MayBegin}
 use Rattle.sync_rules.specs.Output.{IsOpen, first_records, message_record, records_of, records_by, records_in, sent, sent_on}
 use Rattle.sync_rules.specs.Meeting.{Meets, AllMeet}
-use Rattle.sync_rules.specs.Consistency.{HasSessions, IsSessionOf}
-use Rattle.sync_rules.specs.Growth.{Continues, output_by, output_in, output_of, is_silent}
+use Rattle.sync_rules.specs.Consistency.{HasSessions}
+use Rattle.sync_rules.specs.Growth.{output_by, output_in, output_of, is_silent}
 use Rattle.sync_rules.specs.StepLaws.{IsSettlingEntry, next_is_settling}
 use Rattle.sync_rules.specs.Sound.{SoundFacts}
 use Rattle.sync_rules.specs.Kept.{sound_after, after_batches-is}
-use Rattle.sync_rules.specs.Runs.{sound_nothing, legal_sound}
+use Rattle.sync_rules.specs.Runs.{sound_nothing}
 use Rattle.sync_rules.specs.Outputs.{out_named, FoundIn, held_stays, entries_of-append}
-use Rattle.sync_rules.specs.Continuing.{continues_after, continues_all, facts-append, legal-front, legal-back, legal-push}
+use Rattle.sync_rules.specs.Continuing.{continues_after, continues_all, legal-front, legal-push}
 use Rattle.sync_rules.specs.StepKinds.{all_of_record, is_taken_on}
 use Rattle.sync_rules.specs.MeetingLaws.{legal_meets, meets_fits}
 use Rattle.sync_rules.specs.SessionLaws.{sessions_after_one, sessions_of_nothing, legal_sessions}

@@ -18,7 +18,7 @@ use Rattle.sync_rules.specs.Steps.{fate, fate_held}
 use Rattle.sync_rules.specs.Rounds.{graph_of}
 use Rattle.sync_rules.specs.Sessions.{ids_where, ids_limit, shared_ids, is_sendable, is_author, is_ripe, owed_to, wanted_of, send_of, offers_of, first_id, out_or, acks_due, requests_due, send_due, offers_due, due_by}
 use Rattle.sync_rules.specs.Legal.{Legal, IsDue}
-use Rattle.sync_rules.specs.Output.{IsOpen, NamesTheOpen, SendsTheOpen, records_of, records_by, records_in, message_record, first_records, sent, sent_on, GoesOnFrom}
+use Rattle.sync_rules.specs.Output.{IsOpen, NamesTheOpen, SendsTheOpen, records_by, records_in, message_record, first_records, sent, sent_on, GoesOnFrom}
 use Rattle.sync_rules.specs.Elements.{same_id-is, same_id_itself, In}
 use Rattle.sync_rules.specs.RoundLaws.{disjoint}
 use Rattle.sync_rules.specs.Sound.{SoundFacts, held_at-push}

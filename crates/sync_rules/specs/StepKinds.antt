@@ -1,7 +1,6 @@
 -- What the next step is, and what settling, outputs and records leave of it and of the facts.
-use Rattle.std.proofs.Common.{◌≡◌, ℕ, ◌+◌, Bool, true, false, cond, ◌&&◌, ◌⊎◌, nat_eq, List, [], ◌∷◌, ◌++◌, refl, sym, ◌∙◌, ap, subst, inl, inr, Option, Some, None, is_some}
+use Rattle.std.proofs.Common.{◌≡◌, ℕ, Bool, true, false, cond, nat_eq, List, [], ◌∷◌, ◌++◌, refl, sym, ◌∙◌, ap, subst, inl, inr, Some, None, is_some}
 use Rattle.std.specs.List.{list_all}
-use Rattle.std.specs.FinSet as fin_set
 use Rattle.std.proofs.lemmas.Bool.{and_parts, and_from, false≢true}
 use Rattle.sync_ids.specs.Values.{MessageValue}
 use Rattle.sync_ids.specs.Ids.{message_id_of}
@@ -9,13 +8,11 @@ use Rattle.sync_ids.specs.declared.records.Record.{Record}
 use Rattle.sync_ids.specs.declared.records.Record.TheVariants as record_kind
 use Rattle.sync_rules.specs.declared.entries.Entry.{Entry}
 use Rattle.sync_rules.specs.declared.entries.Entry.TheVariants as entry
-use Rattle.sync_rules.specs.declared.entries.Out.{Out}
-use Rattle.sync_rules.specs.declared.entries.Session.{Session}
 use Rattle.sync_rules.specs.Clients.{Meaning}
 use Rattle.sync_rules.specs.Lists.{same_id, firsts}
-use Rattle.sync_rules.specs.Facts.{Facts, Held, Id, Known, Ids, after, after_all, after_batches, facts, held_at, is_held, contact_of, level_at, is_invisible, takes_of}
-use Rattle.sync_rules.specs.Steps.{step, first_step, first_or_next, next, IsSettled, step_by, answer_of, verdict_in, is_ended, is_failing, is_served, is_beside, is_elsewhere}
-use Rattle.sync_rules.specs.Sessions.{taken, taken_message, taken_message_of, taken_acks, taken_requests, taken_offers, taken_offer, one_if, is_welcome, is_shown, is_remembered, room_after}
+use Rattle.sync_rules.specs.Facts.{Facts, Held, Id, Known, Ids, after, after_all, after_batches, facts, held_at, is_held, contact_of, takes_of}
+use Rattle.sync_rules.specs.Steps.{step, first_step, first_or_next, next, IsSettled}
+use Rattle.sync_rules.specs.Sessions.{taken, taken_message, taken_message_of, taken_acks, taken_requests, taken_offers, taken_offer, one_if, is_welcome, is_remembered, room_after}
 use Rattle.sync_rules.specs.Legal.{Allowed, IsSettling, AllSettling}
 use Rattle.sync_rules.specs.Hearing.{Settles}
 use Rattle.sync_rules.specs.Growth.{IsStepOf, HasSameSteps, leaves_steps, OnlySettles, TakesOne}
@@ -103,7 +100,8 @@ only_settles_itself f = record {
   contacts = refl;
   groups = refl;
   levels = refl;
-  begun = refl; sessions = refl;
+  begun = refl;
+  sessions = refl;
   takes = refl;
   held = refl;
   rows = refl;
@@ -242,7 +240,8 @@ left_itself f = record {
   contacts = refl;
   groups = refl;
   levels = refl;
-  begun = refl; sessions = refl;
+  begun = refl;
+  sessions = refl;
   takes = refl;
   judged = refl;
   invalid = refl;
@@ -268,7 +267,7 @@ left_all f (e ∷ es) k =
       groups = b.groups ∙ a.groups;
       levels = b.levels ∙ a.levels;
       begun = b.begun ∙ a.begun;
-  sessions = b.sessions ∙ a.sessions;
+      sessions = b.sessions ∙ a.sessions;
       takes = b.takes ∙ a.takes;
       judged = b.judged ∙ a.judged;
       invalid = b.invalid ∙ a.invalid;
