@@ -1,0 +1,4 @@
+pub mod SentNames
+pub mod HeardLaws
+pub mod RestLaws
+pub mod Steps
