@@ -7,8 +7,8 @@ use Rattle.sync_rules.specs.Facts.{Facts, after_all, after_batches, nothing, fac
 use Rattle.sync_rules.specs.Steps.{next}
 use Rattle.sync_rules.specs.Legal.{Allowed, IsSettlingBatch, AllSettling, GoesOn, Legal}
 use Rattle.sync_rules.specs.Hearing.{Settles}
-use Rattle.sync_rules.proofs.StepLaws.{IsSettlingEntry, next_is_settling}
-use Rattle.sync_rules.proofs.Settling.{goes_on_both, after_batches-append}
+use Rattle.sync_rules.specs.StepLaws.{IsSettlingEntry, next_is_settling}
+use Rattle.sync_rules.specs.Settling.{goes_on_both, after_batches-append}
 
 -- ---- journals
 
@@ -50,7 +50,7 @@ allowed_by clients f (entry.Deliver id) es k s = s
 allowed_by clients f (entry.Invalid id) es k s = s
 allowed_by clients f _ es k s = absurd k
 
-allowed_settling : (clients : Meaning) (f : Facts) (es : List Entry) → IsSettlingBatch clients f es → Allowed clients f es
+pub allowed_settling : (clients : Meaning) (f : Facts) (es : List Entry) → IsSettlingBatch clients f es → Allowed clients f es
 allowed_settling clients f [] s = absurd (omega arith)
 allowed_settling clients f (e ∷ es) s = allowed_by clients f e es (next_is_settling clients f e s.2.0) s
 

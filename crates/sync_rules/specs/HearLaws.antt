@@ -11,7 +11,7 @@ use Rattle.sync_rules.specs.Clients.{Meaning}
 use Rattle.sync_rules.specs.Facts.{Facts, after, after_all, after_batches, session_at, contact_of, contact_in, count_or, known_of}
 use Rattle.sync_rules.specs.Steps.{kind_of_def}
 use Rattle.sync_rules.specs.Hearing.{IsHearing, one_session}
-use Rattle.sync_rules.proofs.Elements.{same_id_itself}
+use Rattle.sync_rules.specs.Elements.{same_id_itself}
 
 -- ---- sessions stay
 

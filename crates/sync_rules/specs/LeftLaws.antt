@@ -1,5 +1,5 @@
 -- The steps that are left: each step lowers them, and there are at most two for each held message.
-use Rattle.std.proofs.Common.{◌≡◌, ℕ, ◌+◌, ◌*◌, ◌≤◌, Bool, true, false, cond, ◌||◌, List, [], ◌∷◌, length, Option, Some, refl, ap, ◌∙◌, subst, inl, inr, arith}
+use Rattle.std.proofs.Common.{◌≡◌, ℕ, ◌+◌, ◌*◌, ◌≤◌, Bool, true, false, cond, ◌||◌, List, [], ◌∷◌, length, Some, refl, ap, ◌∙◌, subst, inl, inr, arith}
 use Rattle.std.specs.FinSet as fin_set
 use Rattle.sync_rules.specs.declared.entries.Entry.{Entry}
 use Rattle.sync_rules.specs.declared.entries.Entry.TheVariants as entry
@@ -9,9 +9,9 @@ use Rattle.sync_rules.specs.Facts.{Facts, Held, Id, after, after_all}
 use Rattle.sync_rules.specs.Steps.{is_ended, next}
 use Rattle.sync_rules.specs.Legal.{IsSettling}
 use Rattle.sync_rules.specs.Left.{left_for, left_among, left_of}
-use Rattle.sync_rules.proofs.Elements.{In, same_id_itself}
-use Rattle.sync_rules.proofs.Flags.{ended_scan, judged_scan}
-use Rattle.sync_rules.proofs.StepLaws.{IsSettlingEntry, Told, first_step_some, next_is_settling, told_some}
+use Rattle.sync_rules.specs.Elements.{In, same_id_itself}
+use Rattle.sync_rules.specs.Flags.{ended_scan, judged_scan}
+use Rattle.sync_rules.specs.StepLaws.{IsSettlingEntry, Told, first_step_some, next_is_settling, told_some}
 
 abbrev left_by : Bool → Bool → ℕ
 left_by judged ended = cond judged (cond ended 0 1) 2
