@@ -13,7 +13,8 @@ ghost use Rattle.sync_rules.specs.Facts.{after, after_all, after_batches, contac
 ghost use Rattle.sync_rules.specs.Facts.{entries_of, Extends, Facts, facts, nothing, session_at};
 ghost use Rattle.sync_rules.specs.Facts.{takes_of};
 ghost use Rattle.sync_rules.specs.Growth.{Continues, HasSameSteps, is_silent, IsStepOf};
-ghost use Rattle.sync_rules.specs.Growth.{leaves_steps, OnlySettles, output_in, output_of, TakesOne};
+ghost use Rattle.sync_rules.specs.Growth.{leaves_steps, OnlySettles, output_in, output_of};
+ghost use Rattle.sync_rules.specs.Growth.{TakesOne};
 ghost use Rattle.sync_rules.specs.Hearing.{Settles};
 ghost use Rattle.sync_rules.specs.Laws.{IsKeptBy};
 ghost use Rattle.sync_rules.specs.Legal.{Allowed, AllSettling, GoesOn, IsDue, IsSettling};
