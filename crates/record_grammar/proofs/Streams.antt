@@ -154,15 +154,17 @@ pub goes_on : (b : List ℕ) (f : Found) → f ≡ found_in b → GoesOn b f
 goes_on b (found.One r used) e = record {
   begins = λ place more decided. (goes_step b (found.One r used) place (item.One place r) more e decided refl).items_of;
   ends = λ place more decided. (goes_step b (found.One r used) place (item.One place r) more e decided refl).ends;
+  unfinished = λ place more. cc;
   refused = λ place more why bad. cc;
 }
 goes_on b (found.Skipped t used) e = record {
   begins = λ place more decided. (goes_step b (found.Skipped t used) place (item.Skipped place t (used - 4)) more e decided refl).items_of;
   ends = λ place more decided. (goes_step b (found.Skipped t used) place (item.Skipped place t (used - 4)) more e decided refl).ends;
+  unfinished = λ place more. cc;
   refused = λ place more why bad. cc;
 }
-goes_on b found.More e = record { begins = λ place more decided. absurd (decided refl); ends = λ place more decided. absurd (decided refl); refused = λ place more why bad. cc }
-goes_on b (found.Bad why) e = record { begins = λ place more decided. refl; ends = λ place more decided. refl; refused = λ place more other bad. (let same : why ≡ other = cc in rw (← same) (refused_stays b why e place more)) }
+goes_on b found.More e = record { begins = λ place more decided. absurd (decided refl); ends = λ place more decided. absurd (decided refl); unfinished = λ place more. (rest_ends place b (rw (← e) refl)).0; refused = λ place more why bad. cc }
+goes_on b (found.Bad why) e = record { begins = λ place more decided. refl; ends = λ place more decided. refl; unfinished = λ place more. cc; refused = λ place more other bad. (let same : why ≡ other = cc in rw (← same) (refused_stays b why e place more)) }
 
 pub GoesOn-IfOk : (b : List ℕ) (r : Result Found AllocError) → IfOk r (λ f. f ≡ found_in b) → IfOk r (λ f. GoesOn b f)
 GoesOn-IfOk b (Ok f) e = goes_on b f e

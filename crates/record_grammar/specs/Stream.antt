@@ -120,5 +120,6 @@ pub record GoesOn (bytes : List ℕ) (f : Found) : Type 0 where
       → items place (bytes ++ more) ≡ told place f ++ items (place_after place f) (drop (used_of f) bytes ++ more)
   pub ends : (place : ℕ) (more : List ℕ) → f ≢ found.More
       → ending place (bytes ++ more) ≡ ending (place_after place f) (drop (used_of f) bytes ++ more)
+  pub unfinished : (place : ℕ) → f ≡ found.More → items place bytes ≡ []
   pub refused : (place : ℕ) (more : List ℕ) (why : Reason) → f ≡ found.Bad why
       → (items place (bytes ++ more) ≡ []) × (ending place (bytes ++ more) ≡ ending_kind.Bad place why)

@@ -1,4 +1,5 @@
-//! What holds of all spellings and of all streams. Each function's clause is the law; none does anything.
+//! What holds of all spellings and of all streams. Each function's clause is the law; none does
+//! anything.
 ghost use Rattle.record_grammar.specs.Laws.{DecisionsStay, EndingsAreOfRests, FrontsHaveFronts};
 ghost use Rattle.record_grammar.specs.Laws.{ItemsAreLongest, NoneBeginsAnother, RecordsJoin};
 ghost use Rattle.record_grammar.specs.Laws.{RestsGiveNothing, SkippedReadBack};
