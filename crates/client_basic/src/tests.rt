@@ -1,11 +1,12 @@
 //! Bodies at each of their borders, and cascades through the bundled clients in every order of
 //! arrival.
 use crate::{Bundle, Feed, Note, Thread};
+use plain_rules::settle_in;
 use std::alloc::Global;
 use std::process::Abort;
 use std::test::Fail;
 use sync_ids::{GroupDef, GroupId, Message, MessageId, group_id};
-use sync_rules::{Batch, Clients, Entry, Fate, Judgement, Level, fate_in, id_of, settle_in};
+use sync_rules::{Batch, Clients, Entry, Fate, Judgement, Level, fate_in, id_of};
 
 /// What a judgement is to be: refused, or so many dependencies and whether it is shared.
 fn told(judgement: &Judgement) -> Option<(usize, bool)> {
