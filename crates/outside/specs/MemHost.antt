@@ -1,6 +1,7 @@
 -- A host in memory: a disk whose list of calls has those on the links too, what each link is still to answer, the
 -- clock's readings, the nonces, and what is to fail.
 use Rattle.std.specs.Prelude.{◌≡◌, ◌≢◌, ◌⊎◌, ℕ, ◌+◌, ◌-◌, ◌/◌, ◌^◌, ◌≤◌, nat_lt, Bool, true, false, if◌then◌else◌, List, [], ◌∷◌, ◌++◌, length, take, drop, replicate, map, Option, None, Some, Result, MatchResult, MatchOption, slice_index, slice_index_or, slice_set}
+use Rattle.outside.specs.declared.limits.TheConstants.{LINKS}
 use Rattle.outside.specs.declared.failed.Failed.{Failed}
 use Rattle.outside.specs.declared.host.Heard.{Heard}
 use Rattle.outside.specs.Faults.{one_more, is_listed}
@@ -83,9 +84,9 @@ links_of disk = links_after [] disk.calls
 abbrev pub fresh_host : MemDiskValue → MemHostValue
 fresh_host disk = record {
   disk = with_call hosted disk;
-  scripts = replicate 8 [];
-  silences = replicate 8 0;
-  faults = replicate 8 0;
+  scripts = replicate LINKS [];
+  silences = replicate LINKS 0;
+  faults = replicate LINKS 0;
   clock = record { given = []; made = 0 };
   nonces = [];
   dials = record { failing = []; made = 0 };
@@ -122,8 +123,8 @@ pub record Crashes (pick : Pick) (old new : MemHostValue) : Type 0 where
 -- what a host keeps of its links
 pub record IsWired (disk : MemDiskValue) (sent : List (List ℕ)) (scripts : List (List Planned)) : Type 0 where
   pub sent_is : sent ≡ map (λ link. link.sent) (links_of disk)
-  pub few : length sent ≤ 8
-  pub scripted : length scripts ≡ 8
+  pub few : length sent ≤ LINKS
+  pub scripted : length scripts ≡ LINKS
 
 -- ---- counts
 

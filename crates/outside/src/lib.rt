@@ -13,6 +13,7 @@ mod failing;
 mod host;
 mod image;
 mod input;
+mod limits;
 mod mem_disk;
 mod mem_host;
 mod mem_sink;
@@ -24,14 +25,16 @@ mod replay;
 mod reply;
 mod script;
 mod stream;
+mod untold;
 
 pub use answer::Answer;
 pub use call::Call;
-pub use counts::{LINKS, raise_at};
+pub use counts::raise_at;
 pub use disk::{Disk, Place};
 pub use failed::Failed;
 pub use host::{Heard, Host};
 pub use input::{InputFault, read_input};
+pub use limits::{LINKS, MAX_FRAME, MAX_JOURNAL};
 pub use mem_disk::MemDisk;
 pub use mem_host::MemHost;
 pub use mem_sink::MemSink;
@@ -41,6 +44,7 @@ pub use pick::Pick;
 pub use random::MemRandom;
 pub use reply::Reply;
 pub use stream::{Sink, Source};
+pub use untold::Untold;
 
 #[cfg(test)]
 mod disk_tests;

@@ -20,10 +20,10 @@ ghost use Rattle.outside.specs.MemHost.{reading_set, upcoming_of, OnDisk, MakesD
 ghost use Rattle.outside.specs.MemHost.{MakesAnswer, MakesSend, MakesReading, Raises};
 
 use crate::clock::Clock;
-use crate::counts::{LINKS, raise_at};
+use crate::counts::raise_at;
 use crate::failing::Failing;
 use crate::script::Script;
-use crate::{Answer, Disk, Failed, Heard, Host, MemDisk, Pick, Reply};
+use crate::{Answer, Disk, Failed, Heard, Host, LINKS, MemDisk, Pick, Reply};
 use std::alloc::{AllocError, Global};
 use std::collections::VecDeque;
 use std::marker::Model;
@@ -154,7 +154,7 @@ impl MemHost {
 
     /// Adds an answer to the script of a link, made or not. Empty bytes are left out.
     pub fn script(&mut self, link: u8, answer: Answer) -> Result<(), AllocError>
-        requires { link < 8 }
+        requires { link < LINKS }
         ensures ok { OnOk result
             (self.new ≡ record self.old {
               scripts = with_script link
@@ -254,7 +254,7 @@ impl MemHost {
 
 // Eight scripts that are used up.
 fn no_scripts(alloc: Global) -> Result<Vec<Script>, AllocError>
-    ensures { IfOk result (λ v. v.items ≡ replicate 8 []) }
+    ensures { IfOk result (λ v. v.items ≡ replicate LINKS []) }
 {
     let mut scripts = Vec::new(alloc);
     for i in 0..LINKS {
@@ -266,7 +266,7 @@ fn no_scripts(alloc: Global) -> Result<Vec<Script>, AllocError>
 // The calls on its links and its clock.
 impl MemHost {
     fn make_dial(&mut self, spec: &str) -> Result<u8, Failed>
-        requires { length (links_of self.old.disk) < 8 }
+        requires { length (links_of self.old.disk) < LINKS }
         ensures { MakesDial spec.now result self.old self.new }
     {
         let link = self.sent.len();
@@ -348,7 +348,7 @@ impl MemHost {
 
     // A call on a link that heard nothing for want of memory.
     fn hear_none(&mut self, link: usize) -> Heard
-        requires { link < 8 }
+        requires { link < LINKS }
         ensures failed { result ≡ Heard.Failed }
         ensures rest { self.new ≡ record self.old {
           silences = self.new.silences;
@@ -505,7 +505,7 @@ impl Host for MemHost {
     ghost use Rattle.outside.specs.HostTold.{host_told};
 
     fn dial(&mut self, spec: &str) -> Result<u8, Failed>
-        requires { length (links_of self.old.disk) < 8 }
+        requires { length (links_of self.old.disk) < LINKS }
         ensures call { QuietCall (host_told self.old) (host_told self.new) }
         ensures links { Dials spec.now result (host_told self.old).links
             (host_told self.new).links }
