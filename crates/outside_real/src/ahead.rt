@@ -44,16 +44,30 @@ impl Ahead {
         n
     }
 
-    /// Reads so many bytes ahead from a reader that stands at place `at`, and says how many there
-    /// were. After an error nothing is read ahead.
-    pub fn fill<F: Read>(&mut self, from: &mut F, at: u64, size: usize) -> io::Result<usize> {
+    /// Forgets the bytes before place `at`, or all where none was read ahead from there on; says the
+    /// place of the next byte to be read ahead.
+    pub fn begin_at(&mut self, at: u64) -> u64 {
+        let had = self.bytes.len();
+        let kept = if at < self.at || at - self.at >= had as u64 {
+            0
+        } else {
+            had - (at - self.at) as usize
+        };
+        self.bytes.as_mut_slice().copy_within(had - kept.., 0);
+        self.bytes.truncate(kept);
         self.at = at;
-        self.bytes.clear();
-        self.bytes.resize(size, 0)?;
-        match read_full(from, self.bytes.as_mut_slice()) {
+        at.saturating_add(kept as u64)
+    }
+
+    /// Reads ahead behind those that are kept, until there are `size` of them or nothing is left,
+    /// and says the place behind them. After an error nothing is read ahead.
+    pub fn fill<F: Read>(&mut self, from: &mut F, size: usize) -> io::Result<u64> {
+        let had = self.bytes.len();
+        self.bytes.resize(size.max(had), 0)?;
+        match read_full(from, &mut self.bytes.as_mut_slice()[had..]) {
             Ok(n) => {
-                self.bytes.truncate(n);
-                Ok(n)
+                self.bytes.truncate(had + n);
+                Ok(self.at.saturating_add((had + n) as u64))
             }
             Err(e) => {
                 self.bytes.clear();

@@ -231,14 +231,14 @@ impl<R: Files> RealFile<R> {
     }
 
     fn read_ahead(&mut self, at: u64, size: usize) -> io::Result<()> {
+        let next = self.ahead.begin_at(at);
         if let Some(file) = &mut self.file {
-            if self.position != Some(at) {
+            if self.position != Some(next) {
                 self.position = None;
-                file.seek(SeekFrom::Start(at))?;
+                file.seek(SeekFrom::Start(next))?;
             }
             self.position = None;
-            let n = self.ahead.fill(file, at, size)?;
-            self.position = Some(at.saturating_add(n as u64));
+            self.position = Some(self.ahead.fill(file, size)?);
         }
         Ok(())
     }
