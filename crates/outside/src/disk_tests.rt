@@ -19,10 +19,10 @@ fn make(rt: &impl Abort, disk: &mut MemDisk, op: &Op, fails: bool) -> Result<(),
     let answer = match op {
         Op::Write(at, bytes) => {
             assert!(rt; *at <= disk.file(0).len() as u64);
-            disk.make_write(0, *at, bytes)
+            disk.write_at(0, *at, bytes)
         }
-        Op::Cut(len) => disk.make_cut(0, *len),
-        Op::Sync => disk.make_sync(0),
+        Op::Cut(len) => disk.cut(0, *len),
+        Op::Sync => disk.sync(0),
     };
     assert_eq!(rt; answer.is_err(), fails);
     Ok(())
@@ -126,5 +126,21 @@ fn by_the_trait(rt: HostRuntime) -> Result<(), Fail> {
         let expected = if failing < 5 { Err(Failed) } else { Ok(0) };
         assert_eq!(rt; use_disk(&mut disk), expected);
     }
+    Ok(())
+}
+
+#[test]
+fn stops(rt: HostRuntime) -> Result<(), Fail> {
+    let mut disk = disk_with(rt.alloc(), b"abc")?;
+    disk.stop_at(1);
+    assert_eq!(rt; disk.write_at(0, 0, b"XY"), Ok(()));
+    assert_eq!(rt; disk.write_at(0, 0, b"Z"), Err(Failed));
+    let mut buf = [9u8; 4];
+    assert_eq!(rt; disk.read_at(0, 0, &mut buf), Err(Failed));
+    assert_eq!(rt; (disk.len(0), disk.sync(0)), (Err(Failed), Err(Failed)));
+    compare(&rt, &disk, [b"XYc", b"abc", b"XYc", b"\0\0c", b"\x01\x01c"])?;
+    assert_eq!(rt; disk.calls(), 5);
+    disk.fail_none();
+    assert_eq!(rt; (disk.sync(0), disk.len(0)), (Ok(()), Ok(3)));
     Ok(())
 }
