@@ -12,6 +12,7 @@ use crate::plain::fate_in;
 use crate::states::{News, States, Waiting};
 use crate::waiters::{answered, tell};
 use std::alloc::{AllocError, Global};
+use std::hash::RandomState;
 use std::marker::Model;
 
 /// Held messages by number, and the next step among them, found in time logarithmic in their count.
@@ -39,14 +40,15 @@ impl Model for Graph {
 }
 
 impl Graph {
-    /// A graph with no nodes and no room. Answers an error where there is no memory.
-    pub fn new(alloc: Global) -> Result<Graph, AllocError>
+    /// A graph with no nodes and no room, whose names are hashed by `hasher`. Answers an error
+    /// where there is no memory.
+    pub fn new(alloc: Global, hasher: RandomState) -> Result<Graph, AllocError>
         ensures { IfOk result (λ g. g ≡ record { nodes = []; spare = 0 }) }
     {
         let states = States::new(alloc)?;
         Ok(Graph {
             nodes: Vec::new(alloc),
-            index: Index::new(alloc),
+            index: Index::new(alloc, hasher),
             states,
             spare: 0,
         })

@@ -6,7 +6,7 @@ ghost use Rattle.message_graph.specs.Links.{place_of, holder_of, edge_at, last_b
 
 use indexmap::IndexSet;
 use std::alloc::{AllocError, Global};
-use std::hash::{Hash, Hasher};
+use std::hash::{Hash, Hasher, RandomState};
 use std::marker::Model;
 
 /// A name as the table of names keeps it. Contracts see the list of its bytes.
@@ -60,7 +60,7 @@ pub(crate) struct Edge {
 /// Names, also those that no node holds yet, with their holders and waiters.
 #[derive(Drop)]
 pub(crate) struct Index {
-    names: IndexSet<Key>,
+    names: IndexSet<Key, RandomState>,
     slots: Vec<Slot>,
     edges: Vec<Edge>,
 }
@@ -84,13 +84,13 @@ impl Model for Index {
 }
 
 impl Index {
-    /// No names.
-    pub(crate) fn new(alloc: Global) -> Index
+    /// No names; they are hashed by `hasher`.
+    pub(crate) fn new(alloc: Global, hasher: RandomState) -> Index
         ensures names { result.names ≡ [] }
         ensures edges { result.edges ≡ [] }
     {
         Index {
-            names: IndexSet::new(alloc),
+            names: IndexSet::with_hasher(alloc, hasher),
             slots: Vec::new(alloc),
             edges: Vec::new(alloc),
         }
