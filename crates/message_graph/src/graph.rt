@@ -61,7 +61,7 @@ impl Graph {
         ensures err { OnErr result (self.new ≡ self.old) }
     {
         self.nodes.reserve(nodes)?;
-        self.index.reserve(nodes, 0)?;
+        self.index.reserve_nodes(nodes)?;
         self.states.reserve(nodes)?;
         self.spare = self.spare.max(nodes);
         Ok(())
@@ -87,14 +87,14 @@ impl Graph {
             ending: None,
         };
         self.nodes.push(node).unwrap();
-        self.index.hold(name, number);
+        let last = self.index.hold(name, number);
         self.states.push();
         self.spare -= 1;
         tell(
             &mut self.states,
             &self.index,
             &self.nodes,
-            &name,
+            last,
             News::Arrived(group),
         );
         number
@@ -182,9 +182,9 @@ impl Graph {
     {
         let number = n as usize;
         let node = &mut self.nodes[number];
-        let name = node.name;
         node.ending = Some(ending);
         self.states.set(number, Waiting::Ended);
-        tell(&mut self.states, &self.index, &self.nodes, &name, news);
+        let last = self.index.last(n);
+        tell(&mut self.states, &self.index, &self.nodes, last, news);
     }
 }
