@@ -83,7 +83,10 @@ impl Wanted {
     pub(crate) fn unwant(&mut self, id: &MessageId)
         ensures { self.new ≡ record self.old { ids = without id.now self.old.ids } }
     {
-        self.ids.shift_remove(id);
+        // Where nothing is wanted the id is not even hashed: each message that comes is taken out.
+        if !self.ids.is_empty() {
+            self.ids.shift_remove(id);
+        }
     }
 
     /// Whether an id is wanted.
