@@ -14,13 +14,11 @@ ghost use Rattle.sync_rules.specs.Steps.{IsSettled, kind_of_def, next};
 
 use crate::answers::Clients;
 use crate::entries::{Batch, Entry, Level, Mode, Session};
+use crate::limits::MAX_STEPS;
 use crate::scans::{group_in, held_in, id_of, level_in};
 use crate::steps::next_step_in;
 use std::alloc::{AllocError, Global};
 use sync_ids::{GroupDef, GroupId, Message, group_id};
-
-/// The greatest number of entries in a settling batch.
-pub const MAX_STEPS: usize = 256;
 
 // ---- settling
 
@@ -62,7 +60,7 @@ fn push_to_last(j: &mut Vec<Batch>, entry: Entry) -> Result<(), AllocError>
 }
 
 // A settling batch at the end of the journal that begins with this step and goes on while a step is
-// left, to 256 entries. It fails only for want of memory, and then the steps made before stand.
+// left, to MAX_STEPS entries. It fails only for want of memory, and then the steps made before stand.
 fn settle_batch<C: Clients>(
     alloc: Global,
     j: &mut Vec<Batch>,
@@ -71,7 +69,7 @@ fn settle_batch<C: Clients>(
 ) -> Result<(), AllocError>
     requires { next (C.meaning clients.now) (facts j.old.items) ≡ Some first }
     ensures settles { Settles (C.meaning clients.now) j.old.items j.new.items }
-    ensures added { OnOk result (AddsSettling (C.meaning clients.now) 256 j.old.items j.new.items) }
+    ensures added { OnOk result (AddsSettling (C.meaning clients.now) MAX_STEPS j.old.items j.new.items) }
 {
     push_one(alloc, j, first)?;
     for count in 1..MAX_STEPS {
@@ -84,7 +82,7 @@ fn settle_batch<C: Clients>(
 }
 
 /// Settles a list of batches: it is extended by settling batches until it has no next step. Each
-/// batch is filled to 256 entries while a step is left. It fails only for want of memory, and then
+/// batch is filled to MAX_STEPS entries while a step is left. It fails only for want of memory, and then
 /// the steps made before stand.
 pub fn settle_in<C: Clients>(
     alloc: Global,

@@ -10,15 +10,16 @@ use Rattle.sync_rules.specs.declared.entries.Entry.{Entry}
 use Rattle.sync_rules.specs.declared.entries.Entry.TheVariants as entry
 use Rattle.sync_rules.specs.declared.entries.Out.{Out}
 use Rattle.sync_rules.specs.declared.entries.Session.{Session}
+use Rattle.sync_rules.specs.declared.limits.TheConstants.{MAX_CONTACTS, MAX_GROUPS, MAX_STEPS}
 use Rattle.sync_rules.specs.Clients.{Meaning}
 use Rattle.sync_rules.specs.Facts.{Facts, group_at, held_at, session_at, takes_of, after}
 use Rattle.sync_rules.specs.Steps.{IsSettled, next, kind_of_def, verdict_in}
 use Rattle.sync_rules.specs.Sessions.{due}
 use Rattle.sync_rules.specs.Legal.{Allowed, IsDue, IsSettling, IsSettlingBatch, MayAddGroup, MayAuthor, MayBegin, MayTake, accepts_served, suits_nonce}
 use Rattle.sync_rules.proofs.StepLaws.{IsSettlingEntry, next_is_settling}
-use Rattle.entry_codec.specs.Allows.{allows, alone, gives, is_due, is_empty, is_settled, is_settling, is_some_of, may_add_group, may_author, may_begin, may_take, read_as, same_entry, settles}
-use Rattle.entry_codec.proofs.SameEntries.{both_decide, same_entry-is, some_out-Decides}
-use Rattle.entry_codec.proofs.TakenBack.{gives_some, some_gives}
+use Rattle.sync_rules.specs.Allows.{allows, alone, gives, is_due, is_empty, is_settled, is_settling, is_some_of, may_add_group, may_author, may_begin, may_take, read_as, same_entry, settles}
+use Rattle.sync_rules.proofs.SameEntries.{both_decide, same_entry-is, some_out-Decides}
+use Rattle.sync_rules.proofs.TakenBack.{WholeIds, gives_some, some_gives}
 use Rattle.sync_rules.proofs.Elements.{same_id_itself}
 
 itself : (b : Bool) → Decides b (b ≡ true)
@@ -57,13 +58,13 @@ alone_two clients f rest a b p q =
 
 add_group_decides : (clients : Meaning) (f : Facts) (def : GroupValue) → Decides (may_add_group clients f def) (MayAddGroup clients f def)
 add_group_decides clients f def =
-    let all = both_decide (is_some (kind_of_def clients def)) (is_none (group_at f.groups (group_id_of def)) && nat_lt (length f.groups) 1024) (itself (is_some (kind_of_def clients def)))
-    (both_decide (is_none (group_at f.groups (group_id_of def))) (nat_lt (length f.groups) 1024) (none_decides (group_at f.groups (group_id_of def))) (Decides-ltb (length f.groups) 1024)) in
+    let all = both_decide (is_some (kind_of_def clients def)) (is_none (group_at f.groups (group_id_of def)) && nat_lt (length f.groups) MAX_GROUPS) (itself (is_some (kind_of_def clients def)))
+    (both_decide (is_none (group_at f.groups (group_id_of def))) (nat_lt (length f.groups) MAX_GROUPS) (none_decides (group_at f.groups (group_id_of def))) (Decides-ltb (length f.groups) MAX_GROUPS)) in
     (λ h. let t = all.0 h in record { known_client = t.0; new = t.1.0; few = t.1.1 }, λ h. all.1 (h.known_client, (h.new, h.few)))
 
 begin_decides : (f : Facts) (s : Session) → Decides (may_begin f s) (MayBegin f s)
 begin_decides f s =
-    let all = both_decide (nat_eq s.number (length f.sessions)) (nat_lt s.contact f.contacts && (nat_le 1 s.latency && suits_nonce s.mode s.nonce)) (Decides-eqb s.number (length f.sessions))
+    let all = both_decide (nat_eq s.number f.begun) (nat_lt s.contact f.contacts && (nat_le 1 s.latency && suits_nonce s.mode s.nonce)) (Decides-eqb s.number f.begun)
     (both_decide (nat_lt s.contact f.contacts) (nat_le 1 s.latency && suits_nonce s.mode s.nonce) (Decides-ltb s.contact f.contacts)
     (both_decide (nat_le 1 s.latency) (suits_nonce s.mode s.nonce) (le_decides 1 s.latency) (itself (suits_nonce s.mode s.nonce)))) in (
       λ h. let t = all.0 h in record { numbered = t.0; known_contact = t.1.0; some_latency = t.1.1.0; suited_nonce = t.1.1.1 },
@@ -83,8 +84,8 @@ due_decides clients f (Some s) now what = some_out-Decides (due clients f s now)
 
 -- ---- a record
 
-take_decides : (f : Facts) (s k : ℕ) (rest : List Entry) → Decides (may_take f s k rest) (MayTake f s k rest)
-take_decides f s k rest = (there, back) where
+take_decides : WholeIds → (f : Facts) (s k : ℕ) (rest : List Entry) → Decides (may_take f s k rest) (MayTake f s k rest)
+take_decides all f s k rest = (there, back) where
   there : may_take f s k rest ≡ true → MayTake f s k rest
   there h =
       let a = and_parts (is_some (session_at f.sessions s)) (nat_eq k (takes_of f.takes s) && gives f s rest (read_as rest)) h in
@@ -96,7 +97,7 @@ take_decides f s k rest = (there, back) where
   back h =
       and_from (is_some (session_at f.sessions s)) (nat_eq k (takes_of f.takes s) && gives f s rest (read_as rest)) h.known_session
       (and_from (nat_eq k (takes_of f.takes s)) (gives f s rest (read_as rest)) (eq-eqb k (takes_of f.takes s) h.numbered)
-      (some_gives f s rest h.read h.within h.taken_so))
+      (some_gives all f s rest h.read h.within h.taken_so))
 
 -- ---- settling
 
@@ -122,7 +123,7 @@ settles_decides clients f (e ∷ es) =
 
 settling_decides : (clients : Meaning) (f : Facts) (e : Entry) (es : List Entry) → Decides (is_settling clients f (e ∷ es)) (IsSettlingBatch clients f (e ∷ es))
 settling_decides clients f e es =
-    let all = both_decide (nat_le (length (e ∷ es)) 256) (settles clients f (e ∷ es)) (le_decides (length (e ∷ es)) 256) (settles_decides clients f (e ∷ es)) in
+    let all = both_decide (nat_le (length (e ∷ es)) MAX_STEPS) (settles clients f (e ∷ es)) (le_decides (length (e ∷ es)) MAX_STEPS) (settles_decides clients f (e ∷ es)) in
     (λ h. let t = all.0 h in (omega arith, t.0, t.1), λ h. all.1 (h.1, h.2))
 
 -- ---- batches
@@ -130,22 +131,22 @@ settling_decides clients f e es =
 never : Decides false ⊥
 never = (λ h. false≢true h, λ h. absurd h)
 
-pub allows_decides : (clients : Meaning) (f : Facts) (b : List Entry) → Decides (allows clients f b) (Allowed clients f b)
-allows_decides clients f [] = never
-allows_decides clients f (entry.Contact c ∷ rest) = alone_two clients f rest (nat_eq c f.contacts) (nat_lt c 256) (Decides-eqb c f.contacts) (Decides-ltb c 256)
-allows_decides clients f (entry.Group def ∷ rest) = alone_decides clients f rest (may_add_group clients f def) (add_group_decides clients f def)
-allows_decides clients f (entry.Level c g l ∷ rest) =
+pub allows_decides : WholeIds → (clients : Meaning) (f : Facts) (b : List Entry) → Decides (allows clients f b) (Allowed clients f b)
+allows_decides all clients f [] = never
+allows_decides all clients f (entry.Contact c ∷ rest) = alone_two clients f rest (nat_eq c f.contacts) (nat_lt c MAX_CONTACTS) (Decides-eqb c f.contacts) (Decides-ltb c MAX_CONTACTS)
+allows_decides all clients f (entry.Group def ∷ rest) = alone_decides clients f rest (may_add_group clients f def) (add_group_decides clients f def)
+allows_decides all clients f (entry.Level c g l ∷ rest) =
     alone_two clients f rest (nat_lt c f.contacts) (is_some (group_at f.groups g)) (Decides-ltb c f.contacts) (itself (is_some (group_at f.groups g)))
-allows_decides clients f (entry.Session s ∷ rest) = alone_decides clients f rest (may_begin f s) (begin_decides f s)
-allows_decides clients f (entry.Take s k ∷ rest) = both_decide (is_settled clients f) (may_take f s k rest) (settled_decides clients f) (take_decides f s k rest)
-allows_decides clients f (entry.Author m ∷ rest) = alone_decides clients f rest (may_author clients f m) (author_decides clients f m)
-allows_decides clients f (entry.Arrive s m ∷ rest) = never
-allows_decides clients f (entry.Judged id ∷ rest) = settling_decides clients f (entry.Judged id) rest
-allows_decides clients f (entry.Deliver id ∷ rest) = settling_decides clients f (entry.Deliver id) rest
-allows_decides clients f (entry.Invalid id ∷ rest) = settling_decides clients f (entry.Invalid id) rest
-allows_decides clients f (entry.Again s id ∷ rest) = never
-allows_decides clients f (entry.Offered s id ∷ rest) = never
-allows_decides clients f (entry.Seen s id ∷ rest) = never
-allows_decides clients f (entry.Asked s id ∷ rest) = never
-allows_decides clients f (entry.Out s now what ∷ rest) =
+allows_decides all clients f (entry.Session s ∷ rest) = alone_decides clients f rest (may_begin f s) (begin_decides f s)
+allows_decides all clients f (entry.Take s k ∷ rest) = both_decide (is_settled clients f) (may_take f s k rest) (settled_decides clients f) (take_decides all f s k rest)
+allows_decides all clients f (entry.Author m ∷ rest) = alone_decides clients f rest (may_author clients f m) (author_decides clients f m)
+allows_decides all clients f (entry.Arrive s m ∷ rest) = never
+allows_decides all clients f (entry.Judged id ∷ rest) = settling_decides clients f (entry.Judged id) rest
+allows_decides all clients f (entry.Deliver id ∷ rest) = settling_decides clients f (entry.Deliver id) rest
+allows_decides all clients f (entry.Invalid id ∷ rest) = settling_decides clients f (entry.Invalid id) rest
+allows_decides all clients f (entry.Again s id ∷ rest) = never
+allows_decides all clients f (entry.Offered s id ∷ rest) = never
+allows_decides all clients f (entry.Seen s id ∷ rest) = never
+allows_decides all clients f (entry.Asked s id ∷ rest) = never
+allows_decides all clients f (entry.Out s now what ∷ rest) =
     alone_decides clients f rest (is_due clients f (session_at f.sessions s) now what) (due_decides clients f (session_at f.sessions s) now what)

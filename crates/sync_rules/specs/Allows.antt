@@ -1,10 +1,12 @@
 -- Whether a batch may follow a journal, as a test: what `Allowed` says of the facts of the journal, by cases on the
 -- first entry.
-use Rattle.std.specs.Prelude.{ℕ, ◌^◌, Bool, true, false, ◌&&◌, nat_eq, nat_lt, nat_le, List, [], ◌∷◌, length, Option, Some, None, is_some, is_none}
-use Rattle.std.specs.List.{filter_map}
+use Rattle.std.specs.Prelude.{◌≡◌, ℕ, ◌^◌, Bool, true, false, ◌&&◌, nat_eq, nat_lt, nat_le, List, [], ◌∷◌, length, Option, Some, None, is_some, is_none}
+use Rattle.std.specs.List.{filter_map, list_all}
 use Rattle.std.specs.Cmp.Lexicographic.{pointwise}
 use Rattle.sync_ids.specs.Values.{GroupValue, MessageValue}
 use Rattle.sync_ids.specs.Ids.{group_id_of, message_id_of}
+use Rattle.sync_ids.specs.declared.lists.TheConstants.{MAX_IDS, MAX_VERSIONS}
+use Rattle.sync_ids.specs.declared.message.TheConstants.{MAX_BODY, MAX_TIMESTAMP}
 use Rattle.sync_ids.specs.declared.records.Record.{Record}
 use Rattle.sync_ids.specs.declared.records.Record.TheVariants as record_kind
 use Rattle.sync_rules.specs.declared.entries.Entry.{Entry}
@@ -12,12 +14,13 @@ use Rattle.sync_rules.specs.declared.entries.Entry.TheVariants as entry
 use Rattle.sync_rules.specs.declared.entries.Out.{Out}
 use Rattle.sync_rules.specs.declared.entries.Out.TheVariants as out
 use Rattle.sync_rules.specs.declared.entries.Session.{Session}
+use Rattle.sync_rules.specs.declared.limits.TheConstants.{MAX_CONTACTS, MAX_GROUPS, MAX_STEPS}
 use Rattle.sync_rules.specs.Clients.{Meaning}
 use Rattle.sync_rules.specs.Lists.{same_id}
 use Rattle.sync_rules.specs.Facts.{Facts, Id, group_at, held_at, session_at, takes_of, after}
 use Rattle.sync_rules.specs.Steps.{next, verdict_in, kind_of_def}
 use Rattle.sync_rules.specs.Sessions.{taken, due}
-use Rattle.sync_rules.specs.Legal.{suits_nonce, accepts_served}
+use Rattle.sync_rules.specs.Legal.{Allowed, suits_nonce, accepts_served}
 
 -- ---- equal values
 
@@ -116,12 +119,12 @@ is_settled clients f = is_none (next clients f)
 -- a group may be added
 abbrev pub may_add_group : Meaning → Facts → GroupValue → Bool
 may_add_group clients f def =
-    is_some (kind_of_def clients def) && (is_none (group_at f.groups (group_id_of def)) && nat_lt (length f.groups) 1024)
+    is_some (kind_of_def clients def) && (is_none (group_at f.groups (group_id_of def)) && nat_lt (length f.groups) MAX_GROUPS)
 
 -- a session may begin
 abbrev pub may_begin : Facts → Session → Bool
 may_begin f s =
-    nat_eq s.number (length f.sessions)
+    nat_eq s.number f.begun
     && (nat_lt s.contact f.contacts && (nat_le 1 s.latency && suits_nonce s.mode s.nonce))
 
 -- a message may be written
@@ -137,23 +140,31 @@ is_due clients f (Some s) now what = is_some_of same_out (due clients f s now) w
 
 -- ---- what a record is taken as
 
--- a list of ids or of version bytes has one at least and no more than this
+-- a list has one element at least and no more than this
 abbrev pub is_within : {A : Type 0} → ℕ → List A → Bool
 is_within most xs = nat_le 1 (length xs) && nat_le (length xs) most
+
+-- an id has 32 bytes
+abbrev pub is_whole : Id → Bool
+is_whole id = nat_eq (length id) 32
+
+-- a list of ids within its limits
+abbrev pub is_id_list : List Id → Bool
+is_id_list ids = is_within MAX_IDS ids && list_all is_whole ids
 
 -- a message within its limits
 abbrev pub is_message : MessageValue → Bool
 is_message m =
     nat_eq (length m.group) 32
-    && (nat_lt m.timestamp (2 ^ 63) && (nat_le 1 (length m.body) && nat_le (length m.body) 32768))
+    && (nat_le m.timestamp MAX_TIMESTAMP && (nat_le 1 (length m.body) && nat_le (length m.body) MAX_BODY))
 
 -- a record within its limits
 abbrev pub is_record : Record → Bool
-is_record (record_kind.Ack ids) = is_within 1536 ids
+is_record (record_kind.Ack ids) = is_id_list ids
 is_record (record_kind.Message m) = is_message m
-is_record (record_kind.Offer ids) = is_within 1536 ids
-is_record (record_kind.Request ids) = is_within 1536 ids
-is_record (record_kind.Versions versions) = is_within 10 versions
+is_record (record_kind.Offer ids) = is_id_list ids
+is_record (record_kind.Request ids) = is_id_list ids
+is_record (record_kind.Versions versions) = is_within MAX_VERSIONS versions
 is_record (record_kind.Priority nonce) = nat_eq (length nonce) 16
 
 -- the id that an entry of a heard list names
@@ -209,14 +220,14 @@ is_empty (e ∷ es) = false
 abbrev pub alone : Meaning → Facts → List Entry → Bool
 alone clients f rest = is_empty rest && is_settled clients f
 
--- at most 256 entries, each the next step
+-- at most MAX_STEPS entries, each the next step
 abbrev pub is_settling : Meaning → Facts → List Entry → Bool
-is_settling clients f es = nat_le (length es) 256 && settles clients f es
+is_settling clients f es = nat_le (length es) MAX_STEPS && settles clients f es
 
 -- whether a batch may follow a journal of these facts
 abbrev pub allows : Meaning → Facts → List Entry → Bool
 allows clients f [] = false
-allows clients f (entry.Contact c ∷ rest) = alone clients f rest && (nat_eq c f.contacts && nat_lt c 256)
+allows clients f (entry.Contact c ∷ rest) = alone clients f rest && (nat_eq c f.contacts && nat_lt c MAX_CONTACTS)
 allows clients f (entry.Group def ∷ rest) = alone clients f rest && may_add_group clients f def
 allows clients f (entry.Level c g l ∷ rest) =
     alone clients f rest && (nat_lt c f.contacts && is_some (group_at f.groups g))
@@ -236,3 +247,8 @@ is_settling_kind (entry.Judged id ∷ rest) = true
 is_settling_kind (entry.Deliver id ∷ rest) = true
 is_settling_kind (entry.Invalid id ∷ rest) = true
 is_settling_kind _ = false
+
+-- the test of a batch says yes exactly where the batch may follow a journal of these facts
+abbrev pub AllowsIsAllowed : Type 0
+AllowsIsAllowed = (clients : Meaning) (f : Facts) (b : List Entry)
+    → (allows clients f b ≡ true → Allowed clients f b) × (Allowed clients f b → allows clients f b ≡ true)

@@ -1,14 +1,14 @@
 //! Whether two entries, or two outputs, are the same.
 ghost use Rattle.std.specs.Prelude.{◌≡◌, true, IfOk};
 ghost use Rattle.std.specs.Cmp.Lexicographic.{pointwise};
-ghost use Rattle.entry_codec.specs.Allows.{id_named, ids_named, is_acks, is_again, is_arrive};
-ghost use Rattle.entry_codec.specs.Allows.{is_asked, is_deliver, is_invalid, is_judged, is_offered};
-ghost use Rattle.entry_codec.specs.Allows.{is_offers, is_requests, is_seen, is_send, same_entry};
-ghost use Rattle.entry_codec.specs.Allows.{same_message, same_out, same_pair};
+ghost use Rattle.sync_rules.specs.Allows.{id_named, ids_named, is_acks, is_again, is_arrive};
+ghost use Rattle.sync_rules.specs.Allows.{is_asked, is_deliver, is_invalid, is_judged, is_offered};
+ghost use Rattle.sync_rules.specs.Allows.{is_offers, is_requests, is_seen, is_send, same_entry};
+ghost use Rattle.sync_rules.specs.Allows.{same_message, same_out, same_pair};
 
+use crate::entries::{Entry, Out};
 use std::alloc::{AllocError, Global};
 use sync_ids::{Message, MessageId};
-use sync_rules::{Entry, Out};
 
 // ---- parts
 
