@@ -8,7 +8,6 @@ pub mod Sessions
 pub mod Legal
 pub mod Left
 pub mod Allows
-pub mod Meets
 pub mod EntryTests
 pub mod Laws
 pub mod CountLaws
