@@ -4,7 +4,7 @@
 # `ratio frames VALUE`; 1 is linear.
 set -eu
 cd "$(dirname "$0")/.."
-(cd crates/frames_growth && rt run >/dev/null)
+(cd crates/bench_frames && rt run >/dev/null)
 exec python3 - "${RUNS:-9}" <<'PY'
 import resource, subprocess, sys
 
@@ -13,7 +13,7 @@ runs = int(sys.argv[1])
 
 def timed(count):
     before = resource.getrusage(resource.RUSAGE_CHILDREN)
-    subprocess.run(["crates/frames_growth/out/frames_growth", str(count)], stdout=subprocess.DEVNULL, check=True)
+    subprocess.run(["crates/bench_frames/out/bench_frames", str(count)], stdout=subprocess.DEVNULL, check=True)
     after = resource.getrusage(resource.RUSAGE_CHILDREN)
     return (after.ru_utime - before.ru_utime) + (after.ru_stime - before.ru_stime)
 

@@ -5,7 +5,7 @@
 # of the two grows.
 set -eu
 cd "$(dirname "$0")/.."
-(cd crates/graph_growth && rt run -- chain 10 >/dev/null)
+(cd crates/bench_graph && rt run -- chain 10 >/dev/null)
 exec python3 - "${RUNS:-5}" <<'PY'
 import math, os, resource, subprocess, sys
 
@@ -14,7 +14,7 @@ few, many = 50_000, 200_000
 
 
 def run(shape, count):
-    child = subprocess.Popen(["crates/graph_growth/out/graph_growth", shape, str(count)], stdout=subprocess.PIPE)
+    child = subprocess.Popen(["crates/bench_graph/out/bench_graph", shape, str(count)], stdout=subprocess.PIPE)
     text = child.stdout.read().decode()
     _, status, usage = os.wait4(child.pid, 0)
     child.returncode = status

@@ -1,9 +1,9 @@
 #!/bin/sh
-# The digest's speed: hash_sum against `b2sum -l 256` on the same 256 MiB in memory, in turns.
+# The digest's speed: bench_hash against `b2sum -l 256` on the same 256 MiB in memory, in turns.
 # Prints each one's least time of RUNS (7) runs; the last line is `ratio hash VALUE`.
 set -eu
 cd "$(dirname "$0")/.."
-(cd crates/hash_sum && rt run >/dev/null)
+(cd crates/bench_hash && rt run >/dev/null)
 exec python3 - "${RUNS:-7}" <<'PY'
 import os, resource, subprocess, sys, tempfile
 
@@ -28,14 +28,14 @@ with tempfile.NamedTemporaryFile(dir=shm) as data:
     data.flush()
     ours, theirs = [], []
     for _ in range(runs):
-        spent, digest = timed(["crates/hash_sum/out/hash_sum"], data.name)
+        spent, digest = timed(["crates/bench_hash/out/bench_hash"], data.name)
         ours.append(spent)
         spent, wanted = timed(["b2sum", "-l", "256"], data.name)
         theirs.append(spent)
         if digest != wanted:
             sys.exit(f"the digests differ: {digest} and {wanted}")
     print(f"{SIZE} bytes, least processor time of {runs} runs in turns")
-    print(f"hash_sum {min(ours):.3f} s")
+    print(f"bench_hash {min(ours):.3f} s")
     print(f"b2sum    {min(theirs):.3f} s")
     print(f"ratio hash {min(ours) / min(theirs):.3f}")
 PY

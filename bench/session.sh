@@ -5,7 +5,7 @@
 # number the worse of the two steps grows.
 set -eu
 cd "$(dirname "$0")/.."
-(cd crates/session_growth && rt run -- take 10 1 >/dev/null)
+(cd crates/bench_session && rt run -- take 10 1 >/dev/null)
 exec python3 - "${RUNS:-5}" <<'PY'
 import math, os, subprocess, sys
 
@@ -16,7 +16,7 @@ last = {"take": 1_001, "due": 1_536}
 
 
 def run(step, count, times):
-    child = subprocess.Popen(["crates/session_growth/out/session_growth", step, str(count), str(times)], stdout=subprocess.PIPE)
+    child = subprocess.Popen(["crates/bench_session/out/bench_session", step, str(count), str(times)], stdout=subprocess.PIPE)
     text = child.stdout.read().decode()
     _, status, usage = os.wait4(child.pid, 0)
     child.returncode = status

@@ -5,12 +5,12 @@
 # with no contact, and once more with CONTACTS (1). The last lines are `ratio NAME VALUE`.
 set -eu
 cd "$(dirname "$0")/.."
-(cd crates/store_growth && rt run -- load 50 200 1 >/dev/null)
+(cd crates/bench_store && rt run -- load 50 200 1 >/dev/null)
 exec python3 - "${RUNS:-5}" "${CONTACTS:-1}" <<'PY'
 import hashlib, os, struct, subprocess, sys, tempfile
 
 runs, some = int(sys.argv[1]), int(sys.argv[2])
-program = "crates/store_growth/out/store_growth"
+program = "crates/bench_store/out/bench_store"
 LABEL = b"org.briarproject.bramble/"
 
 

@@ -4,7 +4,7 @@
 # of one contact and message, and last `ratio tables VALUE`: how much faster than n log n the work grows.
 set -eu
 cd "$(dirname "$0")/.."
-(cd crates/tables_growth && rt run -- 10 >/dev/null)
+(cd crates/bench_tables && rt run -- 10 >/dev/null)
 exec python3 - "${RUNS:-5}" <<'PY'
 import math, os, subprocess, sys
 
@@ -13,7 +13,7 @@ contacts, few, many = 8, 50_000, 200_000
 
 
 def run(count):
-    child = subprocess.Popen(["crates/tables_growth/out/tables_growth", str(count)], stdout=subprocess.PIPE)
+    child = subprocess.Popen(["crates/bench_tables/out/bench_tables", str(count)], stdout=subprocess.PIPE)
     text = child.stdout.read().decode()
     _, status, usage = os.wait4(child.pid, 0)
     child.returncode = status
