@@ -5,25 +5,21 @@
 set -eu
 cd "$(dirname "$0")/.."
 (cd crates/bench_frames && rt run >/dev/null)
-exec python3 - "${RUNS:-9}" <<'PY'
-import resource, subprocess, sys
+exec env PYTHONPATH=bench PYTHONDONTWRITEBYTECODE=1 python3 - "${RUNS:-9}" <<'PY'
+import sys
+
+from measure import least, run
 
 runs = int(sys.argv[1])
 
 
 def timed(count):
-    before = resource.getrusage(resource.RUSAGE_CHILDREN)
-    subprocess.run(["crates/bench_frames/out/bench_frames", str(count)], stdout=subprocess.DEVNULL, check=True)
-    after = resource.getrusage(resource.RUSAGE_CHILDREN)
-    return (after.ru_utime - before.ru_utime) + (after.ru_stime - before.ru_stime)
+    return lambda: run("crates/bench_frames/out/bench_frames", str(count))
 
 
-few, many = [], []
-for _ in range(runs):
-    few.append(timed(5000))
-    many.append(timed(20000))
+(few, _), (many, _) = least(runs, timed(5000), timed(20000))
 print(f"least processor time of {runs} runs in turns")
-print(f"5000 frames  {min(few):.4f} s")
-print(f"20000 frames {min(many):.4f} s")
-print(f"ratio frames {min(many) / (4 * min(few)):.3f}")
+print(f"5000 frames  {few:.4f} s")
+print(f"20000 frames {many:.4f} s")
+print(f"ratio frames {many / (4 * few):.3f}")
 PY

@@ -5,6 +5,7 @@
     bench/gate.py rt ci --anew            all of it anew, whatever an earlier run proved
     bench/gate.py rt ci bramble_hash      one crate and those below it
     bench/gate.py --wait PID LOG          a run that was begun before, whose process and log these are
+    bench/gate.py --write ..              the same, and the table is written into docs/COSTS.md
 
 What the gate prints goes to the error output as it comes, and the table to the standard output. The minutes are those of a
 processor, read from /proc once a second: of each check of `rattle`, by the crate that its words name, whether it proves the
@@ -104,22 +105,32 @@ def counts_of(log):
     return functions, edits
 
 
-def print_table(minutes, functions, edits):
+def table_of(minutes, functions, edits):
     names = [line.split(':')[0].split()[0] for line in open('crates.txt') if line.strip() and line[0] != '#']
-    kinds = ('proof', 'tests', 'edits')
-    print('| Crate | Functions | Proof | Tests | Edits | Edits, minutes | All |\n|---|---:|---:|---:|---:|---:|---:|')
+    lines = ['| Crate | Functions | Proof | Tests | Wrong bodies | Refusing them | All |', '|---|---:|---:|---:|---:|---:|---:|']
 
-    def row(name, number, used, tried):
-        proof, tests, refusing = (f'{used[kind]:.1f}' for kind in kinds)
-        print(f'| {name} | {number} | {proof} | {tests} | {tried} | {refusing} | {sum(used.values()):.1f} |')
+    def add(name, number, used, tried):
+        proof, tests, refusing = (f'{used[kind]:.1f}' for kind in ('proof', 'tests', 'edits'))
+        lines.append(f'| {name} | {number} | {proof} | {tests} | {tried} | {refusing} | {sum(used.values()):.1f} |')
 
     for name in names:
         if name in minutes:
-            row(f'`{name}`', functions.get(name, ''), minutes[name], edits[name])
+            add(f'`{name}`', functions.get(name, ''), minutes[name], edits[name])
     whole = collections.Counter()
     for used in minutes.values():
         whole.update(used)
-    row('all', sum(functions.values()), whole, sum(edits.values()))
+    add('all', sum(functions.values()), whole, sum(edits.values()))
+    return '\n'.join(lines)
+
+
+def write_table(text):
+    """Puts the table, and what stands below it, behind its mark in docs/COSTS.md, in place of the one that was there."""
+    path, mark = 'docs/COSTS.md', '<!-- the table is written by bench/gate.py --write -->\n'
+    page = text_of(path)
+    before, _, after = page.partition(mark)
+    behind = after.index('\nWhat is dear')
+    with open(path, 'w') as file:
+        file.write(f'{before}{mark}\n{text}\n{after[behind:]}')
 
 
 def watch(top, costs, is_over):
@@ -129,6 +140,8 @@ def watch(top, costs, is_over):
 
 
 def main(words):
+    writes = words[:1] == ['--write']
+    words = words[writes:]
     costs = Costs()
     start = time.time()
     if words[:1] == ['--wait']:
@@ -145,8 +158,11 @@ def main(words):
             log.append(line.rstrip('\n'))
         status = child.wait()
         looking.join()
-    print_table(costs.table(), *counts_of(log))
-    print(f'\n{(time.time() - start) / 60:.1f} minutes on the clock, {os.cpu_count()} processors; {log[-1] if log else "no log"}')
+    clock = f'{(time.time() - start) / 60:.1f} minutes on the clock, {os.cpu_count()} processors'
+    text = f'{table_of(costs.table(), *counts_of(log))}\n\n{clock}; the gate: {log[-1] if log else "no log"}.'
+    print(text)
+    if writes:
+        write_table(text)
     return status
 
 
