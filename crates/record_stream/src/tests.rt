@@ -1,4 +1,4 @@
-// One stream, whole and by its calls. Its cuts stand in the crate of vectors.
+// One stream, by its calls. Its cuts stand in the crate of vectors.
 
 use super::*;
 use std::test::Fail;
@@ -16,5 +16,26 @@ fn calls_of_a_reader(rt: HostRuntime) -> Result<(), Fail> {
     assert!(rt; matches!(reader.next()?, Next::Bad(11, Reason::WrongVersion)));
     assert_eq!(rt; reader.feed(b"\x00"), 0);
     assert!(rt; matches!(reader.next()?, Next::Bad(11, Reason::WrongVersion)));
+    Ok(())
+}
+
+#[test]
+fn reads_on_in_the_middle_of_a_piece(rt: HostRuntime) -> Result<(), Fail> {
+    let mut reader = Reader::new(rt.alloc())?;
+    let mut piece = Piece::new(VERSIONS_AND_MORE);
+    assert!(rt; matches!(reader.next_in(&mut piece)?, Next::One(0, _)));
+    assert!(rt; matches!(reader.next_in(&mut piece)?, Next::More));
+    assert_eq!(rt; piece.left().len(), 0);
+    assert_eq!(rt; reader.end(), Ending::Inside(5));
+    let mut piece = Piece::new(b"ab\x01\x00");
+    assert!(rt; matches!(reader.next_in(&mut piece)?, Next::Skipped(5, 9, 2)));
+    assert!(rt;
+        matches!(
+            reader.next_in(&mut piece)?,
+            Next::Bad(11, Reason::WrongVersion)
+        )
+    );
+    assert_eq!(rt; piece.left().len(), 0);
+    assert_eq!(rt; reader.end(), Ending::Bad(11, Reason::WrongVersion));
     Ok(())
 }
