@@ -14,4 +14,9 @@ pub mod RowLaws
 pub mod PeerFacts
 pub mod Outputs
 pub mod Levels
-pub mod PlainLaws
+pub mod PartsOfIds
+pub mod SameEntries
+pub mod TakenBack
+pub mod Allowing
+pub mod LeftLaws
+pub mod BegunLaws

@@ -77,11 +77,11 @@ group_at-append (y ∷ groups) x id =
 
 -- the first of three
 module _ {A : Type 0} where
-  first-none : (a : Option A) → first_of_two a None ≡ a
+  pub first-none : (a : Option A) → first_of_two a None ≡ a
   first-none None = refl
   first-none (Some x) = refl
 
-  first-assoc : (a b c : Option A) → first_of_two (first_of_two a b) c ≡ first_of_two a (first_of_two b c)
+  pub first-assoc : (a b c : Option A) → first_of_two (first_of_two a b) c ≡ first_of_two a (first_of_two b c)
   first-assoc None b c = refl
   first-assoc (Some x) b c = refl
 

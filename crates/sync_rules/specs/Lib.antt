@@ -6,11 +6,13 @@ pub mod Steps
 pub mod Rounds
 pub mod Sessions
 pub mod Legal
+pub mod Left
+pub mod Allows
 pub mod EntryTests
 pub mod Laws
+pub mod CountLaws
 pub mod Scans
 pub mod Hearing
 pub mod PeerLaws
 pub mod Views
 pub mod Output
-pub mod Plain
