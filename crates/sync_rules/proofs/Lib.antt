@@ -20,3 +20,10 @@ pub mod TakenBack
 pub mod Allowing
 pub mod LeftLaws
 pub mod BegunLaws
+pub mod Continuing
+pub mod StepKinds
+pub mod MeetingLaws
+pub mod SessionLaws
+pub mod OutputLaws
+pub mod ConsistencyLaws
+pub mod DueLaws

@@ -16,3 +16,7 @@ pub mod Hearing
 pub mod PeerLaws
 pub mod Views
 pub mod Output
+pub mod Growth
+pub mod Meeting
+pub mod Consistency
+pub mod Naming
