@@ -21,4 +21,12 @@ pub fn record_of_zeros(alloc: Global, type_byte: u8, len: u16) -> Result<Vec<u8>
 }
 
 #[cfg(test)]
+mod calls;
+#[cfg(test)]
+mod digests;
+#[cfg(test)]
+mod spellings;
+#[cfg(test)]
 mod tests;
+#[cfg(test)]
+mod values;
