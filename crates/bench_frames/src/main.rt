@@ -2,13 +2,10 @@
 //! memory, and prints how many bytes the journal's file has then.
 #![tactic(auto)]
 
-mod untold;
-
 use anyhow::{Result, anyhow};
 use frame_journal::{DiskFault, Journal, StartFault, create};
-use outside::MemDisk;
+use outside::{MAX_JOURNAL, MemDisk, Untold};
 use std::env;
-use untold::Untold;
 
 // The payload's length, 100 bytes, and a zero byte.
 const FRAMED: [u8; 105] = [
@@ -21,7 +18,7 @@ const FRAMED: [u8; 105] = [
 // As many frames as are asked for, as far as the file's limit goes.
 fn add_frames(journal: &mut Journal, disk: &mut Untold, count: u32) -> Result<(), DiskFault> {
     'frames: for _ in 0..count {
-        if journal.end() > 268_435_000 {
+        if journal.end() > MAX_JOURNAL - FRAMED.len() as u64 {
             return Ok(());
         }
         journal.append(disk, &FRAMED)?;
@@ -43,7 +40,7 @@ fn main(rt: HostRuntime) -> Result<()> {
         count = word.parse::<u32>()?;
     }
     let disk = MemDisk::new(alloc, vec![in alloc; 0u8]?, Vec::new(alloc))?;
-    let mut disk = Untold { disk, faults: 0 };
+    let mut disk = Untold::new(disk);
     if write_journal(&mut disk, count).is_err() {
         return Err(anyhow!("the disk failed"));
     }

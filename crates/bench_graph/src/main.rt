@@ -8,6 +8,7 @@ use anyhow::{Context, Result, ensure};
 use message_graph::{Fate, Graph, Judged, Names, Step};
 use std::alloc::{AllocError, Global};
 use std::env;
+use std::hash::RandomState;
 
 /// The shapes of the messages: each waits for the next one, or all wait for the last one.
 #[derive(Clone, Copy)]
@@ -59,8 +60,13 @@ fn settle(alloc: Global, graph: &mut Graph, shape: Shape, count: u32) -> Result<
 }
 
 /// Holds the messages in order, and makes all steps after each.
-fn play(alloc: Global, shape: Shape, count: u32) -> Result<(Graph, u64), AllocError> {
-    let mut graph = Graph::new(alloc)?;
+fn play(
+    alloc: Global,
+    hasher: RandomState,
+    shape: Shape,
+    count: u32,
+) -> Result<(Graph, u64), AllocError> {
+    let mut graph = Graph::new(alloc, hasher)?;
     let mut steps = 0u64;
     for n in 0..count {
         let name = name_of(n);
@@ -97,7 +103,7 @@ fn main(rt: HostRuntime) -> Result<()> {
         .parse::<u32>()
         .context("reading the count")?;
     ensure!(count < u32::MAX, "too many messages");
-    let (graph, steps) = play(rt.alloc(), shape, count)?;
+    let (graph, steps) = play(rt.alloc(), RandomState::new(&rt)?, shape, count)?;
     let held = graph.len();
     let done = delivered(&graph);
     println!(rt; "{held} held, {done} delivered, {steps} steps")?;

@@ -10,11 +10,9 @@ use indexmap::IndexSet;
 use session_core::{due, take};
 use std::alloc::{AllocError, Global};
 use std::env;
-use sync_ids::{Fixed, GroupId, IdList, MessageId, Record};
+use std::hash::RandomState;
+use sync_ids::{Fixed, GroupId, IdList, MAX_IDS, MessageId, Record};
 use sync_rules::{Mode, Out, Session};
-
-/// The ids in one record.
-const IN_RECORD: u32 = 1536;
 
 /// What is measured.
 #[derive(Clone, Copy)]
@@ -37,8 +35,8 @@ fn id_of(n: u32) -> MessageId {
 }
 
 /// A view of so many messages.
-fn make_posts(alloc: Global, count: u32) -> Result<Option<Posts>, AllocError> {
-    let mut ids = IndexSet::new(alloc);
+fn make_posts(alloc: Global, hasher: RandomState, count: u32) -> Result<Option<Posts>, AllocError> {
+    let mut ids = IndexSet::with_hasher(alloc, hasher);
     for n in 0..count {
         ids.insert(id_of(n))?;
     }
@@ -48,7 +46,7 @@ fn make_posts(alloc: Global, count: u32) -> Result<Option<Posts>, AllocError> {
 /// A record that offers ids from this number on.
 fn offer(alloc: Global, start: u32) -> Result<Option<Record>, AllocError> {
     let mut ids = Vec::new(alloc);
-    for n in 0..IN_RECORD {
+    for n in 0..MAX_IDS as u32 {
         ids.push(id_of(start.wrapping_add(n)))?;
     }
     Ok(IdList::new(ids).ok().map(Record::Offer))
@@ -90,7 +88,8 @@ fn main(rt: HostRuntime) -> Result<()> {
         .context("rounds")?
         .parse::<u32>()
         .context("reading the rounds")?;
-    let posts = make_posts(rt.alloc(), count)?.context("too many messages")?;
+    let hasher = RandomState::new(&rt)?;
+    let posts = make_posts(rt.alloc(), hasher, count)?.context("too many messages")?;
     let session = Session {
         number: 0,
         contact: 0,

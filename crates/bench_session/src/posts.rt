@@ -5,7 +5,8 @@ ghost use Rattle.sync_rules.specs.Sessions.{ids_limit};
 
 use indexmap::IndexSet;
 use std::alloc::{AllocError, Global};
-use sync_ids::{GroupId, MessageId};
+use std::hash::RandomState;
+use sync_ids::{GroupId, MAX_IDS, MessageId};
 use sync_rules::{Level, Mode, View};
 
 /// Delivered messages that were written here, in one group that is Shared with contact 0, and of
@@ -13,13 +14,13 @@ use sync_rules::{Level, Mode, View};
 #[derive(Drop)]
 pub(crate) struct Posts {
     group: GroupId,
-    ids: IndexSet<MessageId>,
+    ids: IndexSet<MessageId, RandomState>,
     ghost few: { length ids.keys < 2 ^ 32 },
 }
 
 impl Posts {
     /// Messages of these ids; `None` where there are too many for arrival numbers.
-    pub(crate) fn new(group: GroupId, ids: IndexSet<MessageId>) -> Option<Posts> {
+    pub(crate) fn new(group: GroupId, ids: IndexSet<MessageId, RandomState>) -> Option<Posts> {
         if ids.len() > u32::MAX as usize {
             return None;
         }
@@ -112,5 +113,5 @@ fn is_first(contact: u8) -> bool
 fn front(alloc: Global, ids: &[MessageId]) -> Result<Vec<MessageId>, AllocError>
     ensures { IfOk result (λ front. front.items ≡ take ids_limit ids.now) }
 {
-    ids.iter().take(1536).copied().collect(alloc)
+    ids.iter().take(MAX_IDS).copied().collect(alloc)
 }

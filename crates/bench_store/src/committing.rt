@@ -8,13 +8,10 @@ ghost use Rattle.bench_store.specs.Ready.{IsReady};
 use crate::messages::{Entries, batch_of};
 use crate::stop::Stop;
 use entry_codec::laws::allows_is_allowed;
-use outside::Disk;
+use outside::{Disk, MAX_JOURNAL};
 use std::alloc::Global;
 use sync_rules::{Batch, Clients, Entry};
 use sync_store::Store;
-
-/// The most bytes of a journal.
-const LIMIT: u64 = 268_435_456;
 
 /// Loads the store of a disk.
 pub(crate) fn load_store<D: Disk, C: Clients>(
@@ -25,7 +22,7 @@ pub(crate) fn load_store<D: Disk, C: Clients>(
     ensures { IfOk result (λ store. IsReady (C.meaning clients.now) store
         (D.tells disk.new).files) }
 {
-    match Store::load(alloc, disk, clients, LIMIT) {
+    match Store::load(alloc, disk, clients, MAX_JOURNAL) {
         Ok(store) => Ok(store),
         Err(_) => Err(Stop::NotLoaded),
     }

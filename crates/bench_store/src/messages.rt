@@ -5,7 +5,7 @@ ghost use Rattle.entry_codec.specs.Spelling.{HasLatency};
 
 use crate::stop::Stop;
 use std::alloc::{AllocError, Global};
-use sync_ids::{Fixed, GroupDef, GroupId, Message, MessageId, group_id, message_id};
+use sync_ids::{Fixed, GroupDef, GroupId, MAX_BODY, Message, MessageId, group_id, message_id};
 use sync_rules::{Batch, Entry, Level};
 
 /// How many messages there are, how long each body is, and with how many contacts their group is
@@ -93,7 +93,7 @@ impl Entries {
 
     /// The ids of all messages, as one sum.
     pub(crate) fn mixed_ids(&self) -> Result<MessageId, Stop> {
-        if self.body.len() > 32_768 {
+        if self.body.len() > MAX_BODY {
             return Err(Stop::NoValue);
         }
         let mut sum = Fixed([0; 32]);

@@ -6,6 +6,7 @@ use anyhow::{Context, Result};
 use retry_table::Retry;
 use std::alloc::AllocError;
 use std::env;
+use std::hash::RandomState;
 use sync_rules::Mode;
 
 /// The contacts.
@@ -103,7 +104,7 @@ fn main(rt: HostRuntime) -> Result<()> {
         .context("a count")?
         .parse::<u32>()
         .context("reading the count")?;
-    let mut retry = Retry::new(rt.alloc())?;
+    let mut retry = Retry::new(rt.alloc(), RandomState::new(&rt)?)?;
     mark(&mut retry, count)?;
     ask(&mut retry, count)?;
     let mut sent = 0u64;

@@ -4,7 +4,7 @@ use crate::dice::Dice;
 use crate::fault::DraftFault;
 use std::alloc::Global;
 use sync_ids::{
-    Fixed, GroupDef, GroupId, IdList, Message, MessageId, Record, VersionList, group_id,
+    Fixed, GroupDef, GroupId, IdList, MAX_IDS, Message, MessageId, Record, VersionList, group_id,
 };
 use sync_rules::id_of;
 
@@ -140,7 +140,7 @@ impl Posts {
     }
 
     /// Some of these ids.
-    pub(crate) fn ids(&self, dice: &mut Dice, most: u64) -> Result<IdList<1536>, DraftFault> {
+    pub(crate) fn ids(&self, dice: &mut Dice, most: u64) -> Result<IdList<MAX_IDS>, DraftFault> {
         let mut ids = Vec::new(self.alloc);
         for _ in 0..dice.below(most).saturating_add(1) {
             ids.push(self.id(dice))?;
@@ -183,7 +183,7 @@ impl Posts {
 
     /// Many ids that no message has, some of them wanted where about a thousand are, and some
     /// others.
-    fn many_ids(&self, dice: &mut Dice) -> Result<IdList<1536>, DraftFault> {
+    fn many_ids(&self, dice: &mut Dice) -> Result<IdList<MAX_IDS>, DraftFault> {
         let mut ids = Vec::new(self.alloc);
         for _ in 0..40 {
             ids.push(strange(50 + dice.below(1100)))?;

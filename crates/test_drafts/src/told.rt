@@ -3,14 +3,8 @@
 
 use crate::timing::may_share;
 use std::alloc::{AllocError, Global};
-use sync_ids::{GroupId, IdList, Message, MessageId, Record, group_id};
-use sync_rules::{Batch, Entry, Level, Mode, Out, Session, id_of};
-
-/// How many ids may be wanted from a contact.
-const MOST_WANTED: usize = 1000;
-
-/// How many ids one output has.
-const MOST_IDS: usize = 1536;
+use sync_ids::{GroupId, IdList, MAX_IDS, Message, MessageId, Record, group_id};
+use sync_rules::{Batch, Entry, Level, MAX_WANTED, Mode, Out, Session, id_of};
 
 /// An entry of the journal, and the id of the message that it brings.
 #[derive(Clone, Copy)]
@@ -268,7 +262,7 @@ fn held_where<F: Fn(&MessageId, &Message) -> bool>(
     for line in lines {
         if let Some(id) = line.brings {
             let passes = message_in(line, &id).is_some_and(|message| test(&id, message));
-            if passes && ids.len() < MOST_IDS {
+            if passes && ids.len() < MAX_IDS {
                 ids.push(id)?;
             }
         }
@@ -414,7 +408,7 @@ fn add_offers(
             if is_shown(lines, session.contact, id) {
                 entries.push(Entry::Again(session.number, *id))?;
             }
-        } else if !wanted.contains(id) && wanted.len() < MOST_WANTED {
+        } else if !wanted.contains(id) && wanted.len() < MAX_WANTED as usize {
             wanted.push(*id)?;
             entries.push(Entry::Offered(session.number, *id))?;
         }
@@ -461,7 +455,7 @@ fn due_in_interactive_mode(
     now: u64,
 ) -> Result<Option<Out>, AllocError> {
     let mut requests = wanted(alloc, lines, contact)?;
-    requests.truncate(MOST_IDS);
+    requests.truncate(MAX_IDS);
     if let Ok(requests) = IdList::new(requests) {
         return Ok(Some(Out::Requests(requests)));
     }

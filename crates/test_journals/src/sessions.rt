@@ -5,7 +5,7 @@ use std::alloc::{AllocError, Global};
 use std::process::Abort;
 use std::test::Fail;
 use sync_ids::{
-    Fixed, GroupDef, GroupId, IdList, Message, MessageId, Record, VersionList, group_id,
+    Fixed, GroupDef, GroupId, IdList, MAX_IDS, Message, MessageId, Record, VersionList, group_id,
 };
 use sync_rules::{
     Batch, Clients, DepList, Entry, Fate, Judgement, Level, Mode, Out, Session, fate_in, id_of,
@@ -69,7 +69,7 @@ fn unknown(n: usize) -> MessageId {
 }
 
 /// Unknown ids of these numbers.
-fn unknown_ids(alloc: Global, start: usize, end: usize) -> Result<IdList<1536>, Fail> {
+fn unknown_ids(alloc: Global, start: usize, end: usize) -> Result<IdList<MAX_IDS>, Fail> {
     let mut ids = Vec::new(alloc);
     for n in start..end {
         ids.push(unknown(n))?;
@@ -77,7 +77,7 @@ fn unknown_ids(alloc: Global, start: usize, end: usize) -> Result<IdList<1536>, 
     Ok(IdList::new(ids)?)
 }
 
-fn ids(alloc: Global, ids: &[MessageId]) -> Result<IdList<1536>, Fail> {
+fn ids(alloc: Global, ids: &[MessageId]) -> Result<IdList<MAX_IDS>, Fail> {
     Ok(IdList::new(ids.to_vec(alloc)?)?)
 }
 

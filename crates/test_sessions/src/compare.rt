@@ -1,9 +1,10 @@
 //! A case: a journal, some records, some moments, and whether both answers are the same.
 
 use anyhow::Result;
+use plain_rules::PlainView;
 use session_core::{due, take};
 use std::alloc::Global;
-use sync_rules::{Mode, PlainView, Session};
+use sync_rules::{Mode, Session};
 use test_drafts::told::{self, Lines, lines_of};
 use test_drafts::{Dice, Draft, Timing, draft_journal, moment_near};
 

@@ -1,6 +1,6 @@
 //! Many messages that wait for one which arrives last.
 use crate::compare::{PICKS, compare};
-use crate::device::{AddFault, Device, MOST_BYTES};
+use crate::device::{AddFault, Device};
 use crate::files::{Payloads, deliveries};
 use crate::hearing::{begin, hear, hear_settled};
 use crate::posting::APPEND_CALLS;
@@ -9,7 +9,7 @@ use anyhow::Result;
 use client_basic::Bundle;
 use entry_codec::read_batch;
 use indexmap::IndexSet;
-use outside::{MemDisk, Pick};
+use outside::{MAX_JOURNAL, MemDisk, Pick};
 use std::alloc::Global;
 use sync_ids::{GroupId, Message, MessageId, group_id};
 use sync_rules::id_of;
@@ -81,7 +81,7 @@ fn counts(device: &Node) -> (u32, u32) {
 }
 
 fn load(alloc: Global, disk: MemDisk) -> Result<Node> {
-    Device::load(alloc, disk, Bundle::new(), MOST_BYTES)
+    Device::load(alloc, disk, Bundle::new(), MAX_JOURNAL)
 }
 
 /// Settles all, and answers how many calls the load before it made.

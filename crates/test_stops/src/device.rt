@@ -7,15 +7,12 @@ ghost use Rattle.sync_store.specs.Fitting.{FitsSome};
 
 use anyhow::anyhow;
 use entry_codec::laws::allows_is_allowed;
-use outside::Disk;
+use outside::{Disk, MAX_JOURNAL};
 use std::alloc::{AllocError, Global};
 use std::marker::Model;
 use sync_rules::{Batch, Clients, Entry};
 use sync_store::{LoadFault, Store, StoreFault};
 use thiserror::Error;
-
-/// The greatest length of a journal's file.
-pub(crate) const MOST_BYTES: u64 = 268_435_456;
 
 /// Why a batch was not added.
 #[derive(Clone, Copy, Debug, PartialEq, Eq, Error)]
@@ -69,7 +66,7 @@ impl<D: Disk + Drop, C: Clients + Drop> Device<D, C> {
 
     /// Loads the store anew from its disk.
     pub(crate) fn load_again(self, alloc: Global) -> anyhow::Result<Device<D, C>> {
-        Device::load(alloc, self.disk, self.clients, MOST_BYTES)
+        Device::load(alloc, self.disk, self.clients, MAX_JOURNAL)
     }
 
     /// The store.
@@ -153,7 +150,7 @@ pub(crate) fn end_of<D: Disk, C: Clients>(
     disk: &mut D,
     clients: &C,
 ) -> Result<u64, LoadFault> {
-    match Store::load(alloc, disk, clients, MOST_BYTES) {
+    match Store::load(alloc, disk, clients, MAX_JOURNAL) {
         Ok(store) => Ok(store.end()),
         Err(fault) => Err(fault),
     }

@@ -1,9 +1,9 @@
 //! Messages that arrive from a contact.
-use crate::device::{AddFault, Device, MOST_BYTES};
+use crate::device::{AddFault, Device};
 use crate::files::disk_with;
 use crate::values::batch_of;
 use anyhow::{Result, anyhow};
-use outside::MemDisk;
+use outside::{MAX_JOURNAL, MemDisk};
 use session_core::take;
 use std::alloc::Global;
 use sync_ids::{GroupDef, Message, Record, group_id};
@@ -31,7 +31,7 @@ pub(crate) fn begin<C: Clients + Drop>(
 
 fn begin_empty<C: Clients + Drop>(alloc: Global, clients: C) -> Result<Device<MemDisk, C>> {
     let disk = begun_disk(alloc)?;
-    Device::load(alloc, disk, clients, MOST_BYTES)
+    Device::load(alloc, disk, clients, MAX_JOURNAL)
 }
 
 fn with_first<C: Clients + Drop>(

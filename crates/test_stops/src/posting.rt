@@ -1,11 +1,11 @@
 //! A message that is posted and settled, stopped at each call of the disk under each image.
 use crate::compare::{PICKS, compare, is_open};
-use crate::device::{AddFault, Device, MOST_BYTES, end_of};
+use crate::device::{AddFault, Device, end_of};
 use crate::files::{GROUP, count_front, deliveries, disk_with};
 use crate::values::{batch_of, group_def, message};
 use anyhow::Result;
 use client_basic::Bundle;
-use outside::{MemDisk, Pick};
+use outside::{MAX_JOURNAL, MemDisk, Pick};
 use std::alloc::Global;
 use sync_ids::{Message, group_id};
 use sync_rules::{Entry, id_of};
@@ -43,7 +43,7 @@ pub(crate) fn post(alloc: Global, stop: u64) -> Result<Posted> {
     let mut disk = disk_with(alloc, &GROUP, &[])?;
     disk.fail_at(LOAD_CALLS.saturating_add(stop))?;
     let batch = batch_of(alloc, Entry::Author(note(alloc, 0)?))?;
-    let mut device = Device::load(alloc, disk, Bundle::new(), MOST_BYTES)?;
+    let mut device = Device::load(alloc, disk, Bundle::new(), MAX_JOURNAL)?;
     let added = device.add(batch);
     let settled = device.settle();
     Ok(Posted {
@@ -213,7 +213,7 @@ impl Table<'_> {
         stop: u64,
         pick: Pick,
     ) -> Result<()> {
-        let mut device = Device::load(self.alloc, image, Bundle::new(), MOST_BYTES)?;
+        let mut device = Device::load(self.alloc, image, Bundle::new(), MAX_JOURNAL)?;
         let answer = device.settle();
         self.look_settled(rt, &device, answer.is_ok(), is_held, stop, pick)
     }

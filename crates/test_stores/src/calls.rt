@@ -7,13 +7,10 @@ ghost use Rattle.sync_rules.specs.Legal.{Allowed};
 
 use anyhow::{Result, bail};
 use entry_codec::laws::allows_is_allowed;
-use outside::{Disk, MemDisk, Pick};
+use outside::{Disk, MAX_JOURNAL, MemDisk, Pick};
 use std::alloc::{AllocError, Global};
 use sync_rules::{Batch, Clients, Entry};
 use sync_store::Store;
-
-/// The length in bytes that commits may fill.
-const LIMIT: u64 = 268_435_456;
 
 /// A disk of which a picture may be taken.
 pub(crate) trait Pictured {
@@ -43,7 +40,7 @@ pub(crate) fn load<D: Disk, C: Clients>(alloc: Global, disk: &mut D, clients: &C
     ensures { IfOk result (λ store. IsReady (C.meaning clients.now) store
         (D.tells disk.new).files) }
 {
-    match Store::load(alloc, disk, clients, LIMIT) {
+    match Store::load(alloc, disk, clients, MAX_JOURNAL) {
         Ok(store) => Ok(store),
         Err(fault) => bail!("loading a store: {fault:?}"),
     }

@@ -4,15 +4,12 @@ use crate::frames::behind;
 use crate::listed::{Listed, list};
 use anyhow::Result;
 use std::alloc::Global;
-use sync_ids::{IdList, Message, MessageId, Record, VersionList, group_id};
+use sync_ids::{IdList, MAX_IDS, Message, MessageId, Record, VersionList, group_id};
 use sync_rules::{
-    Batch, Clients, Entry, Fate, Judgement, Out, Session, fate_in, id_of, next_step_in,
+    Batch, Clients, Entry, Fate, Judgement, MAX_GROUPS, Out, Session, fate_in, id_of, next_step_in,
 };
 use test_drafts::Timing;
 use test_drafts::told::{self, lines_of};
-
-/// How many groups there may be.
-const MOST_GROUPS: usize = 1024;
 
 /// Whether a batch that does not begin with a step may follow these batches.
 pub(crate) fn may_follow(alloc: Global, j: &[Batch], batch: &Batch) -> Result<bool> {
@@ -23,7 +20,7 @@ pub(crate) fn may_follow(alloc: Global, j: &[Batch], batch: &Batch) -> Result<bo
     match batch.entries() {
         [Entry::Contact(contact)] => Ok(u32::from(*contact) == listed.contacts),
         [Entry::Group(def)] => {
-            Ok(!listed.knows(&group_id(def)) && listed.groups.len() < MOST_GROUPS)
+            Ok(!listed.knows(&group_id(def)) && listed.groups.len() < MAX_GROUPS)
         }
         [Entry::Level(contact, group, _)] => {
             Ok(u32::from(*contact) < listed.contacts && listed.knows(group))
@@ -128,7 +125,7 @@ fn record_of(alloc: Global, heard: &[Entry]) -> Result<Option<Record>> {
 }
 
 /// The ids that entries of a record name; `None` where there are more than a record has.
-fn ids_of(alloc: Global, heard: &[Entry]) -> Result<Option<IdList<1536>>> {
+fn ids_of(alloc: Global, heard: &[Entry]) -> Result<Option<IdList<MAX_IDS>>> {
     let ids = heard.iter().filter_map(named).collect(alloc)?;
     Ok(IdList::new(ids).ok())
 }

@@ -5,10 +5,11 @@ use crate::following::may_follow;
 use crate::frames::{behind, read_batches};
 use crate::listed::list;
 use anyhow::Result;
+use plain_rules::{PlainView, settle_in};
 use session_core::{due, take};
 use std::alloc::Global;
 use sync_ids::Record;
-use sync_rules::{Batch, Entry, PlainView, Session, settle_in};
+use sync_rules::{Batch, Entry, Session};
 use test_drafts::told::lines_of;
 use test_drafts::{Dice, Draft, Kind, Timing, moment_near};
 
