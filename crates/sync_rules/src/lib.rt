@@ -1,12 +1,13 @@
 //! The rules of a node of the Bramble Synchronisation Protocol over its journal: what an entry
 //! says, what a journal makes known, when a message may be delivered, what is sent, and which batch
-//! may follow which journal. The definitions stand in `specs/`, and their laws in the module
-//! `laws`.
+//! may follow which journal. The definitions stand in `specs/`, and their laws in the modules `laws`
+//! and `growth`.
 #![tactic(auto)]
 
 mod answers;
 mod comparing;
 mod entries;
+pub mod growth;
 pub mod laws;
 mod limits;
 pub mod lookups;
