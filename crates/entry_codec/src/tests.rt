@@ -7,7 +7,7 @@ use super::*;
 use std::alloc::Global;
 use std::process::Abort;
 use std::test::Fail;
-use sync_ids::{Fixed, GroupDef, IdList, Message};
+use sync_ids::{Fixed, GroupDef, IdList, MAX_IDS, Message};
 use sync_rules::{Entry, Level, Mode, Out, Session};
 
 // The entry is written so, read again whatever follows, and no front of the bytes is read.
@@ -132,7 +132,7 @@ fn heard_and_sent(rt: HostRuntime) -> Result<(), Fail> {
     )
 }
 
-fn two_ids(alloc: Global) -> Result<IdList<1536>, Fail> {
+fn two_ids(alloc: Global) -> Result<IdList<MAX_IDS>, Fail> {
     let mut ids = Vec::new(alloc);
     ids.push(Fixed(*b"AAAAAAAAAAAAAAAAAAAAAAAAAAAAAAAA"))?;
     ids.push(Fixed(*b"BBBBBBBBBBBBBBBBBBBBBBBBBBBBBBBB"))?;
