@@ -19,7 +19,7 @@ use Rattle.sync_rules.specs.Legal.{Allowed, IsDue, IsSettling, IsSettlingBatch, 
 use Rattle.sync_rules.proofs.StepLaws.{IsSettlingEntry, next_is_settling}
 use Rattle.sync_rules.specs.Allows.{allows, alone, gives, is_due, is_empty, is_settled, is_settling, is_some_of, may_add_group, may_author, may_begin, may_take, read_as, same_entry, settles}
 use Rattle.sync_rules.proofs.SameEntries.{both_decide, same_entry-is, some_out-Decides}
-use Rattle.sync_rules.proofs.TakenBack.{gives_some, some_gives}
+use Rattle.sync_rules.proofs.TakenBack.{WholeIds, gives_some, some_gives}
 use Rattle.sync_rules.proofs.Elements.{same_id_itself}
 
 itself : (b : Bool) → Decides b (b ≡ true)
@@ -84,8 +84,8 @@ due_decides clients f (Some s) now what = some_out-Decides (due clients f s now)
 
 -- ---- a record
 
-take_decides : (f : Facts) (s k : ℕ) (rest : List Entry) → Decides (may_take f s k rest) (MayTake f s k rest)
-take_decides f s k rest = (there, back) where
+take_decides : WholeIds → (f : Facts) (s k : ℕ) (rest : List Entry) → Decides (may_take f s k rest) (MayTake f s k rest)
+take_decides all f s k rest = (there, back) where
   there : may_take f s k rest ≡ true → MayTake f s k rest
   there h =
       let a = and_parts (is_some (session_at f.sessions s)) (nat_eq k (takes_of f.takes s) && gives f s rest (read_as rest)) h in
@@ -97,7 +97,7 @@ take_decides f s k rest = (there, back) where
   back h =
       and_from (is_some (session_at f.sessions s)) (nat_eq k (takes_of f.takes s) && gives f s rest (read_as rest)) h.known_session
       (and_from (nat_eq k (takes_of f.takes s)) (gives f s rest (read_as rest)) (eq-eqb k (takes_of f.takes s) h.numbered)
-      (some_gives f s rest h.read h.within h.taken_so))
+      (some_gives all f s rest h.read h.within h.taken_so))
 
 -- ---- settling
 
@@ -131,22 +131,22 @@ settling_decides clients f e es =
 never : Decides false ⊥
 never = (λ h. false≢true h, λ h. absurd h)
 
-pub allows_decides : (clients : Meaning) (f : Facts) (b : List Entry) → Decides (allows clients f b) (Allowed clients f b)
-allows_decides clients f [] = never
-allows_decides clients f (entry.Contact c ∷ rest) = alone_two clients f rest (nat_eq c f.contacts) (nat_lt c MAX_CONTACTS) (Decides-eqb c f.contacts) (Decides-ltb c MAX_CONTACTS)
-allows_decides clients f (entry.Group def ∷ rest) = alone_decides clients f rest (may_add_group clients f def) (add_group_decides clients f def)
-allows_decides clients f (entry.Level c g l ∷ rest) =
+pub allows_decides : WholeIds → (clients : Meaning) (f : Facts) (b : List Entry) → Decides (allows clients f b) (Allowed clients f b)
+allows_decides all clients f [] = never
+allows_decides all clients f (entry.Contact c ∷ rest) = alone_two clients f rest (nat_eq c f.contacts) (nat_lt c MAX_CONTACTS) (Decides-eqb c f.contacts) (Decides-ltb c MAX_CONTACTS)
+allows_decides all clients f (entry.Group def ∷ rest) = alone_decides clients f rest (may_add_group clients f def) (add_group_decides clients f def)
+allows_decides all clients f (entry.Level c g l ∷ rest) =
     alone_two clients f rest (nat_lt c f.contacts) (is_some (group_at f.groups g)) (Decides-ltb c f.contacts) (itself (is_some (group_at f.groups g)))
-allows_decides clients f (entry.Session s ∷ rest) = alone_decides clients f rest (may_begin f s) (begin_decides f s)
-allows_decides clients f (entry.Take s k ∷ rest) = both_decide (is_settled clients f) (may_take f s k rest) (settled_decides clients f) (take_decides f s k rest)
-allows_decides clients f (entry.Author m ∷ rest) = alone_decides clients f rest (may_author clients f m) (author_decides clients f m)
-allows_decides clients f (entry.Arrive s m ∷ rest) = never
-allows_decides clients f (entry.Judged id ∷ rest) = settling_decides clients f (entry.Judged id) rest
-allows_decides clients f (entry.Deliver id ∷ rest) = settling_decides clients f (entry.Deliver id) rest
-allows_decides clients f (entry.Invalid id ∷ rest) = settling_decides clients f (entry.Invalid id) rest
-allows_decides clients f (entry.Again s id ∷ rest) = never
-allows_decides clients f (entry.Offered s id ∷ rest) = never
-allows_decides clients f (entry.Seen s id ∷ rest) = never
-allows_decides clients f (entry.Asked s id ∷ rest) = never
-allows_decides clients f (entry.Out s now what ∷ rest) =
+allows_decides all clients f (entry.Session s ∷ rest) = alone_decides clients f rest (may_begin f s) (begin_decides f s)
+allows_decides all clients f (entry.Take s k ∷ rest) = both_decide (is_settled clients f) (may_take f s k rest) (settled_decides clients f) (take_decides all f s k rest)
+allows_decides all clients f (entry.Author m ∷ rest) = alone_decides clients f rest (may_author clients f m) (author_decides clients f m)
+allows_decides all clients f (entry.Arrive s m ∷ rest) = never
+allows_decides all clients f (entry.Judged id ∷ rest) = settling_decides clients f (entry.Judged id) rest
+allows_decides all clients f (entry.Deliver id ∷ rest) = settling_decides clients f (entry.Deliver id) rest
+allows_decides all clients f (entry.Invalid id ∷ rest) = settling_decides clients f (entry.Invalid id) rest
+allows_decides all clients f (entry.Again s id ∷ rest) = never
+allows_decides all clients f (entry.Offered s id ∷ rest) = never
+allows_decides all clients f (entry.Seen s id ∷ rest) = never
+allows_decides all clients f (entry.Asked s id ∷ rest) = never
+allows_decides all clients f (entry.Out s now what ∷ rest) =
     alone_decides clients f rest (is_due clients f (session_at f.sessions s) now what) (due_decides clients f (session_at f.sessions s) now what)

@@ -6,6 +6,7 @@ use Rattle.std.specs.List.{slice_get}
 use Rattle.std.specs.Option.{option_map}
 use Rattle.std.specs.Ordering.{nat_cmp}
 use Rattle.sync_ids.specs.Ids.{message_id_of}
+use Rattle.sync_ids.specs.declared.lists.TheConstants.{MAX_IDS}
 use Rattle.sync_rules.specs.declared.entries.Entry.{Entry}
 use Rattle.sync_rules.specs.declared.entries.Entry.TheVariants as entry
 use Rattle.sync_rules.specs.declared.entries.Mode.{Mode}
@@ -455,14 +456,14 @@ lines_within hs ls n lines within =
 pub found_is : (hs : List Held) (ls : List HeldLine) (id : Id) → ls ≡ lines_of hs → line_place ls id ≡ place_of hs id
 found_is hs ls id lines = ap (λ k. line_place k id) lines ∙ line_place-is hs id
 
-pub owed_is : (f : Facts) (ls : List HeldLine) (contact : ℕ) → ls ≡ lines_of f.held → take 1536 (line_ids (is_line_owed f contact) ls) ≡ owed_to f contact
+pub owed_is : (f : Facts) (ls : List HeldLine) (contact : ℕ) → ls ≡ lines_of f.held → take MAX_IDS (line_ids (is_line_owed f contact) ls) ≡ owed_to f contact
 owed_is f ls contact lines =
-    ap (take 1536) (ap (line_ids (is_line_owed f contact)) lines ∙ line_ids-is (is_line_owed f contact) f.held)
+    ap (take MAX_IDS) (ap (line_ids (is_line_owed f contact)) lines ∙ line_ids-is (is_line_owed f contact) f.held)
 
 pub offers_is : (f : Facts) (shared : List Id) (ls : List HeldLine) (contact now : ℕ) → ls ≡ lines_of f.held
-    → take 1536 (line_ids (is_line_offered f shared contact now) ls) ≡ offers_of f shared contact now
+    → take MAX_IDS (line_ids (is_line_offered f shared contact now) ls) ≡ offers_of f shared contact now
 offers_is f shared ls contact now lines =
-    ap (take 1536) (ap (line_ids (is_line_offered f shared contact now)) lines ∙ line_ids-is (is_line_offered f shared contact now) f.held)
+    ap (take MAX_IDS) (ap (line_ids (is_line_offered f shared contact now)) lines ∙ line_ids-is (is_line_offered f shared contact now) f.held)
 
 pub send_is : (f : Facts) (shared : List Id) (ls : List HeldLine) (contact : ℕ) (mode : Mode) (now : ℕ) → ls ≡ lines_of f.held
     → first_id (line_ids (is_line_sent f shared contact mode now) ls) ≡ send_of f shared contact mode now

@@ -1,10 +1,13 @@
 -- The record that lists just what some entries name is taken as these entries, if any record is.
 use Rattle.std.proofs.Common.{◌≡◌, ℕ, ◌-◌, ◌^◌, ◌≤◌, Bool, true, false, not, cond, ◌&&◌, List, [], ◌∷◌, ◌++◌, length, refl, sym, ◌∙◌, ap, inl, inr, ◌⊎◌, arith, Some, None, is_some, nat_eq, nat_lt, nat_le, eqb-true, eq-eqb}
 use Rattle.std.specs.Cmp.Lexicographic.{pointwise}
+use Rattle.std.specs.List.{list_all}
 use Rattle.std.proofs.lemmas.Bool.{and_parts, and_from, false≢true, ltb-true, lt-ltb, leb-true, le-leb}
-use Rattle.sync_ids.specs.Values.{MessageValue, IsMessage, IsWithin}
+use Rattle.sync_ids.specs.Values.{MessageValue, AreIds, IsIdList, IsMessage, IsVersionList}
 use Rattle.sync_ids.specs.Ids.{message_id_of}
 use Rattle.sync_ids.specs.Records.{IsRecord}
+use Rattle.sync_ids.specs.declared.lists.TheConstants.{MAX_IDS, MAX_VERSIONS}
+use Rattle.sync_ids.specs.declared.message.TheConstants.{MAX_BODY, MAX_TIMESTAMP}
 use Rattle.sync_ids.specs.declared.records.Record.{Record}
 use Rattle.sync_ids.specs.declared.records.Record.TheVariants as record_kind
 use Rattle.sync_rules.specs.declared.entries.Entry.{Entry}
@@ -13,45 +16,67 @@ use Rattle.sync_rules.specs.Lists.{is_among, firsts}
 use Rattle.sync_rules.specs.Facts.{Facts, Held, Id, contact_of, held_at, is_invisible, level_at, row_at, wanted_from}
 use Rattle.sync_rules.specs.Sessions.{is_shown, is_shown_held, is_welcome, one_if, is_remembered, room_after, taken, taken_acks, taken_message_of, taken_offers, taken_requests, wants_limit}
 use Rattle.sync_rules.proofs.RowLaws.{firsts_distinct}
-use Rattle.sync_rules.specs.Allows.{gives, ids_named, is_message, is_record, is_within, read_as, same_entry}
+use Rattle.sync_rules.specs.Allows.{gives, ids_named, is_id_list, is_message, is_record, is_whole, is_within, read_as, same_entry}
 use Rattle.sync_rules.proofs.SameEntries.{arrive_itself, pair_itself, same_entries-is}
-use Rattle.sync_rules.proofs.PartsOfIds.{IsPart, part_none, part_skip, part_keep, firsts_of_distinct, firsts_few}
+use Rattle.sync_rules.proofs.PartsOfIds.{IsPart, part_none, part_skip, part_keep, firsts_of_distinct, firsts_few, firsts_whole}
 
 -- ---- limits
 
-within_is : {A : Type 0} (most : ℕ) (xs : List A) → is_within most xs ≡ true → IsWithin most xs
+abbrev IsFew : {A : Type 0} → ℕ → List A → Type 0
+IsFew most xs = (1 ≤ length xs) × (length xs ≤ most)
+
+within_is : {A : Type 0} (most : ℕ) (xs : List A) → is_within most xs ≡ true → IsFew most xs
 within_is most xs h =
     let parts = and_parts (nat_le 1 (length xs)) (nat_le (length xs) most) h in
-    record { some = leb-true 1 (length xs) parts.0; few = leb-true (length xs) most parts.1 }
+    (leb-true 1 (length xs) parts.0, leb-true (length xs) most parts.1)
 
 is_within-from : {A : Type 0} (most : ℕ) (xs : List A) → 1 ≤ length xs → length xs ≤ most → is_within most xs ≡ true
 is_within-from most xs some few =
     and_from (nat_le 1 (length xs)) (nat_le (length xs) most) (le-leb 1 (length xs) some) (le-leb (length xs) most few)
 
+whole_are : (ids : List Id) → list_all is_whole ids ≡ true → AreIds ids
+whole_are [] h = tt
+whole_are (id ∷ ids) h =
+    let parts = and_parts (is_whole id) (list_all is_whole ids) h in
+    (eqb-true (length id) 32 parts.0, whole_are ids parts.1)
+
+are_whole : (ids : List Id) → AreIds ids → list_all is_whole ids ≡ true
+are_whole [] are = refl
+are_whole (id ∷ ids) are = and_from (is_whole id) (list_all is_whole ids) (eq-eqb (length id) 32 are.0) (are_whole ids are.1)
+
+id_list_is : (ids : List Id) → is_id_list ids ≡ true → IsIdList MAX_IDS ids
+id_list_is ids h =
+    let parts = and_parts (is_within MAX_IDS ids) (list_all is_whole ids) h in
+    let few = within_is MAX_IDS ids parts.0 in
+    record { some = few.0; few = few.1; whole = whole_are ids parts.1 }
+
+version_list_is : (versions : List ℕ) → is_within MAX_VERSIONS versions ≡ true → IsVersionList versions
+version_list_is versions h = let few = within_is MAX_VERSIONS versions h in record { some = few.0; few = few.1 }
+
 message_is : (m : MessageValue) → is_message m ≡ true → IsMessage m
 message_is m h =
-    let a = and_parts (nat_eq (length m.group) 32) (nat_lt m.timestamp (2 ^ 63) && (nat_le 1 (length m.body) && nat_le (length m.body) 32768)) h in
-    let b = and_parts (nat_lt m.timestamp (2 ^ 63)) (nat_le 1 (length m.body) && nat_le (length m.body) 32768) a.1 in
-    let c = and_parts (nat_le 1 (length m.body)) (nat_le (length m.body) 32768) b.1 in
+    let a = and_parts (nat_eq (length m.group) 32) (nat_le m.timestamp MAX_TIMESTAMP && (nat_le 1 (length m.body) && nat_le (length m.body) MAX_BODY)) h in
+    let b = and_parts (nat_le m.timestamp MAX_TIMESTAMP) (nat_le 1 (length m.body) && nat_le (length m.body) MAX_BODY) a.1 in
+    let c = and_parts (nat_le 1 (length m.body)) (nat_le (length m.body) MAX_BODY) b.1 in
     record {
       whole_group = eqb-true (length m.group) 32 a.0;
-      sound_timestamp = ltb-true m.timestamp (2 ^ 63) b.0;
+      sound_timestamp = leb-true m.timestamp MAX_TIMESTAMP b.0;
       some_body = leb-true 1 (length m.body) c.0;
-      short_body = leb-true (length m.body) 32768 c.1;
+      short_body = leb-true (length m.body) MAX_BODY c.1;
     }
 
 pub is_message-from : (m : MessageValue) → IsMessage m → is_message m ≡ true
 is_message-from m is =
-    and_from (nat_eq (length m.group) 32) (nat_lt m.timestamp (2 ^ 63) && (nat_le 1 (length m.body) && nat_le (length m.body) 32768)) (eq-eqb (length m.group) 32 is.whole_group)
-    (and_from (nat_lt m.timestamp (2 ^ 63)) (nat_le 1 (length m.body) && nat_le (length m.body) 32768) (lt-ltb m.timestamp (2 ^ 63) is.sound_timestamp)
-    (and_from (nat_le 1 (length m.body)) (nat_le (length m.body) 32768) (le-leb 1 (length m.body) is.some_body) (le-leb (length m.body) 32768 is.short_body)))
+    and_from (nat_eq (length m.group) 32) (nat_le m.timestamp MAX_TIMESTAMP && (nat_le 1 (length m.body) && nat_le (length m.body) MAX_BODY)) (eq-eqb (length m.group) 32 is.whole_group)
+    (and_from (nat_le m.timestamp MAX_TIMESTAMP) (nat_le 1 (length m.body) && nat_le (length m.body) MAX_BODY) (le-leb m.timestamp MAX_TIMESTAMP is.sound_timestamp)
+    (and_from (nat_le 1 (length m.body)) (nat_le (length m.body) MAX_BODY) (le-leb 1 (length m.body) is.some_body) (le-leb (length m.body) MAX_BODY is.short_body)))
 
 record_is : (r : Record) → is_record r ≡ true → IsRecord r
-record_is (record_kind.Ack ids) h = within_is 1536 ids h
+record_is (record_kind.Ack ids) h = id_list_is ids h
 record_is (record_kind.Message m) h = message_is m h
-record_is (record_kind.Offer ids) h = within_is 1536 ids h
-record_is (record_kind.Request ids) h = within_is 1536 ids h
-record_is (record_kind.Versions versions) h = within_is 10 versions h
+record_is (record_kind.Offer ids) h = id_list_is ids h
+record_is (record_kind.Request ids) h = id_list_is ids h
+record_is (record_kind.Versions versions) h = version_list_is versions h
 record_is (record_kind.Priority nonce) h = eqb-true (length nonce) 16 h
 
 -- ---- what the list of the named ids is taken as
@@ -208,27 +233,33 @@ module _ (f : Facts) (s c : ℕ) where
 
 -- a list is within its limit, and the record of it is taken as these entries
 gives_list : (f : Facts) (s : ℕ) (kind : List Id → Record) (entries : List Entry) (ids : List Id) (as_taken : List Id → List Entry)
-    → ((xs : List Id) → is_record (kind xs) ≡ is_within 1536 xs) → ((xs : List Id) → taken f s (kind xs) ≡ as_taken (firsts xs))
-    → IsReadAs kind entries → Reads entries (firsts ids) → as_taken (ids_named entries) ≡ entries → length ids ≤ 1536
+    → ((xs : List Id) → is_record (kind xs) ≡ is_id_list xs) → ((xs : List Id) → taken f s (kind xs) ≡ as_taken (firsts xs))
+    → IsReadAs kind entries → Reads entries (firsts ids) → as_taken (ids_named entries) ≡ entries → IsIdList MAX_IDS ids
     → gives f s entries (read_as entries) ≡ true
-gives_list f s kind entries ids as_taken limit takes shape reads again few =
+gives_list f s kind entries ids as_taken limit takes shape reads again are =
     elim shape [
       | inl none ↦ ap (λ (es : List Entry). gives f s es (read_as es)) none
       | inr is ↦
           let named : List Id = ids_named entries in
-          let short : length named ≤ 1536 = let a = reads.part.shorter in let b = firsts_few ids in omega arith in
+          let short : length named ≤ MAX_IDS = omega (arith, reads.part.shorter, firsts_few ids, are.few) in
+          let whole : AreIds named = reads.part.whole (firsts_whole ids are.whole) in
           let once : firsts named ≡ named = firsts_of_distinct named (reads.part.distinct (firsts_distinct ids)) in
           let as_before : taken f s (kind named) ≡ entries = takes named ∙ ap as_taken once ∙ again in
-          let within : is_record (kind named) ≡ true = limit named ∙ is_within-from 1536 named is.1 short in
+          let within : is_record (kind named) ≡ true =
+          limit named ∙ and_from (is_within MAX_IDS named) (list_all is_whole named) (is_within-from MAX_IDS named is.1 short) (are_whole named whole) in
           let same : pointwise same_entry entries (taken f s (kind named)) ≡ true = ap (pointwise same_entry entries) as_before ∙ reads.same in
           ap (gives f s entries) is.0 ∙ and_from (is_record (kind named)) (pointwise same_entry entries (taken f s (kind named))) within same
     ]
 
+-- every message's id has 32 bytes
+abbrev pub WholeIds : Type 0
+WholeIds = (m : MessageValue) → length (message_id_of m) ≡ 32
+
 gives_nothing : (f : Facts) (s : ℕ) → gives f s [] (read_as []) ≡ true
 gives_nothing f s = refl
 
-gives_message : (f : Facts) (s : ℕ) (m : MessageValue) → IsMessage m → gives f s (taken f s (record_kind.Message m)) (read_as (taken f s (record_kind.Message m))) ≡ true
-gives_message f s m is =
+gives_message : WholeIds → (f : Facts) (s : ℕ) (m : MessageValue) → IsMessage m → gives f s (taken f s (record_kind.Message m)) (read_as (taken f s (record_kind.Message m))) ≡ true
+gives_message ids f s m is =
     elim (is_welcome f c m.group) as (λ w. is_welcome f c m.group ≡ w → P (cond w (taken_message_of f s c m (held_at f.held id)) [])) [
       | false ↦ λ e. gives_nothing f s
       | true ↦ λ e. elim (held_at f.held id) as (λ o. held_at f.held id ≡ o → P (taken_message_of f s c m o)) [
@@ -262,25 +293,27 @@ gives_message f s m is =
         let shown : is_shown f c id ≡ true = ap (is_shown_held f c) h ∙ t in
         let as_before : taken f s (record_kind.Offer (id ∷ [])) ≡ entry.Again s id ∷ [] =
         offer_is f s c room id true false [] shown (shown_forgotten f s c room id shown) in
-        ap (pointwise same_entry (entry.Again s id ∷ [])) as_before ∙ and_from (same_entry (entry.Again s id) (entry.Again s id)) true (pair_itself s id) refl
+        let within : is_record (record_kind.Offer (id ∷ [])) ≡ true = and_from (is_whole id) true (eq-eqb (length id) 32 (ids m)) refl in
+        and_from (is_record (record_kind.Offer (id ∷ []))) (pointwise same_entry (entry.Again s id ∷ []) (taken f s (record_kind.Offer (id ∷ [])))) within
+        (ap (pointwise same_entry (entry.Again s id ∷ [])) as_before ∙ and_from (same_entry (entry.Again s id) (entry.Again s id)) true (pair_itself s id) refl)
 
-gives_taken : (f : Facts) (s : ℕ) (r : Record) → IsRecord r → gives f s (taken f s r) (read_as (taken f s r)) ≡ true
-gives_taken f s (record_kind.Ack ids) is =
+gives_taken : WholeIds → (f : Facts) (s : ℕ) (r : Record) → IsRecord r → gives f s (taken f s r) (read_as (taken f s r)) ≡ true
+gives_taken all f s (record_kind.Ack ids) is =
     let c = contact_of f.sessions s in
     gives_list f s record_kind.Ack (taken_acks f s c (firsts ids)) ids (taken_acks f s c) (λ xs. refl) (λ xs. refl)
-    (acks_read_as f s c (firsts ids)) (acks_reads f s c (firsts ids)) (acks_again f s c (firsts ids)) is.few
-gives_taken f s (record_kind.Message m) is = gives_message f s m is
-gives_taken f s (record_kind.Offer ids) is =
+    (acks_read_as f s c (firsts ids)) (acks_reads f s c (firsts ids)) (acks_again f s c (firsts ids)) is
+gives_taken all f s (record_kind.Message m) is = gives_message all f s m is
+gives_taken all f s (record_kind.Offer ids) is =
     let c = contact_of f.sessions s in
     let room : ℕ = wants_limit - length (wanted_from f.wanted c) in
     gives_list f s record_kind.Offer (taken_offers f s c room (firsts ids)) ids (taken_offers f s c room) (λ xs. refl) (λ xs. refl)
-    (offers_read_as f s c (firsts ids) room) (offers_reads f s c (firsts ids) room) (offers_again f s c (firsts ids) room) is.few
-gives_taken f s (record_kind.Request ids) is =
+    (offers_read_as f s c (firsts ids) room) (offers_reads f s c (firsts ids) room) (offers_again f s c (firsts ids) room) is
+gives_taken all f s (record_kind.Request ids) is =
     let c = contact_of f.sessions s in
     gives_list f s record_kind.Request (taken_requests f s c (firsts ids)) ids (taken_requests f s c) (λ xs. refl) (λ xs. refl)
-    (requests_read_as f s c (firsts ids)) (requests_reads f s c (firsts ids)) (requests_again f s c (firsts ids)) is.few
-gives_taken f s (record_kind.Versions versions) is = gives_nothing f s
-gives_taken f s (record_kind.Priority nonce) is = gives_nothing f s
+    (requests_read_as f s c (firsts ids)) (requests_reads f s c (firsts ids)) (requests_again f s c (firsts ids)) is
+gives_taken all f s (record_kind.Versions versions) is = gives_nothing f s
+gives_taken all f s (record_kind.Priority nonce) is = gives_nothing f s
 
 -- some record is taken as these entries
 pub record SomeRecord (f : Facts) (s : ℕ) (entries : List Entry) : Type 0 where
@@ -297,5 +330,5 @@ gives_some f s entries h =
       taken_so = same_entries-is entries (taken f s (read_as entries)) parts.1;
     }
 
-pub some_gives : (f : Facts) (s : ℕ) (entries : List Entry) (r : Record) → IsRecord r → entries ≡ taken f s r → gives f s entries (read_as entries) ≡ true
-some_gives f s entries r is same = ap (λ (es : List Entry). gives f s es (read_as es)) same ∙ gives_taken f s r is
+pub some_gives : WholeIds → (f : Facts) (s : ℕ) (entries : List Entry) (r : Record) → IsRecord r → entries ≡ taken f s r → gives f s entries (read_as entries) ≡ true
+some_gives all f s entries r is same = ap (λ (es : List Entry). gives f s es (read_as es)) same ∙ gives_taken all f s r is

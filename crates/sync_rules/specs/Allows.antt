@@ -1,10 +1,12 @@
 -- Whether a batch may follow a journal, as a test: what `Allowed` says of the facts of the journal, by cases on the
 -- first entry.
 use Rattle.std.specs.Prelude.{◌≡◌, ℕ, ◌^◌, Bool, true, false, ◌&&◌, nat_eq, nat_lt, nat_le, List, [], ◌∷◌, length, Option, Some, None, is_some, is_none}
-use Rattle.std.specs.List.{filter_map}
+use Rattle.std.specs.List.{filter_map, list_all}
 use Rattle.std.specs.Cmp.Lexicographic.{pointwise}
 use Rattle.sync_ids.specs.Values.{GroupValue, MessageValue}
 use Rattle.sync_ids.specs.Ids.{group_id_of, message_id_of}
+use Rattle.sync_ids.specs.declared.lists.TheConstants.{MAX_IDS, MAX_VERSIONS}
+use Rattle.sync_ids.specs.declared.message.TheConstants.{MAX_BODY, MAX_TIMESTAMP}
 use Rattle.sync_ids.specs.declared.records.Record.{Record}
 use Rattle.sync_ids.specs.declared.records.Record.TheVariants as record_kind
 use Rattle.sync_rules.specs.declared.entries.Entry.{Entry}
@@ -138,23 +140,31 @@ is_due clients f (Some s) now what = is_some_of same_out (due clients f s now) w
 
 -- ---- what a record is taken as
 
--- a list of ids or of version bytes has one at least and no more than this
+-- a list has one element at least and no more than this
 abbrev pub is_within : {A : Type 0} → ℕ → List A → Bool
 is_within most xs = nat_le 1 (length xs) && nat_le (length xs) most
+
+-- an id has 32 bytes
+abbrev pub is_whole : Id → Bool
+is_whole id = nat_eq (length id) 32
+
+-- a list of ids within its limits
+abbrev pub is_id_list : List Id → Bool
+is_id_list ids = is_within MAX_IDS ids && list_all is_whole ids
 
 -- a message within its limits
 abbrev pub is_message : MessageValue → Bool
 is_message m =
     nat_eq (length m.group) 32
-    && (nat_lt m.timestamp (2 ^ 63) && (nat_le 1 (length m.body) && nat_le (length m.body) 32768))
+    && (nat_le m.timestamp MAX_TIMESTAMP && (nat_le 1 (length m.body) && nat_le (length m.body) MAX_BODY))
 
 -- a record within its limits
 abbrev pub is_record : Record → Bool
-is_record (record_kind.Ack ids) = is_within 1536 ids
+is_record (record_kind.Ack ids) = is_id_list ids
 is_record (record_kind.Message m) = is_message m
-is_record (record_kind.Offer ids) = is_within 1536 ids
-is_record (record_kind.Request ids) = is_within 1536 ids
-is_record (record_kind.Versions versions) = is_within 10 versions
+is_record (record_kind.Offer ids) = is_id_list ids
+is_record (record_kind.Request ids) = is_id_list ids
+is_record (record_kind.Versions versions) = is_within MAX_VERSIONS versions
 is_record (record_kind.Priority nonce) = nat_eq (length nonce) 16
 
 -- the id that an entry of a heard list names

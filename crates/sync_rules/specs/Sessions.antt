@@ -2,6 +2,7 @@
 use Rattle.std.specs.Prelude.{ℕ, ◌-◌, Bool, true, false, not, cond, ◌&&◌, ◌||◌, nat_le, nat_lt, List, [], ◌∷◌, ◌++◌, length, take, Option, Some, None, is_some}
 use Rattle.sync_ids.specs.Values.{MessageValue}
 use Rattle.sync_ids.specs.Ids.{message_id_of}
+use Rattle.sync_ids.specs.declared.lists.TheConstants.{MAX_IDS}
 use Rattle.sync_ids.specs.declared.records.Record.{Record}
 use Rattle.sync_ids.specs.declared.records.Record.TheVariants as record_kind
 use Rattle.sync_rules.specs.declared.answers.Judgement.{Judgement}
@@ -134,7 +135,7 @@ is_sendable f shared contact h =
 
 -- the greatest number of ids in one output
 abbrev pub ids_limit : ℕ
-ids_limit = 1536
+ids_limit = MAX_IDS
 
 -- the ids that wait for an acknowledgement to the contact
 abbrev pub owed_to : Facts → ℕ → List Id

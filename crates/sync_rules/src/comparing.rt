@@ -6,9 +6,9 @@ ghost use Rattle.sync_rules.specs.Allows.{is_asked, is_deliver, is_invalid, is_j
 ghost use Rattle.sync_rules.specs.Allows.{is_offers, is_requests, is_seen, is_send, same_entry};
 ghost use Rattle.sync_rules.specs.Allows.{same_message, same_out, same_pair};
 
+use crate::entries::{Entry, Out};
 use std::alloc::{AllocError, Global};
 use sync_ids::{Message, MessageId};
-use crate::entries::{Entry, Out};
 
 // ---- parts
 

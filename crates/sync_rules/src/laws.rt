@@ -18,6 +18,8 @@ ghost use Rattle.sync_rules.specs.Steps.{IsSettled};
 ghost use Rattle.sync_rules.specs.Views.{KnowsShown};
 ghost use Rattle.sync_rules.specs.declared.entries.Entry.{Entry};
 
+use sync_ids::message_ids_are_whole;
+
 /// Once: in a legal journal each id has at most one Author or Arrive entry, at most one Judged
 /// entry, and at most one of Deliver and Invalid.
 pub fn once()
@@ -139,4 +141,6 @@ pub fn left()
 /// Allows: the test of a batch says yes exactly where the batch may follow a journal of these facts.
 pub fn allows_is_allowed()
     ensures { AllowsIsAllowed }
-{}
+{
+    message_ids_are_whole();
+}

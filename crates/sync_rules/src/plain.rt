@@ -31,11 +31,8 @@ use crate::steps::judge_in;
 use crate::view::View;
 use std::alloc::{AllocError, Global};
 use std::marker::Model;
-use sync_ids::{GroupId, Message, MessageId};
+use sync_ids::{GroupId, MAX_IDS, Message, MessageId};
 use thiserror::Error;
-
-// The greatest number of ids in one list.
-const MAX_IDS: usize = 1536;
 
 // ---- sessions, at a place: behind these batches and these entries of the next one
 

@@ -8,7 +8,7 @@ use crate::{
 use std::alloc::{AllocError, Global};
 use std::process::Abort;
 use std::test::Fail;
-use sync_ids::{Fixed, GroupDef, GroupId, IdList, Message, MessageId, group_id};
+use sync_ids::{Fixed, GroupDef, GroupId, IdList, MAX_IDS, Message, MessageId, group_id};
 
 /// A client of all groups whose messages depend on one another: each names the other of two ids.
 #[derive(Drop)]
@@ -113,7 +113,7 @@ fn commit(alloc: Global, j: &mut Vec<Batch>, entry: Entry) -> Result<(), Fail> {
     Ok(())
 }
 
-fn list(alloc: Global, id: &MessageId) -> Result<IdList<1536>, Fail> {
+fn list(alloc: Global, id: &MessageId) -> Result<IdList<MAX_IDS>, Fail> {
     let mut ids = Vec::new(alloc);
     ids.push(*id)?;
     Ok(IdList::new(ids)?)
