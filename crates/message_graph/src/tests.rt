@@ -1,5 +1,6 @@
 use crate::{Ending, Fate, Graph, Judged, Names, Node, Step, fate_in, next_in};
 use std::alloc::{AllocError, Global};
+use std::hash::RandomState;
 use std::process::Abort;
 use std::test::Fail;
 
@@ -99,7 +100,7 @@ fn hold(
 #[test]
 fn agrees_with_a_scan(rt: HostRuntime) -> Result<(), Fail> {
     for seed in 0..400u64 {
-        let mut graph = Graph::new(rt.alloc())?;
+        let mut graph = Graph::new(rt.alloc(), RandomState::new(&rt)?)?;
         let mut nodes = Vec::new(rt.alloc());
         let mut draw = drawn(seed);
         for _ in 0..60 {
@@ -119,7 +120,7 @@ fn agrees_with_a_scan(rt: HostRuntime) -> Result<(), Fail> {
 
 #[test]
 fn a_cycle_stays_pending(rt: HostRuntime) -> Result<(), Fail> {
-    let mut graph = Graph::new(rt.alloc())?;
+    let mut graph = Graph::new(rt.alloc(), RandomState::new(&rt)?)?;
     assert!(rt; graph.is_empty());
     for (k, other) in [(0u8, 1u8), (1, 0)] {
         let mut nodes = Vec::new(rt.alloc());

@@ -1,5 +1,6 @@
 use crate::Retry;
 use std::alloc::{AllocError, Global};
+use std::hash::RandomState;
 use std::process::Abort;
 use std::test::Fail;
 use sync_ids::{Fixed, MessageId};
@@ -234,7 +235,7 @@ fn compare_kept(rt: &impl Abort, retry: &Retry, peer: &PlainPeer) -> Result<(), 
 #[test]
 fn answers_what_a_plain_table_answers(rt: HostRuntime) -> Result<(), Fail> {
     let alloc = rt.alloc();
-    let mut retry = Retry::new(alloc)?;
+    let mut retry = Retry::new(alloc, RandomState::new(&rt)?)?;
     let mut peers = [
         PlainPeer::new(alloc, 0)?,
         PlainPeer::new(alloc, 7)?,
@@ -263,7 +264,7 @@ fn offer(retry: &mut Retry, contact: u8, now: u64, latency: u32) -> Result<u64, 
 
 #[test]
 fn the_wait_doubles_until_a_request(rt: HostRuntime) -> Result<(), Fail> {
-    let mut retry = Retry::new(rt.alloc())?;
+    let mut retry = Retry::new(rt.alloc(), RandomState::new(&rt)?)?;
     for (now, expiry) in [(1_000, 61_000), (61_000, 181_000), (181_000, 421_000)] {
         assert_eq!(rt; offer(&mut retry, 3, now, 30_000)?, expiry);
     }
@@ -283,7 +284,7 @@ fn the_wait_doubles_until_a_request(rt: HostRuntime) -> Result<(), Fail> {
 
 #[test]
 fn the_greatest_expiry_is_a_time(rt: HostRuntime) -> Result<(), Fail> {
-    let mut retry = Retry::new(rt.alloc())?;
+    let mut retry = Retry::new(rt.alloc(), RandomState::new(&rt)?)?;
     retry.reserve(4, 1, 0)?;
     retry.ready(4, 0);
     let mut expiry = 0;
