@@ -32,12 +32,12 @@ impl Disk for Untold {
     ghost tells = { λ d. silent d.faults 0 [] };
 
     fn len(&mut self, file: u8) -> Result<u64, Failed> {
-        let answer = self.disk.make_len(file);
+        let answer = self.disk.len(file);
         self.counted(answer)
     }
 
     fn read_at(&mut self, file: u8, at: u64, buf: &mut [u8]) -> Result<usize, Failed> {
-        match self.disk.make_read(file, at, buf) {
+        match self.disk.read_at(file, at, buf) {
             Ok(n) => Ok(n),
             Err(fault) => {
                 self.faults = self.faults.saturating_add(1);
@@ -48,7 +48,7 @@ impl Disk for Untold {
 
     fn write_at(&mut self, file: u8, at: u64, bytes: &[u8]) -> Result<(), Failed> {
         let answer = if at <= self.disk.file(file).len() as u64 {
-            self.disk.make_write(file, at, bytes)
+            self.disk.write_at(file, at, bytes)
         } else {
             Err(Failed)
         };
@@ -56,12 +56,12 @@ impl Disk for Untold {
     }
 
     fn cut(&mut self, file: u8, len: u64) -> Result<(), Failed> {
-        let answer = self.disk.make_cut(file, len);
+        let answer = self.disk.cut(file, len);
         self.counted(answer)
     }
 
     fn sync(&mut self, file: u8) -> Result<(), Failed> {
-        let answer = self.disk.make_sync(file);
+        let answer = self.disk.sync(file);
         self.counted(answer)
     }
 }

@@ -19,10 +19,10 @@ fn make(rt: &impl Abort, disk: &mut MemDisk, op: &Op, fails: bool) -> Result<(),
     let answer = match op {
         Op::Write(at, bytes) => {
             assert!(rt; *at <= disk.file(0).len() as u64);
-            disk.make_write(0, *at, bytes)
+            disk.write_at(0, *at, bytes)
         }
-        Op::Cut(len) => disk.make_cut(0, *len),
-        Op::Sync => disk.make_sync(0),
+        Op::Cut(len) => disk.cut(0, *len),
+        Op::Sync => disk.sync(0),
     };
     assert_eq!(rt; answer.is_err(), fails);
     Ok(())
