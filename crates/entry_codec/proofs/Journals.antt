@@ -12,6 +12,7 @@ use Rattle.sync_rules.specs.Clients.{Meaning}
 use Rattle.sync_rules.specs.Facts.{Facts, after_all, facts, nothing}
 use Rattle.sync_rules.specs.Legal.{Allowed, GoesOn, Legal}
 use Rattle.sync_rules.specs.Allows.{allows}
+use Rattle.outside.specs.declared.limits.TheConstants.{MAX_FRAME}
 use Rattle.outside.specs.Files.{Two, file_of}
 use Rattle.outside.specs.Frames.{Frame, IsPayload, broken, closed, format_in, frame_at, frame_of, journal_file, framed, is_broken, most_bytes, size_at}
 use Rattle.entry_codec.specs.Spelling.{IsEntry}
@@ -47,7 +48,7 @@ frame_there bytes front p behind place split is fits bounded =
     ap (λ (l : List ℕ). get_or l place 0) split ∙ ap (λ (n : ℕ). get_or (front ++ (frame_of p ++ behind)) n 0) (omega (arith, is)) ∙ get_or-append-add front (frame_of p ++ behind) 0 0 in
     let whole : is_broken bytes place ≡ false =
     or_from _ _ (or_from _ _ (or_from _ _ (or_from _ _ (le-ltb (length bytes) (place + 5) (omega arith)) (ne_eqb (size_at bytes place) 0 (λ none. omega (arith, fits.0, size, none))))
-    (le-ltb 65536 (size_at bytes place) (omega (arith, fits.1, size)))) (le-ltb (length bytes) (place + 5 + size_at bytes place) (omega arith))) (le-ltb most_bytes (place + 6 + size_at bytes place) (omega arith)) in
+    (le-ltb MAX_FRAME (size_at bytes place) (omega (arith, fits.1, size)))) (le-ltb (length bytes) (place + 5 + size_at bytes place) (omega arith))) (le-ltb most_bytes (place + 6 + size_at bytes place) (omega arith)) in
     cond-false (nat_le (length bytes) place) _ _ (lt-leb (length bytes) place (omega arith))
     ∙ cond-false (not (slice_index bytes place == 1)) _ _ (not_from_true (slice_index bytes place == 1) (eq-eqb (slice_index bytes place) 1 byte))
     ∙ cond-false (is_broken bytes place) _ _ whole

@@ -10,6 +10,7 @@ use Rattle.sync_rules.specs.Clients.{Meaning}
 use Rattle.sync_rules.specs.Facts.{Facts, facts, nothing}
 use Rattle.sync_rules.specs.Legal.{Allowed, Legal}
 use Rattle.sync_rules.specs.Allows.{allows}
+use Rattle.outside.specs.declared.limits.TheConstants.{MAX_FRAME}
 use Rattle.outside.specs.Files.{Two, file_of}
 use Rattle.outside.specs.Frames.{Frame, HasFrames, IsPayload, broken, closed, format_in, frame_at, frame_of, framed, is_broken, is_open, journal_file, most_bytes, size_at}
 use Rattle.entry_codec.specs.Spelling.{IsEntry}
@@ -22,7 +23,7 @@ use Rattle.entry_codec.specs.Standing.{Standing, damaged, frames_from, journal, 
 -- a frame that is there fits the file
 pub record FitsFile (bytes : List ℕ) (place : ℕ) (to : List ℕ) : Type 0 where
   pub some : 1 ≤ length to
-  pub few : length to ≤ 65536
+  pub few : length to ≤ MAX_FRAME
   pub there : place + 5 + length to ≤ length bytes
   pub bounded : place + 6 + length to ≤ most_bytes
 
@@ -34,7 +35,7 @@ second_of : {A : Type 0} (t : Bool) (x y z : A) → (x ≡ z → ⊥) → cond t
 second_of true x y z ne e = absurd (ne e)
 second_of false x y z ne e = (refl, e)
 
-size_fits : (bytes : List ℕ) (place size : ℕ) (to : List ℕ) → (size ≡ 0 → ⊥) → size ≤ 65536 → place + 5 + size ≤ length bytes → place + 6 + size ≤ most_bytes
+size_fits : (bytes : List ℕ) (place size : ℕ) (to : List ℕ) → (size ≡ 0 → ⊥) → size ≤ MAX_FRAME → place + 5 + size ≤ length bytes → place + 6 + size ≤ most_bytes
     → take size (drop (place + 5) bytes) ≡ to → FitsFile bytes place to
 size_fits bytes place size to some few there bounded is =
     let long : length to ≡ size = ap length (sym is) ∙ length-take-le size (drop (place + 5) bytes) (omega (arith, length-drop (place + 5) bytes)) in
@@ -47,7 +48,7 @@ framed_fits bytes place to e =
     let whole = second_of (is_broken bytes place) broken _ (framed to) (λ h. cc) gate.1 in
     let bounded = or_parts _ (nat_lt most_bytes (place + 6 + size_at bytes place)) whole.0 in
     let there = or_parts _ (nat_lt (length bytes) (place + 5 + size_at bytes place)) bounded.0 in
-    let few = or_parts _ (nat_lt 65536 (size_at bytes place)) there.0 in
+    let few = or_parts _ (nat_lt MAX_FRAME (size_at bytes place)) there.0 in
     let some = or_parts _ (size_at bytes place == 0) few.0 in
     let is : take (size_at bytes place) (drop (place + 5) bytes) ≡ to = cc (whole.1) in
     size_fits bytes place (size_at bytes place) to (eqb-false (size_at bytes place) 0 some.1) (ltb-false _ _ few.1) (ltb-false _ _ there.1) (ltb-false _ _ bounded.1) is

@@ -17,7 +17,7 @@ use crate::frame::next_at;
 use crate::gates::open_behind;
 use crate::header::journal_of;
 use crate::{DiskFault, FrameFault, StartFault, read_header};
-use outside::{Disk, Place};
+use outside::{Disk, MAX_JOURNAL, Place};
 use std::marker::Model;
 
 /// A journal's file, read up to a gate.
@@ -141,9 +141,10 @@ impl Journal {
         Ok(())
     }
 
-    /// The place of the closed gate plus one.
+    /// The place of the closed gate plus one: at most `MAX_JOURNAL`.
     pub fn end(&self) -> u64
-        ensures { result ≡ self.now.end }
+        ensures value { result ≡ self.now.end }
+        ensures within { result ≤ MAX_JOURNAL }
     {
         self.end
     }

@@ -3,12 +3,11 @@ use Rattle.std.proofs.Common.{◌≡◌, ℕ, ◌+◌, ◌-◌, ◌≤◌, List,
 use Rattle.std.specs.Int.{w32, to_be_bytes}
 use Rattle.std.proofs.Math.Seq.{take-append_seam, drop-append_seam}
 use Rattle.outside.specs.Frames.{IsPayload}
-use Rattle.frame_journal.specs.Append.{payload_of, IsFramed}
+use Rattle.frame_journal.specs.Append.{framed_of, payload_of, IsFramed}
 use Rattle.sync_rules.specs.declared.entries.Entry.{Entry}
 use Rattle.sync_rules.specs.Facts.{facts}
 use Rattle.entry_codec.specs.Payloads.{journal_end, payload}
 use Rattle.entry_codec.specs.Growing.{journal_end_push}
-use Rattle.sync_store.specs.Commits.{framed_of}
 
 be_long : (n : ℕ) → length (to_be_bytes w32 n) ≡ 4
 be_long n = refl

@@ -7,7 +7,7 @@ use Rattle.outside.specs.Frames.{IsPayload, most_bytes}
 use Rattle.outside.specs.Disk.{Becomes}
 use Rattle.outside.specs.Outside.{Outside}
 use Rattle.outside.specs.Steps.{Passed}
-use Rattle.frame_journal.specs.Append.{Appends, BeforeOrWith, IsFramed, payload_of}
+use Rattle.frame_journal.specs.Append.{Appends, BeforeOrWith, IsFramed, framed_of, payload_of}
 use Rattle.sync_rules.specs.declared.entries.Entry.{Entry}
 use Rattle.sync_rules.specs.declared.limits.TheConstants.{MAX_STEPS}
 use Rattle.sync_rules.specs.Clients.{Meaning}
@@ -24,7 +24,7 @@ use Rattle.sync_store.specs.declared.fault.StoreFault.TheVariants as fault
 use Rattle.sync_store.specs.Cited.{CitedLaws}
 use Rattle.sync_store.specs.Store.{HasNumbers, IsStore, StoreValue}
 use Rattle.sync_store.specs.Fitting.{Fits}
-use Rattle.sync_store.specs.Commits.{Gains, MayAdd, framed_of, needed}
+use Rattle.sync_store.specs.Commits.{Gains, MayAdd, needed}
 use Rattle.sync_store.specs.Moments.{journal_with}
 use Rattle.sync_store.specs.Settling.{BatchSo, ComesBy, IsOneBatch, MakesBatch}
 use Rattle.sync_store.proofs.FitSteps.{adds_err, adds_ok}

@@ -1,6 +1,5 @@
 -- What a commit answers, and what stands after each answer.
-use Rattle.std.specs.Prelude.{◌≡◌, ℕ, ◌+◌, ◌<◌, ◌≤◌, true, false, List, [], ◌∷◌, ◌++◌, length, Result, Ok, Err}
-use Rattle.std.specs.Int.{w32, to_be_bytes}
+use Rattle.std.specs.Prelude.{◌≡◌, ℕ, ◌+◌, ◌<◌, ◌≤◌, true, false, List, length, Result, Ok, Err}
 use Rattle.std.specs.List.{AllByRecursion}
 use Rattle.outside.specs.Frames.{most_bytes}
 use Rattle.frame_journal.specs.Append.{IsFramed, payload_of}
@@ -64,7 +63,3 @@ Unasked (Err fault.Closed) old new = new ≡ old
 Unasked (Err fault.Full) old new = new ≡ old
 Unasked (Err fault.Memory) old new = new ≡ old
 Unasked _ old new = Unit {0}
-
--- a payload's length in four bytes, the payload, and a zero byte
-abbrev pub framed_of : List ℕ → List ℕ
-framed_of payload = to_be_bytes w32 (length payload) ++ payload ++ 0 ∷ []
