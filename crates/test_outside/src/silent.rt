@@ -2,8 +2,7 @@
 ghost use Rattle.std.specs.Prelude.{◌<◌, ◌≤◌};
 ghost use Rattle.outside.specs.declared.limits.TheConstants.{LINKS};
 
-use crate::counts::raise_at;
-use crate::{Disk, Failed, Heard, Host, LINKS};
+use outside::{Disk, Failed, Heard, Host, LINKS, raise_at};
 use std::test::Fail;
 
 #[derive(Drop)]
