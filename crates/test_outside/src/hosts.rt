@@ -208,14 +208,13 @@ fn restarts_and_crashes(rt: HostRuntime) -> Result<(), Fail> {
     host.stop_at(host.disk().calls());
     assert_eq!(rt; host.cut(0, 0), Err(Failed));
     host.restart()?;
-    assert_eq!(rt; (host.sent(0), host.disk().calls()), (b"".as_slice(), 2));
+    assert!(rt; host.sent(0).is_empty());
+    assert_eq!(rt; host.disk().calls(), 2);
     begin_again(&rt, &mut host)?;
     assert_eq!(rt; host.disk().file(0), b"ab".as_slice());
     host.crash(Pick::Old)?;
-    assert_eq!(rt;
-        (host.disk().file(0), host.disk().calls()),
-        (b"".as_slice(), 0)
-    );
+    assert!(rt; host.disk().file(0).is_empty());
+    assert_eq!(rt; host.disk().calls(), 0);
     begin_again(&rt, &mut host)?;
     Ok(())
 }

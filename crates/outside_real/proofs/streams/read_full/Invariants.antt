@@ -1,5 +1,5 @@
 use Rattle.std.proofs.Common.{length, ◌-◌, ◌≤◌}
-use Rattle.outside_real.proofs.real_file.read_full.Given as goal
+use Rattle.outside_real.proofs.streams.read_full.Given as goal
 
 abbrev pub invariant-pieces : goal.invariant-pieces
 invariant-pieces g l = l.done ≤ length l.buf
