@@ -8,3 +8,4 @@ mod SettleSteps
 mod BeginSteps
 pub mod Limits
 mod Growth
+mod Due
