@@ -9,3 +9,4 @@ mod BeginSteps
 pub mod Limits
 mod Growth
 mod Due
+mod Errors

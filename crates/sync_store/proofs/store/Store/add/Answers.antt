@@ -1,7 +1,6 @@
-use Rattle.std.proofs.Common.{◌≡◌, ◌+◌, List, ℕ, length, refl, sym, ap, ◌∙◌, subst, false, arith}
+use Rattle.std.proofs.Common.{◌≡◌, ◌+◌, List, ℕ, length, refl, sym, ap, ◌∙◌, subst, false, arith, Ok}
 use Rattle.frame_journal.specs.Journal.{JournalValue}
-use Rattle.journal_state.specs.Taking.{HasNextNumbers}
-use Rattle.journal_state.specs.Whole.{StateValue}
+use Rattle.journal_state.specs.Whole.{Knows, StateValue}
 use Rattle.sync_rules.specs.declared.entries.Entry.{Entry}
 use Rattle.sync_rules.specs.Clients.{Meaning}
 use Rattle.sync_rules.specs.Facts.{after_all}
@@ -10,9 +9,9 @@ use Rattle.entry_codec.specs.Payloads.{payload_len}
 use Rattle.sync_store.specs.declared.fault.StoreFault.TheVariants as fault
 use Rattle.sync_store.specs.Store.{StoreValue}
 use Rattle.sync_store.specs.Inside.{value_of}
-use Rattle.sync_store.specs.Fitting.{Fits}
+use Rattle.sync_store.specs.Fitting.{Fits, FitsSome}
 use Rattle.sync_store.specs.Commits.{Gains, MayAdd}
-use Rattle.sync_store.proofs.FitSteps.{adds_err, adds_ok, true≢false}
+use Rattle.sync_store.proofs.FitSteps.{adds_err, adds_ok}
 use Rattle.sync_store.proofs.Framing.{framed_long}
 use Rattle.sync_store.proofs.Growth.{grown_store}
 use Rattle.sync_store.proofs.SettleSteps.{adds_ready_fits}
@@ -61,7 +60,23 @@ returns-in-Ok-clause-extends g c two told j fits =
     (gained clients s c.take.new.self c.append.new.self c.args.batch c.args.framed.now may still c.take.ensures.facts (ap (λ (j : JournalValue). j.file) c.in-Ok.ensures.ok) (ap (λ (j : JournalValue). j.end) c.in-Ok.ensures.ok))
 
 pub returns-in-Ok-clause-ready : goal.returns-in-Ok-clause-ready
-returns-in-Ok-clause-ready g c still = ?
+returns-in-Ok-clause-ready g c still =
+    let clients = g.C.Clients.meaning c.args.clients.now in
+    let s = value_of c.self.inside in
+    let o = g.D.Disk.tells c.args.disk.now in
+    let o' = g.D.Disk.tells c.append.new.disk in
+    let may = subst (λ (v : StoreValue). MayAdd clients v c.args.batch c.args.framed.now) (sym c.self.view_is) c.requires.may in
+    let gains =
+    gained clients s c.take.new.self c.append.new.self c.args.batch c.args.framed.now may still c.take.ensures.facts (ap (λ (j : JournalValue). j.file) c.in-Ok.ensures.ok)
+    (ap (λ (j : JournalValue). j.end) c.in-Ok.ensures.ok) in
+    record {
+      still_open = still;
+      knows = c.take.ensures.knows clients (subst (λ (v : StoreValue). Knows clients v.state) (sym c.self.view_is) c.requires.ready.knows);
+      fits =
+          adds_ready_fits clients s _ c.args.batch (Ok tt) o o' c.in-Ok.ensures.run
+          (λ two told j fits. adds_ok c.cite_laws.ensures.stand clients s _ j two c.args.batch c.args.framed.now tt o o' fits may told (c.in-Ok.ensures.any_moment two told) c.in-Ok.ensures.appended gains)
+          (subst (λ (v : StoreValue). FitsSome clients v o.files) (sym c.self.view_is) c.requires.ready.fits) still;
+    }
 
 pub returns-in-Err-clause-extends : goal.returns-in-Err-clause-extends
 returns-in-Err-clause-extends g c two told j fits =

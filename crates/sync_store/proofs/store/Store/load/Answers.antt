@@ -1,14 +1,29 @@
-use Rattle.std.proofs.Common.{◌≡◌, sym, ◌∙◌}
+use Rattle.std.proofs.Common.{◌≡◌, sym, ◌∙◌, subst, Result}
 use Rattle.sync_rules.specs.Facts.{nothing}
 use Rattle.outside.specs.Steps.{looks_then}
+use Rattle.outside.specs.Files.{read_files}
+use Rattle.sync_store.specs.Store.{StoreValue}
+use Rattle.sync_store.specs.Faults.{load_of_start}
+use Rattle.sync_store.specs.Loading.{IsLoaded, LeavesSettled}
+use Rattle.sync_store.specs.declared.fault.LoadFault.{LoadFault}
+use Rattle.sync_store.proofs.Errors.{err_is}
 use Rattle.sync_store.proofs.LoadEnds.{answers, answers_fault, images_then, knows_none, reads_leaves, ready_loaded, starts_fault, starts_leaves, starts_so_far, store_of}
 use Rattle.sync_store.proofs.store.Store.load.Goals as goal
 
 pub returns-in_err-journal-clause-answer : goal.returns-in_err-journal-clause-answer
-returns-in_err-journal-clause-answer g c two told = ?
+returns-in_err-journal-clause-answer g c two told =
+    let clients = g.C.Clients.meaning c.args.clients.now in
+    let e = c.in_err-journal.field-0.0 in
+    subst (λ (r : Result StoreValue LoadFault). IsLoaded clients (read_files two) r) (sym (err_is c.from_residual-in_err-journal.result (load_of_start e) c.from_residual-in_err-journal.ensures.1))
+    (starts_fault clients (g.D.Disk.tells c.args.disk.now) (g.D.Disk.tells c.barrier.new.disk) two e c.in_ok-barrier.ensures.settled (λ mid there. c.in_err-journal.ensures.start mid there) told)
 
 pub returns-in_err-journal-clause-settled : goal.returns-in_err-journal-clause-settled
-returns-in_err-journal-clause-settled g c = ?
+returns-in_err-journal-clause-settled g c =
+    let o0 = g.D.Disk.tells c.args.disk.now in
+    let o2 = g.D.Disk.tells c.start.new.disk in
+    let e = c.in_err-journal.field-0.0 in
+    subst (λ (r : Result StoreValue LoadFault). LeavesSettled o0.files o2.files r) (sym (err_is c.from_residual-in_err-journal.result (load_of_start e) c.from_residual-in_err-journal.ensures.1))
+    (starts_leaves o0 (g.D.Disk.tells c.barrier.new.disk) o2 e c.in_ok-barrier.ensures.settled c.start.ensures.looks)
 
 pub returns-in_err-journal-clause-any_moment : goal.returns-in_err-journal-clause-any_moment
 returns-in_err-journal-clause-any_moment g c =
@@ -26,10 +41,22 @@ read_all-requires g c =
     (knows_none clients c.in_ok-state.state empty c.in_ok-state.ensures.answers)
 
 pub returns-in_err-read_all-clause-answer : goal.returns-in_err-read_all-clause-answer
-returns-in_err-read_all-clause-answer g c two told = ?
+returns-in_err-read_all-clause-answer g c two told =
+    let clients = g.C.Clients.meaning c.args.clients.now in
+    let e = c.in_err-read_all.field-0.0 in
+    subst (λ (r : Result StoreValue LoadFault). IsLoaded clients (read_files two) r) (sym (err_is c.from_residual-in_err-read_all.result e c.from_residual-in_err-read_all.ensures.1))
+    (answers_fault clients (g.D.Disk.tells c.args.disk.now) (g.D.Disk.tells c.barrier.new.disk) (g.D.Disk.tells c.read_all.new.disk) two c.read_all.new.journal c.read_all.new.state e
+    c.in_ok-barrier.ensures.settled (c.read_all.ensures.looks.same_files ∙ c.start.ensures.looks.same_files) c.in_err-read_all.ensures.all told)
 
 pub returns-in_err-read_all-clause-settled : goal.returns-in_err-read_all-clause-settled
-returns-in_err-read_all-clause-settled g c = ?
+returns-in_err-read_all-clause-settled g c =
+    let o0 = g.D.Disk.tells c.args.disk.now in
+    let o1 = g.D.Disk.tells c.barrier.new.disk in
+    let o2 = g.D.Disk.tells c.start.new.disk in
+    let o3 = g.D.Disk.tells c.read_all.new.disk in
+    let e = c.in_err-read_all.field-0.0 in
+    subst (λ (r : Result StoreValue LoadFault). LeavesSettled o0.files o3.files r) (sym (err_is c.from_residual-in_err-read_all.result e c.from_residual-in_err-read_all.ensures.1))
+    (reads_leaves o0 o1 o3 e c.in_ok-barrier.ensures.settled (looks_then o1 o2 o3 c.start.ensures.looks c.read_all.ensures.looks))
 
 pub returns-in_err-read_all-clause-any_moment : goal.returns-in_err-read_all-clause-any_moment
 returns-in_err-read_all-clause-any_moment g c =
