@@ -10,7 +10,7 @@ mod taking;
 
 pub use links::{keep, versions_ok};
 pub use outputs::due;
-pub use taking::{MAX_WANTED, take};
+pub use taking::take;
 
 #[cfg(test)]
 mod tests;

@@ -1,7 +1,7 @@
-use Rattle.std.proofs.Common.{◌≡◌, ◌<◌, Some, ap, sym, subst, ◌∙◌}
+use Rattle.std.proofs.Common.{◌<◌, sym, subst, ◌∙◌}
 use Rattle.journal_state.specs.Whole.{StateValue}
 use Rattle.journal_state.proofs.Entries.{met_known}
-use Rattle.journal_state.proofs.state.State.session.Goals as goal
+use Rattle.journal_state.proofs.state.State.known_session.Goals as goal
 
 pub returns-clause-known : goal.returns-clause-known
 returns-clause-known c =
