@@ -13,12 +13,15 @@ use Rattle.sync_rules.specs.declared.limits.TheConstants.{MAX_STEPS}
 use Rattle.sync_rules.specs.Clients.{Meaning}
 use Rattle.sync_rules.specs.Facts.{Facts, after_all, takes_of}
 use Rattle.sync_rules.specs.Left.{left_of}
+use Rattle.sync_rules.specs.LeftLaws.{steps_lower}
 use Rattle.sync_rules.specs.Legal.{Allowed, IsSettling}
 use Rattle.sync_rules.specs.Steps.{IsSettled}
+use Rattle.sync_rules.specs.WorkLaws.{allowed_settling}
 use Rattle.entry_codec.specs.declared.lengths.TheConstants.{STEP_LEN}
 use Rattle.entry_codec.specs.Payloads.{payload, payload_len, spellings}
 use Rattle.entry_codec.specs.Spelling.{IsEntry}
 use Rattle.entry_codec.specs.Standing.{room_of}
+use Rattle.entry_codec.specs.StandingLaws.{JournalsStand}
 use Rattle.sync_store.specs.declared.fault.StoreFault.{StoreFault}
 use Rattle.sync_store.specs.declared.fault.StoreFault.TheVariants as fault
 use Rattle.sync_store.specs.Cited.{CitedLaws}
@@ -27,10 +30,10 @@ use Rattle.sync_store.specs.Fitting.{Fits}
 use Rattle.sync_store.specs.Commits.{Gains, MayAdd, needed}
 use Rattle.sync_store.specs.Moments.{journal_with}
 use Rattle.sync_store.specs.Settling.{BatchSo, ComesBy, IsOneBatch, MakesBatch}
-use Rattle.sync_store.proofs.FitSteps.{adds_err, adds_ok}
+use Rattle.sync_store.proofs.FitSteps.{adds_err, adds_ok, true≢false}
 use Rattle.sync_store.proofs.Framing.{framed_length, framed_long, framed_so, payload_framed}
 use Rattle.sync_store.proofs.SettleSteps.{leads_one, leads_one_closed}
-use Rattle.sync_store.proofs.Steps.{all_steps, numbers_stay, steps_allowed}
+use Rattle.sync_store.proofs.Steps.{numbers_stay}
 
 -- ---- numbers
 
@@ -54,17 +57,17 @@ grown_store laws clients s new batch framed store may gains =
     }
 
 -- a store whose state made steps keeps its numbers
-pub stepped_store : CitedLaws → (clients : Meaning) (s new : StoreValue) (es : List Entry) → IsStore s → IsSettling clients s.state.facts es → new.state.facts ≡ after_all s.state.facts es → new.end ≡ s.end
+pub stepped_store : (clients : Meaning) (s new : StoreValue) (es : List Entry) → IsStore s → IsSettling clients s.state.facts es → new.state.facts ≡ after_all s.state.facts es → new.end ≡ s.end
     → new.limit ≡ s.limit → IsStore new
-stepped_store laws clients s new es store settling facts end limit =
-    let fewer = laws.lower clients s.state.facts es settling in
+stepped_store clients s new es store settling facts end limit =
+    let fewer = steps_lower clients s.state.facts es settling in
     let room : left_of new.state.facts ≡ left_of (after_all s.state.facts es) = ap left_of facts in
     record {
       limited = omega (arith, store.limited, limit);
       roomy = omega (arith, store.roomy, fewer, room, end);
       numbers =
           subst (λ (n : ℕ). HasNumbers new.state.facts n) (sym end)
-          (subst (λ (f : Facts). HasNumbers f s.end) (sym facts) (numbers_stay s.state.facts es s.end (all_steps laws.kind clients s.state.facts es settling) store.numbers));
+          (subst (λ (f : Facts). HasNumbers f s.end) (sym facts) (numbers_stay clients s.state.facts es s.end settling store.numbers));
     }
 
 -- ---- a batch in its frame
@@ -108,11 +111,11 @@ pub record Filled (clients : Meaning) (s : StoreValue) (facts : Facts) (es : Lis
   pub store : IsStore s
   pub still : s.closed ≡ false
 
-pub filled_may : CitedLaws → (clients : Meaning) (s : StoreValue) (facts : Facts) (es : List Entry) (framed : List ℕ) → Filled clients s facts es framed → MayAdd clients s es framed
-filled_may laws clients s facts es framed f =
-    let fewer = laws.lower clients s.state.facts es f.settling in
+pub filled_may : (clients : Meaning) (s : StoreValue) (facts : Facts) (es : List Entry) (framed : List ℕ) → Filled clients s facts es framed → MayAdd clients s es framed
+filled_may clients s facts es framed f =
+    let fewer = steps_lower clients s.state.facts es f.settling in
     record {
-      allowed = steps_allowed laws.kind clients s.state.facts es (f.some, f.few, f.settling);
+      allowed = allowed_settling clients s.state.facts es (f.some, f.few, f.settling);
       within = f.within;
       is_framed = framed_by es framed f.framed_is (omega (arith, f.long, f.some), omega (arith, f.long, f.few));
       payload_is = payload_by es framed f.framed_is;
@@ -120,15 +123,15 @@ filled_may laws clients s facts es framed f =
       still_roomy = omega (arith, f.store.roomy, fewer, f.long, f.some, length_by es framed f.framed_is);
     }
 
-pub filled_room : CitedLaws → (clients : Meaning) (s : StoreValue) (facts : Facts) (es : List Entry) (framed : List ℕ) → Filled clients s facts es framed → s.end + length framed + room_of facts ≤ most_bytes
-filled_room laws clients s facts es framed f =
-    let may = filled_may laws clients s facts es framed f in
+pub filled_room : (clients : Meaning) (s : StoreValue) (facts : Facts) (es : List Entry) (framed : List ℕ) → Filled clients s facts es framed → s.end + length framed + room_of facts ≤ most_bytes
+filled_room clients s facts es framed f =
+    let may = filled_may clients s facts es framed f in
     let same : room_of facts ≡ room_of (after_all s.state.facts es) = ap room_of f.facts_are in
     omega (arith, may.still_roomy, same)
 
-filled_less : CitedLaws → (clients : Meaning) (s : StoreValue) (facts : Facts) (es : List Entry) (framed : List ℕ) → Filled clients s facts es framed → left_of facts < left_of s.state.facts
-filled_less laws clients s facts es framed f =
-    let fewer = laws.lower clients s.state.facts es f.settling in
+filled_less : (clients : Meaning) (s : StoreValue) (facts : Facts) (es : List Entry) (framed : List ℕ) → Filled clients s facts es framed → left_of facts < left_of s.state.facts
+filled_less clients s facts es framed f =
+    let fewer = steps_lower clients s.state.facts es f.settling in
     let same : left_of facts ≡ left_of (after_all s.state.facts es) = ap left_of f.facts_are in
     omega (arith, fewer, same, f.some)
 
@@ -152,10 +155,10 @@ filled_gains clients s new facts es framed f came end closed = record {
   closed = closed;
 }
 
-pub filled_ok : CitedLaws → (clients : Meaning) (s new : StoreValue) (facts : Facts) (es : List Entry) (framed : List ℕ) (o o' : Outside) → Filled clients s facts es framed → Came s new facts
+pub filled_ok : JournalsStand → (clients : Meaning) (s new : StoreValue) (facts : Facts) (es : List Entry) (framed : List ℕ) (o o' : Outside) → Filled clients s facts es framed → Came s new facts
     → new.end ≡ s.end + length framed → new.closed ≡ false → ((two : Two File) → o.files ≡ Some two → Passed two o o' s.file (BeforeOrWith (file_of two s.file).now s.end framed))
     → Becomes (Appends s.file s.end framed) o.files o'.files → ComesBy clients s new o o' (es ∷ [])
-filled_ok laws clients s new facts es framed o o' f came end closed passed becomes = record {
+filled_ok stand clients s new facts es framed o o' f came end closed passed becomes = record {
   settling = ((f.some, f.few, f.settling), tt);
   facts = came.facts_are ∙ f.facts_are;
   file = came.file;
@@ -164,15 +167,15 @@ filled_ok laws clients s new facts es framed o o' f came end closed passed becom
   end = λ still. omega (arith, end, length_by es framed f.framed_is, f.long);
   leads = λ two told j fits.
       leads_one clients j es new tt o o'
-      (adds_ok laws.stand clients s new j two es framed tt o o' fits (filled_may laws clients s facts es framed f) told (passed two told) becomes
+      (adds_ok stand clients s new j two es framed tt o o' fits (filled_may clients s facts es framed f) told (passed two told) becomes
       (filled_gains clients s new facts es framed f came end closed));
 }
 
 -- the disk failed
-pub filled_err : CitedLaws → (clients : Meaning) (s new : StoreValue) (facts : Facts) (es : List Entry) (framed : List ℕ) (e : StoreFault) (o o' : Outside) → Filled clients s facts es framed
+pub filled_err : JournalsStand → (clients : Meaning) (s new : StoreValue) (facts : Facts) (es : List Entry) (framed : List ℕ) (e : StoreFault) (o o' : Outside) → Filled clients s facts es framed
     → Came s new facts → e ≡ fault.DiskFault → new.closed ≡ true → ((two : Two File) → o.files ≡ Some two → Passed two o o' s.file (BeforeOrWith (file_of two s.file).now s.end framed))
     → MakesBatch clients s new (Err e) o o'
-filled_err laws clients s new facts es framed e o o' f came is closed passed = record {
+filled_err stand clients s new facts es framed e o o' f came is closed passed = record {
   more = es ∷ [];
   comes = record {
     settling = ((f.some, f.few, f.settling), tt);
@@ -180,38 +183,35 @@ filled_err laws clients s new facts es framed e o o' f came is closed passed = r
     file = came.file;
     format = came.format;
     limit = came.limit;
-    end = λ still. closed_end new.closed closed still;
+    end = λ still. true≢false new.closed closed still;
     leads = λ two told j fits.
         leads_one_closed clients j es new e o o'
-        (adds_err laws.stand clients s new j two es framed e o o' fits (filled_may laws clients s facts es framed f) (passed two told) closed) closed;
+        (adds_err stand clients s new j two es framed e o o' fits (filled_may clients s facts es framed f) (passed two told) closed) closed;
   };
   few = omega arith;
   answer = subst (λ (x : StoreFault). BatchSo clients s new (es ∷ []) (Err x)) (sym is) closed;
 }
-where
-  closed_end : {A : Type 0} (b : Bool) → b ≡ true → b ≡ false → A
-  closed_end b is_true is_false = cc
 
 -- memory was wanting for the steps behind them
-pub filled_memory : CitedLaws → (clients : Meaning) (s new : StoreValue) (facts : Facts) (es : List Entry) (framed : List ℕ) (e : StoreFault) (o o' : Outside) → Filled clients s facts es framed
+pub filled_memory : JournalsStand → (clients : Meaning) (s new : StoreValue) (facts : Facts) (es : List Entry) (framed : List ℕ) (e : StoreFault) (o o' : Outside) → Filled clients s facts es framed
     → Came s new facts → new.end ≡ s.end + length framed → new.closed ≡ false → e ≡ fault.Memory
     → ((two : Two File) → o.files ≡ Some two → Passed two o o' s.file (BeforeOrWith (file_of two s.file).now s.end framed))
     → Becomes (Appends s.file s.end framed) o.files o'.files → MakesBatch clients s new (Err e) o o'
-filled_memory laws clients s new facts es framed e o o' f came end closed is passed becomes = record {
+filled_memory stand clients s new facts es framed e o o' f came end closed is passed becomes = record {
   more = es ∷ [];
-  comes = filled_ok laws clients s new facts es framed o o' f came end closed passed becomes;
+  comes = filled_ok stand clients s new facts es framed o o' f came end closed passed becomes;
   few = omega arith;
   answer = subst (λ (x : StoreFault). BatchSo clients s new (es ∷ []) (Err x)) (sym is) closed;
 }
 
 -- the batch is full, or no step is left
-pub filled_whole : CitedLaws → (clients : Meaning) (s new : StoreValue) (facts : Facts) (es : List Entry) (framed : List ℕ) (n : ℕ) (u : Unit {0}) (o o' : Outside) → Filled clients s facts es framed
+pub filled_whole : JournalsStand → (clients : Meaning) (s new : StoreValue) (facts : Facts) (es : List Entry) (framed : List ℕ) (n : ℕ) (u : Unit {0}) (o o' : Outside) → Filled clients s facts es framed
     → Came s new facts → new.end ≡ s.end + length framed → new.closed ≡ false
     → ((two : Two File) → o.files ≡ Some two → Passed two o o' s.file (BeforeOrWith (file_of two s.file).now s.end framed))
     → Becomes (Appends s.file s.end framed) o.files o'.files → length es ≡ n → (n ≡ MAX_STEPS) ⊎ IsSettled clients facts → MakesBatch clients s new (Ok u) o o'
-filled_whole laws clients s new facts es framed n u o o' f came end closed passed becomes long full =
+filled_whole stand clients s new facts es framed n u o o' f came end closed passed becomes long full =
     let less : left_of new.state.facts < left_of s.state.facts =
-    subst (λ (g : Facts). left_of g < left_of s.state.facts) (sym came.facts_are) (filled_less laws clients s facts es framed f) in
+    subst (λ (g : Facts). left_of g < left_of s.state.facts) (sym came.facts_are) (filled_less clients s facts es framed f) in
     let each : IsOneBatch clients new (es ∷ []) =
     elim full [
       | inl all ↦ inl (long ∙ all, tt)
@@ -219,7 +219,7 @@ filled_whole laws clients s new facts es framed n u o o' f came end closed passe
     ] in
     record {
       more = es ∷ [];
-      comes = filled_ok laws clients s new facts es framed o o' f came end closed passed becomes;
+      comes = filled_ok stand clients s new facts es framed o o' f came end closed passed becomes;
       few = omega arith;
       answer = (closed, less, each);
     }
@@ -251,3 +251,19 @@ fits_by full limit n is not_full = grind (arith, nat_tests)
 pub length_nil : {A : Type 0} (xs : List A) → length xs ≡ 0 → xs ≡ []
 length_nil [] none = refl
 length_nil (x ∷ xs) none = absurd (omega (arith, none))
+
+-- what a buffer of steps and the frame of them say of each other
+pub filled_from : (clients : Meaning) (s : StoreValue) (facts : Facts) (items es : List Entry) (bytes framed : List ℕ) → es ≡ items → IsSettling clients s.state.facts items → facts ≡ after_all s.state.facts items
+    → 1 ≤ length es → length es ≤ MAX_STEPS → AllByRecursion IsEntry es → framed ≡ bytes → bytes ≡ framed_of (spellings es) → payload_len es ≡ STEP_LEN * length es → IsStore s → s.closed ≡ false
+    → Filled clients s facts es framed
+filled_from clients s facts items es bytes framed same settling facts_are some few within is spelled long store still = record {
+  settling = subst (λ (xs : List Entry). IsSettling clients s.state.facts xs) (sym same) settling;
+  some = some;
+  few = few;
+  facts_are = facts_are ∙ ap (λ (xs : List Entry). after_all s.state.facts xs) (sym same);
+  within = within;
+  framed_is = is ∙ spelled;
+  long = long;
+  store = store;
+  still = still;
+}

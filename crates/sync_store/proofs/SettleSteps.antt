@@ -9,6 +9,7 @@ use Rattle.sync_rules.specs.declared.entries.Entry.{Entry}
 use Rattle.sync_rules.specs.Clients.{Meaning}
 use Rattle.sync_rules.specs.Facts.{Facts, after_batches}
 use Rattle.sync_rules.specs.Left.{left_of}
+use Rattle.sync_rules.specs.LeftLaws.{left_few}
 use Rattle.sync_rules.specs.Legal.{AllSettling}
 use Rattle.sync_rules.specs.Steps.{IsSettled}
 use Rattle.entry_codec.specs.Growing.{after_batches-append, settling-append}
@@ -16,7 +17,6 @@ use Rattle.entry_codec.specs.StandingLaws.{JournalsStand}
 use Rattle.journal_state.specs.Whole.{Knows}
 use Rattle.sync_store.specs.declared.fault.StoreFault.{StoreFault}
 use Rattle.sync_store.specs.declared.fault.StoreFault.TheVariants as fault
-use Rattle.sync_store.specs.Cited.{CitedLaws}
 use Rattle.sync_store.specs.Store.{StoreValue, IsStore}
 use Rattle.sync_store.specs.Fitting.{Fits, FitsSome}
 use Rattle.sync_store.specs.Ready.{IsReady}
@@ -192,24 +192,24 @@ settles_more clients s0 s1 s2 o0 o1 o2 u so_far still unsettled made run =
     }
 
 -- what settling by some batches answers
-has_settled : CitedLaws → (clients : Meaning) (s new : StoreValue) (result : Result (Unit {0}) StoreFault) (o o' : Outside) (more : List (List Entry)) → ComesBy clients s new o o' more → AreFilled more
+has_settled : (clients : Meaning) (s new : StoreValue) (result : Result (Unit {0}) StoreFault) (o o' : Outside) (more : List (List Entry)) → ComesBy clients s new o o' more → AreFilled more
     → SettlesSo clients new result → HasSettled clients s new result o o'
-has_settled laws clients s new result o o' more comes filled answer =
-    let fewer = batches_lower laws.lower clients s.state.facts more comes.settling in
+has_settled clients s new result o o' more comes filled answer =
+    let fewer = batches_lower clients s.state.facts more comes.settling in
     let same : left_of new.state.facts ≡ left_of (after_batches s.state.facts more) = ap left_of comes.facts in
     record {
       more = more;
       comes = comes;
       filled = filled;
       room = omega (arith, fewer, same);
-      few = omega (arith, fewer, laws.bounded s.state.facts);
+      few = omega (arith, fewer, left_few s.state.facts);
       answer = answer;
     }
 
 -- no step is left
-pub settled_ok : CitedLaws → (clients : Meaning) (s new : StoreValue) (u : Unit {0}) (o o' : Outside) → SettlesOn clients s new o o' → new.closed ≡ false → IsSettled clients new.state.facts
+pub settled_ok : (clients : Meaning) (s new : StoreValue) (u : Unit {0}) (o o' : Outside) → SettlesOn clients s new o o' → new.closed ≡ false → IsSettled clients new.state.facts
     → HasSettled clients s new (Ok u) o o'
-settled_ok laws clients s new u o o' so_far still settled = has_settled laws clients s new (Ok u) o o' so_far.more so_far.comes so_far.filled (still, settled)
+settled_ok clients s new u o o' so_far still settled = has_settled clients s new (Ok u) o o' so_far.more so_far.comes so_far.filled (still, settled)
 
 batch_so : (clients : Meaning) (old new : StoreValue) (more : List (List Entry)) (e : StoreFault) → BatchSo clients old new more (Err e) → SettlesSo clients new (Err e)
 batch_so clients old new more fault.Closed answer = answer
@@ -218,8 +218,8 @@ batch_so clients old new more fault.Memory answer = answer
 batch_so clients old new more fault.DiskFault answer = answer
 
 -- a batch failed
-pub settled_err : CitedLaws → (clients : Meaning) (s0 s1 s2 : StoreValue) (e : StoreFault) (o0 o1 o2 : Outside) → SettlesOn clients s0 s1 o0 o1 → s1.closed ≡ false → (IsSettled clients s1.state.facts → ⊥)
+pub settled_err : (clients : Meaning) (s0 s1 s2 : StoreValue) (e : StoreFault) (o0 o1 o2 : Outside) → SettlesOn clients s0 s1 o0 o1 → s1.closed ≡ false → (IsSettled clients s1.state.facts → ⊥)
     → MakesBatch clients s1 s2 (Err e) o1 o2 → HasSettled clients s0 s2 (Err e) o0 o2
-settled_err laws clients s0 s1 s2 e o0 o1 o2 so_far still unsettled made =
-    has_settled laws clients s0 s2 (Err e) o0 o2 (so_far.more ++ made.more) (comes_then clients s0 s1 s2 o0 o1 o2 so_far.more made.more so_far.comes still so_far.run made.comes)
+settled_err clients s0 s1 s2 e o0 o1 o2 so_far still unsettled made =
+    has_settled clients s0 s2 (Err e) o0 o2 (so_far.more ++ made.more) (comes_then clients s0 s1 s2 o0 o1 o2 so_far.more made.more so_far.comes still so_far.run made.comes)
     (filled_push so_far.more made.more (full_so_far clients s1 so_far.more unsettled so_far.each) made.few) (batch_so clients s1 s2 made.more e made.answer)

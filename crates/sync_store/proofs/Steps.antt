@@ -4,33 +4,28 @@ use Rattle.std.specs.List.{AllByRecursion}
 use Rattle.std.proofs.lemmas.Bool.{false≢true}
 use Rattle.sync_rules.specs.declared.entries.Entry.{Entry}
 use Rattle.sync_rules.specs.declared.entries.Entry.TheVariants as entry
-use Rattle.sync_rules.specs.declared.limits.TheConstants.{MAX_STEPS}
 use Rattle.sync_rules.specs.Clients.{Meaning}
-use Rattle.sync_rules.specs.CountLaws.{StepsLowerLeft}
 use Rattle.sync_rules.specs.Facts.{Facts, after, after_all, after_batches, takes_of}
 use Rattle.sync_rules.specs.Left.{left_of}
-use Rattle.sync_rules.specs.Legal.{Allowed, AllSettling, IsSettling, IsSettlingBatch}
+use Rattle.sync_rules.specs.Growth.{IsStepOf}
+use Rattle.sync_rules.specs.LeftLaws.{steps_lower}
+use Rattle.sync_rules.specs.Legal.{AllSettling, IsSettling}
+use Rattle.sync_rules.specs.StepKinds.{next_is_step, settling_only}
 use Rattle.sync_rules.specs.Steps.{IsSettled, next}
-use Rattle.sync_store.specs.Cited.{NextIsStep}
 use Rattle.sync_store.specs.Settling.{AreFilled, IsFullBatch, IsStep, steps_in}
 use Rattle.sync_store.specs.Store.{HasNumbers}
 
 -- ---- the entries
 
-pub all_steps : NextIsStep → (clients : Meaning) (f : Facts) (es : List Entry) → IsSettling clients f es → AllByRecursion IsStep es
-all_steps kind clients f [] settling = tt
-all_steps kind clients f (e ∷ es) settling = (kind clients f e settling.0, all_steps kind clients (after f e) es settling.1)
+is_step : (f : Facts) (e : Entry) → IsStepOf f e → IsStep e
+is_step f (entry.Judged id) of = tt
+is_step f (entry.Deliver id) of = tt
+is_step f (entry.Invalid id) of = tt
+is_step f _ of = absurd of
 
--- a batch of steps is allowed
-by_kind : (clients : Meaning) (f : Facts) (e : Entry) (es : List Entry) → IsStep e → IsSettlingBatch clients f (e ∷ es) → Allowed clients f (e ∷ es)
-by_kind clients f (entry.Judged id) es step settling = settling
-by_kind clients f (entry.Deliver id) es step settling = settling
-by_kind clients f (entry.Invalid id) es step settling = settling
-by_kind clients f _ es step settling = absurd step
-
-pub steps_allowed : NextIsStep → (clients : Meaning) (f : Facts) (b : List Entry) → IsSettlingBatch clients f b → Allowed clients f b
-steps_allowed kind clients f [] settling = absurd (omega (arith, settling.0))
-steps_allowed kind clients f (e ∷ es) settling = by_kind clients f e es (kind clients f e settling.2.0) settling
+pub all_steps : (clients : Meaning) (f : Facts) (es : List Entry) → IsSettling clients f es → AllByRecursion IsStep es
+all_steps clients f [] settling = tt
+all_steps clients f (e ∷ es) settling = (is_step f e (next_is_step clients f e settling.0), all_steps clients (after f e) es settling.1)
 
 -- one step more
 pub settling-push : (clients : Meaning) (f : Facts) (es : List Entry) (e : Entry) → IsSettling clients f es → next clients (after_all f es) ≡ Some e → IsSettling clients f (es ++ e ∷ [])
@@ -43,21 +38,19 @@ after_push f (x ∷ xs) e = after_push (after f x) xs e
 
 -- ---- counts
 
--- a step brings no message, begins no session and takes no record
-numbers_kept : (f : Facts) (e : Entry) (end : ℕ) → IsStep e → HasNumbers f end → HasNumbers (after f e) end
-numbers_kept f (entry.Judged id) end step numbers = record { few = numbers.few; records = numbers.records }
-numbers_kept f (entry.Deliver id) end step numbers = record { few = numbers.few; records = numbers.records }
-numbers_kept f (entry.Invalid id) end step numbers = record { few = numbers.few; records = numbers.records }
-numbers_kept f _ end step numbers = absurd step
-
-pub numbers_stay : (f : Facts) (es : List Entry) (end : ℕ) → AllByRecursion IsStep es → HasNumbers f end → HasNumbers (after_all f es) end
-numbers_stay f [] end steps numbers = numbers
-numbers_stay f (e ∷ es) end steps numbers = numbers_stay (after f e) es end steps.1 (numbers_kept f e end steps.0 numbers)
+-- steps bring no message, begin no session and take no record
+pub numbers_stay : (clients : Meaning) (f : Facts) (es : List Entry) (end : ℕ) → IsSettling clients f es → HasNumbers f end → HasNumbers (after_all f es) end
+numbers_stay clients f es end settling numbers =
+    let only = settling_only clients f es settling in
+    record {
+      few = omega (arith, ap length only.held, only.begun, numbers.few);
+      records = λ session. omega (arith, ap (λ t. takes_of t session) only.takes, numbers.records session);
+    }
 
 -- batches of steps leave as many fewer
-pub batches_lower : StepsLowerLeft → (clients : Meaning) (f : Facts) (more : List (List Entry)) → AllSettling clients f more → left_of (after_batches f more) + steps_in more ≤ left_of f
-batches_lower lower clients f [] settling = omega arith
-batches_lower lower clients f (b ∷ bs) settling = omega (arith, lower clients f b settling.0.2, batches_lower lower clients (after_all f b) bs settling.1)
+pub batches_lower : (clients : Meaning) (f : Facts) (more : List (List Entry)) → AllSettling clients f more → left_of (after_batches f more) + steps_in more ≤ left_of f
+batches_lower clients f [] settling = omega arith
+batches_lower clients f (b ∷ bs) settling = omega (arith, steps_lower clients f b settling.0.2, batches_lower clients (after_all f b) bs settling.1)
 
 pub steps_in-append : (xs ys : List (List Entry)) → steps_in (xs ++ ys) ≡ steps_in xs + steps_in ys
 steps_in-append [] ys = omega arith

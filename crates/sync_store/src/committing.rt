@@ -69,10 +69,10 @@ impl Store {
         if self.closed {
             return Err(StoreFault::Closed);
         }
+        cite_laws();
         if self.is_full(clients, &batch) {
             return Err(StoreFault::Full);
         }
-        cite_laws();
         let framed = frame_batch(self.alloc, &batch)?;
         self.state.reserve(&batch)?;
         self.add(disk, clients, framed.as_slice(), batch)

@@ -22,5 +22,4 @@ pub(crate) fn cite_laws()
     codec::allowed_add_one();
     codec::allowed_take_one();
     rules::allows_is_allowed();
-    rules::left();
 }

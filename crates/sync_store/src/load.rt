@@ -62,7 +62,8 @@ fn read_next<D: Disk, C: Clients>(
         → Rose (D.tells disk.old).disk_faults (D.tells disk.new).disk_faults }
 {
     cite_laws();
-    if !journal.next_frame(disk, payload)? {
+    let more = journal.next_frame(disk, payload)?;
+    if !more {
         return Ok(false);
     }
     play(alloc, clients, journal, state, payload.as_slice())?;
@@ -105,7 +106,8 @@ fn read_all<D: Disk, C: Clients>(
 {
     let mut payload = Vec::new(alloc);
     'frames: loop {
-        if !read_next(alloc, disk, clients, journal, state, &mut payload)? {
+        let more = read_next(alloc, disk, clients, journal, state, &mut payload)?;
+        if !more {
             return test_room(journal, state);
         }
     }

@@ -76,6 +76,7 @@ impl Store {
         ensures fault { IsErrOf result StoreFault.DiskFault
             → Rose (D.tells disk.old).disk_faults (D.tells disk.new).disk_faults }
     {
+        cite_laws();
         let entries = Vec::with_capacity(self.alloc, MAX_STEPS)?;
         let framed = Vec::with_capacity(self.alloc, MOST_FRAMED)?;
         self.settle_into(disk, clients, entries, framed)
