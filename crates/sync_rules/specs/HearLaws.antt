@@ -1,39 +1,19 @@
 -- Sessions stay known, and a journal that was just begun hears.
-use Rattle.std.proofs.Common.{◌≡◌, ℕ, true, false, cond, List, [], ◌∷◌, ◌++◌, refl, sym, ◌∙◌, ap, arith, Option, Some, None, is_some, nat_eq}
+use Rattle.std.proofs.Common.{◌≡◌, ℕ, true, cond, List, refl, sym, ◌∙◌, ap, arith, Option, Some, None, is_some}
 use Rattle.std.specs.FinMap as fin_map
 use Rattle.std.specs.Ordering.{nat_cmp}
 use Rattle.sync_ids.specs.Values.{GroupValue}
 use Rattle.sync_ids.specs.Ids.{group_id_of}
 use Rattle.sync_rules.specs.declared.entries.Entry.{Entry}
-use Rattle.sync_rules.specs.declared.entries.Entry.TheVariants as entry
 use Rattle.sync_rules.specs.declared.entries.Session.{Session}
 use Rattle.sync_rules.specs.Clients.{Meaning}
-use Rattle.sync_rules.specs.Facts.{Facts, after, after_all, after_batches, session_at, contact_of, contact_in, count_or, known_of}
+use Rattle.sync_rules.specs.Facts.{Facts, after_all, after_batches, session_at, contact_of, contact_in, count_or, known_of}
 use Rattle.sync_rules.specs.Steps.{kind_of_def}
 use Rattle.sync_rules.specs.Hearing.{IsHearing, one_session}
 use Rattle.sync_rules.specs.Elements.{same_id_itself}
+use Rattle.sync_rules.specs.Continuing.{continues_all, continues_batches}
 
 -- ---- sessions stay
-
-session-push : (sessions : List Session) (x : Session) (n : ℕ) (s : Session) → session_at sessions n ≡ Some s → session_at (sessions ++ x ∷ []) n ≡ Some s
-session-push [] x n s e = cc
-session-push (y ∷ sessions) x n s e =
-    elim (nat_eq y.number n) as (λ b. cond b (Some y) (session_at sessions n) ≡ Some s → cond b (Some y) (session_at (sessions ++ x ∷ []) n) ≡ Some s) [
-      | true ↦ λ e. e
-      | false ↦ λ e. session-push sessions x n s e
-    ] e
-
-session_after : (f : Facts) (e : Entry) (n : ℕ) (s : Session) → session_at f.sessions n ≡ Some s → session_at (after f e).sessions n ≡ Some s
-session_after f (entry.Session x) n s e = session-push f.sessions x n s e
-session_after f _ n s e = e
-
-session_after_all : (f : Facts) (es : List Entry) (n : ℕ) (s : Session) → session_at f.sessions n ≡ Some s → session_at (after_all f es).sessions n ≡ Some s
-session_after_all f [] n s e = e
-session_after_all f (x ∷ es) n s e = session_after_all (after f x) es n s (session_after f x n s e)
-
-pub session_after_batches : (f : Facts) (bs : List (List Entry)) (n : ℕ) (s : Session) → session_at f.sessions n ≡ Some s → session_at (after_batches f bs).sessions n ≡ Some s
-session_after_batches f [] n s e = e
-session_after_batches f (b ∷ bs) n s e = session_after_batches (after_all f b) bs n s (session_after_all f b n s e)
 
 -- a session that is known stays known, with its contact
 pub record Stays (f g : Facts) (n : ℕ) : Type 0 where
@@ -48,10 +28,10 @@ stays_at f g n (Some s) e known up =
     record { known = ap is_some at; contact = ap contact_in at ∙ sym (ap contact_in e) }
 
 pub stays_all : (f : Facts) (es : List Entry) (n : ℕ) → is_some (session_at f.sessions n) ≡ true → Stays f (after_all f es) n
-stays_all f es n known = stays_at f (after_all f es) n (session_at f.sessions n) refl known (λ s e. session_after_all f es n s e)
+stays_all f es n known = stays_at f (after_all f es) n (session_at f.sessions n) refl known (λ s e. (continues_all f es).same_session n s e)
 
 pub stays_batches : (f : Facts) (bs : List (List Entry)) (n : ℕ) → is_some (session_at f.sessions n) ≡ true → Stays f (after_batches f bs) n
-stays_batches f bs n known = stays_at f (after_batches f bs) n (session_at f.sessions n) refl known (λ s e. session_after_batches f bs n s e)
+stays_batches f bs n known = stays_at f (after_batches f bs) n (session_at f.sessions n) refl known (λ s e. (continues_batches f bs).same_session n s e)
 
 -- ---- the beginning
 

@@ -13,7 +13,7 @@ use Rattle.sync_rules.specs.declared.entries.Session.{Session}
 use Rattle.sync_rules.specs.declared.states.Fate.TheVariants as fate_kind
 use Rattle.sync_rules.specs.Clients.{Meaning}
 use Rattle.sync_rules.specs.Lists.{same_id, is_among}
-use Rattle.sync_rules.specs.Facts.{Facts, Held, Id, after, after_all, after_batches, nothing, facts, entries_of, held_at, is_held, session_at, contact_of, contact_in, level_at, is_level_shared, row_at, authored, arrived, Extends}
+use Rattle.sync_rules.specs.Facts.{Facts, Held, Id, after, after_all, after_batches, nothing, facts, entries_of, held_at, is_held, session_at, contact_in, level_at, is_level_shared, row_at, Extends}
 use Rattle.sync_rules.specs.Steps.{fate, fate_held}
 use Rattle.sync_rules.specs.Rounds.{graph_of}
 use Rattle.sync_rules.specs.Sessions.{ids_where, ids_limit, shared_ids, is_sendable, is_author, is_ripe, owed_to, wanted_of, send_of, offers_of, first_id, out_or, acks_due, requests_due, send_due, offers_due, due_by}
@@ -21,11 +21,11 @@ use Rattle.sync_rules.specs.Legal.{Legal, IsDue}
 use Rattle.sync_rules.specs.Output.{IsOpen, NamesTheOpen, SendsTheOpen, records_by, records_in, message_record, first_records, sent, sent_on, GoesOnFrom}
 use Rattle.sync_rules.specs.Elements.{same_id-is, same_id_itself, In}
 use Rattle.sync_rules.specs.RoundLaws.{disjoint}
-use Rattle.sync_rules.specs.Sound.{SoundFacts, held_at-push}
+use Rattle.sync_rules.specs.Sound.{SoundFacts}
 use Rattle.sync_rules.specs.Kept.{Fits, AllFit, AllFit_front, AllFit_back, sound_after, sound_all, after_batches-is}
 use Rattle.sync_rules.specs.Runs.{legal_fits, sound_nothing}
 use Rattle.sync_rules.specs.Settling.{good_if_delivered, bad_if_invalid, prefix_legal, after_batches-append}
-use Rattle.sync_rules.specs.HearLaws.{session_after_batches}
+use Rattle.sync_rules.specs.Continuing.{continues_all, continues_batches}
 
 -- ---- the ids that pass a test
 
@@ -181,14 +181,8 @@ sends_the_open clients j l before behind session now what stands =
 
 -- ---- what is sent only grows
 
-held_stays_one : (f : Facts) (e : Entry) (id : Id) (h : Held) → held_at f.held id ≡ Some h → held_at (after f e).held id ≡ Some h
-held_stays_one f (entry.Author m) id h at = held_at-push f.held (authored m) id h at
-held_stays_one f (entry.Arrive s m) id h at = held_at-push f.held (arrived (contact_of f.sessions s) m) id h at
-held_stays_one f _ id h at = at
-
 pub held_stays : (f : Facts) (es : List Entry) (id : Id) (h : Held) → held_at f.held id ≡ Some h → held_at (after_all f es).held id ≡ Some h
-held_stays f [] id h at = at
-held_stays f (e ∷ es) id h at = held_stays (after f e) es id h (held_stays_one f e id h at)
+held_stays f es id h at = (continues_all f es).same_held id h at
 
 pub records-append : (held : List Held) (session : ℕ) (es fs : List Entry) → records_in held session (es ++ fs) ≡ records_in held session es ++ records_in held session fs
 records-append held session [] fs = refl
@@ -241,7 +235,7 @@ grows_by clients j before more session stands l (Some x) at =
     let was : facts before ≡ after_all nothing es = after_batches-is nothing before in
     let now : facts j ≡ after_batches (facts before) more = ap facts stands ∙ after_batches-append nothing before more in
     let known : session_at (facts j).sessions session ≡ Some x =
-    ap (λ (f : Facts). session_at f.sessions session) now ∙ session_after_batches (facts before) more session x at in
+    ap (λ (f : Facts). session_at f.sessions session) now ∙ (continues_batches (facts before) more).same_session session x at in
     let whole : entries_of j ≡ es ++ entries_of more = ap entries_of stands ∙ entries_of-append before more in
     let later : facts j ≡ after_all (after_all nothing es) (entries_of more) =
     now ∙ (after_batches-is (facts before) more ∙ ap (λ (f : Facts). after_all f (entries_of more)) was) in

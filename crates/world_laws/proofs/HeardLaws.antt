@@ -1,5 +1,5 @@
 -- What new batches say was seen or arrived comes from records that were heard.
-use Rattle.std.proofs.Common.{◌≡◌, ℕ, Bool, true, false, not, cond, ◌&&◌, ◌||◌, ◌⊎◌, nat_eq, eqb-true, List, [], ◌∷◌, ◌++◌, refl, sym, ◌∙◌, ap, subst, inl, inr, Option, Some, None, is_some}
+use Rattle.std.proofs.Common.{◌≡◌, ℕ, Bool, true, false, cond, ◌⊎◌, eqb-true, List, [], ◌∷◌, ◌++◌, refl, sym, ◌∙◌, ap, subst, inl, inr, Option, Some, None, is_some}
 use Rattle.std.specs.List.{AllByRecursion}
 use Rattle.std.proofs.lemmas.Bool.{and_parts, false≢true, or_left, or_right}
 use Rattle.sync_ids.specs.Values.{MessageValue}
@@ -13,14 +13,14 @@ use Rattle.sync_rules.specs.Clients.{Meaning}
 use Rattle.sync_rules.specs.ConsistencyLaws.{held_at-cases}
 use Rattle.sync_rules.specs.Continuing.{continues_all}
 use Rattle.sync_rules.specs.Elements.{In, same_id-is, same_id_itself}
-use Rattle.sync_rules.specs.Facts.{Facts, Held, Id, after, after_all, arrived, authored, contact_in, contact_of, entries_of, held_at, is_held, is_invisible, level_at, row_at, session_at}
+use Rattle.sync_rules.specs.Facts.{Facts, Held, Id, after, after_all, arrived, authored, contact_in, contact_of, entries_of, held_at, row_at, session_at}
 use Rattle.sync_rules.specs.Laws.{IsAuthored}
 use Rattle.sync_rules.specs.Legal.{Allowed, GoesOn, IsSettling}
 use Rattle.sync_rules.specs.Lists.{firsts, is_among, same_id}
 use Rattle.sync_rules.specs.Meeting.{AllMeet, Meets}
-use Rattle.sync_rules.specs.PeerLaws.{is_shown_seen, is_with, never}
+use Rattle.sync_rules.specs.PeerLaws.{is_shown_seen, is_with}
 use Rattle.sync_rules.specs.RowLaws.{among-firsts, seen_step}
-use Rattle.sync_rules.specs.Sessions.{is_remembered, is_shown, is_welcome, one_if, room_after, taken, taken_acks, taken_message, taken_message_of, taken_offer, taken_offers, taken_requests}
+use Rattle.sync_rules.specs.Sessions.{is_remembered, is_welcome, one_if, room_after, taken, taken_acks, taken_message, taken_message_of, taken_offer, taken_offers, taken_requests}
 use Rattle.sync_rules.specs.StepLaws.{IsSettlingEntry, next_is_settling}
 use Rattle.world_laws.specs.Worlds.{AllHeard, IsHeard, names}
 

@@ -1,15 +1,13 @@
 -- Where nothing is due and no message waits, no message is still to be sent.
-use Rattle.std.proofs.Common.{◌≡◌, ℕ, zero, suc, ◌≤◌, Bool, true, false, not, cond, ◌&&◌, ◌||◌, nat_le, List, [], ◌∷◌, take, refl, sym, ◌∙◌, ap, subst, inl, inr, arith, Option, Some, None}
-use Rattle.std.proofs.lemmas.Bool.{and_from, false≢true, le-leb}
+use Rattle.std.proofs.Common.{◌≡◌, ℕ, zero, suc, ◌≤◌, Bool, true, false, not, cond, ◌&&◌, nat_le, List, [], ◌∷◌, take, refl, sym, ◌∙◌, ap, inl, inr, arith, Option, Some, None}
+use Rattle.std.proofs.lemmas.Bool.{false≢true, le-leb}
 use Rattle.sync_rules.specs.declared.entries.Mode.{Mode}
 use Rattle.sync_rules.specs.declared.entries.Mode.TheVariants as mode_kind
 use Rattle.sync_rules.specs.declared.entries.Out.{Out}
 use Rattle.sync_rules.specs.declared.entries.Session.{Session}
-use Rattle.sync_rules.specs.Clients.{Meaning}
 use Rattle.sync_rules.specs.Elements.{In}
 use Rattle.sync_rules.specs.Facts.{Facts, Held, Id, Row, row_at}
-use Rattle.sync_rules.specs.Lists.{is_among}
-use Rattle.sync_rules.specs.Sessions.{acks_due, due, due_by, first_id, ids_limit, ids_where, is_ripe, is_sendable, offers_due, offers_of, out_or, owed_to, requests_due, send_due, send_of, shared_ids, wanted_of}
+use Rattle.sync_rules.specs.Sessions.{acks_due, due_by, first_id, ids_limit, ids_where, is_ripe, is_sendable, offers_due, offers_of, out_or, owed_to, requests_due, send_due, send_of, wanted_of}
 
 -- no id passes a test
 none_passes : (test : Held → Bool) (hs : List Held) → ids_where test hs ≡ [] → (h : Held) → In h hs → test h ≡ false
@@ -77,18 +75,15 @@ none_sendable f shared s now none h inside waits =
     let no_send : ids_where sends f.held ≡ [] = first_none (ids_where sends f.held) (send_none (send_of f shared s.contact s.mode now) c.0) in
     ripe_or_not f shared s.contact now h waits s.mode (none_passes sends f.held no_send h inside)
     (λ interactive.
-        let at : offers_due mode_kind.Interactive (offers_of f shared s.contact now) ≡ None =
-        ap (λ (m : Mode). offers_due m (offers_of f shared s.contact now)) (sym interactive) ∙ c.1 in
-        let no_offer : ids_where offered f.held ≡ [] = take_none ids_limit (ids_where offered f.held) (omega arith) (offers_none (offers_of f shared s.contact now) at) in
-        none_passes offered f.held no_offer h inside)
+    let at : offers_due mode_kind.Interactive (offers_of f shared s.contact now) ≡ None =
+    ap (λ (m : Mode). offers_due m (offers_of f shared s.contact now)) (sym interactive) ∙ c.1 in
+    let no_offer : ids_where offered f.held ≡ [] = take_none ids_limit (ids_where offered f.held) (omega arith) (offers_none (offers_of f shared s.contact now) at) in
+    none_passes offered f.held no_offer h inside)
 
 -- a message that is not sendable though all else holds was seen
-seen_then : (d l s o : Bool) → (d && (l && (not s && o))) ≡ false → d ≡ true → l ≡ true → o ≡ true → s ≡ true
-seen_then true true true true e a b c = refl
-seen_then true true false true e a b c = sym e
-seen_then true true s false e a b c = absurd (false≢true c)
-seen_then true false s o e a b c = absurd (false≢true b)
-seen_then false l s o e a b c = absurd (false≢true a)
-
 pub seen_if_not_sendable : (d l s o : Bool) → (d && (l && (not s && o))) ≡ false → d ≡ true → l ≡ true → o ≡ true → s ≡ true
-seen_if_not_sendable d l s o e a b c = seen_then d l s o e a b c
+seen_if_not_sendable true true true true e a b c = refl
+seen_if_not_sendable true true false true e a b c = sym e
+seen_if_not_sendable true true s false e a b c = absurd (false≢true c)
+seen_if_not_sendable true false s o e a b c = absurd (false≢true b)
+seen_if_not_sendable false l s o e a b c = absurd (false≢true a)

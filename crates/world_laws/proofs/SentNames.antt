@@ -1,5 +1,5 @@
 -- What a session sends names messages that are held.
-use Rattle.std.proofs.Common.{◌≡◌, ℕ, Bool, true, false, cond, ◌⊎◌, List, [], ◌∷◌, ◌++◌, refl, sym, ◌∙◌, ap, subst, inl, inr, Option, Some, None, is_some, nat_eq}
+use Rattle.std.proofs.Common.{◌≡◌, ℕ, Bool, true, false, cond, List, [], ◌∷◌, ◌++◌, refl, sym, ◌∙◌, ap, subst, inl, inr, Option, Some, None, is_some, nat_eq}
 use Rattle.std.proofs.lemmas.Bool.{false≢true}
 use Rattle.sync_ids.specs.Values.{MessageValue}
 use Rattle.sync_ids.specs.Ids.{message_id_of}
@@ -13,10 +13,10 @@ use Rattle.sync_rules.specs.declared.entries.Session.{Session}
 use Rattle.sync_rules.specs.Clients.{Meaning}
 use Rattle.sync_rules.specs.Consistency.{HasHeld, IsConsistent}
 use Rattle.sync_rules.specs.ConsistencyLaws.{consistent_after, consistent_nothing}
-use Rattle.sync_rules.specs.Continuing.{continues_all, facts_of_longer, continues_journals}
+use Rattle.sync_rules.specs.Continuing.{continues_all}
 use Rattle.sync_rules.specs.DueLaws.{due_names_distinct}
 use Rattle.sync_rules.specs.Elements.{In, In-append_cases, In-append_left, same_id-is}
-use Rattle.sync_rules.specs.Facts.{Extends, Facts, Held, Id, after, after_all, contact_of, contact_in, entries_of, facts, held_at, is_held, nothing, session_at}
+use Rattle.sync_rules.specs.Facts.{Extends, Facts, Held, Id, after, after_all, contact_in, entries_of, facts, held_at, is_held, nothing, session_at}
 use Rattle.sync_rules.specs.Growth.{output_by, output_in, output_of}
 use Rattle.sync_rules.specs.Kept.{after_batches-is, sound_after}
 use Rattle.sync_rules.specs.Legal.{Legal}
@@ -25,6 +25,7 @@ use Rattle.sync_rules.specs.Meeting.{AllMeet, Meets}
 use Rattle.sync_rules.specs.MeetingLaws.{legal_meets, meets_fits}
 use Rattle.sync_rules.specs.Naming.{NamesDistinct}
 use Rattle.sync_rules.specs.Output.{first_records, message_record, nonce_record, records_of, sent}
+use Rattle.sync_rules.specs.Outputs.{FoundIn}
 use Rattle.sync_rules.specs.OutputLaws.{sent_append, sent_is}
 use Rattle.sync_rules.specs.Runs.{sound_nothing}
 use Rattle.sync_rules.specs.Sound.{SoundFacts}
@@ -41,10 +42,6 @@ NamesHeld held (record_kind.Ack ids) = (id : Id) → is_among ids id ≡ true �
 NamesHeld held (record_kind.Message m) = IsHeldAs held m
 NamesHeld held (record_kind.Offer ids) = (id : Id) → is_among ids id ≡ true → is_held held id ≡ true
 NamesHeld held _ = Unit {0}
-
--- held messages of one list that are found in another
-abbrev FoundIn : List Held → List Held → Type 0
-FoundIn held later = (id : Id) (h : Held) → held_at held id ≡ Some h → held_at later id ≡ Some h
 
 held_later : (held later : List Held) → FoundIn held later → (id : Id) (o : Option Held) → held_at held id ≡ o → is_some o ≡ true → is_held later id ≡ true
 held_later held later then id None at e = absurd (false≢true e)

@@ -1,5 +1,5 @@
 -- Each step of a sound world leads to a sound world.
-use Rattle.std.proofs.Common.{◌≡◌, ℕ, zero, suc, ◌-◌, ◌<◌, ◌≤◌, Bool, true, false, not, cond, ◌&&◌, ◌||◌, ◌⊎◌, List, [], ◌∷◌, ◌++◌, append_assoc, append-nil, refl, sym, ◌∙◌, ap, subst, inl, inr, arith, Option, Some, None, is_some}
+use Rattle.std.proofs.Common.{◌≡◌, ℕ, zero, suc, ◌-◌, ◌<◌, ◌≤◌, Bool, true, false, not, cond, ◌||◌, ◌⊎◌, List, [], ◌∷◌, ◌++◌, append_assoc, append-nil, refl, sym, ◌∙◌, ap, subst, inl, inr, arith, Option, Some, None, is_some}
 use Rattle.std.specs.Prelude.{nat_lt}
 use Rattle.std.specs.FinMap as fin_map
 use Rattle.std.proofs.lemmas.Bool.{cases_eq, false≢true, ltb-true, ltb-false}
@@ -15,7 +15,7 @@ use Rattle.sync_rules.specs.Consistency.{HasRows}
 use Rattle.sync_rules.specs.ConsistencyLaws.{legal_consistent}
 use Rattle.sync_rules.specs.Continuing.{continues_journals, facts-append, legal-append}
 use Rattle.sync_rules.specs.Elements.{In}
-use Rattle.sync_rules.specs.Facts.{Extends, Facts, Held, Id, Row, after_all, after_batches, entries_of, facts, held_at, is_held, is_level_shared, level_at, row_at, row_or, session_at}
+use Rattle.sync_rules.specs.Facts.{Extends, Facts, Held, Id, Row, after_all, entries_of, facts, held_at, is_held, is_level_shared, level_at, row_at, row_or, session_at}
 use Rattle.sync_rules.specs.Kept.{after_batches-is}
 use Rattle.sync_rules.specs.Laws.{IsAuthored}
 use Rattle.sync_rules.specs.Legal.{Legal}
@@ -25,10 +25,10 @@ use Rattle.sync_rules.specs.Outputs.{entries_of-append}
 use Rattle.sync_rules.specs.Output.{sent}
 use Rattle.sync_rules.specs.Sessions.{is_author, shared_ids}
 use Rattle.sync_rules.specs.Sound.{held_at-In, held_at-id}
-use Rattle.world_laws.specs.Theorem.{HeldIsWritten, IsAtRest, IsForContact, IsNewWorld, IsSoundWorld, IsWritten, RestIsDone, SeenIsHeld}
-use Rattle.world_laws.specs.Worlds.{AreSteps, Begins, End, HasSession, IsSent, IsStep, Journal, Link, Linked, Runs, Sends, WasGiven, Way, WayRuns, WaysRun, World, contact_for, journal_at, journal_in, last_of, link_in, names, new_end, way_at, way_in, way_of}
+use Rattle.world_laws.specs.Theorem.{HeldIsWritten, IsNewWorld, IsSoundWorld, IsWritten, RestIsDone, SeenIsHeld}
+use Rattle.world_laws.specs.Worlds.{AreSteps, HasSession, IsSent, IsStep, Journal, Link, Linked, Runs, WasGiven, Way, WayRuns, WaysRun, World, contact_for, journal_at, last_of, link_in, new_end, way_at, way_in, way_of}
 use Rattle.world_laws.proofs.SentNames.{SentHeld, sent_message, sent_named, sent_stays}
-use Rattle.world_laws.proofs.HeardLaws.{Before, Heard, HeardNaming, HeldFrom, SeenFrom, Written, batches_say, held_from, seen_from}
+use Rattle.world_laws.proofs.HeardLaws.{Before, Heard, HeldFrom, Written, batches_say, held_from, seen_from}
 use Rattle.world_laws.proofs.RestLaws.{none_sendable, seen_if_not_sendable}
 
 -- ---- contacts and ways

@@ -1,8 +1,8 @@
 -- What may become of the records in flight on a link, by itself: the first is carried to the other end, lost, or carried and
 -- kept, the first two change places, or the link is cut.
-use Rattle.std.specs.Prelude.{◌≡◌, ℕ, zero, suc, Bool, true, false, List, [], ◌∷◌, ◌++◌}
+use Rattle.std.specs.Prelude.{ℕ, zero, suc, Bool, true, false, List, [], ◌∷◌, ◌++◌}
 use Rattle.sync_ids.specs.declared.records.Record.{Record}
-use Rattle.world_laws.specs.Worlds.{End, Link, Way, World, way_of}
+use Rattle.world_laws.specs.Worlds.{End, Link, World}
 
 pub data Move : Type 0 where
   Carry : Move

@@ -1,5 +1,5 @@
 -- What holds in a world after every list of steps.
-use Rattle.std.specs.Prelude.{◌≡◌, ℕ, ◌≤◌, Bool, true, ◌||◌, List, [], Some, None}
+use Rattle.std.specs.Prelude.{◌≡◌, ℕ, ◌≤◌, Bool, true, ◌||◌, [], Some, None}
 use Rattle.sync_rules.specs.declared.entries.Session.{Session}
 use Rattle.sync_ids.specs.declared.records.Record.{Record}
 use Rattle.sync_rules.specs.Clients.{Meaning}

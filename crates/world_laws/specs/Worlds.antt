@@ -1,6 +1,6 @@
 -- A world of devices that are linked: the journal of each device, and for each link what is in flight on it and what each of
 -- its ends was given. A step of a world is that one device runs, or that two are linked.
-use Rattle.std.specs.Prelude.{◌≡◌, ◌⊎◌, ℕ, zero, suc, ◌-◌, Bool, true, false, not, cond, nat_lt, List, [], ◌∷◌, ◌++◌, Option, Some, None}
+use Rattle.std.specs.Prelude.{◌≡◌, ◌⊎◌, ℕ, zero, suc, ◌-◌, Bool, true, false, cond, nat_lt, List, [], ◌∷◌, ◌++◌, Option, Some, None}
 use Rattle.sync_ids.specs.Ids.{message_id_of}
 use Rattle.sync_ids.specs.declared.records.Record.{Record}
 use Rattle.sync_ids.specs.declared.records.Record.TheVariants as record_kind

@@ -1,7 +1,8 @@
 //! The theorem of many devices, over their journals: whatever is lost, repeated, swapped, cut or
 //! breaks off, each device's journal is legal, and what one device counts as seen by another is
 //! held there. No host, no file and no clock stands in it: a step of a world is that one device
-//! runs, or that two are linked. All loss, repeats, swaps, cuts, restarts and crashes are such steps.
+//! runs, or that two are linked. All loss, repeats, swaps, cuts, restarts and crashes are such
+//! steps.
 #![tactic(auto)]
 
 ghost use Rattle.std.specs.Prelude.{Bool, List, ℕ};
