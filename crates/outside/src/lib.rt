@@ -45,12 +45,3 @@ pub use random::MemRandom;
 pub use reply::Reply;
 pub use stream::{Sink, Source};
 pub use untold::Untold;
-
-#[cfg(test)]
-mod disk_tests;
-#[cfg(test)]
-mod host_tests;
-#[cfg(test)]
-mod silent_tests;
-#[cfg(test)]
-mod stream_tests;

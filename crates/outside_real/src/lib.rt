@@ -11,6 +11,3 @@ mod streams;
 
 pub use file_host::FileHost;
 pub use streams::{StdSink, StdSource};
-
-#[cfg(test)]
-mod tests;

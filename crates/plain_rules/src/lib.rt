@@ -21,6 +21,3 @@ mod wants;
 pub use hearing::{begin_session, hear_message, take_message};
 pub use settling::settle_in;
 pub use view::{PlainFault, PlainView};
-
-#[cfg(test)]
-mod tests;

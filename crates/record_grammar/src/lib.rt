@@ -21,6 +21,3 @@ pub use writing::{
     encode, encode_ack, encode_message, encode_offer, encode_priority, encode_request,
     encode_versions,
 };
-
-#[cfg(test)]
-mod tests;

@@ -15,6 +15,3 @@ pub use piece::Piece;
 pub use pieces::{Heard, read_pieces};
 pub use reader::{BUFFER_LEN, Next, Reader};
 pub use record_grammar::{Ending, Item, Reason};
-
-#[cfg(test)]
-mod tests;

@@ -31,6 +31,3 @@ pub use lookups::{fate_in, id_of, level_in};
 pub use states::{Fate, Origin, Refused};
 pub use steps::next_step_in;
 pub use view::View;
-
-#[cfg(test)]
-mod tests;
