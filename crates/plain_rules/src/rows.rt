@@ -1,6 +1,6 @@
 //! The row of a contact and a message, by going over all entries.
 ghost use Rattle.plain_rules.specs.Rows.{row_then, row_then_out};
-ghost use Rattle.std.specs.Prelude.{◌≡◌, ◌≤◌, ◌&&◌, nat_eq};
+ghost use Rattle.std.specs.Prelude.{◌≡◌, ◌≤◌, ◌&&◌, cond, nat_eq};
 ghost use Rattle.sync_rules.specs.Facts.{after_all, contact_of, expiry_after, facts, row_acked};
 ghost use Rattle.sync_rules.specs.Facts.{row_asked, row_at, row_heard, row_offered, row_seen};
 ghost use Rattle.sync_rules.specs.Facts.{row_sent};
@@ -144,18 +144,19 @@ pub(crate) fn is_in(ids: &[MessageId], id: &MessageId) -> bool
     ids.contains(id)
 }
 
+// The changed row where the test says yes, else the row.
+fn changed_if(yes: bool, row: PlainRow, changed: PlainRow) -> PlainRow
+    ensures { result ≡ cond yes changed row }
+{
+    if yes { changed } else { row }
+}
+
 // The row after an output to the contact.
 fn row_after_out(row: PlainRow, id: &MessageId, now: u64, latency: u32, what: &Out) -> PlainRow
     ensures { result ≡ row_then_out id.now now latency row what.now }
 {
     match what {
-        Out::Acks(ids) => {
-            if is_in(ids.as_slice(), id) {
-                acked(row)
-            } else {
-                row
-            }
-        }
+        Out::Acks(ids) => changed_if(is_in(ids.as_slice(), id), row, acked(row)),
         Out::Requests(_) => row,
         Out::Offers(ids) => {
             if is_in(ids.as_slice(), id) {
@@ -204,32 +205,20 @@ fn row_after_one(
 {
     match entry {
         Entry::Arrive(session, message) => {
-            if is_pair(earlier, before, *session, &id_of(message), contact, id) {
-                heard(row)
-            } else {
-                row
-            }
+            let named = is_pair(earlier, before, *session, &id_of(message), contact, id);
+            changed_if(named, row, heard(row))
         }
-        Entry::Again(session, named) => {
-            if is_pair(earlier, before, *session, named, contact, id) {
-                heard(row)
-            } else {
-                row
-            }
+        Entry::Again(session, other) => {
+            let named = is_pair(earlier, before, *session, other, contact, id);
+            changed_if(named, row, heard(row))
         }
-        Entry::Seen(session, named) => {
-            if is_pair(earlier, before, *session, named, contact, id) {
-                seen(row)
-            } else {
-                row
-            }
+        Entry::Seen(session, other) => {
+            let named = is_pair(earlier, before, *session, other, contact, id);
+            changed_if(named, row, seen(row))
         }
-        Entry::Asked(session, named) => {
-            if is_pair(earlier, before, *session, named, contact, id) {
-                asked(row)
-            } else {
-                row
-            }
+        Entry::Asked(session, other) => {
+            let named = is_pair(earlier, before, *session, other, contact, id);
+            changed_if(named, row, asked(row))
         }
         Entry::Out(session, now, what) => {
             if contact == contact_before(earlier, before, *session) {

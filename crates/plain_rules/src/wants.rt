@@ -161,8 +161,9 @@ fn want_one(
         lines.items entry.now) }
 {
     match entry {
-        Entry::Author(message) => without_held(alloc, lines.as_slice(), &id_of(message)),
-        Entry::Arrive(_, message) => without_held(alloc, lines.as_slice(), &id_of(message)),
+        Entry::Author(message) | Entry::Arrive(_, message) => {
+            without_held(alloc, lines.as_slice(), &id_of(message))
+        }
         Entry::Offered(session, id) => {
             let is_held = is_held_before(earlier, before, id);
             with_offered(
