@@ -61,7 +61,7 @@ impl Message {
             ↔ ((1 ≤ length body.items) × (length body.items ≤ MAX_BODY)
             × (MAX_TIMESTAMP < timestamp)) }
     {
-        let _id = group.as_bytes();
+        group.show_len();
         if body.is_empty() {
             return Err(MessageFault::EmptyBody);
         }
