@@ -19,8 +19,8 @@ use Rattle.sync_rules.specs.Facts.{Facts, Held, Id, contact_in, contact_of, held
 use Rattle.sync_rules.specs.Steps.{answer_of}
 use Rattle.sync_rules.specs.Sessions.{due, due_by, ids_where, is_welcome, may_share, one_if, shared_ids, taken, taken_message, taken_message_of}
 use Rattle.sync_rules.specs.Allows.{gives, is_empty, is_id_list, is_message, is_record, is_whole, is_within, same_entry, same_message}
-use Rattle.journal_state.specs.declared.allowing.ListKind.{ListKind}
-use Rattle.journal_state.specs.declared.allowing.ListKind.TheVariants as list_kind
+use Rattle.journal_state.specs.declared.allow.ListKind.{ListKind}
+use Rattle.journal_state.specs.declared.allow.ListKind.TheVariants as list_kind
 use Rattle.journal_state.specs.Allowing.{is_new, record_of}
 use Rattle.journal_state.specs.Parts.{shared_among}
 use Rattle.journal_state.specs.Whole.{Knows, StateValue, shared_of}

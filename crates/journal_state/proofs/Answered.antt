@@ -15,7 +15,7 @@ use Rattle.message_graph.specs.declared.nodes.Node.{Node}
 use Rattle.message_graph.specs.Nodes as nodes
 use Rattle.journal_state.specs.Parts.{answer_of_node, answers_of, shared_among}
 use Rattle.journal_state.proofs.Places.{id_swap, id_itself}
-use Rattle.journal_state.proofs.Apart.{AreApart}
+use Rattle.journal_state.specs.Sound.{AreApart}
 
 abbrev pub ids_of : List Held → List Id
 ids_of hs = map (λ (h : Held). h.id) hs

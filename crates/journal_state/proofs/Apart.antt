@@ -11,13 +11,10 @@ use Rattle.sync_rules.specs.Views.{place_of}
 use Rattle.message_graph.specs.declared.nodes.Node.{Node}
 use Rattle.message_graph.specs.Nodes as nodes
 use Rattle.journal_state.specs.Parts.{names_where, ids_where}
+use Rattle.journal_state.specs.Sound.{AreApart}
 use Rattle.journal_state.proofs.Places.{id_swap, id_is}
 
 -- ---- distinct ids
-
-abbrev pub AreApart : List Id → Type 0
-AreApart [] = Unit {0}
-AreApart (x ∷ xs) = (is_among xs x ≡ false) × AreApart xs
 
 -- each message's place is the first of its id
 abbrev pub AreFirst : List Held → Type 0

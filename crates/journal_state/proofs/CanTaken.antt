@@ -19,7 +19,7 @@ use Rattle.sync_rules.specs.Allows.{is_settling_kind}
 use Rattle.journal_state.specs.Room.{rows_room, wants_room}
 use Rattle.journal_state.specs.Taking.{CanMark, CanSend, CanTakeAll, CanTakeKind, HasContactRoom, HasNextNumbers, HasRoom, HasRows, Takes}
 use Rattle.journal_state.specs.Whole.{StateValue}
-use Rattle.journal_state.proofs.Apart.{AreApart}
+use Rattle.journal_state.specs.Sound.{AreApart}
 use Rattle.journal_state.proofs.Sending.{due_can}
 use Rattle.journal_state.proofs.Wants.{wanted_insert}
 

@@ -10,7 +10,8 @@ use Rattle.message_graph.specs.declared.nodes.Node.{Node}
 use Rattle.message_graph.specs.Nodes as nodes
 use Rattle.journal_state.specs.Parts.{names_where, ids_where}
 use Rattle.journal_state.proofs.Places.{id_swap, id_is, id_itself}
-use Rattle.journal_state.proofs.Apart.{AreApart, passes, set_named}
+use Rattle.journal_state.specs.Sound.{AreApart}
+use Rattle.journal_state.proofs.Apart.{passes, set_named}
 
 abbrev pub names_of : List Node → List Id
 names_of ns = map (λ (n : Node). n.name) ns

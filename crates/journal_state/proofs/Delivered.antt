@@ -22,7 +22,8 @@ use Rattle.journal_state.specs.Changes.{delivered_parts}
 use Rattle.journal_state.specs.Delivery.{goes_to, Readies}
 use Rattle.journal_state.proofs.Places.{id_swap, id_is, id_itself}
 use Rattle.journal_state.proofs.Listed.{id_there}
-use Rattle.journal_state.proofs.Apart.{AreApart, first_apart}
+use Rattle.journal_state.specs.Sound.{AreApart}
+use Rattle.journal_state.proofs.Apart.{first_apart}
 use Rattle.journal_state.proofs.Changed.{names_of, own_found, names_kept, named_changed, names_same}
 use Rattle.journal_state.proofs.Answered.{ids_of}
 use Rattle.journal_state.proofs.Stepped.{answers_kept, kept_at, length_kept, name_there, ordered_end, within_list}

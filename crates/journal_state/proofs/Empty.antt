@@ -8,11 +8,11 @@ use Rattle.visibility_table.specs.Table as levels
 use Rattle.journal_state.specs.Parts.{Parts, put_rows, rows_from}
 use Rattle.journal_state.specs.Whole.{IsState, value_of}
 
-abbrev pub empty_parts : retry.Table → Parts
-empty_parts table = record {
+abbrev pub empty_parts : ℕ → retry.Table → Parts
+empty_parts room table = record {
   table = levels.empty_table;
   held = [];
-  begun = record { begun = 0; sessions = []; takes = fin_map.empty; room = 0 };
+  begun = record { begun = 0; sessions = []; takes = fin_map.empty; room = room };
   nodes = [];
   shares = [];
   delivered = [];
@@ -31,8 +31,8 @@ none_from contact (ks ∷ each) = no_rows contact ks (rows_from (contact + 1) ea
 pub not_there : {A : Type 0} (n : ℕ) (x : A) → slice_get [] n ≡ Some x → ⊥
 not_there n x e = let none : None ≡ Some x = e in cc
 
-pub empty_is_state : (table : retry.Table) → retry.IsEmpty table → IsState (empty_parts table)
-empty_is_state table none = record {
+pub empty_is_state : (room : ℕ) (table : retry.Table) → retry.IsEmpty table → IsState (empty_parts room table)
+empty_is_state room table none = record {
   named = refl;
   grouped = λ n h node at there. absurd (not_there n h at);
   distinct = λ n h at. absurd (not_there n h at);
@@ -48,5 +48,5 @@ empty_is_state table none = record {
   ready = λ contact n h known at. absurd (not_there n h at);
 }
 
-pub empty_facts : (table : retry.Table) → (value_of (empty_parts table)).facts ≡ nothing
-empty_facts table = λ i. record nothing { rows = none_from 0 table.rows i }
+pub empty_facts : (room : ℕ) (table : retry.Table) → (value_of (empty_parts room table)).facts ≡ nothing
+empty_facts room table = λ i. record nothing { rows = none_from 0 table.rows i }

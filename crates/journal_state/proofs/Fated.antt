@@ -26,7 +26,8 @@ use Rattle.journal_state.specs.Whole.{IsState, is_delivered_in, value_of}
 use Rattle.journal_state.proofs.Places.{place_found}
 use Rattle.journal_state.proofs.Listed.{id_there, below_is}
 use Rattle.journal_state.proofs.Seen.{there}
-use Rattle.journal_state.proofs.Apart.{AreApart, first_apart, passes, set_named}
+use Rattle.journal_state.specs.Sound.{AreApart}
+use Rattle.journal_state.proofs.Apart.{first_apart, passes, set_named}
 use Rattle.journal_state.proofs.Answered.{ids_of}
 use Rattle.journal_state.proofs.Changed.{names_of}
 use Rattle.journal_state.proofs.Next.{many_nodes}

@@ -19,9 +19,10 @@ use Rattle.message_graph.specs.declared.nodes.Node.{Node}
 use Rattle.message_graph.specs.Nodes as nodes
 use Rattle.journal_state.specs.Bringing.{brings_one}
 use Rattle.journal_state.specs.Parts.{Parts, facts_of, is_judged}
-use Rattle.journal_state.specs.Whole.{IsState, StateValue, value_of}
+use Rattle.journal_state.specs.Whole.{IsState}
 use Rattle.journal_state.proofs.Places.{id_swap}
-use Rattle.journal_state.proofs.Apart.{AreApart, first_apart, passes, set_named}
+use Rattle.journal_state.specs.Sound.{AreApart, JudgesHeld}
+use Rattle.journal_state.proofs.Apart.{first_apart, passes, set_named}
 
 -- ---- the steps left by the parts of the facts that they read
 
@@ -137,10 +138,6 @@ module _ (f : Facts) (s c : ℕ) where
       (quiet_append again offered (quiet_if (is_shown f c x) (entry.Again s x) refl) (quiet_if (is_remembered f c room x) (entry.Offered s x) refl))
       (quiet_offers (room_after (is_remembered f c room x) room) ids)
 
--- no message is judged that is not held
-abbrev pub JudgesHeld : Facts → Type 0
-JudgesHeld f = (id : Id) → held_at f.held id ≡ None → fin_set.contains f.judged id ≡ false
-
 brought_left : (f g : Facts) (h : Held) → g.judged ≡ f.judged → g.invalid ≡ f.invalid → g.delivered ≡ f.delivered → g.held ≡ f.held ++ h ∷ []
     → fin_set.contains f.judged h.id ≡ false → left_of g ≡ left_of f + 2
 brought_left f g h j i d held new =
@@ -228,9 +225,8 @@ judges_held p s id none =
     let whole : AreApart (map (λ (n : Node). n.name) p.nodes) = subst AreApart (sym s.named) (first_apart p.held s.distinct) in
     set_named is_judged p.nodes whole id ∙ ap (passes is_judged) (none_named p.nodes p.held s.named id none)
 
--- the steps left after a batch, of the value that the parts are seen as
-pub left_told : (p : Parts) → IsState p → (v : StateValue) → value_of p ≡ v → (b : List Entry) → (clients : Meaning) → Allowed clients v.facts b → is_settling_kind b ≡ false
-    → (n : ℕ) → n ≡ left_of v.facts → (t : Bool) → t ≡ list_any brings_one b → n + cond t 2 0 ≡ left_of (after_all v.facts b)
-left_told p s v same b clients a kind n is t brought =
-    let held : JudgesHeld v.facts = subst (λ (x : StateValue). JudgesHeld x.facts) same (judges_held p s) in
-    (λ i. is i + cond (brought i) 2 0) ∙ sym (left_after_batch clients v.facts b a kind held)
+-- the steps left after a batch, as they are counted
+pub left_told : (f : Facts) → JudgesHeld f → (b : List Entry) → (clients : Meaning) → Allowed clients f b → is_settling_kind b ≡ false
+    → (n : ℕ) → n ≡ left_of f → (t : Bool) → t ≡ list_any brings_one b → n + cond t 2 0 ≡ left_of (after_all f b)
+left_told f held b clients a kind n is t brought =
+    (λ i. is i + cond (brought i) 2 0) ∙ sym (left_after_batch clients f b a kind held)

@@ -21,7 +21,8 @@ use Rattle.message_graph.specs.declared.nodes.Judged.TheVariants as judged
 use Rattle.visibility_table.specs.Table as levels
 use Rattle.journal_state.specs.Parts.{Parts, answer_of_node, answers_of, facts_of, name_at, shared_among}
 use Rattle.journal_state.specs.Whole.{IsState, may_go}
-use Rattle.journal_state.proofs.Apart.{AreApart, first_apart}
+use Rattle.journal_state.specs.Sound.{AreApart}
+use Rattle.journal_state.proofs.Apart.{first_apart}
 use Rattle.journal_state.proofs.Answered.{ids_of}
 use Rattle.journal_state.proofs.Kept.{rows_same, wants_same, within_held}
 use Rattle.journal_state.proofs.Listed.{id_there}

@@ -25,7 +25,8 @@ use Rattle.journal_state.specs.Parts.{Parts, answer_of_node, answers_of, facts_o
 use Rattle.journal_state.specs.Unwanted.{UnwantsBelow}
 use Rattle.journal_state.specs.Whole.{IsState, Knows, is_delivered_in, may_go, value_of}
 use Rattle.journal_state.proofs.Places.{id_itself, id_swap}
-use Rattle.journal_state.proofs.Apart.{AreApart, first_apart, passes, set_named}
+use Rattle.journal_state.specs.Sound.{AreApart}
+use Rattle.journal_state.proofs.Apart.{first_apart, passes, set_named}
 use Rattle.journal_state.proofs.Rows.{row_by, row_found, rows_are, lean_in}
 use Rattle.journal_state.proofs.Sums.{sum_more}
 use Rattle.journal_state.proofs.Next.{many_nodes}

@@ -25,7 +25,8 @@ use Rattle.visibility_table.specs.Table as levels
 use Rattle.journal_state.specs.Parts.{Parts, answer_of_node, facts_of, is_invalid}
 use Rattle.journal_state.specs.Whole.{IsState, Knows, id_at, is_delivered_in, value_of}
 use Rattle.journal_state.specs.Stepping.{entry_of, number_in}
-use Rattle.journal_state.proofs.Apart.{AreApart, first_apart, passes, set_named}
+use Rattle.journal_state.specs.Sound.{AreApart}
+use Rattle.journal_state.proofs.Apart.{first_apart, passes, set_named}
 use Rattle.journal_state.proofs.Listed.{id_there}
 use Rattle.journal_state.proofs.Paired.{Each, IsOf, IsBoth, both_found, paired, own_node, same_group}
 

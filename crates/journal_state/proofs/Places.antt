@@ -9,7 +9,7 @@ use Rattle.std.proofs.lemmas.Iterator.Adapters.{position_from-zero}
 use Rattle.sync_rules.specs.Lists.{same_id}
 use Rattle.sync_rules.specs.Facts.{Id, Held, held_at}
 use Rattle.sync_rules.specs.Views.{place_of, IsFound}
-use Rattle.journal_state.specs.declared.held.Kept.{Kept}
+use Rattle.journal_state.specs.declared.messages.Kept.{Kept}
 use Rattle.journal_state.specs.Holding.{held_of}
 
 pub id_swap : (a b : Id) → same_id a b ≡ same_id b a

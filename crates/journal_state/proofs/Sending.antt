@@ -12,7 +12,7 @@ use Rattle.sync_rules.specs.Facts.{Facts, Held, Id, held_at, is_held}
 use Rattle.sync_rules.specs.Sessions.{acks_due, due_by, first_id, ids_limit, ids_where, offers_due, offers_of, out_or, owed_to, requests_due, send_due, send_of, wanted_of}
 use Rattle.journal_state.specs.Taking.{CanSend}
 use Rattle.journal_state.proofs.Places.{id_itself, id_swap}
-use Rattle.journal_state.proofs.Apart.{AreApart}
+use Rattle.journal_state.specs.Sound.{AreApart}
 
 abbrev ids_of : List Held → List Id
 ids_of hs = map (λ (h : Held). h.id) hs

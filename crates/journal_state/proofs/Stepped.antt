@@ -21,7 +21,8 @@ use Rattle.journal_state.specs.Parts.{Parts, answer_of_node, answers_of, facts_o
 use Rattle.journal_state.specs.Whole.{IsState, Knows, is_delivered_in, may_go, value_of}
 use Rattle.journal_state.specs.Changes.{judged_parts, invalid_parts}
 use Rattle.journal_state.proofs.Places.{id_is}
-use Rattle.journal_state.proofs.Apart.{AreApart, first_apart}
+use Rattle.journal_state.specs.Sound.{AreApart}
+use Rattle.journal_state.proofs.Apart.{first_apart}
 use Rattle.journal_state.proofs.Changed.{names_of, own_found, names_kept, named_changed, names_same, set_grown}
 use Rattle.journal_state.proofs.Answered.{ids_of, answers_set, answers_judged, shared_others}
 use Rattle.journal_state.proofs.Sums.{sum_kept}

@@ -12,8 +12,8 @@ use Rattle.sync_rules.specs.declared.entries.Out.{Out}
 use Rattle.sync_rules.specs.declared.entries.Session.{Session}
 use Rattle.sync_rules.specs.declared.limits.TheConstants.{MAX_CONTACTS}
 use Rattle.sync_rules.specs.Sessions.{due, is_welcome}
-use Rattle.journal_state.specs.declared.allowing.ListKind.{ListKind}
-use Rattle.journal_state.specs.declared.allowing.ListKind.TheVariants as list_kind
+use Rattle.journal_state.specs.declared.allow.ListKind.{ListKind}
+use Rattle.journal_state.specs.declared.allow.ListKind.TheVariants as list_kind
 use Rattle.sync_rules.specs.Allows.{is_due, may_add_group, may_author, may_begin}
 
 -- the record of a kind that lists these ids

@@ -1,7 +1,7 @@
 -- The held messages, in order of arrival.
 use Rattle.std.specs.Prelude.{ℕ, List}
 use Rattle.sync_rules.specs.Facts.{Held, Id}
-use Rattle.journal_state.specs.declared.held.Kept.{Kept}
+use Rattle.journal_state.specs.declared.messages.Kept.{Kept}
 
 -- the held messages, and for how many more there is room
 pub record Holding : Type 0 where

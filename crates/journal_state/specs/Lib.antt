@@ -9,6 +9,7 @@ pub mod Unwanted
 pub mod Levelling
 pub mod Parts
 pub mod Whole
+pub mod Sound
 pub mod Taking
 pub mod Inside
 pub mod Lent

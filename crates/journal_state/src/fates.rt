@@ -48,8 +48,7 @@ impl State {
     pub fn delivered(&self) -> u32
         ensures { result ≡ length self.now.facts.delivered }
     {
-        // There are at most as many as held messages, which a u32 counts.
-        let _held = self.messages.len();
+        self.show_sound();
         self.delivered.len() as u32
     }
 

@@ -1,26 +1,41 @@
-//! The state of a journal without a disk.
+//! The state of a journal without a disk: all that is asked of a journal, kept so that no answer
+//! needs a walk over its entries.
+//!
+//! - What it is: `state` (its tables, and the look-ups that only read one), `messages` (the held
+//!   messages by id), `sessions`, `graph` (the waiting graph, with the steps that are left).
+//! - What is asked of it: `groups` (groups, and what is served), `fates` (what became of each
+//!   message, and the steps left), `view` (what a session asks), `left` (the steps left once a
+//!   batch is there).
+//! - Whether a batch may follow: `allow`; `brought_id` (the id of the message that a batch brings,
+//!   computed once for the test and the taking).
+//! - A batch is taken: `reserve` takes its memory, and `take` then goes entry by entry through
+//!   `add` (a contact, a group, a session, a record), `hold` (a message), `levels` (a group's
+//!   level), `marks` (what is noted of a message for a contact) and `want` (what is wanted from a
+//!   contact).
+//! - A step is made: `steps`, by `judge` and `deliver`.
+//! - A batch that was read from a file is tested and taken, or its steps are made: `admit`.
 #![tactic(auto)]
 
-mod admitting;
-mod allowing;
-mod bringing;
-mod counted;
-mod delivering;
+mod add;
+mod admit;
+mod allow;
+mod brought_id;
+mod deliver;
 mod fates;
-mod held;
-mod holding;
-mod judging;
-mod levelling;
-mod lookups;
+mod graph;
+mod groups;
+mod hold;
+mod judge;
+mod left;
+mod levels;
 mod marks;
-mod naming;
-mod recording;
+mod messages;
 mod reserve;
 mod sessions;
 mod state;
 mod steps;
-mod taking;
+mod take;
 mod view;
-mod wanting;
+mod want;
 
 pub use state::State;

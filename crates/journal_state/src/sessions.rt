@@ -1,6 +1,5 @@
 //! The sessions, and the records taken on each.
-ghost use Rattle.std.specs.Prelude.{◌≡◌, ◌+◌, ◌-◌, ◌^◌, ◌<◌, ◌++◌, ◌∷◌, [], max, length, IfOk};
-ghost use Rattle.std.specs.Prelude.{OnOk, OnErr};
+ghost use Rattle.std.specs.Prelude.{◌≡◌, ◌+◌, ◌-◌, ◌^◌, ◌<◌, ◌≤◌, ◌++◌, ◌∷◌, [], OnOk};
 ghost use Rattle.std.specs.FinMap as fin_map;
 ghost use Rattle.sync_rules.specs.Facts.{session_at, takes_of};
 
@@ -17,7 +16,6 @@ pub(crate) struct Sessions {
     first: u32,
     sessions: Vec<Session>,
     counts: IndexMap<u32, u64>,
-    space: usize,
 }
 
 impl Model for Sessions {
@@ -27,7 +25,7 @@ impl Model for Sessions {
 
     ghost coded = { begun_code };
 
-    ghost use Rattle.std.specs.Prelude.{◌+◌, ◌<◌, ◌^◌, ◌≤◌, length, vec_capacity};
+    ghost use Rattle.std.specs.Prelude.{◌+◌, ◌-◌, ◌<◌, ◌^◌, length, min, vec_capacity};
     ghost use Rattle.std.specs.FinMap as fin_map;
     ghost use Rattle.std.specs.Ordering.{nat_cmp};
     ghost use Rattle.indexmap.specs.IndexMap.{spare};
@@ -37,38 +35,38 @@ impl Model for Sessions {
       sessions = s.sessions.items;
       takes = fin_map.from_entries {R = nat_cmp}
           s.counts.entries;
-      room = s.space;
+      room = min (spare s.counts)
+          (vec_capacity s.sessions - length s.sessions.items);
     } };
 
     ghost invariant = { λ s. IsNumbered s.first s.sessions.items
-        × (s.first + length s.sessions.items < 2 ^ 32)
-        × (length s.sessions.items + s.space ≤ vec_capacity s.sessions)
-        × (s.space ≤ spare s.counts) };
+        × (s.first + length s.sessions.items < 2 ^ 32) };
 }
 
 impl Sessions {
-    /// No sessions, and no room.
+    /// No sessions.
     pub(crate) fn new(alloc: Global) -> Sessions
-        ensures { result ≡ record { begun = 0; sessions = []; takes = fin_map.empty; room = 0 } }
+        ensures begun { result.begun ≡ 0 }
+        ensures sessions { result.sessions ≡ [] }
+        ensures takes { result.takes ≡ fin_map.empty }
     {
         Sessions {
             first: 0,
             sessions: Vec::new(alloc),
             counts: IndexMap::new(alloc),
-            space: 0,
         }
     }
 
-    /// Makes room for that many more sessions and records; it never takes room away. After an error
-    /// all is as before.
+    /// Makes room for that many more sessions and records; it never takes room away.
     pub(crate) fn reserve(&mut self, entries: usize) -> Result<(), AllocError>
-        ensures ok { OnOk result (self.new ≡ record self.old { room = max self.old.room entries }) }
-        ensures err { OnErr result (self.new ≡ self.old) }
+        ensures begun { self.new.begun ≡ self.old.begun }
+        ensures sessions { self.new.sessions ≡ self.old.sessions }
+        ensures takes { self.new.takes ≡ self.old.takes }
+        ensures room { self.old.room ≤ self.new.room }
+        ensures ok { OnOk result (entries ≤ self.new.room) }
     {
         self.sessions.reserve(entries)?;
-        self.counts.reserve(entries)?;
-        self.space = self.space.max(entries);
-        Ok(())
+        self.counts.reserve(entries)
     }
 
     /// Begins a session, which has the next number.
@@ -76,30 +74,27 @@ impl Sessions {
         requires numbered { session.now.number ≡ self.old.begun }
         requires room { 0 < self.old.room }
         requires few { self.old.begun < 2 ^ 32 - 1 }
-        ensures { self.new ≡ record self.old {
-          begun = self.old.begun + 1;
-          sessions = self.old.sessions ++ session.now ∷ [];
-          room = self.old.room - 1;
-        } }
+        ensures begun { self.new.begun ≡ self.old.begun + 1 }
+        ensures sessions { self.new.sessions ≡ self.old.sessions ++ session.now ∷ [] }
+        ensures takes { self.new.takes ≡ self.old.takes }
+        ensures left { self.old.room ≤ self.new.room + 1 }
     {
         let nonce = session.nonce;
         self.sessions.push(Session { nonce, ..*session }).unwrap();
-        self.space -= 1;
     }
 
     /// Counts a record taken on a session.
     pub(crate) fn take(&mut self, number: u32)
         requires room { 0 < self.old.room }
         requires few { takes_of self.old.takes number < 2 ^ 64 - 1 }
-        ensures { self.new ≡ record self.old {
-          takes = fin_map.insert self.old.takes number
-              (takes_of self.old.takes number + 1);
-          room = self.old.room - 1;
-        } }
+        ensures begun { self.new.begun ≡ self.old.begun }
+        ensures sessions { self.new.sessions ≡ self.old.sessions }
+        ensures takes { self.new.takes ≡ fin_map.insert self.old.takes number
+            (takes_of self.old.takes number + 1) }
+        ensures left { self.old.room ≤ self.new.room + 1 }
     {
         let count = self.takes(number);
         self.counts.insert(number, count + 1).unwrap();
-        self.space -= 1;
     }
 
     /// The number of sessions that have begun.

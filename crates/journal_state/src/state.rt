@@ -3,9 +3,10 @@ ghost use Rattle.std.specs.Prelude.{◌≡◌, ◌<◌, [], length, IfOk, Some, 
 ghost use Rattle.std.specs.Option.{option_map};
 ghost use Rattle.sync_rules.specs.Facts.{nothing, takes_of};
 ghost use Rattle.journal_state.specs.Lent.{StandsForRows};
+ghost use Rattle.journal_state.specs.Sound.{IsSound};
 
-use crate::counted::CountedGraph;
-use crate::held::Messages;
+use crate::graph::CountedGraph;
+use crate::messages::Messages;
 use crate::sessions::Sessions;
 use retry_table::Retry;
 use std::alloc::{AllocError, Global};
@@ -45,8 +46,8 @@ impl Model for State {
 }
 
 impl State {
-    /// The state of a journal that has no entries; ids are hashed by `hasher`. Answers an error where
-    /// there is no memory.
+    /// The state of a journal that has no entries; ids are hashed by `hasher`. Answers an error
+    /// where there is no memory.
     pub fn new(alloc: Global, hasher: RandomState) -> Result<State, AllocError>
         ensures facts { IfOk result (λ s. s.facts ≡ nothing) }
         ensures answers { IfOk result (λ s. s.answers ≡ []) }
@@ -64,6 +65,13 @@ impl State {
             retry,
             space: 0,
         })
+    }
+
+    /// Shows the prover what holds of every state. It does nothing.
+    pub(crate) fn show_sound(&self)
+        ensures { IsSound self.now }
+    {
+        let _held = self.messages.len();
     }
 
     /// The number of held messages.

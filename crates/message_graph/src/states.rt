@@ -41,7 +41,10 @@ impl Model for States {
 
     ghost Value = { Waits };
 
-    ghost view = { λ s. record { waits = s.waits.items; room = length s.ready - length s.waits.items } };
+    ghost view = { λ s. record {
+      waits = s.waits.items;
+      room = length s.ready - length s.waits.items;
+    } };
 
     ghost invariant = { λ s. (s.ready ≡ map mark s.waits.items ++ replicate
         (length s.ready - length s.waits.items) None) × (length s.ready ≤ vec_capacity s.waits) };

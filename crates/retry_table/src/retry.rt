@@ -17,10 +17,10 @@ use std::marker::Model;
 use sync_ids::MessageId;
 use sync_rules::{MAX_CONTACTS, Mode};
 
-/// What is kept for each contact, a number below `MAX_CONTACTS`: a row for each message, by its arrival
-/// number, and the ids wanted from the contact. Contracts see for each contact the list of its
-/// rows, which is as long as there is room, and the list of its wanted ids with the room for more
-/// of them.
+/// What is kept for each contact, a number below `MAX_CONTACTS`: a row for each message, by its
+/// arrival number, and the ids wanted from the contact. Contracts see for each contact the list of
+/// its rows, which is as long as there is room, and the list of its wanted ids with the room for
+/// more of them.
 #[derive(Drop)]
 pub struct Retry {
     rows: Vec<Queues>,
@@ -36,7 +36,8 @@ impl Model for Retry {
 
     ghost view = { λ t. record { rows = t.rows.items; wants = t.wants.items } };
 
-    ghost invariant = { λ t. (length t.rows.items ≡ MAX_CONTACTS) × (length t.wants.items ≡ MAX_CONTACTS) };
+    ghost invariant = { λ t. (length t.rows.items ≡ MAX_CONTACTS)
+        × (length t.wants.items ≡ MAX_CONTACTS) };
 }
 
 /// The rows of all contacts: none.

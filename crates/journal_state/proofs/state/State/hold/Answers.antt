@@ -5,7 +5,6 @@ use Rattle.message_graph.specs.declared.nodes.Node.{Node}
 use Rattle.message_graph.specs.Nodes as nodes
 use Rattle.retry_table.specs.Table as retry
 use Rattle.visibility_table.specs.Table as levels
-use Rattle.journal_state.specs.Holding.{Holding}
 use Rattle.journal_state.specs.Parts.{Parts, facts_of}
 use Rattle.journal_state.specs.Room.{room_in}
 use Rattle.journal_state.specs.Taking.{Spends}
@@ -56,7 +55,7 @@ made : (c : goal.After-hold-2) → ◌≡◌ {A = Parts} (record (parts c.self.i
   space = c.self.inside.space - 1;
 }) (after_it c)
 made c = λ k. record (parts c.self.inside) {
-  held = (c.hold-2.ensures k).held;
+  held = c.hold-2.ensures.held k;
   nodes = nodes_are c k;
   shares = items c k;
   retry = c.unwant_from_all.new.retry;
@@ -68,13 +67,12 @@ invariant_of-self c =
     let some : 1 ≤ c.self.inside.space = subst (λ (v : StateValue). 1 ≤ v.room.entries) (sym c.self.view_is) c.requires.room in
     let long : length c.push.new.self.items ≡ length c.self.inside.shares.items + 1 = ap length (items c) ∙ length-append c.self.inside.shares.items (false ∷ []) in
     let spare : c.hold.new.self.spare ≡ c.self.inside.graph.spare - 1 = ap (λ (g : nodes.Shown). g.spare) c.hold.ensures.nodes in
-    let room : c.hold-2.new.self.room ≡ c.self.inside.messages.room - 1 = ap (λ (m : Holding). m.room) c.hold-2.ensures in
     record {
       state = subst IsState (sym (made c))
           (held_state (parts c.self.inside) c.self.invariant.state (message_held c) c.unwrap-group.result c.unwant_from_all.new.retry (c.self.inside.space - 1) (new_id c) (known c) (unwanted c));
       roomy = record {
         table = let m = c.self.invariant.roomy.table in omega (arith, m);
-        messages = let m = c.self.invariant.roomy.messages in omega (arith, m, room);
+        messages = let m = c.self.invariant.roomy.messages in let left = c.hold-2.ensures.left in omega (arith, m, left);
         sessions = let m = c.self.invariant.roomy.sessions in omega (arith, m);
         graph = let m = c.self.invariant.roomy.graph in omega (arith, m, spare);
         shares = let m = c.self.invariant.roomy.shares in omega (arith, m, long, some, c.push.ensures.capacity);

@@ -1,8 +1,8 @@
-use Rattle.std.proofs.Common.{◌≡◌, length, nat_lt, slice_get, sym, ap, subst, ◌∙◌, arith}
+use Rattle.std.proofs.Common.{◌≡◌, List, length, nat_lt, slice_get, sym, ap, subst, ◌∙◌, arith}
 use Rattle.std.specs.List.{list_all}
 use Rattle.message_graph.specs.Nodes as nodes
 use Rattle.visibility_table.specs.Table as levels
-use Rattle.journal_state.specs.Begun.{Begun}
+use Rattle.sync_rules.specs.declared.entries.Session.{Session}
 use Rattle.journal_state.specs.Parts.{Parts}
 use Rattle.journal_state.specs.Whole.{IsState, value_of}
 use Rattle.journal_state.proofs.Empty.{empty_parts, empty_is_state, empty_facts, not_there}
@@ -17,11 +17,11 @@ made : (c : goal.After-new-7) → ◌≡◌ {A = Parts} (record {
   delivered = c.new-7.result.items;
   retry = c.in_ok-retry.retry;
   space = 0;
-}) (empty_parts c.in_ok-retry.retry)
+}) (empty_parts c.new-5.result.room c.in_ok-retry.retry)
 made c = λ k. record {
   table = c.in_ok-table.ensures k;
-  held = (c.new-4.ensures k).held;
-  begun = c.new-5.ensures k;
+  held = c.new-4.ensures k;
+  begun = record c.new-5.result { begun = c.new-5.ensures.begun k; sessions = c.new-5.ensures.sessions k; takes = c.new-5.ensures.takes k };
   nodes = (c.in_ok-graph.ensures k).nodes;
   shares = c.new-6.ensures.items k;
   delivered = c.new-7.ensures.items k;
@@ -31,7 +31,7 @@ made c = λ k. record {
 
 pub invariant_of-result : goal.invariant_of-result
 invariant_of-result c = record {
-  state = subst IsState (sym (made c)) (empty_is_state c.in_ok-retry.retry c.in_ok-retry.ensures);
+  state = subst IsState (sym (made c)) (empty_is_state c.new-5.result.room c.in_ok-retry.retry c.in_ok-retry.ensures);
   roomy = record {
     table = omega arith;
     messages = omega arith;
@@ -40,12 +40,12 @@ invariant_of-result c = record {
     shares = let none = ap length c.new-6.ensures.items in omega (arith, none);
   };
   few = let none = ap (λ (t : levels.Table). t.contacts) c.in_ok-table.ensures in omega (arith, none);
-  met = ap (λ (b : Begun). list_all (λ x. nat_lt x.contact c.in_ok-table.table.contacts) b.sessions) c.new-5.ensures;
+  met = ap (λ (ss : List Session). list_all (λ x. nat_lt x.contact c.in_ok-table.table.contacts) ss) c.new-5.ensures.sessions;
   honest = λ n node at share. absurd (not_there n node (sym (ap (λ (g : nodes.Shown). slice_get g.nodes n) c.in_ok-graph.ensures) ∙ at));
 }
 
 pub returns : goal.returns
 returns c = record {
-  facts = ap (λ (p : Parts). (value_of p).facts) (made c) ∙ empty_facts c.in_ok-retry.retry;
+  facts = ap (λ (p : Parts). (value_of p).facts) (made c) ∙ empty_facts c.new-5.result.room c.in_ok-retry.retry;
   answers = ap (λ (p : Parts). (value_of p).answers) (made c);
 }

@@ -1,20 +1,16 @@
-use Rattle.std.proofs.Common.{List, map, sym, ap, subst, ◌∙◌}
+use Rattle.std.proofs.Common.{List, sym, ap, subst, ◌∙◌}
 use Rattle.sync_rules.specs.declared.entries.Entry.{Entry}
-use Rattle.sync_rules.specs.Facts.{Held, after_all}
+use Rattle.sync_rules.specs.Facts.{after_all}
 use Rattle.journal_state.specs.Known.{IsOfAll}
 use Rattle.journal_state.specs.Taking.{CanTakeAll}
-use Rattle.journal_state.specs.Whole.{StateValue}
-use Rattle.journal_state.proofs.Apart.{AreApart, first_apart}
 use Rattle.journal_state.proofs.CanTaken.{can_batch}
 use Rattle.journal_state.proofs.state.State.take_knowing.Goals as goal
 
 pub take_all-requires-clause-can : goal.take_all-requires-clause-can
 take_all-requires-clause-can c =
-    let apart : AreApart (map (λ (h : Held). h.id) c.args.self.now.facts.held) =
-    subst (λ (v : StateValue). AreApart (map (λ (h : Held). h.id) v.facts.held)) c.self.view_is (first_apart c.self.inside.messages.held c.self.invariant.state.distinct) in
     subst (λ (es : List Entry). CanTakeAll c.args.self.now es) (sym c.into_entries.ensures.value)
     (can_batch c.requires.allowed.0 c.args.self.now c.args.batch c.requires.allowed.1 c.requires.kind c.requires.room
-    c.requires.numbers apart)
+    c.requires.numbers c.show_sound.ensures.distinct)
 
 pub take_all-requires-clause-named : goal.take_all-requires-clause-named
 take_all-requires-clause-named c = subst (IsOfAll c.args.known.now) (sym c.into_entries.ensures.value) c.requires.named

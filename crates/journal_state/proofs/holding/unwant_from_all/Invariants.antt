@@ -1,5 +1,0 @@
-use Rattle.journal_state.specs.Unwanted.{UnwantsBelow}
-use Rattle.journal_state.proofs.holding.unwant_from_all.Given as goal
-
-abbrev pub invariant-loop-contact : goal.invariant-loop-contact
-invariant-loop-contact l = UnwantsBelow l.contact l.initial.retry l.retry l.id

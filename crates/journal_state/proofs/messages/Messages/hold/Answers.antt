@@ -1,0 +1,25 @@
+use Rattle.std.proofs.Common.{◌≡◌, [], ◌∷◌, ◌++◌, None, nat_eq, map, ap, ◌∙◌}
+use Rattle.std.specs.Cmp.Lexicographic.{pointwise}
+use Rattle.std.proofs.lemmas.List.{map-append}
+use Rattle.indexmap.proofs.CallerLemmas.{insert_entry-new}
+use Rattle.sync_ids.specs.Ids.{message_id_of}
+use Rattle.sync_rules.specs.Facts.{Held, Id, held_at}
+use Rattle.journal_state.specs.declared.messages.Kept.{Kept}
+use Rattle.journal_state.specs.Holding.{Holding, held_of}
+use Rattle.journal_state.proofs.Places.{not_kept}
+use Rattle.journal_state.proofs.messages.Messages.hold.Goals as goal
+
+pub returns-clause-held : goal.returns-clause-held
+returns-clause-held c =
+    let es = c.self.inside.kept.entries in
+    let id = c.args.id in
+    let kept : Kept = record { message = c.args.message; origin = c.args.origin } in
+    let more : Held = record { id = message_id_of c.args.message; message = c.args.message; origin = c.args.origin } in
+    let absent : held_at (map held_of es) id ≡ None =
+    ap (held_at (map held_of es)) c.requires.named ∙ (ap (λ (m : Holding). held_at m.held (message_id_of c.args.message)) c.self.view_is ∙ c.requires.new) in
+    let put = insert_entry-new (pointwise nat_eq) c.self.inside.kept id kept (not_kept id es absent) in
+    let all : map held_of c.insert.new.self.entries ≡ c.args.self.now.held ++ more ∷ [] =
+    ap (map held_of) (rw c.unwrap.ensures at c.insert.ensures.entries ∙ put)
+    ∙ (map-append held_of es ((id, kept) ∷ []) ∙ (ap (λ (i : Id). map held_of es ++ held_of (i, kept) ∷ []) c.requires.named
+    ∙ ap (λ (m : Holding). m.held ++ more ∷ []) c.self.view_is)) in
+    all

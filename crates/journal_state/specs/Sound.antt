@@ -1,0 +1,22 @@
+-- What holds of every state.
+use Rattle.std.specs.Prelude.{◌≡◌, ◌<◌, ◌≤◌, ◌^◌, false, List, [], ◌∷◌, length, map, None}
+use Rattle.std.specs.FinSet as fin_set
+use Rattle.sync_rules.specs.Lists.{is_among}
+use Rattle.sync_rules.specs.Facts.{Facts, Id, held_at}
+use Rattle.journal_state.specs.Whole.{StateValue}
+
+-- no two ids are the same
+abbrev pub AreApart : List Id → Type 0
+AreApart [] = Unit {0}
+AreApart (x ∷ xs) = (is_among xs x ≡ false) × AreApart xs
+
+-- no message is judged that is not held
+abbrev pub JudgesHeld : Facts → Type 0
+JudgesHeld f = (id : Id) → held_at f.held id ≡ None → fin_set.contains f.judged id ≡ false
+
+-- the held messages have distinct ids and are fewer than 2^32, only they are judged, and no more are delivered than are held
+pub record IsSound (s : StateValue) : Type 0 where
+  pub distinct : AreApart (map (λ h. h.id) s.facts.held)
+  pub few : length s.facts.held < 2 ^ 32
+  pub judged : JudgesHeld s.facts
+  pub delivered : length s.facts.delivered ≤ length s.facts.held

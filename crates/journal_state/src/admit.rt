@@ -1,0 +1,142 @@
+//! A batch that was read from a file is tested and taken.
+ghost use Rattle.std.specs.Prelude.{◌≡◌, true, false, IfOk, OnErr};
+ghost use Rattle.sync_rules.specs.Facts.{after, after_all};
+ghost use Rattle.sync_rules.specs.Steps.{next};
+ghost use Rattle.sync_rules.specs.Allows.{allows, is_settling_kind, is_some_of};
+ghost use Rattle.sync_rules.specs.Allows.{same_entry, settles};
+ghost use Rattle.journal_state.specs.Stepping.{PlaysFront};
+ghost use Rattle.journal_state.specs.Taking.{HasNextNumbers};
+ghost use Rattle.journal_state.specs.Whole.{Knows};
+
+use crate::brought_id::id_brought;
+use crate::state::State;
+use std::alloc::{AllocError, Global};
+use sync_rules::laws::allows_is_allowed;
+use sync_rules::{Batch, Clients, Entry, MAX_STEPS, same_entry};
+
+/// Whether a batch begins with a step.
+fn begins_settling(entries: &[Entry]) -> bool
+    ensures { result ≡ is_settling_kind entries.now }
+{
+    match entries.first() {
+        Some(Entry::Judged(_) | Entry::Deliver(_) | Entry::Invalid(_)) => true,
+        _ => false,
+    }
+}
+
+impl State {
+    /// Makes the next step where it is this entry, and answers whether it is; `false` also where no
+    /// step is open. It fails only for want of memory. Where it doesn't make the step, the facts
+    /// are as before.
+    fn play_one<C: Clients>(
+        &mut self,
+        alloc: Global,
+        clients: &C,
+        entry: &Entry,
+    ) -> Result<bool, AllocError>
+        requires { Knows (C.meaning clients.now) self.old }
+        ensures answer { IfOk result
+            (λ yes. yes ≡ is_some_of same_entry (next (C.meaning clients.now) self.old.facts)
+            entry.now) }
+        ensures step { IfOk result (λ yes. yes ≡ true
+            → next (C.meaning clients.now) self.old.facts ≡ Some entry.now) }
+        ensures taken { IfOk result (λ yes. yes ≡ true
+            → self.new.facts ≡ after self.old.facts entry.now) }
+        ensures refused { IfOk result (λ yes. yes ≡ false → self.new.facts ≡ self.old.facts) }
+        ensures err { OnErr result (self.new.facts ≡ self.old.facts) }
+        ensures knows { Knows (C.meaning clients.now) self.new }
+    {
+        match self.next_step() {
+            Some(step) if same_entry(&step, entry) => {
+                self.step(alloc, clients)?;
+                Ok(true)
+            }
+            _ => Ok(false),
+        }
+    }
+
+    /// Makes steps as long as they are these entries, and answers whether all were. It fails only
+    /// for want of memory.
+    fn play<C: Clients>(
+        &mut self,
+        alloc: Global,
+        clients: &C,
+        entries: &[Entry],
+    ) -> Result<bool, AllocError>
+        requires { Knows (C.meaning clients.now) self.old }
+        ensures answer { IfOk result (λ yes. yes ≡ settles (C.meaning clients.now) self.old.facts
+            entries.now) }
+        ensures taken { IfOk result (λ yes. yes ≡ true
+            → self.new.facts ≡ after_all self.old.facts entries.now) }
+        ensures front { PlaysFront (C.meaning clients.now) self.old.facts self.new.facts
+            entries.now }
+        ensures knows { Knows (C.meaning clients.now) self.new }
+    {
+        for entry in entries {
+            if !self.play_one(alloc, clients, entry)? {
+                return Ok(false);
+            }
+        }
+        Ok(true)
+    }
+
+    /// Tests a batch that is no settling batch, and takes it where it may follow.
+    fn admit_other<C: Clients>(
+        &mut self,
+        alloc: Global,
+        clients: &C,
+        batch: Batch,
+    ) -> Result<bool, AllocError>
+        requires knows { Knows (C.meaning clients.now) self.old }
+        requires kind { is_settling_kind batch ≡ false }
+        requires numbers { HasNextNumbers self.old.facts }
+        ensures answer { IfOk result (λ yes. yes ≡ allows (C.meaning clients.now) self.old.facts
+            batch) }
+        ensures taken { IfOk result (λ yes. yes ≡ true
+            → self.new.facts ≡ after_all self.old.facts batch) }
+        ensures refused { IfOk result (λ yes. yes ≡ false → self.new.facts ≡ self.old.facts) }
+        ensures err { OnErr result (self.new.facts ≡ self.old.facts) }
+        ensures knows { Knows (C.meaning clients.now) self.new }
+    {
+        let known = id_brought(batch.entries());
+        if !self.allows_knowing(alloc, clients, &known, &batch)? {
+            return Ok(false);
+        }
+        self.reserve(&batch)?;
+        allows_is_allowed();
+        self.take_knowing(&known, batch);
+        Ok(true)
+    }
+
+    /// Tests whether a batch that was read from a file may follow the journal, and takes it where
+    /// it may. After another answer, and where memory was wanting, the state stands for the journal
+    /// as before with a front of the batch, each entry of it the journal's next step; none for a
+    /// batch that is no settling batch. It fails only for want of memory.
+    pub fn admit<C: Clients>(
+        &mut self,
+        alloc: Global,
+        clients: &C,
+        batch: Batch,
+    ) -> Result<bool, AllocError>
+        requires knows { Knows (C.meaning clients.now) self.old }
+        requires numbers { HasNextNumbers self.old.facts }
+        ensures answer { IfOk result (λ yes. yes ≡ allows (C.meaning clients.now) self.old.facts
+            batch) }
+        ensures taken { IfOk result (λ yes. yes ≡ true
+            → self.new.facts ≡ after_all self.old.facts batch) }
+        ensures refused { IfOk result (λ yes. yes ≡ false
+            → PlaysFront (C.meaning clients.now) self.old.facts self.new.facts batch) }
+        ensures err { OnErr result (PlaysFront (C.meaning clients.now) self.old.facts
+            self.new.facts batch) }
+        ensures knows { Knows (C.meaning clients.now) self.new }
+    {
+        let entries = batch.entries();
+        if !begins_settling(entries) {
+            return self.admit_other(alloc, clients, batch);
+        }
+        if entries.len() > MAX_STEPS {
+            return Ok(false);
+        }
+        self.play(alloc, clients, entries)
+    }
+}
