@@ -16,5 +16,5 @@ pub use drafts::{Draft, Kind, draft_journal};
 pub use fault::DraftFault;
 pub use moments::{moment, moment_near};
 pub use posts::Posts;
-pub use tally::Tally;
+pub use tally::{Tally, case_count};
 pub use timing::{Timing, may_share};

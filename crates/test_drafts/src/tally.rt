@@ -1,6 +1,7 @@
 //! How many cases were played.
 
-use std::fmt;
+use anyhow::{Context, Result};
+use std::{env, fmt};
 
 /// How many cases were played, and how many of them came out apart.
 #[derive(Clone, Copy, Debug, Default)]
@@ -28,4 +29,15 @@ impl fmt::Display for Tally {
             write!(f, "cases {cases}, {apart} of them apart")
         }
     }
+}
+
+/// How many cases a program is to play: its first argument.
+pub fn case_count(rt: &HostRuntime) -> Result<u32> {
+    let mut words = env::args(rt)?.skip(1);
+    let count = words
+        .next()
+        .context("a count")?
+        .parse::<u32>()
+        .context("reading the count")?;
+    Ok(count)
 }

@@ -5,7 +5,7 @@ use outside::MemDisk;
 use session_core::take;
 use std::alloc::Global;
 use sync_ids::{GroupDef, Message, Record, group_id};
-use sync_rules::{Clients, Entry, Level, Mode, Session};
+use sync_rules::{Batch, Clients, Entry, Level, Mode, Session};
 use test_device::{Device, batch_of};
 
 /// The session on which messages arrive.
@@ -60,6 +60,17 @@ fn add_one<C: Clients + Drop>(
     Ok(())
 }
 
+/// What a message is taken as, the session's record of this number.
+fn heard<C: Clients + Drop>(
+    alloc: Global,
+    device: &Device<MemDisk, C>,
+    number: u64,
+    message: Message,
+) -> Result<Batch> {
+    let record = Record::Message(message);
+    Ok(take(alloc, device.store(), &SESSION, number, record)?)
+}
+
 /// Takes a message as the session's record of this number, and does not settle.
 pub(crate) fn hear<C: Clients + Drop>(
     alloc: Global,
@@ -67,8 +78,7 @@ pub(crate) fn hear<C: Clients + Drop>(
     number: u64,
     message: Message,
 ) -> Result<()> {
-    let record = Record::Message(message);
-    let batch = take(alloc, device.store(), &SESSION, number, record)?;
+    let batch = heard(alloc, device, number, message)?;
     device.add(batch)?;
     Ok(())
 }
@@ -80,8 +90,7 @@ pub(crate) fn hear_settled<C: Clients + Drop>(
     number: u64,
     message: Message,
 ) -> Result<()> {
-    let record = Record::Message(message);
-    let batch = take(alloc, device.store(), &SESSION, number, record)?;
+    let batch = heard(alloc, device, number, message)?;
     device.add_settled(batch)?;
     Ok(())
 }

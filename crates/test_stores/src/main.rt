@@ -13,19 +13,12 @@ mod play;
 mod tables;
 
 use crate::play::play_case;
-use anyhow::{Context, Result};
-use std::env;
-use test_drafts::Tally;
+use anyhow::Result;
+use test_drafts::{Tally, case_count};
 
 fn main(rt: HostRuntime) -> Result<()> {
-    let mut words = env::args(&rt)?.skip(1);
-    let count = words
-        .next()
-        .context("a count")?
-        .parse::<u32>()
-        .context("reading the count")?;
     let mut tally = Tally::default();
-    for case in 0..count {
+    for case in 0..case_count(&rt)? {
         tally.add(play_case(&rt, rt.alloc(), case)?);
     }
     println!(rt; "{tally}")?;
