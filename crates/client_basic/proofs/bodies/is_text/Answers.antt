@@ -1,5 +1,5 @@
 -- `from_utf8` answers Ok exactly where the bytes are UTF-8.
-use Rattle.std.proofs.Common.{◌≡◌, ◌∙◌}
+use Rattle.std.proofs.Common.{◌∙◌}
 use Rattle.client_basic.proofs.BodyLaws.{text_told}
 use Rattle.client_basic.proofs.bodies.is_text.Goals as goal
 

@@ -1,5 +1,5 @@
 -- What is left of the body after the id is the text.
-use Rattle.std.proofs.Common.{◌≡◌, Bool, true, false, List, ℕ, take, drop, length, sym, ◌∙◌, ap}
+use Rattle.std.proofs.Common.{◌≡◌, true, false, List, ℕ, take, drop, sym, ◌∙◌, ap}
 use Rattle.std.specs.Str.{is_utf8}
 use Rattle.std.proofs.lemmas.List.{take_rest}
 use Rattle.client_basic.specs.Bodies.{previous_of}
