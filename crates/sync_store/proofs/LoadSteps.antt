@@ -1,7 +1,6 @@
 -- Steps of a load.
-use Rattle.std.proofs.Common.{◌≡◌, ◌⊎◌, ℕ, zero, suc, ◌+◌, ◌-◌, ◌<◌, ◌≤◌, Bool, true, false, List, [], ◌∷◌, ◌++◌, length, drop, refl, sym, ap, subst, inl, inr, ◌∙◌, arith}
-use Rattle.std.specs.Prelude.{Option, None, Some, Result, Ok, Err}
-use Rattle.sync_rules.specs.declared.entries.Entry.{Entry}
+use Rattle.std.proofs.Common.{◌≡◌, ℕ, zero, suc, ◌+◌, ◌-◌, ◌<◌, ◌≤◌, Bool, true, false, List, [], ◌∷◌, ◌++◌, length, drop, refl, sym, ap, subst, inl, inr, ◌∙◌, arith}
+use Rattle.std.specs.Prelude.{Option, Some, Result, Ok, Err}
 use Rattle.sync_rules.specs.Clients.{Meaning}
 use Rattle.sync_rules.specs.Facts.{Facts, after_all, facts}
 use Rattle.sync_rules.specs.Allows.{allows}
@@ -22,7 +21,7 @@ use Rattle.sync_store.specs.Store.{HasNumbers}
 use Rattle.sync_store.specs.Faults.{load_of_frame}
 use Rattle.sync_store.specs.declared.fault.LoadFault.{LoadFault}
 use Rattle.sync_store.specs.declared.fault.LoadFault.TheVariants as load
-use Rattle.sync_store.specs.Loading.{AreDamaged, HasItsRoom, HasPlayed, HasRead, HasReadAll, IsAtEnd, IsRefused, Plays, ReadsAll, SoFar, Turns}
+use Rattle.sync_store.specs.Loading.{AreDamaged, HasItsRoom, HasPlayed, HasRead, IsAtEnd, IsRefused, Plays, ReadsAll, SoFar, Turns}
 
 -- a file of the two as they read
 pub as_read : (two : Two File) (file : ℕ) → file_of (read_files two) file ≡ (file_of two file).now
