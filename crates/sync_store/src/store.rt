@@ -97,8 +97,8 @@ impl Store {
     }
 
     /// The output that is due on the session of this number at this time in milliseconds: what a
-    /// settled journal may be extended by. `None` comes exactly where nothing is due, or where there
-    /// is no such session. It fails only for want of memory.
+    /// settled journal may be extended by. `None` comes exactly where nothing is due, or where
+    /// there is no such session. It fails only for want of memory.
     pub fn due_on(&self, session: u32, now: u64) -> Result<Option<Out>, AllocError>
         ensures due { (clients : Meaning) → Knows clients self.now.state
             → IfOk result (λ what. what ≡ due_of clients self.now.state.facts
