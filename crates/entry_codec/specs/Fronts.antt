@@ -7,7 +7,7 @@ use Rattle.std.proofs.lemmas.List.{append-nil, drop-drop, drop_at, length-drop, 
 use Rattle.std.proofs.lemmas.List.Elements.{All-nil, All-push, All-same}
 use Rattle.sync_rules.specs.declared.entries.Entry.{Entry}
 use Rattle.sync_rules.specs.Clients.{Meaning}
-use Rattle.sync_rules.specs.Facts.{Facts, facts, nothing}
+use Rattle.sync_rules.specs.Facts.{facts, nothing}
 use Rattle.sync_rules.specs.Legal.{Allowed, Legal}
 use Rattle.sync_rules.specs.Allows.{allows}
 use Rattle.outside.specs.declared.limits.TheConstants.{MAX_FRAME}

@@ -9,7 +9,7 @@ use Rattle.sync_rules.specs.declared.entries.Entry.{Entry}
 use Rattle.sync_rules.specs.Clients.{Meaning}
 use Rattle.sync_rules.specs.Facts.{Facts, after_all, after_batches, facts, nothing}
 use Rattle.sync_rules.specs.Legal.{Allowed, AllSettling, GoesOn, Legal}
-use Rattle.outside.specs.Frames.{end_of, frame_of}
+use Rattle.outside.specs.Frames.{frame_of}
 use Rattle.entry_codec.specs.Payloads.{journal_end, payload, payload_len, payloads}
 
 pub all_push : {A : Type 0} (P : A → Type 0) (xs : List A) (x : A) → AllByRecursion P xs → P x → AllByRecursion P (xs ++ x ∷ [])

@@ -7,7 +7,7 @@ use Rattle.sync_rules.specs.Facts.{Facts}
 use Rattle.sync_rules.specs.Legal.{Allowed}
 use Rattle.entry_codec.specs.declared.lengths.TheConstants.{MAX_BATCH_LEN, MAX_SPELLING}
 use Rattle.entry_codec.specs.Payloads.{payload_len}
-use Rattle.entry_codec.specs.Spelling.{IsEntry, Spells, spelling}
+use Rattle.entry_codec.specs.Spelling.{IsEntry, Spells}
 use Rattle.entry_codec.specs.declared.reading.EntryFound.{EntryFound}
 use Rattle.entry_codec.specs.declared.reading.EntryFound.TheVariants as found
 

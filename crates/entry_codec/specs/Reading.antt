@@ -1,6 +1,6 @@
 -- How the parts of an entry are read from the front of some bytes: a part, and the bytes behind it. The id of a message that
 -- is held is read in a way that is given, as `Spelling` writes it in one; an id of another message is read whole.
-use Rattle.std.specs.Prelude.{ℕ, zero, suc, ◌^◌, Bool, ◌==◌, ◌&&◌, nat_lt, nat_le, if◌then◌else◌, List, [], ◌∷◌, length, take, drop, Option, Some, None}
+use Rattle.std.specs.Prelude.{ℕ, zero, suc, Bool, ◌==◌, ◌&&◌, nat_lt, nat_le, if◌then◌else◌, List, [], ◌∷◌, length, take, drop, Option, Some, None}
 use Rattle.std.specs.Int.{Width, w16, w32, w64, byte_len, from_be_bytes}
 use Rattle.std.specs.Str.{is_utf8}
 use Rattle.sync_ids.specs.Values.{GroupValue, MessageValue}

@@ -1,7 +1,7 @@
 -- How the entries of a journal are spelled: a tag byte, and behind it what the entry says.
 use Rattle.std.specs.Prelude.{◌≡◌, ℕ, ◌^◌, ◌<◌, ◌≤◌, List, [], ◌∷◌, ◌++◌, length, Option, Some, None}
 use Rattle.std.specs.Int.{w16, w32, w64, to_be_bytes}
-use Rattle.std.specs.List.{AllByRecursion, flat_map}
+use Rattle.std.specs.List.{flat_map}
 use Rattle.std.specs.Str.{IsUtf8}
 use Rattle.sync_ids.specs.Values.{GroupValue, IsGroupDef, IsIdList, IsMessage, MessageValue}
 use Rattle.sync_ids.specs.declared.lists.TheConstants.{MAX_IDS}

@@ -9,8 +9,9 @@ ghost use Rattle.entry_codec.specs.Reading.{session_in};
 use crate::front::Front;
 use crate::stop::Stop;
 use std::alloc::Global;
-use sync_ids::{GroupDef, IdList, MAX_BODY, MAX_DESCRIPTOR, MAX_IDS, MAX_NAME};
-use sync_ids::{Message, MessageId, Nonce};
+use sync_ids::{
+    GroupDef, IdList, MAX_BODY, MAX_DESCRIPTOR, MAX_IDS, MAX_NAME, Message, MessageId, Nonce,
+};
 use sync_rules::{Level, Mode, Out, Session};
 
 #[tactic(auto, unfolding(crate::specs::Reading::name_in))]

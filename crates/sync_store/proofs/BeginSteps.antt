@@ -1,23 +1,23 @@
 -- A store begun, call by call.
-use Rattle.std.proofs.Common.{◌≡◌, ℕ, ◌+◌, ◌≤◌, Bool, true, false, ◌||◌, List, [], ◌∷◌, ◌++◌, Option, None, Some, Result, Ok, Err, IfOk, is_some, refl, sym, ap, ◌∙◌, subst, inl, inr, ◌⊎◌, arith, lit≤}
+use Rattle.std.proofs.Common.{◌≡◌, ℕ, Bool, true, false, List, [], Option, None, Some, Result, Ok, Err, IfOk, refl, sym, ap, ◌∙◌, subst, inl, inr, arith, lit≤}
 use Rattle.std.specs.Option.{ForSome}
 use Rattle.std.proofs.lemmas.Bool.{or_parts}
 use Rattle.std.proofs.lemmas.List.Elements.{All-nil}
-use Rattle.outside.specs.Files.{Two, File, IsFileImage, IsImage, NothingPending, file_of, read_files, settled}
+use Rattle.outside.specs.Files.{Two, File, IsFileImage, IsImage, NothingPending, file_of, settled}
 use Rattle.outside.specs.Frames.{HasFrames, IsPayload, is_open, format_in, header_of, journal_file}
 use Rattle.outside.specs.Links.{Links, sent_of}
 use Rattle.outside.specs.Disk.{Becomes}
 use Rattle.outside.specs.Outside.{Outside, Moment, MomentsAre, IsNow, Looks, DiskRun}
 use Rattle.outside.specs.Steps.{FileMoment, Passed, becomes_told, moments_map, moments_then}
-use Rattle.frame_journal.specs.Create.{IsCleared, Clears, Creates, BeforeOrShut, ShutOrBegun, begun_bytes}
+use Rattle.frame_journal.specs.Create.{Clears, Creates, BeforeOrShut, ShutOrBegun, begun_bytes}
 use Rattle.frame_journal.specs.declared.fault.DiskFault.{DiskFault}
 use Rattle.frame_journal.specs.Gates.{Settles, AnyImage}
 use Rattle.sync_rules.specs.Clients.{Meaning}
-use Rattle.sync_rules.specs.Facts.{facts, nothing}
+use Rattle.sync_rules.specs.Facts.{nothing}
 use Rattle.entry_codec.specs.Payloads.{payloads}
 use Rattle.entry_codec.specs.StandingLaws.{JournalsStand}
 use Rattle.entry_codec.specs.Standing.{stands, stands_in, journal, no_store}
-use Rattle.sync_store.specs.Begin.{Begins, InitMoment, IsFree, StandsForNone, has_open}
+use Rattle.sync_store.specs.Begin.{Begins, InitMoment, IsFree, has_open}
 use Rattle.sync_store.proofs.FitSteps.{settled_only}
 
 -- no header is open

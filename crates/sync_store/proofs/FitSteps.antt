@@ -1,11 +1,11 @@
 -- What a frame more makes of files that fit a store.
-use Rattle.std.proofs.Common.{◌≡◌, ℕ, zero, suc, ◌+◌, ◌≤◌, Bool, true, false, List, [], ◌∷◌, ◌++◌, length, Option, Some, Result, Ok, Err, refl, sym, ap, ◌∙◌, subst, inl, inr, arith}
+use Rattle.std.proofs.Common.{◌≡◌, ℕ, zero, suc, ◌+◌, ◌≤◌, Bool, true, false, List, [], ◌∷◌, ◌++◌, length, Option, Some, Ok, Err, refl, sym, ap, ◌∙◌, subst, inl, inr, arith}
 use Rattle.std.specs.List.{AllByRecursion}
 use Rattle.std.specs.Option.{ForSome}
 use Rattle.std.proofs.lemmas.List.{ext_get_or}
 use Rattle.outside.specs.Files.{Two, File, IsFileImage, IsImage, NothingPending, file_of, read_files, settled}
 use Rattle.outside.specs.Frames.{HasFrames, IsAtRest, format_in, most_bytes}
-use Rattle.outside.specs.Links.{Links, sent_of}
+use Rattle.outside.specs.Links.{sent_of}
 use Rattle.outside.specs.Disk.{Becomes}
 use Rattle.outside.specs.Outside.{Outside, Moment, MomentsAre}
 use Rattle.outside.specs.Steps.{FileMoment, Passed, becomes_told, image_file, image_other, moments_map, moments_none, other_of}
@@ -23,7 +23,7 @@ use Rattle.sync_store.specs.declared.fault.StoreFault.{StoreFault}
 use Rattle.sync_store.specs.Store.{StoreValue}
 use Rattle.sync_store.specs.Fitting.{Fits, FitsSome}
 use Rattle.sync_store.specs.Commits.{Gains, MayAdd}
-use Rattle.sync_store.specs.Moments.{JournalMoment, Leads, WithAtMost, journal_with, Adds}
+use Rattle.sync_store.specs.Moments.{JournalMoment, Leads, WithAtMost, Adds}
 use Rattle.sync_store.proofs.Framing.{end_framed, framed_long}
 use Rattle.sync_store.proofs.Headers.{one_format, one_journal_file}
 

@@ -1,5 +1,5 @@
 -- A store that gains a batch.
-use Rattle.std.proofs.Common.{◌≡◌, ◌⊎◌, ℕ, ◌+◌, ◌*◌, ◌≤◌, ◌<◌, Bool, true, false, eqb, nat_lt, List, [], ◌∷◌, length, Option, Some, Result, Ok, Err, IsErr, refl, sym, ap, ◌∙◌, subst, inl, inr, arith}
+use Rattle.std.proofs.Common.{◌≡◌, ◌⊎◌, ℕ, ◌+◌, ◌*◌, ◌≤◌, ◌<◌, Bool, true, false, eqb, nat_lt, List, [], ◌∷◌, length, Some, Result, Ok, Err, IsErr, refl, sym, ap, ◌∙◌, subst, inl, inr, arith}
 use Rattle.std.specs.List.{AllByRecursion}
 use Rattle.std.proofs.lemmas.Bool.Decides.{nat_tests}
 use Rattle.outside.specs.Files.{Two, File, file_of}
@@ -11,14 +11,14 @@ use Rattle.frame_journal.specs.Append.{Appends, BeforeOrWith, IsFramed, framed_o
 use Rattle.sync_rules.specs.declared.entries.Entry.{Entry}
 use Rattle.sync_rules.specs.declared.limits.TheConstants.{MAX_STEPS}
 use Rattle.sync_rules.specs.Clients.{Meaning}
-use Rattle.sync_rules.specs.Facts.{Facts, after_all, takes_of}
+use Rattle.sync_rules.specs.Facts.{Facts, after_all}
 use Rattle.sync_rules.specs.Left.{left_of}
 use Rattle.sync_rules.specs.LeftLaws.{steps_lower}
 use Rattle.sync_rules.specs.Legal.{Allowed, IsSettling}
 use Rattle.sync_rules.specs.Steps.{IsSettled}
 use Rattle.sync_rules.specs.WorkLaws.{allowed_settling}
 use Rattle.entry_codec.specs.declared.lengths.TheConstants.{STEP_LEN}
-use Rattle.entry_codec.specs.Payloads.{payload, payload_len, spellings}
+use Rattle.entry_codec.specs.Payloads.{payload_len, spellings}
 use Rattle.entry_codec.specs.Spelling.{IsEntry}
 use Rattle.entry_codec.specs.Standing.{room_of}
 use Rattle.entry_codec.specs.StandingLaws.{JournalsStand}
@@ -26,7 +26,6 @@ use Rattle.sync_store.specs.declared.fault.StoreFault.{StoreFault}
 use Rattle.sync_store.specs.declared.fault.StoreFault.TheVariants as fault
 use Rattle.sync_store.specs.Cited.{CitedLaws}
 use Rattle.sync_store.specs.Store.{HasNumbers, IsStore, StoreValue}
-use Rattle.sync_store.specs.Fitting.{Fits}
 use Rattle.sync_store.specs.Commits.{Gains, MayAdd, needed}
 use Rattle.sync_store.specs.Moments.{journal_with}
 use Rattle.sync_store.specs.Settling.{BatchSo, ComesBy, IsOneBatch, MakesBatch}

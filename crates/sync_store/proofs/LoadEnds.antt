@@ -1,6 +1,6 @@
 -- The begin and the end of a load.
-use Rattle.std.proofs.Common.{◌≡◌, ◌⊎◌, ℕ, zero, suc, ◌+◌, ◌-◌, ◌<◌, ◌≤◌, Bool, true, false, List, [], length, map, take, refl, sym, ap, subst, ◌∙◌, arith}
-use Rattle.std.specs.Prelude.{◌≢◌, Option, None, Some, Result, Ok, Err, is_some, slice_index}
+use Rattle.std.proofs.Common.{◌≡◌, ℕ, ◌+◌, ◌≤◌, false, List, [], length, map, take, refl, sym, ap, subst, ◌∙◌, arith}
+use Rattle.std.specs.Prelude.{Option, None, Some, Ok, Err}
 use Rattle.std.proofs.lemmas.Grind.{same_number_lists}
 use Rattle.sync_rules.specs.Clients.{Meaning}
 use Rattle.std.specs.FinMap as fin_map
@@ -10,9 +10,9 @@ use Rattle.sync_rules.specs.Steps.{answer_of}
 use Rattle.outside.specs.Files.{Two, File, IsFileImage, IsImage, file_of, read_files, settled}
 use Rattle.outside.specs.Frames.{format_in, HasFrames, most_bytes}
 use Rattle.outside.specs.Links.{Links, sent_of}
-use Rattle.outside.specs.Outside.{Outside, Moment, IsNow, DiskRun, Looks, MomentsAre}
+use Rattle.outside.specs.Outside.{Outside, Moment, IsNow, DiskRun, Looks}
 use Rattle.outside.specs.Disk.{Becomes}
-use Rattle.outside.specs.Steps.{becomes_told, moments_map, moments_then, looks_then, run_then}
+use Rattle.outside.specs.Steps.{becomes_told, moments_map, moments_then}
 use Rattle.outside.specs.declared.disk.Place.{Place}
 use Rattle.frame_journal.specs.Gates.{AnyImage, Settles}
 use Rattle.frame_journal.specs.Journal.{JournalValue}
@@ -20,16 +20,16 @@ use Rattle.frame_journal.specs.Header.{Starts}
 use Rattle.frame_journal.specs.declared.fault.StartFault.{StartFault}
 use Rattle.frame_journal.specs.declared.fault.StartFault.TheVariants as start
 use Rattle.entry_codec.specs.Payloads.{payloads}
-use Rattle.entry_codec.specs.Standing.{damaged, journal, no_store, room_of, stands}
+use Rattle.entry_codec.specs.Standing.{damaged, no_store, room_of, stands}
 use Rattle.entry_codec.specs.Fronts.{Front, front_closed, front_format, front_frames, front_none, front_start}
 use Rattle.journal_state.specs.Whole.{Knows, StateValue}
 use Rattle.sync_store.specs.Store.{StoreValue}
-use Rattle.sync_store.specs.Fitting.{Fits, FitsSome}
+use Rattle.sync_store.specs.Fitting.{FitsSome}
 use Rattle.sync_store.specs.Ready.{IsReady}
 use Rattle.sync_store.specs.Faults.{load_of_start}
 use Rattle.sync_store.specs.declared.fault.LoadFault.{LoadFault}
 use Rattle.sync_store.specs.declared.fault.LoadFault.TheVariants as load
-use Rattle.sync_store.specs.Loading.{AreDamaged, HasRead, HasReadAll, IsAtEnd, IsLoaded, LeavesSettled, ReadsAll, SoFar, StandsFor}
+use Rattle.sync_store.specs.Loading.{AreDamaged, HasReadAll, IsLoaded, LeavesSettled, ReadsAll, SoFar, StandsFor}
 use Rattle.sync_store.proofs.LoadSteps.{as_read}
 
 -- ---- the barrier
@@ -91,6 +91,7 @@ starts_so_far clients files j s starts fresh empty knows = record {
       let At : ℕ → Type 0 = λ n. Front clients (read_files two) j.file [] n in
       record {
         long = ap length (sym (as_read two j.file)) ∙ sym (ap (λ (v : JournalValue). v.len) is.2);
+        known_format = ap (λ (v : JournalValue). v.format) is.2 ∙ is.1;
         done = [];
         front = subst At (sym fresh) (front_start clients (read_files two) j.file is.0 is.1);
         facts_are = sym empty;
@@ -163,7 +164,7 @@ becomes_back step (Some x) None b told becomes = absurd becomes
 becomes_back step (Some x) (Some y) b told becomes = let same : y ≡ b = cc in (x, refl, subst (λ z. step x z) same becomes)
 
 abbrev pub store_of : JournalValue → StateValue → ℕ → StoreValue
-store_of j s limit = record { state = s; file = j.file; format = 1; end = j.end; limit = limit; closed = false }
+store_of j s limit = record { state = s; file = j.file; format = j.format; end = j.end; limit = limit; closed = false }
 
 -- the disk fits the store
 pub fits_loaded : (clients : Meaning) (o0 o1 o2 : Outside) (j : JournalValue) (s : StateValue) (limit : ℕ) → Becomes Settles o0.files o1.files → o2.files ≡ o1.files → HasReadAll clients o2.files j s
@@ -182,8 +183,8 @@ fits_loaded clients o0 o1 o2 j s limit settles same all two told =
         facts_are = read.facts_are;
         legal = read.front.legal;
         file_is = read.front.found;
-        format_is = ap format_in (sym (as_read two j.file)) ∙ read.front.format_is;
-        format_known = refl;
+        format_is = ap format_in (sym (as_read two j.file)) ∙ read.front.format_is ∙ sym read.known_format;
+        format_known = read.known_format;
         header = take 14 (file_of (read_files two) j.file);
         frames = subst At (as_read two j.file) (front_frames clients (read_files two) j.file read.done j.end read.front (all.at_end two told));
         end_is = read.front.end_is;

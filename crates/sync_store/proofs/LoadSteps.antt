@@ -1,7 +1,6 @@
 -- Steps of a load.
-use Rattle.std.proofs.Common.{◌≡◌, ◌⊎◌, ℕ, zero, suc, ◌+◌, ◌-◌, ◌<◌, ◌≤◌, Bool, true, false, List, [], ◌∷◌, ◌++◌, length, drop, refl, sym, ap, subst, inl, inr, ◌∙◌, arith}
-use Rattle.std.specs.Prelude.{Option, None, Some, Result, Ok, Err}
-use Rattle.sync_rules.specs.declared.entries.Entry.{Entry}
+use Rattle.std.proofs.Common.{◌≡◌, ℕ, zero, suc, ◌+◌, ◌-◌, ◌<◌, ◌≤◌, Bool, true, false, List, [], ◌∷◌, ◌++◌, length, drop, refl, sym, ap, subst, inl, inr, ◌∙◌, arith}
+use Rattle.std.specs.Prelude.{Option, Some, Result, Ok, Err}
 use Rattle.sync_rules.specs.Clients.{Meaning}
 use Rattle.sync_rules.specs.Facts.{Facts, after_all, facts}
 use Rattle.sync_rules.specs.Allows.{allows}
@@ -22,7 +21,7 @@ use Rattle.sync_store.specs.Store.{HasNumbers}
 use Rattle.sync_store.specs.Faults.{load_of_frame}
 use Rattle.sync_store.specs.declared.fault.LoadFault.{LoadFault}
 use Rattle.sync_store.specs.declared.fault.LoadFault.TheVariants as load
-use Rattle.sync_store.specs.Loading.{AreDamaged, HasItsRoom, HasPlayed, HasRead, HasReadAll, IsAtEnd, IsRefused, Plays, ReadsAll, SoFar, Turns}
+use Rattle.sync_store.specs.Loading.{AreDamaged, HasItsRoom, HasPlayed, HasRead, IsAtEnd, IsRefused, Plays, ReadsAll, SoFar, Turns}
 
 -- a file of the two as they read
 pub as_read : (two : Two File) (file : ℕ) → file_of (read_files two) file ≡ (file_of two file).now
@@ -54,6 +53,7 @@ has_more laws clients two j j' s s' to read next played =
     let At : JournalValue → Type 0 = λ v. Front clients (read_files two) v.file (read.done ++ played.batch ∷ []) v.end in
     record {
       long = subst Long (sym next.moved) read.long;
+      known_format = ap (λ (v : JournalValue). v.format) next.moved ∙ read.known_format;
       done = read.done ++ played.batch ∷ [];
       front = subst At (sym next.moved) more;
       facts_are = facts_push read.done played.batch ∙ ap (λ (f : Facts). after_all f played.batch) same ∙ sym played.facts_are;
@@ -79,7 +79,7 @@ turn_more laws clients files files' j j' s s' to so_far same next moves played =
         knows = played.knows;
         numbers = more_numbers laws clients s s' to j.end j'.end played so_far.numbers (omega arith);
         started = omega (arith, so_far.started);
-        bounded = moves.5;
+        bounded = moves.7;
         begun = λ early. absurd (omega (arith, so_far.started));
         known = λ two told. let told' = sym same ∙ told in has_more laws clients two j j' s s' to (so_far.known two told') (next two told') played;
       },

@@ -1,9 +1,9 @@
 -- Settling, one batch after another.
-use Rattle.std.proofs.Common.{◌≡◌, ◌⊎◌, ℕ, ◌+◌, ◌*◌, ◌≤◌, ◌<◌, Bool, true, false, List, [], ◌∷◌, ◌++◌, length, Option, Some, Result, Ok, Err, refl, sym, ap, ◌∙◌, subst, inl, inr, arith, append-nil, append_assoc, length-append}
+use Rattle.std.proofs.Common.{◌≡◌, ◌+◌, true, false, List, [], ◌∷◌, ◌++◌, Some, Result, Ok, Err, refl, sym, ap, ◌∙◌, subst, inl, inr, arith, append-nil, append_assoc, length-append}
 use Rattle.std.specs.List.{AllByRecursion}
 use Rattle.outside.specs.Files.{Two, File}
 use Rattle.outside.specs.Links.{Links, sent_of}
-use Rattle.outside.specs.Outside.{Outside, Moment, DiskRun}
+use Rattle.outside.specs.Outside.{Outside, DiskRun}
 use Rattle.outside.specs.Steps.{moments_map, moments_then, run_none, run_then, told_back, told_on}
 use Rattle.sync_rules.specs.declared.entries.Entry.{Entry}
 use Rattle.sync_rules.specs.Clients.{Meaning}
@@ -14,16 +14,14 @@ use Rattle.sync_rules.specs.Legal.{AllSettling}
 use Rattle.sync_rules.specs.Steps.{IsSettled}
 use Rattle.entry_codec.specs.Growing.{after_batches-append, settling-append}
 use Rattle.entry_codec.specs.StandingLaws.{JournalsStand}
-use Rattle.journal_state.specs.Whole.{Knows}
 use Rattle.sync_store.specs.declared.fault.StoreFault.{StoreFault}
 use Rattle.sync_store.specs.declared.fault.StoreFault.TheVariants as fault
 use Rattle.sync_store.specs.Store.{StoreValue, IsStore}
 use Rattle.sync_store.specs.Fitting.{Fits, FitsSome}
-use Rattle.sync_store.specs.Ready.{IsReady}
 use Rattle.sync_store.specs.Moments.{JournalMoment, Leads, WithAtMost, journal_with, Adds, IsBetween}
-use Rattle.sync_store.specs.Settling.{AreFilled, BatchSo, ComesBy, HasSettled, IsFullBatch, IsOneBatch, MakesBatch, SettlesSo, settling_len, steps_in}
+use Rattle.sync_store.specs.Settling.{AreFilled, BatchSo, ComesBy, HasSettled, IsFullBatch, IsOneBatch, MakesBatch, SettlesSo, settling_len}
 use Rattle.sync_store.proofs.FitSteps.{IsSame, leads_none, true≢false}
-use Rattle.sync_store.proofs.Steps.{all-append, batches_lower, filled_all, filled_push, steps_in-append}
+use Rattle.sync_store.proofs.Steps.{all-append, batches_lower, filled_push, steps_in-append}
 
 -- a weaker word on a run
 leads_map : (clients : Meaning) (P P' Q Q' : List (List Entry) → Type 0) (s : StoreValue) (o o' : Outside) → ((whole : List (List Entry)) → P whole → P' whole)

@@ -5,7 +5,7 @@ use Rattle.outside.specs.Frames.{most_bytes}
 use Rattle.frame_journal.specs.Append.{IsFramed, payload_of}
 use Rattle.sync_rules.specs.declared.entries.Entry.{Entry}
 use Rattle.sync_rules.specs.Clients.{Meaning}
-use Rattle.sync_rules.specs.Facts.{Facts, after_all}
+use Rattle.sync_rules.specs.Facts.{after_all}
 use Rattle.sync_rules.specs.Legal.{Allowed}
 use Rattle.entry_codec.specs.Payloads.{payload, payload_len}
 use Rattle.entry_codec.specs.Spelling.{IsEntry}

@@ -1,5 +1,5 @@
 -- What may be added to a store, in the order in which it is refused.
-use Rattle.std.specs.Prelude.{◌≡◌, ℕ, Bool, List, Option, is_none, is_some, nat_lt, length, if◌then◌else◌, Result, Ok, Err}
+use Rattle.std.specs.Prelude.{◌≡◌, ℕ, is_none, is_some, nat_lt, length, if◌then◌else◌, Result, Ok, Err}
 use Rattle.std.specs.List.{list_all}
 use Rattle.sync_ids.specs.Values.{GroupValue, MessageValue}
 use Rattle.sync_ids.specs.Ids.{group_id_of, message_id_of}

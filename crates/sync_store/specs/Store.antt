@@ -1,5 +1,5 @@
 -- What contracts see of a store.
-use Rattle.std.specs.Prelude.{◌≡◌, ℕ, ◌+◌, ◌≤◌, Bool, length, refl}
+use Rattle.std.specs.Prelude.{ℕ, ◌+◌, ◌≤◌, Bool, length, refl}
 use Rattle.std.specs.Coded.{Coded, code_by, coded×, coded_bool, coded_ℕ}
 use Rattle.outside.specs.Frames.{most_bytes}
 use Rattle.sync_rules.specs.Facts.{Facts, takes_of}

@@ -2,7 +2,7 @@ use Rattle.std.proofs.Common.{◌≡◌, false, refl, inl, sym, ap, ◌∙◌, s
 use Rattle.sync_store.specs.Commits.{needed}
 use Rattle.sync_store.specs.Moments.{WithAtMost, journal_with}
 use Rattle.sync_store.specs.Store.{StoreValue, IsStore}
-use Rattle.sync_store.proofs.FitSteps.{leads_none, fits_same, fits_some_same}
+use Rattle.sync_store.proofs.FitSteps.{leads_none, fits_same}
 use Rattle.sync_store.proofs.Growth.{fits_by, may_add, with_none}
 use Rattle.sync_store.proofs.store.Store.commit.Goals as goal
 

@@ -1,6 +1,6 @@
 use Rattle.outside.specs.Steps.{becomes_told}
 use Rattle.frame_journal.specs.Gates.{Settles}
-use Rattle.sync_store.proofs.BeginSteps.{init_looks, init_then}
+use Rattle.sync_store.proofs.BeginSteps.{init_then}
 use Rattle.sync_store.proofs.store.Store.init.Goals as goal
 
 pub returns-in_err-begin-clause-any_moment : goal.returns-in_err-begin-clause-any_moment
