@@ -1,8 +1,10 @@
 pub mod Faults
 pub mod Streams
+pub mod MemStreams
 pub mod Input
 pub mod Files
 pub mod Links
+pub mod Planned
 pub mod Outside
 pub mod Disk
 pub mod Host
@@ -12,6 +14,7 @@ pub mod MemDisk
 pub mod MemTold
 pub mod MemImage
 pub mod Steps
+pub mod Runs
 pub mod Frames
 pub mod Script
 pub mod MemHost

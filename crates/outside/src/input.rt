@@ -7,7 +7,7 @@ ghost use Rattle.outside.specs.Faults.{HasCause, Rose};
 ghost use Rattle.outside.specs.Input.{ReadsInput};
 
 use crate::{Failed, Source};
-use std::alloc::{AllocError, AllocFailed};
+use std::alloc::AllocError;
 
 // How many bytes a read asks for at most.
 const PIECE: usize = 65_536;
@@ -31,24 +31,17 @@ impl From<AllocError> for InputFault {
     }
 }
 
-impl<T: Drop> From<AllocFailed<T>> for InputFault {
-    ghost from_gives = { λ _ e. e ≡ Memory };
-
-    fn from(_: AllocFailed<T>) -> InputFault {
-        InputFault::Memory
-    }
-}
-
 /// Reads `input` to its end into `to`, which begins empty. `TooMuch` comes exactly where `limit +
 /// 1` bytes were read; `to` has the first `limit` of them then, and in each other case all bytes
 /// read.
 pub fn read_input<S: Source>(input: &mut S, limit: u64, to: &mut Vec<u8>) -> Result<(), InputFault>
     requires empty { to.old.items ≡ [] }
     requires limit { limit < 2 ^ 32 }
-    ensures reads { ReadsInput limit (S.left input.old) (S.left input.new) to.new.items result }
-    ensures later { S.source_faults input.old ≤ S.source_faults input.new }
+    ensures reads { ReadsInput limit (S.tells input.old) (S.tells input.new) to.new.items
+        result }
+    ensures later { (S.tells input.old).faults ≤ (S.tells input.new).faults }
     ensures fault { IsErrOf result InputFault.ReadFault
-        → Rose (S.source_faults input.old) (S.source_faults input.new) }
+        → Rose (S.tells input.old).faults (S.tells input.new).faults }
 {
     let most = limit as usize;
     'pieces: loop {
@@ -78,9 +71,9 @@ fn read_behind<S: Source>(input: &mut S, to: &mut Vec<u8>, from: usize) -> Resul
     ensures len { vec_len to.new ≡ vec_len to.old }
     ensures front { take from to.new.items ≡ take from to.old.items }
     ensures bound { IfOk result (λ n. n ≤ vec_len to.old - from) }
-    ensures bytes { ReadConsumes (S.left input.old) (S.left input.new) result
+    ensures bytes { ReadConsumes (S.tells input.old).bytes (S.tells input.new).bytes result
         (drop from to.new.items) }
-    ensures cause { HasCause (S.source_faults input.old) (S.source_faults input.new) result }
+    ensures cause { HasCause (S.tells input.old).faults (S.tells input.new).faults result }
 {
     input.read(&mut to.as_mut_slice()[from..])
 }

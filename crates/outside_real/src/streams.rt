@@ -1,7 +1,8 @@
 //! Standard streams as sources and sinks.
-ghost use Rattle.std.specs.Prelude.{ℕ, ◌<◌, ◌≤◌, length, IfSome};
+ghost use Rattle.std.specs.Prelude.{ℕ, ◌<◌, ◌≤◌, length, IfOk, IfSome};
 
 use outside::{Failed, Sink, Source};
+use std::io;
 use std::io::{ErrorKind, Read, Write};
 
 /// A source over a reader. It tells its failures alone, and not what bytes are left.
@@ -21,9 +22,7 @@ impl<R: Read + Drop> StdSource<R> {
 impl<R: Read + Drop> Source for StdSource<R> {
     ghost use Rattle.std.specs.Prelude.{None};
 
-    ghost left = { λ _. None };
-
-    ghost source_faults = { λ s. s.faults };
+    ghost tells = { λ s. record { bytes = None; faults = s.faults } };
 
     fn read(&mut self, buf: &mut [u8]) -> Result<usize, Failed> {
         match read_once(&mut self.from, buf) {
@@ -53,9 +52,7 @@ impl<W: Write + Drop> StdSink<W> {
 impl<W: Write + Drop> Sink for StdSink<W> {
     ghost use Rattle.std.specs.Prelude.{None};
 
-    ghost written = { λ _. None };
-
-    ghost sink_faults = { λ s. s.faults };
+    ghost tells = { λ s. record { bytes = None; faults = s.faults } };
 
     fn write(&mut self, bytes: &[u8]) -> Result<usize, Failed> {
         match write_once(&mut self.to, bytes) {
@@ -96,4 +93,31 @@ pub(crate) fn write_once<W: Write>(to: &mut W, bytes: &[u8]) -> Option<usize>
         }
     }
     None
+}
+
+// Reads until the buffer is full or nothing is left.
+pub(crate) fn read_full<R: Read>(from: &mut R, buf: &mut [u8]) -> io::Result<usize>
+    ensures { IfOk result (λ n. n ≤ length buf.new) }
+{
+    let mut done = 0;
+    'pieces: while done < buf.len() {
+        match read_once(from, &mut buf[done..]) {
+            Some(0) => break,
+            Some(n) => done += n,
+            None => return Err(ErrorKind::Other.into()),
+        }
+    }
+    Ok(done)
+}
+
+// Writes all bytes.
+pub(crate) fn write_full<W: Write>(to: &mut W, bytes: &[u8]) -> io::Result<()> {
+    let mut done = 0;
+    'pieces: while done < bytes.len() {
+        match write_once(to, &bytes[done..]) {
+            Some(n) => done += n,
+            None => return Err(ErrorKind::Other.into()),
+        }
+    }
+    Ok(())
 }

@@ -56,6 +56,13 @@ pub type Nonce = Fixed<16>;
 pub struct NotHex;
 
 impl<const N: usize> Fixed<N> {
+    // Shows the prover that there are `N` bytes. It does nothing.
+    pub(crate) fn show_len(&self)
+        ensures { length self.now ≡ N }
+    {
+        let _ = self.as_bytes();
+    }
+
     /// The bytes.
     pub fn as_bytes(&self) -> &[u8; N]
         ensures value { result.now ≡ self.now }

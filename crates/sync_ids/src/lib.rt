@@ -15,6 +15,3 @@ pub use ids::{group_id, message_id, message_ids_are_whole};
 pub use lists::{IdList, ListFault, MAX_IDS, MAX_VERSIONS, VersionList};
 pub use message::{MAX_BODY, MAX_TIMESTAMP, Message, MessageFault};
 pub use records::{Record, records_are_within};
-
-#[cfg(test)]
-mod tests;

@@ -46,7 +46,7 @@ fn show_whole_ids(ids: &[MessageId])
     ensures { AreIds ids.now }
 {
     'ids: for id in ids {
-        let _bytes = id.as_bytes();
+        id.show_len();
     }
 }
 

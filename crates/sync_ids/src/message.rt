@@ -55,11 +55,13 @@ impl Message {
             (λ m. m ≡ record { group = group; timestamp = timestamp; body = body.items }) }
         ensures within { IfOk result (λ m. IsMessage m) }
         ensures empty { IsErrOf result MessageFault.EmptyBody ↔ (length body.items ≡ 0) }
-        ensures too_long { IsErrOf result MessageFault.BodyTooLong ↔ (MAX_BODY < length body.items) }
+        ensures too_long { IsErrOf result MessageFault.BodyTooLong
+            ↔ (MAX_BODY < length body.items) }
         ensures bad_timestamp { IsErrOf result MessageFault.BadTimestamp
-            ↔ ((1 ≤ length body.items) × (length body.items ≤ MAX_BODY) × (MAX_TIMESTAMP < timestamp)) }
+            ↔ ((1 ≤ length body.items) × (length body.items ≤ MAX_BODY)
+            × (MAX_TIMESTAMP < timestamp)) }
     {
-        let _id = group.as_bytes();
+        group.show_len();
         if body.is_empty() {
             return Err(MessageFault::EmptyBody);
         }

@@ -1,5 +1,5 @@
 -- A journal that grows by settling and by records that are taken, without a disk.
-use Rattle.std.specs.Prelude.{◌≡◌, ℕ, ◌≤◌, true, List, [], ◌∷◌, ◌++◌, length, is_some, None}
+use Rattle.std.specs.Prelude.{◌≡◌, ℕ, true, List, [], ◌∷◌, ◌++◌, is_some, None}
 use Rattle.sync_ids.specs.Values.{GroupValue}
 use Rattle.sync_ids.specs.Ids.{group_id_of}
 use Rattle.sync_ids.specs.declared.records.Record.{Record}
@@ -11,27 +11,13 @@ use Rattle.sync_rules.specs.Clients.{Meaning}
 use Rattle.sync_rules.specs.Facts.{facts, session_at, contact_of, takes_of}
 use Rattle.sync_rules.specs.Steps.{IsSettled}
 use Rattle.sync_rules.specs.Sessions.{taken}
-use Rattle.sync_rules.specs.Legal.{Legal, IsSettling, AllSettling}
+use Rattle.sync_rules.specs.Legal.{Legal, AllSettling}
 
 -- a journal is extended by settling batches alone
 pub record Settles (clients : Meaning) (old new : List (List Entry)) : Type 0 where
   pub more : List (List Entry)
   pub extends : new ≡ old ++ more
   pub settling : AllSettling clients (facts old) more
-
--- one settling batch of at most so many entries stands at the end
-pub record AddsSettling (clients : Meaning) (most : ℕ) (old new : List (List Entry)) : Type 0 where
-  pub batch : List Entry
-  pub stands : new ≡ old ++ batch ∷ []
-  pub some : 1 ≤ length batch
-  pub few : length batch ≤ most
-  pub settling : IsSettling clients (facts old) batch
-
--- one more entry at the end of the last batch
-abbrev pub with_last : List (List Entry) → Entry → List (List Entry)
-with_last [] e = []
-with_last (b ∷ []) e = (b ++ e ∷ []) ∷ []
-with_last (b ∷ c ∷ bs) e = b ∷ with_last (c ∷ bs) e
 
 -- the batch that a record makes which is the session's k-th
 abbrev pub take_batch : List (List Entry) → ℕ → ℕ → Record → List Entry

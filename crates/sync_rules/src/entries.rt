@@ -130,8 +130,8 @@ impl Batch {
         self.entries.as_slice()
     }
 
-    // One more entry at the end; after an error the batch is as before.
-    pub(crate) fn push(&mut self, entry: Entry) -> Result<(), AllocError>
+    /// One more entry at the end; after an error the batch is as before.
+    pub fn push(&mut self, entry: Entry) -> Result<(), AllocError>
         ensures ok { OnOk result (self.new ≡ self.old ++ entry ∷ []) }
         ensures err { OnErr result (self.new ≡ self.old) }
     {

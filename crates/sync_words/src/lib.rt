@@ -22,6 +22,3 @@ pub use held_lines::{
 pub use status::Status;
 pub use stream_lines::{record_line, skipped_line, try_line};
 pub use word::Word;
-
-#[cfg(test)]
-mod tests;

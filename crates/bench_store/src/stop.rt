@@ -1,0 +1,14 @@
+//! Why a step came to no end.
+use std::alloc::AllocError;
+use thiserror::Error;
+
+/// Why a step came to no end.
+#[derive(Debug, Drop, Error)]
+pub(crate) enum Stop {
+    #[error("out of memory")]
+    Memory(#[from(alloc)] AllocError),
+    #[error("no such message or group")]
+    NoValue,
+    #[error("no store was begun")]
+    NotBegun,
+}

@@ -1,0 +1,96 @@
+//! Messages that arrive from a contact.
+use crate::files::disk_with;
+use anyhow::Result;
+use outside::MemDisk;
+use session_core::take;
+use std::alloc::Global;
+use sync_ids::{GroupDef, Message, Record, group_id};
+use sync_rules::{Batch, Clients, Entry, Level, Mode, Session};
+use test_device::{Device, batch_of};
+
+/// The session on which messages arrive.
+const SESSION: Session = Session {
+    number: 0,
+    contact: 0,
+    mode: Mode::Batch,
+    latency: 1,
+    nonce: None,
+};
+
+/// A store with a contact, a group that is Visible to it, and a session with it.
+pub(crate) fn begin<C: Clients + Drop>(
+    alloc: Global,
+    clients: C,
+    def: GroupDef,
+) -> Result<Device<MemDisk, C>> {
+    let disk = disk_with(alloc, &[], &[])?;
+    let device = Device::begin(alloc, disk, clients)?;
+    with_first(alloc, device, def)
+}
+
+fn with_first<C: Clients + Drop>(
+    alloc: Global,
+    mut device: Device<MemDisk, C>,
+    def: GroupDef,
+) -> Result<Device<MemDisk, C>> {
+    add_first(alloc, &mut device, def)?;
+    Ok(device)
+}
+
+/// Adds what the journal begins with.
+fn add_first<C: Clients + Drop>(
+    alloc: Global,
+    device: &mut Device<MemDisk, C>,
+    def: GroupDef,
+) -> Result<()> {
+    let group = group_id(&def);
+    add_one(alloc, device, Entry::Contact(0))?;
+    add_one(alloc, device, Entry::Group(def))?;
+    add_one(alloc, device, Entry::Level(0, group, Level::Visible))?;
+    add_one(alloc, device, Entry::Session(SESSION))
+}
+
+fn add_one<C: Clients + Drop>(
+    alloc: Global,
+    device: &mut Device<MemDisk, C>,
+    entry: Entry,
+) -> Result<()> {
+    let batch = batch_of(alloc, entry)?;
+    device.add(batch)?;
+    Ok(())
+}
+
+/// What a message is taken as, the session's record of this number.
+fn heard<C: Clients + Drop>(
+    alloc: Global,
+    device: &Device<MemDisk, C>,
+    number: u64,
+    message: Message,
+) -> Result<Batch> {
+    let record = Record::Message(message);
+    Ok(take(alloc, device.store(), &SESSION, number, record)?)
+}
+
+/// Takes a message as the session's record of this number, and does not settle.
+pub(crate) fn hear<C: Clients + Drop>(
+    alloc: Global,
+    device: &mut Device<MemDisk, C>,
+    number: u64,
+    message: Message,
+) -> Result<()> {
+    let batch = heard(alloc, device, number, message)?;
+    device.add(batch)?;
+    Ok(())
+}
+
+/// Takes a message, and settles.
+pub(crate) fn hear_settled<C: Clients + Drop>(
+    alloc: Global,
+    device: &mut Device<MemDisk, C>,
+    number: u64,
+    message: Message,
+) -> Result<()> {
+    let batch = heard(alloc, device, number, message)?;
+    device.add_settled(batch)?;
+    Ok(())
+}
