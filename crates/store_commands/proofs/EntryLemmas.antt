@@ -1,5 +1,5 @@
 -- An entry that is added, from the loaded store to the line.
-use Rattle.std.proofs.Common.{◌≡◌, ◌⊎◌, ℕ, ◌≤◌, Bool, false, List, [], ◌∷◌, sym, ap, ◌∙◌, subst, inl, inr, arith, Some, Ok, Err}
+use Rattle.std.proofs.Common.{◌≡◌, ◌⊎◌, ℕ, ◌≤◌, Bool, true, List, [], ◌∷◌, sym, ap, ◌∙◌, subst, inl, inr, arith, Some, Ok, Err}
 use Rattle.outside.specs.Faults.{Rose}
 use Rattle.outside.specs.Files.{Two, File, read_files}
 use Rattle.outside.specs.Links.{Links, sent_of}
@@ -13,13 +13,14 @@ use Rattle.entry_codec.specs.Standing.{Standing, journal, stands}
 use Rattle.sync_store.specs.Store.{StoreValue}
 use Rattle.sync_store.specs.Fitting.{Fits}
 use Rattle.sync_store.specs.Moments.{JournalMoment}
-use Rattle.store_commands.specs.declared.outcome.Outcome.{Outcome}
-use Rattle.store_commands.specs.declared.outcome.Outcome.TheVariants as outcome
-use Rattle.store_commands.specs.Adding.{AddsAtMost, AddsBy, AddsEnds, AddsMoment, HasAdded, is_early}
-use Rattle.store_commands.specs.Extending.{EntryAdded, EntryEnds}
-use Rattle.store_commands.specs.Flow.{Flow, IsIdle}
-use Rattle.store_commands.specs.Loading.{HasFacts, IsLoaded, IsReady, LoadedBy, LoadKeeps}
-use Rattle.store_commands.specs.Looking.{Keeps, Rests}
+use Rattle.sync_words.specs.declared.outcome.Outcome.{Outcome}
+use Rattle.sync_words.specs.declared.outcome.Outcome.TheVariants as outcome
+use Rattle.store_commands.specs.Entries.{AddsBy, AddsEnds, AddsMoment, EntryAdded, EntryEnds, HasAdded, is_late}
+use Rattle.store_commands.specs.declared.commit.Settling.{Settling}
+use Rattle.store_commands.specs.Commit.{GoesOn}
+use Rattle.outside.specs.Streams.{Stream, IsIdle}
+use Rattle.store_commands.specs.Load.{HasFacts, IsLoaded, LoadedBy, LoadKeeps, MayExtend}
+use Rattle.store_commands.specs.Show.{Keeps, Rests}
 use Rattle.store_commands.specs.Plans.{Plan, adds, refuses}
 
 -- moments of loading alone
@@ -29,40 +30,40 @@ rest_moments clients plan standing came P two o o1 rests = moments_map o o1 _ _ 
 
 -- ---- no store was loaded
 
-none_by : (old new : Outside) (out : Flow) (came : Outcome) → IsIdle out → LoadedBy old new (Err came) → AddsBy old new out came
-none_by old new out outcome.DiskFault idle by = (by, idle)
-none_by old new out outcome.NoStore idle by = idle
-none_by old new out (outcome.Damaged place) idle by = idle
-none_by old new out outcome.Memory idle by = idle
-none_by old new out _ idle by = absurd by
+none_by : (old new : Outside) (out out' : Stream) (came : Outcome) → IsIdle out out' → LoadedBy old new (Err came) → AddsBy old new out out' came
+none_by old new out out' outcome.DiskFault idle by = (by, idle)
+none_by old new out out' outcome.NoStore idle by = idle
+none_by old new out out' (outcome.Damaged place) idle by = idle
+none_by old new out out' outcome.Memory idle by = idle
+none_by old new out out' _ idle by = absurd by
 
-none_ends : (clients : Meaning) (plan : Facts → Plan) (again : Bool) (standing : Standing) (two two' : Two File) (old new : Outside) (out : Flow) (came : Outcome)
-    → LoadedBy old new (Err came) → IsLoaded standing (Err came) → Keeps came two two' → AddsEnds clients plan again standing two two' out came
-none_ends clients plan again standing two two' old new out outcome.DiskFault by loaded same = tt
-none_ends clients plan again standing two two' old new out outcome.NoStore by loaded same = (loaded, same)
-none_ends clients plan again standing two two' old new out (outcome.Damaged place) by loaded same = (loaded, same)
-none_ends clients plan again standing two two' old new out outcome.Memory by loaded same = tt
-none_ends clients plan again standing two two' old new out _ by loaded same = absurd by
+none_ends : (clients : Meaning) (plan : Facts → Plan) (settling : Settling) (standing : Standing) (two two' : Two File) (old new : Outside) (out out' : Stream) (came : Outcome)
+    → LoadedBy old new (Err came) → IsLoaded standing (Err came) → Keeps came two two' → AddsEnds clients plan settling standing two two' out out' came
+none_ends clients plan settling standing two two' old new out out' outcome.DiskFault by loaded same = tt
+none_ends clients plan settling standing two two' old new out out' outcome.NoStore by loaded same = (loaded, same)
+none_ends clients plan settling standing two two' old new out out' (outcome.Damaged place) by loaded same = (loaded, same)
+none_ends clients plan settling standing two two' old new out out' outcome.Memory by loaded same = tt
+none_ends clients plan settling standing two two' old new out out' _ by loaded same = absurd by
 
-pub added_none : (clients : Meaning) (plan : Facts → Plan) (again : Bool) (old new : Outside) (out : Flow) (came : Outcome) → DiskRun old new
+pub added_none : (clients : Meaning) (plan : Facts → Plan) (settling : Settling) (old new : Outside) (out out' : Stream) (came : Outcome) → DiskRun old new
     → ((two : Two File) → old.files ≡ Some two → Rests (LoadKeeps (Err came) two) two old new) → LoadedBy old new (Err came)
-    → ((two : Two File) → old.files ≡ Some two → IsLoaded (stands clients (read_files two)) (Err came)) → IsIdle out → HasAdded clients plan again old new out came
-added_none clients plan again old new out came run rests by loaded idle = record {
+    → ((two : Two File) → old.files ≡ Some two → IsLoaded (stands clients (read_files two)) (Err came)) → IsIdle out out' → HasAdded clients plan settling old new out out' came
+added_none clients plan settling old new out out' came run rests by loaded idle = record {
   run = run;
-  by = none_by old new out came idle by;
+  by = none_by old new out out' came idle by;
   told = λ two told. record {
     moments = rest_moments clients plan (stands clients (read_files two)) came _ two old new (rests two told);
     ends = λ two' told'.
-        none_ends clients plan again (stands clients (read_files two)) two two' old new out came by (loaded two told) ((rests two told).kept two' told');
+        none_ends clients plan settling (stands clients (read_files two)) two two' old new out out' came by (loaded two told) ((rests two told).kept two' told');
   };
 }
 
 -- ---- the command is refused
 
-pub added_refused : (clients : Meaning) (plan : Facts → Plan) (again : Bool) (old new : Outside) (out : Flow) (s : StoreValue) (why : Refused) → DiskRun old new
+pub added_refused : (clients : Meaning) (plan : Facts → Plan) (settling : Settling) (old new : Outside) (out out' : Stream) (s : StoreValue) (why : Refused) → DiskRun old new
     → ((two : Two File) → old.files ≡ Some two → Rests (LoadKeeps (Ok s) two) two old new) → ((two : Two File) → old.files ≡ Some two → HasFacts (stands clients (read_files two)) s)
-    → plan s.state.facts ≡ refuses why → IsIdle out → HasAdded clients plan again old new out (outcome.Refused why)
-added_refused clients plan again old new out s why run rests loaded planned idle = record {
+    → plan s.state.facts ≡ refuses why → IsIdle out out' → HasAdded clients plan settling old new out out' (outcome.Refused why)
+added_refused clients plan settling old new out out' s why run rests loaded planned idle = record {
   run = run;
   by = idle;
   told = λ two told. record {
@@ -75,51 +76,46 @@ added_refused clients plan again old new out s why run rests loaded planned idle
 
 -- ---- the entry is added
 
-entry_ends : (clients : Meaning) (plan : Facts → Plan) (again : Bool) (standing : Standing) (two two' : Two File) (out : Flow) (j : List (List Entry)) (e : Entry) (came : Outcome)
-    → is_early came ≡ false → standing ≡ journal j → plan (facts j) ≡ adds e → EntryEnds clients again j e out came two' → AddsEnds clients plan again standing two two' out came
-entry_ends clients plan again standing two two' out j e outcome.Done late stood planned ends =
+entry_ends : (clients : Meaning) (plan : Facts → Plan) (settling : Settling) (standing : Standing) (two two' : Two File) (out out' : Stream) (j : List (List Entry)) (e : Entry) (came : Outcome)
+    → is_late came ≡ true → standing ≡ journal j → plan (facts j) ≡ adds e → EntryEnds clients settling j e out out' came two' → AddsEnds clients plan settling standing two two' out out' came
+entry_ends clients plan settling standing two two' out out' j e outcome.Done late stood planned ends =
     record { before = j; entry = e; stood = stood; planned = planned; leads = ends }
-entry_ends clients plan again standing two two' out j e outcome.WriteFault late stood planned ends =
+entry_ends clients plan settling standing two two' out out' j e outcome.WriteFault late stood planned ends =
     record { before = j; entry = e; stood = stood; planned = planned; leads = ends }
-entry_ends clients plan again standing two two' out j e outcome.Full late stood planned ends =
+entry_ends clients plan settling standing two two' out out' j e outcome.Full late stood planned ends =
     record { before = j; entry = e; stood = stood; planned = planned; leads = ends }
-entry_ends clients plan again standing two two' out j e outcome.Memory late stood planned ends = tt
-entry_ends clients plan again standing two two' out j e outcome.DiskFault late stood planned ends = tt
-entry_ends clients plan again standing two two' out j e outcome.NoStore late stood planned ends = cc
-entry_ends clients plan again standing two two' out j e outcome.Exists late stood planned ends = cc
-entry_ends clients plan again standing two two' out j e (outcome.Refused why) late stood planned ends = cc
-entry_ends clients plan again standing two two' out j e (outcome.Damaged place) late stood planned ends = cc
-entry_ends clients plan again standing two two' out j e outcome.ReadFault late stood planned ends = cc
+entry_ends clients plan settling standing two two' out out' j e outcome.Memory late stood planned ends = tt
+entry_ends clients plan settling standing two two' out out' j e outcome.DiskFault late stood planned ends = tt
+entry_ends clients plan settling standing two two' out out' j e _ late stood planned ends = cc
 
 rose_before : (a b c : ℕ) → a ≤ b → Rose b c → Rose a c
 rose_before a b c later rose = omega arith
 
-by_later : (o o1 o2 : Outside) (out : Flow) (came : Outcome) → o.disk_faults ≤ o1.disk_faults → AddsBy o1 o2 out came → AddsBy o o2 out came
-by_later o o1 o2 out outcome.DiskFault later by = (rose_before o.disk_faults o1.disk_faults o2.disk_faults later by.0, by.1)
-by_later o o1 o2 out outcome.Done later by = by
-by_later o o1 o2 out outcome.WriteFault later by = by
-by_later o o1 o2 out outcome.Full later by = by
-by_later o o1 o2 out outcome.Memory later by = by
-by_later o o1 o2 out outcome.NoStore later by = by
-by_later o o1 o2 out outcome.Exists later by = by
-by_later o o1 o2 out (outcome.Refused why) later by = by
-by_later o o1 o2 out (outcome.Damaged place) later by = by
-by_later o o1 o2 out outcome.ReadFault later by = by
+by_later : (o o1 o2 : Outside) (out out' : Stream) (came : Outcome) → o.disk_faults ≤ o1.disk_faults → AddsBy o1 o2 out out' came → AddsBy o o2 out out' came
+by_later o o1 o2 out out' outcome.DiskFault later by = (rose_before o.disk_faults o1.disk_faults o2.disk_faults later by.0, by.1)
+by_later o o1 o2 out out' outcome.Done later by = by
+by_later o o1 o2 out out' outcome.WriteFault later by = by
+by_later o o1 o2 out out' outcome.Full later by = by
+by_later o o1 o2 out out' outcome.Memory later by = by
+by_later o o1 o2 out out' outcome.NoStore later by = by
+by_later o o1 o2 out out' (outcome.Refused why) later by = by
+by_later o o1 o2 out out' (outcome.Damaged place) later by = by
+by_later o o1 o2 out out' _ later by = absurd by
 
 -- the journal that the disk fits is the one that the files stood for
 same_journal : (clients : Meaning) (s : StoreValue) (two two1 : Two File) (j : List (List Entry)) → read_files two1 ≡ read_files two → Fits clients s j two1 → stands clients (read_files two) ≡ journal j
 same_journal clients s two two1 j same fits = ap (stands clients) (sym same) ∙ fits.stands_for
 
-pub added_entry : (clients : Meaning) (plan : Facts → Plan) (again : Bool) (o o1 o2 : Outside) (out : Flow) (s : StoreValue) (e : Entry) (came : Outcome) → DiskRun o o1
-    → ((two : Two File) → o.files ≡ Some two → Rests (LoadKeeps (Ok s) two) two o o1) → IsReady clients s o1.files → plan s.state.facts ≡ adds e → EntryAdded clients again s e o1 o2 out came
-    → HasAdded clients plan again o o2 out came
-added_entry clients plan again o o1 o2 out s e came run rests ready planned added = record {
+pub added_entry : (clients : Meaning) (plan : Facts → Plan) (settling : Settling) (o o1 o2 : Outside) (out out' : Stream) (s : StoreValue) (e : Entry) (came : Outcome) → DiskRun o o1
+    → ((two : Two File) → o.files ≡ Some two → Rests (LoadKeeps (Ok s) two) two o o1) → MayExtend clients s o1.files → plan s.state.facts ≡ adds e → EntryAdded clients settling s e o1 o2 out out' came
+    → HasAdded clients plan settling o o2 out out' came
+added_entry clients plan settling o o1 o2 out out' s e came run rests ready planned added = record {
   run = run_then o o1 o2 run added.run;
-  by = by_later o o1 o2 out came run.later added.by;
+  by = by_later o o1 o2 out out' came run.later added.by;
   told = λ two told.
       let rest = rests two told in
       let told1 = told_on o o1 two run.same_told told in
-      let fit = ready.fits ready.still_open told1.0 told1.1 in
+      let fit = ready.ready.fits told1.0 told1.1 in
       let stood = same_journal clients s two told1.0 fit.0 (rest.kept told1.0 told1.1) fit.1 in
       let plans : plan (facts fit.0) ≡ adds e = ap plan fit.1.facts_are ∙ planned in
       let went = added.told told1.0 told1.1 fit.0 fit.1 in
@@ -133,10 +129,10 @@ added_entry clients plan again o o1 o2 out s e came run rests ready planned adde
                 entry = e;
                 stood = stood;
                 planned = plans;
-                leads = subst (λ (l : Links). JournalMoment clients (AddsAtMost clients (facts fit.0) (e ∷ [])) fit.0 (sent_of l.told) m) run.same_links w;
+                leads = subst (λ (l : Links). JournalMoment clients (GoesOn clients fit.0 (e ∷ [])) (sent_of l.told) m) run.same_links w;
               },
             )) went.moments);
         ends = λ two' told'.
-            entry_ends clients plan again (stands clients (read_files two)) two two' out fit.0 e came added.late stood plans (went.ends two' told');
+            entry_ends clients plan settling (stands clients (read_files two)) two two' out out' fit.0 e came added.late stood plans (went.ends two' told');
       };
 }

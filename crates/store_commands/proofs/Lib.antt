@@ -1,9 +1,8 @@
-pub mod TextLemmas
 pub mod Lines
 pub mod Looks
 pub mod Adds
 pub mod Follow
-pub mod Entries
+pub mod EntryLemmas
 pub mod Commits
 pub mod Loads
 pub mod Posts

@@ -6,24 +6,24 @@ use Rattle.outside.specs.Files.{Two, File}
 use Rattle.outside.specs.Outside.{Outside, MomentsAre, DiskRun}
 use Rattle.sync_words.specs.EntryTexts.{ready_text}
 use Rattle.sync_store.specs.Begin.{Begins, InitMoment, has_open}
-use Rattle.store_commands.specs.declared.outcome.Outcome.{Outcome}
-use Rattle.store_commands.specs.declared.outcome.Outcome.TheVariants as outcome
-use Rattle.store_commands.specs.Flow.{Flow, IsIdle, GetsFront}
-use Rattle.store_commands.specs.Adding.{ReadsAs}
+use Rattle.sync_words.specs.declared.outcome.Outcome.{Outcome}
+use Rattle.sync_words.specs.declared.outcome.Outcome.TheVariants as outcome
+use Rattle.outside.specs.Streams.{Stream, IsIdle, GetsFront}
+use Rattle.store_commands.specs.Show.{ReadsAs}
 
 -- the line is printed
-abbrev pub PrintsReady : Flow → Outcome → Type 0
-PrintsReady out outcome.Done = Appends out.before out.after ready_text
-PrintsReady out outcome.WriteFault = Rose out.faults out.faults' × GetsFront out ready_text
-PrintsReady out _ = ⊥
+abbrev pub PrintsReady : Stream → Stream → Outcome → Type 0
+PrintsReady out out' outcome.Done = Appends out.bytes out'.bytes ready_text
+PrintsReady out out' outcome.WriteFault = Rose out.faults out'.faults × GetsFront out out' ready_text
+PrintsReady out out' _ = ⊥
 
 -- the causes of an outcome, whatever the disk tells: a fault comes only where its count rose, and nothing is written but the line
-abbrev pub BeginsBy : (old new : Outside) (out : Flow) → Outcome → Type 0
-BeginsBy old new out outcome.Done = Appends out.before out.after ready_text
-BeginsBy old new out outcome.WriteFault = Rose out.faults out.faults' × GetsFront out ready_text
-BeginsBy old new out outcome.DiskFault = Rose old.disk_faults new.disk_faults × IsIdle out
-BeginsBy old new out outcome.Exists = IsIdle out
-BeginsBy old new out _ = ⊥
+abbrev pub BeginsBy : (old new : Outside) (out out' : Stream) → Outcome → Type 0
+BeginsBy old new out out' outcome.Done = Appends out.bytes out'.bytes ready_text
+BeginsBy old new out out' outcome.WriteFault = Rose out.faults out'.faults × GetsFront out out' ready_text
+BeginsBy old new out out' outcome.DiskFault = Rose old.disk_faults new.disk_faults × IsIdle out out'
+BeginsBy old new out out' outcome.Exists = IsIdle out out'
+BeginsBy old new out out' _ = ⊥
 
 -- The outcome by the files: a store exists exactly where a file has an open header, and is left as it reads. At Done every crash
 -- leaves the empty journal.
@@ -40,7 +40,7 @@ pub record BeginsTold (two : Two File) (old new : Outside) (came : Outcome) : Ty
   pub ends : (two' : Two File) → new.files ≡ Some two' → BeginsEnds two two' came
 
 -- a store is begun
-pub record HasBegun (old new : Outside) (out : Flow) (came : Outcome) : Type 0 where
+pub record HasBegun (old new : Outside) (out out' : Stream) (came : Outcome) : Type 0 where
   pub run : DiskRun old new
-  pub by : BeginsBy old new out came
+  pub by : BeginsBy old new out out' came
   pub told : (two : Two File) → old.files ≡ Some two → BeginsTold two old new came

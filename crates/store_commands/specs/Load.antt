@@ -1,19 +1,18 @@
 -- What loading a store comes to.
-use Rattle.std.specs.Prelude.{◌≡◌, false, List, Option, Result, Ok, Err}
+use Rattle.std.specs.Prelude.{◌≡◌, List, Option, Result, Ok, Err}
+use Rattle.outside.specs.declared.counts.TheConstants.{MAX_JOURNAL}
 use Rattle.outside.specs.Faults.{Rose}
-use Rattle.outside.specs.Files.{Two, File, read_files}
-use Rattle.outside.specs.Frames.{most_bytes}
+use Rattle.outside.specs.Files.{Two, File}
 use Rattle.outside.specs.Outside.{Outside}
 use Rattle.sync_rules.specs.declared.entries.Entry.{Entry}
 use Rattle.sync_rules.specs.Clients.{Meaning}
 use Rattle.sync_rules.specs.Facts.{facts}
 use Rattle.entry_codec.specs.Standing.{Standing, no_store, damaged, journal}
-use Rattle.journal_state.specs.Whole.{Knows}
+use Rattle.sync_store.specs.Ready.{IsReady}
 use Rattle.sync_store.specs.Store.{StoreValue}
-use Rattle.sync_store.specs.Fitting.{FitsSome}
-use Rattle.store_commands.specs.declared.outcome.Outcome.{Outcome}
-use Rattle.store_commands.specs.declared.outcome.Outcome.TheVariants as outcome
-use Rattle.store_commands.specs.Looking.{Keeps}
+use Rattle.sync_words.specs.declared.outcome.Outcome.{Outcome}
+use Rattle.sync_words.specs.declared.outcome.Outcome.TheVariants as outcome
+use Rattle.store_commands.specs.Show.{Keeps, ReadsAs}
 
 -- the causes, whatever the disk tells
 abbrev pub LoadedBy : (old new : Outside) → Result StoreValue Outcome → Type 0
@@ -37,18 +36,16 @@ IsLoaded standing (Err outcome.NoStore) = standing ≡ no_store
 IsLoaded standing (Err (outcome.Damaged place)) = standing ≡ damaged place.file place.at
 IsLoaded standing (Err _) = Unit {0}
 
--- a store that may be added to
-pub record IsReady (clients : Meaning) (s : StoreValue) (files : Option (Two File)) : Type 0 where
-  pub still_open : s.closed ≡ false
-  pub limited : s.limit ≡ most_bytes
-  pub knows : Knows clients s.state
-  pub fits : FitsSome clients s files
+-- a store that may be added to, up to the greatest length of a journal
+pub record MayExtend (clients : Meaning) (s : StoreValue) (files : Option (Two File)) : Type 0 where
+  pub ready : IsReady clients s files
+  pub limited : s.limit ≡ MAX_JOURNAL
 
 abbrev pub IsOpened : Meaning → Option (Two File) → Result StoreValue Outcome → Type 0
-IsOpened clients files (Ok s) = IsReady clients s files
+IsOpened clients files (Ok s) = MayExtend clients s files
 IsOpened clients files (Err _) = Unit {0}
 
 -- the files read as before, but where a call on the disk failed
 abbrev pub LoadKeeps : Result StoreValue Outcome → Two File → Two File → Type 0
-LoadKeeps (Ok s) two two' = read_files two' ≡ read_files two
+LoadKeeps (Ok s) two two' = ReadsAs two two'
 LoadKeeps (Err came) two two' = Keeps came two two'

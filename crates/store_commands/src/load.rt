@@ -1,23 +1,22 @@
 // A store that is loaded, or what the command comes to without one.
-ghost use Rattle.std.specs.Prelude.{◌≡◌, List, Some};
+ghost use Rattle.std.specs.Prelude.{◌≡◌, Some};
 ghost use Rattle.outside.specs.Files.{Two, File, read_files};
 ghost use Rattle.outside.specs.Outside.{DiskRun};
 ghost use Rattle.entry_codec.specs.Standing.{stands};
-ghost use Rattle.store_commands.specs.Looking.{Rests};
-ghost use Rattle.store_commands.specs.Loading.{IsLoaded, IsOpened, LoadedBy, LoadKeeps};
+ghost use Rattle.store_commands.specs.Show.{Rests};
+ghost use Rattle.store_commands.specs.Load.{IsLoaded, IsOpened, LoadedBy, LoadKeeps};
 
-use crate::outcome::Outcome;
-use outside::Disk;
+use outside::{Disk, MAX_JOURNAL};
 use std::alloc::Global;
+use std::hash::RandomState;
 use sync_rules::Clients;
 use sync_store::{LoadFault, Store};
-
-// The most bytes of a journal.
-const LIMIT: u64 = 268_435_456;
+use sync_words::Outcome;
 
 /// Loads the store of these files.
 pub fn load_store<D: Disk, C: Clients>(
     alloc: Global,
+    hasher: RandomState,
     disk: &mut D,
     clients: &C,
 ) -> Result<Store, Outcome>
@@ -29,7 +28,7 @@ pub fn load_store<D: Disk, C: Clients>(
         → IsLoaded (stands (C.meaning clients.now) (read_files two)) result }
     ensures opened { IsOpened (C.meaning clients.now) (D.tells disk.new).files result }
 {
-    match Store::load(alloc, disk, clients, LIMIT) {
+    match Store::load(alloc, hasher, disk, clients, MAX_JOURNAL) {
         Ok(store) => Ok(store),
         Err(LoadFault::Memory) => Err(Outcome::Memory),
         Err(LoadFault::DiskFault) => Err(Outcome::DiskFault),

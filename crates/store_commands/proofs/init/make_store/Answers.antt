@@ -1,6 +1,6 @@
 use Rattle.std.proofs.Common.{refl}
 use Rattle.store_commands.proofs.Begins.{begun_exists, begun_failed, begun_ready}
-use Rattle.store_commands.proofs.beginning.make_store.Goals as goal
+use Rattle.store_commands.proofs.init.make_store.Goals as goal
 
 pub returns-in-Ok : goal.returns-in-Ok
 returns-in-Ok g c = begun_ready _ _ _ c.print_ready.result c.in-Ok.ensures.run c.in-Ok.ensures.answer c.in-Ok.ensures.begun c.in-Ok.ensures.any_moment c.print_ready.ensures

@@ -1,5 +1,5 @@
 use Rattle.store_commands.proofs.Loads.{rests_failed, rests_settled}
-use Rattle.store_commands.proofs.loading.load_store.Goals as goal
+use Rattle.store_commands.proofs.load.load_store.Goals as goal
 
 pub returns-in-Ok-clause-rests : goal.returns-in-Ok-clause-rests
 returns-in-Ok-clause-rests g c = λ two told. rests_settled _ _ two c.in-Ok.ensures.any_moment c.in-Ok.ensures.settled told
