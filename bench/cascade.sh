@@ -7,9 +7,10 @@ cd "$(dirname "$0")/.." || exit 1
 bsp=$PWD/crates/bsp/out/bsp
 if [ ! -x "$bsp" ]; then (cd crates/bsp && rt run -- try note d <stdin >/dev/null) || exit 1; fi
 exec env PYTHONPATH=bench PYTHONDONTWRITEBYTECODE=1 python3 - "$bsp" "${RUNS:-3}" <<'PY'
-import os, struct, subprocess, sys, tempfile
+import os, struct, sys, tempfile
 
-from store_file import group_id, message_id
+from digests import group_id, message_id
+from measure import least, run_on
 
 bsp, runs = sys.argv[1], int(sys.argv[2])
 GROUP = group_id(b'thread', 0, b'd')
@@ -27,25 +28,23 @@ def chain(count):
     return b''.join(reversed(records)), ''.join(lines)
 
 
-def used(path, expected, out_path):
-    with open(path, 'rb') as f, open(out_path, 'wb') as out:
-        child = subprocess.Popen((bsp, 'try', 'thread', 'd'), stdin=f, stdout=out)
-        _, status, usage = os.wait4(child.pid, 0)
-        child.returncode = status
+def try_chain(path, expected, out_path):
+    with open(out_path, 'wb') as out:
+        told = run_on(path, bsp, 'try', 'thread', 'd', sink=out)
     with open(out_path) as out:
-        if status != 0 or out.read() != expected:
-            sys.exit(f'wrong text, status {status}')
-    return usage.ru_utime + usage.ru_stime
+        if out.read() != expected:
+            sys.exit('wrong text')
+    return told
 
 
 with tempfile.TemporaryDirectory(dir='/dev/shm') as folder:
     path, out = os.path.join(folder, 'records'), os.path.join(folder, 'out')
-    least = {}
+    times = {}
     for count in (100, 200, 400, 25_000, 100_000):
         records, lines = chain(count)
         with open(path, 'wb') as f:
             f.write(records)
-        least[count] = min(used(path, lines, out) for _ in range(runs))
-        print(f'{count} messages: {least[count]:.4f} s, {least[count] / count * 1e6:.1f} us a message')
-print(f'ratio cascade {least[100_000] / least[25_000] / 4:.3f}')
+        ((times[count], _),) = least(runs, lambda: try_chain(path, lines, out))
+        print(f'{count} messages: {times[count]:.4f} s, {times[count] / count * 1e6:.1f} us a message')
+print(f'ratio cascade {times[100_000] / times[25_000] / 4:.3f}')
 PY

@@ -4,26 +4,22 @@
 # `ratio frames VALUE`; 1 is linear.
 set -eu
 cd "$(dirname "$0")/.."
-(cd crates/frames_growth && rt run >/dev/null)
-exec python3 - "${RUNS:-9}" <<'PY'
-import resource, subprocess, sys
+(cd crates/bench_frames && rt run >/dev/null)
+exec env PYTHONPATH=bench PYTHONDONTWRITEBYTECODE=1 python3 - "${RUNS:-9}" <<'PY'
+import sys
+
+from measure import least, run
 
 runs = int(sys.argv[1])
 
 
 def timed(count):
-    before = resource.getrusage(resource.RUSAGE_CHILDREN)
-    subprocess.run(["crates/frames_growth/out/frames_growth", str(count)], stdout=subprocess.DEVNULL, check=True)
-    after = resource.getrusage(resource.RUSAGE_CHILDREN)
-    return (after.ru_utime - before.ru_utime) + (after.ru_stime - before.ru_stime)
+    return lambda: run("crates/bench_frames/out/bench_frames", str(count))
 
 
-few, many = [], []
-for _ in range(runs):
-    few.append(timed(5000))
-    many.append(timed(20000))
+(few, _), (many, _) = least(runs, timed(5000), timed(20000))
 print(f"least processor time of {runs} runs in turns")
-print(f"5000 frames  {min(few):.4f} s")
-print(f"20000 frames {min(many):.4f} s")
-print(f"ratio frames {min(many) / (4 * min(few)):.3f}")
+print(f"5000 frames  {few:.4f} s")
+print(f"20000 frames {many:.4f} s")
+print(f"ratio frames {many / (4 * few):.3f}")
 PY

@@ -5,35 +5,25 @@
 # of the two grows.
 set -eu
 cd "$(dirname "$0")/.."
-(cd crates/graph_growth && rt run -- chain 10 >/dev/null)
-exec python3 - "${RUNS:-5}" <<'PY'
-import math, os, resource, subprocess, sys
+(cd crates/bench_graph && rt run -- chain 10 >/dev/null)
+exec env PYTHONPATH=bench PYTHONDONTWRITEBYTECODE=1 python3 - "${RUNS:-5}" <<'PY'
+import math, sys
+
+from measure import least, run
 
 runs = int(sys.argv[1])
 few, many = 50_000, 200_000
 
 
-def run(shape, count):
-    child = subprocess.Popen(["crates/graph_growth/out/graph_growth", shape, str(count)], stdout=subprocess.PIPE)
-    text = child.stdout.read().decode()
-    _, status, usage = os.wait4(child.pid, 0)
-    child.returncode = status
-    if status != 0 or text != f"{count} held, {count} delivered, {2 * count} steps\n":
-        sys.exit(f"{shape} {count}: {text!r}, status {status}")
-    return usage.ru_utime + usage.ru_stime, usage.ru_maxrss * 1024
-
-
-def least(shape, count):
-    told = [run(shape, count) for _ in range(runs)]
-    return min(t for t, _ in told), min(m for _, m in told)
+def play(shape, count):
+    told = f"{count} held, {count} delivered, {2 * count} steps\n"
+    return lambda: run("crates/bench_graph/out/bench_graph", shape, str(count), want=told)
 
 
 worst = 0.0
 n_log_n = many * math.log2(many) / (few * math.log2(few))
 for shape in ("chain", "star"):
-    short, _ = least(shape, few)
-    long, memory = least(shape, many)
-    _, empty = least(shape, 1)
+    (short, _), (long, memory), (_, empty) = least(runs, play(shape, few), play(shape, many), play(shape, 1))
     growth = long / short / n_log_n
     worst = max(worst, growth)
     print(f"{shape}: {few} in {short:.3f} s, {many} in {long:.3f} s, growth over n log n {growth:.3f}, {(memory - empty) / many:.0f} bytes a node")

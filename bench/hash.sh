@@ -1,24 +1,24 @@
 #!/bin/sh
-# The digest's speed: hash_sum against `b2sum -l 256` on the same 256 MiB in memory, in turns.
+# The digest's speed: bench_hash against `b2sum -l 256` on the same 256 MiB in memory, in turns.
 # Prints each one's least time of RUNS (7) runs; the last line is `ratio hash VALUE`.
 set -eu
 cd "$(dirname "$0")/.."
-(cd crates/hash_sum && rt run >/dev/null)
-exec python3 - "${RUNS:-7}" <<'PY'
-import os, resource, subprocess, sys, tempfile
+(cd crates/bench_hash && rt run >/dev/null)
+exec env PYTHONPATH=bench PYTHONDONTWRITEBYTECODE=1 python3 - "${RUNS:-7}" <<'PY'
+import os, sys, tempfile
+
+from measure import least, run_on
 
 SIZE = 256 * 1024 * 1024
 runs = int(sys.argv[1])
 shm = "/dev/shm" if os.path.isdir("/dev/shm") and os.statvfs("/dev/shm").f_bavail * os.statvfs("/dev/shm").f_frsize > 2 * SIZE else None
+digests = set()
 
 
-def timed(command, path):
-    before = resource.getrusage(resource.RUSAGE_CHILDREN)
-    with open(path, "rb") as source:
-        told = subprocess.run(command, stdin=source, stdout=subprocess.PIPE, check=True).stdout
-    after = resource.getrusage(resource.RUSAGE_CHILDREN)
-    spent = (after.ru_utime - before.ru_utime) + (after.ru_stime - before.ru_stime)
-    return spent, told.split()[0].decode()
+def hashed(path, *words):
+    told = run_on(path, *words)
+    digests.add(told.out.split()[0])
+    return told
 
 
 with tempfile.NamedTemporaryFile(dir=shm) as data:
@@ -26,16 +26,15 @@ with tempfile.NamedTemporaryFile(dir=shm) as data:
     for i in range(SIZE // len(block)):
         data.write(i.to_bytes(8, "big") + block[8:])
     data.flush()
-    ours, theirs = [], []
-    for _ in range(runs):
-        spent, digest = timed(["crates/hash_sum/out/hash_sum"], data.name)
-        ours.append(spent)
-        spent, wanted = timed(["b2sum", "-l", "256"], data.name)
-        theirs.append(spent)
-        if digest != wanted:
-            sys.exit(f"the digests differ: {digest} and {wanted}")
+    (ours, _), (theirs, _) = least(
+        runs,
+        lambda: hashed(data.name, "crates/bench_hash/out/bench_hash"),
+        lambda: hashed(data.name, "b2sum", "-l", "256"),
+    )
+    if len(digests) != 1:
+        sys.exit(f"the digests differ: {digests}")
     print(f"{SIZE} bytes, least processor time of {runs} runs in turns")
-    print(f"hash_sum {min(ours):.3f} s")
-    print(f"b2sum    {min(theirs):.3f} s")
-    print(f"ratio hash {min(ours) / min(theirs):.3f}")
+    print(f"bench_hash {ours:.3f} s")
+    print(f"b2sum      {theirs:.3f} s")
+    print(f"ratio hash {ours / theirs:.3f}")
 PY

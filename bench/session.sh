@@ -5,9 +5,11 @@
 # number the worse of the two steps grows.
 set -eu
 cd "$(dirname "$0")/.."
-(cd crates/session_growth && rt run -- take 10 1 >/dev/null)
-exec python3 - "${RUNS:-5}" <<'PY'
-import math, os, subprocess, sys
+(cd crates/bench_session && rt run -- take 10 1 >/dev/null)
+exec env PYTHONPATH=bench PYTHONDONTWRITEBYTECODE=1 python3 - "${RUNS:-5}" <<'PY'
+import math, sys
+
+from measure import least, run
 
 runs = int(sys.argv[1])
 few, many = 50_000, 200_000
@@ -15,20 +17,14 @@ rounds = {"take": 400, "due": 4_000}
 last = {"take": 1_001, "due": 1_536}
 
 
-def run(step, count, times):
-    child = subprocess.Popen(["crates/session_growth/out/session_growth", step, str(count), str(times)], stdout=subprocess.PIPE)
-    text = child.stdout.read().decode()
-    _, status, usage = os.wait4(child.pid, 0)
-    child.returncode = status
-    want = f"{times} rounds, {last[step] if times else 0} in the last\n"
-    if status != 0 or text != want:
-        sys.exit(f"{step} {count}: {text!r}, status {status}")
-    return usage.ru_utime + usage.ru_stime
+def ask(step, count, times):
+    told = f"{times} rounds, {last[step] if times else 0} in the last\n"
+    return lambda: run("crates/bench_session/out/bench_session", step, str(count), str(times), want=told)
 
 
 def one(step, count):
-    start = min(run(step, count, 0) for _ in range(runs))
-    return max(min(run(step, count, rounds[step]) for _ in range(runs)) - start, 1e-9) / rounds[step]
+    (start, _), (whole, _) = least(runs, ask(step, count, 0), ask(step, count, rounds[step]))
+    return max(whole - start, 1e-9) / rounds[step]
 
 
 worst = 0.0

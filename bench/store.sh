@@ -5,23 +5,16 @@
 # with no contact, and once more with CONTACTS (1). The last lines are `ratio NAME VALUE`.
 set -eu
 cd "$(dirname "$0")/.."
-(cd crates/store_growth && rt run -- load 50 200 1 >/dev/null)
-exec python3 - "${RUNS:-5}" "${CONTACTS:-1}" <<'PY'
-import hashlib, os, struct, subprocess, sys, tempfile
+(cd crates/bench_store && rt run -- load 50 200 1 >/dev/null)
+exec env PYTHONPATH=bench PYTHONDONTWRITEBYTECODE=1 python3 - "${RUNS:-5}" "${CONTACTS:-1}" <<'PY'
+import os, struct, sys, tempfile
+
+from digests import block_hash, group_id, id_over
+from measure import least, run, run_silent
+from store_file import CLOSED, HEADER, OPEN, frame
 
 runs, some = int(sys.argv[1]), int(sys.argv[2])
-program = "crates/store_growth/out/store_growth"
-LABEL = b"org.briarproject.bramble/"
-
-
-def digest(label, *parts):
-    h = hashlib.blake2b(digest_size=32)
-    for part in (LABEL + label, b"\1", *parts):
-        h.update(struct.pack(">I", len(part)) + part)
-    return h.digest()
-
-
-GROUP = digest(b"GROUP_ID", b"note", bytes(4), b"")
+GROUP = group_id(b"note", 0, b"")
 
 
 def frames(count, length, contacts):
@@ -31,10 +24,10 @@ def frames(count, length, contacts):
         yield bytes([1, contact]), None
         yield bytes([3, contact]) + GROUP + b"\2", None
     body = b"a" * length
-    block = digest(b"MESSAGE_BLOCK", body)
+    block = block_hash(body)
     for n in range(count):
         time = struct.pack(">Q", n)
-        name = digest(b"MESSAGE_ID", GROUP, time, block)
+        name = id_over(GROUP, n, block)
         yield b"\6" + GROUP + time + struct.pack(">H", length) + body, name
         yield b"\x08" + name + b"\x09" + name, None
 
@@ -43,66 +36,45 @@ def write_journal(path, count, length, contacts):
     """Writes the journal's file; answers its length and the sum of the ids."""
     total = 0
     with open(path, "wb") as file:
-        file.write(b"\1BSPJ\1" + struct.pack(">Q", 1))
+        file.write(HEADER)
         for payload, name in frames(count, length, contacts):
-            file.write(b"\1" + struct.pack(">I", len(payload)) + payload)
+            file.write(OPEN + frame(payload)[:-1])
             total ^= int.from_bytes(name or b"", "big")
-        file.write(b"\0")
+        file.write(CLOSED)
         return file.tell(), f"{total:064x}\n"
 
 
-def run(step, count, length, contacts, want):
-    """The seconds of the step and the peak of memory of one run, which must print what is wanted."""
-    words = [program, step, str(count), str(length), str(contacts)]
-    child = subprocess.Popen(words, stdout=subprocess.PIPE, stderr=subprocess.PIPE)
-    out, err = child.stdout.read().decode(), child.stderr.read().decode()
-    _, status, usage = os.wait4(child.pid, 0)
-    child.returncode = status
-    if status != 0 or out != want:
-        sys.exit(f"{words}: {out!r}, {err!r}, status {status}")
-    return int(err) / 1e6, usage.ru_maxrss * 1024
-
-
-def hashed(path):
-    child = subprocess.Popen(["b2sum", "-l", "256", path], stdout=subprocess.DEVNULL)
-    _, status, usage = os.wait4(child.pid, 0)
-    child.returncode = status
-    if status != 0:
-        sys.exit(f"b2sum: status {status}")
-    return usage.ru_utime + usage.ru_stime
+def step(name, count, length, contacts, want):
+    """One run, which must print what is wanted; its seconds are those of the step alone, as the program tells them."""
+    told = run("crates/bench_store/out/bench_store", name, str(count), str(length), str(contacts), want=want)
+    return told._replace(seconds=int(told.err) / 1e6)
 
 
 def told(count, end):
     return f"{count} held, {count} delivered, {end} bytes\n"
 
 
-def least(*asked):
-    """The least time of each of several runs, made in turns."""
-    best = [float("inf")] * len(asked)
-    for _ in range(runs):
-        for place, ask in enumerate(asked):
-            best[place] = min(best[place], ask())
-    return best
+def hashed(path):
+    return run_silent(path, "b2sum", "-l", "256")
 
 
 lines = []
 with tempfile.TemporaryDirectory(dir="/dev/shm") as folder:
     path = os.path.join(folder, "bsp.0")
 
-    def compare_sizes(step, few, many, contacts):
-        def timed(count):
-            end, _ = write_journal(path, count, 200, contacts)
-            return lambda: run(step, count, 200, contacts, told(count, end))[0]
+    def timed(name, count, contacts):
+        end, _ = write_journal(path, count, 200, contacts)
+        return lambda: step(name, count, 200, contacts, told(count, end))
 
-        short, long = least(timed(few), timed(many))
+    def compare_sizes(name, few, many, contacts, *others):
+        (short, _), (long, _), *rest = least(runs, timed(name, few, contacts), timed(name, many, contacts), *others)
         growth = long / short * few / many
-        print(f"{step}, {contacts} contacts: {few} messages of 200 bytes {short:.3f} s, {many} messages {long:.3f} s, {long / many * 1e6:.2f} us a message")
-        return long, growth
+        print(f"{name}, {contacts} contacts: {few} messages of 200 bytes {short:.3f} s, {many} messages {long:.3f} s, {long / many * 1e6:.2f} us a message")
+        return long, growth, [seconds for seconds, _ in rest]
 
     def compare_load(contacts, name):
-        long, growth = compare_sizes("load", 50_000, 200_000, contacts)
         _, names = write_journal(path, 200_000, 200, contacts)
-        (ids,) = least(lambda: run("ids", 200_000, 200, contacts, names)[0])
+        long, growth, (ids,) = compare_sizes("load", 50_000, 200_000, contacts, lambda: step("ids", 200_000, 200, contacts, names))
         print(f"ids of 200000 messages alone {ids:.3f} s, {ids / 200_000 * 1e6:.2f} us a message")
         lines.append(f"ratio load_small{name} {long / ids:.2f}")
         lines.append(f"ratio load_growth{name} {growth:.3f}")
@@ -111,18 +83,18 @@ with tempfile.TemporaryDirectory(dir="/dev/shm") as folder:
         peaks = []
         for count in (100_000, 200_000):
             end, _ = write_journal(path, count, 200, contacts)
-            held = run("load", count, 200, contacts, told(count, end))[1]
-            made = run("make", count, 200, contacts, f"{end} bytes\n")[1]
+            held = step("load", count, 200, contacts, told(count, end)).memory
+            made = step("make", count, 200, contacts, f"{end} bytes\n").memory
             peaks.append(held - made)
         print(f"a held message, {contacts} contacts: {(peaks[1] - peaks[0]) / 100_000 - 200:.0f} bytes of memory beside its body")
 
     for contacts, name in ((0, ""), (some, "_shared")):
-        _, growth = compare_sizes("commit", 5_000, 20_000, contacts)
+        _, growth, _ = compare_sizes("commit", 5_000, 20_000, contacts)
         lines.append(f"ratio commit_growth{name} {growth:.3f}")
         compare_load(contacts, name)
         compare_memory(contacts)
     end, _ = write_journal(path, 8_000, 32_000, 0)
-    load, theirs = least(lambda: run("load", 8_000, 32_000, 0, told(8_000, end))[0], lambda: hashed(path))
+    (load, _), (theirs, _) = least(runs, lambda: step("load", 8_000, 32_000, 0, told(8_000, end)), lambda: hashed(path))
     print(f"load: 8000 messages of 32000 bytes, {end} bytes {load:.3f} s, b2sum {theirs:.3f} s")
     lines.append(f"ratio load_large {load / theirs:.2f}")
 print("\n".join(lines))

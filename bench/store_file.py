@@ -1,31 +1,14 @@
 """The file of a store, byte by byte as docs/FORMATS.md has it, and what the commands print of it.
 
-It shares nothing with the program: the digests are hashlib's, and the layout and the lines are written here anew.
+It shares nothing with the program: the layout and the lines are written here anew.
 """
-import hashlib
 import struct
 
-LABEL = b'org.briarproject.bramble/'
+from digests import group_id, message_id
+
 HEADER = b'\x01BSPJ\x01' + struct.pack('>Q', 1)
 CLOSED = b'\x00'
 OPEN = b'\x01'
-
-
-def digest(*parts):
-    h = hashlib.blake2b(digest_size=32)
-    for part in parts:
-        h.update(struct.pack('>I', len(part)) + part)
-    return h.digest()
-
-
-def group_id(name, major, descriptor):
-    return digest(LABEL + b'GROUP_ID', b'\x01', name, struct.pack('>I', major), descriptor)
-
-
-def message_id(group, time, body):
-    block = digest(LABEL + b'MESSAGE_BLOCK', b'\x01', body)
-    return digest(LABEL + b'MESSAGE_ID', b'\x01', group, struct.pack('>Q', time), block)
-
 
 GROUP = group_id(b'note', 0, b'd')
 

@@ -7,6 +7,3 @@ mod parts;
 
 pub use hasher::{Blake2b, KeyTooLong};
 pub use parts::{Parts, parts_have_one_reading};
-
-#[cfg(test)]
-mod tests;

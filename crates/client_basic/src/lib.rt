@@ -5,6 +5,3 @@ mod bodies;
 mod clients;
 
 pub use clients::{Bundle, Feed, Note, Thread};
-
-#[cfg(test)]
-mod tests;

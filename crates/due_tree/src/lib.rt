@@ -5,6 +5,3 @@ mod cells;
 mod tree;
 
 pub use tree::DueTree;
-
-#[cfg(test)]
-mod tests;

@@ -12,7 +12,3 @@ mod Payloads
 mod Readers
 mod ReadSteps
 mod WriteSteps
-pub mod SameEntries
-pub mod PartsOfIds
-pub mod TakenBack
-pub mod Allowing

@@ -1,7 +1,6 @@
 pub mod Spelling
 pub mod Reading
 pub mod Answers
-pub mod Allows
 pub mod Laws
 pub mod Standing
 pub mod StandingLaws

@@ -7,7 +7,6 @@ mod front;
 pub mod laws;
 mod lengths;
 mod reading;
-mod same;
 mod stop;
 mod values;
 mod writing;
@@ -15,10 +14,4 @@ mod writing;
 pub use batches::{batch_len, read_batch, write_batch};
 pub use lengths::entry_len;
 pub use reading::{EntryFound, read_entry};
-pub use same::{ids_named, same_entries, same_entry, same_out};
 pub use writing::write_entry;
-
-#[cfg(test)]
-mod batch_tests;
-#[cfg(test)]
-mod tests;

@@ -11,6 +11,3 @@ pub use fault::{DiskFault, FrameFault, StartFault};
 pub use gates::{barrier, clear, create};
 pub use header::{Header, read_header};
 pub use journal::Journal;
-
-#[cfg(test)]
-mod tests;

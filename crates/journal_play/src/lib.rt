@@ -9,6 +9,3 @@ mod play;
 
 pub use laws::play_says;
 pub use play::Play;
-
-#[cfg(test)]
-mod tests;

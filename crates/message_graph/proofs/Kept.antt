@@ -11,7 +11,7 @@ use Rattle.message_graph.specs.declared.states.Waiting.TheVariants as waiting
 use Rattle.message_graph.specs.declared.states.News.TheVariants as news
 use Rattle.message_graph.specs.Nodes.{same_name, node_named, number_of, is_invalid, is_delivered, fresh, with_answer, with_ending}
 use Rattle.message_graph.specs.Waits.{Waits, missing, waiting_open, waiting_by, waiting_of, told_times, wait_at, group_at}
-use Rattle.message_graph.specs.Links.{Links, holder_of, edge_at, count_before}
+use Rattle.message_graph.specs.Links.{Links, Numbers, holder_of, edge_at, count_before}
 use Rattle.message_graph.specs.Whole.{occurrences, dependencies, dependencies_at, IsGraph, ending_news}
 use Rattle.message_graph.proofs.Positions.{place_pushed}
 use Rattle.message_graph.proofs.Linked.{same_refl, same_equal}
@@ -99,16 +99,18 @@ module _ (nodes : List Node) (links : Links) (states : Waits) (spare : ℕ) (g :
               λ open_answer. absurd (let c : Some has.answer ≡ None = sym has.given ∙ ap (λ (x : Node). x.answer) is ∙ open_answer in cc)
           | inr other ↦ g.order k m (sym (get-change_other f nodes n k other) ∙ h)
         ];
+        count = g.count ∙ sym (length-change f n nodes);
+        numbers = g.numbers;
         room = g.room;
         places = subst (λ r. spare ≤ r) (sym room) g.places;
       }
 
   -- a node was judged
   pub judged_kept : (n : ℕ) (node : Node) (answer : Judged) (after : Links) (later : Waits) → slice_get nodes n ≡ Some node → node.answer ≡ None
-      → ((name : List ℕ) → holder_of after name ≡ holder_of links name) → after.edges ≡ links.edges ++ map (λ name. (name, n)) (dependencies (Some answer)) → spare ≤ after.room
+      → ((name : List ℕ) → holder_of after name ≡ holder_of links name) → after.numbers ≡ links.numbers → after.edges ≡ links.edges ++ map (λ name. (name, n)) (dependencies (Some answer)) → spare ≤ after.room
       → later.waits ≡ set states.waits n (waiting_open (node_named nodes) node.group answer) → later.room ≡ states.room
       → IsGraph (with_answer n answer nodes) after later spare
-  judged_kept n node answer after later at new holders edges room waits places =
+  judged_kept n node answer after later at new holders same_numbers edges room waits places =
       let f : Node → Node = (λ m. record m { answer = Some answer }) in
       let now = with_answer n answer nodes in
       let keeps : (m : Node) → (f m).name ≡ m.name = (λ m. refl) in
@@ -150,6 +152,8 @@ module _ (nodes : List Node) (links : Links) (states : Waits) (spare : ℕ) (g :
               λ open_answer. ap (λ (x : Node). x.ending) (sym is) ∙ goes
           | inr other ↦ g.order k m (sym (get-change_other f nodes n k other) ∙ h)
         ];
+        count = ap (λ (x : Numbers). x.count) same_numbers ∙ g.count ∙ sym (length-change f n nodes);
+        numbers = subst (λ (x : Numbers). spare ≤ x.room) (sym same_numbers) g.numbers;
         room = room;
         places = subst (λ r. spare ≤ r) (sym places) g.places;
       }
@@ -159,11 +163,11 @@ module _ (nodes : List Node) (links : Links) (states : Waits) (spare : ℕ) (g :
 
   -- a node was held under a new name, and those that wait for it were told
   pub hold_kept : (name : List ℕ) (group : ℕ) (after : Links) (later : Waits) → number_of nodes name ≡ None → length nodes < 2 ^ 32 - 1 → 0 < spare
-      → ((other : List ℕ) → holder_of after other ≡ (if same_name other name then Some (length nodes) else holder_of links other)) → after.edges ≡ links.edges → links.room ≤ after.room + 1
+      → ((other : List ℕ) → holder_of after other ≡ (if same_name other name then Some (length nodes) else holder_of links other)) → after.numbers.count ≡ links.numbers.count + 1 → links.numbers.room ≤ after.numbers.room + 1 → after.edges ≡ links.edges → links.room ≤ after.room + 1
       → length later.waits ≡ length nodes + 1 → later.room + 1 ≡ states.room
       → ((k : ℕ) → wait_at later.waits k ≡ told_times (news.Arrived group) (group_at (nodes ++ fresh name group ∷ []) k) (count_before after.edges name k (length after.edges)) (wait_at (states.waits ++ waiting.Unjudged ∷ []) k))
       → IsGraph (nodes ++ fresh name group ∷ []) after later (spare - 1)
-  hold_kept name group after later new few spares holders edges room len places told =
+  hold_kept name group after later new few spares holders one_more left edges room len places told =
       let m = fresh name group in
       let now = nodes ++ m ∷ [] in
       let d = differs-push nodes m new in
@@ -192,6 +196,8 @@ module _ (nodes : List Node) (links : Links) (states : Waits) (spare : ℕ) (g :
           | inl old ↦ g.order k x old
           | inr last ↦ λ open_answer. ap (λ (y : Node). y.ending) (sym last.1)
         ];
+        count = omega (arith, one_more, g.count, total);
+        numbers = omega (arith, left, g.numbers);
         room = omega (arith, g.room);
         places = omega (arith, g.places);
       }

@@ -1,5 +1,6 @@
 pub mod Positions
 pub mod Linked
+pub mod Placed
 pub mod Marks
 pub mod Counts
 pub mod Missing

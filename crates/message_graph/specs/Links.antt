@@ -1,6 +1,6 @@
 -- Who waits for whom, as the code keeps it: one edge for each dependency of a judged node, with the name that is waited for and the
 -- number of the node that waits.
-use Rattle.std.specs.Prelude.{◌≡◌, ℕ, zero, suc, ◌+◌, ◌<◌, ◌==◌, ◌&&◌, if◌then◌else◌, List, [], length, map, position, Option, None, Some, slice_index_or}
+use Rattle.std.specs.Prelude.{◌≡◌, ℕ, zero, suc, ◌+◌, ◌<◌, ◌==◌, ◌&&◌, if◌then◌else◌, List, [], length, map, position, Option, None, Some, slice_get, slice_index_or}
 use Rattle.message_graph.specs.declared.index.Slot.{Slot}
 use Rattle.message_graph.specs.declared.index.Edge.{Edge}
 use Rattle.message_graph.specs.Nodes.{same_name}
@@ -9,10 +9,16 @@ use Rattle.message_graph.specs.Nodes.{same_name}
 abbrev pub Link : Type 0
 Link = List ℕ × ℕ
 
--- an index: all names, the number of the node that holds each, the edges, and the room for more names and more edges
+-- how many nodes there are, and for how many more there is room
+pub record Numbers : Type 0 where
+  pub count : ℕ
+  pub room : ℕ
+
+-- an index: all names, the number of the node that holds each, the nodes' numbers, the edges, and the room for more names and more edges
 pub record Links : Type 0 where
   pub names : List (List ℕ)
   pub holders : List (Option ℕ)
+  pub numbers : Numbers
   pub edges : List (List ℕ × ℕ)
   pub room : ℕ
   pub edge_room : ℕ
@@ -55,3 +61,8 @@ pub record IsLinked (names : List (List ℕ)) (slots : List Slot) (kept : List E
   pub lasts : (place : ℕ) → place < length names → slice_index_or (map (λ slot. slot.last) slots) place None ≡ last_before (map (named names) kept) (slice_index_or names place []) (length kept)
   pub places : (edge : ℕ) → edge < length kept → slice_index_or (map (λ e. e.place) kept) edge 0 < length names
   pub befores : (edge : ℕ) → edge < length kept → slice_index_or (map (λ e. e.before) kept) edge None ≡ last_before (map (named names) kept) (edge_at (map (named names) kept) edge).0 edge
+
+-- each node's name has its place by the node's number
+pub record IsPlaced (slots : List Slot) (places : List ℕ) : Type 0 where
+  pub found : (place number : ℕ) → slice_index_or (map (λ slot. slot.holder) slots) place None ≡ Some number → slice_get places number ≡ Some place
+  pub inside : (number place : ℕ) → slice_get places number ≡ Some place → place < length slots

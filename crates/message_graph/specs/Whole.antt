@@ -50,5 +50,7 @@ pub record IsGraph (nodes : List Node) (links : Links) (states : Waits) (spare :
   pub waits : states.waits ≡ map (waiting_of (node_named nodes)) nodes
   pub edges : (name : List ℕ) (waiter : ℕ) → count_before links.edges name waiter (length links.edges) ≡ occurrences name (dependencies_at nodes waiter)
   pub order : (number : ℕ) (node : Node) → slice_get nodes number ≡ Some node → IsInOrder node
+  pub count : links.numbers.count ≡ length nodes
+  pub numbers : spare ≤ links.numbers.room
   pub room : spare ≤ links.room
   pub places : spare ≤ states.room

@@ -12,6 +12,7 @@ use crate::plain::fate_in;
 use crate::states::{News, States, Waiting};
 use crate::waiters::{answered, tell};
 use std::alloc::{AllocError, Global};
+use std::hash::RandomState;
 use std::marker::Model;
 
 /// Held messages by number, and the next step among them, found in time logarithmic in their count.
@@ -39,14 +40,15 @@ impl Model for Graph {
 }
 
 impl Graph {
-    /// A graph with no nodes and no room. Answers an error where there is no memory.
-    pub fn new(alloc: Global) -> Result<Graph, AllocError>
+    /// A graph with no nodes and no room, whose names are hashed by `hasher`. Answers an error
+    /// where there is no memory.
+    pub fn new(alloc: Global, hasher: RandomState) -> Result<Graph, AllocError>
         ensures { IfOk result (λ g. g ≡ record { nodes = []; spare = 0 }) }
     {
         let states = States::new(alloc)?;
         Ok(Graph {
             nodes: Vec::new(alloc),
-            index: Index::new(alloc),
+            index: Index::new(alloc, hasher),
             states,
             spare: 0,
         })
@@ -59,7 +61,7 @@ impl Graph {
         ensures err { OnErr result (self.new ≡ self.old) }
     {
         self.nodes.reserve(nodes)?;
-        self.index.reserve(nodes, 0)?;
+        self.index.reserve_nodes(nodes)?;
         self.states.reserve(nodes)?;
         self.spare = self.spare.max(nodes);
         Ok(())
@@ -85,14 +87,14 @@ impl Graph {
             ending: None,
         };
         self.nodes.push(node).unwrap();
-        self.index.hold(name, number);
+        let last = self.index.hold(name, number);
         self.states.push();
         self.spare -= 1;
         tell(
             &mut self.states,
             &self.index,
             &self.nodes,
-            &name,
+            last,
             News::Arrived(group),
         );
         number
@@ -180,9 +182,9 @@ impl Graph {
     {
         let number = n as usize;
         let node = &mut self.nodes[number];
-        let name = node.name;
         node.ending = Some(ending);
         self.states.set(number, Waiting::Ended);
-        tell(&mut self.states, &self.index, &self.nodes, &name, news);
+        let last = self.index.last(n);
+        tell(&mut self.states, &self.index, &self.nodes, last, news);
     }
 }

@@ -6,7 +6,7 @@ ghost use Rattle.message_graph.specs.Links.{place_of, holder_of, edge_at, last_b
 
 use indexmap::IndexSet;
 use std::alloc::{AllocError, Global};
-use std::hash::{Hash, Hasher};
+use std::hash::{Hash, Hasher, RandomState};
 use std::marker::Model;
 
 /// A name as the table of names keeps it. Contracts see the list of its bytes.
@@ -57,41 +57,50 @@ pub(crate) struct Edge {
     pub(crate) before: Option<usize>,
 }
 
-/// Names, also those that no node holds yet, with their holders and waiters.
+/// Names, also those that no node holds yet, with their holders and waiters, and the place of each
+/// node's name by the node's number.
 #[derive(Drop)]
 pub(crate) struct Index {
-    names: IndexSet<Key>,
+    names: IndexSet<Key, RandomState>,
     slots: Vec<Slot>,
+    places: Vec<usize>,
     edges: Vec<Edge>,
 }
 
 impl Model for Index {
     ghost use Rattle.std.specs.Prelude.{◌-◌, length, map, min, vec_capacity};
     ghost use Rattle.indexmap.specs.IndexSet.{spare};
-    ghost use Rattle.message_graph.specs.Links.{Links, named, IsLinked};
+    ghost use Rattle.message_graph.specs.Links.{Links, named, IsLinked, IsPlaced};
 
     ghost Value = { Links };
 
     ghost view = { λ i. record {
       names = i.names.keys;
       holders = map (λ slot. slot.holder) i.slots.items;
+      numbers = record {
+        count = length i.places.items;
+        room = vec_capacity i.places - length i.places.items;
+      };
       edges = map (named i.names.keys) i.edges.items;
       room = min (spare i.names) (vec_capacity i.slots - length i.slots.items);
       edge_room = vec_capacity i.edges - length i.edges.items;
     } };
 
-    ghost invariant = { λ i. IsLinked i.names.keys i.slots.items i.edges.items };
+    ghost invariant = { λ i. IsLinked i.names.keys i.slots.items i.edges.items
+        × IsPlaced i.slots.items i.places.items };
 }
 
 impl Index {
-    /// No names.
-    pub(crate) fn new(alloc: Global) -> Index
+    /// No names; they are hashed by `hasher`.
+    pub(crate) fn new(alloc: Global, hasher: RandomState) -> Index
         ensures names { result.names ≡ [] }
+        ensures count { result.numbers.count ≡ 0 }
         ensures edges { result.edges ≡ [] }
     {
         Index {
-            names: IndexSet::new(alloc),
+            names: IndexSet::with_hasher(alloc, hasher),
             slots: Vec::new(alloc),
+            places: Vec::new(alloc),
             edges: Vec::new(alloc),
         }
     }
@@ -100,6 +109,7 @@ impl Index {
     pub(crate) fn reserve(&mut self, names: usize, edges: usize) -> Result<(), AllocError>
         ensures names { self.new.names ≡ self.old.names }
         ensures holders { self.new.holders ≡ self.old.holders }
+        ensures numbers { self.new.numbers ≡ self.old.numbers }
         ensures edges { self.new.edges ≡ self.old.edges }
         ensures room { self.old.room ≤ self.new.room }
         ensures ok { OnOk result (names ≤ self.new.room) }
@@ -110,6 +120,21 @@ impl Index {
         self.edges.reserve(edges)
     }
 
+    /// Makes room for that many more nodes, each with a name.
+    pub(crate) fn reserve_nodes(&mut self, nodes: usize) -> Result<(), AllocError>
+        ensures names { self.new.names ≡ self.old.names }
+        ensures holders { self.new.holders ≡ self.old.holders }
+        ensures count { self.new.numbers.count ≡ self.old.numbers.count }
+        ensures edges { self.new.edges ≡ self.old.edges }
+        ensures room { self.old.room ≤ self.new.room }
+        ensures numbers { self.old.numbers.room ≤ self.new.numbers.room }
+        ensures ok { OnOk result (nodes ≤ self.new.room) }
+        ensures more { OnOk result (nodes ≤ self.new.numbers.room) }
+    {
+        self.reserve(nodes, 0)?;
+        self.places.reserve(nodes)
+    }
+
     /// The number of the node that holds the name.
     pub(crate) fn holder(&self, name: &[u8; 32]) -> Option<u32>
         ensures { result ≡ holder_of self.now name.now }
@@ -118,12 +143,13 @@ impl Index {
         self.slots[place].holder
     }
 
-    /// The last edge of those who wait for the name.
-    pub(crate) fn last(&self, name: &[u8; 32]) -> Option<usize>
-        ensures { result ≡ last_before self.now.edges name.now (length self.now.edges) }
+    /// The last edge of those who wait for the name of the node of this number.
+    pub(crate) fn last(&self, number: u32) -> Option<usize>
+        requires { number < self.now.numbers.count }
+        ensures { (name : List ℕ) → holder_of self.now name ≡ Some number
+            → result ≡ last_before self.now.edges name (length self.now.edges) }
     {
-        let place = self.names.get_index_of(&Key(*name))?;
-        self.slots[place].last
+        self.slots[self.places[number as usize]].last
     }
 
     /// The number of the node that waits by the edge.
@@ -148,6 +174,7 @@ impl Index {
         ensures place { place_of self.new.names name ≡ Some result }
         ensures edges { self.new.edges ≡ self.old.edges }
         ensures holders { (other : List ℕ) → holder_of self.new other ≡ holder_of self.old other }
+        ensures numbers { self.new.numbers ≡ self.old.numbers }
         ensures room { self.old.room ≤ self.new.room + 1 }
         ensures edge_room { self.new.edge_room ≡ self.old.edge_room }
     {
@@ -163,18 +190,25 @@ impl Index {
         place
     }
 
-    /// A node holds the name from now on.
-    pub(crate) fn hold(&mut self, name: [u8; 32], number: u32)
-        requires { 0 < self.old.room }
+    /// The next node holds the name from now on; answers the last edge of those who wait for it.
+    pub(crate) fn hold(&mut self, name: [u8; 32], number: u32) -> Option<usize>
+        requires room { 0 < self.old.room }
+        requires numbers { 0 < self.old.numbers.room }
+        requires next { number ≡ self.old.numbers.count }
+        ensures last { result ≡ last_before self.old.edges name (length self.old.edges) }
         ensures holders { (other : List ℕ)
             → holder_of self.new other ≡ (if same_name other name then Some number else holder_of
             self.old other) }
+        ensures count { self.new.numbers.count ≡ self.old.numbers.count + 1 }
+        ensures left { self.old.numbers.room ≤ self.new.numbers.room + 1 }
         ensures edges { self.new.edges ≡ self.old.edges }
         ensures room { self.old.room ≤ self.new.room + 1 }
     {
         let place = self.place(name);
+        self.places.push(place).unwrap();
         let slot = &mut self.slots[place];
         slot.holder = Some(number);
+        slot.last
     }
 
     /// A node waits for the name from now on.
@@ -182,6 +216,7 @@ impl Index {
         requires room { 0 < self.old.room }
         requires edge_room { 0 < self.old.edge_room }
         ensures holders { (other : List ℕ) → holder_of self.new other ≡ holder_of self.old other }
+        ensures numbers { self.new.numbers ≡ self.old.numbers }
         ensures edges { self.new.edges ≡ self.old.edges ++ (name, waiter) ∷ [] }
         ensures room { self.old.room ≤ self.new.room + 1 }
         ensures edge_room { self.old.edge_room ≤ self.new.edge_room + 1 }

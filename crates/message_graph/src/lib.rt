@@ -11,6 +11,3 @@ mod waiters;
 pub use graph::Graph;
 pub use nodes::{Ending, Fate, Judged, Names, Node, Step};
 pub use plain::{fate_in, next_in};
-
-#[cfg(test)]
-mod tests;

@@ -4,7 +4,7 @@ ghost use Rattle.std.specs.Prelude.{IfOk, OnOk, OnErr, Some};
 ghost use Rattle.message_graph.specs.Nodes.{node_named, number_of};
 ghost use Rattle.message_graph.specs.Waits.{missing, from_missing, waiting_open, told_times};
 ghost use Rattle.message_graph.specs.Waits.{wait_at, group_at};
-ghost use Rattle.message_graph.specs.Links.{holder_of, edge_at, count_before};
+ghost use Rattle.message_graph.specs.Links.{holder_of, edge_at, count_before, last_before};
 ghost use Rattle.message_graph.specs.Whole.{dependencies};
 
 use crate::index::Index;
@@ -12,18 +12,28 @@ use crate::nodes::{Judged, Node, fails, serves};
 use crate::states::{News, States, Waiting, told};
 use std::alloc::AllocError;
 
-/// Tells each node that waits for the name.
-pub(crate) fn tell(states: &mut States, index: &Index, nodes: &[Node], name: &[u8; 32], news: News)
+/// Tells each node that waits for a name, whose last edge is this one.
+pub(crate) fn tell(
+    states: &mut States,
+    index: &Index,
+    nodes: &[Node],
+    last: Option<usize>,
+    news: News,
+)
     requires many { length states.old.waits ≡ length nodes.now }
+    requires last { (name : List ℕ)
+        × (last ≡ last_before index.now.edges name (length index.now.edges)) }
     requires waiters { (edge : ℕ) → edge < length index.now.edges
         → (edge_at index.now.edges edge).1 < length nodes.now }
     ensures many { length states.new.waits ≡ length states.old.waits }
     ensures room { states.new.room ≡ states.old.room }
-    ensures waits { (number : ℕ) → wait_at states.new.waits number ≡ told_times news
-        (group_at nodes.now number) (count_before index.now.edges name.now number
-        (length index.now.edges)) (wait_at states.old.waits number) }
+    ensures waits { (name : List ℕ)
+        → last ≡ last_before index.now.edges name (length index.now.edges) → (number : ℕ)
+        → wait_at states.new.waits number ≡ told_times news (group_at nodes.now number)
+        (count_before index.now.edges name number (length index.now.edges))
+        (wait_at states.old.waits number) }
 {
-    let mut cursor = index.last(name);
+    let mut cursor = last;
     while let Some(edge) = cursor {
         let waiter = index.waiter(edge) as usize;
         let waiting = told(news, nodes[waiter].group, states.get(waiter));
@@ -64,6 +74,7 @@ pub(crate) fn enlist(index: &mut Index, names: &[[u8; 32]], waiter: u32)
     requires room { length names.now ≤ index.old.room }
     requires edge_room { length names.now ≤ index.old.edge_room }
     ensures holders { (other : List ℕ) → holder_of index.new other ≡ holder_of index.old other }
+    ensures numbers { index.new.numbers ≡ index.old.numbers }
     ensures edges { index.new.edges ≡ index.old.edges ++ map (λ name. (name, waiter)) names.now }
     ensures room { index.old.room ≤ index.new.room + length names.now }
 {
@@ -90,6 +101,7 @@ fn accepted(
         names.now) }
     ensures err { OnErr result (index.new.edges ≡ index.old.edges) }
     ensures holders { (other : List ℕ) → holder_of index.new other ≡ holder_of index.old other }
+    ensures numbers { index.new.numbers ≡ index.old.numbers }
     ensures room { spare ≤ index.new.room }
 {
     let room = match spare.checked_add(names.len()) {
@@ -119,6 +131,7 @@ pub(crate) fn answered(
         (dependencies (Some answer.now))) }
     ensures err { OnErr result (index.new.edges ≡ index.old.edges) }
     ensures holders { (other : List ℕ) → holder_of index.new other ≡ holder_of index.old other }
+    ensures numbers { index.new.numbers ≡ index.old.numbers }
     ensures room { spare ≤ index.new.room }
 {
     match answer {

@@ -7,8 +7,7 @@ use Rattle.outside.specs.declared.failed.Failed.{Failed}
 use Rattle.outside.specs.declared.host.Heard.{Heard}
 use Rattle.outside.specs.declared.host.Heard.TheVariants as heard
 use Rattle.outside.specs.Files.{Two, File, IsImage}
-use Rattle.outside.specs.Script.{Planned}
-use Rattle.outside.specs.Links.{Links, Link, Reply, Answered, changed_at, with_sent, sent_of}
+use Rattle.outside.specs.Links.{Links, Planned, Link, Reply, Answered, changed_at, with_sent, sent_of}
 use Rattle.outside.specs.Outside.{Moment, DiskCall, LinkCall, QuietCall, Elapses}
 use Rattle.outside.specs.Host.{SendsPart}
 use Rattle.outside.specs.MemDisk.{Change, wrote, wrote_not, cut, cut_not, synced, dialled, sent, answered, hosted, MemDiskValue, Makes, Kept, kept_after, both_kept, changed, files_of, links_after, link_changed, answers_after, answers_changed, with_call, bytes_each}
@@ -50,30 +49,38 @@ made_more : {T E : Type 0} (fine failed : Option Change) (result : Result T E) (
     → (more : Option Change) × LeavesLinks more × (new.calls ≡ old.calls ++ option_to_list more)
 made_more fine failed (Ok _) old new fine_leaves failed_leaves makes = (fine, fine_leaves, makes.outcome.calls)
 made_more fine failed (Err _) old new fine_leaves failed_leaves makes =
-    elim makes.outcome.outcome [ inl listed ↦ (failed, failed_leaves, listed.calls) | inr starved ↦ (None, tt, starved.calls ∙ sym (append-nil old.calls)) ]
+    elim makes.outcome.outcome [ inl listed ↦ (failed, failed_leaves, listed.calls) | inr untraced ↦ (None, tt, untraced.calls ∙ sym (append-nil old.calls)) ]
 
-links_same : (old new : MemDiskValue) (s s' f f' : List ℕ) (k k' : Readings) → links_of new ≡ links_of old → answers_after [] new.calls ≡ answers_after [] old.calls → s' ≡ s → f' ≡ f → k' ≡ k
-    → links_told new.calls s' f' k' ≡ links_told old.calls s f k
-links_same old new s s' f f' k k' links answers e g h = cc
+links_same : (old new : MemDiskValue) (s s' f f' : List ℕ) (k k' : Readings) (p p' : List (List Planned)) → links_of new ≡ links_of old → answers_after [] new.calls ≡ answers_after [] old.calls → s' ≡ s → f' ≡ f → k' ≡ k → p' ≡ p
+    → links_told new.calls s' f' k' p' ≡ links_told old.calls s f k p
+links_same old new s s' f f' k k' p p' links answers e g h i = cc
 
 pub host_makes : {T E : Type 0} (fine failed : Option Change) (result : Result T E) (old new : MemHostValue) → LeavesLinks fine → LeavesLinks failed → OnDisk fine failed result old new
     → DiskCall (host_told old) (host_told new)
 host_makes fine failed result old new fine_leaves failed_leaves on =
     let more = made_more fine failed result old.disk new.disk fine_leaves failed_leaves on.makes in
-    let same : links_told new.disk.calls new.silences new.faults new.clock ≡ links_told old.disk.calls old.silences old.faults old.clock =
-    links_same old.disk new.disk old.silences new.silences old.faults new.faults old.clock new.clock
+    let same : links_told new.disk.calls new.silences new.faults new.clock new.scripts ≡ links_told old.disk.calls old.silences old.faults old.clock old.scripts =
+    links_same old.disk new.disk old.silences new.silences old.faults new.faults old.clock new.clock old.scripts new.scripts
     (links_kept old.disk.calls new.disk.calls more.0 more.1 more.2)
     (answers_kept old.disk.calls new.disk.calls more.0 more.1 more.2)
     (ap (λ (h : MemHostValue). h.silences) on.rest)
     (ap (λ (h : MemHostValue). h.faults) on.rest)
-    (ap (λ (h : MemHostValue). h.clock) on.rest) in
-    makes_told sent_by fine failed result old.disk new.disk on.makes (links_told old.disk.calls old.silences old.faults old.clock) (links_told new.disk.calls new.silences new.faults new.clock) same
+    (ap (λ (h : MemHostValue). h.clock) on.rest)
+    (ap (λ (h : MemHostValue). h.scripts) on.rest) in
+    makes_told sent_by fine failed result old.disk new.disk on.makes (links_told old.disk.calls old.silences old.faults old.clock old.scripts) (links_told new.disk.calls new.silences new.faults new.clock new.scripts) same
     refl
     (each_told old.disk.calls)
     (each_heard old.disk.calls _)
     refl
     (each_told new.disk.calls)
     (each_heard new.disk.calls _)
+
+-- the same of a host as it stands when its disk was called
+pub host_call : {T E : Type 0} (fine failed : Option Change) (result : Result T E) (v old : MemHostValue) (disk : MemDiskValue) → v ≡ old → LeavesLinks fine → LeavesLinks failed → Makes fine failed result v.disk disk
+    → DiskCall (host_told old) (host_told (record v { disk = disk }))
+host_call fine failed result v old disk same fine_leaves failed_leaves makes =
+    subst (λ (h : MemHostValue). DiskCall (host_told h) (host_told (record v { disk = disk }))) same
+    (host_makes fine failed result v (record v { disk = disk }) fine_leaves failed_leaves (record { makes = makes; rest = refl }))
 
 -- ---- the bytes sent, as they are kept
 
@@ -153,12 +160,12 @@ wired_unsent old new link vectors v v' scripts e is_there same within w =
     subst (λ (d : MemDiskValue). IsWired d (bytes_each (set vectors link v')) scripts) (sym e)
     (subst (λ (b : List (List ℕ)). IsWired old b scripts) (sym back) w)
 
--- an answer heard, and its script
-pub wired_answered : (old new : MemDiskValue) (link : ℕ) (a : Answered) (bytes : List (List ℕ)) (scripts : List (List Planned)) (script : List Planned) → new ≡ with_call (answered link a) old
-    → IsWired old bytes scripts → IsWired new bytes (set scripts link script)
-wired_answered old new link a bytes scripts script e w =
+-- an answer heard, and the scripts left
+pub wired_answered : (old new : MemDiskValue) (link : ℕ) (a : Answered) (bytes : List (List ℕ)) (scripts scripts' : List (List Planned)) → new ≡ with_call (answered link a) old
+    → length scripts' ≡ length scripts → IsWired old bytes scripts → IsWired new bytes scripts'
+wired_answered old new link a bytes scripts scripts' e long w =
     let same : links_of new ≡ links_of old = ap links_of e ∙ links_after-push [] old.calls (answered link a) in
-    record { sent_is = w.sent_is ∙ ap (map (λ (l : Link). l.sent)) (sym same); few = w.few; scripted = length-set scripts link script ∙ w.scripted }
+    record { sent_is = w.sent_is ∙ ap (map (λ (l : Link). l.sent)) (sym same); few = w.few; scripted = long ∙ w.scripted }
 
 -- ---- time and files of a call on the links
 

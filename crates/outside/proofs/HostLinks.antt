@@ -12,9 +12,11 @@ use Rattle.outside.specs.Links.{Links, Link, Reply, got, idle, ended, Answered, 
 use Rattle.outside.specs.Host.{LinkCause, Dials, MakesLink, Hears, hear, Sends, GoOut, ReadsClock, Grows}
 use Rattle.outside.specs.MemDisk.{Change, dialled, sent, answered, MemDiskValue, links_after, answers_after, with_call}
 use Rattle.outside.specs.MemTold.{links_after-push}
-use Rattle.outside.specs.MemHost.{MemHostValue, Readings, last_of, first_readings, readings_told, next_reading, links_of, Raises, BeginsAgain, MakesDial, MakesAnswer, Replies, MakesSend, MakesReading}
+use Rattle.outside.specs.MemHost.{MemHostValue, Readings, last_of, first_readings, readings_told, next_reading, upcoming_of, plans_of, links_of, Raises, BeginsAgain, MakesDial, MakesAnswer, Replies, MakesSend, MakesReading}
 use Rattle.outside.specs.HostTold.{heard_on, links_told, as_many, length-changed_at}
+use Rattle.outside.specs.Planned.{AnswersAsPlanned}
 use Rattle.outside.proofs.HostCalls.{answers_after-push}
+use Rattle.outside.proofs.ClockSteps.{if_true, if_false}
 
 -- ---- counts
 
@@ -79,7 +81,7 @@ heard_on_same old new s s' e same =
 -- ---- a dial
 
 abbrev links_in : MemHostValue → Links
-links_in host = links_told host.disk.calls host.silences host.faults host.clock
+links_in host = links_told host.disk.calls host.silences host.faults host.clock host.scripts
 
 dial_made : (spec : List ℕ) (link : ℕ) (old new : MemHostValue) → link ≡ length (links_of old.disk) → new.disk ≡ with_call (dialled spec) old.disk → BeginsAgain link old.silences new.silences
     → MakesLink spec (Ok link) (links_in old) (links_in new)
@@ -102,6 +104,8 @@ pub dials_links : (spec : List ℕ) (result : Result ℕ Failed) (old new : MemH
 dials_links spec (Ok link) old new makes = record {
   made = dial_made spec link old new makes.outcome.number makes.outcome.disk makes.outcome.silences;
   same_readings = ap (λ (h : MemHostValue). readings_told h.clock) makes.rest;
+  same_planned = ap (λ (h : MemHostValue). Some (plans_of h.scripts)) makes.rest;
+  same_upcoming = ap (λ (h : MemHostValue). Some (upcoming_of h.clock)) makes.rest;
   faults = same_cause (length (links_of old.disk)) old.faults new.faults link makes.outcome.faults;
 }
 dials_links spec (Err e) old new makes =
@@ -113,6 +117,8 @@ dials_links spec (Err e) old new makes =
         heard_on_same old.disk new.disk old.silences new.silences same makes.outcome.silences,
       );
       same_readings = ap (λ (h : MemHostValue). readings_told h.clock) makes.rest;
+      same_planned = ap (λ (h : MemHostValue). Some (plans_of h.scripts)) makes.rest;
+      same_upcoming = ap (λ (h : MemHostValue). Some (upcoming_of h.clock)) makes.rest;
       faults = raised_cause (length (links_of old.disk)) old.faults new.faults e makes.outcome.faults;
     }
 
@@ -134,20 +140,23 @@ replied_told link room reply old new r = ap links_of r.disk ∙ links_after-push
 
 -- what an answer changes, where a function gives what was heard
 hears_reply : (link : ℕ) (answer : Heard) (buf : List ℕ) (reply : Reply) (old new : MemHostValue) → new.clock ≡ old.clock
+    → AnswersAsPlanned link answer buf (plans_of old.scripts) (plans_of new.scripts)
     → changed_at link (hear answer buf) ≡ changed_at link (hear_reply (length buf) reply) → Replies link (length buf) reply old new → Hears link answer buf (links_in old) (links_in new)
-hears_reply link answer buf reply old new clock same r = record {
+hears_reply link answer buf reply old new clock planned same r = record {
   same_dialled = ap length (replied_told link (length buf) reply old new r);
   same_told = ap Some (replied_told link (length buf) reply old new r);
   heard = replied link (length buf) reply old new r ∙ ap (λ f. option_map f (Some (heard_on (answers_after [] old.disk.calls) (λ i. slice_index old.silences i)))) (sym same);
   same_readings = ap readings_told clock;
+  planned = planned;
+  same_upcoming = ap (λ k. Some (upcoming_of k)) clock;
   later = omega (arith, ap (λ l. slice_index l link) r.faults);
   others = λ i _. ap (λ l. slice_index l i) r.faults;
 }
 
 pub answers_links : (link : ℕ) (answer : Heard) (buf : List ℕ) (old new : MemHostValue) → MakesAnswer link answer buf old new → Hears link answer buf (links_in old) (links_in new)
-answers_links link (heard.Got n) buf old new makes = hears_reply link (heard.Got n) buf (got (take n buf)) old new (ap (λ (h : MemHostValue). h.clock) makes.rest) refl makes.outcome
-answers_links link heard.Idle buf old new makes = hears_reply link heard.Idle buf idle old new (ap (λ (h : MemHostValue). h.clock) makes.rest) refl makes.outcome
-answers_links link heard.End buf old new makes = hears_reply link heard.End buf ended old new (ap (λ (h : MemHostValue). h.clock) makes.rest) refl makes.outcome
+answers_links link (heard.Got n) buf old new makes = hears_reply link (heard.Got n) buf (got (take n buf)) old new (ap (λ (h : MemHostValue). h.clock) makes.rest) makes.outcome.plan refl makes.outcome
+answers_links link heard.Idle buf old new makes = hears_reply link heard.Idle buf idle old new (ap (λ (h : MemHostValue). h.clock) makes.rest) makes.outcome.plan refl makes.outcome
+answers_links link heard.End buf old new makes = hears_reply link heard.End buf ended old new (ap (λ (h : MemHostValue). h.clock) makes.rest) makes.outcome.plan refl makes.outcome
 answers_links link heard.Failed buf old new makes =
     let out = makes.outcome in
     let same : new.disk ≡ old.disk = elim out.cause [ inl due ↦ due.disk | inr none ↦ none.disk ] in
@@ -158,6 +167,8 @@ answers_links link heard.Failed buf old new makes =
           ap (λ (d : MemDiskValue). Some (heard_on (answers_after [] d.calls) (λ i. slice_index new.silences i))) same
           ∙ ap Some (heard_failure link (answers_after [] old.disk.calls) (λ i. slice_index old.silences i) (λ i. slice_index new.silences i) out.silences.raised out.silences.others);
       same_readings = ap (λ (h : MemHostValue). readings_told h.clock) makes.rest;
+      planned = elim out.cause [ inl due ↦ inl due.plan | inr none ↦ inr (ap plans_of none.scripts) ];
+      same_upcoming = ap (λ (h : MemHostValue). Some (upcoming_of h.clock)) makes.rest;
       later = out.faults.later;
       others = out.faults.others;
     }
@@ -211,6 +222,8 @@ sends_links link bytes (Ok u) old new makes =
       sent = out.told;
       same_heard = out.heard;
       same_readings = ap (λ (h : MemHostValue). readings_told h.clock) makes.rest;
+      same_planned = ap (λ (h : MemHostValue). Some (plans_of h.scripts)) makes.rest;
+      same_upcoming = ap (λ (h : MemHostValue). Some (upcoming_of h.clock)) makes.rest;
       faults = same_cause link old.faults new.faults u makes.outcome.faults;
     }
 sends_links link bytes (Err e) old new makes =
@@ -225,18 +238,12 @@ sends_links link bytes (Err e) old new makes =
       sent = (part.0, part.1.told);
       same_heard = part.1.heard;
       same_readings = ap (λ (h : MemHostValue). readings_told h.clock) makes.rest;
+      same_planned = ap (λ (h : MemHostValue). Some (plans_of h.scripts)) makes.rest;
+      same_upcoming = ap (λ (h : MemHostValue). Some (upcoming_of h.clock)) makes.rest;
       faults = raised_cause link old.faults new.faults e makes.outcome.faults;
     }
 
 -- ---- a reading
-
-if_true : {A : Type 0} (b : Bool) (x y : A) → b ≡ true → (if b then x else y) ≡ x
-if_true true x y e = refl
-if_true false x y e = cc
-
-if_false : {A : Type 0} (b : Bool) (x y : A) → b ≡ false → (if b then x else y) ≡ y
-if_false true x y e = cc
-if_false false x y e = refl
 
 one_reading_more : (given : List ℕ) (made : ℕ) → first_readings (made + 1) given ≡ first_readings made given ++ next_reading (record { given = given; made = made }) ∷ []
 one_reading_more given made =
@@ -286,4 +293,6 @@ reading_links reading old new makes =
       readings =
           subst (λ (r : ℕ). Grows r (readings_told old.clock) (readings_told new.clock)) (sym makes.is_next)
           (subst (λ (k : Readings). Grows (next_reading old.clock) (readings_told old.clock) (readings_told k)) (sym clock) (told_more old.clock (one_more old.clock.made) refl));
+      same_planned = ap (λ (h : MemHostValue). Some (plans_of h.scripts)) makes.rest;
+      upcoming = makes.upcoming;
     }

@@ -6,3 +6,4 @@ pub mod Pictured
 pub mod ScriptSteps
 pub mod HostCalls
 pub mod HostLinks
+pub mod ClockSteps

@@ -66,7 +66,7 @@ pub change_made : {T E : Type 0} (fine failed : Option Change) (result : Result 
     → (more : Option Change) × (new.calls ≡ old.calls ++ option_to_list more)
 change_made fine failed (Ok _) old new makes = (fine, makes.outcome.calls)
 change_made fine failed (Err _) old new makes =
-    elim makes.outcome.outcome [ inl listed ↦ (failed, listed.calls) | inr starved ↦ (None, starved.calls ∙ sym (append-nil old.calls)) ]
+    elim makes.outcome.outcome [ inl listed ↦ (failed, listed.calls) | inr untraced ↦ (None, untraced.calls ∙ sym (append-nil old.calls)) ]
 
 pub makes_told : {T E : Type 0} (sent_by : List Change → List (List ℕ)) (fine failed : Option Change) (result : Result T E) (old new : MemDiskValue) → Makes fine failed result old new
     → (links links' : Links) → links' ≡ links
@@ -112,7 +112,7 @@ looks_same (Ok _) old new makes =
 looks_same (Err _) old new makes =
     elim makes.outcome.outcome [
       | inl listed ↦ ap files_of (files_same old.start new.start old.calls new.calls makes.counts.start (listed.calls ∙ append-nil old.calls))
-      | inr starved ↦ ap files_of (files_same old.start new.start old.calls new.calls makes.counts.start starved.calls)
+      | inr untraced ↦ ap files_of (files_same old.start new.start old.calls new.calls makes.counts.start untraced.calls)
     ]
 
 -- the change of one file, as the traits see it
@@ -146,7 +146,7 @@ makes_write file at bytes (Err _) old new within makes =
             (ap (λ a. after_write k.file a (length bytes) k.file.now) place
             ∙ ap (λ f. after_write f at (length bytes) f.now) (sym (files_file two file))),
       )
-      | inr starved ↦ inl (ap files_of (files_same old.start new.start old.calls new.calls makes.counts.start starved.calls))
+      | inr untraced ↦ inl (ap files_of (files_same old.start new.start old.calls new.calls makes.counts.start untraced.calls))
     ]
 
 pub makes_cut : (file n : ℕ) (result : Result (Unit {0}) Failed) (old new : MemDiskValue)
@@ -162,7 +162,7 @@ makes_cut file n (Err _) old new makes =
       | inl listed ↦ inr (inr
           (one_file two (disk_files new) file _ _ (files_more old.start new.start old.calls new.calls (cut_not file n) makes.counts.start listed.calls)
           (ap (λ f. after_cut f n f.now) (sym (files_file two file)))))
-      | inr starved ↦ inl (ap files_of (files_same old.start new.start old.calls new.calls makes.counts.start starved.calls))
+      | inr untraced ↦ inl (ap files_of (files_same old.start new.start old.calls new.calls makes.counts.start untraced.calls))
     ]
 
 pub makes_sync : (file : ℕ) (result : Result (Unit {0}) Failed) (old new : MemDiskValue)
@@ -175,7 +175,7 @@ makes_sync file (Ok _) old new makes =
 makes_sync file (Err _) old new makes =
     elim makes.outcome.outcome [
       | inl listed ↦ ap files_of (files_same old.start new.start old.calls new.calls makes.counts.start (listed.calls ∙ append-nil old.calls))
-      | inr starved ↦ ap files_of (files_same old.start new.start old.calls new.calls makes.counts.start starved.calls)
+      | inr untraced ↦ ap files_of (files_same old.start new.start old.calls new.calls makes.counts.start untraced.calls)
     ]
 
 -- what the trait asks of a place, as the disk in memory asks it

@@ -5,21 +5,23 @@ use Rattle.std.proofs.lemmas.List.{drop-drop, drop_all, drop_more, drop-append-l
 use Rattle.std.proofs.lemmas.List.Elements.{All-head, All-tail}
 use Rattle.outside.specs.declared.answer.Answer.{Answer}
 use Rattle.outside.specs.declared.answer.Answer.TheVariants as code
-use Rattle.outside.specs.Script.{Planned, piece, pieces, planned_from, planned_of, plan, plan_from, script_after, left_in, IsFull, IsPlaceIn, IsReady}
+use Rattle.outside.specs.Script.{planned_from, planned_of, plan, plan_from, left_in, IsFull, IsPlaceIn, IsReady}
+use Rattle.outside.specs.Links.{Planned, piece}
+use Rattle.outside.specs.Planned.{pieces, plan_after}
 
 pieces_full : (bytes : List ℕ) → 0 < length bytes → pieces bytes ≡ piece bytes ∷ []
 pieces_full [] some = absurd (omega arith)
 pieces_full (b ∷ bytes) some = refl
 
 -- what is left of a piece where there are bytes at a place
-piece_after : (at room : ℕ) (bytes : List ℕ) (rest : List Planned) → at < length bytes → script_after room (pieces (drop at bytes) ++ rest) ≡ pieces (drop (at + room) bytes) ++ rest
+piece_after : (at room : ℕ) (bytes : List ℕ) (rest : List Planned) → at < length bytes → plan_after room (pieces (drop at bytes) ++ rest) ≡ pieces (drop (at + room) bytes) ++ rest
 piece_after at room bytes rest some =
     let full : 0 < length (drop at bytes) = omega (arith, length-drop at bytes) in
-    ap (λ l. script_after room (l ++ rest)) (pieces_full (drop at bytes) full) ∙ ap (λ l. pieces l ++ rest) (drop-drop room at bytes)
+    ap (λ l. plan_after room (l ++ rest)) (pieces_full (drop at bytes) full) ∙ ap (λ l. pieces l ++ rest) (drop-drop room at bytes)
 
 -- a part of the first answer is heard
 part_heard : (at room : ℕ) (answer : Answer) (more : List Answer) → IsPlaceIn at (answer ∷ more) → room < left_in at answer
-    → (plan_from (at + room) (answer ∷ more) ≡ script_after room (plan_from at (answer ∷ more))) × IsPlaceIn (at + room) (answer ∷ more)
+    → (plan_from (at + room) (answer ∷ more) ≡ plan_after room (plan_from at (answer ∷ more))) × IsPlaceIn (at + room) (answer ∷ more)
 part_heard at room (code.Bytes bytes) more place part = (sym (piece_after at room bytes.items (plan more) place), omega (arith, part))
 part_heard at room code.Idle more place part = absurd (omega (arith, part))
 part_heard at room code.End more place part = absurd (omega (arith, part))
@@ -27,7 +29,7 @@ part_heard at room code.Fail more place part = absurd (omega (arith, part))
 
 -- all that is left of it is heard
 all_heard : (at room : ℕ) (answer : Answer) (more : List Answer) → IsPlaceIn at (answer ∷ more) → left_in at answer ≤ room
-    → plan more ≡ script_after room (plan_from at (answer ∷ more))
+    → plan more ≡ plan_after room (plan_from at (answer ∷ more))
 all_heard at room (code.Bytes bytes) more place all =
     let none : drop (at + room) bytes.items ≡ [] = drop_all (at + room) bytes.items (omega (arith, all)) in
     sym (piece_after at room bytes.items (plan more) place ∙ ap (λ l. pieces l ++ plan more) none)
@@ -58,7 +60,7 @@ opened answers next answer within is_there = drop_more answers next answer withi
 -- what is kept after an answer was heard
 pub record IsBehind (answers : List Answer) (next at room next' at' : ℕ) : Type 0 where
   pub ready : IsReady next' at' answers
-  pub script : plan_from at' (drop next' answers) ≡ script_after room (plan_from at (drop next answers))
+  pub script : plan_from at' (drop next' answers) ≡ plan_after room (plan_from at (drop next answers))
 
 pub behind_part : (answers : List Answer) (next at room : ℕ) (answer : Answer) → IsReady next at answers → next < length answers → answer ≡ get_or answers next answer → room < left_in at answer
     → IsBehind answers next at room next (at + room)
@@ -67,7 +69,7 @@ behind_part answers next at room answer ready within is_there part =
     let heard = part_heard at room answer (drop (next + 1) answers) (subst (IsPlaceIn at) open_is ready.place) part in
     record {
       ready = record { within = ready.within; place = subst (IsPlaceIn (at + room)) (sym open_is) heard.1; full = ready.full };
-      script = ap (plan_from (at + room)) open_is ∙ heard.0 ∙ ap (λ l. script_after room (plan_from at l)) (sym open_is);
+      script = ap (plan_from (at + room)) open_is ∙ heard.0 ∙ ap (λ l. plan_after room (plan_from at l)) (sym open_is);
     }
 
 pub behind_all : (answers : List Answer) (next at room : ℕ) (answer : Answer) → IsReady next at answers → next < length answers → answer ≡ get_or answers next answer → left_in at answer ≤ room
@@ -77,13 +79,13 @@ behind_all answers next at room answer ready within is_there all =
     let heard = all_heard at room answer (drop (next + 1) answers) (subst (IsPlaceIn at) open_is ready.place) all in
     record {
       ready = record { within = omega (arith, within); place = full_place (drop (next + 1) answers) (full_from (next + 1) answers ready.full); full = ready.full };
-      script = plan_begins (drop (next + 1) answers) ∙ heard ∙ ap (λ l. script_after room (plan_from at l)) (sym open_is);
+      script = plan_begins (drop (next + 1) answers) ∙ heard ∙ ap (λ l. plan_after room (plan_from at l)) (sym open_is);
     }
 
 pub behind_none : (answers : List Answer) (next at room : ℕ) → IsReady next at answers → length answers ≤ next → IsBehind answers next at room next at
 behind_none answers next at room ready end =
     let none : drop next answers ≡ [] = drop_all next answers end in
-    record { ready = ready; script = ap (plan_from at) none ∙ ap (λ l. script_after room (plan_from at l)) (sym none) }
+    record { ready = ready; script = ap (plan_from at) none ∙ ap (λ l. plan_after room (plan_from at l)) (sym none) }
 
 -- an answer more at the end
 plan-push : (answers : List Answer) (answer : Answer) → plan (answers ++ answer ∷ []) ≡ plan answers ++ planned_of answer

@@ -1,13 +1,14 @@
 -- One more piece read or written.
-use Rattle.std.proofs.Common.{◌≡◌, ℕ, ◌+◌, ◌-◌, ◌<◌, ◌≤◌, min, Bool, true, false, eqb, List, [], ◌++◌, length, take, drop, get_or, replicate, Option, sym, ap, ◌∙◌, subst, arith, length-take, length-drop, take-append-drop}
+use Rattle.std.proofs.Common.{◌≡◌, ℕ, ◌+◌, ◌-◌, ◌<◌, ◌≤◌, min, Bool, true, false, eqb, List, [], ◌++◌, length, take, drop, get_or, replicate, Option, sym, ap, ◌∙◌, subst, arith, length-take, length-drop, take-append-drop, inr}
 use Rattle.std.specs.Io.KnownBytes.{Appends, Consumes}
 use Rattle.std.specs.List.{list_any}
 use Rattle.std.proofs.KnownBytes.{Appends-trans, Consumes-trans}
 use Rattle.std.proofs.Math.Seq.{take-add, take-append_seam}
 use Rattle.std.proofs.lemmas.List.{take_more, take-append-le, take_all, drop-drop, drop_all}
 use Rattle.std.proofs.lemmas.Bool.{false≢true}
-use Rattle.outside.specs.Faults.{is_listed}
+use Rattle.outside.specs.Faults.{is_listed, Rose}
 use Rattle.outside.specs.Input.{ReadsPart, ReadsTooMuch}
+use Rattle.outside.specs.Streams.{Stream, Gets}
 
 pub appends_next : (a b c : Option (List ℕ)) (bytes : List ℕ) (done n : ℕ) → Appends a b (take done bytes) → Appends b c (take n (take (length bytes - done) (drop done bytes))) → Appends a c (take (done + n) bytes)
 appends_next a b c bytes done n p q =
@@ -15,6 +16,11 @@ appends_next a b c bytes done n p q =
     let joined : take done bytes ++ take n (take (length bytes - done) (drop done bytes)) ≡ take (done + n) bytes =
     ap (λ l. take done bytes ++ take n l) whole ∙ sym (take-add done n bytes) in
     subst (Appends a c) joined (Appends-trans a b c _ _ p q)
+
+-- a front of a text was written, and then a call failed
+pub gets_part : (old new : Stream) (text : List ℕ) (done : ℕ) → Appends old.bytes new.bytes (take done text) → Rose old.faults new.faults → Gets old new text
+gets_part old new text done appended rose =
+    (record { got = take done text; rest = drop done text; front = sym (take-append-drop done text); appended = appended }, inr rose)
 
 -- what lies before the new room is as it was
 pub front_kept : (old roomy filled : List ℕ) (had more k : ℕ) → had ≡ length old → roomy ≡ take (had + more) old ++ replicate k 0 → take had filled ≡ take had roomy → take had filled ≡ old

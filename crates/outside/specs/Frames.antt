@@ -2,6 +2,7 @@
 use Rattle.std.specs.Prelude.{◌≡◌, ◌≢◌, ℕ, ◌+◌, ◌≤◌, Bool, ◌&&◌, ◌||◌, not, nat_lt, nat_le, ◌==◌, if◌then◌else◌, List, ◌∷◌, ◌++◌, length, take, drop, slice_index, Option, None, Some, All}
 use Rattle.std.specs.List.{flat_map}
 use Rattle.std.specs.Int.{w32, w64, to_be_bytes, from_be_bytes}
+use Rattle.outside.specs.declared.limits.TheConstants.{MAX_JOURNAL, MAX_FRAME}
 use Rattle.outside.specs.Files.{Two, File, file_of, NothingPending}
 
 -- ---- the header
@@ -30,13 +31,13 @@ header_of format generation = 1 ∷ 66 ∷ 83 ∷ 80 ∷ 74 ∷ format ∷ to_be
 
 -- ---- frames
 
--- no frame reaches past this length of a file
+-- no frame reaches past the length of the longest journal
 abbrev pub most_bytes : ℕ
-most_bytes = 268435456
+most_bytes = MAX_JOURNAL
 
 -- a frame's payload has 1 to 65,536 bytes
 abbrev pub IsPayload : List ℕ → Type 0
-IsPayload payload = (1 ≤ length payload) × (length payload ≤ 65536)
+IsPayload payload = (1 ≤ length payload) × (length payload ≤ MAX_FRAME)
 
 -- a frame: an open gate, the payload's length, the payload
 abbrev pub frame_of : List ℕ → List ℕ
@@ -81,7 +82,7 @@ abbrev pub is_broken : List ℕ → ℕ → Bool
 is_broken bytes place =
     nat_lt (length bytes) (place + 5)
     || (size_at bytes place == 0)
-    || nat_lt 65536 (size_at bytes place)
+    || nat_lt MAX_FRAME (size_at bytes place)
     || nat_lt (length bytes) (place + 5 + size_at bytes place)
     || nat_lt most_bytes (place + 6 + size_at bytes place)
 

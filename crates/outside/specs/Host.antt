@@ -8,6 +8,8 @@ use Rattle.outside.specs.Faults.{Rose}
 use Rattle.outside.specs.Files.{Two, File, IsImage}
 use Rattle.outside.specs.Links.{Link, Links, got, idle, ended, HeardOn, nothing_heard, hear_reply, hear_failure, changed_at, with_sent, sent_of}
 use Rattle.outside.specs.Outside.{Outside, Moment}
+use Rattle.outside.specs.Disk.{Becomes}
+use Rattle.outside.specs.Planned.{AnswersAsPlanned, UsesReading}
 
 -- the count of one link does not fall and rose where its call failed, and no other count changes
 pub record LinkCause {T E : Type 0} (link : ℕ) (old new : ℕ → ℕ) (result : Result T E) : Type 0 where
@@ -27,6 +29,8 @@ MakesLink spec (Err _) old new = (new.dialled ≡ old.dialled) × (new.told ≡ 
 pub record Dials (spec : List ℕ) (result : Result ℕ Failed) (old new : Links) : Type 0 where
   pub made : MakesLink spec result old new
   pub same_readings : new.readings ≡ old.readings
+  pub same_planned : new.planned ≡ old.planned
+  pub same_upcoming : new.upcoming ≡ old.upcoming
   pub faults : LinkCause old.dialled old.faults new.faults result
 
 -- a nonce, or none
@@ -35,6 +39,8 @@ pub record AsksNonce (link : ℕ) (result : Result (List ℕ) Failed) (old new :
   pub same_told : new.told ≡ old.told
   pub same_heard : new.heard ≡ old.heard
   pub same_readings : new.readings ≡ old.readings
+  pub same_planned : new.planned ≡ old.planned
+  pub same_upcoming : new.upcoming ≡ old.upcoming
   pub faults : LinkCause link old.faults new.faults result
 
 -- what an answer adds to what was heard on a link, with this buffer
@@ -56,6 +62,8 @@ pub record Hears (link : ℕ) (answer : Heard) (buf : List ℕ) (old new : Links
   pub same_told : new.told ≡ old.told
   pub heard : new.heard ≡ option_map (changed_at link (hear answer buf)) old.heard
   pub same_readings : new.readings ≡ old.readings
+  pub planned : Becomes (AnswersAsPlanned link answer buf) old.planned new.planned
+  pub same_upcoming : new.upcoming ≡ old.upcoming
   pub later : old.faults link ≤ new.faults link
   pub others : (i : ℕ) → i ≢ link → new.faults i ≡ old.faults i
 
@@ -69,6 +77,8 @@ pub record Sends (link : ℕ) (bytes : List ℕ) (result : Result (Unit {0}) Fai
   pub sent : GoOut link bytes result old.told new.told
   pub same_heard : new.heard ≡ old.heard
   pub same_readings : new.readings ≡ old.readings
+  pub same_planned : new.planned ≡ old.planned
+  pub same_upcoming : new.upcoming ≡ old.upcoming
   pub faults : LinkCause link old.faults new.faults result
 
 -- a moment of a send: the files as a crash might have left them before it, and some front of the bytes sent
@@ -89,3 +99,5 @@ pub record ReadsClock (reading : ℕ) (old new : Links) : Type 0 where
   pub same_told : new.told ≡ old.told
   pub same_heard : new.heard ≡ old.heard
   pub readings : Grows reading old.readings new.readings
+  pub same_planned : new.planned ≡ old.planned
+  pub upcoming : Becomes (UsesReading reading) old.upcoming new.upcoming

@@ -2,11 +2,11 @@
 use Rattle.std.specs.Prelude.{◌≡◌, ℕ, zero, suc, ◌+◌, List, [], ◌∷◌, ◌++◌, length, map, Some, slice_index}
 use Rattle.std.proofs.Common.{refl, sym, ap, ◌∙◌, arith, length-append}
 use Rattle.outside.specs.Files.{Two}
-use Rattle.outside.specs.Links.{Links, Link, Answered, HeardOn, changed_at, with_sent, sent_of}
+use Rattle.outside.specs.Links.{Links, Link, Answered, HeardOn, Planned, changed_at, with_sent, sent_of}
 use Rattle.outside.specs.Outside.{Outside}
 use Rattle.outside.specs.MemDisk.{Change, wrote, wrote_not, cut, cut_not, synced, dialled, sent, answered, hosted, links_after, link_changed, answers_after, answers_changed}
 use Rattle.outside.specs.MemTold.{mem_told}
-use Rattle.outside.specs.MemHost.{MemHostValue, Readings, readings_told}
+use Rattle.outside.specs.MemHost.{MemHostValue, Readings, readings_told, upcoming_of, plans_of}
 
 -- the bytes sent on each link by these calls
 abbrev pub sent_by : List Change → List (List ℕ)
@@ -17,13 +17,15 @@ abbrev pub heard_on : List (List Answered) → (ℕ → ℕ) → List HeardOn
 heard_on [] failures = []
 heard_on (answers ∷ links) failures = record { answers = answers; failures = failures 0 } ∷ heard_on links (λ i. failures (suc i))
 
-abbrev pub links_told : List Change → List ℕ → List ℕ → Readings → Links
-links_told calls silences faults clock = record {
+abbrev pub links_told : List Change → List ℕ → List ℕ → Readings → List (List Planned) → Links
+links_told calls silences faults clock scripts = record {
   dialled = length (links_after [] calls);
   faults = λ i. slice_index faults i;
   told = Some (links_after [] calls);
   heard = Some (heard_on (answers_after [] calls) (λ i. slice_index silences i));
   readings = readings_told clock;
+  planned = Some (plans_of scripts);
+  upcoming = Some (upcoming_of clock);
 }
 
 -- ---- each link that was made is told
@@ -65,5 +67,5 @@ each_heard calls failures heard had =
 
 abbrev pub host_told : MemHostValue → Outside
 host_told host =
-    mem_told sent_by host.disk.start host.disk.calls (links_told host.disk.calls host.silences host.faults host.clock) host.disk.faults refl (each_told host.disk.calls)
+    mem_told sent_by host.disk.start host.disk.calls (links_told host.disk.calls host.silences host.faults host.clock host.scripts) host.disk.faults refl (each_told host.disk.calls)
     (each_heard host.disk.calls (λ i. slice_index host.silences i))

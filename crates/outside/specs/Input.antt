@@ -1,6 +1,7 @@
 -- What reading an input whole leaves, by its answer.
 use Rattle.std.specs.Prelude.{◌≡◌, ℕ, ◌≤◌, List, [], ◌∷◌, ◌++◌, length, Option, Result, Ok, Err}
 use Rattle.std.specs.Io.KnownBytes.{Consumes, IsAtEnd}
+use Rattle.outside.specs.Streams.{Stream}
 use Rattle.outside.specs.declared.input.InputFault.{InputFault}
 use Rattle.outside.specs.declared.input.InputFault.TheVariants.{Memory, ReadFault, TooMuch}
 
@@ -21,8 +22,8 @@ pub record ReadsPart (limit : ℕ) (old new : Option (List ℕ)) (to : List ℕ)
   pub consumed : Consumes old new to
   pub within : length to ≤ limit
 
-abbrev pub ReadsInput : ℕ → Option (List ℕ) → Option (List ℕ) → List ℕ → Result (Unit {0}) InputFault → Type 0
-ReadsInput limit old new to (Ok _) = ReadsAll limit old new to
-ReadsInput limit old new to (Err TooMuch) = ReadsTooMuch limit old new to
-ReadsInput limit old new to (Err ReadFault) = ReadsPart limit old new to
-ReadsInput limit old new to (Err Memory) = ReadsPart limit old new to
+abbrev pub ReadsInput : ℕ → (old new : Stream) → List ℕ → Result (Unit {0}) InputFault → Type 0
+ReadsInput limit old new to (Ok _) = ReadsAll limit old.bytes new.bytes to
+ReadsInput limit old new to (Err TooMuch) = ReadsTooMuch limit old.bytes new.bytes to
+ReadsInput limit old new to (Err ReadFault) = ReadsPart limit old.bytes new.bytes to
+ReadsInput limit old new to (Err Memory) = ReadsPart limit old.bytes new.bytes to

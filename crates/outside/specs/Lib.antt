@@ -1,8 +1,10 @@
 pub mod Faults
 pub mod Streams
+pub mod MemStreams
 pub mod Input
 pub mod Files
 pub mod Links
+pub mod Planned
 pub mod Outside
 pub mod Disk
 pub mod Host

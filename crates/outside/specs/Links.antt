@@ -39,14 +39,24 @@ hear_reply room reply heard = record { answers = heard.answers ++ record { failu
 abbrev pub hear_failure : HeardOn → HeardOn
 hear_failure heard = record heard { failures = one_more heard.failures }
 
+-- what a link is yet going to answer: bytes, nothing for now, the other side's end, or a failure
+pub data Planned : Type 0 where
+  piece : List ℕ → Planned
+  pause : Planned
+  close : Planned
+  failure : Planned
+
 -- How many links were made; the failures of each link's calls, those of the dial that was made while so many links
 -- stood included; and where they are told, each link's spec and sent bytes, what each heard, and the clock's readings.
+-- An object in memory tells also what each link, made or not, is yet going to answer, and the readings to come.
 pub record Links : Type 0 where
   pub dialled : ℕ
   pub faults : ℕ → ℕ
   pub told : Option (List Link)
   pub heard : Option (List HeardOn)
   pub readings : Option (List ℕ)
+  pub planned : Option (ℕ → List Planned)
+  pub upcoming : Option (List ℕ)
 
 -- the bytes sent so far on each link; none where they are not told
 abbrev pub sent_of : Option (List Link) → List (List ℕ)
@@ -59,4 +69,4 @@ with_sent link bytes links = changed_at link (λ l. record l { sent = l.sent ++ 
 
 -- what a disk without links tells
 abbrev pub no_links : Links
-no_links = record { dialled = 0; faults = λ _. 0; told = Some []; heard = Some []; readings = Some [] }
+no_links = record { dialled = 0; faults = λ _. 0; told = Some []; heard = Some []; readings = Some []; planned = None; upcoming = None }

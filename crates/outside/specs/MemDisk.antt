@@ -1,7 +1,9 @@
 -- A disk in memory as the list of all calls that changed it, from the two files at its begin on.
-use Rattle.std.specs.Prelude.{◌≡◌, ◌⊎◌, ℕ, ◌-◌, ◌≤◌, min, true, false, List, [], ◌∷◌, ◌++◌, length, take, replicate, map, Vec, Option, Result, MatchResult}
+use Rattle.std.specs.Prelude.{◌≡◌, ◌⊎◌, ℕ, ◌-◌, ◌≤◌, min, Bool, true, false, ◌||◌, nat_le, List, [], ◌∷◌, ◌++◌, length, take, replicate, map, Vec, Option, None, Some, Result, MatchResult}
 use Rattle.std.specs.Option.{option_to_list}
 use Rattle.std.specs.declared.alloc.Global.{Global}
+use Rattle.outside.specs.declared.due.Due.{Due}
+use Rattle.outside.specs.declared.due.Due.TheVariants as due
 use Rattle.outside.specs.declared.call.Call.{Call}
 use Rattle.outside.specs.declared.call.Call.TheVariants as code
 use Rattle.outside.specs.declared.reply.Reply.{Reply as KeptReply}
@@ -132,12 +134,13 @@ answers_after heard [] = heard
 answers_after heard (c ∷ calls) = answers_after (answers_changed heard c) calls
 
 -- A disk in memory: its files at the begin, what changed them since, how many calls of a disk were made, which are to
--- fail, how many failed, and how many of these for want of memory.
+-- fail, from which on all fail and leave no trace, how many failed, and how many of these for want of memory.
 pub record MemDiskValue : Type 0 where
   pub start : Two (List ℕ)
   pub calls : List Change
   pub made : ℕ
   pub failing : List ℕ
+  pub stop : Option ℕ
   pub faults : ℕ
   pub starved : ℕ
 
@@ -153,34 +156,61 @@ bytes_each vectors = map (λ v. v.items) vectors
 abbrev pub disk_files : MemDiskValue → Two Kept
 disk_files disk = kept_after (both_kept disk.start) disk.calls
 
+-- the call of this number is at or behind the one from which on all fail
+abbrev pub is_stopped : Option ℕ → ℕ → Bool
+is_stopped None call = false
+is_stopped (Some stop) call = nat_le stop call
+
+-- the next call of the disk is to fail
+abbrev pub fails_next : MemDiskValue → Bool
+fails_next disk = is_stopped disk.stop disk.made || is_listed disk.failing disk.made
+
+-- what is due at the next call
+abbrev pub IsDue : MemDiskValue → Due → Type 0
+IsDue disk due.Fine = fails_next disk ≡ false
+IsDue disk due.Failure = (is_stopped disk.stop disk.made ≡ false) × (is_listed disk.failing disk.made ≡ true) × (fails_next disk ≡ true)
+IsDue disk due.Stop = (is_stopped disk.stop disk.made ≡ true) × (fails_next disk ≡ true)
+
 -- what stays at every call of a disk, and that it counts
 pub record Counts (old new : MemDiskValue) : Type 0 where
   pub start : new.start ≡ old.start
   pub failing : new.failing ≡ old.failing
+  pub stop : new.stop ≡ old.stop
   pub made : new.made ≡ one_more old.made
 
 -- a call that is not to fail and was made, with this change
 pub record WasMade (fine : Option Change) (old new : MemDiskValue) : Type 0 where
-  pub unlisted : is_listed old.failing old.made ≡ false
+  pub not_due : fails_next old ≡ false
   pub calls : new.calls ≡ old.calls ++ option_to_list fine
   pub starved : new.starved ≡ old.starved
   pub faults : new.faults ≡ old.faults
 
 -- a call that failed as the list says, and stands among the changes as it does then
 pub record FailedAsListed (failed : Option Change) (old new : MemDiskValue) : Type 0 where
+  pub going : is_stopped old.stop old.made ≡ false
   pub listed : is_listed old.failing old.made ≡ true
   pub calls : new.calls ≡ old.calls ++ option_to_list failed
   pub starved : new.starved ≡ old.starved
 
+-- a call behind the stop
+pub record HasStopped (old new : MemDiskValue) : Type 0 where
+  pub stopped : is_stopped old.stop old.made ≡ true
+  pub starved : new.starved ≡ old.starved
+
 -- a call that found no memory
 pub record Starved (old new : MemDiskValue) : Type 0 where
-  pub calls : new.calls ≡ old.calls
+  pub going : is_stopped old.stop old.made ≡ false
   pub starved : new.starved ≡ one_more old.starved
+
+-- a call that stands not among the changes
+pub record LeftNoTrace (old new : MemDiskValue) : Type 0 where
+  pub calls : new.calls ≡ old.calls
+  pub cause : HasStopped old new ⊎ Starved old new
 
 pub record HasFailed (failed : Option Change) (old new : MemDiskValue) : Type 0 where
   pub faults : new.faults ≡ one_more old.faults
   pub later : old.faults ≤ new.faults
-  pub outcome : FailedAsListed failed old new ⊎ Starved old new
+  pub outcome : FailedAsListed failed old new ⊎ LeftNoTrace old new
 
 -- a call that makes the one change at Ok and the other at a failure
 pub record Makes {T E : Type 0} (fine failed : Option Change) (result : Result T E) (old new : MemDiskValue) : Type 0 where
@@ -189,4 +219,4 @@ pub record Makes {T E : Type 0} (fine failed : Option Change) (result : Result T
 
 -- a disk of which no call was made
 abbrev pub fresh : Two (List ℕ) → MemDiskValue
-fresh start = record { start = start; calls = []; made = 0; failing = []; faults = 0; starved = 0 }
+fresh start = record { start = start; calls = []; made = 0; failing = []; stop = None; faults = 0; starved = 0 }

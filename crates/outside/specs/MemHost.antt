@@ -1,13 +1,18 @@
 -- A host in memory: a disk whose list of calls has those on the links too, what each link is still to answer, the
 -- clock's readings, the nonces, and what is to fail.
-use Rattle.std.specs.Prelude.{◌≡◌, ◌≢◌, ◌⊎◌, ℕ, ◌+◌, ◌-◌, ◌/◌, ◌^◌, ◌≤◌, nat_lt, Bool, true, false, if◌then◌else◌, List, [], ◌∷◌, ◌++◌, length, take, replicate, map, Option, None, Some, Result, MatchResult, MatchOption, slice_index, slice_index_or, slice_set}
+use Rattle.std.specs.Prelude.{◌≡◌, ◌≢◌, ◌⊎◌, ℕ, ◌+◌, ◌-◌, ◌/◌, ◌^◌, ◌≤◌, nat_lt, Bool, true, false, if◌then◌else◌, List, [], ◌∷◌, ◌++◌, length, take, drop, replicate, map, Option, None, Some, Result, MatchResult, MatchOption, slice_index, slice_index_or, slice_set}
+use Rattle.outside.specs.declared.limits.TheConstants.{LINKS}
 use Rattle.outside.specs.declared.failed.Failed.{Failed}
 use Rattle.outside.specs.declared.host.Heard.{Heard}
-use Rattle.outside.specs.declared.host.Heard.TheVariants as heard
 use Rattle.outside.specs.Faults.{one_more, is_listed}
-use Rattle.outside.specs.Links.{Link, Reply, got, idle, ended}
-use Rattle.outside.specs.MemDisk.{Change, dialled, sent, answered, hosted, MemDiskValue, Makes, links_after, with_call}
-use Rattle.outside.specs.Script.{Planned, reply_to, script_after}
+use Rattle.outside.specs.Links.{Link, Reply, Planned}
+use Rattle.outside.specs.Planned.{reply_to, reply_in, UsesPlan, UsesReading}
+use Rattle.outside.specs.MemDisk.{Change, dialled, sent, answered, hosted, MemDiskValue, Makes, links_after, with_call, disk_files, files_of}
+use Rattle.outside.specs.MemImage.{Pictures}
+use Rattle.outside.specs.Files.{IsImage}
+use Rattle.outside.specs.Script.{planned_of}
+use Rattle.outside.specs.declared.answer.Answer.{Answer}
+use Rattle.outside.specs.declared.pick.Pick.{Pick}
 
 -- ---- the clock
 
@@ -31,6 +36,10 @@ readings_told clock = if nat_lt clock.made (2 ^ 64 - 1) then Some (first_reading
 -- the next reading
 abbrev pub next_reading : Readings → ℕ
 next_reading clock = if nat_lt clock.made (length clock.given) then slice_index clock.given clock.made else last_of clock.given
+
+-- the readings to come: those that were given and not made, or the last one again and again
+abbrev pub upcoming_of : Readings → List ℕ
+upcoming_of clock = if nat_lt clock.made (length clock.given) then drop clock.made clock.given else last_of clock.given ∷ []
 
 -- a reading more at the end; those that were made stay
 abbrev pub reading_added : ℕ → Readings → Readings
@@ -75,9 +84,9 @@ links_of disk = links_after [] disk.calls
 abbrev pub fresh_host : MemDiskValue → MemHostValue
 fresh_host disk = record {
   disk = with_call hosted disk;
-  scripts = replicate 8 [];
-  silences = replicate 8 0;
-  faults = replicate 8 0;
+  scripts = replicate LINKS [];
+  silences = replicate LINKS 0;
+  faults = replicate LINKS 0;
   clock = record { given = []; made = 0 };
   nonces = [];
   dials = record { failing = []; made = 0 };
@@ -89,14 +98,33 @@ fresh_host disk = record {
 abbrev pub script_of : ℕ → List (List Planned) → List Planned
 script_of link scripts = slice_index_or scripts link []
 
+abbrev pub plans_of : List (List Planned) → ℕ → List Planned
+plans_of scripts link = script_of link scripts
+
 abbrev pub with_script : ℕ → List Planned → List (List Planned) → List (List Planned)
 with_script link script scripts = slice_set scripts link script
+
+-- the next answer of a link with a buffer of so many bytes is left behind
+abbrev pub LeavesBehind : (link room : ℕ) → (old new : List (List Planned)) → Type 0
+LeavesBehind link room old new = (reply : Option Reply) → reply_to room (script_of link old) ≡ reply → UsesPlan link room reply (plans_of old) (plans_of new)
+
+-- a link is to answer one thing more, behind all else
+pub record PlansMore (link : ℕ) (answer : Answer) (old new : List (List Planned)) : Type 0 where
+  pub more : script_of link new ≡ script_of link old ++ planned_of answer
+  pub others : (i : ℕ) → i ≢ link → script_of i new ≡ script_of i old
+
+-- A host began anew over an image of its files: what was planned, heard, sent and read is gone.
+pub record Crashes (pick : Pick) (old new : MemHostValue) : Type 0 where
+  pub disk : MemDiskValue
+  pub pictured : Pictures pick (disk_files old.disk) disk
+  pub image : IsImage (files_of (disk_files old.disk)) disk.start
+  pub anew : new ≡ fresh_host disk
 
 -- what a host keeps of its links
 pub record IsWired (disk : MemDiskValue) (sent : List (List ℕ)) (scripts : List (List Planned)) : Type 0 where
   pub sent_is : sent ≡ map (λ link. link.sent) (links_of disk)
-  pub few : length sent ≤ 8
-  pub scripted : length scripts ≡ 8
+  pub few : length sent ≤ LINKS
+  pub scripted : length scripts ≡ LINKS
 
 -- ---- counts
 
@@ -162,16 +190,14 @@ MakesNonce link result old new = MatchResult result (λ nonce. NonceGiven nonce 
 
 -- a link gave this answer, as its script says
 pub record Replies (link room : ℕ) (reply : Reply) (old new : MemHostValue) : Type 0 where
-  pub planned : reply_to room (script_of link old.scripts) ≡ Some reply
-  pub scripts : new.scripts ≡ with_script link (script_after room (script_of link old.scripts)) old.scripts
+  pub plan : UsesPlan link room (Some reply) (plans_of old.scripts) (plans_of new.scripts)
   pub disk : new.disk ≡ with_call (answered link (record { failures = slice_index old.silences link; room = room; reply = reply })) old.disk
   pub silences : BeginsAgain link old.silences new.silences
   pub faults : new.faults ≡ old.faults
   pub starved : new.starved ≡ old.starved
 
 pub record FailureDue (link room : ℕ) (old new : MemHostValue) : Type 0 where
-  pub planned : reply_to room (script_of link old.scripts) ≡ None
-  pub scripts : new.scripts ≡ with_script link (script_after room (script_of link old.scripts)) old.scripts
+  pub plan : UsesPlan link room None (plans_of old.scripts) (plans_of new.scripts)
   pub disk : new.disk ≡ old.disk
   pub starved : new.starved ≡ old.starved
 
@@ -179,13 +205,6 @@ pub record NoReply (link room : ℕ) (old new : MemHostValue) : Type 0 where
   pub silences : Raises link old.silences new.silences
   pub faults : Raises link old.faults new.faults
   pub cause : FailureDue link room old new ⊎ FindsNone old new
-
--- an answer as a reply, by what was put into the buffer
-abbrev pub reply_in : Heard → List ℕ → Option Reply
-reply_in (heard.Got n) buf = Some (got (take n buf))
-reply_in heard.Idle buf = Some idle
-reply_in heard.End buf = Some ended
-reply_in heard.Failed buf = None
 
 -- a link answers as its script says, and fails exactly where that says so or there was no memory
 pub record MakesAnswer (link : ℕ) (answer : Heard) (buf : List ℕ) (old new : MemHostValue) : Type 0 where
@@ -216,4 +235,5 @@ pub record MakesSend (link : ℕ) (bytes : List ℕ) (result : Result (Unit {0})
 -- a reading of the clock
 pub record MakesReading (reading : ℕ) (old new : MemHostValue) : Type 0 where
   pub is_next : reading ≡ next_reading old.clock
+  pub upcoming : UsesReading reading (upcoming_of old.clock) (upcoming_of new.clock)
   pub rest : new ≡ record old { clock = record old.clock { made = one_more old.clock.made } }

@@ -1,20 +1,9 @@
 -- What a link in memory is still to answer.
-use Rattle.std.specs.Prelude.{◌≡◌, ℕ, ◌-◌, ◌<◌, ◌≤◌, List, [], ◌∷◌, ◌++◌, length, take, drop, Option, None, Some, All}
+use Rattle.std.specs.Prelude.{◌≡◌, ℕ, ◌-◌, ◌<◌, ◌≤◌, List, [], ◌∷◌, ◌++◌, length, drop, Option, None, Some, All}
 use Rattle.outside.specs.declared.answer.Answer.{Answer}
 use Rattle.outside.specs.declared.answer.Answer.TheVariants as code
-use Rattle.outside.specs.Links.{Reply, got, idle, ended}
-
--- bytes, nothing for now, the other side's end, or a failure
-pub data Planned : Type 0 where
-  piece : List ℕ → Planned
-  pause : Planned
-  close : Planned
-  failure : Planned
-
--- bytes as a part of a script: nothing where there are none
-abbrev pub pieces : List ℕ → List Planned
-pieces [] = []
-pieces (byte ∷ bytes) = piece (byte ∷ bytes) ∷ []
+use Rattle.outside.specs.Links.{Reply, got, idle, ended, Planned, pause, close, failure}
+use Rattle.outside.specs.Planned.{pieces}
 
 -- an answer as a script has it, of bytes those from a place on
 abbrev pub planned_from : ℕ → Answer → List Planned
@@ -34,23 +23,6 @@ plan (answer ∷ answers) = planned_of answer ++ plan answers
 abbrev pub plan_from : ℕ → List Answer → List Planned
 plan_from at [] = []
 plan_from at (answer ∷ answers) = planned_from at answer ++ plan answers
-
--- What a script answers to a buffer of so many bytes: a part of its bytes fills the buffer, or is their last. A script
--- that is used up answers the end. A failure is no reply.
-abbrev pub reply_to : ℕ → List Planned → Option Reply
-reply_to room [] = Some ended
-reply_to room (piece bytes ∷ rest) = Some (got (take room bytes))
-reply_to room (pause ∷ rest) = Some idle
-reply_to room (close ∷ rest) = Some ended
-reply_to room (failure ∷ rest) = None
-
--- what is left of it then
-abbrev pub script_after : ℕ → List Planned → List Planned
-script_after room [] = []
-script_after room (piece bytes ∷ rest) = pieces (drop room bytes) ++ rest
-script_after room (pause ∷ rest) = rest
-script_after room (close ∷ rest) = rest
-script_after room (failure ∷ rest) = rest
 
 -- bytes fit into the room that there is, and are some where there is room
 abbrev pub FitsIn : ℕ → Option Reply → Type 0

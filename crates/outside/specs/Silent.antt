@@ -9,7 +9,7 @@ not_told a told = cc
 
 -- links of which nothing but the counts is told
 abbrev pub silent_links : ℕ → List ℕ → Links
-silent_links dialled faults = record { dialled = dialled; faults = λ i. slice_index faults i; told = None; heard = None; readings = None }
+silent_links dialled faults = record { dialled = dialled; faults = λ i. slice_index faults i; told = None; heard = None; readings = None; planned = None; upcoming = None }
 
 -- an object that tells its failed disk calls, the number of its links, and the failures of each
 abbrev pub silent : ℕ → ℕ → List ℕ → Outside

@@ -1,23 +1,26 @@
--- Streams in memory, and what writes of a part append.
-use Rattle.std.specs.Prelude.{ℕ, List, take, Option}
+-- What sources and sinks tell, and what calls leave of them.
+use Rattle.std.specs.Prelude.{◌≡◌, ◌⊎◌, ℕ, List, ◌++◌, Option}
 use Rattle.std.specs.Io.KnownBytes.{Appends}
+use Rattle.outside.specs.Faults.{Rose}
 
--- a source in memory: its bytes left, the calls that are to fail, how many were made, how many failed
-pub record SourceValue : Type 0 where
-  pub left : List ℕ
-  pub failing : List ℕ
-  pub calls : ℕ
+-- A stream: the bytes left of a source, or those written to a sink, where they are told; and how often a call of it
+-- failed, a count that never falls and stands still at 2^64 - 1.
+pub record Stream : Type 0 where
+  pub bytes : Option (List ℕ)
   pub faults : ℕ
 
--- a sink in memory: its bytes, the calls that are to fail, how many were made, how many failed, and of these for want of memory
-pub record SinkValue : Type 0 where
-  pub bytes : List ℕ
-  pub failing : List ℕ
-  pub calls : ℕ
-  pub faults : ℕ
-  pub starved : ℕ
+-- nothing was read or written, and no call was made that failed
+pub record IsIdle (old new : Stream) : Type 0 where
+  pub same : new.bytes ≡ old.bytes
+  pub same_faults : new.faults ≡ old.faults
 
--- some front of the bytes was appended
-pub record AppendsPart (old new : Option (List ℕ)) (bytes : List ℕ) : Type 0 where
-  pub count : ℕ
-  pub appended : Appends old new (take count bytes)
+-- a sink got a front of the text
+pub record GetsFront (old new : Stream) (text : List ℕ) : Type 0 where
+  pub got : List ℕ
+  pub rest : List ℕ
+  pub front : text ≡ got ++ rest
+  pub appended : Appends old.bytes new.bytes got
+
+-- a sink got a front of the text, and the whole of it unless one of its calls failed
+abbrev pub Gets : (old new : Stream) → List ℕ → Type 0
+Gets old new text = GetsFront old new text × (Appends old.bytes new.bytes text ⊎ Rose old.faults new.faults)

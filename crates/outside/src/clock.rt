@@ -2,7 +2,8 @@
 ghost use Rattle.std.specs.Prelude.{◌≡◌, [], OnOk, OnErr};
 ghost use Rattle.outside.specs.Faults.{one_more};
 ghost use Rattle.outside.specs.MemHost.{Readings, last_of, next_reading, reading_added};
-ghost use Rattle.outside.specs.MemHost.{reading_set};
+ghost use Rattle.outside.specs.MemHost.{reading_set, upcoming_of};
+ghost use Rattle.outside.specs.Planned.{UsesReading};
 
 use std::alloc::{AllocError, Global};
 use std::marker::Model;
@@ -37,10 +38,12 @@ impl Clock {
     pub fn read(&mut self) -> u64
         ensures reading { result ≡ next_reading self.old }
         ensures counts { self.new ≡ record self.old { made = one_more self.old.made } }
+        ensures upcoming { UsesReading result (upcoming_of self.old) (upcoming_of self.new) }
     {
         let place = self.made;
+        let reading = reading_at(&self.given, place);
         self.made = place.saturating_add(1);
-        reading_at(&self.given, place)
+        reading
     }
 
     /// Gives a reading more, behind those that were given and those that were made.

@@ -3,12 +3,11 @@ ghost use Rattle.std.specs.Prelude.{◌≡◌, ◌≢◌, ℕ, ◌<◌, ◌≤�
 ghost use Rattle.outside.specs.Faults.{Rose};
 ghost use Rattle.outside.specs.MemHost.{Raises};
 
-/// How many links a host makes at most.
-pub const LINKS: usize = 8;
+use crate::LINKS;
 
 /// Raises the count of this link; it stands still at 2^64 - 1.
 pub fn raise_at(faults: &mut [u64; LINKS], link: usize)
-    requires { link < 8 }
+    requires { link < LINKS }
     ensures later { slice_index faults.old link ≤ slice_index faults.new link }
     ensures rose { Rose (slice_index faults.old link) (slice_index faults.new link) }
     ensures raises { Raises link faults.old faults.new }

@@ -41,6 +41,20 @@ impl Failing {
         Ok(())
     }
 
+    /// No call from now on is to fail.
+    pub fn clear(&mut self)
+        ensures { self.new ≡ record self.old { failing = [] } }
+    {
+        self.failing.clear();
+    }
+
+    /// How many calls were made; it stands still at 2^64 - 1.
+    pub fn made(&self) -> u64
+        ensures { result ≡ self.now.made }
+    {
+        self.made
+    }
+
     /// Counts a call, and says whether it is to fail. The count stands still at 2^64 - 1.
     pub fn next(&mut self) -> bool
         ensures due { result ≡ is_due self.old }

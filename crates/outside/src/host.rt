@@ -4,7 +4,7 @@ ghost use Rattle.outside.specs.Outside.{LinkCall, QuietCall};
 ghost use Rattle.outside.specs.Host.{Dials, AsksNonce, Hears, IsCaused, Sends, SendsPart};
 ghost use Rattle.outside.specs.Host.{ReadsClock};
 
-use crate::{Disk, Failed};
+use crate::{Disk, Failed, LINKS};
 
 /// What a link answered.
 #[derive(Clone, Copy, Debug, PartialEq, Eq)]
@@ -22,9 +22,9 @@ pub enum Heard {
 /// A disk, links and a clock, with one time for all. Links are numbered from 0 in the order of the
 /// dials that succeeded. The clock need not rise.
 pub trait Host: Disk {
-    /// Makes a link, the next number, of fewer than eight before.
+    /// Makes a link, the next number, of fewer than `LINKS` before.
     fn dial(&mut self, spec: &str) -> Result<u8, Failed>
-        requires { (Self.tells self.old).links.dialled < 8 }
+        requires { (Self.tells self.old).links.dialled < LINKS }
         ensures call { QuietCall (Self.tells self.old) (Self.tells self.new) }
         ensures links { Dials spec.now result (Self.tells self.old).links
             (Self.tells self.new).links };

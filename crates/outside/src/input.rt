@@ -45,10 +45,11 @@ impl<T: Drop> From<AllocFailed<T>> for InputFault {
 pub fn read_input<S: Source>(input: &mut S, limit: u64, to: &mut Vec<u8>) -> Result<(), InputFault>
     requires empty { to.old.items ≡ [] }
     requires limit { limit < 2 ^ 32 }
-    ensures reads { ReadsInput limit (S.left input.old) (S.left input.new) to.new.items result }
-    ensures later { S.source_faults input.old ≤ S.source_faults input.new }
+    ensures reads { ReadsInput limit (S.tells input.old) (S.tells input.new) to.new.items
+        result }
+    ensures later { (S.tells input.old).faults ≤ (S.tells input.new).faults }
     ensures fault { IsErrOf result InputFault.ReadFault
-        → Rose (S.source_faults input.old) (S.source_faults input.new) }
+        → Rose (S.tells input.old).faults (S.tells input.new).faults }
 {
     let most = limit as usize;
     'pieces: loop {
@@ -78,9 +79,9 @@ fn read_behind<S: Source>(input: &mut S, to: &mut Vec<u8>, from: usize) -> Resul
     ensures len { vec_len to.new ≡ vec_len to.old }
     ensures front { take from to.new.items ≡ take from to.old.items }
     ensures bound { IfOk result (λ n. n ≤ vec_len to.old - from) }
-    ensures bytes { ReadConsumes (S.left input.old) (S.left input.new) result
+    ensures bytes { ReadConsumes (S.tells input.old).bytes (S.tells input.new).bytes result
         (drop from to.new.items) }
-    ensures cause { HasCause (S.source_faults input.old) (S.source_faults input.new) result }
+    ensures cause { HasCause (S.tells input.old).faults (S.tells input.new).faults result }
 {
     input.read(&mut to.as_mut_slice()[from..])
 }

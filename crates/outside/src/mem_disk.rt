@@ -1,15 +1,20 @@
 //! A disk in memory.
 ghost use Rattle.std.specs.Prelude.{◌≡◌, ◌<◌, ◌≤◌, [], ◌++◌, ◌∷◌, None, Some, length, take};
-ghost use Rattle.std.specs.Prelude.{vec_len, vec_capacity, IfOk, OnOk, OnErr, if◌then◌else◌};
-ghost use Rattle.outside.specs.Faults.{is_listed, one_more};
+ghost use Rattle.std.specs.Prelude.{vec_len, vec_capacity, is_err, IfOk, OnOk, OnErr};
+ghost use Rattle.std.specs.Prelude.{if◌then◌else◌};
+ghost use Rattle.std.specs.Option.{ForSome};
+ghost use Rattle.outside.specs.Faults.{HasCause, one_more};
 ghost use Rattle.outside.specs.Files.{file_of, with_file, IsImage};
-ghost use Rattle.outside.specs.Disk.{Reads, overwritten};
+ghost use Rattle.outside.specs.Outside.{DiskCall};
+ghost use Rattle.outside.specs.Disk.{Becomes, Reads, Writes, Cuts, Syncs, overwritten};
 ghost use Rattle.outside.specs.MemDisk.{two_of, fresh, disk_files, files_of, bytes_of, wrote};
 ghost use Rattle.outside.specs.MemDisk.{wrote_not, cut, cut_not, synced, dialled};
 ghost use Rattle.outside.specs.MemDisk.{sent as bytes_sent, answered, hosted, reply_of, with_call};
-ghost use Rattle.outside.specs.MemDisk.{bytes_each, Makes};
+ghost use Rattle.outside.specs.MemDisk.{bytes_each, fails_next, Makes};
 ghost use Rattle.outside.specs.MemImage.{Pictures};
 
+use crate::due::Due;
+use crate::failing::Failing;
 use crate::image::image_of;
 use crate::{Call, Disk, Failed, Pick, Reply};
 use std::alloc::{AllocError, Global};
@@ -24,8 +29,8 @@ pub struct MemDisk {
     file0: Vec<u8>,
     file1: Vec<u8>,
     calls: Vec<Call>,
-    made: u64,
-    failing: Vec<u64>,
+    failing: Failing,
+    stop: Option<u64>,
     faults: u64,
     starved: u64,
 }
@@ -39,13 +44,12 @@ impl Model for MemDisk {
 
     ghost view = { λ d. record {
       start = two_of d.start0.items d.start1.items;
-      calls = map change_of
-          d.calls.items;
-      made = d.made;
-      failing = d.failing.items;
+      calls = map change_of d.calls.items;
+      made = d.failing.made;
+      failing = d.failing.failing;
+      stop = d.stop;
       faults = d.faults;
-      starved =
-          d.starved;
+      starved = d.starved;
     } };
 
     ghost invariant = { λ d. bytes_of (kept_after (both_kept (two_of d.start0.items d.start1.items))
@@ -64,8 +68,8 @@ impl MemDisk {
             file0,
             file1,
             calls: Vec::new(alloc),
-            made: 0,
-            failing: Vec::new(alloc),
+            failing: Failing::new(alloc),
+            stop: None,
             faults: 0,
             starved: 0,
         })
@@ -77,28 +81,36 @@ impl MemDisk {
             (self.new ≡ record self.old { failing = self.old.failing ++ call ∷ [] }) }
         ensures err { OnErr result (self.new ≡ self.old) }
     {
-        self.failing.push(call)?;
-        Ok(())
+        self.failing.add(call)
+    }
+
+    /// From the call of this number on, counted from 0 over all calls made, every call fails and
+    /// leaves no trace: a crash then leaves what it might have left before that call.
+    pub fn stop_at(&mut self, call: u64)
+        ensures { self.new ≡ record self.old { stop = Some call } }
+    {
+        self.stop = Some(call);
     }
 
     /// No call from now on is to fail.
     pub fn fail_none(&mut self)
-        ensures { self.new ≡ record self.old { failing = [] } }
+        ensures { self.new ≡ record self.old { failing = []; stop = None } }
     {
         self.failing.clear();
+        self.stop = None;
     }
 
     /// How many calls of a disk were made; it stands still at 2^64 - 1.
     pub fn calls(&self) -> u64
         ensures { result ≡ self.now.made }
     {
-        self.made
+        self.failing.made()
     }
 
     /// The bytes of file 0 or 1 as a read gives them.
     pub fn file(&self, file: u8) -> &[u8]
         requires { file < 2 }
-        ensures { result.now ≡ file_of (bytes_of (disk_files self.now)) file }
+        ensures { result.now ≡ (file_of (files_of (disk_files self.now)) file).now }
     {
         if file == 0 { &self.file0 } else { &self.file1 }
     }
@@ -121,119 +133,126 @@ impl MemDisk {
     }
 }
 
-// The calls of a disk, as the trait and a host over this disk make them.
+// The calls of a disk.
 impl MemDisk {
-    // Counts a call, and says whether it is to fail.
-    fn count(&mut self) -> bool
-        ensures fails { result ≡ is_listed self.old.failing self.old.made }
+    ghost use Rattle.outside.specs.MemDisk.{IsDue};
+
+    // Counts a call, and says what is due at it.
+    fn due(&mut self) -> Due
+        ensures due { IsDue self.old result }
         ensures counts { self.new ≡ record self.old { made = one_more self.old.made } }
     {
-        let call = self.made;
-        self.made = call.saturating_add(1);
-        self.failing.contains(&call)
+        let made = self.failing.made();
+        let stopped = self.stop.is_some_and(|stop| stop <= made);
+        let listed = self.failing.next();
+        if stopped {
+            Due::Stop
+        } else if listed {
+            Due::Failure
+        } else {
+            Due::Fine
+        }
     }
 
     // Counts a failure.
-    fn fail(&mut self)
+    fn fail(&mut self) -> Failed
         ensures faults { self.new ≡ record self.old { faults = one_more self.old.faults } }
         ensures later { self.old.faults ≤ self.new.faults }
     {
         self.faults = self.faults.saturating_add(1);
+        Failed
     }
 
     // Counts a failure for want of memory.
-    fn starve(&mut self)
+    fn starve(&mut self) -> Failed
         ensures faults { self.new ≡ record self.old {
           faults = one_more self.old.faults;
-          starved =
-              one_more self.old.starved;
+          starved = one_more self.old.starved;
         } }
         ensures later { self.old.faults ≤ self.new.faults }
     {
         self.faults = self.faults.saturating_add(1);
         self.starved = self.starved.saturating_add(1);
+        Failed
     }
 
-    pub fn make_len(&mut self, file: u8) -> Result<u64, Failed>
+    fn make_len(&mut self, file: u8) -> Result<u64, Failed>
         requires { file < 2 }
         ensures makes { Makes None None result self.old self.new }
+        ensures fails { is_err result ≡ fails_next self.old }
         ensures value { IfOk result
-            (λ n. n ≡ length (file_of (bytes_of (disk_files self.old)) file)) }
+            (λ n. n ≡ length (file_of (files_of (disk_files self.old)) file).now) }
     {
-        if self.count() {
-            self.fail();
-            return Err(Failed);
+        match self.due() {
+            Due::Fine => Ok(self.file(file).len() as u64),
+            Due::Failure => Err(self.fail()),
+            Due::Stop => Err(self.fail()),
         }
-        Ok(self.file(file).len() as u64)
     }
 
-    pub fn make_read(&mut self, file: u8, at: u64, buf: &mut [u8]) -> Result<usize, Failed>
+    fn make_read(&mut self, file: u8, at: u64, buf: &mut [u8]) -> Result<usize, Failed>
         requires { file < 2 }
         ensures makes { Makes None None result self.old self.new }
+        ensures fails { is_err result ≡ fails_next self.old }
         ensures bound { IfOk result (λ n. n ≤ length buf.new) }
-        ensures bytes { IfOk result (λ n. Reads (file_of (bytes_of (disk_files self.old)) file) at
-            buf.new n) }
+        ensures bytes { IfOk result
+            (λ n. Reads (file_of (files_of (disk_files self.old)) file).now at buf.new n) }
     {
-        if self.count() {
-            self.fail();
-            return Err(Failed);
+        match self.due() {
+            Due::Fine => Ok(read_from(self.file(file), at as usize, buf)),
+            Due::Failure => Err(self.fail()),
+            Due::Stop => Err(self.fail()),
         }
-        Ok(read_from(self.file(file), at as usize, buf))
     }
 
-    pub fn make_write(&mut self, file: u8, at: u64, bytes: &[u8]) -> Result<(), Failed>
+    fn make_write(&mut self, file: u8, at: u64, bytes: &[u8]) -> Result<(), Failed>
         requires file { file < 2 }
         requires place { at ≤ length (file_of (bytes_of (disk_files self.old)) file) }
         ensures makes { Makes (Some (wrote file at bytes.now)) (Some (wrote_not file at bytes.now))
             result self.old self.new }
     {
-        let fails = self.count();
-        match self.keep_write(file, at, bytes, fails) {
-            Ok(()) if fails => {
-                self.fail();
-                Err(Failed)
-            }
-            Ok(()) => Ok(()),
-            Err(_) => {
-                self.starve();
-                Err(Failed)
-            }
+        match self.due() {
+            Due::Fine => match self.keep_write(file, at, bytes, false) {
+                Ok(()) => Ok(()),
+                Err(_) => Err(self.starve()),
+            },
+            Due::Failure => match self.keep_write(file, at, bytes, true) {
+                Ok(()) => Err(self.fail()),
+                Err(_) => Err(self.starve()),
+            },
+            Due::Stop => Err(self.fail()),
         }
     }
 
-    pub fn make_cut(&mut self, file: u8, len: u64) -> Result<(), Failed>
+    fn make_cut(&mut self, file: u8, len: u64) -> Result<(), Failed>
         requires { file < 2 }
         ensures makes { Makes (Some (cut file len)) (Some (cut_not file len)) result self.old
             self.new }
     {
-        let fails = self.count();
-        match self.keep_cut(file, len, fails) {
-            Ok(()) if fails => {
-                self.fail();
-                Err(Failed)
-            }
-            Ok(()) => Ok(()),
-            Err(_) => {
-                self.starve();
-                Err(Failed)
-            }
+        match self.due() {
+            Due::Fine => match self.keep_cut(file, len, false) {
+                Ok(()) => Ok(()),
+                Err(_) => Err(self.starve()),
+            },
+            Due::Failure => match self.keep_cut(file, len, true) {
+                Ok(()) => Err(self.fail()),
+                Err(_) => Err(self.starve()),
+            },
+            Due::Stop => Err(self.fail()),
         }
     }
 
-    pub fn make_sync(&mut self, file: u8) -> Result<(), Failed>
+    fn make_sync(&mut self, file: u8) -> Result<(), Failed>
         requires { file < 2 }
         ensures makes { Makes (Some (synced file)) None result self.old self.new }
     {
-        if self.count() {
-            self.fail();
-            return Err(Failed);
-        }
-        match self.keep_sync(file) {
-            Ok(()) => Ok(()),
-            Err(_) => {
-                self.starve();
-                Err(Failed)
-            }
+        match self.due() {
+            Due::Fine => match self.keep_sync(file) {
+                Ok(()) => Ok(()),
+                Err(_) => Err(self.starve()),
+            },
+            Due::Failure => Err(self.fail()),
+            Due::Stop => Err(self.fail()),
         }
     }
 
@@ -242,10 +261,9 @@ impl MemDisk {
         requires file { file < 2 }
         requires place { at ≤ length (file_of (bytes_of (disk_files self.old)) file) }
         ensures ok { OnOk result
-            (self.new ≡ record
-            self.old {
-              calls = self.old.calls ++ (if fails then wrote_not file at bytes.now else
-                  wrote file at bytes.now) ∷ [];
+            (self.new ≡ record self.old {
+              calls = self.old.calls
+                  ++ (if fails then wrote_not file at bytes.now else wrote file at bytes.now) ∷ [];
             }) }
         ensures err { OnErr result (self.new ≡ self.old) }
     {
@@ -264,10 +282,8 @@ impl MemDisk {
     fn keep_cut(&mut self, file: u8, len: u64, fails: bool) -> Result<(), AllocError>
         requires { file < 2 }
         ensures ok { OnOk result
-            (self.new ≡ record
-            self.old {
-              calls = self.old.calls ++ (if fails then cut_not file len else cut file len)
-                  ∷ [];
+            (self.new ≡ record self.old {
+              calls = self.old.calls ++ (if fails then cut_not file len else cut file len) ∷ [];
             }) }
         ensures err { OnErr result (self.new ≡ self.old) }
     {
@@ -434,23 +450,80 @@ impl Disk for MemDisk {
 
     ghost tells = { disk_told };
 
-    fn len(&mut self, file: u8) -> Result<u64, Failed> {
+    fn len(&mut self, file: u8) -> Result<u64, Failed>
+        requires { file < 2 }
+        ensures call { DiskCall (disk_told self.old) (disk_told self.new) }
+        ensures cause { HasCause self.old.faults self.new.faults result }
+        ensures same { (disk_told self.new).files ≡ (disk_told self.old).files }
+        ensures length { IfOk result
+            (λ n. ForSome (disk_told self.old).files (λ two. n ≡ length (file_of two file).now)) }
+
+        // It fails exactly where the list or the stop says so.
+        ensures fails { is_err result ≡ fails_next self.old }
+        ensures makes { Makes None None result self.old self.new }
+    {
         self.make_len(file)
     }
 
-    fn read_at(&mut self, file: u8, at: u64, buf: &mut [u8]) -> Result<usize, Failed> {
+    fn read_at(&mut self, file: u8, at: u64, buf: &mut [u8]) -> Result<usize, Failed>
+        requires { file < 2 }
+        ensures call { DiskCall (disk_told self.old) (disk_told self.new) }
+        ensures cause { HasCause self.old.faults self.new.faults result }
+        ensures same { (disk_told self.new).files ≡ (disk_told self.old).files }
+        ensures bound { IfOk result (λ n. n ≤ length buf.new) }
+        ensures bytes { IfOk result
+            (λ n. ForSome (disk_told self.old).files
+            (λ two. Reads (file_of two file).now at buf.new n)) }
+
+        // It fails exactly where the list or the stop says so.
+        ensures fails { is_err result ≡ fails_next self.old }
+        ensures makes { Makes None None result self.old self.new }
+    {
         self.make_read(file, at, buf)
     }
 
-    fn write_at(&mut self, file: u8, at: u64, bytes: &[u8]) -> Result<(), Failed> {
+    fn write_at(&mut self, file: u8, at: u64, bytes: &[u8]) -> Result<(), Failed>
+        requires file { file < 2 }
+        requires place { ForSome (disk_told self.old).files
+            (λ two. at ≤ length (file_of two file).now) }
+        ensures call { DiskCall (disk_told self.old) (disk_told self.new) }
+        ensures cause { HasCause self.old.faults self.new.faults result }
+        ensures written { Becomes (Writes file at bytes.now result) (disk_told self.old).files
+            (disk_told self.new).files }
+
+        // It fails exactly where the list or the stop says so, or there was no memory.
+        ensures makes { Makes (Some (wrote file at bytes.now)) (Some (wrote_not file at bytes.now))
+            result self.old self.new }
+    {
         self.make_write(file, at, bytes)
     }
 
-    fn cut(&mut self, file: u8, len: u64) -> Result<(), Failed> {
+    fn cut(&mut self, file: u8, len: u64) -> Result<(), Failed>
+        requires file { file < 2 }
+        requires length { ForSome (disk_told self.old).files
+            (λ two. len ≤ length (file_of two file).now) }
+        ensures call { DiskCall (disk_told self.old) (disk_told self.new) }
+        ensures cause { HasCause self.old.faults self.new.faults result }
+        ensures cut { Becomes (Cuts file len result) (disk_told self.old).files
+            (disk_told self.new).files }
+
+        // It fails exactly where the list or the stop says so, or there was no memory.
+        ensures makes { Makes (Some (cut file len)) (Some (cut_not file len)) result self.old
+            self.new }
+    {
         self.make_cut(file, len)
     }
 
-    fn sync(&mut self, file: u8) -> Result<(), Failed> {
+    fn sync(&mut self, file: u8) -> Result<(), Failed>
+        requires { file < 2 }
+        ensures call { DiskCall (disk_told self.old) (disk_told self.new) }
+        ensures cause { HasCause self.old.faults self.new.faults result }
+        ensures synced { Becomes (Syncs file result) (disk_told self.old).files
+            (disk_told self.new).files }
+
+        // It fails exactly where the list or the stop says so, or there was no memory.
+        ensures makes { Makes (Some (synced file)) None result self.old self.new }
+    {
         self.make_sync(file)
     }
 }

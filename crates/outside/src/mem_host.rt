@@ -1,25 +1,29 @@
 //! A host in memory.
 ghost use Rattle.std.specs.Prelude.{◌≡◌, ℕ, ◌<◌, ◌≤◌, ◌/◌, [], ◌∷◌, ◌++◌, None, Some, length, take};
 ghost use Rattle.std.specs.Prelude.{replicate, slice_index, slice_index_or, IfOk, OnOk, OnErr};
-ghost use Rattle.std.specs.Prelude.{if◌then◌else◌};
-ghost use Rattle.std.specs.Option.{option_map};
+ghost use Rattle.std.specs.Prelude.{if◌then◌else◌, is_err, vec_len};
+ghost use Rattle.std.specs.Option.{option_map, ForSome};
+ghost use Rattle.outside.specs.Faults.{HasCause, one_more};
 ghost use Rattle.outside.specs.Files.{file_of};
 ghost use Rattle.outside.specs.Links.{Link, sent_of};
-ghost use Rattle.outside.specs.Disk.{Reads};
-ghost use Rattle.outside.specs.Host.{IsCaused};
-ghost use Rattle.outside.specs.MemDisk.{disk_files, bytes_of, wrote, wrote_not, cut, cut_not};
-ghost use Rattle.outside.specs.MemDisk.{synced, dialled, sent as bytes_sent, reply_of, with_call};
-ghost use Rattle.outside.specs.Script.{planned_of, reply_to, FitsIn};
+ghost use Rattle.outside.specs.Outside.{DiskCall, LinkCall, QuietCall};
+ghost use Rattle.outside.specs.Disk.{Becomes, Reads, Writes, Cuts, Syncs};
+ghost use Rattle.outside.specs.Host.{Dials, AsksNonce, Hears, IsCaused, Sends, SendsPart};
+ghost use Rattle.outside.specs.Host.{ReadsClock};
+ghost use Rattle.outside.specs.Planned.{reply_to, reply_in};
+ghost use Rattle.outside.specs.MemDisk.{fails_next, wrote, wrote_not, cut, cut_not, synced};
+ghost use Rattle.outside.specs.MemDisk.{dialled, sent as bytes_sent, reply_of, with_call};
+ghost use Rattle.outside.specs.Script.{planned_of, FitsIn};
 ghost use Rattle.outside.specs.MemHost.{fresh_host, links_of, script_of, with_script};
-ghost use Rattle.outside.specs.MemHost.{reading_added, reading_set, reply_in, OnDisk, MakesDial};
-ghost use Rattle.outside.specs.MemHost.{MakesNonce, MakesAnswer, MakesSend, MakesReading, Raises};
-ghost use Rattle.outside.specs.Faults.{one_more};
+ghost use Rattle.outside.specs.MemHost.{PlansMore, LeavesBehind, Crashes, reading_added};
+ghost use Rattle.outside.specs.MemHost.{reading_set, upcoming_of, OnDisk, MakesDial, MakesNonce};
+ghost use Rattle.outside.specs.MemHost.{MakesAnswer, MakesSend, MakesReading, Raises};
 
 use crate::clock::Clock;
-use crate::counts::{LINKS, raise_at};
+use crate::counts::raise_at;
 use crate::failing::Failing;
 use crate::script::Script;
-use crate::{Answer, Disk, Failed, Heard, Host, MemDisk, Reply};
+use crate::{Answer, Disk, Failed, Heard, Host, LINKS, MemDisk, Pick, Reply};
 use std::alloc::{AllocError, Global};
 use std::collections::VecDeque;
 use std::marker::Model;
@@ -56,8 +60,7 @@ impl Model for MemHost {
       clock = h.clock;
       nonces = h.nonces.items;
       dials = h.dials;
-      sends =
-          h.sends;
+      sends = h.sends;
       starved = h.starved;
     } };
 
@@ -88,37 +91,76 @@ impl MemHost {
         })
     }
 
+    /// Begins anew over the same files, as a program that is started again: links, scripts,
+    /// readings, nonces and what was heard are gone; the calls of the disk, and which of them are to
+    /// fail, stay.
+    pub fn restart(&mut self) -> Result<(), AllocError>
+        ensures ok { OnOk result (self.new ≡ fresh_host self.old.disk) }
+        ensures no_links { OnOk result (links_of self.new.disk ≡ []) }
+        ensures err { OnErr result (self.new ≡ self.old) }
+    {
+        let scripts = no_scripts(self.alloc)?;
+        self.disk.keep_hosted()?;
+        self.sent = Vec::new(self.alloc);
+        self.scripts = scripts;
+        self.silences = [0; LINKS];
+        self.faults = [0; LINKS];
+        self.clock = Clock::new(self.alloc);
+        self.nonces = VecDeque::new(self.alloc);
+        self.dials = Failing::new(self.alloc);
+        self.sends = Failing::new(self.alloc);
+        self.starved = 0;
+        Ok(())
+    }
+
+    /// Begins anew over one of the images that a crash now may leave, of which no call was made.
+    pub fn crash(&mut self, pick: Pick) -> Result<(), AllocError>
+        ensures ok { OnOk result (Crashes pick self.old self.new) }
+        ensures no_links { OnOk result (links_of self.new.disk ≡ []) }
+        ensures err { OnErr result (self.new ≡ self.old) }
+    {
+        let disk = self.disk.image(pick)?;
+        *self = MemHost::new(self.alloc, disk)?;
+        Ok(())
+    }
+
     /// The call of its disk of this number, counted from 0 over all calls made of a disk, is to
     /// fail.
     pub fn fail_at(&mut self, call: u64) -> Result<(), AllocError>
         ensures ok { OnOk result
-            (self.new ≡ record
-            self.old {
-              disk = record self.old.disk {
-                failing = self.old.disk.failing ++ call
-                    ∷ [];
-              };
+            (self.new ≡ record self.old {
+              disk = record self.old.disk { failing = self.old.disk.failing ++ call ∷ [] };
             }) }
         ensures err { OnErr result (self.new ≡ self.old) }
     {
         self.disk.fail_at(call)
     }
 
+    /// From the call of its disk of this number on every call of its disk fails and leaves no trace.
+    pub fn stop_at(&mut self, call: u64)
+        ensures { self.new ≡ record self.old { disk = record self.old.disk { stop = Some call } } }
+    {
+        self.disk.stop_at(call);
+    }
+
     /// No call of its disk from now on is to fail.
     pub fn fail_none(&mut self)
-        ensures { self.new ≡ record self.old { disk = record self.old.disk { failing = [] } } }
+        ensures { self.new ≡ record self.old {
+          disk = record self.old.disk { failing = []; stop = None };
+        } }
     {
         self.disk.fail_none();
     }
 
     /// Adds an answer to the script of a link, made or not. Empty bytes are left out.
     pub fn script(&mut self, link: u8, answer: Answer) -> Result<(), AllocError>
-        requires { link < 8 }
+        requires { link < LINKS }
         ensures ok { OnOk result
             (self.new ≡ record self.old {
               scripts = with_script link
                   (script_of link self.old.scripts ++ planned_of answer) self.old.scripts;
             }) }
+        ensures planned { OnOk result (PlansMore link answer self.old.scripts self.new.scripts) }
         ensures err { OnErr result (self.new ≡ self.old) }
     {
         let script = &mut self.scripts[link as usize];
@@ -139,6 +181,7 @@ impl MemHost {
     pub fn set_clock(&mut self, at: u64) -> Result<(), AllocError>
         ensures ok { OnOk result
             (self.new ≡ record self.old { clock = reading_set at self.old.clock }) }
+        ensures upcoming { OnOk result (upcoming_of self.new.clock ≡ at ∷ []) }
         ensures err { OnErr result (self.new ≡ self.old) }
     {
         self.clock.set(at)
@@ -157,12 +200,8 @@ impl MemHost {
     /// The dial of this number, counted from 0, is to fail.
     pub fn fail_dial(&mut self, k: u8) -> Result<(), AllocError>
         ensures ok { OnOk result
-            (self.new ≡ record
-            self.old {
-              dials = record self.old.dials {
-                failing = self.old.dials.failing ++ k
-                    ∷ [];
-              };
+            (self.new ≡ record self.old {
+              dials = record self.old.dials { failing = self.old.dials.failing ++ k ∷ [] };
             }) }
         ensures err { OnErr result (self.new ≡ self.old) }
     {
@@ -173,12 +212,8 @@ impl MemHost {
     /// bytes goes out then.
     pub fn fail_send(&mut self, k: u64) -> Result<(), AllocError>
         ensures ok { OnOk result
-            (self.new ≡ record
-            self.old {
-              sends = record self.old.sends {
-                failing = self.old.sends.failing ++ k
-                    ∷ [];
-              };
+            (self.new ≡ record self.old {
+              sends = record self.old.sends { failing = self.old.sends.failing ++ k ∷ [] };
             }) }
         ensures err { OnErr result (self.new ≡ self.old) }
     {
@@ -219,7 +254,7 @@ impl MemHost {
 
 // Eight scripts that are used up.
 fn no_scripts(alloc: Global) -> Result<Vec<Script>, AllocError>
-    ensures { IfOk result (λ v. v.items ≡ replicate 8 []) }
+    ensures { IfOk result (λ v. v.items ≡ replicate LINKS []) }
 {
     let mut scripts = Vec::new(alloc);
     for i in 0..LINKS {
@@ -228,56 +263,10 @@ fn no_scripts(alloc: Global) -> Result<Vec<Script>, AllocError>
     Ok(scripts)
 }
 
-// The calls on its disk, as the trait makes them.
-impl MemHost {
-    pub fn make_len(&mut self, file: u8) -> Result<u64, Failed>
-        requires { file < 2 }
-        ensures makes { OnDisk None None result self.old self.new }
-        ensures value { IfOk result
-            (λ n. n ≡ length (file_of (bytes_of (disk_files self.old.disk)) file)) }
-    {
-        self.disk.make_len(file)
-    }
-
-    pub fn make_read(&mut self, file: u8, at: u64, buf: &mut [u8]) -> Result<usize, Failed>
-        requires { file < 2 }
-        ensures makes { OnDisk None None result self.old self.new }
-        ensures bound { IfOk result (λ n. n ≤ length buf.new) }
-        ensures bytes { IfOk result (λ n. Reads (file_of (bytes_of (disk_files self.old.disk)) file)
-            at buf.new n) }
-    {
-        self.disk.make_read(file, at, buf)
-    }
-
-    pub fn make_write(&mut self, file: u8, at: u64, bytes: &[u8]) -> Result<(), Failed>
-        requires file { file < 2 }
-        requires place { at ≤ length (file_of (bytes_of (disk_files self.old.disk)) file) }
-        ensures makes { OnDisk (Some (wrote file at bytes.now)) (Some (wrote_not file at bytes.now))
-            result self.old self.new }
-    {
-        self.disk.make_write(file, at, bytes)
-    }
-
-    pub fn make_cut(&mut self, file: u8, len: u64) -> Result<(), Failed>
-        requires { file < 2 }
-        ensures makes { OnDisk (Some (cut file len)) (Some (cut_not file len)) result self.old
-            self.new }
-    {
-        self.disk.make_cut(file, len)
-    }
-
-    pub fn make_sync(&mut self, file: u8) -> Result<(), Failed>
-        requires { file < 2 }
-        ensures makes { OnDisk (Some (synced file)) None result self.old self.new }
-    {
-        self.disk.make_sync(file)
-    }
-}
-
 // The calls on its links and its clock.
 impl MemHost {
-    pub fn make_dial(&mut self, spec: &str) -> Result<u8, Failed>
-        requires { length (links_of self.old.disk) < 8 }
+    fn make_dial(&mut self, spec: &str) -> Result<u8, Failed>
+        requires { length (links_of self.old.disk) < LINKS }
         ensures { MakesDial spec.now result self.old self.new }
     {
         let link = self.sent.len();
@@ -298,7 +287,7 @@ impl MemHost {
         }
     }
 
-    pub fn make_nonce(&mut self, link: u8) -> Result<[u8; 16], Failed>
+    fn make_nonce(&mut self, link: u8) -> Result<[u8; 16], Failed>
         requires { link < length (links_of self.old.disk) }
         ensures { MakesNonce link result self.old self.new }
     {
@@ -311,7 +300,7 @@ impl MemHost {
         }
     }
 
-    pub fn make_answer(&mut self, link: u8, buf: &mut [u8]) -> Heard
+    fn make_answer(&mut self, link: u8, buf: &mut [u8]) -> Heard
         requires link { link < length (links_of self.old.disk) }
         requires room { 0 < length buf.old }
         ensures makes { MakesAnswer link result buf.new self.old self.new }
@@ -323,7 +312,7 @@ impl MemHost {
         match self.scripts[place].reply(self.alloc, room) {
             Ok(Some(reply)) => self.hear(link, reply, buf),
             Ok(None) => {
-                self.scripts[place].pass(room);
+                pass(&mut self.scripts, place, room);
                 raise_at(&mut self.silences, place);
                 raise_at(&mut self.faults, place);
                 Heard::Failed
@@ -336,8 +325,8 @@ impl MemHost {
     fn hear(&mut self, link: u8, reply: Reply, buf: &mut [u8]) -> Heard
         requires link { link < length (links_of self.old.disk) }
         requires room { 0 < length buf.old }
-        requires planned { reply_to (length buf.old) (script_of link self.old.scripts) ≡ Some
-            (reply_of reply) }
+        requires planned { reply_to (length buf.old) (script_of link self.old.scripts)
+            ≡ Some (reply_of reply) }
         requires fits { FitsIn (length buf.old) (Some (reply_of reply)) }
         ensures makes { MakesAnswer link result buf.new self.old self.new }
         ensures answer { IsCaused result (length buf.new) (slice_index self.old.faults link)
@@ -350,7 +339,7 @@ impl MemHost {
         match self.disk.keep_answer(link, failures, room, reply) {
             Ok(()) => {
                 self.silences[place] = 0;
-                self.scripts[place].pass(room);
+                pass(&mut self.scripts, place, room);
                 heard
             }
             Err(_) => self.hear_none(place),
@@ -359,12 +348,11 @@ impl MemHost {
 
     // A call on a link that heard nothing for want of memory.
     fn hear_none(&mut self, link: usize) -> Heard
-        requires { link < 8 }
+        requires { link < LINKS }
         ensures failed { result ≡ Heard.Failed }
         ensures rest { self.new ≡ record self.old {
           silences = self.new.silences;
-          faults =
-              self.new.faults;
+          faults = self.new.faults;
           starved = one_more self.old.starved;
         } }
         ensures silences { Raises link self.old.silences self.new.silences }
@@ -376,7 +364,7 @@ impl MemHost {
         Heard::Failed
     }
 
-    pub fn make_send(&mut self, link: u8, bytes: &[u8]) -> Result<(), Failed>
+    fn make_send(&mut self, link: u8, bytes: &[u8]) -> Result<(), Failed>
         requires { link < length (links_of self.old.disk) }
         ensures { MakesSend link bytes.now result self.old self.new }
     {
@@ -395,11 +383,21 @@ impl MemHost {
         Ok(())
     }
 
-    pub fn make_reading(&mut self) -> u64
+    fn make_reading(&mut self) -> u64
         ensures { MakesReading result self.old self.new }
     {
         self.clock.read()
     }
+}
+
+// Leaves the answer of one of several scripts to a buffer of so many bytes behind.
+fn pass(scripts: &mut Vec<Script>, link: usize, room: usize)
+    requires { link < vec_len scripts.old }
+    ensures len { length scripts.new.items ≡ length scripts.old.items }
+    ensures behind { LeavesBehind link room scripts.old.items scripts.new.items }
+{
+    let script = &mut scripts[link];
+    script.pass(room);
 }
 
 // Puts what was heard into the front of the buffer.
@@ -425,47 +423,148 @@ impl Disk for MemHost {
 
     ghost tells = { host_told };
 
-    fn len(&mut self, file: u8) -> Result<u64, Failed> {
-        self.make_len(file)
+    fn len(&mut self, file: u8) -> Result<u64, Failed>
+        requires { file < 2 }
+        ensures call { DiskCall (host_told self.old) (host_told self.new) }
+        ensures cause { HasCause self.old.disk.faults self.new.disk.faults result }
+        ensures same { (host_told self.new).files ≡ (host_told self.old).files }
+        ensures length { IfOk result
+            (λ n. ForSome (host_told self.old).files (λ two. n ≡ length (file_of two file).now)) }
+
+        // It fails exactly where the list or the stop of its disk says so.
+        ensures fails { is_err result ≡ fails_next self.old.disk }
+        ensures makes { OnDisk None None result self.old self.new }
+    {
+        self.disk.len(file)
     }
 
-    fn read_at(&mut self, file: u8, at: u64, buf: &mut [u8]) -> Result<usize, Failed> {
-        self.make_read(file, at, buf)
+    fn read_at(&mut self, file: u8, at: u64, buf: &mut [u8]) -> Result<usize, Failed>
+        requires { file < 2 }
+        ensures call { DiskCall (host_told self.old) (host_told self.new) }
+        ensures cause { HasCause self.old.disk.faults self.new.disk.faults result }
+        ensures same { (host_told self.new).files ≡ (host_told self.old).files }
+        ensures bound { IfOk result (λ n. n ≤ length buf.new) }
+        ensures bytes { IfOk result
+            (λ n. ForSome (host_told self.old).files
+            (λ two. Reads (file_of two file).now at buf.new n)) }
+
+        // It fails exactly where the list or the stop of its disk says so.
+        ensures fails { is_err result ≡ fails_next self.old.disk }
+        ensures makes { OnDisk None None result self.old self.new }
+    {
+        self.disk.read_at(file, at, buf)
     }
 
-    fn write_at(&mut self, file: u8, at: u64, bytes: &[u8]) -> Result<(), Failed> {
-        self.make_write(file, at, bytes)
+    fn write_at(&mut self, file: u8, at: u64, bytes: &[u8]) -> Result<(), Failed>
+        requires file { file < 2 }
+        requires place { ForSome (host_told self.old).files
+            (λ two. at ≤ length (file_of two file).now) }
+        ensures call { DiskCall (host_told self.old) (host_told self.new) }
+        ensures cause { HasCause self.old.disk.faults self.new.disk.faults result }
+        ensures written { Becomes (Writes file at bytes.now result) (host_told self.old).files
+            (host_told self.new).files }
+
+        // It fails exactly where its disk says so.
+        ensures makes { OnDisk (Some (wrote file at bytes.now)) (Some (wrote_not file at bytes.now))
+            result self.old self.new }
+    {
+        self.disk.write_at(file, at, bytes)
     }
 
-    fn cut(&mut self, file: u8, len: u64) -> Result<(), Failed> {
-        self.make_cut(file, len)
+    fn cut(&mut self, file: u8, len: u64) -> Result<(), Failed>
+        requires file { file < 2 }
+        requires length { ForSome (host_told self.old).files
+            (λ two. len ≤ length (file_of two file).now) }
+        ensures call { DiskCall (host_told self.old) (host_told self.new) }
+        ensures cause { HasCause self.old.disk.faults self.new.disk.faults result }
+        ensures cut { Becomes (Cuts file len result) (host_told self.old).files
+            (host_told self.new).files }
+
+        // It fails exactly where its disk says so.
+        ensures makes { OnDisk (Some (cut file len)) (Some (cut_not file len)) result self.old
+            self.new }
+    {
+        self.disk.cut(file, len)
     }
 
-    fn sync(&mut self, file: u8) -> Result<(), Failed> {
-        self.make_sync(file)
+    fn sync(&mut self, file: u8) -> Result<(), Failed>
+        requires { file < 2 }
+        ensures call { DiskCall (host_told self.old) (host_told self.new) }
+        ensures cause { HasCause self.old.disk.faults self.new.disk.faults result }
+        ensures synced { Becomes (Syncs file result) (host_told self.old).files
+            (host_told self.new).files }
+
+        // It fails exactly where its disk says so.
+        ensures makes { OnDisk (Some (synced file)) None result self.old self.new }
+    {
+        self.disk.sync(file)
     }
 }
 
 impl Host for MemHost {
-    fn dial(&mut self, spec: &str) -> Result<u8, Failed> {
+    ghost use Rattle.outside.specs.HostTold.{host_told};
+
+    fn dial(&mut self, spec: &str) -> Result<u8, Failed>
+        requires { length (links_of self.old.disk) < LINKS }
+        ensures call { QuietCall (host_told self.old) (host_told self.new) }
+        ensures links { Dials spec.now result (host_told self.old).links
+            (host_told self.new).links }
+
+        // It fails exactly where the list says so, or there was no memory.
+        ensures makes { MakesDial spec.now result self.old self.new }
+    {
         self.make_dial(spec)
     }
 
-    fn nonce(&mut self, link: u8) -> Result<[u8; 16], Failed> {
+    fn nonce(&mut self, link: u8) -> Result<[u8; 16], Failed>
+        requires { link < length (links_of self.old.disk) }
+        ensures call { QuietCall (host_told self.old) (host_told self.new) }
+        ensures links { AsksNonce link result (host_told self.old).links
+            (host_told self.new).links }
+
+        // It is the first that was given, and fails exactly where there is none.
+        ensures makes { MakesNonce link result self.old self.new }
+    {
         self.make_nonce(link)
     }
 
-    fn recv(&mut self, link: u8, buf: &mut [u8]) -> Heard {
+    fn recv(&mut self, link: u8, buf: &mut [u8]) -> Heard
+        requires link { link < length (links_of self.old.disk) }
+        requires room { 0 < length buf.old }
+        ensures call { QuietCall (host_told self.old) (host_told self.new) }
+        ensures links { Hears link result buf.new (host_told self.old).links
+            (host_told self.new).links }
+        ensures answer { IsCaused result (length buf.new) (slice_index self.old.faults link)
+            (slice_index self.new.faults link) }
+
+        // It fails exactly where the script says so, or there was no memory.
+        ensures makes { MakesAnswer link result buf.new self.old self.new }
+    {
         self.make_answer(link, buf)
     }
 
-    fn send(&mut self, link: u8, bytes: &[u8]) -> Result<(), Failed> {
+    fn send(&mut self, link: u8, bytes: &[u8]) -> Result<(), Failed>
+        requires { link < length (links_of self.old.disk) }
+        ensures call { LinkCall (SendsPart (host_told self.old) link bytes.now)
+            (host_told self.old) (host_told self.new) }
+        ensures links { Sends link bytes.now result (host_told self.old).links
+            (host_told self.new).links }
+
+        // It fails exactly where the list says so, or there was no memory.
+        ensures makes { MakesSend link bytes.now result self.old self.new }
+    {
         self.make_send(link, bytes)
     }
 
     fn hang_up(&mut self, _link: u8) {}
 
-    fn now(&mut self) -> u64 {
+    fn now(&mut self) -> u64
+        ensures call { QuietCall (host_told self.old) (host_told self.new) }
+        ensures links { ReadsClock result (host_told self.old).links (host_told self.new).links }
+
+        // It is the next of the readings that were given, or the last one again.
+        ensures makes { MakesReading result self.old self.new }
+    {
         self.make_reading()
     }
 }

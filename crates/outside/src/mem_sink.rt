@@ -2,7 +2,7 @@
 ghost use Rattle.std.specs.Prelude.{◌≡◌, ◌<◌, ◌≤◌, [], length, Some, IfOk};
 ghost use Rattle.std.specs.Io.KnownBytes.{WriteAppends};
 ghost use Rattle.outside.specs.Faults.{HasCause, FailsAsListed, one_more};
-ghost use Rattle.outside.specs.Streams.{SinkValue};
+ghost use Rattle.outside.specs.MemStreams.{SinkValue};
 
 use crate::{Failed, Sink};
 use std::alloc::Global;
@@ -19,7 +19,7 @@ pub struct MemSink {
 }
 
 impl Model for MemSink {
-    ghost use Rattle.outside.specs.Streams.{SinkValue};
+    ghost use Rattle.outside.specs.MemStreams.{SinkValue};
 
     ghost Value = { SinkValue };
 
@@ -68,9 +68,9 @@ impl MemSink {
 }
 
 impl Sink for MemSink {
-    ghost written = { λ s. Some s.bytes };
+    ghost use Rattle.outside.specs.MemStreams.{sink_told};
 
-    ghost sink_faults = { λ s. s.faults };
+    ghost tells = { sink_told };
 
     fn write(&mut self, bytes: &[u8]) -> Result<usize, Failed>
         ensures bound { IfOk result (λ n. n ≤ length bytes.now) }

@@ -3,7 +3,7 @@ ghost use Rattle.std.specs.Prelude.{◌≡◌, ℕ, ◌+◌, ◌-◌, ◌^◌, �
 ghost use Rattle.std.specs.Prelude.{IfErr, OnErr, OnOk, is_err};
 ghost use Rattle.std.specs.Io.KnownBytes.{ReadConsumes};
 ghost use Rattle.outside.specs.Faults.{HasCause, one_more, is_listed};
-ghost use Rattle.outside.specs.Streams.{SourceValue};
+ghost use Rattle.outside.specs.MemStreams.{SourceValue};
 
 use crate::{Failed, Source};
 use std::marker::Model;
@@ -20,15 +20,14 @@ pub struct MemSource {
 
 impl Model for MemSource {
     ghost use Rattle.std.specs.Prelude.{◌≤◌, drop, vec_len};
-    ghost use Rattle.outside.specs.Streams.{SourceValue};
+    ghost use Rattle.outside.specs.MemStreams.{SourceValue};
 
     ghost Value = { SourceValue };
 
     ghost view = { λ s. record {
       left = drop s.at s.bytes.items;
       failing = s.failing.items;
-      calls =
-          s.calls;
+      calls = s.calls;
       faults = s.faults;
     } };
 
@@ -42,8 +41,7 @@ impl MemSource {
           left = bytes.items;
           failing = failing.items;
           calls = 0;
-          faults =
-              0;
+          faults = 0;
         } }
     {
         MemSource {
@@ -57,9 +55,9 @@ impl MemSource {
 }
 
 impl Source for MemSource {
-    ghost left = { λ s. Some s.left };
+    ghost use Rattle.outside.specs.MemStreams.{source_told};
 
-    ghost source_faults = { λ s. s.faults };
+    ghost tells = { source_told };
 
     fn read(&mut self, buf: &mut [u8]) -> Result<usize, Failed>
         ensures bound { IfOk result (λ n. n ≤ length buf.new) }

@@ -2,8 +2,9 @@
 ghost use Rattle.std.specs.Prelude.{◌≡◌, [], ◌++◌, take, drop, MatchBool, IfOk, OnOk, OnErr};
 ghost use Rattle.std.specs.Option.{option_map};
 ghost use Rattle.outside.specs.MemDisk.{reply_of};
-ghost use Rattle.outside.specs.Script.{planned_of, plan_from, reply_to, script_after, left_in};
+ghost use Rattle.outside.specs.Script.{planned_of, plan_from, left_in};
 ghost use Rattle.outside.specs.Script.{FitsIn, IsFull, IsReady};
+ghost use Rattle.outside.specs.Planned.{reply_to, plan_after};
 
 use crate::{Answer, Reply};
 use std::alloc::{AllocError, Global};
@@ -20,7 +21,8 @@ pub struct Script {
 
 impl Model for Script {
     ghost use Rattle.std.specs.Prelude.{List, drop};
-    ghost use Rattle.outside.specs.Script.{Planned, plan_from, IsReady};
+    ghost use Rattle.outside.specs.Links.{Planned};
+    ghost use Rattle.outside.specs.Script.{plan_from, IsReady};
 
     ghost Value = { List Planned };
 
@@ -70,7 +72,7 @@ impl Script {
 
     /// Leaves the answer to a buffer of so many bytes behind.
     pub fn pass(&mut self, room: usize)
-        ensures { self.new ≡ script_after room self.old }
+        ensures { self.new ≡ plan_after room self.old }
     {
         let (next, at) = behind(&self.answers, self.next, self.at, room);
         self.next = next;
@@ -82,7 +84,7 @@ impl Script {
 fn behind(answers: &[Answer], next: usize, at: usize, room: usize) -> (usize, usize)
     requires { IsReady next at answers.now }
     ensures ready { IsReady result.0 result.1 answers.now }
-    ensures script { plan_from result.1 (drop result.0 answers.now) ≡ script_after room
+    ensures script { plan_from result.1 (drop result.0 answers.now) ≡ plan_after room
         (plan_from at (drop next answers.now)) }
 {
     if next >= answers.len() {

@@ -1,16 +1,17 @@
 // An object that tells nothing but its counts: as a real disk and real sockets are seen.
 ghost use Rattle.std.specs.Prelude.{◌<◌, ◌≤◌};
+ghost use Rattle.outside.specs.declared.limits.TheConstants.{LINKS};
 
 use crate::counts::raise_at;
-use crate::{Disk, Failed, Heard, Host};
+use crate::{Disk, Failed, Heard, Host, LINKS};
 use std::test::Fail;
 
 #[derive(Drop)]
 pub struct Counts {
     disk_faults: u64,
     dialled: u8,
-    faults: [u64; 8],
-    ghost few: { dialled ≤ 8 },
+    faults: [u64; LINKS],
+    ghost few: { dialled ≤ LINKS },
 }
 
 impl Counts {
@@ -89,7 +90,7 @@ impl Host for Counts {
 
 // A caller that knows its host by the traits alone.
 fn use_host<H: Host>(host: &mut H) -> Result<u8, Failed>
-    requires { (H.tells host.old).links.dialled < 8 }
+    requires { (H.tells host.old).links.dialled < LINKS }
 {
     let link = host.dial("std")?;
     let mut buf = [0u8; 4];
@@ -105,7 +106,7 @@ fn silent_objects(rt: HostRuntime) -> Result<(), Fail> {
     let mut counts = Counts {
         disk_faults: 0,
         dialled: 0,
-        faults: [0; 8],
+        faults: [0; LINKS],
     };
     assert_eq!(rt; use_host(&mut counts), Err(Failed));
     assert!(rt; counts.disk_faults == 0 && counts.dialled == 1);

@@ -9,6 +9,3 @@ mod streams;
 
 pub use file_host::FileHost;
 pub use streams::{StdSink, StdSource};
-
-#[cfg(test)]
-mod tests;

@@ -1,16 +1,16 @@
 -- What is spelled is read so, whatever follows.
-use Rattle.std.proofs.Common.{◌≡◌, ◌≢◌, ◌⊎◌, inl, inr, ℕ, zero, suc, ◌+◌, ◌-◌, ◌*◌, ◌/◌, ◌%◌, ◌^◌, ◌<◌, ◌≤◌, Bool, true, false, List, [], ◌∷◌, ◌++◌, length, take, drop, refl, sym, ap, ◌∙◌, arith, length-append, length-drop}
+use Rattle.std.proofs.Common.{◌≡◌, ◌≢◌, ◌⊎◌, inl, inr, ℕ, ◌+◌, ◌*◌, ◌/◌, ◌%◌, ◌^◌, ◌<◌, ◌≤◌, Bool, true, false, List, [], ◌∷◌, ◌++◌, length, take, drop, refl, sym, ap, ◌∙◌, arith, length-append, length-drop}
 use Rattle.std.specs.Prelude.{Option, Some, None, Result, Ok, Err, OnOk, ◌==◌, nat_lt, if◌then◌else◌}
-use Rattle.std.specs.Int.{w16, w64, from_be_bytes, to_be_bytes}
+use Rattle.std.specs.Int.{w64, from_be_bytes, to_be_bytes}
 use Rattle.std.proofs.lemmas.List.{append_assoc, append-nil, drop_at, drop-append-le, drop-drop, take_at, take-append-le}
-use Rattle.std.proofs.lemmas.Bool.{eqb-true, eqb-false, ltb-true, ltb-false}
+use Rattle.std.proofs.lemmas.Bool.{ltb-false}
 use Rattle.std.proofs.lemmas.Bool.Decides.{nat_tests}
 use Rattle.std.proofs.lemmas.Nat.{from_be_bytes-to_be_bytes_8}
-use Rattle.sync_ids.specs.Values.{IsMessage, MessageValue}
+use Rattle.sync_ids.specs.Values.{AreIds, IsMessage, MessageValue}
 use Rattle.sync_ids.specs.Records.{IsRecord}
 use Rattle.sync_ids.specs.declared.records.Record.{Record}
 use Rattle.sync_ids.specs.declared.records.Record.TheVariants as record_kind
-use Rattle.record_grammar.specs.Spelling.{AreIds, HasWholeIds, Skips, Spells, framed, header, joined, payload_of, spelling, type_of}
+use Rattle.record_grammar.specs.Spelling.{Skips, Spells, framed, header, joined, payload_of, spelling, type_of}
 use Rattle.record_grammar.specs.Reading.{Backs, HasWhole, decided_by, decided_header, decided_payload, decided_rest, found_at, found_in, found_payload, front_in, ids_in, ids_of, kind_of, message_of, refused_for, refused_ids, refused_length, timestamp_in}
 use Rattle.record_grammar.specs.Laws.{IsWhole}
 use Rattle.record_grammar.specs.declared.front.Front.{Front}
@@ -108,13 +108,13 @@ nonce_passes : (len : ℕ) → (len == 16) ≡ true → refused_for kind.Priorit
 nonce_passes len e = rw e refl
 
 -- each record is found behind its header
-record_found : (r : Record) (more : List ℕ) → IsRecord r → HasWholeIds r → found_in (framed (type_of r) (payload_of r) ++ more) ≡ found.One r (4 + length (payload_of r))
-record_found (record_kind.Ack ids) more within whole =
-    let len : length (joined ids) ≡ 32 * length ids = joined_length ids whole in
+record_found : (r : Record) (more : List ℕ) → IsRecord r → found_in (framed (type_of r) (payload_of r) ++ more) ≡ found.One r (4 + length (payload_of r))
+record_found (record_kind.Ack ids) more within =
+    let len : length (joined ids) ≡ 32 * length ids = joined_length ids within.whole in
     let short : length (joined ids) ≤ 49152 = omega (arith, within.few) in
     framed_found 0 (joined ids) more short (passes_if kind.Ack (length (joined ids)) short (ids_pass (length (joined ids)) (length ids) len within.some)) refl
-    ∙ ap (λ (xs : List (List ℕ)). found.One (record_kind.Ack xs) (4 + length (joined ids))) (ids_of_joined ids whole)
-record_found (record_kind.Message m) more within whole =
+    ∙ ap (λ (xs : List (List ℕ)). found.One (record_kind.Ack xs) (4 + length (joined ids))) (ids_of_joined ids within.whole)
+record_found (record_kind.Message m) more within =
     let p : List ℕ = payload_of (record_kind.Message m) in
     let len : length p ≡ 40 + length m.body = message_length m within in
     let short : length p ≤ 49152 = omega (arith, within.short_body) in
@@ -123,22 +123,22 @@ record_found (record_kind.Message m) more within whole =
     let time : nat_lt (timestamp_in p) (2 ^ 63) ≡ true = ltb_yes (timestamp_in p) (2 ^ 63) (omega (arith, message_timestamp m within, within.sound_timestamp)) in
     framed_found 1 p more short (passes_if kind.Message (length p) short (message_passes (length p) enough few)) (message_decided 1 p time)
     ∙ ap (λ (v : MessageValue). found.One (record_kind.Message v) (4 + length p)) (message_again m within)
-record_found (record_kind.Offer ids) more within whole =
-    let len : length (joined ids) ≡ 32 * length ids = joined_length ids whole in
+record_found (record_kind.Offer ids) more within =
+    let len : length (joined ids) ≡ 32 * length ids = joined_length ids within.whole in
     let short : length (joined ids) ≤ 49152 = omega (arith, within.few) in
     framed_found 2 (joined ids) more short (passes_if kind.Offer (length (joined ids)) short (ids_pass (length (joined ids)) (length ids) len within.some)) refl
-    ∙ ap (λ (xs : List (List ℕ)). found.One (record_kind.Offer xs) (4 + length (joined ids))) (ids_of_joined ids whole)
-record_found (record_kind.Request ids) more within whole =
-    let len : length (joined ids) ≡ 32 * length ids = joined_length ids whole in
+    ∙ ap (λ (xs : List (List ℕ)). found.One (record_kind.Offer xs) (4 + length (joined ids))) (ids_of_joined ids within.whole)
+record_found (record_kind.Request ids) more within =
+    let len : length (joined ids) ≡ 32 * length ids = joined_length ids within.whole in
     let short : length (joined ids) ≤ 49152 = omega (arith, within.few) in
     framed_found 3 (joined ids) more short (passes_if kind.Request (length (joined ids)) short (ids_pass (length (joined ids)) (length ids) len within.some)) refl
-    ∙ ap (λ (xs : List (List ℕ)). found.One (record_kind.Request xs) (4 + length (joined ids))) (ids_of_joined ids whole)
-record_found (record_kind.Versions versions) more within whole =
+    ∙ ap (λ (xs : List (List ℕ)). found.One (record_kind.Request xs) (4 + length (joined ids))) (ids_of_joined ids within.whole)
+record_found (record_kind.Versions versions) more within =
     let short : length versions ≤ 49152 = omega (arith, within.few) in
     let some : (length versions == 0) ≡ false = eqb_no (length versions) 0 (λ h. omega (arith, within.some)) in
     let few : nat_lt 10 (length versions) ≡ false = ltb_no 10 (length versions) within.few in
     framed_found 4 versions more short (passes_if kind.Versions (length versions) short (versions_pass (length versions) some few)) refl
-record_found (record_kind.Priority nonce) more within whole =
+record_found (record_kind.Priority nonce) more within =
     let short : length nonce ≤ 49152 = omega (arith, within) in
     framed_found 5 nonce more short (passes_if kind.Priority (length nonce) short (nonce_passes (length nonce) (eqb_yes (length nonce) 16 within))) refl
 
@@ -148,7 +148,7 @@ framed_length t p = omega arith
 pub spelled_found : (r : Record) (bytes more : List ℕ) → Spells r bytes → found_in (bytes ++ more) ≡ found.One r (length bytes)
 unfolding spelling
 spelled_found r bytes more spelled =
-    rw (spelled.is, framed_length (type_of r) (payload_of r)) (record_found r more spelled.within spelled.whole_ids)
+    rw (spelled.is, framed_length (type_of r) (payload_of r)) (record_found r more spelled.within)
 
 pub skipped_found : (t : ℕ) (bytes more : List ℕ) → Skips t bytes → found_in (bytes ++ more) ≡ found.Skipped t (length bytes)
 skipped_found t bytes more skipped =

@@ -1,10 +1,9 @@
 -- What stands at the front of some bytes, by places.
-use Rattle.std.proofs.Common.{◌≡◌, ◌≢◌, ◌⊎◌, inl, inr, ℕ, ◌+◌, ◌*◌, ◌^◌, ◌<◌, ◌≤◌, Bool, true, false, List, [], ◌∷◌, length, take, drop, slice_index, refl, sym, ap, ◌∙◌, arith, length-drop}
+use Rattle.std.proofs.Common.{◌≡◌, ◌≢◌, ◌⊎◌, inl, inr, ℕ, ◌+◌, ◌*◌, ◌^◌, ◌<◌, ◌≤◌, Bool, true, false, List, [], ◌∷◌, length, take, drop, slice_index, refl, ap, ◌∙◌, arith, length-drop}
 use Rattle.std.specs.Prelude.{Option, Some, None, ◌==◌, nat_lt, if◌then◌else◌}
 use Rattle.std.proofs.lemmas.List.{length-take-le}
 use Rattle.std.proofs.lemmas.Bool.Decides.{nat_tests}
-use Rattle.record_grammar.specs.Reading.{Backs, HasWhole, decided_by, decided_header, decided_payload, decided_rest, front_in, kind_of, refused_for, refused_length, timestamp_in}
-use Rattle.record_grammar.specs.declared.front.Front.{Front}
+use Rattle.record_grammar.specs.Reading.{Backs, decided_by, decided_header, decided_payload, decided_rest, front_in, kind_of, refused_for, refused_length, timestamp_in}
 use Rattle.record_grammar.specs.declared.front.Front.TheVariants as front
 use Rattle.record_grammar.specs.declared.front.Kind.{Kind}
 use Rattle.record_grammar.specs.declared.front.Kind.TheVariants as kind

@@ -1,3 +1,4 @@
+mod Behind
 mod Complete
 mod Fronts
 mod Lists

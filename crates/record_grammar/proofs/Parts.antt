@@ -1,26 +1,33 @@
 -- A stream is made of its items.
-use Rattle.std.proofs.Common.{◌≡◌, ◌≢◌, ℕ, zero, suc, ◌+◌, ◌-◌, ◌<◌, ◌≤◌, List, [], ◌∷◌, ◌++◌, length, take, drop, refl, sym, ap, ◌∙◌, arith, length-drop, slice_index}
-use Rattle.std.specs.Prelude.{Option, Some, None}
+use Rattle.std.proofs.Common.{◌≡◌, ℕ, zero, suc, ◌+◌, ◌-◌, ◌<◌, ◌≤◌, List, [], ◌∷◌, ◌++◌, length, take, drop, refl, sym, ap, ◌∙◌, arith, length-drop, slice_index}
+use Rattle.std.specs.Prelude.{None}
 use Rattle.std.proofs.lemmas.List.{append_assoc, drop_at, length-take-le, take-append-drop}
 use Rattle.sync_ids.specs.declared.records.Record.{Record}
 use Rattle.record_grammar.specs.Spelling.{Skips, Spells, joined}
 use Rattle.record_grammar.specs.Reading.{found_in, front_in}
 use Rattle.record_grammar.specs.Laws.{AreCutAs, IsMadeOf, IsSpelled}
-use Rattle.record_grammar.specs.Stream.{IsRest, Parsed, advanced, item_of, items, parsed, place_after, rest, used_of, with_item}
+use Rattle.record_grammar.specs.Stream.{Parsed, advanced, ending, item_of, items, parsed, rest}
 use Rattle.record_grammar.specs.declared.reading.Found.{Found}
 use Rattle.record_grammar.specs.declared.reading.Found.TheVariants as found
 use Rattle.record_grammar.specs.declared.stream.Item.{Item}
 use Rattle.record_grammar.specs.declared.stream.Item.TheVariants as item
 use Rattle.record_grammar.proofs.Complete.{skipped_found, spelled_found}
 use Rattle.record_grammar.proofs.Sound.{IsBytes, IsBytes-drop, found_sound}
-use Rattle.record_grammar.proofs.Streams.{Steps, item_used, none_step, steps, stop, whole_step}
+use Rattle.record_grammar.proofs.Streams.{none_step, steps, stop}
 
 -- an item at the front is the first
-one_first : (place : ℕ) (r : Record) (part more : List ℕ) → Spells r part → items place (part ++ more) ≡ item.One place r ∷ items (advanced place (length part)) more
+pub one_first : (place : ℕ) (r : Record) (part more : List ℕ) → Spells r part → items place (part ++ more) ≡ item.One place r ∷ items (advanced place (length part)) more
 one_first place r part more spelled =
     let step = steps place (part ++ more) (item.One place r) (found.One r (length part)) (spelled_found r part more spelled) refl in
     let behind : drop (length part) (part ++ more) ≡ more = drop_at part more (length part) refl in
     rw behind at step.items_of
+
+-- and the stream ends as what is behind it does
+pub one_ends : (place : ℕ) (r : Record) (part more : List ℕ) → Spells r part → ending place (part ++ more) ≡ ending (advanced place (length part)) more
+one_ends place r part more spelled =
+    let step = steps place (part ++ more) (item.One place r) (found.One r (length part)) (spelled_found r part more spelled) refl in
+    let behind : drop (length part) (part ++ more) ≡ more = drop_at part more (length part) refl in
+    rw behind at step.ends
 
 skipped_first : (place t len : ℕ) (part more : List ℕ) → Skips t part → length part ≡ 4 + len
     → items place (part ++ more) ≡ item.Skipped place t len ∷ items (advanced place (length part)) more

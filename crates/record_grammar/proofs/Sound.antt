@@ -1,13 +1,12 @@
 -- What is read is spelled so.
-use Rattle.std.proofs.Common.{◌≡◌, ◌≢◌, ◌⊎◌, inl, inr, ℕ, zero, suc, ◌+◌, ◌-◌, ◌*◌, ◌/◌, ◌%◌, ◌^◌, ◌<◌, ◌≤◌, Bool, true, false, List, [], ◌∷◌, ◌++◌, length, take, drop, get_or, get_or-drop, lit<, subst, refl, sym, ap, ◌∙◌, arith, length-append, length-drop}
+use Rattle.std.proofs.Common.{◌≡◌, ◌≢◌, inl, inr, ℕ, zero, suc, ◌+◌, ◌*◌, ◌/◌, ◌%◌, ◌^◌, ◌<◌, ◌≤◌, Bool, true, false, List, [], ◌∷◌, ◌++◌, length, take, drop, get_or, get_or-drop, lit<, subst, refl, sym, ap, ◌∙◌, arith, length-drop}
 use Rattle.std.specs.Prelude.{Option, Some, None, Result, Ok, Err, IfOk, ◌==◌, nat_lt, if◌then◌else◌}
-use Rattle.std.specs.Int.{w16, w64, from_be_bytes, to_be_bytes}
-use Rattle.std.proofs.lemmas.List.{append_assoc, drop-drop, length-take-le, take-append-drop, take_all}
+use Rattle.std.specs.Int.{w64, to_be_bytes}
+use Rattle.std.proofs.lemmas.List.{drop-drop, length-take-le, take-append-drop}
 use Rattle.std.proofs.lemmas.Bool.{eqb-true, eqb-false, ltb-true, ltb-false}
-use Rattle.std.proofs.lemmas.Nat.{be_bytes_2, be_bytes_8}
-use Rattle.sync_ids.specs.Values.{IsMessage, IsWithin}
-use Rattle.sync_ids.specs.declared.records.Record.TheVariants as record_kind
-use Rattle.record_grammar.specs.Spelling.{AreIds, Skips, Spells, framed, joined, spelling}
+use Rattle.std.proofs.lemmas.Nat.{be_bytes_8}
+use Rattle.sync_ids.specs.Values.{AreIds, IsIdList, IsMessage, IsVersionList}
+use Rattle.record_grammar.specs.Spelling.{framed, joined, spelling}
 use Rattle.record_grammar.specs.Reading.{decided_by, decided_payload, decided_rest, found_at, found_in, found_payload, front_in, ids_in, ids_of, kind_of, message_of, refused_for, refused_ids, refused_length, timestamp_in}
 use Rattle.record_grammar.specs.Laws.{IsSpelled}
 use Rattle.std.specs.declared.alloc.AllocError.{AllocError}
@@ -79,10 +78,10 @@ passed_for k len e = go (nat_lt 49152 len) refl e where
   go true f h = cc
   go false f h = h
 
-ids_within : (p : List ℕ) → length p ≤ 49152 → 1 ≤ length p / 32 → IsWithin 1536 (ids_of p)
+ids_within : (p : List ℕ) → length p ≤ 49152 → 1 ≤ length p / 32 → IsIdList 1536 (ids_of p)
 ids_within p most some =
     let len : length (ids_of p) ≡ length p / 32 = length-ids_in (length p / 32) p in
-    record { some = omega arith; few = omega arith }
+    record { some = omega arith; few = omega arith; whole = whole_ids (length p / 32) p (omega arith) }
 
 message_lens : (len : ℕ) → refused_for kind.Message len ≡ None → (41 ≤ len) × (len ≤ 32808)
 message_lens len e = go (nat_lt len 41) refl e where
@@ -99,12 +98,12 @@ message_time t p e = go (nat_lt (timestamp_in p) (2 ^ 63)) refl e where
   go true f h = ltb-true (timestamp_in p) (2 ^ 63) f
   go false f h = cc
 
-versions_lens : (p : List ℕ) → refused_for kind.Versions (length p) ≡ None → IsWithin 10 p
+versions_lens : (p : List ℕ) → refused_for kind.Versions (length p) ≡ None → IsVersionList p
 versions_lens p e = go (length p == 0) refl e where
-  go : (b : Bool) → (length p == 0) ≡ b → (if b then Some reason.BadVersions else if nat_lt 10 (length p) then Some reason.BadVersions else None) ≡ None → IsWithin 10 p
+  go : (b : Bool) → (length p == 0) ≡ b → (if b then Some reason.BadVersions else if nat_lt 10 (length p) then Some reason.BadVersions else None) ≡ None → IsVersionList p
   go true f h = cc
   go false f h = go2 (nat_lt 10 (length p)) refl h where
-    go2 : (c : Bool) → nat_lt 10 (length p) ≡ c → (if c then Some reason.BadVersions else None) ≡ None → IsWithin 10 p
+    go2 : (c : Bool) → nat_lt 10 (length p) ≡ c → (if c then Some reason.BadVersions else None) ≡ None → IsVersionList p
     go2 true g i = cc
     go2 false g i = let some : length p ≢ 0 = eqb-false (length p) 0 f in record { some = omega arith; few = ltb-false 10 (length p) g }
 
@@ -114,11 +113,14 @@ nonce_len p e = go (length p == 16) refl e where
   go true f h = eqb-true (length p) 16 f
   go false f h = cc
 
+time_within : (t : ℕ) → t < 2 ^ 63 → t ≤ 9223372036854775807
+time_within t below = omega arith
+
 -- the message of a payload that passes
 message_sound : (p : List ℕ) → IsBytes p → 41 ≤ length p → length p ≤ 32808 → timestamp_in p < 2 ^ 63 → IsMessage (message_of p)
 message_sound p bytes some few time = record {
   whole_group = length-take-le 32 p (omega arith);
-  sound_timestamp = time;
+  sound_timestamp = time_within (timestamp_in p) time;
   some_body = omega (arith, length-drop 40 p);
   short_body = omega (arith, length-drop 40 p);
 }
@@ -140,23 +142,23 @@ unfolding spelling
 payload_sound kind.Ack t p b says bytes passes decided fits is =
     let most : length p ≤ 49152 = refused_long kind.Ack (length p) passes in
     let ids = ids_passed (length p) (passed_for kind.Ack (length p) passes) in
-    (omega arith, fits, record { within = ids_within p most ids.0; whole_ids = whole_ids (length p / 32) p (omega (arith, ids.1)); is = is ∙ rw (says, joined_ids (length p / 32) p ids.1) refl })
+    (omega arith, fits, record { within = ids_within p most ids.0; is = is ∙ rw (says, joined_ids (length p / 32) p ids.1) refl })
 payload_sound kind.Message t p b says bytes passes decided fits is =
     let lens = message_lens (length p) (passed_for kind.Message (length p) passes) in
     let time = message_time t p decided in
-    (omega arith, fits, record { within = message_sound p bytes lens.0 lens.1 time; whole_ids = tt; is = is ∙ rw (says, message_joined p bytes lens.0) refl })
+    (omega arith, fits, record { within = message_sound p bytes lens.0 lens.1 time; is = is ∙ rw (says, message_joined p bytes lens.0) refl })
 payload_sound kind.Offer t p b says bytes passes decided fits is =
     let most : length p ≤ 49152 = refused_long kind.Offer (length p) passes in
     let ids = ids_passed (length p) (passed_for kind.Offer (length p) passes) in
-    (omega arith, fits, record { within = ids_within p most ids.0; whole_ids = whole_ids (length p / 32) p (omega (arith, ids.1)); is = is ∙ rw (says, joined_ids (length p / 32) p ids.1) refl })
+    (omega arith, fits, record { within = ids_within p most ids.0; is = is ∙ rw (says, joined_ids (length p / 32) p ids.1) refl })
 payload_sound kind.Request t p b says bytes passes decided fits is =
     let most : length p ≤ 49152 = refused_long kind.Request (length p) passes in
     let ids = ids_passed (length p) (passed_for kind.Request (length p) passes) in
-    (omega arith, fits, record { within = ids_within p most ids.0; whole_ids = whole_ids (length p / 32) p (omega (arith, ids.1)); is = is ∙ rw (says, joined_ids (length p / 32) p ids.1) refl })
+    (omega arith, fits, record { within = ids_within p most ids.0; is = is ∙ rw (says, joined_ids (length p / 32) p ids.1) refl })
 payload_sound kind.Versions t p b says bytes passes decided fits is =
-    (omega arith, fits, record { within = versions_lens p (passed_for kind.Versions (length p) passes); whole_ids = tt; is = is ∙ rw says refl })
+    (omega arith, fits, record { within = versions_lens p (passed_for kind.Versions (length p) passes); is = is ∙ rw says refl })
 payload_sound kind.Priority t p b says bytes passes decided fits is =
-    (omega arith, fits, record { within = nonce_len p (passed_for kind.Priority (length p) passes); whole_ids = tt; is = is ∙ rw says refl })
+    (omega arith, fits, record { within = nonce_len p (passed_for kind.Priority (length p) passes); is = is ∙ rw says refl })
 payload_sound kind.Other t p b says bytes passes decided fits is =
     (omega arith, fits, record { payload = p; other = says; short = refused_long kind.Other (length p) passes; is = is })
 

@@ -1,10 +1,9 @@
 -- The items of a stream, one by one.
-use Rattle.std.proofs.Common.{◌≡◌, ◌≢◌, ◌⊎◌, inl, inr, ℕ, zero, suc, ◌+◌, ◌-◌, ◌*◌, ◌<◌, ◌≤◌, List, [], ◌∷◌, ◌++◌, length, take, drop, refl, sym, ap, ◌∙◌, arith, length-append, length-drop}
-use Rattle.std.specs.Prelude.{Option, Some, None, Result, Ok, Err, IfOk, option_to_list}
-use Rattle.std.proofs.lemmas.List.{append-nil, drop-append-le, length-take-le}
-use Rattle.sync_ids.specs.declared.records.Record.TheVariants as record_kind
+use Rattle.std.proofs.Common.{◌≡◌, ◌≢◌, ℕ, zero, suc, ◌+◌, ◌-◌, ◌<◌, ◌≤◌, List, [], ◌∷◌, ◌++◌, length, take, drop, refl, sym, ap, ◌∙◌, arith, length-drop}
+use Rattle.std.specs.Prelude.{Option, Some, None, Result, Ok, Err, IfOk}
+use Rattle.std.proofs.lemmas.List.{drop-append-le, length-take-le}
 use Rattle.record_grammar.specs.Reading.{Backs, HasWhole, found_at, found_in, found_payload, front_in, kind_of}
-use Rattle.record_grammar.specs.Stream.{GoesOn, IsRest, Parsed, advanced, ending, ending_for, item_of, items, parsed, place_after, rest, rest_place, told, used_of, with_item}
+use Rattle.record_grammar.specs.Stream.{GoesOn, IsRest, Parsed, ending, ending_for, item_of, items, parsed, place_after, rest, rest_place, used_of, with_item}
 use Rattle.record_grammar.specs.declared.front.Front.{Front}
 use Rattle.record_grammar.specs.declared.front.Front.TheVariants as front
 use Rattle.record_grammar.specs.declared.front.Kind.{Kind}
@@ -12,7 +11,6 @@ use Rattle.record_grammar.specs.declared.front.Kind.TheVariants as kind
 use Rattle.record_grammar.specs.declared.front.Reason.{Reason}
 use Rattle.record_grammar.specs.declared.reading.Found.{Found}
 use Rattle.record_grammar.specs.declared.reading.Found.TheVariants as found
-use Rattle.record_grammar.specs.declared.stream.Ending.{Ending}
 use Rattle.record_grammar.specs.declared.stream.Ending.TheVariants as ending_kind
 use Rattle.record_grammar.specs.declared.stream.Item.{Item}
 use Rattle.record_grammar.specs.declared.stream.Item.TheVariants as item
@@ -89,7 +87,7 @@ unfolding parsed stop
 none_step place [] none = refl
 none_step place (x ∷ b) none = rw none refl
 
-no_item : (place : ℕ) (f : Found) → item_of 0 f ≡ None → item_of place f ≡ None
+pub no_item : (place : ℕ) (f : Found) → item_of 0 f ≡ None → item_of place f ≡ None
 no_item place (found.One r used) none = cc
 no_item place (found.Skipped t used) none = cc
 no_item place found.More none = refl
@@ -99,6 +97,7 @@ pub record Steps (place : ℕ) (b : List ℕ) (i : Item) (place' : ℕ) (b' : Li
   pub items_of : items place b ≡ i ∷ items place' b'
   pub ends : ending place b ≡ ending place' b'
   pub rests : rest place b ≡ rest place' b'
+  pub places : rest_place place b ≡ rest_place place' b'
 
 pub steps : (place : ℕ) (b : List ℕ) (i : Item) (f : Found) → found_in b ≡ f → item_of place f ≡ Some i → Steps place b i (place_after place f) (drop (used_of f) b)
 unfolding items ending rest rest_place
@@ -109,10 +108,11 @@ steps place b i f e is =
       items_of = ap (λ (p : Parsed). p.items) later;
       ends = ap (λ (p : Parsed). ending_for p.place p.rest (found_in p.rest)) later;
       rests = ap (λ (p : Parsed). p.rest) later;
+      places = ap (λ (p : Parsed). p.place) later;
     }
 
 -- an item that is decided about the front is the first of the whole stream
-goes_step : (b : List ℕ) (f : Found) (place : ℕ) (i : Item) (more : List ℕ) → f ≡ found_in b → f ≢ found.More → item_of place f ≡ Some i
+pub goes_step : (b : List ℕ) (f : Found) (place : ℕ) (i : Item) (more : List ℕ) → f ≡ found_in b → f ≢ found.More → item_of place f ≡ Some i
     → Steps place (b ++ more) i (place_after place f) (drop (used_of f) b ++ more)
 goes_step b f place i more e decided is =
     let open_at : found_in b ≢ found.More = λ m. decided (e ∙ m) in
@@ -135,36 +135,36 @@ unfolding found_in front_in
 bad_some [] why e = cc
 bad_some (x ∷ b) why e = omega arith
 
-bad_ends : (place : ℕ) (b more : List ℕ) (why : Reason) → found_in b ≡ found.Bad why → ending_for place (b ++ more) (found.Bad why) ≡ ending_for place b (found.Bad why)
+bad_ends : (place : ℕ) (b more : List ℕ) (why : Reason) → found_in b ≡ found.Bad why → ending_for place (b ++ more) (found.Bad why) ≡ ending_kind.Bad place why
 bad_ends place [] more why e = absurd (omega (arith, bad_some [] why e))
 bad_ends place (x ∷ b) more why e = refl
 
 -- behind a refusal there is nothing
 refused_stays : (b : List ℕ) (why : Reason) → found.Bad why ≡ found_in b → (place : ℕ) (more : List ℕ)
-    → (items place (b ++ more) ≡ []) × (ending place (b ++ more) ≡ ending place b)
+    → (items place (b ++ more) ≡ []) × (ending place (b ++ more) ≡ ending_kind.Bad place why)
 refused_stays b why e place more =
     let open_at : found_in b ≢ found.More = λ m. (let no : found.Bad why ≡ found.More = e ∙ m in cc) in
     let stays : found_in (b ++ more) ≡ found_in b = found_stays b more open_at in
-    let short : IsRest b = rw (← e) refl in
     let long : IsRest (b ++ more) = rw (stays, ← e) refl in
     let whole : ending place (b ++ more) ≡ ending_for place (b ++ more) (found.Bad why) = (rest_ends place (b ++ more) long).1 ∙ ap (ending_for place (b ++ more)) (stays ∙ sym e) in
-    let part : ending place b ≡ ending_for place b (found.Bad why) = (rest_ends place b short).1 ∙ ap (ending_for place b) (sym e) in
-    ((rest_ends place (b ++ more) long).0, whole ∙ bad_ends place b more why (sym e) ∙ sym part)
+    ((rest_ends place (b ++ more) long).0, whole ∙ bad_ends place b more why (sym e))
 
 -- what is decided about the front goes for the whole stream
 pub goes_on : (b : List ℕ) (f : Found) → f ≡ found_in b → GoesOn b f
 goes_on b (found.One r used) e = record {
   begins = λ place more decided. (goes_step b (found.One r used) place (item.One place r) more e decided refl).items_of;
   ends = λ place more decided. (goes_step b (found.One r used) place (item.One place r) more e decided refl).ends;
+  unfinished = λ place more. cc;
   refused = λ place more why bad. cc;
 }
 goes_on b (found.Skipped t used) e = record {
   begins = λ place more decided. (goes_step b (found.Skipped t used) place (item.Skipped place t (used - 4)) more e decided refl).items_of;
   ends = λ place more decided. (goes_step b (found.Skipped t used) place (item.Skipped place t (used - 4)) more e decided refl).ends;
+  unfinished = λ place more. cc;
   refused = λ place more why bad. cc;
 }
-goes_on b found.More e = record { begins = λ place more decided. absurd (decided refl); ends = λ place more decided. absurd (decided refl); refused = λ place more why bad. cc }
-goes_on b (found.Bad why) e = record { begins = λ place more decided. refl; ends = λ place more decided. refl; refused = λ place more other bad. refused_stays b why e place more }
+goes_on b found.More e = record { begins = λ place more decided. absurd (decided refl); ends = λ place more decided. absurd (decided refl); unfinished = λ place more. (rest_ends place b (rw (← e) refl)).0; refused = λ place more why bad. cc }
+goes_on b (found.Bad why) e = record { begins = λ place more decided. refl; ends = λ place more decided. refl; unfinished = λ place more. cc; refused = λ place more other bad. (let same : why ≡ other = cc in rw (← same) (refused_stays b why e place more)) }
 
 pub GoesOn-IfOk : (b : List ℕ) (r : Result Found AllocError) → IfOk r (λ f. f ≡ found_in b) → IfOk r (λ f. GoesOn b f)
 GoesOn-IfOk b (Ok f) e = goes_on b f e

@@ -1,8 +1,11 @@
 -- What reading has to do with spelling.
-use Rattle.std.specs.Prelude.{◌≡◌, ◌≢◌, ◌⊎◌, ℕ, ◌+◌, ◌<◌, ◌≤◌, List, [], ◌∷◌, ◌++◌, length, slice_index, take}
+use Rattle.std.specs.Prelude.{◌≡◌, ◌≢◌, ◌⊎◌, ℕ, ◌+◌, ◌<◌, ◌≤◌, List, [], ◌∷◌, ◌++◌, length, slice_index, take, All}
 use Rattle.sync_ids.specs.declared.records.Record.{Record}
-use Rattle.record_grammar.specs.Spelling.{Skips, Spells, joined}
-use Rattle.record_grammar.specs.Stream.{IsRest, advanced, items, rest}
+use Rattle.sync_ids.specs.Records.{IsRecord}
+use Rattle.record_grammar.specs.declared.front.TheConstants.{MAX_RECORD}
+use Rattle.record_grammar.specs.Spelling.{Skips, Spells, joined, spelled}
+use Rattle.record_grammar.specs.Stream.{EndsWith, GoesOnBehind, IsRest, advanced, behind, ending, items, placed, records, records_of, rest, rest_place}
+use Rattle.record_grammar.specs.declared.stream.Ending.TheVariants as ending_kind
 use Rattle.record_grammar.specs.declared.stream.Item.{Item}
 use Rattle.record_grammar.specs.declared.stream.Item.TheVariants as item
 use Rattle.record_grammar.specs.Reading.{found_in}
@@ -14,7 +17,7 @@ use Rattle.record_grammar.specs.declared.reading.Found.TheVariants as found
 abbrev pub IsSpelled : List ℕ → Found → Type 0
 IsSpelled bytes (found.One r used) = (4 ≤ used) × (used ≤ length bytes) × Spells r (take used bytes)
 IsSpelled bytes (found.Skipped type_byte used) = (4 ≤ used) × (used ≤ length bytes) × Skips type_byte (take used bytes)
-IsSpelled bytes found.More = length bytes < 49156
+IsSpelled bytes found.More = length bytes < MAX_RECORD
 IsSpelled bytes (found.Bad why) = Unit {0}
 
 -- what spells a record is read as that record, whatever follows
@@ -65,3 +68,36 @@ pub record IsMadeOf (place : ℕ) (bytes : List ℕ) (parts : List (List ℕ)) :
 abbrev pub StreamsAreMadeOfItems : Type 0
 StreamsAreMadeOfItems = (place : ℕ) (bytes : List ℕ) → ((i : ℕ) → slice_index bytes i < 256)
     → (parts : List (List ℕ)) × IsMadeOf place bytes parts
+
+-- Records that are spelled one behind the other are the first items of what they begin, each at its place, and what
+-- follows comes behind them.
+abbrev pub SpelledRecordsReadBack : Type 0
+SpelledRecordsReadBack = (place : ℕ) (rs : List Record) (more : List ℕ) → All IsRecord rs
+    → (items place (spelled rs ++ more) ≡ placed place rs ++ items (behind place rs) more)
+    × (ending place (spelled rs ++ more) ≡ ending (behind place rs) more)
+
+-- Alone they are a stream of these records that ends clean.
+abbrev pub SpelledRecordsAreStreams : Type 0
+SpelledRecordsAreStreams = (rs : List Record) → All IsRecord rs
+    → (items 0 (spelled rs) ≡ placed 0 rs) × (records (spelled rs) ≡ rs) × (ending 0 (spelled rs) ≡ ending_kind.Clean)
+
+-- a stream goes on behind its rest
+abbrev pub StreamsGoOn : Type 0
+StreamsGoOn = (place : ℕ) (bytes : List ℕ) → GoesOnBehind place bytes
+
+-- the records of a front of a stream are a front of its records
+abbrev pub FrontsHaveFronts : Type 0
+FrontsHaveFronts = (bytes more : List ℕ) → (later : List Record) × (records (bytes ++ more) ≡ records bytes ++ later)
+
+-- the records of items are those of the first and those of the others
+abbrev pub RecordsJoin : Type 0
+RecordsJoin = (its others : List Item) → records_of (its ++ others) ≡ records_of its ++ records_of others
+
+-- an unfinished rest gives no item, and it is its own rest
+abbrev pub RestsGiveNothing : Type 0
+RestsGiveNothing = (place : ℕ) (bytes : List ℕ) → IsRest bytes
+    → (items place bytes ≡ []) × (rest place bytes ≡ bytes) × (rest_place place bytes ≡ place)
+
+-- the ending is that of the rest: nothing, the front of a record that more bytes may complete, or what is no record
+abbrev pub EndingsAreOfRests : Type 0
+EndingsAreOfRests = (place : ℕ) (bytes : List ℕ) → EndsWith (rest_place place bytes) (rest place bytes) (ending place bytes)

@@ -1,10 +1,12 @@
 -- What stands at the front of some bytes. It is decided at three points: at the first byte, at the fourth, and when the
 -- whole record is there.
-use Rattle.std.specs.Prelude.{◌≡◌, ℕ, zero, suc, ◌+◌, ◌*◌, ◌/◌, ◌%◌, ◌^◌, ◌<◌, ◌≤◌, Bool, true, false, List, [], ◌∷◌, length, take, drop, Option, Some, None, ◌==◌, ◌&&◌, ◌||◌, nat_lt, nat_le, if◌then◌else◌}
+use Rattle.std.specs.Prelude.{◌≡◌, ℕ, zero, suc, ◌+◌, ◌*◌, ◌/◌, ◌%◌, ◌^◌, ◌<◌, ◌≤◌, List, [], ◌∷◌, length, take, drop, Option, Some, None, ◌==◌, nat_lt, if◌then◌else◌}
 use Rattle.std.specs.Int.{w64, from_be_bytes}
 use Rattle.sync_ids.specs.Values.{MessageValue}
-use Rattle.sync_ids.specs.declared.records.Record.{Record}
+use Rattle.sync_ids.specs.declared.lists.TheConstants.{MAX_VERSIONS}
+use Rattle.sync_ids.specs.declared.message.TheConstants.{MAX_BODY}
 use Rattle.sync_ids.specs.declared.records.Record.TheVariants as record_kind
+use Rattle.record_grammar.specs.declared.front.TheConstants.{BODY_AT, MAX_PAYLOAD, MAX_RECORD, NONCE_LEN}
 use Rattle.record_grammar.specs.declared.front.Front.{Front}
 use Rattle.record_grammar.specs.declared.front.Front.TheVariants as front
 use Rattle.record_grammar.specs.declared.front.Kind.{Kind}
@@ -32,16 +34,16 @@ refused_ids len = if len == 0 then Some reason.EmptyIds else if len % 32 == 0 th
 -- the lengths that a payload of each kind may not have
 abbrev pub refused_for : Kind → ℕ → Option Reason
 refused_for kind.Ack len = refused_ids len
-refused_for kind.Message len = if nat_lt len 41 then Some reason.ShortMessage else if nat_lt 32808 len then Some reason.BodyTooLong else None
+refused_for kind.Message len = if nat_lt len (BODY_AT + 1) then Some reason.ShortMessage else if nat_lt (BODY_AT + MAX_BODY) len then Some reason.BodyTooLong else None
 refused_for kind.Offer len = refused_ids len
 refused_for kind.Request len = refused_ids len
-refused_for kind.Versions len = if len == 0 then Some reason.BadVersions else if nat_lt 10 len then Some reason.BadVersions else None
-refused_for kind.Priority len = if len == 16 then None else Some reason.BadNonce
+refused_for kind.Versions len = if len == 0 then Some reason.BadVersions else if nat_lt MAX_VERSIONS len then Some reason.BadVersions else None
+refused_for kind.Priority len = if len == NONCE_LEN then None else Some reason.BadNonce
 refused_for kind.Other len = None
 
 -- the second point: the payload's length, for every type, and then by type
 abbrev pub refused_length : Kind → ℕ → Option Reason
-refused_length k len = if nat_lt 49152 len then Some reason.TooLong else refused_for k len
+refused_length k len = if nat_lt MAX_PAYLOAD len then Some reason.TooLong else refused_for k len
 
 -- the time of a message, from its payload
 abbrev pub timestamp_in : List ℕ → ℕ
@@ -79,7 +81,7 @@ pub record HasWhole (bytes : List ℕ) (type_byte len : ℕ) : Type 0 where
 
 -- what an answer says of the bytes beside the answer itself
 abbrev pub Backs : List ℕ → Front → Type 0
-Backs bytes front.More = length bytes < 49156
+Backs bytes front.More = length bytes < MAX_RECORD
 Backs bytes (front.Bad why) = Unit {0}
 Backs bytes (front.Whole type_byte len) = HasWhole bytes type_byte len
 

@@ -1,12 +1,13 @@
 -- How records are spelled (BSP, "Records"): a byte of version 0, a byte of type, two bytes of the payload's length, and the
 -- payload.
-use Rattle.std.specs.Prelude.{◌≡◌, ℕ, ◌<◌, ◌≤◌, List, [], ◌∷◌, ◌++◌, length}
+use Rattle.std.specs.Prelude.{◌≡◌, ℕ, ◌<◌, ◌≤◌, List, ◌∷◌, ◌++◌, length}
 use Rattle.std.specs.Int.{w16, w64, to_be_bytes}
-use Rattle.std.specs.List.{AllByRecursion, flat_map}
+use Rattle.std.specs.List.{flat_map}
 use Rattle.sync_ids.specs.Values.{MessageValue}
 use Rattle.sync_ids.specs.Records.{IsRecord}
 use Rattle.sync_ids.specs.declared.records.Record.{Record}
 use Rattle.sync_ids.specs.declared.records.Record.TheVariants as record_kind
+use Rattle.record_grammar.specs.declared.front.TheConstants.{MAX_PAYLOAD}
 
 -- version, type and payload length
 abbrev pub header : ℕ → ℕ → List ℕ
@@ -46,29 +47,20 @@ framed type_byte payload = header type_byte (length payload) ++ payload
 unfoldable pub spelling : Record → List ℕ
 spelling r = framed (type_of r) (payload_of r)
 
--- Every id of a record has 32 bytes. A clause ranges over all lists, also those that no id has.
-abbrev pub AreIds : List (List ℕ) → Type 0
-AreIds ids = AllByRecursion (λ id. length id ≡ 32) ids
-
-abbrev pub HasWholeIds : Record → Type 0
-HasWholeIds (record_kind.Ack ids) = AreIds ids
-HasWholeIds (record_kind.Message message) = Unit {0}
-HasWholeIds (record_kind.Offer ids) = AreIds ids
-HasWholeIds (record_kind.Request ids) = AreIds ids
-HasWholeIds (record_kind.Versions versions) = Unit {0}
-HasWholeIds (record_kind.Priority nonce) = Unit {0}
+-- records, spelled one behind the other
+abbrev pub spelled : List Record → List ℕ
+spelled rs = flat_map spelling rs
 
 -- these bytes spell this record, which is within its limits
 pub record Spells (r : Record) (bytes : List ℕ) : Type 0 where
   pub within : IsRecord r
-  pub whole_ids : HasWholeIds r
   pub is : bytes ≡ spelling r
 
 -- these bytes are a whole record of another type, which is passed over
 pub record Skips (type_byte : ℕ) (bytes : List ℕ) : Type 0 where
   pub payload : List ℕ
   pub other : 5 < type_byte
-  pub short : length payload ≤ 49152
+  pub short : length payload ≤ MAX_PAYLOAD
   pub is : bytes ≡ framed type_byte payload
 
 -- new is old with some bytes at its end

@@ -1,6 +1,7 @@
 -- A stream of records: the items of its longest prefix that is made of whole records and skipped ones, and how it ends.
-use Rattle.std.specs.Prelude.{◌≡◌, ◌≢◌, ℕ, zero, suc, ◌+◌, ◌-◌, ◌^◌, min, List, [], ◌∷◌, ◌++◌, length, drop, Option, Some, None, option_to_list}
+use Rattle.std.specs.Prelude.{◌≡◌, ◌≢◌, ℕ, zero, suc, ◌+◌, ◌-◌, ◌^◌, ◌≤◌, min, List, [], ◌∷◌, ◌++◌, length, drop, Option, Some, None, option_to_list}
 use Rattle.sync_ids.specs.declared.records.Record.{Record}
+use Rattle.record_grammar.specs.Spelling.{spelling}
 use Rattle.record_grammar.specs.Reading.{found_in}
 use Rattle.record_grammar.specs.declared.front.Reason.{Reason}
 use Rattle.record_grammar.specs.declared.reading.Found.{Found}
@@ -89,6 +90,29 @@ records bytes = records_of (items 0 bytes)
 abbrev pub told : ℕ → Found → List Item
 told place f = option_to_list (item_of place f)
 
+-- the items of records that are spelled one behind the other, the first at this place
+abbrev pub placed : ℕ → List Record → List Item
+placed place [] = []
+placed place (r ∷ rs) = item.One place r ∷ placed (advanced place (length (spelling r))) rs
+
+-- the place behind records that are spelled one behind the other
+abbrev pub behind : ℕ → List Record → ℕ
+behind place [] = place
+behind place (r ∷ rs) = behind (advanced place (length (spelling r))) rs
+
+-- what an ending says of the rest of a stream, which has this place
+abbrev pub EndsWith : ℕ → List ℕ → Ending → Type 0
+EndsWith place bytes ending_kind.Clean = bytes ≡ []
+EndsWith place bytes (ending_kind.Inside at) = (at ≡ place) × (1 ≤ length bytes) × (found_in bytes ≡ found.More)
+EndsWith place bytes (ending_kind.Bad at why) = (at ≡ place) × (found_in bytes ≡ found.Bad why)
+
+-- A stream goes on behind its rest: whatever follows, its items are those that it has and those of the rest with what
+-- follows, and it ends as these do. At the front of the rest stands no item.
+pub record GoesOnBehind (place : ℕ) (bytes : List ℕ) : Type 0 where
+  pub begins : (more : List ℕ) → items place (bytes ++ more) ≡ items place bytes ++ items (rest_place place bytes) (rest place bytes ++ more)
+  pub ends : (more : List ℕ) → ending place (bytes ++ more) ≡ ending (rest_place place bytes) (rest place bytes ++ more)
+  pub no_more : IsRest (rest place bytes)
+
 -- An answer about the front of some bytes says what the stream that they begin has: whatever follows, its items are what
 -- the answer gives and those behind it, and it ends as what is behind it does. Behind a refusal there is nothing.
 pub record GoesOn (bytes : List ℕ) (f : Found) : Type 0 where
@@ -96,5 +120,6 @@ pub record GoesOn (bytes : List ℕ) (f : Found) : Type 0 where
       → items place (bytes ++ more) ≡ told place f ++ items (place_after place f) (drop (used_of f) bytes ++ more)
   pub ends : (place : ℕ) (more : List ℕ) → f ≢ found.More
       → ending place (bytes ++ more) ≡ ending (place_after place f) (drop (used_of f) bytes ++ more)
+  pub unfinished : (place : ℕ) → f ≡ found.More → items place bytes ≡ []
   pub refused : (place : ℕ) (more : List ℕ) (why : Reason) → f ≡ found.Bad why
-      → (items place (bytes ++ more) ≡ []) × (ending place (bytes ++ more) ≡ ending place bytes)
+      → (items place (bytes ++ more) ≡ []) × (ending place (bytes ++ more) ≡ ending_kind.Bad place why)

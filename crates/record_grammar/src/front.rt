@@ -4,12 +4,23 @@ ghost use Rattle.record_grammar.specs.Reading.{Backs, decided_header, decided_pa
 ghost use Rattle.record_grammar.specs.Reading.{kind_of, refused_for, refused_ids, refused_length};
 ghost use Rattle.record_grammar.specs.Reading.{timestamp_in};
 
+use sync_ids::{MAX_BODY, MAX_VERSIONS};
+
 /// The greatest length of a payload, in bytes (BSP, "Records").
 pub const MAX_PAYLOAD: usize = 49_152;
 
-pub(crate) const HEADER_LEN: usize = 4;
+/// The length of the longest record, in bytes.
+pub const MAX_RECORD: usize = HEADER_LEN + MAX_PAYLOAD;
+
+/// The length of a record's header, in bytes: version, type and the payload's length.
+pub const HEADER_LEN: usize = 4;
 
 pub(crate) const ID_LEN: usize = 32;
+
+pub(crate) const NONCE_LEN: usize = 16;
+
+// Where the body begins in the payload of a message, behind the group's id and the time.
+pub(crate) const BODY_AT: usize = 40;
 
 /// Why the front of some bytes is no record.
 #[derive(Clone, Copy, Debug, PartialEq, Eq)]
@@ -88,10 +99,10 @@ fn refused_for(kind: Kind, len: usize) -> Option<Reason>
 {
     match kind {
         Kind::Ack | Kind::Offer | Kind::Request => refused_ids(len),
-        Kind::Message if len < 41 => Some(Reason::ShortMessage),
-        Kind::Message if len > 32_808 => Some(Reason::BodyTooLong),
-        Kind::Versions if len == 0 || len > 10 => Some(Reason::BadVersions),
-        Kind::Priority if len != 16 => Some(Reason::BadNonce),
+        Kind::Message if len <= BODY_AT => Some(Reason::ShortMessage),
+        Kind::Message if len > BODY_AT + MAX_BODY => Some(Reason::BodyTooLong),
+        Kind::Versions if len == 0 || len > MAX_VERSIONS => Some(Reason::BadVersions),
+        Kind::Priority if len != NONCE_LEN => Some(Reason::BadNonce),
         Kind::Message | Kind::Versions | Kind::Priority | Kind::Other => None,
     }
 }
@@ -107,11 +118,11 @@ fn refused_length(kind: Kind, len: usize) -> Option<Reason>
 }
 
 pub(crate) fn timestamp_in(payload: &[u8]) -> u64
-    requires { 40 ≤ length payload.now }
+    requires { BODY_AT ≤ length payload.now }
     ensures { result ≡ timestamp_in payload.now }
 {
     let mut bytes = [0u8; 8];
-    bytes.copy_from_slice(&payload[32..40]);
+    bytes.copy_from_slice(&payload[ID_LEN..BODY_AT]);
     u64::from_be_bytes(bytes)
 }
 

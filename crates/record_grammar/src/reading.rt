@@ -1,13 +1,18 @@
 //! Reading a record.
-ghost use Rattle.std.specs.Prelude.{◌≡◌, ◌^◌, ◌<◌, ◌≤◌, length, IfOk};
+ghost use Rattle.std.specs.Prelude.{◌≡◌, ◌+◌, ◌^◌, ◌<◌, ◌≤◌, length, IfOk};
 ghost use Rattle.record_grammar.specs.Laws.{IsSpelled};
 ghost use Rattle.record_grammar.specs.Stream.{GoesOn};
 ghost use Rattle.record_grammar.specs.Reading.{decided_payload, found_in, found_payload, ids_of};
 ghost use Rattle.record_grammar.specs.Reading.{kind_of, message_of, refused_length, timestamp_in};
 
-use crate::front::{Front, HEADER_LEN, ID_LEN, Kind, Reason, front_of, kind_of, timestamp_in};
+use crate::front::{
+    BODY_AT, Front, HEADER_LEN, ID_LEN, Kind, MAX_PAYLOAD, NONCE_LEN, Reason, front_of, kind_of,
+    timestamp_in,
+};
 use std::alloc::{AllocError, Global};
-use sync_ids::{Fixed, IdList, Message, MessageId, Nonce, Record, VersionList};
+use sync_ids::{
+    Fixed, IdList, MAX_BODY, MAX_IDS, MAX_VERSIONS, Message, MessageId, Nonce, Record, VersionList,
+};
 
 /// What was read at the front of some bytes.
 #[derive(Debug, Drop)]
@@ -23,7 +28,7 @@ pub enum Found {
 }
 
 fn id_of(bytes: &[u8]) -> MessageId
-    requires { length bytes.now ≡ 32 }
+    requires { length bytes.now ≡ ID_LEN }
     ensures { result ≡ bytes.now }
 {
     let mut id = [0u8; ID_LEN];
@@ -43,9 +48,9 @@ fn ids_of(alloc: Global, payload: &[u8]) -> Result<Vec<MessageId>, AllocError>
     Ok(ids)
 }
 
-fn id_list_of(alloc: Global, payload: &[u8]) -> Result<IdList<1536>, AllocError>
-    requires some { 32 ≤ length payload.now }
-    requires few { length payload.now ≤ 49152 }
+fn id_list_of(alloc: Global, payload: &[u8]) -> Result<IdList<MAX_IDS>, AllocError>
+    requires some { ID_LEN ≤ length payload.now }
+    requires few { length payload.now ≤ MAX_PAYLOAD }
     ensures { IfOk result (λ ids. ids ≡ ids_of payload.now) }
 {
     match IdList::new(ids_of(alloc, payload)?) {
@@ -55,13 +60,13 @@ fn id_list_of(alloc: Global, payload: &[u8]) -> Result<IdList<1536>, AllocError>
 }
 
 fn message_of(alloc: Global, payload: &[u8]) -> Result<Message, AllocError>
-    requires some { 41 ≤ length payload.now }
-    requires few { length payload.now ≤ 32808 }
+    requires some { BODY_AT < length payload.now }
+    requires few { length payload.now ≤ BODY_AT + MAX_BODY }
     requires time { timestamp_in payload.now < 2 ^ 63 }
     ensures { IfOk result (λ message. message ≡ message_of payload.now) }
 {
     let group = id_of(&payload[..ID_LEN]);
-    let body = Vec::from_slice(alloc, &payload[40..])?;
+    let body = Vec::from_slice(alloc, &payload[BODY_AT..])?;
     match Message::new(group, timestamp_in(payload), body) {
         Ok(message) => Ok(message),
         Err(_) => unreachable!(),
@@ -70,7 +75,7 @@ fn message_of(alloc: Global, payload: &[u8]) -> Result<Message, AllocError>
 
 fn versions_of(alloc: Global, payload: &[u8]) -> Result<VersionList, AllocError>
     requires some { 1 ≤ length payload.now }
-    requires few { length payload.now ≤ 10 }
+    requires few { length payload.now ≤ MAX_VERSIONS }
     ensures { IfOk result (λ versions. versions ≡ payload.now) }
 {
     match VersionList::new(Vec::from_slice(alloc, payload)?) {
@@ -80,10 +85,10 @@ fn versions_of(alloc: Global, payload: &[u8]) -> Result<VersionList, AllocError>
 }
 
 fn nonce_of(payload: &[u8]) -> Nonce
-    requires { length payload.now ≡ 16 }
+    requires { length payload.now ≡ NONCE_LEN }
     ensures { result ≡ payload.now }
 {
-    let mut nonce = [0u8; 16];
+    let mut nonce = [0u8; NONCE_LEN];
     nonce.copy_from_slice(payload);
     Fixed(nonce)
 }

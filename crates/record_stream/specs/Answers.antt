@@ -1,13 +1,12 @@
 -- What a reader answers.
-use Rattle.std.specs.Prelude.{◌≡◌, ℕ, true, false, ◌-◌, ◌<◌, List, [], ◌∷◌, ◌++◌, length}
-use Rattle.record_grammar.specs.Stream.{IsRest, ending, items}
+use Rattle.std.specs.Prelude.{◌≡◌, ℕ, false, ◌+◌, ◌-◌, ◌<◌, List, [], ◌∷◌, length}
 use Rattle.record_grammar.specs.declared.stream.Item.{Item}
 use Rattle.record_grammar.specs.declared.stream.Item.TheVariants as item
 use Rattle.record_grammar.specs.declared.reading.Found.{Found}
 use Rattle.record_grammar.specs.declared.reading.Found.TheVariants as found
 use Rattle.record_stream.specs.declared.reader.Next.{Next}
 use Rattle.record_stream.specs.declared.reader.Next.TheVariants as next
-use Rattle.record_stream.specs.Reading.{ReaderState}
+use Rattle.record_stream.specs.Reading.{AwaitsBytes, EndsBad, ReaderState}
 
 -- the answer for what stands at the front of the bytes
 abbrev pub next_of : ℕ → Found → Next
@@ -23,16 +22,18 @@ told_by (next.Skipped place type_byte len) = item.Skipped place type_byte len �
 told_by next.More = []
 told_by (next.Bad place why) = []
 
--- what an answer says of the bytes that are left: fewer after an item; no item at their front where none was given, and
--- then room for at least one byte more, unless the reader has failed
+-- What an answer says of the bytes that are left: fewer after an item. After the others no item stands at their front; then
+-- the reader is as it was, with room for at least one byte more, or nothing that may follow gives an item or another ending.
 abbrev pub LeavesAt : Next → ReaderState → ReaderState → Type 0
 LeavesAt (next.One place r) old new = length new.bytes < length old.bytes
 LeavesAt (next.Skipped place type_byte len) old new = length new.bytes < length old.bytes
-LeavesAt next.More old new = IsRest new.bytes × (length new.bytes < 49156) × (new.failed ≡ false)
-LeavesAt (next.Bad place why) old new = IsRest new.bytes × (new.failed ≡ true)
+LeavesAt next.More old new = (new ≡ old) × AwaitsBytes new × (new.failed ≡ false)
+LeavesAt (next.Bad place why) old new = AwaitsBytes new × EndsBad new place why
 
--- Some items and a reader, before and after. Whatever comes, the items so far and those of the rest are those of all, and
--- the rest ends as all does.
-pub record Continues (had : List Item) (old : ReaderState) (has : List Item) (new : ReaderState) : Type 0 where
-  pub items_stay : (more : List ℕ) → had ++ items old.place (old.bytes ++ more) ≡ has ++ items new.place (new.bytes ++ more)
-  pub ending_stays : (more : List ℕ) → ending old.place (old.bytes ++ more) ≡ ending new.place (new.bytes ++ more)
+-- The same of the bytes held together with those that are left of a piece: after an item fewer, after the others nothing is
+-- left of the piece.
+abbrev pub LeavesOf : Next → List ℕ → ReaderState → List ℕ → ReaderState → Type 0
+LeavesOf (next.One place r) piece old left new = length new.bytes + length left < length old.bytes + length piece
+LeavesOf (next.Skipped place type_byte len) piece old left new = length new.bytes + length left < length old.bytes + length piece
+LeavesOf next.More piece old left new = (left ≡ []) × AwaitsBytes new × (new.failed ≡ false)
+LeavesOf (next.Bad place why) piece old left new = (left ≡ []) × AwaitsBytes new × EndsBad new place why

@@ -1,16 +1,28 @@
--- Pieces of a stream.
-use Rattle.std.specs.Prelude.{◌≡◌, ℕ, ◌<◌, false, List, ◌++◌, length}
-use Rattle.record_grammar.specs.Stream.{IsRest, ending, items}
+-- A stream that is heard in pieces.
+use Rattle.std.specs.Prelude.{◌≡◌, ℕ, ◌+◌, ◌<◌, List, [], ◌++◌, length, Option, Some, None}
+use Rattle.record_grammar.specs.Stream.{ending, items}
 use Rattle.record_grammar.specs.declared.stream.Item.{Item}
-use Rattle.record_stream.specs.Reading.{ReaderState}
+use Rattle.record_stream.specs.Reading.{AwaitsBytes, ReaderState, ReadsOn, fresh}
 
--- every item that stands whole in the bytes held has been taken, and there is room for more unless the reader has failed
-pub record IsReady (s : ReaderState) : Type 0 where
-  pub rest : IsRest s.bytes
-  pub room : s.failed ≡ false → length s.bytes < 49156
+-- A reader took a piece but for what is left of it, and a listener heard the items that it gave, in order: whatever it had
+-- heard before since some state, it has heard that and these since then.
+pub record Hearing {L : Type 0} (heard : L → List Item → L → Type 0) (piece : List ℕ) (old : ReaderState) (left : List ℕ) (new : ReaderState) (l l' : L) : Type 0 where
+  pub has : List Item
+  pub reads : ReadsOn piece old has left new
+  pub hears : (first : L) (before : List Item) → heard first before l → heard first (before ++ has) l'
 
--- Some items and a reader, before a piece came, and after it was heard but for what is left of it: whatever comes behind
--- the piece, the items so far and those of the rest are those of all, and the rest ends as all does.
-pub record Hears (piece left : List ℕ) (had : List Item) (old : ReaderState) (has : List Item) (new : ReaderState) : Type 0 where
-  pub items_stay : (more : List ℕ) → had ++ items old.place (old.bytes ++ (piece ++ more)) ≡ has ++ items new.place (new.bytes ++ (left ++ more))
-  pub ending_stays : (more : List ℕ) → ending old.place (old.bytes ++ (piece ++ more)) ≡ ending new.place (new.bytes ++ (left ++ more))
+-- What is left after an item was taken: fewer bytes, held or of the piece. Where none was taken nothing is left of the piece.
+abbrev pub Leaves : Option Item → List ℕ → ReaderState → List ℕ → ReaderState → Type 0
+Leaves (Some i) piece old left new = length new.bytes + length left < length old.bytes + length piece
+Leaves None piece old left new = (left ≡ []) × AwaitsBytes new
+
+-- What was read of a piece, and then of what was left of it with more behind it, was read of both as one piece.
+abbrev pub ReadingsJoin : Type 0
+ReadingsJoin = (piece left more rest : List ℕ) (old mid new : ReaderState) (has others : List Item) → ReadsOn piece old has left mid
+    → ReadsOn (left ++ more) mid others rest new → ReadsOn (piece ++ more) old (has ++ others) rest new
+
+-- Once all bytes of a stream were read from its start, the items given are those of the stream, and it ends as what the
+-- reader holds does.
+abbrev pub ReadingsAreWhole : Type 0
+ReadingsAreWhole = (bytes : List ℕ) (has : List Item) (r : ReaderState) → ReadsOn bytes fresh has [] r → AwaitsBytes r
+    → (items 0 bytes ≡ has) × (ending 0 bytes ≡ ending r.place r.bytes)

@@ -1,11 +1,10 @@
 //! A stream in any pieces.
-ghost use Rattle.std.specs.Prelude.{◌≡◌, ◌++◌, ℕ, List, [], IfOk, OnOk};
+ghost use Rattle.std.specs.Prelude.{◌≡◌, ◌++◌, IfOk};
 ghost use Rattle.std.specs.List.{flat_map};
-ghost use Rattle.record_grammar.specs.Stream.{IsRest, ending, items};
-ghost use Rattle.record_stream.specs.Answers.{Continues};
-ghost use Rattle.record_stream.specs.Pieces.{Hears, IsReady};
+ghost use Rattle.record_grammar.specs.Stream.{ending, items};
 
-use crate::reader::{Next, Reader};
+use crate::listener::{Listener, hear_piece};
+use crate::reader::Reader;
 use record_grammar::{Ending, Item};
 use std::alloc::{AllocError, Global};
 
@@ -18,45 +17,24 @@ pub struct Heard {
     pub ending: Ending,
 }
 
-/// Takes every item that stands whole at the front of the bytes held, and adds it to the items. It
-/// fails only for want of memory.
-pub fn take_items(reader: &mut Reader, items: &mut Vec<Item>) -> Result<(), AllocError>
-    ensures stream { OnOk result (Continues items.old.items reader.old items.new.items reader.new) }
-    ensures ready { OnOk result (IsReady reader.new) }
-{
-    'items: loop {
-        match reader.next()? {
-            Next::One(place, record) => items.push(Item::One(place, record))?,
-            Next::Skipped(place, type_byte, len) => {
-                items.push(Item::Skipped(place, type_byte, len))?;
-            }
-            Next::More | Next::Bad(_, _) => return Ok(()),
-        }
-    }
+// Keeps the items that it hears.
+#[derive(Drop)]
+struct Keeper {
+    items: Vec<Item>,
 }
 
-/// Hears a piece whole, and adds the items that it completes. Once the reader has failed nothing
-/// that comes counts. It fails only for want of memory.
-pub fn read_piece(
-    reader: &mut Reader,
-    piece: &[u8],
-    items: &mut Vec<Item>,
-) -> Result<(), AllocError>
-    requires { IsReady reader.old }
-    ensures stream { OnOk result (Hears piece.now [] items.old.items reader.old items.new.items
-        reader.new) }
-    ensures ready { OnOk result (IsReady reader.new) }
-{
-    let mut at = 0;
-    'feeds: while at < piece.len() {
-        let count = reader.feed(&piece[at..]);
-        if count == 0 {
-            break;
-        }
-        take_items(reader, items)?;
-        at += count;
+impl Listener for Keeper {
+    ghost use Rattle.std.specs.Prelude.{◌≡◌, ◌++◌};
+    ghost use Rattle.std.proofs.Common.{append-nil, sym};
+
+    ghost heard = { λ first items now. now.items.items ≡ first.items.items ++ items };
+
+    ghost heard_nothing = { λ l. sym (append-nil l.items.items) };
+
+    fn hear(&mut self, _alloc: Global, item: Item) -> Result<(), AllocError> {
+        self.items.push(item)?;
+        Ok(())
     }
-    Ok(())
 }
 
 /// What a stream has that comes in these pieces: however it is cut, the items and the ending of the
@@ -68,12 +46,14 @@ pub fn read_pieces(alloc: Global, pieces: &[Vec<u8>]) -> Result<Heard, AllocErro
         (λ heard. heard.ending ≡ ending 0 (flat_map (λ piece. piece.items) pieces.now)) }
 {
     let mut reader = Reader::new(alloc)?;
-    let mut items = Vec::new(alloc);
+    let mut keeper = Keeper {
+        items: Vec::new(alloc),
+    };
     'pieces: for piece in pieces {
-        read_piece(&mut reader, piece.as_slice(), &mut items)?;
+        hear_piece(alloc, &mut reader, piece.as_slice(), &mut keeper)?;
     }
     Ok(Heard {
-        items,
         ending: reader.end(),
+        items: keeper.items,
     })
 }

@@ -1,19 +1,19 @@
 //! The reader of a stream.
-ghost use Rattle.std.specs.Prelude.{◌≡◌, ◌≢◌, ℕ, ◌-◌, ◌<◌, ◌++◌, List, [], min, length, take, IfOk};
-ghost use Rattle.std.specs.Prelude.{OnOk, OnErr, true, if◌then◌else◌};
+ghost use Rattle.std.specs.Prelude.{◌≡◌, ◌≢◌, ℕ, ◌-◌, ◌<◌, ◌++◌, List, [], min, length, take};
+ghost use Rattle.std.specs.Prelude.{IfOk, OnOk, OnErr, true, if◌then◌else◌};
 ghost use Rattle.record_grammar.specs.Reading.{found_in};
 ghost use Rattle.record_grammar.specs.Stream.{IsRest, ending, items};
-ghost use Rattle.record_stream.specs.Reading.{after, fresh};
+ghost use Rattle.record_stream.specs.Reading.{AwaitsBytes, EndsBad, ReadsOn, after, fresh};
+ghost use Rattle.record_grammar.specs.declared.front.Reason.{Reason};
 
-use record_grammar::{Ending, Found, Reason, ending_of, read_one};
+use crate::piece::Piece;
+use record_grammar::{Ending, Found, HEADER_LEN, MAX_RECORD, Reason, ending_of, read_one};
 use std::alloc::{AllocError, Global};
 use std::marker::Model;
 use sync_ids::Record;
 
 /// How many bytes a reader holds at most: those of the longest record.
-pub const BUFFER_LEN: usize = 49_156;
-
-const HEADER_LEN: usize = 4;
+pub const BUFFER_LEN: usize = MAX_RECORD;
 
 /// What stands next in a stream. The first number is its place, from 0; one past 2^64 - 1 counts as
 /// 2^64 - 1.
@@ -64,13 +64,13 @@ fn zeros(alloc: Global, len: usize) -> Result<Vec<u8>, AllocError>
 }
 
 impl Reader {
-    ghost use Rattle.record_stream.specs.Answers.{Continues, LeavesAt, next_of, told_by};
+    ghost use Rattle.record_stream.specs.Answers.{LeavesAt, LeavesOf, next_of, told_by};
 
     /// A reader at the start of a stream. It takes its whole buffer of 49,156 bytes here, and
     /// nothing else later; it fails only for want of memory.
     pub fn new(alloc: Global) -> Result<Reader, AllocError>
         ensures fresh { IfOk result (λ r. r ≡ fresh) }
-        ensures rest { IfOk result (λ r. IsRest r.bytes) }
+        ensures waits { IfOk result (λ r. AwaitsBytes r) }
     {
         Ok(Reader {
             alloc,
@@ -86,17 +86,15 @@ impl Reader {
     /// `next` has answered `Bad`. It takes no memory.
     pub fn feed(&mut self, piece: &[u8]) -> usize
         ensures count { result ≡ (if self.old.failed then 0 else min (length piece.now)
-            (49156 - length self.old.bytes)) }
+            (BUFFER_LEN - length self.old.bytes)) }
         ensures taken { self.new ≡ record self.old {
           bytes = self.old.bytes ++ take result
               piece.now;
         } }
 
         // Where it takes nothing of a piece, nothing that comes changes what the stream has.
-        ensures dropped { self.old.failed ≡ true → (more : List ℕ)
-            → (items self.old.place (self.old.bytes ++ more) ≡ [])
-            × (ending self.old.place (self.old.bytes ++ more) ≡ ending self.old.place
-            self.old.bytes) }
+        ensures dropped { self.old.failed ≡ true
+            → (why : Reason) × EndsBad self.old self.old.place why }
     {
         if self.failed {
             return 0;
@@ -122,7 +120,7 @@ impl Reader {
         ensures answer { IfOk result
             (λ next. next ≡ next_of self.old.place (found_in self.old.bytes)) }
         ensures after { OnOk result (self.new ≡ after self.old (found_in self.old.bytes)) }
-        ensures stream { IfOk result (λ next. Continues [] self.old (told_by next) self.new) }
+        ensures stream { IfOk result (λ next. ReadsOn [] self.old (told_by next) [] self.new) }
         ensures left { IfOk result (λ next. LeavesAt next self.old self.new) }
         ensures err { OnErr result (self.new ≡ self.old) }
     {
@@ -146,12 +144,44 @@ impl Reader {
         }
     }
 
+    /// What stands next in the stream, of which this piece comes next: as `next` answers it of the
+    /// bytes held and of as much of the piece as it takes. The piece keeps what is left of it, and
+    /// after `More` and `Bad` nothing is left. It fails only for want of memory, and then no byte
+    /// and no item is lost.
+    pub fn next_in(&mut self, piece: &mut Piece) -> Result<Next, AllocError>
+        ensures stream { IfOk result
+            (λ next. ReadsOn piece.old self.old (told_by next) piece.new self.new) }
+        ensures left { IfOk result
+            (λ next. LeavesOf next piece.old self.old piece.new self.new) }
+        ensures err { OnErr result (ReadsOn piece.old self.old [] piece.new self.new) }
+    {
+        'feeds: loop {
+            match self.next()? {
+                Next::One(place, record) => return Ok(Next::One(place, record)),
+                Next::Skipped(place, type_byte, len) => {
+                    return Ok(Next::Skipped(place, type_byte, len));
+                }
+                Next::More => {
+                    if piece.left().is_empty() {
+                        return Ok(Next::More);
+                    }
+                    let count = self.feed(piece.left());
+                    piece.pass(count);
+                }
+                Next::Bad(place, reason) => {
+                    piece.pass(piece.left().len());
+                    return Ok(Next::Bad(place, reason));
+                }
+            }
+        }
+    }
+
     /// How the stream ends, if nothing more comes. No whole record and no skipped one stands at the
     /// front of the bytes held, as after `next` answered `More` or `Bad`. It takes no memory.
-    pub fn end(self) -> Ending
-        requires { IsRest self.bytes }
-        ensures ending { result ≡ ending self.place self.bytes }
-        ensures nothing { items self.place self.bytes ≡ [] }
+    pub fn end(&self) -> Ending
+        requires { IsRest self.now.bytes }
+        ensures ending { result ≡ ending self.now.place self.now.bytes }
+        ensures nothing { items self.now.place self.now.bytes ≡ [] }
     {
         ending_of(self.place, &self.buffer.as_slice()[self.start..self.end])
     }

@@ -9,6 +9,3 @@ mod rows;
 mod wanted;
 
 pub use retry::Retry;
-
-#[cfg(test)]
-mod tests;

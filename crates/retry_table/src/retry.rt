@@ -12,6 +12,7 @@ use crate::queues::Queues;
 use crate::rows::KeptRow;
 use crate::wanted::Wanted;
 use std::alloc::{AllocError, Global};
+use std::hash::RandomState;
 use std::marker::Model;
 use sync_ids::MessageId;
 use sync_rules::Mode;
@@ -53,25 +54,26 @@ fn no_rows(alloc: Global) -> Result<Vec<Queues>, AllocError>
 }
 
 /// The wanted ids of all contacts: none.
-fn no_wants(alloc: Global) -> Result<Vec<Wanted>, AllocError>
+fn no_wants(alloc: Global, hasher: RandomState) -> Result<Vec<Wanted>, AllocError>
     ensures wants { IfOk result (λ v. (contact : ℕ)
         → slice_index_or v.items contact no_wants ≡ no_wants) }
     ensures len { IfOk result (λ v. length v.items ≡ 256) }
 {
     let mut wants = Vec::new(alloc);
     for _i in 0..CONTACTS {
-        wants.push(Wanted::new(alloc))?;
+        wants.push(Wanted::new(alloc, hasher))?;
     }
     Ok(wants)
 }
 
 impl Retry {
-    /// A table with no rows, no wanted ids and no room. Answers an error where there is no memory.
-    pub fn new(alloc: Global) -> Result<Retry, AllocError>
+    /// A table with no rows, no wanted ids and no room; ids are hashed by `hasher`. Answers an
+    /// error where there is no memory.
+    pub fn new(alloc: Global, hasher: RandomState) -> Result<Retry, AllocError>
         ensures { IfOk result IsEmpty }
     {
         let rows = no_rows(alloc)?;
-        let wants = no_wants(alloc)?;
+        let wants = no_wants(alloc, hasher)?;
         Ok(Retry { rows, wants })
     }
 

@@ -8,6 +8,7 @@ ghost use Rattle.retry_table.specs.Due.{requests_in};
 use crate::places::IDS_LIMIT;
 use indexmap::IndexSet;
 use std::alloc::{AllocError, Global};
+use std::hash::RandomState;
 use std::marker::Model;
 use sync_ids::MessageId;
 
@@ -15,7 +16,7 @@ use sync_ids::MessageId;
 /// there is room.
 #[derive(Drop)]
 pub(crate) struct Wanted {
-    ids: IndexSet<MessageId>,
+    ids: IndexSet<MessageId, RandomState>,
     room: usize,
 }
 
@@ -32,12 +33,12 @@ impl Model for Wanted {
 }
 
 impl Wanted {
-    /// No ids, and no room.
-    pub(crate) fn new(alloc: Global) -> Wanted
+    /// No ids, and no room; ids are hashed by `hasher`.
+    pub(crate) fn new(alloc: Global, hasher: RandomState) -> Wanted
         ensures { result ≡ no_wants }
     {
         Wanted {
-            ids: IndexSet::new(alloc),
+            ids: IndexSet::with_hasher(alloc, hasher),
             room: 0,
         }
     }
@@ -82,7 +83,10 @@ impl Wanted {
     pub(crate) fn unwant(&mut self, id: &MessageId)
         ensures { self.new ≡ record self.old { ids = without id.now self.old.ids } }
     {
-        self.ids.shift_remove(id);
+        // Where nothing is wanted the id is not even hashed: each message that comes is taken out.
+        if !self.ids.is_empty() {
+            self.ids.shift_remove(id);
+        }
     }
 
     /// Whether an id is wanted.

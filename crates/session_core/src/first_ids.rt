@@ -2,18 +2,21 @@
 ghost use Rattle.std.specs.Prelude.{◌≡◌, IfOk};
 ghost use Rattle.sync_rules.specs.Lists.{firsts};
 
-use indexmap::IndexSet;
 use std::alloc::{AllocError, Global};
+use std::collections::BTreeSet;
 use sync_ids::MessageId;
 
-/// The ids of a list, each once, in the order of their first places. It fails only for want of
-/// memory.
-pub(crate) fn first_ids(alloc: Global, ids: &[MessageId]) -> Result<IndexSet<MessageId>, AllocError>
-    ensures { IfOk result (λ distinct. distinct.keys ≡ firsts ids.now) }
+/// The ids of a list, each once, in the order of their first places. Whoever chose the ids, each
+/// costs a logarithm of their number. It fails only for want of memory.
+pub(crate) fn first_ids(alloc: Global, ids: &[MessageId]) -> Result<Vec<MessageId>, AllocError>
+    ensures { IfOk result (λ distinct. distinct.items ≡ firsts ids.now) }
 {
-    let mut distinct = IndexSet::new(alloc);
+    let mut known = BTreeSet::new(alloc);
+    let mut distinct = Vec::new(alloc);
     for id in ids {
-        distinct.insert(*id)?;
+        if known.insert(*id)? {
+            distinct.push(*id)?;
+        }
     }
     Ok(distinct)
 }

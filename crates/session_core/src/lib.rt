@@ -11,6 +11,3 @@ mod taking;
 pub use links::{keep, versions_ok};
 pub use outputs::due;
 pub use taking::{MAX_WANTED, take};
-
-#[cfg(test)]
-mod tests;

@@ -1,6 +1,6 @@
 -- What settling a store, adding a batch to it and settling again comes to.
 use Rattle.std.specs.Prelude.{◌≡◌, ◌⊎◌, ℕ, ◌+◌, ◌<◌, ◌≤◌, false, List, [], ◌∷◌, ◌++◌, Some, Result, Ok, Err}
-use Rattle.outside.specs.declared.counts.TheConstants.{MAX_JOURNAL}
+use Rattle.outside.specs.declared.limits.TheConstants.{MAX_JOURNAL}
 use Rattle.outside.specs.Faults.{Rose}
 use Rattle.outside.specs.Files.{Two, File, read_files, NothingPending}
 use Rattle.outside.specs.Links.{sent_of}

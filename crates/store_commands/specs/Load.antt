@@ -1,6 +1,6 @@
 -- What loading a store comes to.
 use Rattle.std.specs.Prelude.{◌≡◌, List, Option, Result, Ok, Err}
-use Rattle.outside.specs.declared.counts.TheConstants.{MAX_JOURNAL}
+use Rattle.outside.specs.declared.limits.TheConstants.{MAX_JOURNAL}
 use Rattle.outside.specs.Faults.{Rose}
 use Rattle.outside.specs.Files.{Two, File}
 use Rattle.outside.specs.Outside.{Outside}

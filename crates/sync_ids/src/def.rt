@@ -64,10 +64,10 @@ impl GroupDef {
             }) }
         ensures within { IfOk result (λ d. IsGroupDef d) }
         ensures bad_name { IsErrOf result DefFault.BadName ↔ ((length (string_bytes name) ≡ 0)
-            ⊎ (255 < length (string_bytes name))) }
+            ⊎ (MAX_NAME < length (string_bytes name))) }
         ensures long_descriptor { IsErrOf result DefFault.DescriptorTooLong
-            ↔ ((1 ≤ length (string_bytes name)) × (length (string_bytes name) ≤ 255)
-            × (16384 < length descriptor.items)) }
+            ↔ ((1 ≤ length (string_bytes name)) × (length (string_bytes name) ≤ MAX_NAME)
+            × (MAX_DESCRIPTOR < length descriptor.items)) }
     {
         if name.is_empty() || name.len() > MAX_NAME {
             return Err(DefFault::BadName);

@@ -1,6 +1,7 @@
 //! The identifiers of groups and messages.
 ghost use Rattle.std.specs.Prelude.{◌≡◌, ◌^◌, ◌<◌, length};
 ghost use Rattle.sync_ids.specs.Ids.{block_hash_of, group_id_of, message_id_of};
+ghost use Rattle.sync_ids.specs.Values.{MessageValue};
 
 use crate::def::GroupDef;
 use crate::fixed::{Fixed, GroupId, MessageId};
@@ -54,3 +55,8 @@ pub fn message_id(group: &GroupId, timestamp: u64, body: &[u8]) -> MessageId
     parts.part(&block_hash(body));
     Fixed(parts.finish())
 }
+
+/// Every message's id has 32 bytes, of messages too that no program holds. It does nothing.
+pub fn message_ids_are_whole()
+    ensures { (m : MessageValue) → length (message_id_of m) ≡ 32 }
+{}

@@ -6,15 +6,12 @@ mod def;
 mod fixed;
 mod ids;
 mod lists;
-mod post;
+mod message;
 mod records;
 
 pub use def::{DefFault, GroupDef, MAX_DESCRIPTOR, MAX_NAME};
 pub use fixed::{Fixed, GroupId, MessageId, Nonce, NotHex};
-pub use ids::{group_id, message_id};
-pub use lists::{IdList, ListFault, MAX_VERSIONS, VersionList};
-pub use post::{MAX_BODY, MAX_TIMESTAMP, Message, MessageFault};
-pub use records::Record;
-
-#[cfg(test)]
-mod tests;
+pub use ids::{group_id, message_id, message_ids_are_whole};
+pub use lists::{IdList, ListFault, MAX_IDS, MAX_VERSIONS, VersionList};
+pub use message::{MAX_BODY, MAX_TIMESTAMP, Message, MessageFault};
+pub use records::{Record, records_are_within};

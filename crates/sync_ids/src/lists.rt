@@ -1,9 +1,13 @@
 //! The lists of records: ids and versions.
 ghost use Rattle.std.specs.Prelude.{◌≡◌, ◌<◌, ◌≤◌, ◌↔◌, length, Contains, IfOk, IsErrOf, IsTrue};
+ghost use Rattle.sync_ids.specs.Values.{AreIds};
 
 use crate::fixed::MessageId;
 use std::marker::Model;
 use thiserror::Error;
+
+/// The greatest number of ids in a record.
+pub const MAX_IDS: usize = 1_536;
 
 /// The greatest number of versions in a list.
 pub const MAX_VERSIONS: usize = 10;
@@ -16,13 +20,13 @@ pub struct IdList<const MAX: usize> {
 
 impl<const MAX: usize> Model for IdList<MAX> {
     ghost use Rattle.std.specs.Prelude.{List, ℕ};
-    ghost use Rattle.sync_ids.specs.Values.{IsWithin};
+    ghost use Rattle.sync_ids.specs.Values.{IsIdList};
 
     ghost Value = { List (List ℕ) };
 
     ghost view = { λ l. l.ids.items };
 
-    ghost invariant = { λ l. IsWithin MAX l.ids.items };
+    ghost invariant = { λ l. IsIdList MAX l.ids.items };
 }
 
 /// Why a list was refused.
@@ -36,14 +40,24 @@ pub enum ListFault {
     TooMany,
 }
 
+// Shows the prover that ids have 32 bytes each, which it learns of an id that is looked at. It does
+// nothing.
+fn show_whole_ids(ids: &[MessageId])
+    ensures { AreIds ids.now }
+{
+    'ids: for id in ids {
+        let _bytes = id.as_bytes();
+    }
+}
+
 impl<const MAX: usize> IdList<MAX> {
-    ghost use Rattle.sync_ids.specs.Values.{IsWithin};
+    ghost use Rattle.sync_ids.specs.Values.{IsIdList};
 
     /// A list of these ids. `Empty` comes exactly where there are none, and `TooMany` exactly where
     /// there are more than `MAX`. It takes no memory.
     pub fn new(ids: Vec<MessageId>) -> Result<Self, ListFault>
         ensures made { IfOk result (λ l. l ≡ ids.items) }
-        ensures within { IfOk result (λ l. IsWithin MAX l) }
+        ensures within { IfOk result (λ l. IsIdList MAX l) }
         ensures empty { IsErrOf result ListFault.Empty ↔ (length ids.items ≡ 0) }
         ensures too_many { IsErrOf result ListFault.TooMany ↔ (MAX < length ids.items) }
     {
@@ -53,13 +67,14 @@ impl<const MAX: usize> IdList<MAX> {
         if ids.len() > MAX {
             return Err(ListFault::TooMany);
         }
+        show_whole_ids(ids.as_slice());
         Ok(IdList { ids })
     }
 
     /// The ids.
     pub fn as_slice(&self) -> &[MessageId]
         ensures value { result.now ≡ self.now }
-        ensures within { IsWithin MAX self.now }
+        ensures within { IsIdList MAX self.now }
     {
         self.ids.as_slice()
     }
@@ -67,7 +82,7 @@ impl<const MAX: usize> IdList<MAX> {
     /// The ids, given back without taking memory.
     pub fn into_vec(self) -> Vec<MessageId>
         ensures value { result.items ≡ self.entry }
-        ensures within { IsWithin MAX self.entry }
+        ensures within { IsIdList MAX self.entry }
     {
         self.ids
     }
@@ -81,25 +96,25 @@ pub struct VersionList {
 
 impl Model for VersionList {
     ghost use Rattle.std.specs.Prelude.{List, ℕ};
-    ghost use Rattle.sync_ids.specs.Values.{IsWithin};
+    ghost use Rattle.sync_ids.specs.Values.{IsVersionList};
 
     ghost Value = { List ℕ };
 
     ghost view = { λ l. l.versions.items };
 
-    ghost invariant = { λ l. IsWithin 10 l.versions.items };
+    ghost invariant = { λ l. IsVersionList l.versions.items };
 }
 
 impl VersionList {
-    ghost use Rattle.sync_ids.specs.Values.{IsWithin};
+    ghost use Rattle.sync_ids.specs.Values.{IsVersionList};
 
     /// A list of these versions. `Empty` comes exactly where there are none, and `TooMany` exactly
-    /// where there are more than 10. It takes no memory.
+    /// where there are more than 10 (`MAX_VERSIONS`). It takes no memory.
     pub fn new(bytes: Vec<u8>) -> Result<Self, ListFault>
         ensures made { IfOk result (λ l. l ≡ bytes.items) }
-        ensures within { IfOk result (λ l. IsWithin 10 l) }
+        ensures within { IfOk result (λ l. IsVersionList l) }
         ensures empty { IsErrOf result ListFault.Empty ↔ (length bytes.items ≡ 0) }
-        ensures too_many { IsErrOf result ListFault.TooMany ↔ (10 < length bytes.items) }
+        ensures too_many { IsErrOf result ListFault.TooMany ↔ (MAX_VERSIONS < length bytes.items) }
     {
         if bytes.is_empty() {
             return Err(ListFault::Empty);
@@ -113,7 +128,7 @@ impl VersionList {
     /// The versions.
     pub fn as_slice(&self) -> &[u8]
         ensures value { result.now ≡ self.now }
-        ensures within { IsWithin 10 self.now }
+        ensures within { IsVersionList self.now }
     {
         self.versions.as_slice()
     }

@@ -15,11 +15,11 @@ use Rattle.sync_rules.specs.Steps.{is_ended, is_served, is_beside}
 use Rattle.sync_rules.specs.Legal.{Legal}
 use Rattle.sync_rules.specs.EntryTests.{brings, judges, delivers, invalidates, ends}
 use Rattle.sync_rules.specs.Laws.{BringsOnce, JudgesOnce, EndsOnce, IsInOrder}
-use Rattle.sync_rules.proofs.Elements.{same_id-is, among-push, tally, tally-is, all_weaker}
-use Rattle.sync_rules.proofs.StepLaws.{Judges, first_step_some, told_some}
-use Rattle.sync_rules.proofs.Sound.{SoundFacts, contains-more}
-use Rattle.sync_rules.proofs.Kept.{Fits, AllFit, AllFit_front, AllFit_back, IsDelivery, delivery, refusal, sound_all}
-use Rattle.sync_rules.proofs.Runs.{legal_fits, sound_nothing}
+use Rattle.sync_rules.specs.Elements.{same_id-is, among-push, tally, tally-is, all_weaker}
+use Rattle.sync_rules.specs.StepLaws.{Judges, first_step_some, told_some}
+use Rattle.sync_rules.specs.Sound.{SoundFacts, contains-more}
+use Rattle.sync_rules.specs.Kept.{Fits, AllFit, AllFit_front, AllFit_back, IsDelivery, delivery, refusal, sound_all}
+use Rattle.sync_rules.specs.Runs.{legal_fits, sound_nothing}
 
 -- a fact that some entries set, and that stays
 abbrev pub IsScan : (Entry → Bool) → (Facts → Bool) → Type 0

@@ -8,9 +8,9 @@ use Rattle.sync_rules.specs.Clients.{Meaning}
 use Rattle.sync_rules.specs.Facts.{Facts, Held, Id, after, after_all, after_batches, entries_of, group_at, is_held, session_at, contact_of, level_at, is_invisible, known_of, authored, arrived}
 use Rattle.sync_rules.specs.Steps.{next}
 use Rattle.sync_rules.specs.Legal.{IsDue}
-use Rattle.sync_rules.proofs.Elements.{In}
-use Rattle.sync_rules.proofs.StepLaws.{Delivers, Invalidates, first_step_some, told_some}
-use Rattle.sync_rules.proofs.Sound.{SoundFacts, Sound-group, Sound-held, delivered_stays_good, invalid_stays_bad}
+use Rattle.sync_rules.specs.Elements.{In}
+use Rattle.sync_rules.specs.StepLaws.{Delivers, Invalidates, first_step_some, told_some}
+use Rattle.sync_rules.specs.Sound.{SoundFacts, Sound-group, Sound-held, delivered_stays_good, invalid_stays_bad}
 
 -- a message that may come to be held: its group is known and its id is new
 pub record IsNew (f : Facts) (m : MessageValue) : Type 0 where

@@ -14,4 +14,16 @@ pub mod RowLaws
 pub mod PeerFacts
 pub mod Outputs
 pub mod Levels
-pub mod PlainLaws
+pub mod PartsOfIds
+pub mod SameEntries
+pub mod TakenBack
+pub mod Allowing
+pub mod LeftLaws
+pub mod BegunLaws
+pub mod Continuing
+pub mod StepKinds
+pub mod MeetingLaws
+pub mod SessionLaws
+pub mod OutputLaws
+pub mod ConsistencyLaws
+pub mod DueLaws

@@ -19,26 +19,26 @@ use Rattle.sync_rules.specs.Rounds.{graph_of}
 use Rattle.sync_rules.specs.Sessions.{ids_where, ids_limit, shared_ids, is_sendable, is_author, is_ripe, owed_to, wanted_of, send_of, offers_of, first_id, out_or, acks_due, requests_due, send_due, offers_due, due_by}
 use Rattle.sync_rules.specs.Legal.{Legal, IsDue}
 use Rattle.sync_rules.specs.Output.{IsOpen, NamesTheOpen, SendsTheOpen, records_of, records_by, records_in, message_record, first_records, sent, sent_on, GoesOnFrom}
-use Rattle.sync_rules.proofs.Elements.{same_id-is, same_id_itself, In}
-use Rattle.sync_rules.proofs.RoundLaws.{disjoint}
-use Rattle.sync_rules.proofs.Sound.{SoundFacts, held_at-push}
-use Rattle.sync_rules.proofs.Kept.{Fits, AllFit, AllFit_front, AllFit_back, sound_after, sound_all, after_batches-is}
-use Rattle.sync_rules.proofs.Runs.{legal_fits, sound_nothing}
-use Rattle.sync_rules.proofs.Settling.{good_if_delivered, bad_if_invalid, prefix_legal, after_batches-append}
-use Rattle.sync_rules.proofs.HearLaws.{session_after_batches}
+use Rattle.sync_rules.specs.Elements.{same_id-is, same_id_itself, In}
+use Rattle.sync_rules.specs.RoundLaws.{disjoint}
+use Rattle.sync_rules.specs.Sound.{SoundFacts, held_at-push}
+use Rattle.sync_rules.specs.Kept.{Fits, AllFit, AllFit_front, AllFit_back, sound_after, sound_all, after_batches-is}
+use Rattle.sync_rules.specs.Runs.{legal_fits, sound_nothing}
+use Rattle.sync_rules.specs.Settling.{good_if_delivered, bad_if_invalid, prefix_legal, after_batches-append}
+use Rattle.sync_rules.specs.HearLaws.{session_after_batches}
 
 -- ---- the ids that pass a test
 
-record FoundBy (test : Held → Bool) (hs : List Held) (id : Id) : Type 0 where
-  of : Held
-  inside : In of hs
-  same : of.id ≡ id
-  passes : test of ≡ true
+pub record FoundBy (test : Held → Bool) (hs : List Held) (id : Id) : Type 0 where
+  pub of : Held
+  pub inside : In of hs
+  pub same : of.id ≡ id
+  pub passes : test of ≡ true
 
 found_later : (test : Held → Bool) (h : Held) (hs : List Held) (id : Id) → FoundBy test hs id → FoundBy test (h ∷ hs) id
 found_later test h hs id x = record { of = x.of; inside = inr x.inside; same = x.same; passes = x.passes }
 
-found_by : (test : Held → Bool) (hs : List Held) (id : Id) → is_among (ids_where test hs) id ≡ true → FoundBy test hs id
+pub found_by : (test : Held → Bool) (hs : List Held) (id : Id) → is_among (ids_where test hs) id ≡ true → FoundBy test hs id
 found_by test [] id e = absurd (false≢true e)
 found_by test (h ∷ hs) id e =
     elim (test h) as (λ b. test h ≡ b → is_among (cond b (h.id ∷ ids_where test hs) (ids_where test hs)) id ≡ true → FoundBy test (h ∷ hs) id) [
@@ -50,7 +50,7 @@ found_by test (h ∷ hs) id e =
       | false ↦ λ t e. found_later test h hs id (found_by test hs id e)
     ] refl e
 
-among-take : (n : ℕ) (ids : List Id) (id : Id) → is_among (take n ids) id ≡ true → is_among ids id ≡ true
+pub among-take : (n : ℕ) (ids : List Id) (id : Id) → is_among (take n ids) id ≡ true → is_among ids id ≡ true
 among-take zero [] id e = e
 among-take (suc n) [] id e = e
 among-take zero (x ∷ ids) id e = absurd (false≢true e)
@@ -60,7 +60,7 @@ among-take (suc n) (x ∷ ids) id e =
       | inr r ↦ or_right (same_id x id) (is_among ids id) (among-take n ids id r)
     ]
 
-first-among : (ids : List Id) (id : Id) → first_id ids ≡ Some id → is_among ids id ≡ true
+pub first-among : (ids : List Id) (id : Id) → first_id ids ≡ Some id → is_among ids id ≡ true
 first-among [] id e = cc
 first-among (x ∷ ids) id e =
     let same : x ≡ id = cc in
@@ -68,7 +68,7 @@ first-among (x ∷ ids) id e =
 
 -- ---- what is due names what is open
 
-out_or-cases : (a b : Option Out) (what : Out) → out_or a b ≡ Some what → (a ≡ Some what) ⊎ (b ≡ Some what)
+pub out_or-cases : (a b : Option Out) (what : Out) → out_or a b ≡ Some what → (a ≡ Some what) ⊎ (b ≡ Some what)
 out_or-cases None b what e = inr e
 out_or-cases (Some x) b what e = inl e
 
@@ -186,18 +186,18 @@ held_stays_one f (entry.Author m) id h at = held_at-push f.held (authored m) id 
 held_stays_one f (entry.Arrive s m) id h at = held_at-push f.held (arrived (contact_of f.sessions s) m) id h at
 held_stays_one f _ id h at = at
 
-held_stays : (f : Facts) (es : List Entry) (id : Id) (h : Held) → held_at f.held id ≡ Some h → held_at (after_all f es).held id ≡ Some h
+pub held_stays : (f : Facts) (es : List Entry) (id : Id) (h : Held) → held_at f.held id ≡ Some h → held_at (after_all f es).held id ≡ Some h
 held_stays f [] id h at = at
 held_stays f (e ∷ es) id h at = held_stays (after f e) es id h (held_stays_one f e id h at)
 
-records-append : (held : List Held) (session : ℕ) (es fs : List Entry) → records_in held session (es ++ fs) ≡ records_in held session es ++ records_in held session fs
+pub records-append : (held : List Held) (session : ℕ) (es fs : List Entry) → records_in held session (es ++ fs) ≡ records_in held session es ++ records_in held session fs
 records-append held session [] fs = refl
 records-append held session (e ∷ es) fs =
     ap (λ (t : List Record). records_by held session e ++ t) (records-append held session es fs)
     ∙ sym (append_assoc (records_by held session e) (records_in held session es) (records_in held session fs))
 
 -- held messages of one list that are found in another
-abbrev FoundIn : List Held → List Held → Type 0
+abbrev pub FoundIn : List Held → List Held → Type 0
 FoundIn held later = (id : Id) (h : Held) → held_at held id ≡ Some h → held_at later id ≡ Some h
 
 send_kept : (clients : Meaning) (f : Facts) (s : SoundFacts clients f) (o : Option Session) (now : ℕ) (id : Id) (held later : List Held)
@@ -228,7 +228,7 @@ records_kept clients f s (e ∷ es) session later fit then =
     records_kept clients g (sound_after clients f e fit.0 s) es session later fit.1 then in
     λ i. one i ++ rest i
 
-entries_of-append : (bs cs : List (List Entry)) → entries_of (bs ++ cs) ≡ entries_of bs ++ entries_of cs
+pub entries_of-append : (bs cs : List (List Entry)) → entries_of (bs ++ cs) ≡ entries_of bs ++ entries_of cs
 entries_of-append [] cs = refl
 entries_of-append (b ∷ bs) cs = ap (λ (t : List Entry). b ++ t) (entries_of-append bs cs) ∙ sym (append_assoc b (entries_of bs) (entries_of cs))
 

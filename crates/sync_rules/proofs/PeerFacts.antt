@@ -11,10 +11,10 @@ use Rattle.sync_rules.specs.declared.entries.Out.TheVariants as out
 use Rattle.sync_rules.specs.Lists.{same_id, is_among, without}
 use Rattle.sync_rules.specs.Facts.{Facts, Id, Row, Wants, pair_cmp, row_or, row_at, one_more_try, expiry_after, contact_of, latency_of, nothing, after, after_all, ids_or, wanted_from, change_each, wanted_by_none, with_want, without_each, is_held, authored, arrived}
 use Rattle.sync_rules.specs.PeerLaws.{Test, is_with, is_heard, is_shown_seen, is_asked, is_offered, acks, requests, sends, tries, is_out, never, NonePasses, IsLast, count_at, EndsWith, SeenLaw, OwedLaw, AskedLaw, WantedLaw, TriesLaw, NoExpiryLaw, ExpiryLaw, CutLaw}
-use Rattle.sync_rules.proofs.Elements.{same_id-is, same_id_swap, among-push}
-use Rattle.sync_rules.proofs.Kept.{after_all-append}
-use Rattle.sync_rules.proofs.Flags.{is_held-push}
-use Rattle.sync_rules.proofs.RowLaws.{seen_step, owed_step, asked_step, tries_step, expiry_step, expiry_by}
+use Rattle.sync_rules.specs.Elements.{same_id-is, same_id_swap, among-push}
+use Rattle.sync_rules.specs.Kept.{after_all-append}
+use Rattle.sync_rules.specs.Flags.{is_held-push}
+use Rattle.sync_rules.specs.RowLaws.{seen_step, owed_step, asked_step, tries_step, expiry_step, expiry_by}
 
 -- ---- no entry passes, place by place
 
@@ -275,7 +275,7 @@ expiry_law es contact id before behind c earlier later session now what stands p
 
 -- ---- wanted ids
 
-want_put : (wanted : Wants) (c : ℕ) (ids : List Id) (contact : ℕ) → wanted_from (fin_map.insert wanted c ids) contact ≡ cond (nat_eq contact c) ids (wanted_from wanted contact)
+pub want_put : (wanted : Wants) (c : ℕ) (ids : List Id) (contact : ℕ) → wanted_from (fin_map.insert wanted c ids) contact ≡ cond (nat_eq contact c) ids (wanted_from wanted contact)
 want_put wanted c ids contact =
     ap ids_or (fin_map.get-insert nat_cmp_total wanted c ids contact)
     ∙ (chosen (eq_by_cmp nat_cmp contact c) (fin_map.get wanted contact) ∙ ap (λ b. cond b ids (wanted_from wanted contact)) (unsigned_tied contact c))
@@ -321,7 +321,7 @@ drop_step true false a n h = ap not (h refl)
 drop_step false true a n h = refl
 drop_step false false a n h = refl
 
-among-without : (x : Id) (ids : List Id) (id : Id) → is_among (without x ids) id ≡ (is_among ids id && not (same_id x id))
+pub among-without : (x : Id) (ids : List Id) (id : Id) → is_among (without x ids) id ≡ (is_among ids id && not (same_id x id))
 among-without x [] id = refl
 among-without x (y ∷ ids) id =
     let h = among-without x ids id in
@@ -343,7 +343,7 @@ and_not_none : (a : Bool) → a ≡ (a && true)
 and_not_none true = refl
 and_not_none false = refl
 
-among-without_each : (xs : List Id) (ids : List Id) (id : Id) → is_among (without_each xs ids) id ≡ (is_among ids id && not (is_among xs id))
+pub among-without_each : (xs : List Id) (ids : List Id) (id : Id) → is_among (without_each xs ids) id ≡ (is_among ids id && not (is_among xs id))
 among-without_each [] ids id = and_not_none (is_among ids id)
 among-without_each (x ∷ xs) ids id =
     among-without_each xs (without x ids) id

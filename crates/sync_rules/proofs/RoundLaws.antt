@@ -6,7 +6,7 @@ use Rattle.sync_rules.specs.declared.answers.Judgement.TheVariants as judgement
 use Rattle.sync_rules.specs.Facts.{Held, Id, held_at}
 use Rattle.sync_rules.specs.Steps.{is_beside, is_elsewhere}
 use Rattle.sync_rules.specs.Rounds.{Graph, good, good_by, good_next, bad, bad_by, bad_first, bad_more, worse_by}
-use Rattle.sync_rules.proofs.Elements.{all_weaker, any_weaker, all_not_any}
+use Rattle.sync_rules.specs.Elements.{all_weaker, any_weaker, all_not_any}
 
 -- a message is not held in a group and in another one
 pub beside_or_elsewhere : (group : Id) (o : Option Held) → is_beside group o ≡ true → is_elsewhere group o ≡ true → ⊥

@@ -10,8 +10,8 @@ use Rattle.sync_rules.specs.declared.entries.Out.TheVariants as out
 use Rattle.sync_rules.specs.Lists.{same_id, is_among, has_repeat, firsts, firsts_after, unless_among}
 use Rattle.sync_rules.specs.Facts.{Facts, Id, Row, Rows, pair_cmp, no_row, is_no_row, row_or, row_at, put_row, change_row, change_rows, row_heard, row_seen, row_acked, row_asked, row_offered, row_sent, one_more_try, expiry_after, contact_of, latency_of, after}
 use Rattle.sync_rules.specs.PeerLaws.{is_with, is_heard, is_shown_seen, is_asked, acks, sends, tries, is_out, never}
-use Rattle.sync_rules.proofs.Elements.{same_id-is, same_id_itself, same_id_swap}
-use Rattle.sync_rules.proofs.ScanLaws.{pair_total, pair_tied}
+use Rattle.sync_rules.specs.Elements.{same_id-is, same_id_itself, same_id_swap}
+use Rattle.sync_rules.specs.ScanLaws.{pair_total, pair_tied}
 
 -- ---- one row changed
 

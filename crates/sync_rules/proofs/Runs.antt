@@ -16,9 +16,9 @@ use Rattle.sync_rules.specs.Facts.{Facts, Held, Id, after, after_all, after_batc
 use Rattle.sync_rules.specs.Steps.{next}
 use Rattle.sync_rules.specs.Sessions.{taken, taken_message, taken_message_of, taken_acks, taken_requests, taken_offers, taken_offer, one_if, is_welcome, is_remembered, room_after}
 use Rattle.sync_rules.specs.Legal.{Allowed, IsSettling, GoesOn, Legal}
-use Rattle.sync_rules.proofs.StepLaws.{next_is_settling}
-use Rattle.sync_rules.proofs.Sound.{SoundFacts}
-use Rattle.sync_rules.proofs.Kept.{Fits, AllFit, sound_all, AllFit-append}
+use Rattle.sync_rules.specs.StepLaws.{next_is_settling}
+use Rattle.sync_rules.specs.Sound.{SoundFacts}
+use Rattle.sync_rules.specs.Kept.{Fits, AllFit, sound_all, AllFit-append}
 
 -- ---- the entries of a Take
 

@@ -18,9 +18,9 @@ use Rattle.sync_rules.specs.Facts.{Facts, Held, Known, Id, Pair, Levels, pair_cm
 use Rattle.sync_rules.specs.Steps.{step, first_step, first_or_next, next, verdict_for, verdict_by, kind_of_def, is_beside, is_elsewhere}
 use Rattle.sync_rules.specs.EntryTests.{judges, delivers, invalidates}
 use Rattle.sync_rules.specs.Scans.{message_at, def_at, is_beside_message, is_elsewhere_message, message_of, def_of, message_named, def_named, first_of_two, first_message, first_message_in, first_def, first_def_in, any_entry, level_then, last_level, last_level_in, step_brought, first_step_of, first_step_in}
-use Rattle.sync_rules.proofs.Elements.{any-append}
-use Rattle.sync_rules.proofs.Kept.{after_batches-is}
-use Rattle.sync_rules.proofs.Flags.{IsScan, scanned, judged_scan, invalid_scan, delivered_scan}
+use Rattle.sync_rules.specs.Elements.{any-append}
+use Rattle.sync_rules.specs.Kept.{after_batches-is}
+use Rattle.sync_rules.specs.Flags.{IsScan, scanned, judged_scan, invalid_scan, delivered_scan}
 
 -- ---- what some entry says
 
@@ -77,11 +77,11 @@ group_at-append (y ∷ groups) x id =
 
 -- the first of three
 module _ {A : Type 0} where
-  first-none : (a : Option A) → first_of_two a None ≡ a
+  pub first-none : (a : Option A) → first_of_two a None ≡ a
   first-none None = refl
   first-none (Some x) = refl
 
-  first-assoc : (a b c : Option A) → first_of_two (first_of_two a b) c ≡ first_of_two a (first_of_two b c)
+  pub first-assoc : (a b c : Option A) → first_of_two (first_of_two a b) c ≡ first_of_two a (first_of_two b c)
   first-assoc None b c = refl
   first-assoc (Some x) b c = refl
 

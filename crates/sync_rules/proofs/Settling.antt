@@ -15,12 +15,12 @@ use Rattle.sync_rules.specs.Steps.{IsSettled, verdict_in, is_beside, is_elsewher
 use Rattle.sync_rules.specs.Rounds.{graph_of, good, good_by, good_next, bad, bad_by, bad_first, bad_more, worse_by}
 use Rattle.sync_rules.specs.Legal.{Legal, GoesOn}
 use Rattle.sync_rules.specs.Laws.{IsDecided, Decides, IsKeptBy}
-use Rattle.sync_rules.proofs.Elements.{all_weaker, any_weaker, tally, tally_le}
-use Rattle.sync_rules.proofs.RoundLaws.{good_le, bad_le, disjoint, good_grows, bad_grows}
-use Rattle.sync_rules.proofs.StepLaws.{Rests, Waits, first_step_none, told_some}
-use Rattle.sync_rules.proofs.Sound.{SoundFacts, has_delivery, has_refusal, held_at-In, held_at-id, groups_grow, held_grow}
-use Rattle.sync_rules.proofs.Kept.{AllFit, sound_after, sound_all}
-use Rattle.sync_rules.proofs.Runs.{legal_sound, allowed_fits}
+use Rattle.sync_rules.specs.Elements.{all_weaker, any_weaker, tally, tally_le}
+use Rattle.sync_rules.specs.RoundLaws.{good_le, bad_le, disjoint, good_grows, bad_grows}
+use Rattle.sync_rules.specs.StepLaws.{Rests, Waits, first_step_none, told_some}
+use Rattle.sync_rules.specs.Sound.{SoundFacts, has_delivery, has_refusal, held_at-In, held_at-id, groups_grow, held_grow}
+use Rattle.sync_rules.specs.Kept.{AllFit, sound_after, sound_all}
+use Rattle.sync_rules.specs.Runs.{legal_sound, allowed_fits}
 
 module _ (clients : Meaning) (f : Facts) (s : SoundFacts clients f) where
   -- what has an end is in its rounds

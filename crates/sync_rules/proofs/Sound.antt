@@ -12,9 +12,9 @@ use Rattle.sync_rules.specs.Lists.{same_id, is_among}
 use Rattle.sync_rules.specs.Facts.{Facts, Held, Known, Id, Ids, held_at, group_at, is_held}
 use Rattle.sync_rules.specs.Steps.{verdict_in, verdict_for, is_beside, is_elsewhere, is_failing, is_served}
 use Rattle.sync_rules.specs.Rounds.{Graph, good, good_by, good_next, bad, bad_by, bad_first, bad_more, worse_by}
-use Rattle.sync_rules.proofs.Elements.{same_id-is, same_id_itself, same_id_swap, In, In-push_cases, all_weaker, any_weaker, tally, tally_more, tally-append, among-push}
-use Rattle.sync_rules.proofs.RoundLaws.{good_le, bad_le, Grows, good_grows, bad_grows}
-use Rattle.sync_rules.proofs.StepLaws.{Delivers, Invalidates, Fails}
+use Rattle.sync_rules.specs.Elements.{same_id-is, same_id_itself, same_id_swap, In, In-push_cases, all_weaker, any_weaker, tally, tally_more, tally-append, among-push}
+use Rattle.sync_rules.specs.RoundLaws.{good_le, bad_le, Grows, good_grows, bad_grows}
+use Rattle.sync_rules.specs.StepLaws.{Delivers, Invalidates, Fails}
 
 -- ---- look-ups in longer lists
 

@@ -9,7 +9,7 @@ use Rattle.sync_rules.specs.declared.entries.Entry.TheVariants as entry
 use Rattle.sync_rules.specs.Clients.{Meaning}
 use Rattle.sync_rules.specs.Facts.{Facts, Held, Id}
 use Rattle.sync_rules.specs.Steps.{verdict_in, is_failing, is_served, is_ended, step, step_by, step_open, step_accepted, first_step, first_or_next, next}
-use Rattle.sync_rules.proofs.Elements.{In}
+use Rattle.sync_rules.specs.Elements.{In}
 
 -- a message that is to be judged
 pub record Judges (f : Facts) (h : Held) (id : Id) : Type 0 where

@@ -17,6 +17,7 @@ use Rattle.sync_rules.specs.declared.entries.Level.{Level}
 use Rattle.sync_rules.specs.declared.entries.Level.TheVariants as level
 use Rattle.sync_rules.specs.declared.entries.Session.{Session}
 use Rattle.sync_rules.specs.declared.states.Origin.{Origin}
+use Rattle.sync_rules.specs.declared.limits.TheConstants.{MAX_TRIES}
 use Rattle.sync_rules.specs.declared.states.Origin.TheVariants as origin
 use Rattle.sync_rules.specs.Lists.{same_id, is_among, without, firsts}
 
@@ -48,7 +49,7 @@ pub record Held : Type 0 where
   pub origin : Origin
 
 -- what is kept of a message for a contact: whether the contact has it, whether it waits for our acknowledgement, whether
--- it asked for it, how often the message was sent or offered to it since (at most 64), and the time in milliseconds from
+-- it asked for it, how often the message was sent or offered to it since (at most MAX_TRIES), and the time in milliseconds from
 -- which it may be sent or offered again
 pub record Row : Type 0 where
   pub seen : Bool
@@ -76,7 +77,9 @@ pub record Facts : Type 0 where
   pub groups : List Known
   -- the levels of the pairs that are not Invisible
   pub levels : Levels
-  -- the sessions in the order in which they began, and for each session number the records taken
+  -- the number of sessions that have begun, these sessions in the order in which they began, and for each session number
+  -- the records taken
+  pub begun : ℕ
   pub sessions : List Session
   pub takes : fin_map.FinMap nat_cmp ℕ
   -- the messages written here or arrived, in order
@@ -196,6 +199,10 @@ abbrev pub levels_after : Levels → Entry → Levels
 levels_after levels (entry.Level contact group l) = put_level levels (contact, group) l
 levels_after levels _ = levels
 
+abbrev pub begun_after : ℕ → Entry → ℕ
+begun_after n (entry.Session s) = n + 1
+begun_after n _ = n
+
 abbrev pub sessions_after : List Session → Entry → List Session
 sessions_after sessions (entry.Session s) = sessions ++ s ∷ []
 sessions_after sessions _ = sessions
@@ -263,7 +270,7 @@ abbrev pub expiry_after : ℕ → ℕ → ℕ → ℕ
 expiry_after now latency tries = min (2 ^ 64 - 1) (now + 2 * latency * 2 ^ (tries - 1))
 
 abbrev pub one_more_try : ℕ → ℕ
-one_more_try tries = min 64 (tries + 1)
+one_more_try tries = min MAX_TRIES (tries + 1)
 
 -- the message was offered
 abbrev pub row_offered : ℕ → ℕ → Row → Row
@@ -327,6 +334,7 @@ nothing = record {
   contacts = 0;
   groups = [];
   levels = fin_map.empty;
+  begun = 0;
   sessions = [];
   takes = fin_map.empty;
   held = [];
@@ -343,6 +351,7 @@ after f e = record {
   contacts = contacts_after f.contacts e;
   groups = groups_after f.groups e;
   levels = levels_after f.levels e;
+  begun = begun_after f.begun e;
   sessions = sessions_after f.sessions e;
   takes = takes_after f.takes e;
   held = held_after f.sessions f.held e;

@@ -19,20 +19,6 @@ pub record Settles (clients : Meaning) (old new : List (List Entry)) : Type 0 wh
   pub extends : new ≡ old ++ more
   pub settling : AllSettling clients (facts old) more
 
--- one settling batch of at most so many entries stands at the end
-pub record AddsSettling (clients : Meaning) (most : ℕ) (old new : List (List Entry)) : Type 0 where
-  pub batch : List Entry
-  pub stands : new ≡ old ++ batch ∷ []
-  pub some : 1 ≤ length batch
-  pub few : length batch ≤ most
-  pub settling : IsSettling clients (facts old) batch
-
--- one more entry at the end of the last batch
-abbrev pub with_last : List (List Entry) → Entry → List (List Entry)
-with_last [] e = []
-with_last (b ∷ []) e = (b ++ e ∷ []) ∷ []
-with_last (b ∷ c ∷ bs) e = b ∷ with_last (c ∷ bs) e
-
 -- the batch that a record makes which is the session's k-th
 abbrev pub take_batch : List (List Entry) → ℕ → ℕ → Record → List Entry
 take_batch journal session k r = entry.Take session k ∷ taken (facts journal) session r

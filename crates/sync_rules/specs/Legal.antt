@@ -13,6 +13,7 @@ use Rattle.sync_rules.specs.declared.entries.Mode.{Mode}
 use Rattle.sync_rules.specs.declared.entries.Mode.TheVariants as mode_kind
 use Rattle.sync_rules.specs.declared.entries.Out.{Out}
 use Rattle.sync_rules.specs.declared.entries.Session.{Session}
+use Rattle.sync_rules.specs.declared.limits.TheConstants.{MAX_CONTACTS, MAX_GROUPS, MAX_STEPS}
 use Rattle.sync_rules.specs.Clients.{Meaning}
 use Rattle.sync_rules.specs.Facts.{Facts, Id, group_at, held_at, session_at, takes_of, after, after_all, nothing}
 use Rattle.sync_rules.specs.Steps.{IsSettled, next, verdict_in, kind_of_def, is_served}
@@ -26,7 +27,7 @@ suits_nonce mode_kind.Batch given = is_none given
 -- a session that may begin: it has the next number, its contact is known, its latency is at least 1, and it has a nonce
 -- only in interactive mode
 pub record MayBegin (f : Facts) (s : Session) : Type 0 where
-  pub numbered : s.number ≡ length f.sessions
+  pub numbered : s.number ≡ f.begun
   pub known_contact : s.contact < f.contacts
   pub some_latency : 1 ≤ s.latency
   pub suited_nonce : suits_nonce s.mode s.nonce ≡ true
@@ -43,11 +44,11 @@ pub record MayAuthor (clients : Meaning) (f : Facts) (m : MessageValue) : Type 0
   pub new : is_some (held_at f.held (message_id_of m)) ≡ false
   pub accepted : accepts_served f m.group (verdict_in clients f.groups m) ≡ true
 
--- a group that may be added: its client is known, its id is new, and fewer than 1,024 groups are known
+-- a group that may be added: its client is known, its id is new, and fewer than MAX_GROUPS groups are known
 pub record MayAddGroup (clients : Meaning) (f : Facts) (def : GroupValue) : Type 0 where
   pub known_client : is_some (kind_of_def clients def) ≡ true
   pub new : is_some (group_at f.groups (group_id_of def)) ≡ false
-  pub few : length f.groups < 1024
+  pub few : length f.groups < MAX_GROUPS
 
 -- what follows a Take: the session exists, the record has the session's next number, and the rest is what some record is
 -- taken as
@@ -63,9 +64,9 @@ abbrev pub IsSettling : Meaning → Facts → List Entry → Type 0
 IsSettling clients f [] = Unit {0}
 IsSettling clients f (e ∷ es) = (next clients f ≡ Some e) × IsSettling clients (after f e) es
 
--- a settling batch: 1 to 256 entries, each the next step
+-- a settling batch: 1 to MAX_STEPS entries, each the next step
 abbrev pub IsSettlingBatch : Meaning → Facts → List Entry → Type 0
-IsSettlingBatch clients f es = (1 ≤ length es) × (length es ≤ 256) × IsSettling clients f es
+IsSettlingBatch clients f es = (1 ≤ length es) × (length es ≤ MAX_STEPS) × IsSettling clients f es
 
 -- what a session may send: exactly what is due on it
 abbrev pub IsDue : Meaning → Facts → Option Session → ℕ → Out → Type 0
@@ -75,7 +76,7 @@ IsDue clients f (Some s) now what = due clients f s now ≡ Some what
 -- the batches that may follow a journal of these facts. Before any batch but a settling one the journal is settled
 abbrev pub Allowed : Meaning → Facts → List Entry → Type 0
 Allowed clients f [] = ⊥
-Allowed clients f (entry.Contact c ∷ rest) = (rest ≡ []) × IsSettled clients f × (c ≡ f.contacts) × (c < 256)
+Allowed clients f (entry.Contact c ∷ rest) = (rest ≡ []) × IsSettled clients f × (c ≡ f.contacts) × (c < MAX_CONTACTS)
 Allowed clients f (entry.Group def ∷ rest) = (rest ≡ []) × IsSettled clients f × MayAddGroup clients f def
 Allowed clients f (entry.Level c g l ∷ rest) =
     (rest ≡ []) × IsSettled clients f × (c < f.contacts) × (is_some (group_at f.groups g) ≡ true)

@@ -2,6 +2,7 @@
 use Rattle.std.specs.Prelude.{◌≡◌, ℕ, ◌≤◌, Bool, true, false, cond, ◌||◌, nat_eq, List, [], ◌∷◌, length}
 use Rattle.std.specs.List.{list_any}
 use Rattle.std.specs.Cmp.Lexicographic.{pointwise}
+use Rattle.sync_rules.specs.declared.limits.TheConstants.{MAX_DEPS}
 
 -- whether two ids are the same bytes
 abbrev pub same_id : List ℕ → List ℕ → Bool
@@ -21,9 +22,9 @@ abbrev pub without : List ℕ → List (List ℕ) → List (List ℕ)
 without id [] = []
 without id (x ∷ xs) = cond (same_id x id) (without id xs) (x ∷ without id xs)
 
--- the limits of a message's dependencies: at most 255, and all distinct
+-- the limits of a message's dependencies: at most MAX_DEPS, and all distinct
 pub record IsDepList (ids : List (List ℕ)) : Type 0 where
-  pub few : length ids ≤ 255
+  pub few : length ids ≤ MAX_DEPS
   pub distinct : has_repeat ids ≡ false
 
 -- an id before a list, where it is not in the earlier ones

@@ -7,6 +7,7 @@ use Rattle.sync_rules.specs.declared.entries.Entry.{Entry}
 use Rattle.sync_rules.specs.declared.entries.Entry.TheVariants as entry
 use Rattle.sync_rules.specs.declared.entries.Out.{Out}
 use Rattle.sync_rules.specs.declared.entries.Out.TheVariants as out
+use Rattle.sync_rules.specs.declared.limits.TheConstants.{MAX_TRIES}
 use Rattle.sync_rules.specs.Lists.{same_id, is_among}
 use Rattle.sync_rules.specs.Facts.{Facts, Id, after, after_all, nothing, contact_of, latency_of, is_held, row_at, wanted_from, expiry_after}
 
@@ -130,10 +131,10 @@ WantedLaw entries = (contact : ℕ) (id : Id)
     ↔ ((is_held (after_all nothing entries).held id ≡ false) × IsLast (is_offered contact id) (is_out contact (requests id)) nothing entries)
 
 -- tries: the number of the Out entries to the contact that send or offer the message after the last Asked entry of the
--- pair, or of all where there is none, cut at 64
+-- pair, or of all where there is none, cut at MAX_TRIES
 abbrev pub TriesLaw : List Entry → Type 0
 TriesLaw entries = (contact : ℕ) (id : Id) (before behind : List Entry) → IsCutBehind (is_asked contact id) entries before behind
-    → (row_at (after_all nothing entries).rows contact id).tries ≡ min 64 (count_at (is_out contact (tries id)) (after_all nothing before) behind)
+    → (row_at (after_all nothing entries).rows contact id).tries ≡ min MAX_TRIES (count_at (is_out contact (tries id)) (after_all nothing before) behind)
 
 -- expiry: 0 where nothing counts for tries
 abbrev pub NoExpiryLaw : List Entry → Type 0
@@ -142,7 +143,7 @@ NoExpiryLaw entries = (contact : ℕ) (id : Id) (before behind : List Entry) →
     → (row_at (after_all nothing entries).rows contact id).expiry ≡ 0
 
 -- expiry: otherwise the time of the last Out entry that counts, and twice the latency of its session, doubled with each try
--- but the first; the cut of tries at 64 changes no expiry where the latency is at least 1, since it stops at 2^64 - 1
+-- but the first; the cut of tries at MAX_TRIES changes no expiry where the latency is at least 1, since it stops at 2^64 - 1
 abbrev pub ExpiryLaw : List Entry → Type 0
 ExpiryLaw entries = (contact : ℕ) (id : Id) (before behind : List Entry) → IsCutBehind (is_asked contact id) entries before behind
     → (earlier later : List Entry) (session now : ℕ) (what : Out) → behind ≡ earlier ++ entry.Out session now what ∷ later
@@ -150,7 +151,7 @@ ExpiryLaw entries = (contact : ℕ) (id : Id) (before behind : List Entry) → I
     → NonePasses (is_out contact (tries id)) (after (after_all (after_all nothing before) earlier) (entry.Out session now what)) later
     → (row_at (after_all nothing entries).rows contact id).expiry
     ≡ expiry_after now (latency_of (after_all (after_all nothing before) earlier).sessions session)
-    (min 64 (count_at (is_out contact (tries id)) (after_all nothing before) behind))
+    (min MAX_TRIES (count_at (is_out contact (tries id)) (after_all nothing before) behind))
 
 -- there is such a cut for every test
 pub record HasCut (test : Test) (entries : List Entry) : Type 0 where

@@ -2,6 +2,7 @@
 use Rattle.std.specs.Prelude.{ℕ, ◌-◌, Bool, true, false, not, cond, ◌&&◌, ◌||◌, nat_le, nat_lt, List, [], ◌∷◌, ◌++◌, length, take, Option, Some, None, is_some}
 use Rattle.sync_ids.specs.Values.{MessageValue}
 use Rattle.sync_ids.specs.Ids.{message_id_of}
+use Rattle.sync_ids.specs.declared.lists.TheConstants.{MAX_IDS}
 use Rattle.sync_ids.specs.declared.records.Record.{Record}
 use Rattle.sync_ids.specs.declared.records.Record.TheVariants as record_kind
 use Rattle.sync_rules.specs.declared.answers.Judgement.{Judgement}
@@ -15,6 +16,7 @@ use Rattle.sync_rules.specs.declared.entries.Out.TheVariants as out
 use Rattle.sync_rules.specs.declared.entries.Session.{Session}
 use Rattle.sync_rules.specs.declared.states.Origin.{Origin}
 use Rattle.sync_rules.specs.declared.states.Origin.TheVariants as origin
+use Rattle.sync_rules.specs.declared.limits.TheConstants.{MAX_WANTED}
 use Rattle.sync_rules.specs.Clients.{Meaning}
 use Rattle.sync_rules.specs.Lists.{is_among, firsts}
 use Rattle.sync_rules.specs.Facts.{Facts, Held, Id, Row, held_at, group_at, contact_of, level_at, is_invisible, is_level_shared, row_at, wanted_from}
@@ -86,10 +88,10 @@ taken_offers f session contact room (id ∷ ids) =
 
 -- how many ids may be wanted from a contact
 abbrev pub wants_limit : ℕ
-wants_limit = 1000
+wants_limit = MAX_WANTED
 
 -- what a record from this contact is taken as, the entries after Take. Of a list only the first occurrence of an id
--- counts, and ids are treated in order; no more than 1,000 ids are wanted from a contact
+-- counts, and ids are treated in order; no more than MAX_WANTED ids are wanted from a contact
 abbrev pub taken_from : Facts → ℕ → ℕ → Record → List Entry
 taken_from f session contact (record_kind.Ack ids) = taken_acks f session contact (firsts ids)
 taken_from f session contact (record_kind.Message m) = taken_message f session contact m
@@ -133,7 +135,7 @@ is_sendable f shared contact h =
 
 -- the greatest number of ids in one output
 abbrev pub ids_limit : ℕ
-ids_limit = 1536
+ids_limit = MAX_IDS
 
 -- the ids that wait for an acknowledgement to the contact
 abbrev pub owed_to : Facts → ℕ → List Id

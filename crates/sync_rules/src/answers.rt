@@ -2,13 +2,11 @@
 ghost use Rattle.std.specs.Prelude.{◌≡◌, ◌<◌, ◌≤◌, ◌↔◌, true, false, length, IfOk, IsErrOf};
 ghost use Rattle.sync_rules.specs.Lists.{has_repeat, IsDepList};
 
+use crate::limits::MAX_DEPS;
 use std::alloc::{AllocError, Global};
 use std::marker::Model;
 use sync_ids::{Message, MessageId};
 use thiserror::Error;
-
-/// The greatest number of dependencies of a message.
-pub const MAX_DEPS: usize = 255;
 
 /// The dependencies of a message: 0 to 255 distinct ids. Contracts see the list of the ids.
 #[derive(Debug, Drop)]
@@ -44,9 +42,9 @@ impl DepList {
     pub fn new(ids: Vec<MessageId>) -> Result<Self, DepFault>
         ensures made { IfOk result (λ d. d ≡ ids.items) }
         ensures within { IfOk result (λ d. IsDepList d) }
-        ensures too_many { IsErrOf result DepFault.TooMany ↔ (255 < length ids.items) }
+        ensures too_many { IsErrOf result DepFault.TooMany ↔ (MAX_DEPS < length ids.items) }
         ensures repeated { IsErrOf result DepFault.Repeated
-            ↔ ((length ids.items ≤ 255) × (has_repeat ids.items ≡ true)) }
+            ↔ ((length ids.items ≤ MAX_DEPS) × (has_repeat ids.items ≡ true)) }
     {
         if ids.len() > MAX_DEPS {
             return Err(DepFault::TooMany);

@@ -3,7 +3,7 @@ ghost use Rattle.std.specs.Prelude.{◌≡◌, ◌≤◌, ◌↔◌, [], ◌∷�
 
 use std::alloc::AllocError;
 use std::marker::Model;
-use sync_ids::{GroupDef, GroupId, IdList, Message, MessageId, Nonce};
+use sync_ids::{GroupDef, GroupId, IdList, MAX_IDS, Message, MessageId, Nonce};
 
 /// How far a contact sees a group (BSP, "Group visibility").
 #[derive(Clone, Copy, Debug, PartialEq, Eq)]
@@ -44,11 +44,11 @@ pub struct Session {
 #[derive(Debug, Drop)]
 pub enum Out {
     /// Acknowledges these messages.
-    Acks(IdList<1536>),
+    Acks(IdList<MAX_IDS>),
     /// Requests these messages.
-    Requests(IdList<1536>),
+    Requests(IdList<MAX_IDS>),
     /// Offers these messages.
-    Offers(IdList<1536>),
+    Offers(IdList<MAX_IDS>),
     /// Sends this message.
     Send(MessageId),
 }
@@ -130,8 +130,8 @@ impl Batch {
         self.entries.as_slice()
     }
 
-    // One more entry at the end; after an error the batch is as before.
-    pub(crate) fn push(&mut self, entry: Entry) -> Result<(), AllocError>
+    /// One more entry at the end; after an error the batch is as before.
+    pub fn push(&mut self, entry: Entry) -> Result<(), AllocError>
         ensures ok { OnOk result (self.new ≡ self.old ++ entry ∷ []) }
         ensures err { OnErr result (self.new ≡ self.old) }
     {

@@ -1,7 +1,11 @@
 //! The laws of legal journals. Each is the contract of a function that does nothing, over every
 //! journal and over every meaning of the clients.
 ghost use Rattle.std.specs.Prelude.{◌≡◌, ℕ, List, true};
+ghost use Rattle.sync_rules.specs.Allows.{AllowsIsAllowed};
 ghost use Rattle.sync_rules.specs.Clients.{Meaning};
+ghost use Rattle.sync_rules.specs.CountLaws.{BatchesKeepBegun, EntriesKeepBegun, EntryKeepsBegun};
+ghost use Rattle.sync_rules.specs.CountLaws.{JournalsListBegun, LeftIsBounded, StepLowersLeft};
+ghost use Rattle.sync_rules.specs.CountLaws.{StepsLowerLeft};
 ghost use Rattle.sync_rules.specs.Facts.{Extends, entries_of, facts};
 ghost use Rattle.sync_rules.specs.Laws.{BringsOnce, Decides, EndsOnce, HasOrigin, HasOwnOrigin};
 ghost use Rattle.sync_rules.specs.Laws.{IsInOrder, IsKeptBy, JudgesOnce};
@@ -13,6 +17,8 @@ ghost use Rattle.sync_rules.specs.Rounds.{bad, good, Graph};
 ghost use Rattle.sync_rules.specs.Steps.{IsSettled};
 ghost use Rattle.sync_rules.specs.Views.{KnowsShown};
 ghost use Rattle.sync_rules.specs.declared.entries.Entry.{Entry};
+
+use sync_ids::message_ids_are_whole;
 
 /// Once: in a legal journal each id has at most one Author or Arrive entry, at most one Judged
 /// entry, and at most one of Deliver and Invalid.
@@ -113,3 +119,28 @@ pub fn expiry()
     ensures none { (j : List (List Entry)) → NoExpiryLaw (entries_of j) }
     ensures last { (j : List (List Entry)) → ExpiryLaw (entries_of j) }
 {}
+
+/// Begun: the number of sessions that have begun is that of the sessions in the list. An entry, some
+/// entries and some batches keep it in any facts, and it holds of every list of batches, legal or
+/// not.
+pub fn begun()
+    ensures entry { EntryKeepsBegun }
+    ensures entries { EntriesKeepBegun }
+    ensures batches { BatchesKeepBegun }
+    ensures journals { JournalsListBegun }
+{}
+
+/// Left: in any facts the next step leaves one step fewer, so steps one after the other leave as
+/// many fewer; and there are at most two for each held message.
+pub fn left()
+    ensures step { StepLowersLeft }
+    ensures steps { StepsLowerLeft }
+    ensures bounded { LeftIsBounded }
+{}
+
+/// Allows: the test of a batch says yes exactly where the batch may follow a journal of these facts.
+pub fn allows_is_allowed()
+    ensures { AllowsIsAllowed }
+{
+    message_ids_are_whole();
+}

@@ -5,23 +5,20 @@
 #![tactic(auto)]
 
 mod answers;
+mod comparing;
 mod entries;
-mod hearing;
 pub mod laws;
-mod plain;
-mod scans;
+mod limits;
+pub mod lookups;
 mod states;
 mod steps;
 mod view;
 
-pub use answers::{Clients, DepFault, DepList, Judgement, MAX_DEPS};
+pub use answers::{Clients, DepFault, DepList, Judgement};
+pub use comparing::{ids_named, same_entries, same_entry, same_out};
 pub use entries::{Batch, EmptyBatch, Entry, Level, Mode, Out, Session};
-pub use hearing::{MAX_STEPS, begin_session, hear_message, settle_in, take_message};
-pub use plain::{PlainFault, PlainView};
-pub use scans::{fate_in, id_of, level_in};
+pub use limits::{MAX_CONTACTS, MAX_DEPS, MAX_GROUPS, MAX_STEPS, MAX_TRIES, MAX_WANTED};
+pub use lookups::{fate_in, id_of, level_in};
 pub use states::{Fate, Origin, Refused};
 pub use steps::next_step_in;
 pub use view::View;
-
-#[cfg(test)]
-mod tests;

@@ -7,12 +7,12 @@ ghost use Rattle.sync_rules.specs.Facts.{authored, facts, held_at};
 ghost use Rattle.sync_rules.specs.Scans.{first_step_in, first_step_of, is_beside_message};
 ghost use Rattle.sync_rules.specs.Scans.{is_elsewhere_message, message_of, step_brought};
 ghost use Rattle.sync_rules.specs.Steps.{is_beside, is_elsewhere, is_ended, is_failing, is_served};
-ghost use Rattle.sync_rules.specs.Steps.{next, step, step_accepted, step_open, verdict_in};
+ghost use Rattle.sync_rules.specs.Steps.{next, step, step_accepted, step_open};
 
 use crate::answers::{Clients, Judgement};
 use crate::entries::{Batch, Entry};
-use crate::scans::{
-    group_in, held_in, id_of, is_delivered_in, is_invalid_in, is_judged_in, message_in,
+use crate::lookups::{
+    held_in, id_of, is_delivered_in, is_invalid_in, is_judged_in, judge_in, message_in,
 };
 use std::alloc::{AllocError, Global};
 use sync_ids::{GroupId, Message, MessageId};
@@ -38,7 +38,7 @@ fn is_in_another_group(message: Option<&Message>, group: &GroupId) -> bool
 }
 
 // Whether the dependency makes a message of this group invalid.
-#[tactic(auto, using(crate::proofs::ScanLaws::elsewhere_found))]
+#[tactic(auto, using(crate::specs::ScanLaws::elsewhere_found))]
 fn is_failing_in(j: &[Batch], group: &GroupId, dependency: &MessageId) -> bool
     ensures { result ≡ is_failing (facts j.now) group.now dependency.now }
 {
@@ -46,7 +46,7 @@ fn is_failing_in(j: &[Batch], group: &GroupId, dependency: &MessageId) -> bool
 }
 
 // Whether the dependency is a delivered message of this group.
-#[tactic(auto, using(crate::proofs::ScanLaws::beside_found))]
+#[tactic(auto, using(crate::specs::ScanLaws::beside_found))]
 fn is_served_in(j: &[Batch], group: &GroupId, dependency: &MessageId) -> bool
     ensures { result ≡ is_served (facts j.now) group.now dependency.now }
 {
@@ -68,25 +68,6 @@ fn all_served_in(j: &[Batch], group: &GroupId, deps: &[MessageId]) -> bool
 }
 
 // ---- one message
-
-// What the client of the message's group says of it; Refuse where there is none.
-pub(crate) fn judge_in<C: Clients>(
-    alloc: Global,
-    j: &[Batch],
-    clients: &C,
-    message: &Message,
-) -> Result<Judgement, AllocError>
-    ensures { IfOk result (λ a. a ≡ verdict_in (C.meaning clients.now) (facts j.now).groups
-        message.now) }
-{
-    let Some(def) = group_in(j, &message.group()) else {
-        return Ok(Judgement::Refuse);
-    };
-    let Some(kind) = clients.kind_of(def.name(), def.major()) else {
-        return Ok(Judgement::Refuse);
-    };
-    clients.judge(alloc, kind, message)
-}
 
 // The step of a message that its client accepts with these dependencies.
 fn step_accepted_in(j: &[Batch], message: &Message, deps: &[MessageId]) -> Option<Entry>

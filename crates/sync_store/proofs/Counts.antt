@@ -8,7 +8,7 @@ use Rattle.sync_rules.specs.declared.entries.Entry.TheVariants as entry
 use Rattle.sync_rules.specs.Clients.{Meaning}
 use Rattle.sync_rules.specs.Facts.{Facts, after, after_all, count_or, takes_of}
 use Rattle.sync_rules.specs.Legal.{IsSettling}
-use Rattle.sync_rules.proofs.StepLaws.{IsSettlingEntry, next_is_settling}
+use Rattle.sync_rules.specs.StepLaws.{IsSettlingEntry, next_is_settling}
 use Rattle.entry_codec.specs.Laws.{payload}
 use Rattle.sync_store.proofs.Latencies.{payload_long}
 

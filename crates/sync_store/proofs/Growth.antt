@@ -14,7 +14,7 @@ use Rattle.sync_rules.specs.Clients.{Meaning}
 use Rattle.sync_rules.specs.Facts.{Facts, after, after_all, after_batches, takes_of}
 use Rattle.sync_rules.specs.Legal.{Allowed, AllSettling, IsSettling, IsSettlingBatch}
 use Rattle.sync_rules.specs.Steps.{IsSettled}
-use Rattle.sync_rules.proofs.StepLaws.{IsSettlingEntry, next_is_settling}
+use Rattle.sync_rules.specs.StepLaws.{IsSettlingEntry, next_is_settling}
 use Rattle.entry_codec.specs.Laws.{PayloadsFitFrames, payload}
 use Rattle.entry_codec.specs.Spelling.{IsEntry}
 use Rattle.entry_codec.specs.Standing.{room_of}

@@ -12,7 +12,7 @@ use Rattle.sync_rules.specs.Lists.{firsts}
 use Rattle.sync_rules.specs.Facts.{Facts, Held, Id, after, after_all, arrived, authored, contact_of, held_at, is_invisible, level_at, row_at, wanted_from}
 use Rattle.sync_rules.specs.Sessions.{is_remembered, is_shown, is_welcome, one_if, room_after, taken, taken_acks, taken_from, taken_message, taken_message_of, taken_offer, taken_offers, taken_requests, wants_limit}
 use Rattle.sync_rules.specs.Legal.{Allowed, IsSettlingBatch}
-use Rattle.sync_rules.proofs.StepLaws.{IsSettlingEntry, next_is_settling}
+use Rattle.sync_rules.specs.StepLaws.{IsSettlingEntry, next_is_settling}
 use Rattle.entry_codec.specs.Allows.{is_settling_kind}
 use Rattle.entry_codec.specs.Laws.{payload}
 use Rattle.entry_codec.specs.Spelling.{HasLatency, entry_bytes, spelling, whole}

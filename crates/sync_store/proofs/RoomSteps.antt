@@ -9,9 +9,9 @@ use Rattle.sync_rules.specs.EntryTests.{ends, judges}
 use Rattle.sync_rules.specs.Facts.{Facts, Held, Id, after, after_all}
 use Rattle.sync_rules.specs.Steps.{is_ended, next}
 use Rattle.sync_rules.specs.Legal.{IsSettling}
-use Rattle.sync_rules.proofs.Elements.{In, same_id_itself}
-use Rattle.sync_rules.proofs.Flags.{ended_scan, judged_scan}
-use Rattle.sync_rules.proofs.StepLaws.{IsSettlingEntry, Told, first_step_some, next_is_settling, told_some}
+use Rattle.sync_rules.specs.Elements.{In, same_id_itself}
+use Rattle.sync_rules.specs.Flags.{ended_scan, judged_scan}
+use Rattle.sync_rules.specs.StepLaws.{IsSettlingEntry, Told, first_step_some, next_is_settling, told_some}
 use Rattle.entry_codec.specs.Standing.{room_for, room_among, room_of}
 
 abbrev room_by : Bool → Bool → ℕ

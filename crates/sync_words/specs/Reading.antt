@@ -4,7 +4,7 @@ use Rattle.std.specs.Str.{bytes_eq}
 use Rattle.std.specs.String.{string_bytes}
 use Rattle.std.specs.declared.alloc.Global.{Global}
 use Rattle.sync_ids.specs.declared.def.TheConstants.{MAX_NAME, MAX_DESCRIPTOR}
-use Rattle.sync_ids.specs.declared.post.TheConstants.{MAX_TIMESTAMP}
+use Rattle.sync_ids.specs.declared.message.TheConstants.{MAX_TIMESTAMP}
 use Rattle.sync_words.specs.declared.command.TheConstants.{MAX_CONTACT, MAX_MAJOR}
 use Rattle.sync_words.specs.declared.command.Command.{Command}
 use Rattle.sync_words.specs.declared.command.Command.TheVariants as command

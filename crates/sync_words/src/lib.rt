@@ -26,6 +26,3 @@ pub use outcome::Outcome;
 pub use status::Status;
 pub use stream_lines::{record_line, skipped_line, try_line};
 pub use word::Word;
-
-#[cfg(test)]
-mod tests;

@@ -22,7 +22,7 @@ pub struct LinkEnds {
 
 impl Model for LinkEnds {
     ghost use Rattle.std.specs.Prelude.{List, ◌≤◌, length};
-    ghost use Rattle.outside.specs.declared.counts.TheConstants.{LINKS};
+    ghost use Rattle.outside.specs.declared.limits.TheConstants.{LINKS};
     ghost use Rattle.sync_words.specs.declared.links.LinkEnd.{LinkEnd};
 
     ghost Value = { List LinkEnd };

@@ -4,6 +4,3 @@
 mod levels;
 
 pub use levels::Levels;
-
-#[cfg(test)]
-mod tests;

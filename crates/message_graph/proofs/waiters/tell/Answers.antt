@@ -1,4 +1,4 @@
-use Rattle.std.proofs.Common.{◌≡◌, ◌<◌, ◌≤◌, ◌+◌, Some, length, refl, subst, sym, ap, ◌∙◌, arith, set, get_or, slice_get}
+use Rattle.std.proofs.Common.{◌≡◌, ℕ, List, ◌<◌, ◌≤◌, ◌+◌, Some, length, refl, subst, sym, ap, ◌∙◌, arith, set, get_or, slice_get}
 use Rattle.std.proofs.lemmas.List.{length-set, get_or-map}
 use Rattle.std.proofs.lemmas.Option.{get_or_from_slice_get}
 use Rattle.message_graph.specs.declared.nodes.Node.{Node}
@@ -11,12 +11,11 @@ use Rattle.message_graph.proofs.waiters.tell.Goals as goal
 pub loop-cursor-init : goal.loop-cursor-init
 loop-cursor-init c =
     let edges = c.args.index.now.edges in
-    let name = c.args.name.now in
     record {
       many = c.requires.many;
       room = refl;
-      cursor = subst (IsCursor edges name) (sym c.last-cursor.ensures) (cursor_last edges name (length edges) (omega arith));
-      waits = λ number. ap (λ k. told_times c.args.news (group_at c.args.nodes.now number) k (wait_at c.args.states.now.waits number)) (ap (left edges name number) c.last-cursor.ensures ∙ left_last edges name number (length edges));
+      cursor = λ name last. subst (IsCursor edges name) (sym last) (cursor_last edges name (length edges) (omega arith));
+      waits = λ name last number. ap (λ k. told_times c.args.news (group_at c.args.nodes.now number) k (wait_at c.args.states.now.waits number)) (ap (left edges name number) last ∙ left_last edges name number (length edges));
     }
 
 pub loop-cursor-smaller : goal.loop-cursor-smaller
@@ -26,19 +25,19 @@ loop-cursor-smaller c =
     let s : steps_left c.loop-cursor.cursor ≡ c.in-Some.edge + 1 = ap steps_left c.in-Some.is in
     let r : steps_left c.before-cursor.result < steps_left c.loop-cursor.cursor = omega arith in r
 
-stands : (c : goal.After-before-cursor) → IsCursor c.args.index.now.edges c.args.name.now (Some c.in-Some.edge)
-stands c = subst (IsCursor c.args.index.now.edges c.args.name.now) c.in-Some.is c.loop-cursor.invariant.cursor
+stands : (c : goal.After-before-cursor) (name : List ℕ) → c.args.last ≡ last_before c.args.index.now.edges name (length c.args.index.now.edges) → IsCursor c.args.index.now.edges name (Some c.in-Some.edge)
+stands c name last = subst (IsCursor c.args.index.now.edges name) c.in-Some.is (c.loop-cursor.invariant.cursor name last)
 
 pub loop-cursor-preserved : goal.loop-cursor-preserved
 loop-cursor-preserved c =
     let edges = c.args.index.now.edges in
-    let name = c.args.name.now in
     let edge = c.in-Some.edge in
     let w = (edge_at edges edge).1 in
     let nodes = c.args.nodes.now in
     let waits = c.loop-cursor.states.waits in
-    let h = stands c in
-    let before : c.before-cursor.result ≡ last_before edges name edge = c.before-cursor.ensures ∙ before_cursor edges name edge h in
+    let h = stands c c.requires.last.0 c.requires.last.1 in
+    let before : (name : List ℕ) → c.args.last ≡ last_before edges name (length edges) → c.before-cursor.result ≡ last_before edges name edge =
+    (λ name last. c.before-cursor.ensures ∙ before_cursor edges name edge (stands c name last)) in
     let inside : w < length nodes = c.requires.waiters edge h.0 in
     let within : w < length waits = omega (arith, c.loop-cursor.invariant.many) in
     let node = c.index-nodes-waiter.result in
@@ -51,10 +50,10 @@ loop-cursor-preserved c =
     record {
       many = ap length after ∙ length-set waits w (told c.args.news (group_at nodes w) (wait_at waits w)) ∙ c.loop-cursor.invariant.many;
       room = ap (λ (s : Waits). s.room) c.set.ensures ∙ c.loop-cursor.invariant.room;
-      cursor = subst (IsCursor edges name) (sym before) (cursor_last edges name edge (omega (arith, h.0)));
-      waits = λ number.
-          (λ i. told_times c.args.news (group_at nodes number) (left edges name number (before i)) (wait_at (after i) number))
-          ∙ tells_one edges name c.args.news (group_at nodes) waits edge h within number
+      cursor = λ name last. subst (IsCursor edges name) (sym (before name last)) (cursor_last edges name edge (omega (arith, h.0)));
+      waits = λ name last number.
+          (λ i. told_times c.args.news (group_at nodes number) (left edges name number (before name last i)) (wait_at (after i) number))
+          ∙ tells_one edges name c.args.news (group_at nodes) waits edge (stands c name last) within number
           ∙ ap (λ o. told_times c.args.news (group_at nodes number) (left edges name number o) (wait_at waits number)) (sym c.in-Some.is)
-          ∙ c.loop-cursor.invariant.waits number;
+          ∙ c.loop-cursor.invariant.waits name last number;
     }

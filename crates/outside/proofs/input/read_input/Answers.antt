@@ -10,7 +10,7 @@ returns-in-Ok-clause-reads g c =
     let long : c.len-had.result ≡ length c.pieces.to.items = search rules in
     let front = front_kept _ _ _ _ _ _ long c.in_ok-resize.ensures.items c.read_behind.ensures.front in
     let reads = reads_over _ _ _ _ _ _ _ _ c.pieces.invariant.0 front c.in-Ok.ensures.bytes.0 over there in
-    let P : List ℕ → Type 0 = ReadsTooMuch c.args.limit (g.S.Source.left c.args.input.now) (g.S.Source.left c.read_behind.new.input) in
+    let P : List ℕ → Type 0 = ReadsTooMuch c.args.limit (g.S.Source.tells c.args.input.now).bytes (g.S.Source.tells c.read_behind.new.input).bytes in
     subst P (sym c.truncate-in-Ok.ensures.items) reads
 
 pub pieces-preserved : goal.pieces-preserved
@@ -18,5 +18,5 @@ pieces-preserved g c =
     let long : c.len-had.result ≡ length c.pieces.to.items = search rules in
     let front = front_kept _ _ _ _ _ _ long c.in_ok-resize.ensures.items c.read_behind.ensures.front in
     let reads = reads_next _ _ _ _ _ _ _ _ c.pieces.invariant.0 front c.in-Ok.ensures.bytes.0 c.if-had-n.false in
-    let P : List ℕ → Type 0 = ReadsPart c.args.limit (g.S.Source.left c.args.input.now) (g.S.Source.left c.read_behind.new.input) in
+    let P : List ℕ → Type 0 = ReadsPart c.args.limit (g.S.Source.tells c.args.input.now).bytes (g.S.Source.tells c.read_behind.new.input).bytes in
     (subst P (sym c.truncate-in-Ok-2.ensures.items) reads, search rules, search rules, search rules)

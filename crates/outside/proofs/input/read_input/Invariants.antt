@@ -4,8 +4,8 @@ use Rattle.outside.proofs.input.read_input.Given as goal
 
 abbrev pub invariant-pieces : goal.invariant-pieces
 invariant-pieces g l =
-    ReadsPart l.most (g.S.Source.left l.initial.input) (g.S.Source.left l.input) l.to.items
-    × (g.S.Source.source_faults l.initial.input ≤ g.S.Source.source_faults l.input)
+    ReadsPart l.most (g.S.Source.tells l.initial.input).bytes (g.S.Source.tells l.input).bytes l.to.items
+    × ((g.S.Source.tells l.initial.input).faults ≤ (g.S.Source.tells l.input).faults)
     × (l.most ≡ l.fn.limit)
     × (l.fn.limit < 2 ^ 32)
 

@@ -1,7 +1,6 @@
-use Rattle.std.proofs.Common.{◌≡◌, ◌<◌, ◌*◌, ◌+◌, length, slice_index, arith, refl, sym, ap, ◌∙◌}
+use Rattle.std.proofs.Common.{◌≡◌, ◌<◌, ◌*◌, ◌+◌, length, slice_index, arith, sym}
 use Rattle.std.proofs.lemmas.List.{take_rest}
 use Rattle.std.proofs.lemmas.Bool.Decides.{nat_tests}
-use Rattle.record_grammar.specs.Reading.{kind_of}
 use Rattle.record_grammar.proofs.Fronts.{front_none, front_version, front_short, front_header, header_backs}
 use Rattle.record_grammar.proofs.front.front_of.Goals as goal
 

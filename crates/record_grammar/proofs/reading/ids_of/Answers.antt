@@ -1,4 +1,4 @@
-use Rattle.std.proofs.Common.{◌≡◌, ◌-◌, ◌+◌, ◌*◌, ◌/◌, length, take, drop, arith, refl, sym, ap, ◌∙◌}
+use Rattle.std.proofs.Common.{◌≡◌, ◌-◌, ◌+◌, ◌*◌, ◌/◌, length, take, drop, arith, ap, ◌∙◌}
 use Rattle.record_grammar.proofs.Lists.{ids_in_done, ids_in_next}
 use Rattle.record_grammar.proofs.reading.ids_of.Goals as goal
 

@@ -1,4 +1,4 @@
-use Rattle.std.proofs.Common.{◌≡◌, List, ℕ, length, take, drop, ◌+◌, ◌-◌, arith, refl, sym, ap, ◌∙◌, length-drop}
+use Rattle.std.proofs.Common.{◌≡◌, ℕ, length, take, drop, ◌+◌, ◌-◌, arith, ap, length-drop}
 use Rattle.std.proofs.lemmas.List.{length-take-le}
 use Rattle.record_grammar.specs.declared.front.Front.{Front}
 use Rattle.record_grammar.specs.Reading.{found_at, found_in, found_payload, front_in, kind_of}

@@ -1,5 +1,6 @@
 use Rattle.std.proofs.Common.{◌≡◌, ◌++◌, take}
-use Rattle.record_grammar.specs.Spelling.{AreIds, joined}
+use Rattle.sync_ids.specs.Values.{AreIds}
+use Rattle.record_grammar.specs.Spelling.{joined}
 use Rattle.record_grammar.proofs.writing.append_ids.Given as goal
 
 abbrev pub invariant-ids : goal.invariant-ids

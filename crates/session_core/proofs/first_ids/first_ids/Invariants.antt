@@ -4,4 +4,4 @@ use Rattle.sync_rules.specs.Lists.{firsts, firsts_after}
 use Rattle.session_core.proofs.first_ids.first_ids.Given as goal
 
 abbrev pub invariant-loop-id : goal.invariant-loop-id
-invariant-loop-id l = l.distinct.keys ++ firsts_after l.distinct.keys (drop l.id-index l.ids) ≡ firsts l.ids
+invariant-loop-id l = l.distinct.items ++ firsts_after l.known.keys (drop l.id-index l.ids) ≡ firsts l.ids

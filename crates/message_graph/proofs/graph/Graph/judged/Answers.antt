@@ -45,7 +45,7 @@ invariant_of-self-2 c =
     let waits : c.set.new.self.waits ≡ set g.states.waits c.args.n (waiting_open (node_named g.nodes.items) there.0.group c.args.answer) =
     ap (λ (s : Waits). s.waits) c.set.ensures ∙ ap (set g.states.waits c.args.n) waiting_is in
     let kept = judged_kept g.nodes.items g.index g.states g.spare c.self.invariant.0 c.args.n there.0 c.args.answer c.answered.new.index c.set.new.self there.1 there.2
-    c.answered.ensures.holders c.in_ok-waiting.ensures.edges c.answered.ensures.room waits (ap (λ (s : Waits). s.room) c.set.ensures) in
+    c.answered.ensures.holders c.answered.ensures.numbers c.in_ok-waiting.ensures.edges c.answered.ensures.room waits (ap (λ (s : Waits). s.room) c.set.ensures) in
     (rw now kept, rw (now, length-change) c.self.invariant.1)
 
 pub returns-clause-ok : goal.returns-clause-ok

@@ -4,6 +4,7 @@ use Rattle.message_graph.specs.declared.index.Slot.{Slot}
 use Rattle.message_graph.specs.Nodes.{same_name}
 use Rattle.message_graph.specs.Links.{Links}
 use Rattle.message_graph.proofs.Linked.{linked-push, named-push}
+use Rattle.message_graph.proofs.Placed.{placed-push}
 use Rattle.message_graph.proofs.Positions.{passes_none}
 use Rattle.message_graph.proofs.index.Index.place.Goals as goal
 
@@ -44,15 +45,16 @@ unfolding new_slot
 slots_are c = rw c.unwrap.ensures at c.push.ensures.items
 
 pub invariant_of-self : goal.invariant_of-self
-invariant_of-self c = rw (same_keys c) c.self.invariant
+invariant_of-self c = (rw (same_keys c) c.self.invariant.0, c.self.invariant.1)
 
 pub invariant_of-self-2 : goal.invariant_of-self-2
 unfolding new_slot
 invariant_of-self-2 c =
     let i = c.self.inside in
-    rw (keys_are c, slots_are c) (linked-push i.names.keys i.slots.items i.edges.items c.self.invariant c.args.name new_slot (passes_none (same_name c.args.name) i.names.keys (absent c)) refl)
+    (rw (keys_are c, slots_are c) (linked-push i.names.keys i.slots.items i.edges.items c.self.invariant.0 c.args.name new_slot (passes_none (same_name c.args.name) i.names.keys (absent c)) refl),
+    rw (slots_are c) (placed-push i.slots.items i.places.items new_slot refl c.self.invariant.1))
 
 pub returns-clause-edges : goal.returns-clause-edges
 returns-clause-edges c =
     let i = c.self.inside in
-    rw (keys_are c) (named-push i.names.keys c.args.name i.edges.items c.self.invariant.places) ∙ ap (λ (l : Links). l.edges) c.self.view_is
+    rw (keys_are c) (named-push i.names.keys c.args.name i.edges.items c.self.invariant.0.places) ∙ ap (λ (l : Links). l.edges) c.self.view_is

@@ -1,11 +1,9 @@
 use Rattle.std.proofs.Common.{refl}
-use Rattle.outside.proofs.MemCalls.{makes_sync}
-use Rattle.outside.proofs.HostCalls.{host_makes}
+use Rattle.outside.proofs.HostCalls.{host_call, wired_makes}
 use Rattle.outside.proofs.mem_host.MemHostDisk.sync.Goals as goal
 
 pub returns-clause-call : goal.returns-clause-call
-returns-clause-call c =
-    host_makes _ _ c.make_sync.result c.args.self.now c.make_sync.new.self ((λ _. refl), (λ _. refl)) tt c.make_sync.ensures.makes
+returns-clause-call c = host_call _ _ c.sync.result _ c.args.self.now c.sync.new.self c.self.view_is ((λ _. refl), (λ _. refl)) tt c.sync.ensures.makes
 
-pub returns-clause-synced : goal.returns-clause-synced
-returns-clause-synced c = makes_sync c.args.file c.make_sync.result c.args.self.now.disk c.make_sync.new.self.disk c.make_sync.ensures.makes.makes
+pub invariant_of-self : goal.invariant_of-self
+invariant_of-self c = wired_makes _ _ c.sync.result c.self.inside.disk c.sync.new.self _ _ ((λ _. refl), (λ _. refl)) tt c.sync.ensures.makes c.self.invariant

@@ -1,6 +1,6 @@
 use Rattle.std.proofs.Common.{◌≡◌, false, sym, subst}
 use Rattle.outside.specs.Faults.{is_listed}
-use Rattle.outside.specs.Streams.{SinkValue}
+use Rattle.outside.specs.MemStreams.{SinkValue}
 use Rattle.outside.proofs.StreamSteps.{listed_twice}
 use Rattle.outside.proofs.mem_sink.MemSinkSink.write.Goals as goal
 

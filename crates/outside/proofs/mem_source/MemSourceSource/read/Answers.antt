@@ -1,5 +1,5 @@
 use Rattle.std.proofs.Common.{sym, ap, ◌∙◌, ◌≡◌, ◌+◌, ◌-◌, length, take, drop, rules}
-use Rattle.outside.specs.Streams.{SourceValue}
+use Rattle.outside.specs.MemStreams.{SourceValue}
 use Rattle.outside.proofs.StreamSteps.{given_front, nothing_left}
 use Rattle.outside.proofs.mem_source.MemSourceSource.read.Goals as goal
 

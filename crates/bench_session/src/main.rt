@@ -1,0 +1,109 @@
+//! Takes an OFFER of 1,536 unknown ids, or asks what is due, over a view with so many messages, and
+//! so many times.
+#![tactic(auto)]
+
+mod posts;
+
+use crate::posts::Posts;
+use anyhow::{Context, Result};
+use indexmap::IndexSet;
+use session_core::{due, take};
+use std::alloc::{AllocError, Global};
+use std::env;
+use std::hash::RandomState;
+use sync_ids::{Fixed, GroupId, IdList, MAX_IDS, MessageId, Record};
+use sync_rules::{Mode, Out, Session};
+
+/// What is measured.
+#[derive(Clone, Copy)]
+enum Step {
+    Take,
+    Due,
+}
+
+const GROUP: GroupId = Fixed([7; 32]);
+
+/// The id of a message: its number, and then zeros.
+fn id_of(n: u32) -> MessageId {
+    let mut id = [0; 32];
+    let [a, b, c, d] = n.to_le_bytes();
+    id[0] = a;
+    id[1] = b;
+    id[2] = c;
+    id[3] = d;
+    Fixed(id)
+}
+
+/// A view of so many messages.
+fn make_posts(alloc: Global, hasher: RandomState, count: u32) -> Result<Option<Posts>, AllocError> {
+    let mut ids = IndexSet::with_hasher(alloc, hasher);
+    for n in 0..count {
+        ids.insert(id_of(n))?;
+    }
+    Ok(Posts::new(GROUP, ids))
+}
+
+/// A record that offers ids from this number on.
+fn offer(alloc: Global, start: u32) -> Result<Option<Record>, AllocError> {
+    let mut ids = Vec::new(alloc);
+    for n in 0..MAX_IDS as u32 {
+        ids.push(id_of(start.wrapping_add(n)))?;
+    }
+    Ok(IdList::new(ids).ok().map(Record::Offer))
+}
+
+/// How many entries the batch of an offer of unknown ids has.
+fn taken(alloc: Global, posts: &Posts, session: &Session, count: u32) -> Result<usize, AllocError> {
+    match offer(alloc, count)? {
+        None => Ok(0),
+        Some(record) => {
+            let batch = take(alloc, posts, session, 0, record)?;
+            Ok(batch.entries().len())
+        }
+    }
+}
+
+/// How many ids are due to be offered.
+fn offered(alloc: Global, posts: &Posts, session: &Session) -> Result<usize, AllocError> {
+    match due(alloc, posts, session, 0)? {
+        Some(Out::Offers(ids)) => Ok(ids.as_slice().len()),
+        _ => Ok(0),
+    }
+}
+
+fn main(rt: HostRuntime) -> Result<()> {
+    let mut words = env::args(&rt)?.skip(1);
+    let step = match words.next().context("a step")?.as_str() {
+        "take" => Step::Take,
+        "due" => Step::Due,
+        other => anyhow::bail!("no step: {other}"),
+    };
+    let count = words
+        .next()
+        .context("a count")?
+        .parse::<u32>()
+        .context("reading the count")?;
+    let rounds = words
+        .next()
+        .context("rounds")?
+        .parse::<u32>()
+        .context("reading the rounds")?;
+    let hasher = RandomState::new(&rt)?;
+    let posts = make_posts(rt.alloc(), hasher, count)?.context("too many messages")?;
+    let session = Session {
+        number: 0,
+        contact: 0,
+        mode: Mode::Interactive,
+        latency: 1,
+        nonce: None,
+    };
+    let mut last = 0;
+    for _ in 0..rounds {
+        last = match step {
+            Step::Take => taken(rt.alloc(), &posts, &session, count)?,
+            Step::Due => offered(rt.alloc(), &posts, &session)?,
+        };
+    }
+    println!(rt; "{rounds} rounds, {last} in the last")?;
+    Ok(())
+}

@@ -1,7 +1,0 @@
--- What is left names what is missing of what the whole names.
-use Rattle.std.proofs.Common.{◌≡◌, ◌++◌, drop}
-use Rattle.entry_codec.specs.Allows.{ids_named}
-use Rattle.entry_codec.proofs.same.ids_named.Given as goal
-
-abbrev pub invariant-loop-entry : goal.invariant-loop-entry
-invariant-loop-entry l = l.ids.items ++ ids_named (drop l.entry-index l.entries) ≡ ids_named l.entries

@@ -1,5 +1,0 @@
-use Rattle.std.proofs.Common.{◌<◌}
-use Rattle.outside.proofs.host_tests.hear_all.Given as goal
-
-abbrev pub invariant-loop-room : goal.invariant-loop-room
-invariant-loop-room g l = 0 < (g.H.Disk.tells l.host).links.dialled

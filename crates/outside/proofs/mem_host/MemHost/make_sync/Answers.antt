@@ -1,7 +1,0 @@
-use Rattle.std.proofs.Common.{refl}
-use Rattle.outside.proofs.HostCalls.{wired_makes}
-use Rattle.outside.proofs.mem_host.MemHost.make_sync.Goals as goal
-
-pub invariant_of-self : goal.invariant_of-self
-invariant_of-self c =
-    wired_makes _ _ c.make_sync.result c.self.inside.disk c.make_sync.new.self _ _ ((λ _. refl), (λ _. refl)) tt c.make_sync.ensures.makes c.self.invariant

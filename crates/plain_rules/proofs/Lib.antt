@@ -1,0 +1,9 @@
+mod Loops
+mod SessionScans
+mod RowScans
+mod LineScans
+mod WantScans
+mod ShareScans
+mod KnownLevels
+mod Filling
+mod HeardMessages

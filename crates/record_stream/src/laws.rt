@@ -1,0 +1,15 @@
+//! What holds of all readings of a stream in pieces. Each function's clause is the law; none does
+//! anything.
+ghost use Rattle.record_stream.specs.Pieces.{ReadingsAreWhole, ReadingsJoin};
+
+/// What was read of a piece, and then of what was left of it with more behind it, was read of both
+/// as one piece.
+pub fn readings_join()
+    ensures { ReadingsJoin }
+{}
+
+/// Once all bytes of a stream were read from its start, the items given are those of the stream,
+/// and it ends as what the reader holds does.
+pub fn readings_are_whole()
+    ensures { ReadingsAreWhole }
+{}

@@ -1,0 +1,152 @@
+-- The test of a batch decides whether it is allowed.
+use Rattle.std.proofs.Common.{◌≡◌, ℕ, ◌≤◌, Bool, true, false, not, ◌&&◌, List, [], ◌∷◌, length, refl, ◌∙◌, ap, arith, Option, Some, None, is_some, nat_eq, nat_lt, nat_le, eqb-true, eq-eqb}
+use Rattle.std.specs.Prelude.{is_none}
+use Rattle.std.specs.Bool.{Decides}
+use Rattle.std.proofs.lemmas.Bool.{and_parts, and_from, false≢true, not-true, leb-true, le-leb}
+use Rattle.std.proofs.lemmas.Bool.Decides.{Decides-eqb, Decides-ltb}
+use Rattle.sync_ids.specs.Values.{GroupValue, MessageValue}
+use Rattle.sync_ids.specs.Ids.{group_id_of, message_id_of}
+use Rattle.sync_rules.specs.declared.entries.Entry.{Entry}
+use Rattle.sync_rules.specs.declared.entries.Entry.TheVariants as entry
+use Rattle.sync_rules.specs.declared.entries.Out.{Out}
+use Rattle.sync_rules.specs.declared.entries.Session.{Session}
+use Rattle.sync_rules.specs.declared.limits.TheConstants.{MAX_CONTACTS, MAX_GROUPS, MAX_STEPS}
+use Rattle.sync_rules.specs.Clients.{Meaning}
+use Rattle.sync_rules.specs.Facts.{Facts, group_at, held_at, session_at, takes_of, after}
+use Rattle.sync_rules.specs.Steps.{IsSettled, next, kind_of_def, verdict_in}
+use Rattle.sync_rules.specs.Sessions.{due}
+use Rattle.sync_rules.specs.Legal.{Allowed, IsDue, IsSettling, IsSettlingBatch, MayAddGroup, MayAuthor, MayBegin, MayTake, accepts_served, suits_nonce}
+use Rattle.sync_rules.specs.StepLaws.{IsSettlingEntry, next_is_settling}
+use Rattle.sync_rules.specs.Allows.{allows, alone, gives, is_due, is_empty, is_settled, is_settling, is_some_of, may_add_group, may_author, may_begin, may_take, read_as, same_entry, settles}
+use Rattle.sync_rules.proofs.SameEntries.{both_decide, same_entry-is, some_out-Decides}
+use Rattle.sync_rules.proofs.TakenBack.{WholeIds, gives_some, some_gives}
+use Rattle.sync_rules.specs.Elements.{same_id_itself}
+
+itself : (b : Bool) → Decides b (b ≡ true)
+itself b = (λ h. h, λ h. h)
+
+le_decides : (a b : ℕ) → Decides (nat_le a b) (a ≤ b)
+le_decides a b = (leb-true a b, le-leb a b)
+
+none_decides : {A : Type 0} (o : Option A) → Decides (is_none o) (is_some o ≡ false)
+none_decides o = (not-true (is_some o), λ h. ap not h)
+
+settled_decides : (clients : Meaning) (f : Facts) → Decides (is_settled clients f) (IsSettled clients f)
+settled_decides clients f = by (next clients f) where
+  by : (o : Option Entry) → Decides (is_none o) (o ≡ None)
+  by None = (λ h. refl, λ h. refl)
+  by (Some e) = (λ h. absurd (false≢true h), λ h. absurd cc)
+
+empty_decides : (rest : List Entry) → Decides (is_empty rest) (rest ≡ [])
+empty_decides [] = (λ h. refl, λ h. refl)
+empty_decides (e ∷ es) = (λ h. absurd (false≢true h), λ h. absurd cc)
+
+-- ---- one entry alone
+
+-- nothing else stands in the batch, the journal is settled, and one more thing holds
+alone_decides : {P : Type 0} (clients : Meaning) (f : Facts) (rest : List Entry) (b : Bool) → Decides b P
+    → Decides (alone clients f rest && b) ((rest ≡ []) × IsSettled clients f × P)
+alone_decides clients f rest b d =
+    let all = both_decide (alone clients f rest) b (both_decide (is_empty rest) (is_settled clients f) (empty_decides rest) (settled_decides clients f)) d in
+    (λ h. let t = all.0 h in (t.0.0, t.0.1, t.1), λ h. all.1 ((h.0, h.1), h.2))
+
+alone_two : {P Q : Type 0} (clients : Meaning) (f : Facts) (rest : List Entry) (a b : Bool) → Decides a P → Decides b Q
+    → Decides (alone clients f rest && (a && b)) ((rest ≡ []) × IsSettled clients f × P × Q)
+alone_two clients f rest a b p q =
+    let all = alone_decides clients f rest (a && b) (both_decide a b p q) in
+    (λ h. let t = all.0 h in (t.0, t.1, t.2.0, t.2.1), λ h. all.1 (h.0, h.1, (h.2, h.3)))
+
+add_group_decides : (clients : Meaning) (f : Facts) (def : GroupValue) → Decides (may_add_group clients f def) (MayAddGroup clients f def)
+add_group_decides clients f def =
+    let all = both_decide (is_some (kind_of_def clients def)) (is_none (group_at f.groups (group_id_of def)) && nat_lt (length f.groups) MAX_GROUPS) (itself (is_some (kind_of_def clients def)))
+    (both_decide (is_none (group_at f.groups (group_id_of def))) (nat_lt (length f.groups) MAX_GROUPS) (none_decides (group_at f.groups (group_id_of def))) (Decides-ltb (length f.groups) MAX_GROUPS)) in
+    (λ h. let t = all.0 h in record { known_client = t.0; new = t.1.0; few = t.1.1 }, λ h. all.1 (h.known_client, (h.new, h.few)))
+
+begin_decides : (f : Facts) (s : Session) → Decides (may_begin f s) (MayBegin f s)
+begin_decides f s =
+    let all = both_decide (nat_eq s.number f.begun) (nat_lt s.contact f.contacts && (nat_le 1 s.latency && suits_nonce s.mode s.nonce)) (Decides-eqb s.number f.begun)
+    (both_decide (nat_lt s.contact f.contacts) (nat_le 1 s.latency && suits_nonce s.mode s.nonce) (Decides-ltb s.contact f.contacts)
+    (both_decide (nat_le 1 s.latency) (suits_nonce s.mode s.nonce) (le_decides 1 s.latency) (itself (suits_nonce s.mode s.nonce)))) in (
+      λ h. let t = all.0 h in record { numbered = t.0; known_contact = t.1.0; some_latency = t.1.1.0; suited_nonce = t.1.1.1 },
+      λ h. all.1 (h.numbered, (h.known_contact, (h.some_latency, h.suited_nonce))),
+    )
+
+author_decides : (clients : Meaning) (f : Facts) (m : MessageValue) → Decides (may_author clients f m) (MayAuthor clients f m)
+author_decides clients f m =
+    let accepted : Bool = accepts_served f m.group (verdict_in clients f.groups m) in
+    let all = both_decide (is_some (group_at f.groups m.group)) (is_none (held_at f.held (message_id_of m)) && accepted) (itself (is_some (group_at f.groups m.group)))
+    (both_decide (is_none (held_at f.held (message_id_of m))) accepted (none_decides (held_at f.held (message_id_of m))) (itself accepted)) in
+    (λ h. let t = all.0 h in record { known_group = t.0; new = t.1.0; accepted = t.1.1 }, λ h. all.1 (h.known_group, (h.new, h.accepted)))
+
+due_decides : (clients : Meaning) (f : Facts) (o : Option Session) (now : ℕ) (what : Out) → Decides (is_due clients f o now what) (IsDue clients f o now what)
+due_decides clients f None now what = (λ h. absurd (false≢true h), λ h. absurd h)
+due_decides clients f (Some s) now what = some_out-Decides (due clients f s now) what
+
+-- ---- a record
+
+take_decides : WholeIds → (f : Facts) (s k : ℕ) (rest : List Entry) → Decides (may_take f s k rest) (MayTake f s k rest)
+take_decides all f s k rest = (there, back) where
+  there : may_take f s k rest ≡ true → MayTake f s k rest
+  there h =
+      let a = and_parts (is_some (session_at f.sessions s)) (nat_eq k (takes_of f.takes s) && gives f s rest (read_as rest)) h in
+      let b = and_parts (nat_eq k (takes_of f.takes s)) (gives f s rest (read_as rest)) a.1 in
+      let some = gives_some f s rest b.1 in
+      record { known_session = a.0; numbered = eqb-true k (takes_of f.takes s) b.0; read = some.read; within = some.within; taken_so = some.taken_so }
+
+  back : MayTake f s k rest → may_take f s k rest ≡ true
+  back h =
+      and_from (is_some (session_at f.sessions s)) (nat_eq k (takes_of f.takes s) && gives f s rest (read_as rest)) h.known_session
+      (and_from (nat_eq k (takes_of f.takes s)) (gives f s rest (read_as rest)) (eq-eqb k (takes_of f.takes s) h.numbered)
+      (some_gives all f s rest h.read h.within h.taken_so))
+
+-- ---- settling
+
+step_itself : (e : Entry) → IsSettlingEntry e → same_entry e e ≡ true
+step_itself (entry.Judged id) is = same_id_itself id
+step_itself (entry.Deliver id) is = same_id_itself id
+step_itself (entry.Invalid id) is = same_id_itself id
+step_itself _ is = absurd is
+
+next_decides : (clients : Meaning) (f : Facts) (e : Entry) → Decides (is_some_of same_entry (next clients f) e) (next clients f ≡ Some e)
+next_decides clients f e = (by (next clients f), back) where
+  by : (o : Option Entry) → is_some_of same_entry o e ≡ true → o ≡ Some e
+  by None h = absurd (false≢true h)
+  by (Some d) h = ap Some (same_entry-is d e h)
+
+  back : next clients f ≡ Some e → is_some_of same_entry (next clients f) e ≡ true
+  back h = ap (λ (o : Option Entry). is_some_of same_entry o e) h ∙ step_itself e (next_is_settling clients f e h)
+
+settles_decides : (clients : Meaning) (f : Facts) (es : List Entry) → Decides (settles clients f es) (IsSettling clients f es)
+settles_decides clients f [] = (λ h. tt, λ h. refl)
+settles_decides clients f (e ∷ es) =
+    both_decide (is_some_of same_entry (next clients f) e) (settles clients (after f e) es) (next_decides clients f e) (settles_decides clients (after f e) es)
+
+settling_decides : (clients : Meaning) (f : Facts) (e : Entry) (es : List Entry) → Decides (is_settling clients f (e ∷ es)) (IsSettlingBatch clients f (e ∷ es))
+settling_decides clients f e es =
+    let all = both_decide (nat_le (length (e ∷ es)) MAX_STEPS) (settles clients f (e ∷ es)) (le_decides (length (e ∷ es)) MAX_STEPS) (settles_decides clients f (e ∷ es)) in
+    (λ h. let t = all.0 h in (omega arith, t.0, t.1), λ h. all.1 (h.1, h.2))
+
+-- ---- batches
+
+never : Decides false ⊥
+never = (λ h. false≢true h, λ h. absurd h)
+
+pub allows_decides : WholeIds → (clients : Meaning) (f : Facts) (b : List Entry) → Decides (allows clients f b) (Allowed clients f b)
+allows_decides all clients f [] = never
+allows_decides all clients f (entry.Contact c ∷ rest) = alone_two clients f rest (nat_eq c f.contacts) (nat_lt c MAX_CONTACTS) (Decides-eqb c f.contacts) (Decides-ltb c MAX_CONTACTS)
+allows_decides all clients f (entry.Group def ∷ rest) = alone_decides clients f rest (may_add_group clients f def) (add_group_decides clients f def)
+allows_decides all clients f (entry.Level c g l ∷ rest) =
+    alone_two clients f rest (nat_lt c f.contacts) (is_some (group_at f.groups g)) (Decides-ltb c f.contacts) (itself (is_some (group_at f.groups g)))
+allows_decides all clients f (entry.Session s ∷ rest) = alone_decides clients f rest (may_begin f s) (begin_decides f s)
+allows_decides all clients f (entry.Take s k ∷ rest) = both_decide (is_settled clients f) (may_take f s k rest) (settled_decides clients f) (take_decides all f s k rest)
+allows_decides all clients f (entry.Author m ∷ rest) = alone_decides clients f rest (may_author clients f m) (author_decides clients f m)
+allows_decides all clients f (entry.Arrive s m ∷ rest) = never
+allows_decides all clients f (entry.Judged id ∷ rest) = settling_decides clients f (entry.Judged id) rest
+allows_decides all clients f (entry.Deliver id ∷ rest) = settling_decides clients f (entry.Deliver id) rest
+allows_decides all clients f (entry.Invalid id ∷ rest) = settling_decides clients f (entry.Invalid id) rest
+allows_decides all clients f (entry.Again s id ∷ rest) = never
+allows_decides all clients f (entry.Offered s id ∷ rest) = never
+allows_decides all clients f (entry.Seen s id ∷ rest) = never
+allows_decides all clients f (entry.Asked s id ∷ rest) = never
+allows_decides all clients f (entry.Out s now what ∷ rest) =
+    alone_decides clients f rest (is_due clients f (session_at f.sessions s) now what) (due_decides clients f (session_at f.sessions s) now what)

@@ -1,6 +1,0 @@
--- One settling batch was added, of at most so many entries as were counted.
-use Rattle.sync_rules.specs.Hearing.{AddsSettling}
-use Rattle.sync_rules.proofs.hearing.settle_batch.Given as goal
-
-abbrev pub invariant-loop-count : goal.invariant-loop-count
-invariant-loop-count g l = AddsSettling (g.C.Clients.meaning l.clients) l.count l.fn.j.items l.j.items

@@ -1,0 +1,8 @@
+-- What is left gives what the whole gives.
+use Rattle.std.proofs.Common.{◌≡◌, drop}
+use Rattle.sync_rules.specs.Scans.{any_entry}
+use Rattle.sync_rules.specs.EntryTests.{judges}
+use Rattle.sync_rules.proofs.lookups.any_judged.Given as goal
+
+abbrev pub invariant-loop-batch : goal.invariant-loop-batch
+invariant-loop-batch l = any_entry (judges l.id) (drop l.batch-index l.j) ≡ any_entry (judges l.id) l.j

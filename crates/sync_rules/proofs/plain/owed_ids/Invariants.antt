@@ -1,9 +1,0 @@
--- What was pushed and what is left give what the whole gives.
-use Rattle.std.proofs.Common.{◌≡◌, ◌++◌, drop}
-use Rattle.sync_rules.specs.Facts.{facts}
-use Rattle.sync_rules.specs.Plain.{line_ids, is_line_owed}
-use Rattle.sync_rules.proofs.plain.owed_ids.Given as goal
-
-abbrev pub invariant-loop-line : goal.invariant-loop-line
-invariant-loop-line l =
-    l.ids.items ++ line_ids (is_line_owed (facts l.j) l.contact) (drop l.line-index l.lines) ≡ line_ids (is_line_owed (facts l.j) l.contact) l.lines

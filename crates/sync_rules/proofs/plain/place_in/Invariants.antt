@@ -1,8 +1,0 @@
--- The place among what is left, counted from the place so far, is the place in the whole.
-use Rattle.std.proofs.Common.{◌≡◌, ◌+◌, drop}
-use Rattle.std.specs.Option.{option_map}
-use Rattle.sync_rules.specs.Plain.{line_place}
-use Rattle.sync_rules.proofs.plain.place_in.Given as goal
-
-abbrev pub invariant-loop-n : goal.invariant-loop-n
-invariant-loop-n l = option_map (λ k. l.n + k) (line_place (drop l.n l.lines) l.id) ≡ line_place l.lines l.id

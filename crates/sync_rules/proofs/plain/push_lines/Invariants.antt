@@ -1,7 +1,0 @@
--- What was pushed and what is left give what the whole gives.
-use Rattle.std.proofs.Common.{◌≡◌, ◌++◌, drop}
-use Rattle.sync_rules.specs.Plain.{lines_in}
-use Rattle.sync_rules.proofs.plain.push_lines.Given as goal
-
-abbrev pub invariant-loop-entry : goal.invariant-loop-entry
-invariant-loop-entry l = l.lines.items ++ lines_in (drop l.entry-index l.entries) ≡ l.fn.lines.items ++ lines_in l.entries

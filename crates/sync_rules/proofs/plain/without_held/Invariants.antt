@@ -1,9 +1,0 @@
--- What was kept and what is left give what the whole gives.
-use Rattle.std.proofs.Common.{◌≡◌, ◌++◌, drop}
-use Rattle.sync_rules.specs.Lists.{same_id}
-use Rattle.sync_rules.specs.Plain.{lines_without}
-use Rattle.sync_rules.proofs.plain.without_held.Given as goal
-
-abbrev pub invariant-loop-line : goal.invariant-loop-line
-invariant-loop-line l =
-    l.kept.items ++ lines_without (λ w. same_id w.id l.id) (drop l.line-index l.lines) ≡ lines_without (λ w. same_id w.id l.id) l.lines

@@ -1,8 +1,0 @@
--- What is left gives what the whole gives.
-use Rattle.std.proofs.Common.{◌≡◌, drop}
-use Rattle.sync_rules.specs.Scans.{any_entry}
-use Rattle.sync_rules.specs.EntryTests.{invalidates}
-use Rattle.sync_rules.proofs.scans.any_invalid.Given as goal
-
-abbrev pub invariant-loop-batch : goal.invariant-loop-batch
-invariant-loop-batch l = any_entry (invalidates l.id) (drop l.batch-index l.j) ≡ any_entry (invalidates l.id) l.j

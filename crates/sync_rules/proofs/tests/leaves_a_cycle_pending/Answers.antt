@@ -1,6 +1,0 @@
--- The client knows every group, so the journal that was begun hears.
-use Rattle.std.proofs.Common.{refl}
-use Rattle.sync_rules.proofs.tests.leaves_a_cycle_pending.Goals as goal
-
-pub hear_message-requires : goal.hear_message-requires
-hear_message-requires g c = c.in_ok-j.ensures.hearing _ refl

@@ -1,0 +1,63 @@
+-- What each entry of a legal journal meets at its place, by the facts before it.
+use Rattle.std.specs.Prelude.{◌≡◌, ℕ, ◌<◌, true, false, List, [], ◌∷◌, ◌++◌, length, Some, is_some}
+use Rattle.sync_ids.specs.Values.{MessageValue}
+use Rattle.sync_ids.specs.Ids.{message_id_of}
+use Rattle.sync_rules.specs.declared.entries.Entry.{Entry}
+use Rattle.sync_rules.specs.declared.entries.Entry.TheVariants as entry
+use Rattle.sync_rules.specs.declared.limits.TheConstants.{MAX_CONTACTS, MAX_WANTED}
+use Rattle.sync_rules.specs.Clients.{Meaning}
+use Rattle.sync_rules.specs.Lists.{is_among}
+use Rattle.sync_rules.specs.Facts.{Facts, Id, after, after_all, nothing, entries_of, group_at, held_at, is_held, session_at, contact_of, level_at, is_invisible, takes_of, wanted_from}
+use Rattle.sync_rules.specs.Steps.{IsSettled, next}
+use Rattle.sync_rules.specs.Sessions.{is_shown}
+use Rattle.sync_rules.specs.Legal.{IsDue, MayAddGroup, MayAuthor, MayBegin}
+
+-- a message that comes in on a session: the session and the message's group are known, its id is not held, and the group is
+-- not Invisible to the session's contact
+pub record ComesIn (f : Facts) (session : ℕ) (m : MessageValue) : Type 0 where
+  pub known_session : is_some (session_at f.sessions session) ≡ true
+  pub known_group : is_some (group_at f.groups m.group) ≡ true
+  pub new : is_held f.held (message_id_of m) ≡ false
+  pub shown : is_invisible (level_at f.levels (contact_of f.sessions session) m.group) ≡ false
+
+-- an id that is named on a session and held, in a group that is not Invisible to the session's contact
+pub record IsNamedHeld (f : Facts) (session : ℕ) (id : Id) : Type 0 where
+  pub known_session : is_some (session_at f.sessions session) ≡ true
+  pub held : is_held f.held id ≡ true
+  pub shown : is_shown f (contact_of f.sessions session) id ≡ true
+
+-- an id that is offered on a session and comes to be wanted: it is not held and not yet wanted from the session's contact,
+-- and fewer than MAX_WANTED ids are
+pub record IsNamedNew (f : Facts) (session : ℕ) (id : Id) : Type 0 where
+  pub known_session : is_some (session_at f.sessions session) ≡ true
+  pub not_held : is_held f.held id ≡ false
+  pub not_wanted : is_among (wanted_from f.wanted (contact_of f.sessions session)) id ≡ false
+  pub few : length (wanted_from f.wanted (contact_of f.sessions session)) < MAX_WANTED
+
+-- each entry but a step stands where no step is open
+abbrev pub Meets : Meaning → Facts → Entry → Type 0
+Meets clients f (entry.Contact c) = IsSettled clients f × (c ≡ f.contacts) × (c < MAX_CONTACTS)
+Meets clients f (entry.Group def) = IsSettled clients f × MayAddGroup clients f def
+Meets clients f (entry.Level c g l) = IsSettled clients f × (c < f.contacts) × (is_some (group_at f.groups g) ≡ true)
+Meets clients f (entry.Session s) = IsSettled clients f × MayBegin f s
+Meets clients f (entry.Take s k) = IsSettled clients f × (is_some (session_at f.sessions s) ≡ true) × (k ≡ takes_of f.takes s)
+Meets clients f (entry.Author m) = IsSettled clients f × MayAuthor clients f m
+Meets clients f (entry.Arrive s m) = IsSettled clients f × ComesIn f s m
+Meets clients f (entry.Judged id) = next clients f ≡ Some (entry.Judged id)
+Meets clients f (entry.Deliver id) = next clients f ≡ Some (entry.Deliver id)
+Meets clients f (entry.Invalid id) = next clients f ≡ Some (entry.Invalid id)
+Meets clients f (entry.Again s id) = IsSettled clients f × IsNamedHeld f s id
+Meets clients f (entry.Offered s id) = IsSettled clients f × IsNamedNew f s id
+Meets clients f (entry.Seen s id) = IsSettled clients f × IsNamedHeld f s id
+Meets clients f (entry.Asked s id) = IsSettled clients f × IsNamedHeld f s id
+Meets clients f (entry.Out s now what) = IsSettled clients f × IsDue clients f (session_at f.sessions s) now what
+
+-- entries of which each meets this behind those before it
+abbrev pub AllMeet : Meaning → Facts → List Entry → Type 0
+AllMeet clients f [] = Unit {0}
+AllMeet clients f (e ∷ es) = Meets clients f e × AllMeet clients (after f e) es
+
+-- each entry of a journal meets this at its place
+abbrev pub EachMeets : Meaning → List (List Entry) → Type 0
+EachMeets clients journal =
+    (before behind : List Entry) (e : Entry) → entries_of journal ≡ before ++ e ∷ behind → Meets clients (after_all nothing before) e

@@ -1,0 +1,189 @@
+ghost use Rattle.std.specs.Prelude.{◌≡◌, ◌<◌, [], length, IfOk, OnOk};
+ghost use Rattle.outside.specs.MemHost.{links_of};
+
+use crate::disks::use_disk;
+use outside::{Answer, Failed, Heard, Host, MemDisk, MemHost};
+use std::alloc::Global;
+use std::process::Abort;
+use std::test::Fail;
+
+// A host over an empty disk.
+fn new_host(alloc: Global) -> Result<MemHost, Fail>
+    ensures { IfOk result (λ h. links_of h.disk ≡ []) }
+{
+    let disk = MemDisk::new(alloc, Vec::new(alloc), Vec::new(alloc))?;
+    Ok(MemHost::new(alloc, disk)?)
+}
+
+// Makes two links.
+fn dial_two<H: Host>(host: &mut H) -> Result<(), Failed>
+    requires { (H.tells host.old).links.dialled ≡ 0 }
+    ensures { OnOk result ((H.tells host.new).links.dialled ≡ 2) }
+{
+    host.dial("a")?;
+    host.dial("b")?;
+    Ok(())
+}
+
+// A host over an empty disk with two links.
+fn linked_host(alloc: Global) -> Result<MemHost, Fail>
+    ensures { IfOk result (λ h. length (links_of h.disk) ≡ 2) }
+{
+    let mut host = new_host(alloc)?;
+    dial_two(&mut host)?;
+    Ok(host)
+}
+
+// What is to be heard: the room that is given, the answer, and the buffer then.
+type Hearing = (usize, Heard, [u8; 4]);
+
+// Hears on link 0 into a buffer of so many bytes.
+fn hear<H: Host>(rt: &impl Abort, host: &mut H, room: usize) -> (Heard, [u8; 4])
+    requires { 0 < (H.tells host.old).links.dialled }
+    ensures { (H.tells host.new).links.dialled ≡ (H.tells host.old).links.dialled }
+{
+    assert!(rt; room > 0 && room <= 4);
+    let mut buf = [0u8; 4];
+    let heard = host.recv(0, &mut buf[..room]);
+    (heard, buf)
+}
+
+// Hears as often as there are answers expected.
+fn hear_all<H: Host>(rt: &impl Abort, host: &mut H, expected: &[Hearing])
+    requires { 0 < (H.tells host.old).links.dialled }
+{
+    for (room, heard, bytes) in expected {
+        assert_eq!(rt; hear(rt, host, *room), (*heard, *bytes));
+    }
+}
+
+// Adds an answer to the script of link 0.
+fn plan(host: &mut MemHost, answer: Answer) -> Result<(), Fail>
+    ensures { OnOk result (links_of host.new.disk ≡ links_of host.old.disk) }
+{
+    host.script(0, answer)?;
+    Ok(())
+}
+
+fn bytes(alloc: Global, text: &[u8]) -> Result<Answer, Fail> {
+    Ok(Answer::Bytes(Vec::from_slice(alloc, text)?))
+}
+
+// A host with a script of answers of each kind.
+fn scripted_host(alloc: Global) -> Result<MemHost, Fail>
+    ensures { IfOk result (λ h. length (links_of h.disk) ≡ 2) }
+{
+    let mut host = linked_host(alloc)?;
+    plan(&mut host, bytes(alloc, b"abcde")?)?;
+    plan(&mut host, bytes(alloc, b"")?)?;
+    plan(&mut host, Answer::Idle)?;
+    plan(&mut host, Answer::End)?;
+    plan(&mut host, Answer::Fail)?;
+    plan(&mut host, bytes(alloc, b"fghi")?)?;
+    Ok(host)
+}
+
+const HEARINGS: [Hearing; 9] = [
+    (2, Heard::Got(2), *b"ab\0\0"),
+    (1, Heard::Got(1), *b"c\0\0\0"),
+    (4, Heard::Got(2), *b"de\0\0"),
+    (1, Heard::Idle, [0; 4]),
+    (1, Heard::End, [0; 4]),
+    (1, Heard::Failed, [0; 4]),
+    (4, Heard::Got(4), *b"fghi"),
+    (4, Heard::End, [0; 4]),
+    (1, Heard::End, [0; 4]),
+];
+
+#[test]
+fn scripts(rt: HostRuntime) -> Result<(), Fail> {
+    let mut host = scripted_host(rt.alloc())?;
+    hear_all(&rt, &mut host, HEARINGS.as_slice());
+    assert_eq!(rt; host.starved(), 0);
+    Ok(())
+}
+
+// Reads the clock as often as there are readings expected.
+fn read<H: Host>(rt: &impl Abort, host: &mut H, expected: &[u64]) {
+    for reading in expected {
+        assert_eq!(rt; host.now(), *reading);
+    }
+}
+
+#[test]
+fn readings(rt: HostRuntime) -> Result<(), Fail> {
+    let mut host = new_host(rt.alloc())?;
+    read(&rt, &mut host, &[0]);
+    host.reading(5)?;
+    host.reading(4)?;
+    read(&rt, &mut host, &[5, 4, 4]);
+    host.reading(9)?;
+    host.reading(10)?;
+    read(&rt, &mut host, &[9]);
+    host.set_clock(3)?;
+    read(&rt, &mut host, &[3, 3]);
+    Ok(())
+}
+
+#[test]
+fn dials(rt: HostRuntime) -> Result<(), Fail> {
+    let mut host = new_host(rt.alloc())?;
+    host.fail_dial(1)?;
+    assert_eq!(rt; dial_two(&mut host), Err(Failed));
+    Ok(())
+}
+
+// Asks for a nonce on link 1.
+fn ask<H: Host>(host: &mut H) -> Result<[u8; 16], Failed>
+    requires { (H.tells host.old).links.dialled ≡ 2 }
+    ensures { (H.tells host.new).links.dialled ≡ 2 }
+{
+    host.nonce(1)
+}
+
+#[test]
+fn nonces(rt: HostRuntime) -> Result<(), Fail> {
+    let mut host = linked_host(rt.alloc())?;
+    assert_eq!(rt; ask(&mut host), Err(Failed));
+    host.give_nonce([1; 16])?;
+    host.give_nonce([2; 16])?;
+    assert_eq!(rt; ask(&mut host), Ok([1; 16]));
+    assert_eq!(rt; ask(&mut host), Ok([2; 16]));
+    assert_eq!(rt; ask(&mut host), Err(Failed));
+    Ok(())
+}
+
+// Sends on both links.
+fn send_three<H: Host>(host: &mut H) -> [Result<(), Failed>; 3]
+    requires { (H.tells host.old).links.dialled ≡ 2 }
+{
+    let first = host.send(0, b"abc");
+    let second = host.send(0, b"defgh");
+    let third = host.send(1, b"i");
+    host.hang_up(1);
+    [first, second, third]
+}
+
+#[test]
+fn sends(rt: HostRuntime) -> Result<(), Fail> {
+    let mut host = linked_host(rt.alloc())?;
+    host.fail_send(1)?;
+    assert_eq!(rt; send_three(&mut host), [Ok(()), Err(Failed), Ok(())]);
+    assert_eq!(rt; host.sent(0), b"abcde".as_slice());
+    assert_eq!(rt; host.sent(1), b"i".as_slice());
+    assert!(rt; host.sent(7).is_empty());
+    Ok(())
+}
+
+#[test]
+fn the_disk_of_a_host(rt: HostRuntime) -> Result<(), Fail> {
+    let mut host = new_host(rt.alloc())?;
+    host.fail_at(3)?;
+    assert_eq!(rt; use_disk(&mut host), Err(Failed));
+    host.fail_at(4)?;
+    host.fail_none();
+    assert_eq!(rt; use_disk(&mut host), Ok(0));
+    assert_eq!(rt; host.disk().calls(), 9);
+    assert_eq!(rt; host.into_disk().starved(), 0);
+    Ok(())
+}

@@ -1,0 +1,13 @@
+//! The objects of the outside, in memory and of the machine, and frames on a disk.
+#![tactic(auto)]
+
+#[cfg(test)]
+mod disks;
+#[cfg(test)]
+mod files;
+#[cfg(test)]
+mod frames;
+#[cfg(test)]
+mod hosts;
+#[cfg(test)]
+mod streams;

@@ -1,0 +1,103 @@
+//! Messages that arrive from a contact.
+use crate::device::{AddFault, Device};
+use crate::files::disk_with;
+use crate::values::batch_of;
+use anyhow::{Result, anyhow};
+use outside::{MAX_JOURNAL, MemDisk};
+use session_core::take;
+use std::alloc::Global;
+use sync_ids::{GroupDef, Message, Record, group_id};
+use sync_rules::{Clients, Entry, Level, Mode, Session};
+use sync_store::Store;
+
+/// The session on which messages arrive.
+const SESSION: Session = Session {
+    number: 0,
+    contact: 0,
+    mode: Mode::Batch,
+    latency: 1,
+    nonce: None,
+};
+
+/// A store with a contact, a group that is Visible to it, and a session with it.
+pub(crate) fn begin<C: Clients + Drop>(
+    alloc: Global,
+    clients: C,
+    def: GroupDef,
+) -> Result<Device<MemDisk, C>> {
+    let device = begin_empty(alloc, clients)?;
+    with_first(alloc, device, def)
+}
+
+fn begin_empty<C: Clients + Drop>(alloc: Global, clients: C) -> Result<Device<MemDisk, C>> {
+    let disk = begun_disk(alloc)?;
+    Device::load(alloc, disk, clients, MAX_JOURNAL)
+}
+
+fn with_first<C: Clients + Drop>(
+    alloc: Global,
+    mut device: Device<MemDisk, C>,
+    def: GroupDef,
+) -> Result<Device<MemDisk, C>> {
+    add_first(alloc, &mut device, def)?;
+    Ok(device)
+}
+
+fn begun_disk(alloc: Global) -> Result<MemDisk> {
+    let mut disk = disk_with(alloc, &[], &[])?;
+    Store::init(&mut disk).map_err(|fault| anyhow!("no store was begun: {fault:?}"))?;
+    Ok(disk)
+}
+
+/// Adds what the journal begins with.
+fn add_first<C: Clients + Drop>(
+    alloc: Global,
+    device: &mut Device<MemDisk, C>,
+    def: GroupDef,
+) -> Result<()> {
+    let group = group_id(&def);
+    add_one(alloc, device, Entry::Contact(0))?;
+    add_one(alloc, device, Entry::Group(def))?;
+    add_one(alloc, device, Entry::Level(0, group, Level::Visible))?;
+    add_one(alloc, device, Entry::Session(SESSION))
+}
+
+fn add_one<C: Clients + Drop>(
+    alloc: Global,
+    device: &mut Device<MemDisk, C>,
+    entry: Entry,
+) -> Result<()> {
+    let batch = batch_of(alloc, entry)?;
+    device.add(batch)?;
+    Ok(())
+}
+
+/// Takes a message as the session's record of this number, and does not settle.
+pub(crate) fn hear<C: Clients + Drop>(
+    alloc: Global,
+    device: &mut Device<MemDisk, C>,
+    number: u64,
+    message: Message,
+) -> Result<()> {
+    let batch = take(
+        alloc,
+        device.store(),
+        &SESSION,
+        number,
+        Record::Message(message),
+    )?;
+    device.add(batch)?;
+    Ok(())
+}
+
+/// Takes a message, and settles.
+pub(crate) fn hear_settled<C: Clients + Drop>(
+    alloc: Global,
+    device: &mut Device<MemDisk, C>,
+    number: u64,
+    message: Message,
+) -> Result<()> {
+    hear(alloc, device, number, message)?;
+    device.settle().map_err(AddFault::Store)?;
+    Ok(())
+}
