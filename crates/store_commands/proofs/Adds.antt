@@ -8,10 +8,11 @@ use Rattle.outside.specs.Outside.{Outside, Moment, MomentsAre, DiskRun}
 use Rattle.outside.specs.Steps.{moments_map, moments_then, told_on}
 use Rattle.sync_rules.specs.declared.entries.Entry.{Entry}
 use Rattle.sync_rules.specs.Clients.{Meaning}
-use Rattle.sync_rules.specs.Facts.{Facts, facts, after_all, after_batches, nothing}
+use Rattle.sync_rules.specs.Facts.{Facts, facts, after_all, after_batches}
 use Rattle.sync_rules.specs.Legal.{Allowed, AllSettling}
 use Rattle.sync_rules.specs.Steps.{IsSettled}
-use Rattle.entry_codec.specs.Laws.{journal_end, payload_len}
+use Rattle.entry_codec.specs.Growing.{after_batches-append, facts-append}
+use Rattle.entry_codec.specs.Payloads.{journal_end, payload_len}
 use Rattle.entry_codec.specs.Standing.{journal, room_of}
 use Rattle.sync_store.specs.Commits.{needed}
 use Rattle.sync_store.specs.Store.{StoreValue}
@@ -21,16 +22,9 @@ use Rattle.sync_words.specs.declared.outcome.Outcome.{Outcome}
 use Rattle.sync_words.specs.declared.outcome.Outcome.TheVariants as outcome
 use Rattle.store_commands.specs.declared.commit.Settling.{Settling}
 use Rattle.store_commands.specs.declared.commit.Settling.TheVariants as settling
-use Rattle.store_commands.specs.Commit.{CommitsAs, ExtendsBy, ExtendsEnds, ExtendsTold, Follows, GoesOn, HasBatch, IsAdded, LeavesSettled, MayFollow, SettlesAs, Weighs, journal_by, needed_by}
+use Rattle.store_commands.specs.Commit.{CommitsAs, ExtendsBy, ExtendsEnds, ExtendsTold, Follows, GoesOn, HasBatch, IsAdded, SettledBy, MayFollow, SettlesAs, Weighs, journal_by, needed_by}
 
 -- ---- longer journals
-
-pub after_batches-append : (f : Facts) (bs cs : List (List Entry)) → after_batches f (bs ++ cs) ≡ after_batches (after_batches f bs) cs
-after_batches-append f [] cs = refl
-after_batches-append f (b ∷ bs) cs = after_batches-append (after_all f b) bs cs
-
-pub facts-append : (j more : List (List Entry)) → facts (j ++ more) ≡ after_batches (facts j) more
-facts-append j more = after_batches-append nothing j more
 
 pub facts-batch : (j first : List (List Entry)) (batch : List Entry) → facts (j ++ (first ++ batch ∷ [])) ≡ after_all (after_batches (facts j) first) batch
 facts-batch j first batch = facts-append j (first ++ batch ∷ []) ∙ after_batches-append (facts j) first (batch ∷ [])
@@ -110,18 +104,18 @@ settles_from clients s two j more fits settling = subst (λ (g : Facts). AllSett
 settling_moments : (clients : Meaning) (o o1 : Outside) (s s1 : StoreValue) (batch : List Entry) (result : Result (Unit {0}) Outcome) (two : Two File) (j : List (List Entry))
     → o.files ≡ Some two → Fits clients s j two → SettlesAs clients s s1 o o1 result → MomentsAre o o1 (JournalMoment clients (GoesOn clients j batch) (sent_of o.links.told))
 settling_moments clients o o1 s s1 batch result two j files fits settled =
-    moments_map o o1 _ _ (λ m w. settling_moment clients j settled.more batch (sent_of o.links.told) m (settles_from clients s two j settled.more fits settled.settling) w)
-    (settled.leads two files j fits).moments
+    moments_map o o1 _ _ (λ m w. settling_moment clients j settled.more batch (sent_of o.links.told) m (settles_from clients s two j settled.more fits settled.comes.settling) w)
+    (settled.comes.leads two files j fits).moments
 
 -- the journal that the disk fits once it is settled
 settled_fits : (clients : Meaning) (o o1 : Outside) (s s1 : StoreValue) (u : Unit {0}) (two two1 : Two File) (j : List (List Entry)) → o.files ≡ Some two → o1.files ≡ Some two1
     → Fits clients s j two → (settled : SettlesAs clients s s1 o o1 (Ok u)) → Fits clients s1 (j ++ settled.more) two1
 settled_fits clients o o1 s s1 u two two1 j files files1 fits settled =
-    let at = (settled.leads two files j fits).ends settled.answer.0 two1 files1 in
+    let at = (settled.comes.leads two files j fits).ends settled.answer.0 two1 files1 in
     subst (λ (w : List (List Entry)). Fits clients s1 w two1) at.1 at.2
 
 not_settled_ends : (clients : Meaning) (j : List (List Entry)) (batch : List Entry) (P : Two File → Type 0) (s1 : StoreValue) (came : Outcome) (two : Two File)
-    → LeavesSettled clients s1 (Err came) → ExtendsEnds clients j batch P (Err came) two
+    → SettledBy clients s1 (Err came) → ExtendsEnds clients j batch P (Err came) two
 not_settled_ends clients j batch P s1 outcome.Memory two answer = tt
 not_settled_ends clients j batch P s1 outcome.DiskFault two answer = tt
 not_settled_ends clients j batch P s1 _ two answer = absurd answer
@@ -174,7 +168,7 @@ pub commits : (clients : Meaning) (o o1 o2 : Outside) (s s1 s2 : StoreValue) (ba
 commits clients o o1 o2 s s1 s2 batch u result two j files fits limited run settled committed =
     let told1 = told_on o o1 two run.same_told files in
     let first = settled.more in
-    let settles = settles_from clients s two j first fits settled.settling in
+    let settles = settles_from clients s two j first fits settled.comes.settling in
     let fits1 = settled_fits clients o o1 s s1 u two told1.0 j files told1.1 fits settled in
     let second = committed.leads told1.0 told1.1 (j ++ first) fits1 in
     record {
@@ -183,7 +177,7 @@ commits clients o o1 o2 s s1 s2 batch u result two j files fits limited run sett
           (moments_map o1 o2 _ _ (λ m w. batch_moment clients j first batch (sent_of o.links.told) m settles w)
           (sent_before clients (WithAtMost (j ++ first) batch) o o1 o2 run.same_links second.moments));
       ends = λ two' files'.
-          commit_ends clients j first batch s1 s2 told1.0 two' result settles settled.answer.1 (settled.limit ∙ limited) fits1 committed.answer
+          commit_ends clients j first batch s1 s2 told1.0 two' result settles settled.answer.1 (settled.comes.limit ∙ limited) fits1 committed.answer
           (λ still_open. second.ends still_open two' files');
     }
 
@@ -191,7 +185,7 @@ commits clients o o1 o2 s s1 s2 batch u result two j files fits limited run sett
 pub follows_settled : (clients : Meaning) (o o1 : Outside) (s s1 : StoreValue) (batch : List Entry) (u : Unit {0}) → MayFollow clients s.state.facts batch
     → SettlesAs clients s s1 o o1 (Ok u) → Allowed clients s1.state.facts batch
 follows_settled clients o o1 s s1 batch u may settled =
-    subst (λ (h : Facts). Allowed clients h batch) (sym settled.facts) (may.follows settled.more settled.settling (subst (IsSettled clients) settled.facts settled.answer.1))
+    subst (λ (h : Facts). Allowed clients h batch) (sym settled.comes.facts) (may.follows settled.more settled.comes.settling (subst (IsSettled clients) settled.comes.facts settled.answer.1))
 
 -- ---- after the batch
 
@@ -234,9 +228,9 @@ again_ends clients o2 o3 j batch s2 s3 two2 two asked (Ok u) e files2 files at s
     let rest = settled.more in
     let same : s2.state.facts ≡ f = sym at.fits.facts_are ∙ facts-batch j at.first batch in
     let fits3 = settled_fits clients o2 o3 s2 s3 u two2 two (j ++ (at.first ++ batch ∷ [])) files2 files at.fits settled in
-    let last : s3.state.facts ≡ after_batches f rest = settled.facts ∙ ap (λ (g : Facts). after_batches g rest) same in
+    let last : s3.state.facts ≡ after_batches f rest = settled.comes.facts ∙ ap (λ (g : Facts). after_batches g rest) same in
     let follows : Follows settling.BeforeAndAfter clients f rest =
-    (subst (λ (g : Facts). AllSettling clients g rest) same settled.settling, subst (IsSettled clients) last settled.answer.1) in
+    (subst (λ (g : Facts). AllSettling clients g rest) same settled.comes.settling, subst (IsSettled clients) last settled.answer.1) in
     record {
       first = at.first;
       rest = rest;
@@ -258,13 +252,13 @@ batch_settled clients o o2 o3 j batch s2 s3 two asked u result e files run told 
     let told2 = told_on o o2 two run.same_told files in
     let at = told.ends told2.0 told2.1 in
     let same : s2.state.facts ≡ after_all (after_batches (facts j) at.first) batch = sym at.fits.facts_are ∙ facts-batch j at.first batch in
-    let again : AllSettling clients (after_all (after_batches (facts j) at.first) batch) settled.more = subst (λ (g : Facts). AllSettling clients g settled.more) same settled.settling in
+    let again : AllSettling clients (after_all (after_batches (facts j) at.first) batch) settled.more = subst (λ (g : Facts). AllSettling clients g settled.more) same settled.comes.settling in
     record {
       moments =
           moments_then o o2 o3 _ told.moments
           (moments_map o2 o3 _ _ (λ m w. again_moment clients j at.first settled.more batch (sent_of o.links.told) m at.settles again w)
           (sent_before clients (IsBetween (j ++ (at.first ++ batch ∷ [])) settled.more) o o2 o3 run.same_links
-          (settled.leads told2.0 told2.1 (j ++ (at.first ++ batch ∷ [])) at.fits).moments));
+          (settled.comes.leads told2.0 told2.1 (j ++ (at.first ++ batch ∷ [])) at.fits).moments));
       ends = λ two' files'. again_ends clients o2 o3 j batch s2 s3 told2.0 two' asked result e told2.1 files' at settled;
     }
 

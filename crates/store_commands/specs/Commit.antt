@@ -10,12 +10,13 @@ use Rattle.sync_rules.specs.Clients.{Meaning}
 use Rattle.sync_rules.specs.Facts.{Facts, facts, after_all, after_batches}
 use Rattle.sync_rules.specs.Legal.{Allowed, AllSettling}
 use Rattle.sync_rules.specs.Steps.{IsSettled}
-use Rattle.entry_codec.specs.Laws.{journal_end, payload_len}
+use Rattle.entry_codec.specs.Payloads.{journal_end, payload_len}
 use Rattle.entry_codec.specs.Standing.{journal, room_of, stands}
 use Rattle.sync_store.specs.Commits.{needed}
 use Rattle.sync_store.specs.Store.{StoreValue}
 use Rattle.sync_store.specs.Fitting.{Fits}
-use Rattle.sync_store.specs.Moments.{IsBetween, JournalMoment, Leads, WithAtMost}
+use Rattle.sync_store.specs.Moments.{JournalMoment, Leads, WithAtMost}
+use Rattle.sync_store.specs.Settling.{ComesBy}
 use Rattle.sync_words.specs.declared.outcome.Outcome.{Outcome}
 use Rattle.sync_words.specs.declared.outcome.Outcome.TheVariants as outcome
 use Rattle.store_commands.specs.declared.commit.Settling.{Settling}
@@ -86,21 +87,17 @@ ExtendsBy old new (Err outcome.DiskFault) = Rose old.disk_faults new.disk_faults
 ExtendsBy old new (Err _) = ⊥
 
 -- what settling leaves of the store: at Ok it is settled
-abbrev pub LeavesSettled : Meaning → StoreValue → Result (Unit {0}) Outcome → Type 0
-LeavesSettled clients s (Ok _) = (s.closed ≡ false) × IsSettled clients s.state.facts
-LeavesSettled clients s (Err outcome.Memory) = Unit {0}
-LeavesSettled clients s (Err outcome.DiskFault) = Unit {0}
-LeavesSettled clients s (Err _) = ⊥
+abbrev pub SettledBy : Meaning → StoreValue → Result (Unit {0}) Outcome → Type 0
+SettledBy clients s (Ok _) = (s.closed ≡ false) × IsSettled clients s.state.facts
+SettledBy clients s (Err outcome.Memory) = Unit {0}
+SettledBy clients s (Err outcome.DiskFault) = Unit {0}
+SettledBy clients s (Err _) = ⊥
 
--- a store was settled as far as it went
+-- a store came by settling batches as far as the answer says
 pub record SettlesAs (clients : Meaning) (s s' : StoreValue) (old new : Outside) (result : Result (Unit {0}) Outcome) : Type 0 where
   pub more : List (List Entry)
-  pub settling : AllSettling clients s.state.facts more
-  pub facts : s'.state.facts ≡ after_batches s.state.facts more
-  pub limit : s'.limit ≡ s.limit
-  pub answer : LeavesSettled clients s' result
-  pub leads : (two : Two File) → old.files ≡ Some two → (j : List (List Entry)) → Fits clients s j two
-      → Leads clients (IsBetween j more) (λ k. k ≡ j ++ more) s' old new
+  pub comes : ComesBy clients s s' old new more
+  pub answer : SettledBy clients s' result
 
 -- the sum of the room, by the answer of a commit
 abbrev pub Weighs : StoreValue → StoreValue → List Entry → Result (Unit {0}) Outcome → Type 0

@@ -1,5 +1,6 @@
 -- Where `try` wrote its whole text, it told the state of each message; and what words come to that could not be obeyed.
-use Rattle.std.proofs.Common.{◌≡◌, ℕ, List, refl, sym, ap, ◌∙◌, subst, inl, inr, Option, Some, None, Err}
+use Rattle.std.proofs.Common.{◌≡◌, ℕ, List, refl, sym, ap, ◌∙◌, subst, inl, inr, Option, Some, None, Result, Ok, Err}
+use Rattle.std.specs.Prelude.{IsErrAnd}
 use Rattle.std.specs.Io.KnownBytes.{Appends}
 use Rattle.std.proofs.lemmas.List.{take_all}
 use Rattle.outside.specs.Files.{read_files}
@@ -7,6 +8,7 @@ use Rattle.outside.specs.Outside.{Outside}
 use Rattle.outside.specs.Steps.{looks_none, run_none}
 use Rattle.outside.specs.Streams.{Stream, IsIdle}
 use Rattle.record_grammar.specs.Stream.{items, records, records_of}
+use Rattle.record_grammar.specs.declared.stream.Item.{Item}
 use Rattle.journal_play.specs.Fates.{SaysFates}
 use Rattle.journal_play.specs.Playing.{IsTextOf}
 use Rattle.sync_ids.specs.Ids.{group_id_of}
@@ -17,7 +19,7 @@ use Rattle.sync_rules.specs.Steps.{kind_of_def}
 use Rattle.sync_words.specs.declared.outcome.Outcome.{Outcome}
 use Rattle.sync_words.specs.declared.outcome.Outcome.TheVariants as outcome
 use Rattle.sync_words.specs.declared.status.Status.{Status}
-use Rattle.sync_words.specs.Outcomes.{status_of, words_came}
+use Rattle.sync_words.specs.Outcomes.{came_to, status_of, words_came}
 use Rattle.sync_words.specs.Reading.{Asked, IsReadAs}
 use Rattle.sync_words.specs.Reading.Asked.{Usage, Do}
 use Rattle.sync_words.specs.declared.command.Command.{Command}
@@ -28,7 +30,7 @@ use Rattle.store_commands.specs.declared.commit.Settling.TheVariants as settling
 use Rattle.store_commands.specs.Entries.{HasAdded}
 use Rattle.store_commands.specs.Plans.{group_plan}
 use Rattle.sync_top.specs.declared.input.TheConstants.{MAX_INPUT}
-use Rattle.sync_top.specs.Run.{Comes, DoesNothing, KeepsHost, Reports, ReadsStream, ReadsWhole, TriesClient}
+use Rattle.sync_top.specs.Run.{Comes, DoesNothing, KeepsHost, Reports, ReadsStream, ReadsWhole, Streams, TriesClient}
 use Rattle.sync_top.specs.States.{TellsStates, TellsGroup, TellsWhole}
 
 module _ (law : (clients : Meaning) (kind : ℕ) (def : GroupValue) (records : List Record) (text : List ℕ)
@@ -91,7 +93,7 @@ does_nothing o input input' out out' idle quiet = record {
   untouched = (idle, quiet);
 }
 
-tries_memory : (clients : Meaning) (name descriptor : List ℕ) (o : Option ℕ) (input input' out out' : Stream) → IsIdle out out'
+pub tries_memory : (clients : Meaning) (name descriptor : List ℕ) (o : Option ℕ) (input input' out out' : Stream) → IsIdle out out'
     → TriesClient clients name descriptor o input input' out out' outcome.Memory
 tries_memory clients name descriptor None input input' out out' idle = idle
 tries_memory clients name descriptor (Some kind) input input' out out' idle = idle
@@ -132,3 +134,36 @@ group_comes clients asked name descriptor given rest major def old new input inp
     made ∙ ap with_name first ∙ ap with_descriptor second in
     subst (λ (a : Command). Comes clients (Do a) old new input input' out out' came) (sym is)
     (inl (subst (λ (d : GroupValue). HasAdded clients (λ f. group_plan clients f d) settling.Before old new out out' came) words added, idle))
+
+-- ---- answers of commands
+
+-- what holds of a command holds of one that is it
+pub as_command : (clients : Meaning) (asked is : Command) (old new : Outside) (input input' out out' : Stream) (came : Outcome) → asked ≡ is
+    → Comes clients (Do is) old new input input' out out' came → Comes clients (Do asked) old new input input' out out' came
+as_command clients asked is old new input input' out out' came same comes =
+    subst (λ (a : Command). Comes clients (Do a) old new input input' out out' came) (sym same) comes
+
+-- the outcome that was reported is that of the command
+pub reports_as : (came came' : Outcome) (err err' : Stream) (given : Status) → came ≡ came' → Reports came err err' given → Reports came' err err' given
+reports_as came came' err err' given same reports = subst (λ (o : Outcome). Reports o err err' given) same reports
+
+-- what goes on by `?`
+passed : (P : Outcome → Type 0) (r : Result (Unit {0}) Outcome) (x : Outcome) → IsErrAnd r (λ e. e ≡ x) → P x → P (came_to r)
+passed P (Ok u) x is h = absurd is
+passed P (Err e) x is h = subst P (sym is) h
+
+module _ (r : Result (Unit {0}) Outcome) (x : Outcome) (is : IsErrAnd r (λ e. e ≡ x)) where
+  pub came_on : came_to r ≡ x
+  came_on = passed (λ (came : Outcome). came ≡ x) r x is refl
+
+  pub comes_on : (clients : Meaning) (words : Asked) (old new : Outside) (input input' out out' : Stream) → Comes clients words old new input input' out out' x
+      → Comes clients words old new input input' out out' (came_to r)
+  comes_on clients words old new input input' out out' = passed (λ (came : Outcome). Comes clients words old new input input' out out' came) r x is
+
+  pub streams_on : (told : List Item → List ℕ → Type 0) (input input' out out' : Stream) → Streams told input input' out out' x → Streams told input input' out out' (came_to r)
+  streams_on told input input' out out' = passed (λ (came : Outcome). Streams told input input' out out' came) r x is
+
+  pub tries_on : (clients : Meaning) (name descriptor : List ℕ) (o : Option ℕ) (input input' out out' : Stream) → TriesClient clients name descriptor o input input' out out' x
+      → TriesClient clients name descriptor o input input' out out' (came_to r)
+  tries_on clients name descriptor o input input' out out' =
+      passed (λ (came : Outcome). TriesClient clients name descriptor o input input' out out' came) r x is

@@ -32,7 +32,8 @@ impl<'a, C: Clients> Listener for Player<'a, C> {
         let Some(record) = record_in(item) else {
             return Ok(());
         };
-        self.play.hear(alloc, self.clients, record)
+        self.play.hear(alloc, self.clients, record)?;
+        Ok(())
     }
 }
 

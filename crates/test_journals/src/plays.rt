@@ -114,12 +114,18 @@ fn record(
     Ok(Record::Message(message(rt, alloc, group, n)?))
 }
 
-fn played(rt: &impl Abort, alloc: Global, heard: &[u8], refuses: bool) -> Result<String, Fail> {
+fn played(
+    rt: &impl Abort,
+    alloc: Global,
+    hasher: RandomState,
+    heard: &[u8],
+    refuses: bool,
+) -> Result<String, Fail> {
     let def = group(alloc, b"d")?;
     let own = group_id(&def);
     let other = group_id(&group(alloc, b"e")?);
     let clients = client(rt, alloc, &own, refuses)?;
-    let mut play = Play::begin(alloc, def, 0)?;
+    let mut play = Play::begin(alloc, hasher, def, 0)?;
     for n in heard {
         let next = record(rt, alloc, &own, &other, *n)?;
         play.hear(alloc, &clients, next)?;
