@@ -4,7 +4,7 @@ ghost use Rattle.std.specs.List.{AllByRecursion};
 ghost use Rattle.entry_codec.specs.Spelling.{HasLatency};
 ghost use Rattle.sync_rules.specs.declared.entries.Entry.TheVariants as kind;
 
-use crate::messages::{Entries, Plan, batch_of};
+use crate::messages::{Entries, Plan};
 use crate::stop::Stop;
 use entry_codec::{batch_len, write_batch};
 use outside::MemDisk;
@@ -12,6 +12,7 @@ use std::alloc::{AllocError, Global};
 use sync_ids::MessageId;
 use sync_rules::{Batch, Entry, id_of};
 use sync_store::Store;
+use test_device::batch_of;
 
 /// The bytes of a message's two frames beside its body.
 const BESIDE: usize = 121;

@@ -3,22 +3,21 @@
 //! processor time that this alone took.
 #![tactic(auto)]
 
-mod committing;
 mod journal_file;
 mod messages;
 mod stop;
 
-use crate::committing::{add_all, begin_store, load_store};
 use crate::journal_file::make_file;
 use crate::messages::{Entries, Plan};
 use crate::stop::Stop;
 use anyhow::{Context, Result, bail};
 use client_basic::Bundle;
-use outside::MemDisk;
+use outside::{MAX_JOURNAL, MemDisk};
 use std::alloc::Global;
 use std::env;
 use std::time::{CpuClock, Duration};
 use sync_store::Store;
+use test_device::{Device, batch_of};
 
 /// What is measured.
 #[derive(Clone, Copy)]
@@ -95,30 +94,31 @@ fn measure_make(rt: &HostRuntime, plan: Plan) -> Result<()> {
 
 // Loads a store of the file.
 fn measure_load(rt: &HostRuntime, plan: Plan) -> Result<()> {
-    let mut disk = make_disk(rt.alloc(), plan)?;
+    let disk = make_disk(rt.alloc(), plan)?;
     let start = rt.process_cpu_time()?;
-    let store = load_store(rt.alloc(), &mut disk, &Bundle::new())?;
+    let device = Device::load(rt.alloc(), disk, Bundle::new(), MAX_JOURNAL)?;
     print_time(rt, start)?;
-    print_store(rt, &store)
+    print_store(rt, device.store())
 }
 
-// Commits the messages to a new store.
-fn fill_store(alloc: Global, disk: &mut MemDisk, plan: Plan) -> Result<Store, Stop> {
-    let clients = Bundle::new();
+// A store with the messages, each of which is settled behind its commit.
+fn fill_store(alloc: Global, plan: Plan) -> Result<Device<MemDisk, Bundle>> {
     let entries = Entries::new(alloc, plan)?;
-    let mut store = begin_store(alloc, disk, &clients)?;
-    add_all(alloc, &mut store, disk, &clients, &entries)?;
-    Ok(store)
+    let disk = MemDisk::new(alloc, Vec::new(alloc), Vec::new(alloc))?;
+    let mut device = Device::begin(alloc, disk, Bundle::new())?;
+    for k in 0..entries.len() {
+        let batch = batch_of(alloc, entries.get(k)?)?;
+        device.add_settled(batch)?;
+    }
+    Ok(device)
 }
 
 // Commits the messages to a new store.
 fn measure_commit(rt: &HostRuntime, plan: Plan) -> Result<()> {
-    let alloc = rt.alloc();
-    let mut disk = MemDisk::new(alloc, Vec::new(alloc), Vec::new(alloc))?;
     let start = rt.process_cpu_time()?;
-    let store = fill_store(alloc, &mut disk, plan)?;
+    let device = fill_store(rt.alloc(), plan)?;
     print_time(rt, start)?;
-    print_store(rt, &store)
+    print_store(rt, device.store())
 }
 
 fn main(rt: HostRuntime) -> Result<()> {

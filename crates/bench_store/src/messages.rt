@@ -1,12 +1,11 @@
 //! The entries of a journal that brings messages, and the ids of these.
-ghost use Rattle.std.specs.Prelude.{◌≡◌, ◌∷◌, [], false, IfOk};
-ghost use Rattle.entry_codec.specs.Allows.{is_settling_kind};
+ghost use Rattle.std.specs.Prelude.{IfOk};
 ghost use Rattle.entry_codec.specs.Spelling.{HasLatency};
 
 use crate::stop::Stop;
-use std::alloc::{AllocError, Global};
+use std::alloc::Global;
 use sync_ids::{Fixed, GroupDef, GroupId, MAX_BODY, Message, MessageId, group_id, message_id};
-use sync_rules::{Batch, Entry, Level};
+use sync_rules::{Entry, Level};
 
 /// How many messages there are, how long each body is, and with how many contacts their group is
 /// shared.
@@ -57,8 +56,7 @@ impl Entries {
 
     /// The entry of this number.
     pub(crate) fn get(&self, k: u64) -> Result<Entry, Stop>
-        ensures latency { IfOk result (λ entry. HasLatency entry) }
-        ensures kind { IfOk result (λ entry. is_settling_kind (entry ∷ []) ≡ false) }
+        ensures { IfOk result (λ entry. HasLatency entry) }
     {
         if k == 0 {
             let def = make_group(self.alloc)?;
@@ -72,8 +70,7 @@ impl Entries {
 
     /// Two entries a contact: it is added, and the group is shared with it.
     fn share(&self, k: u64) -> Result<Entry, Stop>
-        ensures latency { IfOk result (λ entry. HasLatency entry) }
-        ensures kind { IfOk result (λ entry. is_settling_kind (entry ∷ []) ≡ false) }
+        ensures { IfOk result (λ entry. HasLatency entry) }
     {
         let Ok(contact) = u8::try_from(k / 2) else {
             return Err(Stop::NoValue);
@@ -114,16 +111,4 @@ fn mixed(first: MessageId, second: &MessageId) -> MessageId {
         *to ^= *from;
     }
     Fixed(bytes)
-}
-
-/// The batch of one entry.
-pub(crate) fn batch_of(alloc: Global, entry: Entry) -> Result<Batch, AllocError>
-    ensures { IfOk result (λ batch. batch ≡ entry ∷ []) }
-{
-    let mut entries = Vec::new(alloc);
-    entries.push(entry)?;
-    match Batch::new(entries) {
-        Ok(batch) => Ok(batch),
-        Err(_) => unreachable!(),
-    }
 }

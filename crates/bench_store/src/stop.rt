@@ -11,10 +11,4 @@ pub(crate) enum Stop {
     NoValue,
     #[error("no store was begun")]
     NotBegun,
-    #[error("no store was loaded")]
-    NotLoaded,
-    #[error("a batch may not follow")]
-    NotAllowed,
-    #[error("no batch was committed")]
-    NotCommitted,
 }

@@ -1,10 +1,10 @@
 -- Parts are told apart by their lengths.
-use Rattle.std.proofs.Common.{◌≡◌, ℕ, ◌^◌, ◌<◌, List, [], ◌∷◌, ◌++◌, length, take, drop, refl, sym, ap, ◌∙◌, arith}
-use Rattle.std.proofs.lemmas.List.{append_assoc, take_at, drop_at}
+use Rattle.std.proofs.Common.{◌≡◌, ℕ, List, [], ◌∷◌, ◌++◌, length, take, drop, refl, sym, ap, ◌∙◌}
+use Rattle.std.proofs.lemmas.List.{take_at, drop_at}
 use Rattle.std.proofs.lemmas.Nat.{from_be_bytes-to_be_bytes_4}
 use Rattle.std.specs.Int.{w32, from_be_bytes, to_be_bytes}
 use Rattle.std.specs.List.{AllByRecursion}
-use Rattle.bramble_hash.specs.Parts.{IsPart, preimage, with_length}
+use Rattle.bramble_hash.specs.Parts.{IsPart, preimage}
 
 pub one_list : (parts others : List (List ℕ)) → AllByRecursion IsPart parts → AllByRecursion IsPart others → preimage parts ≡ preimage others → parts ≡ others
 one_list [] [] fit fit' e = refl

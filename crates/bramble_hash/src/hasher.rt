@@ -1,4 +1,4 @@
-// A message taken in piece by piece.
+//! A message taken in piece by piece.
 
 ghost use Rattle.std.specs.Prelude.{◌≡◌, ℕ, ◌+◌, ◌-◌, ◌*◌, ◌^◌, ◌<◌, ◌≤◌, ◌↔◌, ◌++◌, List, []};
 ghost use Rattle.std.specs.Prelude.{length, take, replicate, IsErr, IfOk};

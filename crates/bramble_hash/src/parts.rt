@@ -1,4 +1,4 @@
-// The digest of several parts.
+//! The digest of several parts.
 
 ghost use Rattle.std.specs.Prelude.{◌≡◌, ℕ, ◌+◌, ◌-◌, ◌^◌, ◌<◌, ◌++◌, List, [], ◌∷◌, length};
 ghost use Rattle.bramble_hash.specs.Parts.{HoldsParts, PreimagesDiffer, hash};

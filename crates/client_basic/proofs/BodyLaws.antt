@@ -5,8 +5,7 @@ use Rattle.std.proofs.lemmas.Str.{IsUtf8-from_is_utf8, is_utf8-from_IsUtf8}
 use Rattle.std.proofs.lemmas.Bool.{false_from_ne_true}
 use Rattle.sync_rules.specs.declared.answers.Judgement.{Judgement}
 use Rattle.sync_rules.specs.declared.answers.Judgement.TheVariants as judgement
-use Rattle.sync_rules.specs.Lists.{has_repeat}
-use Rattle.client_basic.specs.Bodies.{feed_verdict, previous_of, thread_verdict_of, ids_from}
+use Rattle.client_basic.specs.Bodies.{feed_verdict, previous_of, ids_from}
 
 pub text_told : {A E : Type 0} (bytes : List ℕ) (r : Result A E) (P : A → Type 0) (Q : E → Type 0)
     → MatchResult r (λ s. P s × IsUtf8 bytes) (λ e. (IsUtf8 bytes → ⊥) × Q e) → is_ok r ≡ is_utf8 bytes
@@ -40,43 +39,3 @@ ids_step n i bytes ids whole less h =
     append_assoc ids (take 32 (drop (32 * i) bytes) ∷ []) (ids_from (n - (i + 1)) (drop (32 * (i + 1)) bytes))
     ∙ (ap (λ (r : List ℕ). ids ++ take 32 (drop (32 * i) bytes) ∷ ids_from (n - (i + 1)) r) (sym rest)
     ∙ (ap (λ (t : List (List ℕ)). ids ++ t) (sym front) ∙ h))
-
--- all ids have been read
-pub ids_end : (n : ℕ) (bytes : List ℕ) (ids whole : List (List ℕ)) → ids ++ ids_from (n - n) (drop (32 * n) bytes) ≡ whole → ids ≡ whole
-ids_end n bytes ids whole h =
-    let none : n - n ≡ zero = omega arith in
-    sym (append-nil ids) ∙ (ap (λ (k : ℕ). ids ++ ids_from k (drop (32 * n) bytes)) (sym none) ∙ h)
-
--- ---- threads
-
-pub thread_short : (count : ℕ) (rest : List ℕ) → length rest < 32 * count → judgement.Refuse ≡ thread_verdict_of count rest
-thread_short count rest short = sym (ap (λ b. cond b judgement.Refuse
-    (cond (has_repeat (ids_from count rest)) judgement.Refuse
-    (cond (is_utf8 (drop (32 * count) rest)) (judgement.Accept (ids_from count rest) true) judgement.Refuse))) (lt-ltb (length rest) (32 * count) short))
-
-thread_long : (count : ℕ) (rest : List ℕ) → 32 * count ≤ length rest → thread_verdict_of count rest
-    ≡ cond (has_repeat (ids_from count rest)) judgement.Refuse
-    (cond (is_utf8 (drop (32 * count) rest)) (judgement.Accept (ids_from count rest) true) judgement.Refuse)
-thread_long count rest long = ap (λ b. cond b judgement.Refuse
-    (cond (has_repeat (ids_from count rest)) judgement.Refuse
-    (cond (is_utf8 (drop (32 * count) rest)) (judgement.Accept (ids_from count rest) true) judgement.Refuse))) (le-ltb (length rest) (32 * count) long)
-
-pub thread_repeats : (count : ℕ) (rest : List ℕ) → 32 * count ≤ length rest → has_repeat (ids_from count rest) ≡ true → judgement.Refuse ≡ thread_verdict_of count rest
-thread_repeats count rest long repeats = sym (thread_long count rest long ∙ ap (λ b. cond b judgement.Refuse
-    (cond (is_utf8 (drop (32 * count) rest)) (judgement.Accept (ids_from count rest) true) judgement.Refuse)) repeats)
-
-thread_distinct : (count : ℕ) (rest : List ℕ) → 32 * count ≤ length rest → has_repeat (ids_from count rest) ≡ false → thread_verdict_of count rest
-    ≡ cond (is_utf8 (drop (32 * count) rest)) (judgement.Accept (ids_from count rest) true) judgement.Refuse
-thread_distinct count rest long distinct = thread_long count rest long ∙ ap (λ b. cond b judgement.Refuse
-    (cond (is_utf8 (drop (32 * count) rest)) (judgement.Accept (ids_from count rest) true) judgement.Refuse)) distinct
-
-pub thread_refused : (count : ℕ) (rest : List ℕ) (deps : List (List ℕ)) → 32 * count ≤ length rest → deps ≡ ids_from count rest → has_repeat deps ≡ false
-    → is_utf8 (drop (32 * count) rest) ≡ false → judgement.Refuse ≡ thread_verdict_of count rest
-thread_refused count rest deps long same distinct text =
-    sym (thread_distinct count rest long (ap has_repeat (sym same) ∙ distinct) ∙ ap (λ b. cond b (judgement.Accept (ids_from count rest) true) judgement.Refuse) text)
-
-pub thread_accepted : (count : ℕ) (rest : List ℕ) (deps : List (List ℕ)) → 32 * count ≤ length rest → deps ≡ ids_from count rest → has_repeat deps ≡ false
-    → is_utf8 (drop (32 * count) rest) ≡ true → judgement.Accept deps true ≡ thread_verdict_of count rest
-thread_accepted count rest deps long same distinct text =
-    ap (λ d. judgement.Accept d true) same
-    ∙ sym (thread_distinct count rest long (ap has_repeat (sym same) ∙ distinct) ∙ ap (λ b. cond b (judgement.Accept (ids_from count rest) true) judgement.Refuse) text)

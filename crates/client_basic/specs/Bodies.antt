@@ -66,32 +66,33 @@ kind_of_name name =
 abbrev pub bundle_kind : List ℕ → ℕ → Option ℕ
 bundle_kind name major = cond (nat_eq major 0) (kind_of_name name) None
 
--- what a bundled client says, by its kind; every other kind refuses
+-- what a bundled client says of a body, by its kind; every other kind refuses
+abbrev pub verdict_of : ℕ → List ℕ → Judgement
+verdict_of kind body =
+    cond (nat_eq kind 0) (note_verdict body)
+    (cond (nat_eq kind 1) (thread_verdict body)
+    (cond (nat_eq kind 2) (feed_verdict body) judgement.Refuse))
+
 abbrev pub bundle_verdict : ℕ → MessageValue → Judgement
-bundle_verdict kind m =
-    cond (nat_eq kind 0) (note_verdict m.body)
-    (cond (nat_eq kind 1) (thread_verdict m.body)
-    (cond (nat_eq kind 2) (feed_verdict m.body) judgement.Refuse))
+bundle_verdict kind m = verdict_of kind m.body
 
 abbrev pub bundle_meaning : Meaning
 bundle_meaning = record { kind_of = bundle_kind; verdict = bundle_verdict }
 
 -- ---- each by itself
 
-abbrev pub note_meaning : Meaning
-note_meaning = record {
-  kind_of = λ name major. cond (nat_eq major 0) (cond (pointwise nat_eq name note_name) (Some 0) None) None;
-  verdict = λ kind m. cond (nat_eq kind 0) (note_verdict m.body) judgement.Refuse;
+-- the client of this name and kind, with what it says of a body; every other kind refuses
+abbrev pub single_meaning : List ℕ → ℕ → (List ℕ → Judgement) → Meaning
+single_meaning own_name own_kind verdict = record {
+  kind_of = λ name major. cond (nat_eq major 0) (cond (pointwise nat_eq name own_name) (Some own_kind) None) None;
+  verdict = λ kind m. cond (nat_eq kind own_kind) (verdict m.body) judgement.Refuse;
 }
+
+abbrev pub note_meaning : Meaning
+note_meaning = single_meaning note_name 0 note_verdict
 
 abbrev pub thread_meaning : Meaning
-thread_meaning = record {
-  kind_of = λ name major. cond (nat_eq major 0) (cond (pointwise nat_eq name thread_name) (Some 1) None) None;
-  verdict = λ kind m. cond (nat_eq kind 1) (thread_verdict m.body) judgement.Refuse;
-}
+thread_meaning = single_meaning thread_name 1 thread_verdict
 
 abbrev pub feed_meaning : Meaning
-feed_meaning = record {
-  kind_of = λ name major. cond (nat_eq major 0) (cond (pointwise nat_eq name feed_name) (Some 2) None) None;
-  verdict = λ kind m. cond (nat_eq kind 2) (feed_verdict m.body) judgement.Refuse;
-}
+feed_meaning = single_meaning feed_name 2 feed_verdict

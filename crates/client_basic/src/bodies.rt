@@ -20,8 +20,8 @@ fn is_text(bytes: &[u8]) -> bool
 
 // The id whose bytes begin at this place.
 fn id_at(bytes: &[u8], at: usize) -> MessageId
-    requires { at + 32 ≤ length bytes.now }
-    ensures { result ≡ take 32 (drop at bytes.now) }
+    requires { at + ID_LEN ≤ length bytes.now }
+    ensures { result ≡ take ID_LEN (drop at bytes.now) }
 {
     let mut id = [0; ID_LEN];
     id.copy_from_slice(&bytes[at..at + ID_LEN]);
@@ -55,7 +55,7 @@ pub fn judge_note(alloc: Global, body: &[u8]) -> Judgement
 
 // So many ids from the front of the bytes.
 fn read_ids(alloc: Global, count: u8, bytes: &[u8]) -> Result<Vec<MessageId>, AllocError>
-    requires { 32 * count ≤ length bytes.now }
+    requires { ID_LEN * count ≤ length bytes.now }
     ensures items { IfOk result (λ ids. ids.items ≡ ids_from count bytes.now) }
     ensures len { IfOk result (λ ids. length ids.items ≡ count) }
 {

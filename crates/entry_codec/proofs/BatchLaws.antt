@@ -7,8 +7,7 @@ use Rattle.std.proofs.lemmas.List.{append-nil}
 use Rattle.sync_rules.specs.declared.entries.Entry.{Entry}
 use Rattle.entry_codec.specs.Spelling.{IsEntry, spelling}
 use Rattle.entry_codec.specs.Reading.{byte_in, entry_in}
-use Rattle.entry_codec.specs.Laws.{payload}
-use Rattle.entry_codec.specs.Standing.{batch_of, entries_in, followed, put_before}
+use Rattle.entry_codec.specs.Payloads.{batch_in, entries_in, followed, put_before, spellings}
 use Rattle.entry_codec.proofs.Bounds.{short}
 use Rattle.entry_codec.proofs.Entries.{IsFound, entry_back, entry_found}
 use Rattle.entry_codec.proofs.Readers.{IsBytes, IsBytes-rest}
@@ -40,31 +39,31 @@ entries_bad (suc n) (x ∷ bytes) some read = ap (followed (entries_in n)) read
 
 -- ---- what is written is read
 
-entries_back : (n : ℕ) (batch : List Entry) → AllByRecursion IsEntry batch → length (payload batch) ≤ n → entries_in n (payload batch) ≡ Some batch
+entries_back : (n : ℕ) (batch : List Entry) → AllByRecursion IsEntry batch → length (spellings batch) ≤ n → entries_in n (spellings batch) ≡ Some batch
 entries_back n [] all enough = entries_none n
-entries_back zero (e ∷ es) all enough = absurd (omega (arith, short e all.0, length-append (spelling e) (payload es)))
+entries_back zero (e ∷ es) all enough = absurd (omega (arith, short e all.0, length-append (spelling e) (spellings es)))
 entries_back (suc n) (e ∷ es) all enough =
-    entries_one n (spelling e ++ payload es) (payload es) e (entry_back e (payload es) all.0)
-    ∙ ap (put_before e) (entries_back n es all.1 (omega (arith, short e all.0, length-append (spelling e) (payload es))))
+    entries_one n (spelling e ++ spellings es) (spellings es) e (entry_back e (spellings es) all.0)
+    ∙ ap (put_before e) (entries_back n es all.1 (omega (arith, short e all.0, length-append (spelling e) (spellings es))))
 
-batch_is : (bytes : List ℕ) → 1 ≤ length bytes → batch_of bytes ≡ entries_in (length bytes) bytes
-unfolding batch_of
+batch_is : (bytes : List ℕ) → 1 ≤ length bytes → batch_in bytes ≡ entries_in (length bytes) bytes
+unfolding batch_in
 batch_is [] some = absurd (omega arith)
 batch_is (x ∷ bytes) some = refl
 
-some_payload : (batch : List Entry) → AllByRecursion IsEntry batch → 1 ≤ length batch → 1 ≤ length (payload batch)
+some_payload : (batch : List Entry) → AllByRecursion IsEntry batch → 1 ≤ length batch → 1 ≤ length (spellings batch)
 some_payload [] all some = absurd (omega arith)
-some_payload (e ∷ es) all some = omega (arith, short e all.0, length-append (spelling e) (payload es))
+some_payload (e ∷ es) all some = omega (arith, short e all.0, length-append (spelling e) (spellings es))
 
-pub batch_back : (batch : List Entry) → AllByRecursion IsEntry batch → 1 ≤ length batch → batch_of (payload batch) ≡ Some batch
+pub batch_back : (batch : List Entry) → AllByRecursion IsEntry batch → 1 ≤ length batch → batch_in (spellings batch) ≡ Some batch
 batch_back batch all some =
-    batch_is (payload batch) (some_payload batch all some) ∙ entries_back (length (payload batch)) batch all (omega arith)
+    batch_is (spellings batch) (some_payload batch all some) ∙ entries_back (length (spellings batch)) batch all (omega arith)
 
 -- ---- what is read was written
 
 -- bytes that spell these entries, each within its limits
 pub record AreSpelled (bytes : List ℕ) (batch : List Entry) : Type 0 where
-  pub is : bytes ≡ payload batch
+  pub is : bytes ≡ spellings batch
   pub within : AllByRecursion IsEntry batch
 
 put_some : (e : Entry) (o : Option (List Entry)) (es : List Entry) → put_before e o ≡ Some es → (others : List Entry) × (o ≡ Some others) × (e ∷ others ≡ es)
@@ -98,8 +97,8 @@ entries_spelled (suc n) (x ∷ bytes) batch fits h =
     let behind = entries_spelled n f.1 f.2 (IsBytes-rest (x ∷ bytes) (spelling f.0) f.1 found.is fits) f.4 in
     subst (λ (b : List Entry). AreSpelled (x ∷ bytes) b) f.5 (spelled_more (x ∷ bytes) f.1 f.0 f.2 found behind)
 
-pub batch_spelled : (bytes : List ℕ) (batch : List Entry) → IsBytes bytes → batch_of bytes ≡ Some batch → AreSpelled bytes batch
-unfolding batch_of
+pub batch_spelled : (bytes : List ℕ) (batch : List Entry) → IsBytes bytes → batch_in bytes ≡ Some batch → AreSpelled bytes batch
+unfolding batch_in
 batch_spelled [] batch fits h = absurd cc
 batch_spelled (x ∷ bytes) batch fits h = entries_spelled (length (x ∷ bytes)) (x ∷ bytes) batch fits h
 
@@ -157,8 +156,8 @@ in_more bytes rest left entries e fits read h =
 whole_some : (bytes front rest : List ℕ) → bytes ≡ front ++ rest → 1 ≤ length rest → 1 ≤ length bytes
 whole_some bytes front rest split some = omega (arith, ap length split, length-append front rest)
 
--- no entry is there: the payload is no batch
-pub in_bad : (bytes rest : List ℕ) (entries : List Entry) → InBatch bytes rest entries → 1 ≤ length rest → entry_in rest ≡ None → batch_of bytes ≡ None
+-- no entry is there: the bytes are no batch
+pub in_bad : (bytes rest : List ℕ) (entries : List Entry) → InBatch bytes rest entries → 1 ≤ length rest → entry_in rest ≡ None → batch_in bytes ≡ None
 in_bad bytes rest entries read some h =
     batch_is bytes (whole_some bytes read.front rest read.split some) ∙ read.answer ∙ ap (put_all entries) (entries_bad read.more rest some h)
 
@@ -168,18 +167,18 @@ in_all bytes rest entries read none =
     ∙ ap (λ (l : List Entry). Some l) (append-nil entries)
 
 -- all entries were read
-pub in_done : (bytes rest : List ℕ) (entries : List Entry) → InBatch bytes rest entries → rest ≡ [] → 1 ≤ length entries → batch_of bytes ≡ Some entries
-unfolding batch_of entries_in
+pub in_done : (bytes rest : List ℕ) (entries : List Entry) → InBatch bytes rest entries → rest ≡ [] → 1 ≤ length entries → batch_in bytes ≡ Some entries
+unfolding batch_in entries_in
 in_done [] rest entries read none some = let clash : Some [] ≡ Some entries = in_all [] rest entries read none in let is : [] ≡ entries = cc in absurd (omega (arith, ap length is))
 in_done (x ∷ bytes) rest entries read none some = in_all (x ∷ bytes) rest entries read none
 
 -- there was no entry
-pub in_empty : (bytes rest : List ℕ) (entries : List Entry) → IsBytes bytes → InBatch bytes rest entries → rest ≡ [] → entries ≡ [] → batch_of bytes ≡ None
-unfolding batch_of
+pub in_empty : (bytes rest : List ℕ) (entries : List Entry) → IsBytes bytes → InBatch bytes rest entries → rest ≡ [] → entries ≡ [] → batch_in bytes ≡ None
+unfolding batch_in
 in_empty [] rest entries fits read none empty = refl
 in_empty (x ∷ bytes) rest entries fits read none empty =
     let is = entries_spelled (length (x ∷ bytes)) (x ∷ bytes) entries fits (in_all (x ∷ bytes) rest entries read none) in
-    absurd (omega (arith, ap length (is.is ∙ ap payload empty)))
+    absurd (omega (arith, ap length (is.is ∙ ap spellings empty)))
 
 -- ---- what is left of the bytes
 

@@ -2,13 +2,15 @@
 use Rattle.std.proofs.Common.{◌≡◌, ℕ, ◌+◌, ◌*◌, ◌≤◌, List, [], ◌∷◌, ◌++◌, length, refl, arith, length-append}
 use Rattle.std.specs.Prelude.{Option, Some, None}
 use Rattle.std.specs.Int.{w32, w64, to_be_bytes}
-use Rattle.std.specs.List.{AllByRecursion, flat_map}
-use Rattle.sync_ids.specs.Values.{GroupValue, IsMessage, MessageValue}
+use Rattle.std.specs.List.{flat_map}
+use Rattle.sync_ids.specs.Values.{AreIds, GroupValue, IsIdList, IsMessage, MessageValue}
+use Rattle.sync_ids.specs.declared.lists.TheConstants.{MAX_IDS}
 use Rattle.sync_rules.specs.declared.entries.Entry.{Entry}
 use Rattle.sync_rules.specs.declared.entries.Entry.TheVariants as entry
 use Rattle.sync_rules.specs.declared.entries.Out.{Out}
 use Rattle.sync_rules.specs.declared.entries.Out.TheVariants as out
-use Rattle.entry_codec.specs.Spelling.{IsEntry, IsIdList, IsNonce, IsOut, counted, def_bytes, ids_bytes, message_bytes, nonce_bytes, out_bytes, spelling, whole}
+use Rattle.entry_codec.specs.declared.lengths.TheConstants.{MAX_SPELLING}
+use Rattle.entry_codec.specs.Spelling.{IsEntry, IsNonce, IsOut, counted, def_bytes, ids_bytes, message_bytes, nonce_bytes, out_bytes, spelling, whole}
 
 pub length_def : (d : GroupValue) → length (def_bytes d) ≡ 7 + length d.name + length d.descriptor
 length_def d = omega (arith, length-append d.name (to_be_bytes w32 d.major ++ counted d.descriptor))
@@ -16,7 +18,7 @@ length_def d = omega (arith, length-append d.name (to_be_bytes w32 d.major ++ co
 pub length_message : (m : MessageValue) → IsMessage m → length (message_bytes m) ≡ 42 + length m.body
 length_message m is = omega (arith, is.whole_group, length-append m.group (to_be_bytes w64 m.timestamp ++ counted m.body))
 
-length_ids : (ids : List (List ℕ)) → AllByRecursion (λ id. length id ≡ 32) ids → length (flat_map whole ids) ≡ 32 * length ids
+length_ids : (ids : List (List ℕ)) → AreIds ids → length (flat_map whole ids) ≡ 32 * length ids
 length_ids [] all = refl
 length_ids (id ∷ ids) all = omega (arith, length-append id (flat_map whole ids), all.0, length_ids ids all.1)
 
@@ -24,8 +26,8 @@ nonce_short : (o : Option (List ℕ)) → IsNonce o → length (nonce_bytes o) �
 nonce_short None is = omega arith
 nonce_short (Some nonce) is = omega (arith, is)
 
-list_short : (ids : List (List ℕ)) → IsIdList ids → length (ids_bytes whole ids) ≤ 49154
-list_short ids is = omega (arith, is.within.few, length_ids ids is.whole_ids)
+list_short : (ids : List (List ℕ)) → IsIdList MAX_IDS ids → length (ids_bytes whole ids) ≤ 49154
+list_short ids is = omega (arith, is.few, length_ids ids is.whole)
 
 out_short : (o : Out) → IsOut o → length (out_bytes whole o) ≤ 49155
 out_short (out.Acks ids) is = omega (arith, list_short ids is)
@@ -49,7 +51,7 @@ most_of (entry.Again s id) = 37
 most_of (entry.Offered s id) = 37
 most_of (entry.Seen s id) = 37
 most_of (entry.Asked s id) = 37
-most_of (entry.Out s now what) = 49168
+most_of (entry.Out s now what) = MAX_SPELLING
 
 pub length_within : (e : Entry) → IsEntry e → (2 ≤ length (spelling e)) × (length (spelling e) ≤ most_of e)
 unfolding spelling
@@ -69,7 +71,7 @@ length_within (entry.Seen s id) is = (omega (arith, is.1), omega (arith, is.1))
 length_within (entry.Asked s id) is = (omega (arith, is.1), omega (arith, is.1))
 length_within (entry.Out s now what) is = (omega arith, omega (arith, out_short what is.2))
 
-most_below : (e : Entry) → most_of e ≤ 49168
+most_below : (e : Entry) → most_of e ≤ MAX_SPELLING
 most_below (entry.Contact c) = omega arith
 most_below (entry.Group def) = omega arith
 most_below (entry.Level c g l) = omega arith
@@ -86,5 +88,5 @@ most_below (entry.Seen s id) = omega arith
 most_below (entry.Asked s id) = omega arith
 most_below (entry.Out s now what) = omega arith
 
-pub short : (e : Entry) → IsEntry e → (2 ≤ length (spelling e)) × (length (spelling e) ≤ 49168)
+pub short : (e : Entry) → IsEntry e → (2 ≤ length (spelling e)) × (length (spelling e) ≤ MAX_SPELLING)
 short e is = let within = length_within e is in (within.0, omega (arith, within.1, most_below e))

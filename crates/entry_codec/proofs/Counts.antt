@@ -27,13 +27,13 @@ adds_all [] = 0
 adds_all (e ∷ es) = adds e + adds_all es
 
 abbrev count : Facts → ℕ
-count f = length f.held + length f.sessions
+count f = length f.held + f.begun
 
 count_after : (f : Facts) (e : Entry) → count (after f e) ≡ count f + adds e
 count_after f (entry.Contact c) = omega arith
 count_after f (entry.Group def) = omega arith
 count_after f (entry.Level c g l) = omega arith
-count_after f (entry.Session s) = omega (arith, length-append f.sessions (s ∷ []))
+count_after f (entry.Session s) = omega arith
 count_after f (entry.Take s k) = omega arith
 count_after f (entry.Author m) = omega (arith, length-append f.held (authored m ∷ []))
 count_after f (entry.Arrive s m) = omega (arith, length-append f.held (arrived (contact_of f.sessions s) m ∷ []))
@@ -128,5 +128,5 @@ batch_adds clients f (entry.Asked s id ∷ rest) is = absurd is
 batch_adds clients f (entry.Out s now what ∷ rest) is = alone (entry.Out s now what) rest is.0
 
 pub one_more : (clients : Meaning) (f : Facts) (batch : List Entry) → Allowed clients f batch
-    → length (after_all f batch).held + length (after_all f batch).sessions ≤ length f.held + length f.sessions + 1
+    → length (after_all f batch).held + (after_all f batch).begun ≤ length f.held + f.begun + 1
 one_more clients f batch is = omega (arith, count_after_all f batch, batch_adds clients f batch is)

@@ -31,10 +31,10 @@ take_reads = both_reads (to_be_bytes w32) (λ n. n < 2 ^ 32) (number_in w32) (to
 arrive_reads : IsReader (λ (a : ℕ × MessageValue). to_be_bytes w32 a.0 ++ message_bytes a.1) (λ a. (a.0 < 2 ^ 32) × IsMessage a.1) (both (number_in w32) message_in)
 arrive_reads = both_reads (to_be_bytes w32) (λ n. n < 2 ^ 32) (number_in w32) message_bytes IsMessage message_in number32 message_reads
 
-out_entry_reads : IsReader (λ (a : ℕ × (ℕ × Out)). to_be_bytes w32 a.0 ++ (to_be_bytes w64 a.1.0 ++ out_bytes whole a.1.1)) (λ a. (a.0 < 2 ^ 32) × ((a.1.0 < 2 ^ 64) × IsOut a.1.1)) (both (number_in w32) (both (number_in w64) out_in))
+out_entry_reads : IsReader (λ (a : ℕ × (ℕ × Out)). to_be_bytes w32 a.0 ++ (to_be_bytes w64 a.1.0 ++ out_bytes whole a.1.1)) (λ a. (a.0 < 2 ^ 32) × ((a.1.0 < 2 ^ 64) × IsOut a.1.1)) (both (number_in w32) (both (number_in w64) (out_in id_in)))
 out_entry_reads =
-    both_reads (to_be_bytes w32) (λ n. n < 2 ^ 32) (number_in w32) (λ (a : ℕ × Out). to_be_bytes w64 a.0 ++ out_bytes whole a.1) (λ a. (a.0 < 2 ^ 64) × IsOut a.1) (both (number_in w64) out_in) number32
-    (both_reads (to_be_bytes w64) (λ n. n < 2 ^ 64) (number_in w64) (out_bytes whole) IsOut out_in number64 out_reads)
+    both_reads (to_be_bytes w32) (λ n. n < 2 ^ 32) (number_in w32) (λ (a : ℕ × Out). to_be_bytes w64 a.0 ++ out_bytes whole a.1) (λ a. (a.0 < 2 ^ 64) × IsOut a.1) (both (number_in w64) (out_in id_in)) number32
+    (both_reads (to_be_bytes w64) (λ n. n < 2 ^ 64) (number_in w64) (out_bytes whole) IsOut (out_in id_in) number64 out_reads)
 
 abbrev pair_bytes : ℕ × List ℕ → List ℕ
 pair_bytes a = to_be_bytes w32 a.0 ++ a.1
@@ -42,7 +42,7 @@ pair_bytes a = to_be_bytes w32 a.0 ++ a.1
 abbrev IsPair : ℕ × List ℕ → Type 0
 IsPair a = (a.0 < 2 ^ 32) × IsWhole a.1
 
-pair_reads : IsReader pair_bytes IsPair pair_in
+pair_reads : IsReader pair_bytes IsPair (pair_in id_in)
 unfolding pair_in
 pair_reads = both_reads (to_be_bytes w32) (λ n. n < 2 ^ 32) (number_in w32) id_bytes IsWhole id_in number32 id_reads
 
@@ -61,7 +61,7 @@ entry_back (entry.Judged id) more is = ap (meant (step_of 8)) (id_reads.back id 
 entry_back (entry.Deliver id) more is = ap (meant (step_of 9)) (id_reads.back id more is)
 entry_back (entry.Invalid id) more is = ap (meant (step_of 10)) (id_reads.back id more is)
 entry_back (entry.Again s id) more is = ap (meant (heard_of 11)) (pair_reads.back (s, id) more is)
-entry_back (entry.Offered s id) more is = ap (meant (heard_of 12)) (pair_reads.back (s, id) more is)
+entry_back (entry.Offered s id) more is = ap (made (λ (a : ℕ × List ℕ). entry.Offered a.0 a.1)) (pair_reads.back (s, id) more is)
 entry_back (entry.Seen s id) more is = ap (meant (heard_of 13)) (pair_reads.back (s, id) more is)
 entry_back (entry.Asked s id) more is = ap (meant (heard_of 14)) (pair_reads.back (s, id) more is)
 entry_back (entry.Out s now what) more is = ap (made (λ (a : ℕ × (ℕ × Out)). entry.Out a.0 a.1.0 a.1.1)) (out_entry_reads.back (s, (now, what)) more (is.0, (is.1, is.2)))
@@ -92,7 +92,7 @@ known_found bytes mid rest n e fits first h =
     (λ h. absurd cc)))
     h
 
-moved_found : (bytes mid rest : List ℕ) (n : ℕ) (e : Entry) → IsBytes mid → bytes ≡ n ∷ mid → moved_of n mid ≡ Some (e, rest) → IsFound bytes rest e
+moved_found : (bytes mid rest : List ℕ) (n : ℕ) (e : Entry) → IsBytes mid → bytes ≡ n ∷ mid → moved_of id_in n mid ≡ Some (e, rest) → IsFound bytes rest e
 moved_found bytes mid rest n e fits first h =
     tested (IsFound bytes rest e) n 4 (made entry.Session (session_in mid)) _ (Some (e, rest))
     (λ k h. found_by session_bytes IsSession session_in session_reads entry.Session 4 (λ a l. l) (λ a. refl) bytes mid rest n e fits first k h)
@@ -104,8 +104,8 @@ moved_found bytes mid rest n e fits first h =
     (tested (IsFound bytes rest e) n 7 (made (λ (a : ℕ × MessageValue). entry.Arrive a.0 a.1) (both (number_in w32) message_in mid)) _ (Some (e, rest))
     (λ k h. found_by (λ (a : ℕ × MessageValue). to_be_bytes w32 a.0 ++ message_bytes a.1) (λ a. (a.0 < 2 ^ 32) × IsMessage a.1) (both (number_in w32) message_in) arrive_reads
     (λ a. entry.Arrive a.0 a.1) 7 (λ a l. l) (λ a. refl) bytes mid rest n e fits first k h)
-    (tested (IsFound bytes rest e) n 15 (made (λ (a : ℕ × (ℕ × Out)). entry.Out a.0 a.1.0 a.1.1) (both (number_in w32) (both (number_in w64) out_in) mid)) None (Some (e, rest))
-    (λ k h. found_by (λ (a : ℕ × (ℕ × Out)). to_be_bytes w32 a.0 ++ (to_be_bytes w64 a.1.0 ++ out_bytes whole a.1.1)) (λ a. (a.0 < 2 ^ 32) × ((a.1.0 < 2 ^ 64) × IsOut a.1.1)) (both (number_in w32) (both (number_in w64) out_in)) out_entry_reads
+    (tested (IsFound bytes rest e) n 15 (made (λ (a : ℕ × (ℕ × Out)). entry.Out a.0 a.1.0 a.1.1) (both (number_in w32) (both (number_in w64) (out_in id_in)) mid)) None (Some (e, rest))
+    (λ k h. found_by (λ (a : ℕ × (ℕ × Out)). to_be_bytes w32 a.0 ++ (to_be_bytes w64 a.1.0 ++ out_bytes whole a.1.1)) (λ a. (a.0 < 2 ^ 32) × ((a.1.0 < 2 ^ 64) × IsOut a.1.1)) (both (number_in w32) (both (number_in w64) (out_in id_in))) out_entry_reads
     (λ a. entry.Out a.0 a.1.0 a.1.1) 15 (λ a l. (l.0, l.1.0, l.1.1)) (λ a. refl) bytes mid rest n e fits first k h)
     (λ h. absurd cc)))))
     h
@@ -144,20 +144,23 @@ step_found bytes mid rest n e fits first h =
     (λ h. absurd cc)))
     m.2
 
-heard_found : (bytes mid rest : List ℕ) (n : ℕ) (e : Entry) → IsBytes mid → bytes ≡ n ∷ mid → meant (heard_of n) (pair_in mid) ≡ Some (e, rest) → IsFound bytes rest e
+heard_found : (bytes mid rest : List ℕ) (n : ℕ) (e : Entry) → IsBytes mid → bytes ≡ n ∷ mid → meant (heard_of n) (pair_in id_in mid) ≡ Some (e, rest) → IsFound bytes rest e
 heard_found bytes mid rest n e fits first h =
-    let m = meant_some (heard_of n) (pair_in mid) e rest h in
+    let m = meant_some (heard_of n) (pair_in id_in mid) e rest h in
     let s = pair_reads.sound mid rest m.0 fits m.1 in
     tested (IsFound bytes rest e) n 11 (Some (entry.Again m.0.0 m.0.1)) _ (Some e)
     (λ k h. some_found pair_bytes IsPair (λ a. entry.Again a.0 a.1) 11 (λ a l. l) (λ a. refl) bytes mid rest n m.0 e s.0 s.1 first k h)
-    (tested (IsFound bytes rest e) n 12 (Some (entry.Offered m.0.0 m.0.1)) _ (Some e)
-    (λ k h. some_found pair_bytes IsPair (λ a. entry.Offered a.0 a.1) 12 (λ a l. l) (λ a. refl) bytes mid rest n m.0 e s.0 s.1 first k h)
     (tested (IsFound bytes rest e) n 13 (Some (entry.Seen m.0.0 m.0.1)) _ (Some e)
     (λ k h. some_found pair_bytes IsPair (λ a. entry.Seen a.0 a.1) 13 (λ a l. l) (λ a. refl) bytes mid rest n m.0 e s.0 s.1 first k h)
     (tested (IsFound bytes rest e) n 14 (Some (entry.Asked m.0.0 m.0.1)) None (Some e)
     (λ k h. some_found pair_bytes IsPair (λ a. entry.Asked a.0 a.1) 14 (λ a l. l) (λ a. refl) bytes mid rest n m.0 e s.0 s.1 first k h)
-    (λ h. absurd cc))))
+    (λ h. absurd cc)))
     m.2
+
+offered_found : (bytes mid rest : List ℕ) (n : ℕ) (e : Entry) → IsBytes mid → bytes ≡ n ∷ mid → n ≡ 12
+    → made (λ (a : ℕ × List ℕ). entry.Offered a.0 a.1) (pair_in id_in mid) ≡ Some (e, rest) → IsFound bytes rest e
+offered_found bytes mid rest n e fits first k h =
+    found_by pair_bytes IsPair (pair_in id_in) pair_reads (λ a. entry.Offered a.0 a.1) 12 (λ a l. l) (λ a. refl) bytes mid rest n e fits first k h
 
 -- either answer of a test
 either : {C : Type 0} → (P : Type 0) (b : Bool) (x y r : C) → (x ≡ r → P) → (y ≡ r → P) → (if b then x else y) ≡ r → P
@@ -167,9 +170,11 @@ either P false x y r first second e = second e
 pub entry_found : (bytes rest : List ℕ) (e : Entry) → IsBytes bytes → entry_in bytes ≡ Some (e, rest) → IsFound bytes rest e
 unfolding entry_in
 entry_found bytes rest e fits h =
-    let c = behind_byte entry_of bytes rest e fits h in
+    let c = behind_byte (entry_of id_in) bytes rest e fits h in
     either (IsFound bytes rest e) (is_between 1 3 c.0) (known_of c.0 c.1) _ (Some (e, rest)) (known_found bytes c.1 rest c.0 e c.3 c.2)
     (either (IsFound bytes rest e) (is_between 8 10 c.0) (meant (step_of c.0) (id_in c.1)) _ (Some (e, rest)) (step_found bytes c.1 rest c.0 e c.3 c.2)
-    (either (IsFound bytes rest e) (is_between 11 14 c.0) (meant (heard_of c.0) (pair_in c.1)) (moved_of c.0 c.1) (Some (e, rest)) (heard_found bytes c.1 rest c.0 e c.3 c.2)
-    (moved_found bytes c.1 rest c.0 e c.3 c.2)))
+    (tested (IsFound bytes rest e) c.0 12 (made (λ (a : ℕ × List ℕ). entry.Offered a.0 a.1) (pair_in id_in c.1)) _ (Some (e, rest))
+    (λ k m. offered_found bytes c.1 rest c.0 e c.3 c.2 k m)
+    (either (IsFound bytes rest e) (is_between 11 14 c.0) (meant (heard_of c.0) (pair_in id_in c.1)) (moved_of id_in c.0 c.1) (Some (e, rest)) (heard_found bytes c.1 rest c.0 e c.3 c.2)
+    (moved_found bytes c.1 rest c.0 e c.3 c.2))))
     c.4

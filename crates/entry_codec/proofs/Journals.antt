@@ -1,6 +1,6 @@
 -- A file with the frames of a legal journal stands for that journal.
 use Rattle.std.proofs.Common.{◌≡◌, ℕ, zero, suc, ◌+◌, ◌≤◌, Bool, true, false, List, [], ◌∷◌, ◌++◌, length, get_or, take, drop, refl, sym, ap, subst, ◌∙◌, arith, append_assoc, length-append}
-use Rattle.std.specs.Prelude.{◌≢◌, ◌==◌, not, nat_le, map, cond, slice_index, Option, Some, None, All}
+use Rattle.std.specs.Prelude.{◌≢◌, ◌==◌, not, nat_le, cond, slice_index, Option, Some, None, All}
 use Rattle.std.specs.Int.{w32, to_be_bytes, from_be_bytes}
 use Rattle.std.specs.List.{AllByRecursion, flat_map}
 use Rattle.std.proofs.lemmas.Bool.{cond-false, cond-true, eq-eqb, le-leb, le-ltb, lt-leb, ne_eqb, not_from_true, not_from_false, or_from}
@@ -9,16 +9,18 @@ use Rattle.std.proofs.lemmas.List.Elements.{All-head, All-tail}
 use Rattle.std.proofs.lemmas.Nat.{from_be_bytes-to_be_bytes_4}
 use Rattle.sync_rules.specs.declared.entries.Entry.{Entry}
 use Rattle.sync_rules.specs.Clients.{Meaning}
-use Rattle.sync_rules.specs.Facts.{Facts, facts}
+use Rattle.sync_rules.specs.Facts.{Facts, after_all, facts, nothing}
 use Rattle.sync_rules.specs.Legal.{Allowed, GoesOn, Legal}
+use Rattle.sync_rules.specs.Allows.{allows}
+use Rattle.outside.specs.declared.limits.TheConstants.{MAX_FRAME}
 use Rattle.outside.specs.Files.{Two, file_of}
 use Rattle.outside.specs.Frames.{Frame, IsPayload, broken, closed, format_in, frame_at, frame_of, journal_file, framed, is_broken, most_bytes, size_at}
 use Rattle.entry_codec.specs.Spelling.{IsEntry}
-use Rattle.entry_codec.specs.Laws.{payload}
+use Rattle.entry_codec.specs.Payloads.{batch_of, payload, payloads}
 use Rattle.entry_codec.specs.StandingLaws.{HoldsJournal}
-use Rattle.entry_codec.specs.Allows.{allows}
-use Rattle.entry_codec.specs.Standing.{Standing, batch_of, damaged, frames_from, journal, read_on, rest_from, room_of, stands, stands_in, taken_on}
-use Rattle.entry_codec.specs.Fronts.{facts_push, legal_push, rest_once}
+use Rattle.entry_codec.specs.Standing.{Standing, damaged, frames_from, journal, read_on, rest_from, room_of, stands, stands_in, taken_on}
+use Rattle.entry_codec.specs.Growing.{facts_push, legal_push, length_frame}
+use Rattle.entry_codec.specs.Fronts.{rest_once}
 use Rattle.entry_codec.proofs.BatchLaws.{batch_back}
 
 -- the test of a batch that is allowed
@@ -37,7 +39,7 @@ frame_there bytes front p behind place split is fits bounded =
     let width = to_be_bytes w32 (length p) in
     let at : drop place bytes ≡ frame_of p ++ behind = ap (drop place) split ∙ drop_at front (frame_of p ++ behind) place is in
     let sized : drop (place + 1) bytes ≡ width ++ (p ++ behind) = sym (drop-drop 1 place bytes) ∙ ap (drop 1) at ∙ append_assoc width p behind in
-    let payloads : drop (place + 5) bytes ≡ p ++ behind = sym (drop-drop 5 place bytes) ∙ ap (drop 5) at ∙ ap (drop 4) (append_assoc width p behind) ∙ drop_at width (p ++ behind) 4 refl in
+    let behind_width : drop (place + 5) bytes ≡ p ++ behind = sym (drop-drop 5 place bytes) ∙ ap (drop 5) at ∙ ap (drop 4) (append_assoc width p behind) ∙ drop_at width (p ++ behind) 4 refl in
     let size : size_at bytes place ≡ length p =
     ap (λ (l : List ℕ). from_be_bytes w32 (take 4 l)) sized ∙ ap (from_be_bytes w32) (take_at width (p ++ behind) 4 refl) ∙ from_be_bytes-to_be_bytes_4 (length p) (omega (arith, fits.1)) in
     let long : length bytes ≡ place + (5 + length p + length behind) =
@@ -46,11 +48,11 @@ frame_there bytes front p behind place split is fits bounded =
     ap (λ (l : List ℕ). get_or l place 0) split ∙ ap (λ (n : ℕ). get_or (front ++ (frame_of p ++ behind)) n 0) (omega (arith, is)) ∙ get_or-append-add front (frame_of p ++ behind) 0 0 in
     let whole : is_broken bytes place ≡ false =
     or_from _ _ (or_from _ _ (or_from _ _ (or_from _ _ (le-ltb (length bytes) (place + 5) (omega arith)) (ne_eqb (size_at bytes place) 0 (λ none. omega (arith, fits.0, size, none))))
-    (le-ltb 65536 (size_at bytes place) (omega (arith, fits.1, size)))) (le-ltb (length bytes) (place + 5 + size_at bytes place) (omega arith))) (le-ltb most_bytes (place + 6 + size_at bytes place) (omega arith)) in
+    (le-ltb MAX_FRAME (size_at bytes place) (omega (arith, fits.1, size)))) (le-ltb (length bytes) (place + 5 + size_at bytes place) (omega arith))) (le-ltb most_bytes (place + 6 + size_at bytes place) (omega arith)) in
     cond-false (nat_le (length bytes) place) _ _ (lt-leb (length bytes) place (omega arith))
     ∙ cond-false (not (slice_index bytes place == 1)) _ _ (not_from_true (slice_index bytes place == 1) (eq-eqb (slice_index bytes place) 1 byte))
     ∙ cond-false (is_broken bytes place) _ _ whole
-    ∙ ap (λ (l : List ℕ). framed l) (ap (λ (n : ℕ). take n (drop (place + 5) bytes)) size ∙ ap (take (length p)) payloads ∙ take_at p behind (length p) refl)
+    ∙ ap (λ (l : List ℕ). framed l) (ap (λ (n : ℕ). take n (drop (place + 5) bytes)) size ∙ ap (take (length p)) behind_width ∙ take_at p behind (length p) refl)
 
 closed_there : (bytes front rest : List ℕ) (gate place : ℕ) → bytes ≡ front ++ gate ∷ rest → length front ≡ place → gate ≢ 1 → frame_at bytes place ≡ closed
 closed_there bytes front rest gate place split is shut =
@@ -66,75 +68,76 @@ some_batch : (clients : Meaning) (f : Facts) (batch : List Entry) → Allowed cl
 some_batch clients f [] allowed = absurd allowed
 some_batch clients f (e ∷ es) allowed = omega arith
 
--- what follows a place in a file: these batches, and then a closed gate
-record Follows (clients : Meaning) (bytes : List ℕ) (place : ℕ) (done more : List (List Entry)) : Type 0 where
+-- what follows a place in a file, behind a journal of these facts: these batches, and then a closed gate
+record Follows (clients : Meaning) (bytes : List ℕ) (place : ℕ) (f : Facts) (done more : List (List Entry)) : Type 0 where
+  pub same : facts done ≡ f
   pub front : List ℕ
   pub gate : ℕ
   pub rest : List ℕ
-  pub split : bytes ≡ (front ++ flat_map frame_of (map payload more)) ++ gate ∷ rest
+  pub split : bytes ≡ (front ++ flat_map frame_of (payloads f more)) ++ gate ∷ rest
   pub long : length front ≡ place
   pub some : 1 ≤ place
   pub shut : gate ≢ 1
-  pub payloads_fit : All IsPayload (map payload more)
-  pub legal : GoesOn clients (facts done) more
+  pub payloads_fit : All IsPayload (payloads f more)
+  pub legal : GoesOn clients f more
   pub within : AllByRecursion (AllByRecursion IsEntry) more
-  pub bounded : place + 1 + length (flat_map frame_of (map payload more)) + room_of (facts (done ++ more)) ≤ most_bytes
+  pub bounded : place + 1 + length (flat_map frame_of (payloads f more)) + room_of (facts (done ++ more)) ≤ most_bytes
 
-ends_here : (clients : Meaning) (file : ℕ) (bytes : List ℕ) (place : ℕ) (done : List (List Entry)) → Follows clients bytes place done [] → rest_from clients file bytes place done ≡ journal (done ++ [])
-ends_here clients file bytes place done f =
+ends_here : (clients : Meaning) (file : ℕ) (bytes : List ℕ) (place : ℕ) (f : Facts) (done : List (List Entry)) → Follows clients bytes place f done []
+    → rest_from clients file bytes place done ≡ journal (done ++ [])
+ends_here clients file bytes place f done h =
     let none : done ++ [] ≡ done = append-nil done in
-    let shut = closed_there bytes f.front f.rest f.gate place (f.split ∙ ap (λ (l : List ℕ). l ++ f.gate ∷ f.rest) (append-nil f.front)) f.long f.shut in
+    let shut = closed_there bytes h.front h.rest h.gate place (h.split ∙ ap (λ (l : List ℕ). l ++ h.gate ∷ h.rest) (append-nil h.front)) h.long h.shut in
     let room : room_of (facts (done ++ [])) ≡ room_of (facts done) = ap (λ (d : List (List Entry)). room_of (facts d)) none in
-    rest_once clients file bytes place done f.some
+    rest_once clients file bytes place done h.some
     ∙ ap (read_on clients file (rest_from clients file bytes) place done) shut
-    ∙ cond-true (nat_le (place + 1 + room_of (facts done)) most_bytes) _ _ (le-leb _ _ (omega (arith, f.bounded, room)))
+    ∙ cond-true (nat_le (place + 1 + room_of (facts done)) most_bytes) _ _ (le-leb _ _ (omega (arith, h.bounded, room)))
     ∙ ap (λ (d : List (List Entry)). journal d) (sym none)
 
-length_frame : (to : List ℕ) → length (frame_of to) ≡ 5 + length to
-length_frame to = omega (arith, length-append (to_be_bytes w32 (length to)) to)
+first_read : (clients : Meaning) (bytes : List ℕ) (place : ℕ) (f : Facts) (done more : List (List Entry)) (b : List Entry) → Follows clients bytes place f done (b ∷ more)
+    → frame_at bytes place ≡ framed (payload f b)
+first_read clients bytes place f done more b h =
+    let p = payload f b in
+    let others = flat_map frame_of (payloads (after_all f b) more) in
+    let behind = others ++ h.gate ∷ h.rest in
+    let split : bytes ≡ h.front ++ (frame_of p ++ behind) =
+    h.split ∙ append_assoc h.front (frame_of p ++ others) (h.gate ∷ h.rest) ∙ ap (λ (l : List ℕ). h.front ++ l) (append_assoc (frame_of p) others (h.gate ∷ h.rest)) in
+    frame_there bytes h.front p behind place split h.long (All-head IsPayload p (payloads (after_all f b) more) h.payloads_fit)
+    (omega (arith, h.bounded, length-append (frame_of p) others, length_frame p))
 
-first_read : (clients : Meaning) (bytes : List ℕ) (place : ℕ) (done more : List (List Entry)) (b : List Entry) → Follows clients bytes place done (b ∷ more) → frame_at bytes place ≡ framed (payload b)
-first_read clients bytes place done more b f =
-    let p = payload b in
-    let others = flat_map frame_of (map payload more) in
-    let behind = others ++ f.gate ∷ f.rest in
-    let split : bytes ≡ f.front ++ (frame_of p ++ behind) =
-    f.split ∙ append_assoc f.front (frame_of p ++ others) (f.gate ∷ f.rest) ∙ ap (λ (l : List ℕ). f.front ++ l) (append_assoc (frame_of p) others (f.gate ∷ f.rest)) in
-    frame_there bytes f.front p behind place split f.long (All-head IsPayload p (map payload more) f.payloads_fit)
-    (omega (arith, f.bounded, length-append (frame_of p) others, length_frame p))
-
-goes_on : (clients : Meaning) (bytes : List ℕ) (place : ℕ) (done more : List (List Entry)) (b : List Entry) → Follows clients bytes place done (b ∷ more)
-    → Follows clients bytes (place + 5 + length (payload b)) (done ++ b ∷ []) more
-goes_on clients bytes place done more b f =
-    let p = payload b in
-    let others = flat_map frame_of (map payload more) in
+goes_on : (clients : Meaning) (bytes : List ℕ) (place : ℕ) (f : Facts) (done more : List (List Entry)) (b : List Entry) → Follows clients bytes place f done (b ∷ more)
+    → Follows clients bytes (place + 5 + length (payload f b)) (after_all f b) (done ++ b ∷ []) more
+goes_on clients bytes place f done more b h =
+    let p = payload f b in
+    let others = flat_map frame_of (payloads (after_all f b) more) in
     let same : (done ++ b ∷ []) ++ more ≡ done ++ b ∷ more = append_assoc done (b ∷ []) more in
     let room : room_of (facts ((done ++ b ∷ []) ++ more)) ≡ room_of (facts (done ++ b ∷ more)) = ap (λ (d : List (List Entry)). room_of (facts d)) same in
     record {
-      front = f.front ++ frame_of p;
-      gate = f.gate;
-      rest = f.rest;
-      split = f.split ∙ ap (λ (l : List ℕ). l ++ f.gate ∷ f.rest) (sym (append_assoc f.front (frame_of p) others));
-      long = omega (arith, length-append f.front (frame_of p), f.long, length_frame p);
-      some = omega (arith, f.some);
-      shut = f.shut;
-      payloads_fit = All-tail IsPayload p (map payload more) f.payloads_fit;
-      legal = subst (λ (g : Facts). GoesOn clients g more) (sym (facts_push done b)) f.legal.1;
-      within = f.within.1;
-      bounded = omega (arith, f.bounded, room, length-append (frame_of p) others, length_frame p);
+      same = facts_push done b ∙ ap (λ (g : Facts). after_all g b) h.same;
+      front = h.front ++ frame_of p;
+      gate = h.gate;
+      rest = h.rest;
+      split = h.split ∙ ap (λ (l : List ℕ). l ++ h.gate ∷ h.rest) (sym (append_assoc h.front (frame_of p) others));
+      long = omega (arith, length-append h.front (frame_of p), h.long, length_frame p);
+      some = omega (arith, h.some);
+      shut = h.shut;
+      payloads_fit = All-tail IsPayload p (payloads (after_all f b) more) h.payloads_fit;
+      legal = h.legal.1;
+      within = h.within.1;
+      bounded = omega (arith, h.bounded, room, length-append (frame_of p) others, length_frame p);
     }
 
-all_read : (clients : Meaning) → Decided clients → (file : ℕ) (bytes : List ℕ) (place : ℕ) (done more : List (List Entry)) → Follows clients bytes place done more
+all_read : (clients : Meaning) → Decided clients → (file : ℕ) (bytes : List ℕ) (place : ℕ) (f : Facts) (done more : List (List Entry)) → Follows clients bytes place f done more
     → rest_from clients file bytes place done ≡ journal (done ++ more)
-all_read clients decided file bytes place done [] f = ends_here clients file bytes place done f
-all_read clients decided file bytes place done (b ∷ more) f =
-    let allowed = f.legal.0 in
-    let read : batch_of (payload b) ≡ Some b = batch_back b f.within.0 (some_batch clients (facts done) b allowed) in
-    rest_once clients file bytes place done f.some
-    ∙ ap (read_on clients file (rest_from clients file bytes) place done) (first_read clients bytes place done more b f)
-    ∙ ap (taken_on clients file (rest_from clients file bytes (place + 5 + length (payload b))) place done) read
+all_read clients decided file bytes place f done [] h = ends_here clients file bytes place f done h
+all_read clients decided file bytes place f done (b ∷ more) h =
+    let allowed = subst (λ (g : Facts). Allowed clients g b) (sym h.same) h.legal.0 in
+    let read : batch_of (facts done) (payload f b) ≡ Some b = batch_back b h.within.0 (some_batch clients (facts done) b allowed) in
+    rest_once clients file bytes place done h.some
+    ∙ ap (read_on clients file (rest_from clients file bytes) place done) (first_read clients bytes place f done more b h)
+    ∙ ap (taken_on clients file (rest_from clients file bytes (place + 5 + length (payload f b))) place done) read
     ∙ cond-true (allows clients (facts done) b) _ _ (decided (facts done) b allowed)
-    ∙ all_read clients decided file bytes (place + 5 + length (payload b)) (done ++ b ∷ []) more (goes_on clients bytes place done more b f)
+    ∙ all_read clients decided file bytes (place + 5 + length (payload f b)) (after_all f b) (done ++ b ∷ []) more (goes_on clients bytes place f done more b h)
     ∙ ap (λ (d : List (List Entry)). journal d) (append_assoc done (b ∷ []) more)
 
 -- ---- the journal of two files
@@ -143,7 +146,8 @@ pub stands_has : (clients : Meaning) → Decided clients → (files : Two (List 
 unfolding stands
 stands_has clients decided files file j h =
     let bytes = file_of files file in
-    let follows : Follows clients bytes 14 [] j = record {
+    let follows : Follows clients bytes 14 nothing [] j = record {
+      same = refl;
       front = h.header;
       gate = h.frames.gate;
       rest = h.frames.rest;
@@ -156,7 +160,7 @@ stands_has clients decided files file j h =
       within = h.within;
       bounded = omega (arith, h.bounded);
     } in
-    ap (stands_in clients files) h.found ∙ cond-true (format_in bytes == 1) _ _ (eq-eqb (format_in bytes) 1 h.format_is) ∙ all_read clients decided file bytes 14 [] j follows
+    ap (stands_in clients files) h.found ∙ cond-true (format_in bytes == 1) _ _ (eq-eqb (format_in bytes) 1 h.format_is) ∙ all_read clients decided file bytes 14 nothing [] j follows
 
 -- ---- a journal that files stand for
 
@@ -188,7 +192,7 @@ on_legal clients means file further place done j later closed legal e =
     subst (λ (d : List (List Entry)). Legal clients d) (journal_is done j same) legal
 on_legal clients means file further place done j later broken legal e = absurd cc
 on_legal clients means file further place done j later (framed to) legal e =
-    taken_legal clients means file (further (place + 5 + length to)) place done j (later (place + 5 + length to)) (batch_of to) legal e
+    taken_legal clients means file (further (place + 5 + length to)) place done j (later (place + 5 + length to)) (batch_of (facts done) to) legal e
 
 frames_legal : (clients : Meaning) → Means clients → (file n : ℕ) (bytes : List ℕ) (place : ℕ) (done j : List (List Entry)) → Legal clients done
     → frames_from clients file n bytes place done ≡ journal j → Legal clients j

@@ -3,6 +3,7 @@ use Rattle.std.proofs.Common.{◌≡◌, ℕ, ◌+◌, ◌≤◌, List, [], ◌�
 use Rattle.std.specs.Prelude.{Some, None}
 use Rattle.std.proofs.lemmas.List.{append-nil, length-take-le, take_at, take-append-drop}
 use Rattle.sync_rules.specs.declared.entries.Entry.{Entry}
+use Rattle.entry_codec.specs.declared.lengths.TheConstants.{MAX_SPELLING}
 use Rattle.entry_codec.specs.Spelling.{Spells, spelling}
 use Rattle.entry_codec.specs.Reading.{entry_in}
 use Rattle.entry_codec.specs.Laws.{IsRead}
@@ -63,5 +64,5 @@ bad_is bytes none e used s =
     let clash : None ≡ part e (drop used bytes) = sym none ∙ read in
     absurd cc
 
-pub short_spelling : (e : Entry) (bytes : List ℕ) → Spells e bytes → (2 ≤ length bytes) × (length bytes ≤ 49168)
+pub short_spelling : (e : Entry) (bytes : List ℕ) → Spells e bytes → (2 ≤ length bytes) × (length bytes ≤ MAX_SPELLING)
 short_spelling e bytes s = let bounds = short e s.within in let len : length bytes ≡ length (spelling e) = ap length s.is in (omega arith, omega arith)

@@ -1,20 +1,23 @@
 -- The readers of the values that an entry holds.
 use Rattle.std.proofs.Common.{◌≡◌, ℕ, suc, ◌^◌, ◌<◌, ◌≤◌, Bool, true, false, List, [], ◌∷◌, ◌++◌, length, refl, sym, ap, subst, ◌∙◌, arith, lt-ltb}
-use Rattle.std.specs.Prelude.{Option, Some, None, ◌==◌, nat_lt, if◌then◌else◌}
+use Rattle.std.specs.Prelude.{Option, Some, None, ◌==◌, nat_le, nat_lt, if◌then◌else◌}
 use Rattle.std.specs.Int.{w16, w32, w64, to_be_bytes}
-use Rattle.std.specs.List.{AllByRecursion, flat_map}
+use Rattle.std.specs.List.{flat_map}
 use Rattle.std.specs.Str.{IsUtf8, is_utf8}
 use Rattle.std.proofs.lemmas.Str.{IsUtf8-from_is_utf8, is_utf8-from_IsUtf8}
-use Rattle.std.proofs.lemmas.Bool.{eqb-true, ltb-true}
+use Rattle.std.proofs.lemmas.Bool.{eqb-true, le-leb, leb-true, ltb-true}
 use Rattle.std.proofs.lemmas.Bool.Decides.{nat_tests}
-use Rattle.sync_ids.specs.Values.{IsMessage}
+use Rattle.sync_ids.specs.Values.{AreIds, IsIdList, IsMessage}
+use Rattle.sync_ids.specs.declared.def.TheConstants.{MAX_DESCRIPTOR, MAX_NAME}
+use Rattle.sync_ids.specs.declared.lists.TheConstants.{MAX_IDS}
+use Rattle.sync_ids.specs.declared.message.TheConstants.{MAX_BODY, MAX_TIMESTAMP}
 use Rattle.sync_rules.specs.declared.entries.Level.{Level}
 use Rattle.sync_rules.specs.declared.entries.Level.TheVariants as level
 use Rattle.sync_rules.specs.declared.entries.Mode.{Mode}
 use Rattle.sync_rules.specs.declared.entries.Mode.TheVariants as mode_kind
 use Rattle.sync_rules.specs.declared.entries.Out.{Out}
 use Rattle.sync_rules.specs.declared.entries.Out.TheVariants as out
-use Rattle.entry_codec.specs.Spelling.{IsDef, IsIdList, IsNonce, IsOut, IsSession, counted, def_bytes, ids_bytes, level_byte, message_bytes, mode_byte, nonce_bytes, out_bytes, session_bytes, whole}
+use Rattle.entry_codec.specs.Spelling.{IsDef, IsNonce, IsOut, IsSession, counted, def_bytes, ids_bytes, level_byte, message_bytes, mode_byte, nonce_bytes, out_bytes, session_bytes, whole}
 use Rattle.entry_codec.specs.Reading.{both, byte_in, chained, counted_in, def_in, def_of, flagged, front_in, id_in, ids_in, is_between, latency_in, level_in, level_of, list_in, made, message_in, message_of, mode_in, mode_of, name_in, nonce_in, number_in, out_in, out_of, passed, session_in, session_of, time_in}
 use Rattle.entry_codec.proofs.Readers.{IsBytes, IsReader, both_reads, byte_reads, chained_reads, chained_some, front_reads, list_reads, made_reads, made_some, meant_reads, number_reads, part, part_is, passed_reads, seen_as, wide16, wide32, wide64}
 
@@ -55,7 +58,7 @@ counted_reads least most fits =
 -- ---- a group's definition
 
 abbrev IsName : List ℕ → Type 0
-IsName name = (1 ≤ length name) × (length name ≤ 255) × IsUtf8 name
+IsName name = (1 ≤ length name) × (length name ≤ MAX_NAME) × IsUtf8 name
 
 short_reads : IsReader (λ n. n ∷ []) (λ n. (0 < n) × (n < 256)) (λ bytes. passed (nat_lt 0) (byte_in bytes))
 short_reads =
@@ -78,31 +81,31 @@ pub def_reads : IsReader def_bytes IsDef def_in
 unfolding def_in
 def_reads =
     made_reads (λ (a : List ℕ × (ℕ × List ℕ)). (length a.0 ∷ a.0) ++ (to_be_bytes w32 a.1.0 ++ counted a.1.1))
-    (λ a. IsName a.0 × ((a.1.0 < 2 ^ 32) × ((0 ≤ length a.1.1) × (length a.1.1 ≤ 16384))))
-    (both name_in (both (number_in w32) (counted_in 0 16384))) def_bytes IsDef def_of (λ d. (d.name, (d.major, d.descriptor)))
-    (both_reads (λ b. length b ∷ b) IsName name_in (λ (a : ℕ × List ℕ). to_be_bytes w32 a.0 ++ counted a.1) (λ a. (a.0 < 2 ^ 32) × ((0 ≤ length a.1) × (length a.1 ≤ 16384))) (both (number_in w32) (counted_in 0 16384))
+    (λ a. IsName a.0 × ((a.1.0 < 2 ^ 32) × ((0 ≤ length a.1.1) × (length a.1.1 ≤ MAX_DESCRIPTOR))))
+    (both name_in (both (number_in w32) (counted_in 0 MAX_DESCRIPTOR))) def_bytes IsDef def_of (λ d. (d.name, (d.major, d.descriptor)))
+    (both_reads (λ b. length b ∷ b) IsName name_in (λ (a : ℕ × List ℕ). to_be_bytes w32 a.0 ++ counted a.1) (λ a. (a.0 < 2 ^ 32) × ((0 ≤ length a.1) × (length a.1 ≤ MAX_DESCRIPTOR))) (both (number_in w32) (counted_in 0 MAX_DESCRIPTOR))
     name_reads
-    (both_reads (to_be_bytes w32) (λ n. n < 2 ^ 32) (number_in w32) counted (λ b. (0 ≤ length b) × (length b ≤ 16384)) (counted_in 0 16384) number32 (counted_reads 0 16384 (omega arith))))
+    (both_reads (to_be_bytes w32) (λ n. n < 2 ^ 32) (number_in w32) counted (λ b. (0 ≤ length b) × (length b ≤ MAX_DESCRIPTOR)) (counted_in 0 MAX_DESCRIPTOR) number32 (counted_reads 0 MAX_DESCRIPTOR (omega arith))))
     (λ d m. (((m.within.some_name, m.within.short_name, m.utf8_name), (m.within.major_fits, (omega arith, m.within.short_descriptor))), refl, refl))
     (λ a l. (record { within = record { some_name = l.0.0; short_name = l.0.1; major_fits = l.1.0; short_descriptor = l.1.1.1 }; utf8_name = l.0.2 }, refl))
 
 -- ---- a message
 
-time_reads : IsReader (to_be_bytes w64) (λ t. t < 2 ^ 63) time_in
+time_reads : IsReader (to_be_bytes w64) (λ t. t ≤ MAX_TIMESTAMP) time_in
 unfolding time_in
 time_reads =
-    passed_reads (to_be_bytes w64) (λ t. t < 2 ^ 64) (λ t. t < 2 ^ 63) (number_in w64) (λ t. nat_lt t (2 ^ 63)) number64
-    (λ t m. (omega (arith, m), lt-ltb t (2 ^ 63) m)) (λ t l e. ltb-true t (2 ^ 63) e)
+    passed_reads (to_be_bytes w64) (λ t. t < 2 ^ 64) (λ t. t ≤ MAX_TIMESTAMP) (number_in w64) (λ t. nat_le t MAX_TIMESTAMP) number64
+    (λ t m. (omega (arith, m), le-leb t MAX_TIMESTAMP m)) (λ t l e. leb-true t MAX_TIMESTAMP e)
 
 pub message_reads : IsReader message_bytes IsMessage message_in
 unfolding message_in
 message_reads =
     made_reads (λ (a : List ℕ × (ℕ × List ℕ)). a.0 ++ (to_be_bytes w64 a.1.0 ++ counted a.1.1))
-    (λ a. (length a.0 ≡ 32) × ((a.1.0 < 2 ^ 63) × ((1 ≤ length a.1.1) × (length a.1.1 ≤ 32768))))
-    (both id_in (both time_in (counted_in 1 32768))) message_bytes IsMessage message_of (λ m. (m.group, (m.timestamp, m.body)))
-    (both_reads (λ (b : List ℕ). b) (λ b. length b ≡ 32) id_in (λ (a : ℕ × List ℕ). to_be_bytes w64 a.0 ++ counted a.1) (λ a. (a.0 < 2 ^ 63) × ((1 ≤ length a.1) × (length a.1 ≤ 32768))) (both time_in (counted_in 1 32768))
+    (λ a. (length a.0 ≡ 32) × ((a.1.0 ≤ MAX_TIMESTAMP) × ((1 ≤ length a.1.1) × (length a.1.1 ≤ MAX_BODY))))
+    (both id_in (both time_in (counted_in 1 MAX_BODY))) message_bytes IsMessage message_of (λ m. (m.group, (m.timestamp, m.body)))
+    (both_reads (λ (b : List ℕ). b) (λ b. length b ≡ 32) id_in (λ (a : ℕ × List ℕ). to_be_bytes w64 a.0 ++ counted a.1) (λ a. (a.0 ≤ MAX_TIMESTAMP) × ((1 ≤ length a.1) × (length a.1 ≤ MAX_BODY))) (both time_in (counted_in 1 MAX_BODY))
     id_reads
-    (both_reads (to_be_bytes w64) (λ t. t < 2 ^ 63) time_in counted (λ b. (1 ≤ length b) × (length b ≤ 32768)) (counted_in 1 32768) time_reads (counted_reads 1 32768 (omega arith))))
+    (both_reads (to_be_bytes w64) (λ t. t ≤ MAX_TIMESTAMP) time_in counted (λ b. (1 ≤ length b) × (length b ≤ MAX_BODY)) (counted_in 1 MAX_BODY) time_reads (counted_reads 1 MAX_BODY (omega arith))))
     (λ m is. ((is.whole_group, (is.sound_timestamp, (is.some_body, is.short_body))), refl, refl))
     (λ a l. (record { whole_group = l.0; sound_timestamp = l.1.0; some_body = l.1.1.0; short_body = l.1.1.1 }, refl))
 
@@ -255,37 +258,38 @@ session_reads =
 
 -- ---- an output
 
-pub ids_reads : IsReader (ids_bytes whole) IsIdList ids_in
+pub ids_reads : IsReader (ids_bytes whole) (IsIdList MAX_IDS) (ids_in id_in)
 unfolding ids_in
 ids_reads =
     seen_as (ids_bytes whole) (ids_bytes whole)
-    (λ ids. ((1 ≤ length ids) × (length ids ≤ 1536)) × ((length ids ≡ length ids) × AllByRecursion (λ id. length id ≡ 32) ids)) IsIdList ids_in
-    (chained_reads (to_be_bytes w16) (λ n. (1 ≤ n) × (n ≤ 1536)) (λ bytes. passed (is_between 1 1536) (number_in w16 bytes))
-    (flat_map (λ (id : List ℕ). id)) (λ n ids. (length ids ≡ n) × AllByRecursion (λ id. length id ≡ 32) ids) (list_in (front_in 32)) length
-    (count_reads 1 1536 (omega arith)) (list_reads (λ (id : List ℕ). id) (λ id. length id ≡ 32) (front_in 32) (front_reads 32)) (λ n ids e. e.0))
-    (λ ids m. ((m.within.some, m.within.few), (refl, m.whole_ids))) (λ ids l. record { within = record { some = l.0.0; few = l.0.1 }; whole_ids = l.1.1 }) (λ ids. refl)
+    (λ ids. ((1 ≤ length ids) × (length ids ≤ MAX_IDS)) × ((length ids ≡ length ids) × AreIds ids)) (IsIdList MAX_IDS) (ids_in id_in)
+    (chained_reads (to_be_bytes w16) (λ n. (1 ≤ n) × (n ≤ MAX_IDS)) (λ bytes. passed (is_between 1 MAX_IDS) (number_in w16 bytes))
+    (flat_map (λ (id : List ℕ). id)) (λ n ids. (length ids ≡ n) × AreIds ids) (list_in id_in) length
+    (count_reads 1 MAX_IDS (omega arith)) (list_reads (λ (id : List ℕ). id) (λ id. length id ≡ 32) id_in id_reads) (λ n ids e. e.0))
+    (λ ids m. ((m.some, m.few), (refl, m.whole))) (λ ids l. record { some = l.0.0; few = l.0.1; whole = l.1.1 }) (λ ids. refl)
 
-out_back : (o : Out) (more : List ℕ) → IsOut o → out_in (out_bytes whole o ++ more) ≡ Some (o, more)
+out_back : (o : Out) (more : List ℕ) → IsOut o → out_in id_in (out_bytes whole o ++ more) ≡ Some (o, more)
 unfolding out_in byte_in
 out_back (out.Acks ids) more is = ap (made out.Acks) (ids_reads.back ids more is)
 out_back (out.Requests ids) more is = ap (made out.Requests) (ids_reads.back ids more is)
 out_back (out.Offers ids) more is = ap (made out.Offers) (ids_reads.back ids more is)
 out_back (out.Send id) more is = ap (made out.Send) (id_reads.back id more is)
 
-out_sound : (bytes rest : List ℕ) (o : Out) → IsBytes bytes → out_in bytes ≡ Some (o, rest) → IsOut o × (bytes ≡ out_bytes whole o ++ rest)
+out_sound : (bytes rest : List ℕ) (o : Out) → IsBytes bytes → out_in id_in bytes ≡ Some (o, rest) → IsOut o × (bytes ≡ out_bytes whole o ++ rest)
 unfolding out_in
 out_sound bytes rest o fits e =
-    let c = behind_byte out_of bytes rest o fits e in
-    tested (IsOut o × (bytes ≡ out_bytes whole o ++ rest)) c.0 0 (made out.Acks (ids_in c.1)) _ (Some (o, rest))
-    (λ n h. told (ids_bytes whole) IsIdList ids_in ids_reads out.Acks (out_bytes whole) IsOut 0 (λ a l. l) (λ a. refl) bytes c.1 rest c.0 o c.3 c.2 n h)
-    (tested (IsOut o × (bytes ≡ out_bytes whole o ++ rest)) c.0 1 (made out.Requests (ids_in c.1)) _ (Some (o, rest))
-    (λ n h. told (ids_bytes whole) IsIdList ids_in ids_reads out.Requests (out_bytes whole) IsOut 1 (λ a l. l) (λ a. refl) bytes c.1 rest c.0 o c.3 c.2 n h)
-    (tested (IsOut o × (bytes ≡ out_bytes whole o ++ rest)) c.0 2 (made out.Offers (ids_in c.1)) _ (Some (o, rest))
-    (λ n h. told (ids_bytes whole) IsIdList ids_in ids_reads out.Offers (out_bytes whole) IsOut 2 (λ a l. l) (λ a. refl) bytes c.1 rest c.0 o c.3 c.2 n h)
-    (tested (IsOut o × (bytes ≡ out_bytes whole o ++ rest)) c.0 3 (made out.Send (id_in c.1)) None (Some (o, rest))
+    let c = behind_byte (out_of id_in) bytes rest o fits e in
+    let P : Type 0 = IsOut o × (bytes ≡ out_bytes whole o ++ rest) in
+    tested P c.0 0 (made out.Acks (ids_in id_in c.1)) _ (Some (o, rest))
+    (λ n h. told (ids_bytes whole) (IsIdList MAX_IDS) (ids_in id_in) ids_reads out.Acks (out_bytes whole) IsOut 0 (λ a l. l) (λ a. refl) bytes c.1 rest c.0 o c.3 c.2 n h)
+    (tested P c.0 1 (made out.Requests (ids_in id_in c.1)) _ (Some (o, rest))
+    (λ n h. told (ids_bytes whole) (IsIdList MAX_IDS) (ids_in id_in) ids_reads out.Requests (out_bytes whole) IsOut 1 (λ a l. l) (λ a. refl) bytes c.1 rest c.0 o c.3 c.2 n h)
+    (tested P c.0 2 (made out.Offers (ids_in id_in c.1)) _ (Some (o, rest))
+    (λ n h. told (ids_bytes whole) (IsIdList MAX_IDS) (ids_in id_in) ids_reads out.Offers (out_bytes whole) IsOut 2 (λ a l. l) (λ a. refl) bytes c.1 rest c.0 o c.3 c.2 n h)
+    (tested P c.0 3 (made out.Send (id_in c.1)) None (Some (o, rest))
     (λ n h. told (λ (x : List ℕ). x) (λ x. length x ≡ 32) id_in id_reads out.Send (out_bytes whole) IsOut 3 (λ a l. l) (λ a. refl) bytes c.1 rest c.0 o c.3 c.2 n h)
     (λ h. absurd cc))))
     c.4
 
-pub out_reads : IsReader (out_bytes whole) IsOut out_in
+pub out_reads : IsReader (out_bytes whole) IsOut (out_in id_in)
 out_reads = record { back = out_back; sound = out_sound }

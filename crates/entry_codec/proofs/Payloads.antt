@@ -17,27 +17,28 @@ use Rattle.sync_rules.specs.Facts.{Facts, Held, after, contact_of, held_at, is_i
 use Rattle.sync_rules.specs.Steps.{answer_of, first_or_next, first_step, is_ended, is_failing, is_served, step, step_accepted, step_by, step_open}
 use Rattle.sync_rules.specs.Sessions.{is_remembered, is_shown, is_shown_held, is_welcome, one_if, room_after, taken_acks, taken_from, taken_message, taken_message_of, taken_offers, taken_requests, wants_limit}
 use Rattle.sync_rules.specs.Legal.{Allowed, IsSettling}
+use Rattle.entry_codec.specs.declared.lengths.TheConstants.{MAX_BATCH_LEN}
 use Rattle.entry_codec.specs.Spelling.{IsEntry, spelling}
-use Rattle.entry_codec.specs.Laws.{payload}
+use Rattle.entry_codec.specs.Payloads.{payload_len, spellings}
 use Rattle.entry_codec.proofs.Bounds.{length_within, most_of}
 
 abbrev AreEntries : List Entry → Type 0
 AreEntries es = AllByRecursion IsEntry es
 
-payload_cons : (e : Entry) (es : List Entry) → length (payload (e ∷ es)) ≡ length (spelling e) + length (payload es)
-payload_cons e es = length-append (spelling e) (payload es)
+payload_cons : (e : Entry) (es : List Entry) → length (spellings (e ∷ es)) ≡ length (spelling e) + length (spellings es)
+payload_cons e es = length-append (spelling e) (spellings es)
 
 -- one entry of at most 37 bytes, where there is one, before others
-one_short : (b : Bool) (e : Entry) (es : List Entry) (n : ℕ) → most_of e ≤ 37 → (AreEntries es → length (payload es) ≤ 37 * n) → AreEntries (one_if b e ++ es) → length (payload (one_if b e ++ es)) ≤ 37 * suc n
+one_short : (b : Bool) (e : Entry) (es : List Entry) (n : ℕ) → most_of e ≤ 37 → (AreEntries es → length (spellings es) ≤ 37 * n) → AreEntries (one_if b e ++ es) → length (spellings (one_if b e ++ es)) ≤ 37 * suc n
 one_short true e es n most others all = omega (arith, payload_cons e es, (length_within e all.0).1, others all.1)
 one_short false e es n most others all = omega (arith, others all)
 
-acks_short : (f : Facts) (s c : ℕ) (ids : List (List ℕ)) → AreEntries (taken_acks f s c ids) → length (payload (taken_acks f s c ids)) ≤ 37 * length ids
+acks_short : (f : Facts) (s c : ℕ) (ids : List (List ℕ)) → AreEntries (taken_acks f s c ids) → length (spellings (taken_acks f s c ids)) ≤ 37 * length ids
 acks_short f s c [] all = omega arith
 acks_short f s c (id ∷ ids) all =
     one_short (is_shown f c id && not (row_at f.rows c id).seen) (entry.Seen s id) (taken_acks f s c ids) (length ids) (omega arith) (acks_short f s c ids) all
 
-requests_short : (f : Facts) (s c : ℕ) (ids : List (List ℕ)) → AreEntries (taken_requests f s c ids) → length (payload (taken_requests f s c ids)) ≤ 37 * length ids
+requests_short : (f : Facts) (s c : ℕ) (ids : List (List ℕ)) → AreEntries (taken_requests f s c ids) → length (spellings (taken_requests f s c ids)) ≤ 37 * length ids
 requests_short f s c [] all = omega arith
 requests_short f s c (id ∷ ids) all =
     one_short (is_shown f c id) (entry.Asked s id) (taken_requests f s c ids) (length ids) (omega arith) (requests_short f s c ids) all
@@ -48,14 +49,14 @@ one_of_two None f c x shown remembered = absurd cc
 one_of_two (Some h) f c x shown remembered = absurd cc
 
 -- at most one of two entries before others
-two_short : (a b : Bool) (d e : Entry) (es : List Entry) (n : ℕ) → (a ≡ true → b ≡ true → ⊥) → most_of d ≤ 37 → most_of e ≤ 37 → (AreEntries es → length (payload es) ≤ 37 * n)
-    → AreEntries ((one_if a d ++ one_if b e) ++ es) → length (payload ((one_if a d ++ one_if b e) ++ es)) ≤ 37 * suc n
+two_short : (a b : Bool) (d e : Entry) (es : List Entry) (n : ℕ) → (a ≡ true → b ≡ true → ⊥) → most_of d ≤ 37 → most_of e ≤ 37 → (AreEntries es → length (spellings es) ≤ 37 * n)
+    → AreEntries ((one_if a d ++ one_if b e) ++ es) → length (spellings ((one_if a d ++ one_if b e) ++ es)) ≤ 37 * suc n
 two_short true true d e es n apart dm em others all = absurd (apart refl refl)
 two_short true false d e es n apart dm em others all = one_short true d es n dm others all
 two_short false true d e es n apart dm em others all = one_short true e es n em others all
 two_short false false d e es n apart dm em others all = one_short false e es n em others all
 
-offers_short : (f : Facts) (s c room : ℕ) (ids : List (List ℕ)) → AreEntries (taken_offers f s c room ids) → length (payload (taken_offers f s c room ids)) ≤ 37 * length ids
+offers_short : (f : Facts) (s c room : ℕ) (ids : List (List ℕ)) → AreEntries (taken_offers f s c room ids) → length (spellings (taken_offers f s c room ids)) ≤ 37 * length ids
 offers_short f s c room [] all = omega arith
 offers_short f s c room (id ∷ ids) all =
     two_short (is_shown f c id) (is_remembered f c room id) (entry.Again s id) (entry.Offered s id) (taken_offers f s c (room_after (is_remembered f c room id) room) ids) (length ids)
@@ -69,20 +70,20 @@ firsts_few earlier (id ∷ ids) = go (is_among earlier id) (firsts_few (id ∷ e
   go true few = omega arith
   go false few = omega arith
 
-one_message : (f : Facts) (s c : ℕ) (m : MessageValue) (o : Option Held) → AreEntries (taken_message_of f s c m o) → length (payload (taken_message_of f s c m o)) ≤ 32815
+one_message : (f : Facts) (s c : ℕ) (m : MessageValue) (o : Option Held) → AreEntries (taken_message_of f s c m o) → length (spellings (taken_message_of f s c m o)) ≤ 32815
 one_message f s c m None all = omega (arith, payload_cons (entry.Arrive s m) [], (length_within (entry.Arrive s m) all.0).1)
 one_message f s c m (Some h) all = go (not (is_invisible (level_at f.levels c h.message.group))) all where
-  go : (b : Bool) → AreEntries (one_if b (entry.Again s (message_id_of m))) → length (payload (one_if b (entry.Again s (message_id_of m)))) ≤ 32815
+  go : (b : Bool) → AreEntries (one_if b (entry.Again s (message_id_of m))) → length (spellings (one_if b (entry.Again s (message_id_of m)))) ≤ 32815
   go true all = omega (arith, payload_cons (entry.Again s (message_id_of m)) [], (length_within (entry.Again s (message_id_of m)) all.0).1)
   go false all = omega arith
 
-message_short : (f : Facts) (s c : ℕ) (m : MessageValue) → AreEntries (taken_message f s c m) → length (payload (taken_message f s c m)) ≤ 32815
+message_short : (f : Facts) (s c : ℕ) (m : MessageValue) → AreEntries (taken_message f s c m) → length (spellings (taken_message f s c m)) ≤ 32815
 message_short f s c m all = go (is_welcome f c m.group) all where
-  go : (b : Bool) → AreEntries (cond b (taken_message_of f s c m (held_at f.held (message_id_of m))) []) → length (payload (cond b (taken_message_of f s c m (held_at f.held (message_id_of m))) [])) ≤ 32815
+  go : (b : Bool) → AreEntries (cond b (taken_message_of f s c m (held_at f.held (message_id_of m))) []) → length (spellings (cond b (taken_message_of f s c m (held_at f.held (message_id_of m))) [])) ≤ 32815
   go true all = one_message f s c m (held_at f.held (message_id_of m)) all
   go false all = omega arith
 
-taken_short : (f : Facts) (s c : ℕ) (r : Record) → IsRecord r → AreEntries (taken_from f s c r) → length (payload (taken_from f s c r)) ≤ 56832
+taken_short : (f : Facts) (s c : ℕ) (r : Record) → IsRecord r → AreEntries (taken_from f s c r) → length (spellings (taken_from f s c r)) ≤ 56832
 taken_short f s c (record_kind.Ack ids) is all = omega (arith, acks_short f s c (firsts ids) all, firsts_few [] ids, is.few)
 taken_short f s c (record_kind.Message m) is all = omega (arith, message_short f s c m all)
 taken_short f s c (record_kind.Offer ids) is all = omega (arith, offers_short f s c (wants_limit - length (wanted_from f.wanted c)) (firsts ids) all, firsts_few [] ids, is.few)
@@ -123,7 +124,7 @@ first_short : (clients : Meaning) (f : Facts) (hs : List Held) → IsShort (firs
 first_short clients f [] = tt
 first_short clients f (h ∷ hs) = either_short (step clients f h) (first_step clients f hs) (by_short f h (answer_of clients f h)) (first_short clients f hs)
 
-settling_short : (clients : Meaning) (f : Facts) (es : List Entry) → IsSettling clients f es → AreEntries es → length (payload es) ≤ 33 * length es
+settling_short : (clients : Meaning) (f : Facts) (es : List Entry) → IsSettling clients f es → AreEntries es → length (spellings es) ≤ 33 * length es
 settling_short clients f [] is all = omega arith
 settling_short clients f (e ∷ es) is all =
     let most : most_of e ≤ 33 = subst (λ (o : Option Entry). IsShort o) is.0 (first_short clients f f.held) in
@@ -131,18 +132,18 @@ settling_short clients f (e ∷ es) is all =
 
 -- ---- batches
 
-alone : (e : Entry) (rest : List Entry) → rest ≡ [] → AreEntries (e ∷ rest) → length (payload (e ∷ rest)) ≤ most_of e
-alone e rest none all = omega (arith, payload_cons e rest, ap (λ (es : List Entry). length (payload es)) none, (length_within e all.0).1)
+alone : (e : Entry) (rest : List Entry) → rest ≡ [] → AreEntries (e ∷ rest) → length (spellings (e ∷ rest)) ≤ most_of e
+alone e rest none all = omega (arith, payload_cons e rest, ap (λ (es : List Entry). length (spellings es)) none, (length_within e all.0).1)
 
-batch_short : (clients : Meaning) (f : Facts) (batch : List Entry) → Allowed clients f batch → AreEntries batch → length (payload batch) ≤ 56845
+batch_short : (clients : Meaning) (f : Facts) (batch : List Entry) → Allowed clients f batch → AreEntries batch → length (spellings batch) ≤ 56845
 batch_short clients f [] is all = absurd is
 batch_short clients f (entry.Contact c ∷ rest) is all = omega (arith, alone (entry.Contact c) rest is.0 all)
 batch_short clients f (entry.Group def ∷ rest) is all = omega (arith, alone (entry.Group def) rest is.0 all)
 batch_short clients f (entry.Level c g l ∷ rest) is all = omega (arith, alone (entry.Level c g l) rest is.0 all)
 batch_short clients f (entry.Session s ∷ rest) is all = omega (arith, alone (entry.Session s) rest is.0 all)
 batch_short clients f (entry.Take s k ∷ rest) is all =
-    let P : List Entry → Type 0 = λ es. AreEntries es → length (payload es) ≤ 56832 in
-    let others : length (payload rest) ≤ 56832 = subst P (sym is.1.taken_so) (taken_short f s (contact_of f.sessions s) is.1.read is.1.within) all.1 in
+    let P : List Entry → Type 0 = λ es. AreEntries es → length (spellings es) ≤ 56832 in
+    let others : length (spellings rest) ≤ 56832 = subst P (sym is.1.taken_so) (taken_short f s (contact_of f.sessions s) is.1.read is.1.within) all.1 in
     omega (arith, payload_cons (entry.Take s k) rest, (length_within (entry.Take s k) all.0).1, others)
 batch_short clients f (entry.Author m ∷ rest) is all = omega (arith, alone (entry.Author m) rest is.0 all)
 batch_short clients f (entry.Arrive s m ∷ rest) is all = absurd is
@@ -155,6 +156,6 @@ batch_short clients f (entry.Seen s id ∷ rest) is all = absurd is
 batch_short clients f (entry.Asked s id ∷ rest) is all = absurd is
 batch_short clients f (entry.Out s now what ∷ rest) is all = omega (arith, alone (entry.Out s now what) rest is.0 all)
 
-pub batch_within : (clients : Meaning) (f : Facts) (batch : List Entry) → Allowed clients f batch → AreEntries batch → (2 ≤ length (payload batch)) × (length (payload batch) ≤ 56845)
+pub batch_within : (clients : Meaning) (f : Facts) (batch : List Entry) → Allowed clients f batch → AreEntries batch → (2 ≤ payload_len batch) × (payload_len batch ≤ MAX_BATCH_LEN)
 batch_within clients f [] is all = absurd is
 batch_within clients f (e ∷ es) is all = (omega (arith, payload_cons e es, (length_within e all.0).0), batch_short clients f (e ∷ es) is all)

@@ -1,49 +1,29 @@
 -- Laws for callers: how far a reader has come in the journal of two files, one frame more at a time.
-use Rattle.std.specs.Prelude.{◌≡◌, ◌≢◌, ℕ, zero, suc, ◌+◌, ◌-◌, ◌<◌, ◌≤◌, Bool, true, false, not, ◌==◌, ◌&&◌, nat_le, nat_lt, cond, List, [], ◌∷◌, ◌++◌, length, take, drop, map, slice_index, Option, Some, None, All}
-use Rattle.std.specs.Int.{w32, to_be_bytes}
+use Rattle.std.specs.Prelude.{◌≡◌, ◌≢◌, ℕ, zero, suc, ◌+◌, ◌-◌, ◌<◌, ◌≤◌, Bool, true, false, not, ◌==◌, ◌&&◌, nat_le, nat_lt, cond, List, [], ◌∷◌, ◌++◌, length, take, drop, slice_index, Option, Some, None, All}
 use Rattle.std.specs.List.{AllByRecursion, flat_map}
 use Rattle.std.proofs.Common.{refl, sym, ap, subst, ◌∙◌, arith, append_assoc, drop-cons, length-append}
 use Rattle.std.proofs.lemmas.Bool.{and_parts, cond-false, cond-true, eq-eqb, eqb-false, le-leb, leb-true, leb-false, lt-leb, ltb-false, not-true, ne_eqb, or_parts}
-use Rattle.std.proofs.lemmas.List.{append-nil, drop-drop, drop_at, length-drop, length-take-le, map-append, take-append-drop}
-use Rattle.std.proofs.lemmas.List.Concat.{flat_map-append}
+use Rattle.std.proofs.lemmas.List.{append-nil, drop-drop, drop_at, length-drop, length-take-le, take-append-drop}
 use Rattle.std.proofs.lemmas.List.Elements.{All-nil, All-push, All-same}
 use Rattle.sync_rules.specs.declared.entries.Entry.{Entry}
 use Rattle.sync_rules.specs.Clients.{Meaning}
-use Rattle.sync_rules.specs.Facts.{Facts, after_all, after_batches, facts, nothing}
-use Rattle.sync_rules.specs.Legal.{Allowed, GoesOn, Legal}
+use Rattle.sync_rules.specs.Facts.{Facts, facts, nothing}
+use Rattle.sync_rules.specs.Legal.{Allowed, Legal}
+use Rattle.sync_rules.specs.Allows.{allows}
+use Rattle.outside.specs.declared.limits.TheConstants.{MAX_FRAME}
 use Rattle.outside.specs.Files.{Two, file_of}
-use Rattle.outside.specs.Frames.{Frame, HasFrames, IsPayload, broken, closed, end_of, format_in, frame_at, frame_of, framed, is_broken, is_open, journal_file, most_bytes, size_at}
+use Rattle.outside.specs.Frames.{Frame, HasFrames, IsPayload, broken, closed, format_in, frame_at, frame_of, framed, is_broken, is_open, journal_file, most_bytes, size_at}
 use Rattle.entry_codec.specs.Spelling.{IsEntry}
-use Rattle.entry_codec.specs.Laws.{payload}
-use Rattle.entry_codec.specs.Allows.{allows}
-use Rattle.entry_codec.specs.Standing.{Standing, batch_of, damaged, frames_from, journal, no_store, read_on, rest_from, room_of, stands, stands_in, taken_on}
-
--- ---- journals that grow by a batch
-
-pub after_batches_push : (f : Facts) (done : List (List Entry)) (batch : List Entry) → after_batches f (done ++ batch ∷ []) ≡ after_all (after_batches f done) batch
-after_batches_push f [] batch = refl
-after_batches_push f (b ∷ bs) batch = after_batches_push (after_all f b) bs batch
-
-pub facts_push : (done : List (List Entry)) (batch : List Entry) → facts (done ++ batch ∷ []) ≡ after_all (facts done) batch
-facts_push done batch = after_batches_push nothing done batch
-
-pub goes_on_push : (clients : Meaning) (f : Facts) (done : List (List Entry)) (batch : List Entry) → GoesOn clients f done → Allowed clients (after_batches f done) batch → GoesOn clients f (done ++ batch ∷ [])
-goes_on_push clients f [] batch so_far allowed = (allowed, tt)
-goes_on_push clients f (b ∷ bs) batch so_far allowed = (so_far.0, goes_on_push clients (after_all f b) bs batch so_far.1 allowed)
-
-pub legal_push : (clients : Meaning) (done : List (List Entry)) (batch : List Entry) → Legal clients done → Allowed clients (facts done) batch → Legal clients (done ++ batch ∷ [])
-legal_push clients done batch so_far allowed = goes_on_push clients nothing done batch so_far allowed
-
-pub all_push : {A : Type 0} (P : A → Type 0) (xs : List A) (x : A) → AllByRecursion P xs → P x → AllByRecursion P (xs ++ x ∷ [])
-all_push P [] x all p = (p, tt)
-all_push P (y ∷ ys) x all p = (all.0, all_push P ys x all.1 p)
+use Rattle.entry_codec.specs.Payloads.{batch_of, journal_end, payload, payloads}
+use Rattle.entry_codec.specs.Growing.{all_push, frames_push, legal_push, length_frame, payloads_push}
+use Rattle.entry_codec.specs.Standing.{Standing, damaged, frames_from, journal, no_store, read_on, rest_from, room_of, stands, stands_in, taken_on}
 
 -- ---- frames
 
 -- a frame that is there fits the file
 pub record FitsFile (bytes : List ℕ) (place : ℕ) (to : List ℕ) : Type 0 where
   pub some : 1 ≤ length to
-  pub few : length to ≤ 65536
+  pub few : length to ≤ MAX_FRAME
   pub there : place + 5 + length to ≤ length bytes
   pub bounded : place + 6 + length to ≤ most_bytes
 
@@ -55,7 +35,7 @@ second_of : {A : Type 0} (t : Bool) (x y z : A) → (x ≡ z → ⊥) → cond t
 second_of true x y z ne e = absurd (ne e)
 second_of false x y z ne e = (refl, e)
 
-size_fits : (bytes : List ℕ) (place size : ℕ) (to : List ℕ) → (size ≡ 0 → ⊥) → size ≤ 65536 → place + 5 + size ≤ length bytes → place + 6 + size ≤ most_bytes
+size_fits : (bytes : List ℕ) (place size : ℕ) (to : List ℕ) → (size ≡ 0 → ⊥) → size ≤ MAX_FRAME → place + 5 + size ≤ length bytes → place + 6 + size ≤ most_bytes
     → take size (drop (place + 5) bytes) ≡ to → FitsFile bytes place to
 size_fits bytes place size to some few there bounded is =
     let long : length to ≡ size = ap length (sym is) ∙ length-take-le size (drop (place + 5) bytes) (omega (arith, length-drop (place + 5) bytes)) in
@@ -68,7 +48,7 @@ framed_fits bytes place to e =
     let whole = second_of (is_broken bytes place) broken _ (framed to) (λ h. cc) gate.1 in
     let bounded = or_parts _ (nat_lt most_bytes (place + 6 + size_at bytes place)) whole.0 in
     let there = or_parts _ (nat_lt (length bytes) (place + 5 + size_at bytes place)) bounded.0 in
-    let few = or_parts _ (nat_lt 65536 (size_at bytes place)) there.0 in
+    let few = or_parts _ (nat_lt MAX_FRAME (size_at bytes place)) there.0 in
     let some = or_parts _ (size_at bytes place == 0) few.0 in
     let is : take (size_at bytes place) (drop (place + 5) bytes) ≡ to = cc (whole.1) in
     size_fits bytes place (size_at bytes place) to (eqb-false (size_at bytes place) 0 some.1) (ltb-false _ _ few.1) (ltb-false _ _ there.1) (ltb-false _ _ bounded.1) is
@@ -87,7 +67,7 @@ same_on : (clients : Meaning) (file : ℕ) (f g : ℕ → List (List Entry) → 
 same_on clients file f g place done closed same = refl
 same_on clients file f g place done broken same = refl
 same_on clients file f g place done (framed to) same =
-    same_taken clients file (f (place + 5 + length to)) (g (place + 5 + length to)) place done (batch_of to) (same to)
+    same_taken clients file (f (place + 5 + length to)) (g (place + 5 + length to)) place done (batch_of (facts done) to) (same to)
 
 -- more frames than there can be are not asked for
 more_frames : (clients : Meaning) (file n : ℕ) (bytes : List ℕ) (place : ℕ) (done : List (List Entry)) → length bytes < n + place
@@ -115,9 +95,9 @@ pub record Front (clients : Meaning) (files : Two (List ℕ)) (file : ℕ) (done
   pub legal : Legal clients done
   pub within : AllByRecursion (AllByRecursion IsEntry) done
   pub long : length (take 14 (file_of files file)) ≡ 14
-  pub whole : file_of files file ≡ take 14 (file_of files file) ++ flat_map frame_of (map payload done) ++ drop (end - 1) (file_of files file)
-  pub payloads_fit : All IsPayload (map payload done)
-  pub end_is : end ≡ end_of (map payload done)
+  pub whole : file_of files file ≡ take 14 (file_of files file) ++ flat_map frame_of (payloads nothing done) ++ drop (end - 1) (file_of files file)
+  pub payloads_fit : All IsPayload (payloads nothing done)
+  pub end_is : end ≡ journal_end done
 
 open_long : (bytes : List ℕ) → is_open bytes ≡ true → 14 ≤ length bytes
 open_long bytes e =
@@ -190,14 +170,14 @@ front_broken clients files file done end front e = front_once clients files file
 
 -- the payload is no batch
 pub front_unread : (clients : Meaning) (files : Two (List ℕ)) (file : ℕ) (done : List (List Entry)) (end : ℕ) (to : List ℕ) → Front clients files file done end
-    → frame_at (file_of files file) (end - 1) ≡ framed to → batch_of to ≡ None → stands clients files ≡ damaged file (end - 1)
+    → frame_at (file_of files file) (end - 1) ≡ framed to → batch_of (facts done) to ≡ None → stands clients files ≡ damaged file (end - 1)
 front_unread clients files file done end to front e none =
     front_once clients files file done end (framed to) front e
     ∙ ap (taken_on clients file (rest_from clients file (file_of files file) (end - 1 + 5 + length to)) (end - 1) done) none
 
 -- the batch is not allowed
 pub front_refused : (clients : Meaning) (files : Two (List ℕ)) (file : ℕ) (done : List (List Entry)) (end : ℕ) (to : List ℕ) (batch : List Entry) → Front clients files file done end
-    → frame_at (file_of files file) (end - 1) ≡ framed to → batch_of to ≡ Some batch → allows clients (facts done) batch ≡ false → stands clients files ≡ damaged file (end - 1)
+    → frame_at (file_of files file) (end - 1) ≡ framed to → batch_of (facts done) to ≡ Some batch → allows clients (facts done) batch ≡ false → stands clients files ≡ damaged file (end - 1)
 front_refused clients files file done end to batch front e some refused =
     front_once clients files file done end (framed to) front e
     ∙ ap (taken_on clients file (rest_from clients file (file_of files file) (end - 1 + 5 + length to)) (end - 1) done) some
@@ -240,39 +220,29 @@ closed_gate bytes place e =
 
 -- the frames of a journal that is read to its end
 pub front_frames : (clients : Meaning) (files : Two (List ℕ)) (file : ℕ) (done : List (List Entry)) (end : ℕ) → Front clients files file done end
-    → frame_at (file_of files file) (end - 1) ≡ closed → HasFrames (file_of files file) (take 14 (file_of files file)) (map payload done)
+    → frame_at (file_of files file) (end - 1) ≡ closed → HasFrames (file_of files file) (take 14 (file_of files file)) (payloads nothing done)
 front_frames clients files file done end front e =
     let bytes = file_of files file in
     let gate = closed_gate bytes (end - 1) e in
     record {
       gate = slice_index bytes (end - 1);
       rest = drop (suc (end - 1)) bytes;
-      whole = front.whole ∙ ap (λ (l : List ℕ). take 14 bytes ++ flat_map frame_of (map payload done) ++ l) (drop-cons bytes (end - 1) 0 gate.0);
+      whole = front.whole ∙ ap (λ (l : List ℕ). take 14 bytes ++ flat_map frame_of (payloads nothing done) ++ l) (drop-cons bytes (end - 1) 0 gate.0);
       closed = gate.1;
       long = front.long;
       payloads_fit = front.payloads_fit;
     }
 
-length_frame : (to : List ℕ) → length (frame_of to) ≡ 5 + length to
-length_frame to = omega (arith, length-append (to_be_bytes w32 (length to)) to)
-
-pub frames_push : (done : List (List Entry)) (batch : List Entry) (to : List ℕ) → to ≡ payload batch
-    → flat_map frame_of (map payload (done ++ batch ∷ [])) ≡ flat_map frame_of (map payload done) ++ frame_of to
-frames_push done batch to is =
-    ap (flat_map frame_of) (map-append payload done (batch ∷ []))
-    ∙ flat_map-append frame_of (map payload done) (payload batch ∷ [])
-    ∙ ap (λ (l : List ℕ). flat_map frame_of (map payload done) ++ l) (append-nil (frame_of (payload batch)) ∙ ap frame_of (sym is))
-
 -- one frame more
 pub front_more : (clients : Meaning) (files : Two (List ℕ)) (file : ℕ) (done : List (List Entry)) (end : ℕ) (to behind : List ℕ) (batch : List Entry) → Front clients files file done end
     → frame_at (file_of files file) (end - 1) ≡ framed to → drop (end - 1) (file_of files file) ≡ frame_of to ++ behind
-    → batch_of to ≡ Some batch → to ≡ payload batch → AllByRecursion IsEntry batch
+    → batch_of (facts done) to ≡ Some batch → to ≡ payload (facts done) batch → AllByRecursion IsEntry batch
     → allows clients (facts done) batch ≡ true → Allowed clients (facts done) batch
     → Front clients files file (done ++ batch ∷ []) (end + 5 + length to)
 front_more clients files file done end to behind batch front e spelled some is within granted allowed =
     let bytes = file_of files file in
     let header = take 14 bytes in
-    let before = flat_map frame_of (map payload done) in
+    let before = flat_map frame_of (payloads nothing done) in
     let after = drop (end + 5 + length to - 1) bytes in
     let far = some_end clients files file done end front in
     let grown = frames_push done batch to is in
@@ -281,7 +251,7 @@ front_more clients files file done end to behind batch front e spelled some is w
     ∙ ap (drop (length (frame_of to))) spelled ∙ drop_at (frame_of to) behind (length (frame_of to)) refl in
     let fits = framed_fits bytes (end - 1) to e in
     let Fits : List ℕ → Type 0 = λ p. IsPayload p in
-    let payload_fits : IsPayload (payload batch) = subst Fits is (fits.some, fits.few) in
+    let payload_fits : IsPayload (payload (facts done) batch) = subst Fits is (fits.some, fits.few) in
     record {
       found = front.found;
       format_is = front.format_is;
@@ -298,7 +268,7 @@ front_more clients files file done end to behind batch front e spelled some is w
           ∙ sym (append_assoc (header ++ before) (frame_of to) after)
           ∙ ap (λ (l : List ℕ). l ++ after) (append_assoc header before (frame_of to) ∙ ap (λ (l : List ℕ). header ++ l) (sym grown));
       payloads_fit =
-          All-same IsPayload (map payload (done ++ batch ∷ [])) (map payload done ++ payload batch ∷ []) (map-append payload done (batch ∷ []))
-          (All-push IsPayload (map payload done) (payload batch) front.payloads_fit payload_fits);
+          All-same IsPayload (payloads nothing (done ++ batch ∷ [])) (payloads nothing done ++ payload (facts done) batch ∷ []) (payloads_push nothing done batch)
+          (All-push IsPayload (payloads nothing done) (payload (facts done) batch) front.payloads_fit payload_fits);
       end_is = omega (arith, front.end_is, ap length grown, length-append before (frame_of to), length_frame to);
     }

@@ -1,11 +1,12 @@
 -- What holds of all spellings.
-use Rattle.std.specs.Prelude.{◌≡◌, ℕ, ◌≤◌, true, List, [], ◌++◌, length, take}
-use Rattle.std.specs.List.{AllByRecursion, flat_map}
+use Rattle.std.specs.Prelude.{◌≡◌, ℕ, ◌≤◌, List, [], ◌++◌, length, take}
+use Rattle.std.specs.List.{AllByRecursion}
 use Rattle.sync_rules.specs.declared.entries.Entry.{Entry}
 use Rattle.sync_rules.specs.Clients.{Meaning}
 use Rattle.sync_rules.specs.Facts.{Facts}
 use Rattle.sync_rules.specs.Legal.{Allowed}
-use Rattle.entry_codec.specs.Allows.{allows}
+use Rattle.entry_codec.specs.declared.lengths.TheConstants.{MAX_BATCH_LEN, MAX_SPELLING}
+use Rattle.entry_codec.specs.Payloads.{payload_len}
 use Rattle.entry_codec.specs.Spelling.{IsEntry, Spells, spelling}
 use Rattle.entry_codec.specs.declared.reading.EntryFound.{EntryFound}
 use Rattle.entry_codec.specs.declared.reading.EntryFound.TheVariants as found
@@ -23,20 +24,12 @@ SpellingsReadBack = (e : Entry) (bytes more : List ℕ) (f : EntryFound) → Spe
 abbrev pub NoneBeginsAnother : Type 0
 NoneBeginsAnother = (e d : Entry) (bytes more : List ℕ) → Spells e bytes → Spells d (bytes ++ more) → (e ≡ d) × (more ≡ [])
 
--- every spelling has 2 to 49,168 bytes
+-- every spelling has 2 to MAX_SPELLING bytes
 abbrev pub SpellingsAreShort : Type 0
-SpellingsAreShort = (e : Entry) (bytes : List ℕ) → Spells e bytes → (2 ≤ length bytes) × (length bytes ≤ 49168)
+SpellingsAreShort = (e : Entry) (bytes : List ℕ) → Spells e bytes → (2 ≤ length bytes) × (length bytes ≤ MAX_SPELLING)
 
--- what a batch is written as: the spellings of its entries, one behind the other
-abbrev pub payload : List Entry → List ℕ
-payload entries = flat_map spelling entries
-
--- A batch that may follow a journal of any facts, and whose entries are within their limits, has 2 to 56,845 bytes: fewer
--- than the 65,536 of a frame.
+-- A batch that may follow a journal of any facts, and whose entries are within their limits, has 2 to MAX_BATCH_LEN bytes:
+-- fewer than a frame may have.
 abbrev pub PayloadsFitFrames : Type 0
 PayloadsFitFrames = (clients : Meaning) (f : Facts) (batch : List Entry) → Allowed clients f batch → AllByRecursion IsEntry batch
-    → (2 ≤ length (payload batch)) × (length (payload batch) ≤ 56845)
-
--- the test of a batch says yes exactly where the batch may follow a journal of these facts
-abbrev pub AllowsIsAllowed : Type 0
-AllowsIsAllowed = (clients : Meaning) (f : Facts) (b : List Entry) → (allows clients f b ≡ true → Allowed clients f b) × (Allowed clients f b → allows clients f b ≡ true)
+    → (2 ≤ payload_len batch) × (payload_len batch ≤ MAX_BATCH_LEN)

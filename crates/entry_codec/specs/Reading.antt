@@ -1,8 +1,12 @@
--- How the parts of an entry are read from the front of some bytes: a part, and the bytes behind it.
+-- How the parts of an entry are read from the front of some bytes: a part, and the bytes behind it. The id of a message that
+-- is held is read in a way that is given, as `Spelling` writes it in one; an id of another message is read whole.
 use Rattle.std.specs.Prelude.{ℕ, zero, suc, ◌^◌, Bool, ◌==◌, ◌&&◌, nat_lt, nat_le, if◌then◌else◌, List, [], ◌∷◌, length, take, drop, Option, Some, None}
 use Rattle.std.specs.Int.{Width, w16, w32, w64, byte_len, from_be_bytes}
 use Rattle.std.specs.Str.{is_utf8}
 use Rattle.sync_ids.specs.Values.{GroupValue, MessageValue}
+use Rattle.sync_ids.specs.declared.def.TheConstants.{MAX_DESCRIPTOR}
+use Rattle.sync_ids.specs.declared.lists.TheConstants.{MAX_IDS}
+use Rattle.sync_ids.specs.declared.message.TheConstants.{MAX_BODY, MAX_TIMESTAMP}
 use Rattle.sync_rules.specs.declared.entries.Entry.{Entry}
 use Rattle.sync_rules.specs.declared.entries.Entry.TheVariants as entry
 use Rattle.sync_rules.specs.declared.entries.Level.{Level}
@@ -75,18 +79,18 @@ abbrev pub def_of : List ℕ × (ℕ × List ℕ) → GroupValue
 def_of a = record { name = a.0; major = a.1.0; descriptor = a.1.1 }
 
 unfoldable pub def_in : List ℕ → Option (GroupValue × List ℕ)
-def_in bytes = made def_of (both name_in (both (number_in w32) (counted_in 0 16384)) bytes)
+def_in bytes = made def_of (both name_in (both (number_in w32) (counted_in 0 MAX_DESCRIPTOR)) bytes)
 
 -- a time, whose top bit is clear
 unfoldable pub time_in : List ℕ → Option (ℕ × List ℕ)
-time_in bytes = passed (λ t. nat_lt t (2 ^ 63)) (number_in w64 bytes)
+time_in bytes = passed (λ t. nat_le t MAX_TIMESTAMP) (number_in w64 bytes)
 
 -- a message
 abbrev pub message_of : List ℕ × (ℕ × List ℕ) → MessageValue
 message_of a = record { group = a.0; timestamp = a.1.0; body = a.1.1 }
 
 unfoldable pub message_in : List ℕ → Option (MessageValue × List ℕ)
-message_in bytes = made message_of (both id_in (both time_in (counted_in 1 32768)) bytes)
+message_in bytes = made message_of (both id_in (both time_in (counted_in 1 MAX_BODY)) bytes)
 
 abbrev pub level_of : ℕ → Option Level
 level_of b = if b == 0 then Some level.Invisible else if b == 1 then Some level.Visible else if b == 2 then Some level.Shared else None
@@ -122,33 +126,36 @@ unfoldable pub list_in : {A : Type 0} → (List ℕ → Option (A × List ℕ)) 
 list_in p zero bytes = Some ([], bytes)
 list_in p (suc n) bytes = made (λ a. a.0 ∷ a.1) (both p (list_in p n) bytes)
 
--- 1 to 1,536 ids behind their number, which has two bytes
-unfoldable pub ids_in : List ℕ → Option (List (List ℕ) × List ℕ)
-ids_in bytes = chained (list_in (front_in 32)) (passed (is_between 1 1536) (number_in w16 bytes))
+-- a way to read an id from the front of some bytes
+abbrev pub IdReader : Type 0
+IdReader = List ℕ → Option (List ℕ × List ℕ)
 
--- what follows the kind of an output
-abbrev pub out_of : ℕ → List ℕ → Option (Out × List ℕ)
-out_of kind rest =
-    if kind == 0 then made out.Acks (ids_in rest)
-    else if kind == 1 then made out.Requests (ids_in rest)
-    else if kind == 2 then made out.Offers (ids_in rest)
-    else if kind == 3 then made out.Send (id_in rest)
+-- at least one id, each read in this way, behind their number, which has two bytes
+unfoldable pub ids_in : IdReader → List ℕ → Option (List (List ℕ) × List ℕ)
+ids_in read bytes = chained (list_in read) (passed (is_between 1 MAX_IDS) (number_in w16 bytes))
+
+-- what follows the kind of an output. The ids that are requested are those of messages that are not held
+abbrev pub out_of : IdReader → ℕ → List ℕ → Option (Out × List ℕ)
+out_of held kind rest =
+    if kind == 0 then made out.Acks (ids_in held rest)
+    else if kind == 1 then made out.Requests (ids_in id_in rest)
+    else if kind == 2 then made out.Offers (ids_in held rest)
+    else if kind == 3 then made out.Send (held rest)
     else None
 
-unfoldable pub out_in : List ℕ → Option (Out × List ℕ)
-out_in bytes = chained out_of (byte_in bytes)
+unfoldable pub out_in : IdReader → List ℕ → Option (Out × List ℕ)
+out_in held bytes = chained (out_of held) (byte_in bytes)
 
 -- ---- entries
 
 -- a session's number, and an id
-unfoldable pub pair_in : List ℕ → Option ((ℕ × List ℕ) × List ℕ)
-pair_in bytes = both (number_in w32) id_in bytes
+unfoldable pub pair_in : IdReader → List ℕ → Option ((ℕ × List ℕ) × List ℕ)
+pair_in read bytes = both (number_in w32) read bytes
 
--- what follows the tags 11 to 14
+-- what follows the tags 11, 13 and 14, which name messages that are held
 abbrev pub heard_of : ℕ → ℕ × List ℕ → Option Entry
 heard_of tag a =
     if tag == 11 then Some (entry.Again a.0 a.1)
-    else if tag == 12 then Some (entry.Offered a.0 a.1)
     else if tag == 13 then Some (entry.Seen a.0 a.1)
     else if tag == 14 then Some (entry.Asked a.0 a.1)
     else None
@@ -170,23 +177,28 @@ known_of tag rest =
     else None
 
 -- what follows the tags 4 to 7, and 15
-abbrev pub moved_of : ℕ → List ℕ → Option (Entry × List ℕ)
-moved_of tag rest =
+abbrev pub moved_of : IdReader → ℕ → List ℕ → Option (Entry × List ℕ)
+moved_of held tag rest =
     if tag == 4 then made entry.Session (session_in rest)
     else if tag == 5 then made (λ a. entry.Take a.0 a.1) (both (number_in w32) (number_in w64) rest)
     else if tag == 6 then made entry.Author (message_in rest)
     else if tag == 7 then made (λ a. entry.Arrive a.0 a.1) (both (number_in w32) message_in rest)
-    else if tag == 15 then made (λ a. entry.Out a.0 a.1.0 a.1.1) (both (number_in w32) (both (number_in w64) out_in) rest)
+    else if tag == 15 then made (λ a. entry.Out a.0 a.1.0 a.1.1) (both (number_in w32) (both (number_in w64) (out_in held)) rest)
     else None
 
--- what follows a tag
-abbrev pub entry_of : ℕ → List ℕ → Option (Entry × List ℕ)
-entry_of tag rest =
+-- what follows a tag. The message of the tag 12 is not held
+abbrev pub entry_of : IdReader → ℕ → List ℕ → Option (Entry × List ℕ)
+entry_of held tag rest =
     if is_between 1 3 tag then known_of tag rest
-    else if is_between 8 10 tag then meant (step_of tag) (id_in rest)
-    else if is_between 11 14 tag then meant (heard_of tag) (pair_in rest)
-    else moved_of tag rest
+    else if is_between 8 10 tag then meant (step_of tag) (held rest)
+    else if tag == 12 then made (λ a. entry.Offered a.0 a.1) (pair_in id_in rest)
+    else if is_between 11 14 tag then meant (heard_of tag) (pair_in held rest)
+    else moved_of held tag rest
 
--- an entry at the front of some bytes
+-- an entry at the front of some bytes, where the id of a message that is held is read in this way
+abbrev pub entry_by : IdReader → List ℕ → Option (Entry × List ℕ)
+entry_by held bytes = chained (entry_of held) (byte_in bytes)
+
+-- an entry at the front of some bytes: every id is read whole
 unfoldable pub entry_in : List ℕ → Option (Entry × List ℕ)
-entry_in bytes = chained entry_of (byte_in bytes)
+entry_in bytes = entry_by id_in bytes

@@ -3,7 +3,8 @@ use Rattle.std.specs.Prelude.{◌≡◌, ℕ, ◌^◌, ◌<◌, ◌≤◌, List,
 use Rattle.std.specs.Int.{w16, w32, w64, to_be_bytes}
 use Rattle.std.specs.List.{AllByRecursion, flat_map}
 use Rattle.std.specs.Str.{IsUtf8}
-use Rattle.sync_ids.specs.Values.{GroupValue, IsGroupDef, IsMessage, IsWithin, MessageValue}
+use Rattle.sync_ids.specs.Values.{GroupValue, IsGroupDef, IsIdList, IsMessage, MessageValue}
+use Rattle.sync_ids.specs.declared.lists.TheConstants.{MAX_IDS}
 use Rattle.sync_rules.specs.declared.entries.Entry.{Entry}
 use Rattle.sync_rules.specs.declared.entries.Entry.TheVariants as entry
 use Rattle.sync_rules.specs.declared.entries.Level.{Level}
@@ -97,15 +98,10 @@ spelling e = entry_bytes whole e
 abbrev pub IsId : List ℕ → Type 0
 IsId id = length id ≡ 32
 
--- 1 to 1,536 ids
-pub record IsIdList (ids : List (List ℕ)) : Type 0 where
-  pub within : IsWithin 1536 ids
-  pub whole_ids : AllByRecursion (λ id. length id ≡ 32) ids
-
 abbrev pub IsOut : Out → Type 0
-IsOut (out.Acks ids) = IsIdList ids
-IsOut (out.Requests ids) = IsIdList ids
-IsOut (out.Offers ids) = IsIdList ids
+IsOut (out.Acks ids) = IsIdList MAX_IDS ids
+IsOut (out.Requests ids) = IsIdList MAX_IDS ids
+IsOut (out.Offers ids) = IsIdList MAX_IDS ids
 IsOut (out.Send id) = IsId id
 
 -- a definition, whose name is UTF-8

@@ -1,52 +1,20 @@
 -- What two files stand for: no store, a damaged one, or a journal. A function of all their bytes.
-use Rattle.std.specs.Prelude.{ℕ, zero, suc, ◌+◌, ◌==◌, nat_le, cond, if◌then◌else◌, List, [], ◌∷◌, ◌++◌, length, Option, Some, None}
-use Rattle.std.specs.FinSet as fin_set
+use Rattle.std.specs.Prelude.{ℕ, zero, suc, ◌+◌, ◌*◌, ◌==◌, nat_le, if◌then◌else◌, List, [], ◌∷◌, ◌++◌, length, Option, Some, None}
 use Rattle.sync_rules.specs.declared.entries.Entry.{Entry}
 use Rattle.sync_rules.specs.Clients.{Meaning}
-use Rattle.sync_rules.specs.Facts.{Facts, Held, Id, facts}
-use Rattle.sync_rules.specs.Steps.{is_ended}
+use Rattle.sync_rules.specs.Facts.{Facts, facts}
+use Rattle.sync_rules.specs.Left.{left_of}
+use Rattle.sync_rules.specs.Allows.{allows}
 use Rattle.outside.specs.Files.{Two, file_of}
 use Rattle.outside.specs.Frames.{Frame, closed, broken, framed, format_in, frame_at, journal_file, most_bytes}
-use Rattle.entry_codec.specs.Reading.{entry_in}
-use Rattle.entry_codec.specs.Allows.{allows}
+use Rattle.entry_codec.specs.declared.lengths.TheConstants.{STEP_BYTES}
+use Rattle.entry_codec.specs.Payloads.{batch_of}
 
 -- ---- the room of a journal
 
--- Room for the entries that settling may add: an entry has 33 bytes and its frame 5 more. A message that is not judged may
--- get a Judged entry and then a Deliver or Invalid one; one that is judged and has not ended may get one of the latter.
-abbrev pub room_for : Facts → Id → ℕ
-room_for f id = cond (fin_set.contains f.judged id) (cond (is_ended f id) 0 38) 76
-
-abbrev pub room_among : Facts → List Held → ℕ
-room_among f [] = 0
-room_among f (h ∷ hs) = room_for f h.id + room_among f hs
-
--- the room of all held messages
+-- the room for all that settling may yet add to a journal of these facts, each step in a frame of its own
 abbrev pub room_of : Facts → ℕ
-room_of f = room_among f f.held
-
--- ---- the batch of a payload
-
--- an entry, and those that are behind it
-abbrev pub put_before : Entry → Option (List Entry) → Option (List Entry)
-put_before e None = None
-put_before e (Some es) = Some (e ∷ es)
-
-abbrev pub followed : (List ℕ → Option (List Entry)) → Option (Entry × List ℕ) → Option (List Entry)
-followed others None = None
-followed others (Some x) = put_before x.0 (others x.1)
-
--- at most so many entries, one behind the other up to the end of the bytes
-unfoldable pub entries_in : ℕ → List ℕ → Option (List Entry)
-entries_in n [] = Some []
-entries_in zero (x ∷ bytes) = None
-entries_in (suc n) (x ∷ bytes) = followed (entries_in n) (entry_in (x ∷ bytes))
-
--- The batch of a payload: it is a list of one or more spellings of entries and nothing else. No entry is spelled by no byte,
--- so there are no more entries than bytes.
-unfoldable pub batch_of : List ℕ → Option (List Entry)
-batch_of [] = None
-batch_of (x ∷ bytes) = entries_in (length (x ∷ bytes)) (x ∷ bytes)
+room_of f = STEP_BYTES * left_of f
 
 -- ---- what the files stand for
 
@@ -75,7 +43,7 @@ abbrev pub read_on : Meaning → ℕ → (ℕ → List (List Entry) → Standing
 read_on clients file further place done closed = ended file place done
 read_on clients file further place done broken = damaged file place
 read_on clients file further place done (framed payload) =
-    taken_on clients file (further (place + 5 + length payload)) place done (batch_of payload)
+    taken_on clients file (further (place + 5 + length payload)) place done (batch_of (facts done) payload)
 
 -- the frames from this place on, at most so many, behind frames of these batches
 unfoldable pub frames_from : Meaning → ℕ → ℕ → List ℕ → ℕ → List (List Entry) → Standing

@@ -1,24 +1,24 @@
 -- What holds of batches as payloads, and of what files stand for.
-use Rattle.std.specs.Prelude.{◌≡◌, ℕ, ◌+◌, ◌<◌, ◌≤◌, List, length, map, slice_index, Some}
+use Rattle.std.specs.Prelude.{◌≡◌, ℕ, ◌+◌, ◌<◌, ◌≤◌, List, length, slice_index, Some}
 use Rattle.std.specs.List.{AllByRecursion}
 use Rattle.sync_rules.specs.declared.entries.Entry.{Entry}
 use Rattle.sync_rules.specs.Clients.{Meaning}
-use Rattle.sync_rules.specs.Facts.{Facts, after_all, facts, takes_of}
+use Rattle.sync_rules.specs.Facts.{Facts, after_all, facts, nothing, takes_of}
 use Rattle.sync_rules.specs.Legal.{Allowed, Legal}
 use Rattle.outside.specs.Files.{Two, file_of}
-use Rattle.outside.specs.Frames.{HasFrames, end_of, format_in, journal_file, most_bytes}
+use Rattle.outside.specs.Frames.{HasFrames, format_in, journal_file, most_bytes}
 use Rattle.entry_codec.specs.Spelling.{HasLatency, IsEntry}
-use Rattle.entry_codec.specs.Laws.{payload}
-use Rattle.entry_codec.specs.Standing.{batch_of, journal, room_of, stands}
+use Rattle.entry_codec.specs.Payloads.{batch_of, journal_end, payload, payloads}
+use Rattle.entry_codec.specs.Standing.{journal, room_of, stands}
 
 -- the batch of a payload is the batch that was written, where its entries are within their limits
 abbrev pub BatchesReadBack : Type 0
-BatchesReadBack = (batch : List Entry) → AllByRecursion IsEntry batch → 1 ≤ length batch → batch_of (payload batch) ≡ Some batch
+BatchesReadBack = (f : Facts) (batch : List Entry) → AllByRecursion IsEntry batch → 1 ≤ length batch → batch_of f (payload f batch) ≡ Some batch
 
 -- a batch has one payload, and its entries are within their limits
 abbrev pub PayloadsSpellOnce : Type 0
-PayloadsSpellOnce = (bytes : List ℕ) (batch : List Entry) → ((place : ℕ) → slice_index bytes place < 256) → batch_of bytes ≡ Some batch
-    → (bytes ≡ payload batch) × AllByRecursion IsEntry batch
+PayloadsSpellOnce = (f : Facts) (bytes : List ℕ) (batch : List Entry) → ((place : ℕ) → slice_index bytes place < 256) → batch_of f bytes ≡ Some batch
+    → (bytes ≡ payload f batch) × AllByRecursion IsEntry batch
 
 -- in a batch that may follow a journal each session has a latency of at least 1
 abbrev pub AllowedHaveLatency : Type 0
@@ -27,7 +27,7 @@ AllowedHaveLatency = (clients : Meaning) (f : Facts) (batch : List Entry) → Al
 -- a batch that may follow a journal adds one message or one session at most
 abbrev pub AllowedAddOne : Type 0
 AllowedAddOne = (clients : Meaning) (f : Facts) (batch : List Entry) → Allowed clients f batch
-    → length (after_all f batch).held + length (after_all f batch).sessions ≤ length f.held + length f.sessions + 1
+    → length (after_all f batch).held + (after_all f batch).begun ≤ length f.held + f.begun + 1
 
 -- and takes one record at most on a session
 abbrev pub AllowedTakeOne : Type 0
@@ -40,10 +40,10 @@ pub record HoldsJournal (clients : Meaning) (files : Two (List ℕ)) (file : ℕ
   pub found : journal_file files ≡ Some file
   pub format_is : format_in (file_of files file) ≡ 1
   pub header : List ℕ
-  pub frames : HasFrames (file_of files file) header (map payload j)
+  pub frames : HasFrames (file_of files file) header (payloads nothing j)
   pub legal : Legal clients j
   pub within : AllByRecursion (AllByRecursion IsEntry) j
-  pub bounded : end_of (map payload j) + room_of (facts j) ≤ most_bytes
+  pub bounded : journal_end j + room_of (facts j) ≤ most_bytes
 
 -- files that hold a journal stand for it
 abbrev pub JournalsStand : Type 0

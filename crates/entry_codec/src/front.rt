@@ -1,5 +1,5 @@
 //! The bytes that are still to be read, and the parts whose length is fixed.
-ghost use Rattle.std.specs.Prelude.{◌≡◌, ◌≤◌, ◌<◌, ◌^◌, Some, None, MatchResult, IfOk, length};
+ghost use Rattle.std.specs.Prelude.{◌≡◌, ◌≤◌, Some, None, MatchResult, IfOk, length};
 ghost use Rattle.std.specs.Prelude.{nat_lt};
 ghost use Rattle.std.specs.Int.{w16, w32, w64};
 ghost use Rattle.std.specs.Str.{IsUtf8};
@@ -87,7 +87,7 @@ impl<'a> Front<'a> {
     #[tactic(auto, unfolding(crate::specs::Reading::time_in))]
     pub(crate) fn read_time(&mut self) -> Result<u64, Stop>
         ensures read { Reads time_in self.old.rest.now result self.new.rest.now }
-        ensures within { IfOk result (λ time. time < 2 ^ 63) }
+        ensures within { IfOk result (λ time. time ≤ MAX_TIMESTAMP) }
     {
         let time = self.read_u64()?;
         if time > MAX_TIMESTAMP {

@@ -1,9 +1,11 @@
 //! What holds of all spellings. Each function's clause is the law; none does anything.
-ghost use Rattle.entry_codec.specs.Laws.{AllowsIsAllowed, NoneBeginsAnother, PayloadsFitFrames};
-ghost use Rattle.entry_codec.specs.Laws.{SpellingsAreShort, SpellingsReadBack};
+ghost use Rattle.entry_codec.specs.Laws.{NoneBeginsAnother, PayloadsFitFrames, SpellingsAreShort};
+ghost use Rattle.entry_codec.specs.Laws.{SpellingsReadBack};
 ghost use Rattle.entry_codec.specs.StandingLaws.{AllowedAddOne, AllowedHaveLatency, AllowedTakeOne};
 ghost use Rattle.entry_codec.specs.StandingLaws.{BatchesReadBack, JournalsStand, PayloadsSpellOnce};
 ghost use Rattle.entry_codec.specs.StandingLaws.{StandingIsLegal};
+
+use sync_rules::laws::allows_is_allowed;
 
 /// Whatever `read_entry` finds where an entry is spelled is that entry, whatever follows.
 pub fn spellings_read_back()
@@ -15,12 +17,12 @@ pub fn none_begins_another()
     ensures { NoneBeginsAnother }
 {}
 
-/// Every spelling has 2 to 49,168 bytes.
+/// Every spelling has 2 to `MAX_SPELLING` bytes.
 pub fn spellings_are_short()
     ensures { SpellingsAreShort }
 {}
 
-/// A batch that may follow a journal has 2 to 56,845 bytes, fewer than the 65,536 of a frame.
+/// A batch that may follow a journal has 2 to `MAX_BATCH_LEN` bytes, fewer than a frame may have.
 pub fn payloads_fit_frames()
     ensures { PayloadsFitFrames }
 {}
@@ -54,14 +56,13 @@ pub fn allowed_take_one()
 /// journal.
 pub fn journals_stand()
     ensures { JournalsStand }
-{}
+{
+    allows_is_allowed();
+}
 
 /// A journal that files stand for is legal.
 pub fn standing_is_legal()
     ensures { StandingIsLegal }
-{}
-
-/// The test of a batch says yes exactly where the batch may follow a journal of these facts.
-pub fn allows_is_allowed()
-    ensures { AllowsIsAllowed }
-{}
+{
+    allows_is_allowed();
+}

@@ -4,8 +4,21 @@ ghost use Rattle.std.specs.List.{flat_map};
 ghost use Rattle.entry_codec.specs.Spelling.{def_bytes, ids_bytes, message_bytes, out_bytes};
 ghost use Rattle.entry_codec.specs.Spelling.{session_bytes, spelling, whole};
 
-use sync_ids::{GroupDef, IdList, Message, MessageId};
+use sync_ids::{GroupDef, IdList, MAX_IDS, Message, MessageId};
 use sync_rules::{Entry, Out, Session};
+
+/// The length of the longest spelling of an entry, in bytes.
+pub const MAX_SPELLING: usize = 49_168;
+
+/// The length of the longest payload of a batch that may follow a journal, in bytes.
+pub const MAX_BATCH_LEN: usize = 56_845;
+
+/// The bytes of a step of settling in a frame of its own: its spelling has `STEP_LEN`, and a frame
+/// has 5 more.
+pub const STEP_BYTES: u64 = 38;
+
+/// The length of the spelling of a step of settling, in bytes.
+pub const STEP_LEN: usize = 33;
 
 #[tactic(auto, using(crate::proofs::Bounds::length_def))]
 fn def_len(def: &GroupDef) -> usize
@@ -37,7 +50,7 @@ fn session_len(session: &Session) -> usize
 }
 
 fn sum_len(ids: &[MessageId]) -> usize
-    requires { length ids.now ≤ 1536 }
+    requires { length ids.now ≤ MAX_IDS }
     ensures value { result ≡ length (flat_map whole ids.now) }
     ensures few { result ≤ 49152 }
 {
@@ -48,7 +61,7 @@ fn sum_len(ids: &[MessageId]) -> usize
     len
 }
 
-fn ids_len(ids: &IdList<1536>) -> usize
+fn ids_len(ids: &IdList<MAX_IDS>) -> usize
     ensures value { result ≡ length (ids_bytes whole ids.now) }
     ensures few { result ≤ 49154 }
 {
@@ -66,12 +79,12 @@ fn out_len(what: &Out) -> usize
     }
 }
 
-/// How many bytes the spelling of an entry has: 2 to 49,168. It takes no memory.
+/// How many bytes the spelling of an entry has: 2 to `MAX_SPELLING`. It takes no memory.
 #[tactic(auto, unfolding(crate::specs::Spelling::spelling))]
 pub fn entry_len(entry: &Entry) -> usize
     ensures value { result ≡ length (spelling entry.now) }
     ensures some { 2 ≤ result }
-    ensures few { result ≤ 49168 }
+    ensures few { result ≤ MAX_SPELLING }
 {
     match entry {
         Entry::Contact(_) => 2,

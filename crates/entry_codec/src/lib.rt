@@ -12,6 +12,6 @@ mod values;
 mod writing;
 
 pub use batches::{batch_len, read_batch, write_batch};
-pub use lengths::entry_len;
+pub use lengths::{MAX_BATCH_LEN, MAX_SPELLING, STEP_BYTES, STEP_LEN, entry_len};
 pub use reading::{EntryFound, read_entry};
 pub use writing::write_entry;

@@ -23,7 +23,7 @@ pub enum EntryFound {
 
 #[tactic(auto, unfolding(crate::specs::Reading::pair_in))]
 fn read_pair(front: &mut Front) -> Result<(u32, MessageId), Stop>
-    ensures { Reads pair_in front.old.rest.now result front.new.rest.now }
+    ensures { Reads (pair_in id_in) front.old.rest.now result front.new.rest.now }
 {
     let session = front.read_u32()?;
     let id = front.read_id()?;
@@ -48,7 +48,7 @@ fn read_known(alloc: Global, tag: u8, front: &mut Front) -> Result<Entry, Stop>
 
 // What follows the tags 4 to 7, and 15.
 fn read_moved(alloc: Global, tag: u8, front: &mut Front) -> Result<Entry, Stop>
-    ensures { Reads (moved_of tag) front.old.rest.now result front.new.rest.now }
+    ensures { Reads (moved_of id_in tag) front.old.rest.now result front.new.rest.now }
 {
     match tag {
         4 => Ok(Entry::Session(read_session(front)?)),
@@ -84,15 +84,14 @@ fn read_step(tag: u8, front: &mut Front) -> Result<Entry, Stop>
     }
 }
 
-// What follows the tags 11 to 14.
+// What follows the tags 11, 13 and 14.
 fn read_heard(tag: u8, front: &mut Front) -> Result<Entry, Stop>
-    ensures { Reads (λ bytes. meant (heard_of tag) (pair_in bytes)) front.old.rest.now result
+    ensures { Reads (λ bytes. meant (heard_of tag) (pair_in id_in bytes)) front.old.rest.now result
         front.new.rest.now }
 {
     let (session, id) = read_pair(front)?;
     match tag {
         11 => Ok(Entry::Again(session, id)),
-        12 => Ok(Entry::Offered(session, id)),
         13 => Ok(Entry::Seen(session, id)),
         14 => Ok(Entry::Asked(session, id)),
         _ => Err(Stop::BadEntry),
@@ -107,6 +106,10 @@ pub(crate) fn read_tagged(alloc: Global, front: &mut Front) -> Result<Entry, Sto
     match tag {
         1..=3 => read_known(alloc, tag, front),
         8..=10 => read_step(tag, front),
+        12 => {
+            let (session, id) = read_pair(front)?;
+            Ok(Entry::Offered(session, id))
+        }
         11..=14 => read_heard(tag, front),
         _ => read_moved(alloc, tag, front),
     }

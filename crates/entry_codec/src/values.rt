@@ -2,24 +2,22 @@
 ghost use Rattle.std.specs.Prelude.{◌≡◌, ◌≤◌, length, IfOk};
 ghost use Rattle.std.specs.Str.{IsUtf8};
 ghost use Rattle.entry_codec.specs.Answers.{Reads, ReadsList, ReadsText};
-ghost use Rattle.entry_codec.specs.Reading.{def_in, front_in, ids_in, level_in, list_in};
+ghost use Rattle.entry_codec.specs.Reading.{def_in, id_in, ids_in, level_in, list_in};
 ghost use Rattle.entry_codec.specs.Reading.{message_in, mode_in, name_in, nonce_in, out_in};
 ghost use Rattle.entry_codec.specs.Reading.{session_in};
 
 use crate::front::Front;
 use crate::stop::Stop;
 use std::alloc::Global;
-use sync_ids::{GroupDef, IdList, MAX_BODY, MAX_DESCRIPTOR, Message, MessageId, Nonce};
+use sync_ids::{GroupDef, IdList, MAX_BODY, MAX_DESCRIPTOR, MAX_IDS, MAX_NAME};
+use sync_ids::{Message, MessageId, Nonce};
 use sync_rules::{Level, Mode, Out, Session};
-
-// The greatest number of ids in an output.
-const MAX_IDS: usize = 1536;
 
 #[tactic(auto, unfolding(crate::specs::Reading::name_in))]
 fn read_name<'a>(front: &mut Front<'a>) -> Result<&'a str, Stop>
     ensures read { ReadsText name_in front.old.rest.now result front.new.rest.now }
     ensures some { IfOk result (λ name. 1 ≤ length name.now) }
-    ensures short { IfOk result (λ name. length name.now ≤ 255) }
+    ensures short { IfOk result (λ name. length name.now ≤ MAX_NAME) }
 {
     let len = front.read_byte()?;
     if len == 0 {
@@ -111,8 +109,8 @@ pub(crate) fn read_session(front: &mut Front) -> Result<Session, Stop>
 }
 
 #[tactic(auto, unfolding(crate::specs::Reading::ids_in))]
-fn read_ids(alloc: Global, front: &mut Front) -> Result<IdList<1536>, Stop>
-    ensures { Reads ids_in front.old.rest.now result front.new.rest.now }
+fn read_ids(alloc: Global, front: &mut Front) -> Result<IdList<MAX_IDS>, Stop>
+    ensures { Reads (ids_in id_in) front.old.rest.now result front.new.rest.now }
 {
     let count = front.read_count(1, MAX_IDS)?;
     match IdList::new(read_list(alloc, front, count)?) {
@@ -122,7 +120,7 @@ fn read_ids(alloc: Global, front: &mut Front) -> Result<IdList<1536>, Stop>
 }
 
 fn read_list(alloc: Global, front: &mut Front, count: usize) -> Result<Vec<MessageId>, Stop>
-    ensures read { ReadsList (list_in (front_in 32) count) front.old.rest.now result
+    ensures read { ReadsList (list_in id_in count) front.old.rest.now result
         front.new.rest.now }
     ensures len { IfOk result (λ ids. length ids.items ≡ count) }
 {
@@ -135,7 +133,7 @@ fn read_list(alloc: Global, front: &mut Front, count: usize) -> Result<Vec<Messa
 
 #[tactic(auto, unfolding(crate::specs::Reading::out_in))]
 pub(crate) fn read_out(alloc: Global, front: &mut Front) -> Result<Out, Stop>
-    ensures { Reads out_in front.old.rest.now result front.new.rest.now }
+    ensures { Reads (out_in id_in) front.old.rest.now result front.new.rest.now }
 {
     match front.read_byte()? {
         0 => Ok(Out::Acks(read_ids(alloc, front)?)),

@@ -2,14 +2,14 @@
 ghost use Rattle.std.specs.Prelude.{◌≡◌, ◌+◌, ◌*◌, ◌++◌, ◌∷◌, ◌≤◌, [], length, OnOk, OnErr};
 ghost use Rattle.std.specs.Int.{w16, w32, w64, to_be_bytes};
 ghost use Rattle.std.specs.List.{AllByRecursion, flat_map};
-ghost use Rattle.entry_codec.specs.Spelling.{AddsTo, HasLatency, IsDef, IsEntry, IsIdList, IsOut};
+ghost use Rattle.entry_codec.specs.Spelling.{AddsTo, HasLatency, IsDef, IsEntry, IsOut};
 ghost use Rattle.entry_codec.specs.Spelling.{IsSession, Spells, def_bytes, entry_bytes, ids_bytes};
 ghost use Rattle.entry_codec.specs.Spelling.{level_byte, message_bytes, mode_byte, out_bytes};
 ghost use Rattle.entry_codec.specs.Spelling.{session_bytes, spelling, whole};
-ghost use Rattle.sync_ids.specs.Values.{IsMessage};
+ghost use Rattle.sync_ids.specs.Values.{AreIds, IsIdList, IsMessage};
 
 use std::alloc::AllocError;
-use sync_ids::{GroupDef, GroupId, IdList, Message, MessageId};
+use sync_ids::{GroupDef, GroupId, IdList, MAX_IDS, Message, MessageId};
 use sync_rules::{Entry, Level, Mode, Out, Session};
 
 fn level_byte(level: Level) -> u8
@@ -77,7 +77,7 @@ fn append_session(session: &Session, to: &mut Vec<u8>) -> Result<(), AllocError>
 
 fn append_ids(ids: &[MessageId], to: &mut Vec<u8>) -> Result<(), AllocError>
     ensures ok { OnOk result (to.new.items ≡ to.old.items ++ flat_map whole ids.now) }
-    ensures whole_ids { OnOk result (AllByRecursion (λ id. length id ≡ 32) ids.now) }
+    ensures whole_ids { OnOk result (AreIds ids.now) }
     ensures err { OnErr result (AddsTo to.old.items to.new.items) }
 {
     'ids: for id in ids {
@@ -86,9 +86,9 @@ fn append_ids(ids: &[MessageId], to: &mut Vec<u8>) -> Result<(), AllocError>
     Ok(())
 }
 
-fn append_list(kind: u8, ids: &IdList<1536>, to: &mut Vec<u8>) -> Result<(), AllocError>
+fn append_list(kind: u8, ids: &IdList<MAX_IDS>, to: &mut Vec<u8>) -> Result<(), AllocError>
     ensures ok { OnOk result (to.new.items ≡ to.old.items ++ (kind ∷ ids_bytes whole ids.now)) }
-    ensures within { OnOk result (IsIdList ids.now) }
+    ensures within { OnOk result (IsIdList MAX_IDS ids.now) }
     ensures err { OnErr result (AddsTo to.old.items to.new.items) }
 {
     let ids = ids.as_slice();

@@ -1,22 +1,21 @@
--- A frame added, call by call.
-use Rattle.std.proofs.Common.{◌≡◌, ◌≢◌, ℕ, ◌+◌, ◌-◌, ◌<◌, ◌≤◌, List, [], ◌∷◌, ◌++◌, length, take, drop, get_or, Option, None, Some, is_some, Ok, Err, refl, sym, ap, ◌∙◌, subst, inl, inr, arith, append_assoc, append-nil, length-append, length-take, take-append-drop}
+-- A frame added.
+use Rattle.std.proofs.Common.{◌≡◌, ◌≢◌, ℕ, ◌+◌, ◌-◌, ◌≤◌, List, [], ◌∷◌, ◌++◌, length, take, drop, Option, None, Some, is_some, refl, sym, ap, ◌∙◌, subst, inl, inr, arith, append_assoc, append-nil, length-append, take-append-drop}
 use Rattle.std.specs.List.{flat_map}
 use Rattle.std.specs.Int.{w32, to_be_bytes}
 use Rattle.std.proofs.lemmas.Grind.{flat_map-append}
 use Rattle.std.proofs.lemmas.Bool.{cases_eq}
 use Rattle.std.proofs.lemmas.List.{take-take}
 use Rattle.std.proofs.lemmas.List.Elements.{All-push}
-use Rattle.std.proofs.Math.Seq.{take-append_seam, drop-append_seam}
-use Rattle.outside.specs.declared.failed.Failed.{Failed}
-use Rattle.outside.specs.Files.{Two, File, IsFileImage, NothingPending, file_of, with_file, settled}
-use Rattle.outside.specs.Disk.{Becomes, Writes, Syncs, after_write, overwritten}
-use Rattle.outside.specs.Images.{length-overwritten}
+use Rattle.std.proofs.Math.Seq.{take-append_seam}
+use Rattle.outside.specs.Files.{Two, File, NothingPending, file_of, with_file, settled}
+use Rattle.outside.specs.Disk.{Becomes, overwritten}
 use Rattle.outside.specs.Frames.{IsPayload, HasFrames, IsAtRest, end_of, frame_of}
-use Rattle.outside.specs.Outside.{Outside, DiskCall}
+use Rattle.outside.specs.Outside.{Outside}
 use Rattle.outside.specs.Links.{sent_of}
-use Rattle.outside.specs.Steps.{FileMoment, moments_map, Reached, Passed, begun, wrote_ok, wrote_err, synced_ok, synced_err, other_of, file_of-with_file, other_of-with_file}
+use Rattle.outside.specs.Steps.{FileMoment, moments_map, Passed, other_of, file_of-with_file, other_of-with_file, with_file-with_file}
 use Rattle.frame_journal.specs.Append.{payload_of, IsFramed, appended, Gated, Opens, Appends, BeforeOrWith}
-use Rattle.frame_journal.proofs.Torn.{settled_only, torn_front, torn_byte}
+use Rattle.frame_journal.specs.Gates.{WritesBehind, OpensGate, KeepsFront, KeepsAllBut}
+use Rattle.frame_journal.proofs.BehindSteps.{behind_front, behind_rest}
 
 -- ---- lists
 
@@ -96,27 +95,7 @@ frames_more bytes left header payloads end framed rest frames is_end is_framed i
       payloads_fit = All-push IsPayload payloads p frames.payloads_fit is_framed.fits;
     }
 
--- ---- what a crash may leave after each call
-
--- the file with all of the new frame but its gate
-abbrev behind : List ℕ → ℕ → List ℕ → List ℕ
-behind bytes end framed = overwritten bytes end framed
-
-behind_front : (bytes : List ℕ) (end : ℕ) (framed : List ℕ) → end ≤ length bytes → take end (behind bytes end framed) ≡ take end bytes
-behind_front bytes end framed within =
-    let front = take end bytes in
-    let long : length front ≡ end = omega (arith, length-take end bytes) in
-    ap (λ n. take n (behind bytes end framed)) (sym long)
-    ∙ ap (take (length front)) (append_assoc front framed (drop (end + length framed) bytes))
-    ∙ take-append_seam front (framed ++ drop (end + length framed) bytes)
-
-behind_rest : (bytes : List ℕ) (end : ℕ) (framed : List ℕ) → end ≤ length bytes → drop end (behind bytes end framed) ≡ framed ++ drop (end + length framed) bytes
-behind_rest bytes end framed within =
-    let front = take end bytes in
-    let long : length front ≡ end = omega (arith, length-take end bytes) in
-    ap (λ n. drop n (behind bytes end framed)) (sym long)
-    ∙ ap (drop (length front)) (append_assoc front framed (drop (end + length framed) bytes))
-    ∙ drop-append_seam front (framed ++ drop (end + length framed) bytes)
+-- ---- what a crash may leave
 
 -- one byte less of the front
 front_less : (a b : List ℕ) (n : ℕ) → 1 ≤ n → take n a ≡ take n b → take (n - 1) a ≡ take (n - 1) b
@@ -124,13 +103,10 @@ front_less a b n some same =
     let less : n - 1 ≤ n = omega arith in
     sym (take-take (n - 1) n a less) ∙ ap (take (n - 1)) same ∙ take-take (n - 1) n b less
 
-behind_long : (bytes : List ℕ) (end : ℕ) (framed : List ℕ) → end ≤ length bytes → end ≤ length (behind bytes end framed)
-behind_long bytes end framed within = omega (arith, length-overwritten bytes end framed within)
-
 -- the bytes at the end
 pub appended_is : (bytes : List ℕ) (end : ℕ) (framed : List ℕ) → 1 ≤ end → end ≤ length bytes → appended bytes end framed ≡ take (end - 1) bytes ++ 1 ∷ (framed ++ drop (end + length framed) bytes)
 appended_is bytes end framed some within =
-    let b = behind bytes end framed in
+    let b = overwritten bytes end framed in
     let next : end - 1 + 1 ≡ end = omega arith in
     append_assoc (take (end - 1) b) (1 ∷ []) (drop (end - 1 + 1) b)
     ∙ ap (λ l. l ++ 1 ∷ drop (end - 1 + 1) b) (front_less b bytes end some (behind_front bytes end framed within))
@@ -154,27 +130,33 @@ gated_frames bytes left end framed is_framed gated header payloads frames is_end
           ]
     ]
 
-passes_settled : (bytes c : List ℕ) (end : ℕ) (framed : List ℕ) → IsFileImage (settled bytes) c → Gated bytes end framed c
-passes_settled bytes c end framed image = inl (ap (take end) (settled_only bytes c image))
+-- the front stands as it was, or all but the gate stands
+pub gated_behind : (bytes : List ℕ) (end : ℕ) (framed c : List ℕ) → KeepsFront bytes end c → Gated bytes end framed c
+gated_behind bytes end framed c front = inl front
 
-passes_write : (bytes now c : List ℕ) (end : ℕ) (framed : List ℕ) → end ≤ length bytes → IsFileImage (after_write (settled bytes) end (length framed) now) c → Gated bytes end framed c
-passes_write bytes now c end framed within image = inl (torn_front bytes end (length framed) now c within image)
-
-passes_behind : (bytes c : List ℕ) (end : ℕ) (framed : List ℕ) → end ≤ length bytes → IsFileImage (settled (behind bytes end framed)) c → Gated bytes end framed c
-passes_behind bytes c end framed within image = inl (ap (take end) (settled_only (behind bytes end framed) c image) ∙ behind_front bytes end framed within)
-
-passes_open : (bytes now c : List ℕ) (end : ℕ) (framed : List ℕ) → 1 ≤ end → end ≤ length bytes → IsFileImage (after_write (settled (behind bytes end framed)) (end - 1) 1 now) c → Gated bytes end framed c
-passes_open bytes now c end framed some within image =
-    let b = behind bytes end framed in
-    let inside : end - 1 < length b = omega (arith, behind_long bytes end framed within) in
+pub gated_open : (bytes : List ℕ) (end : ℕ) (framed c : List ℕ) → 1 ≤ end → end ≤ length bytes → KeepsAllBut (overwritten bytes end framed) (end - 1) c → Gated bytes end framed c
+gated_open bytes end framed c some within kept =
+    let b = overwritten bytes end framed in
     let next : end - 1 + 1 ≡ end = omega arith in
     let front = front_less b bytes end some (behind_front bytes end framed within) in
-    let shape = torn_byte b (end - 1) now c inside image in
-    let gate = get_or c (end - 1) 0 in
-    inr (gate, shape ∙ ap (λ l. l ++ gate ∷ drop (end - 1 + 1) b) front ∙ ap (λ l. take (end - 1) bytes ++ gate ∷ l) (ap (λ n. drop n b) next ∙ behind_rest bytes end framed within))
+    inr (kept.0, kept.1 ∙ ap (λ l. l ++ kept.0 ∷ drop (end - 1 + 1) b) front ∙ ap (λ l. take (end - 1) bytes ++ kept.0 ∷ l) (ap (λ n. drop n b) next ∙ behind_rest bytes end framed within))
 
-passes_done : (bytes c : List ℕ) (end : ℕ) (framed : List ℕ) → 1 ≤ end → end ≤ length bytes → IsFileImage (settled (appended bytes end framed)) c → Gated bytes end framed c
-passes_done bytes c end framed some within image = inr (1, settled_only (appended bytes end framed) c image ∙ appended_is bytes end framed some within)
+-- bytes behind the gate, and then the gate
+pub opens_both : (file end : ℕ) (framed : List ℕ) (x y z : Two File) → WritesBehind file end framed x y → OpensGate file end y z → Opens file end framed x z
+opens_both file end framed x y z written opened =
+    let f = settled (overwritten (file_of x file).now end framed) in
+    let this : file_of y file ≡ f = ap (λ (t : Two File). file_of t file) written ∙ file_of-with_file x file f in
+    let last = settled (appended (file_of x file).now end framed) in
+    opened ∙ ap (λ (g : File). with_file y file (settled (overwritten g.now (end - 1) (1 ∷ [])))) this
+    ∙ ap (λ (t : Two File). with_file t file last) written
+    ∙ with_file-with_file x file f last
+
+pub gated_after : (file end : ℕ) (framed : List ℕ) (x y : Two File) → 1 ≤ end → end ≤ length (file_of x file).now → WritesBehind file end framed x y → (c : List ℕ)
+    → KeepsAllBut (file_of y file).now (end - 1) c → Gated (file_of x file).now end framed c
+gated_after file end framed x y some within written c kept =
+    let f = settled (overwritten (file_of x file).now end framed) in
+    let this : file_of y file ≡ f = ap (λ (t : Two File). file_of t file) written ∙ file_of-with_file x file f in
+    gated_open (file_of x file).now end framed c some within (subst (λ (g : File). KeepsAllBut g.now (end - 1) c) this kept)
 
 -- the place behind the gate with one frame more
 be_long : (n : ℕ) → length (to_be_bytes w32 n) ≡ 4
@@ -195,71 +177,6 @@ becomes_from step None None same each = tt
 becomes_from step None (Some b) same each = cc
 becomes_from step (Some a) None same each = cc
 becomes_from step (Some a) (Some b) same each = each a b refl refl
-
--- ---- the four calls, over what the disk tells
-
-module _ (two : Two File) (o0 : Outside) (file end : ℕ) (framed : List ℕ) (told : o0.files ≡ Some two) (some : 1 ≤ end) (pending : NothingPending two file) (within : end ≤ length (file_of two file).now) where
-  abbrev bytes : List ℕ
-  bytes = (file_of two file).now
-
-  abbrev Q : List ℕ → Type 0
-  Q = Gated bytes end framed
-
-  start : Reached two o0 o0 file Q (settled bytes)
-  start =
-      subst (λ (f : File). Reached two o0 o0 file Q f) pending
-      (begun two o0 file Q told (λ c image. passes_settled bytes c end framed (subst (λ (f : File). IsFileImage f c) pending image)))
-
-  pub write_ok : (o1 : Outside) (u : Unit {0}) → DiskCall o0 o1 → Becomes (Writes file end framed (Ok u)) o0.files o1.files
-      → Reached two o0 o1 file Q (after_write (settled bytes) end (length framed) (behind bytes end framed))
-  write_ok o1 u call becomes = wrote_ok two o0 o0 o1 file Q (settled bytes) end framed u start call becomes (λ now c image. passes_write bytes now c end framed within image)
-
-  pub write_err : (o1 : Outside) (e : Failed) → DiskCall o0 o1 → Becomes (Writes file end framed (Err e)) o0.files o1.files → Passed two o0 o1 file Q
-  write_err o1 e call becomes =
-      wrote_err two o0 o0 o1 file Q (settled bytes) end framed e start call becomes (λ c image. passes_settled bytes c end framed image)
-      (λ now c image. passes_write bytes now c end framed within image)
-
-  pub sync_ok : (o1 o2 : Outside) (u : Unit {0}) → Reached two o0 o1 file Q (after_write (settled bytes) end (length framed) (behind bytes end framed)) → DiskCall o1 o2
-      → Becomes (Syncs file (Ok u)) o1.files o2.files → Reached two o0 o2 file Q (settled (behind bytes end framed))
-  sync_ok o1 o2 u run call becomes = synced_ok two o0 o1 o2 file Q _ u run call becomes (λ c image. passes_behind bytes c end framed within image)
-
-  pub sync_err : (o1 o2 : Outside) (e : Failed) → Reached two o0 o1 file Q (after_write (settled bytes) end (length framed) (behind bytes end framed)) → DiskCall o1 o2
-      → Becomes (Syncs file (Err e)) o1.files o2.files → Passed two o0 o2 file Q
-  sync_err o1 o2 e run call becomes = synced_err two o0 o1 o2 file Q _ e run call becomes (λ c image. passes_write bytes _ c end framed within image)
-
-  pub open_ok : (o2 o3 : Outside) (u : Unit {0}) → Reached two o0 o2 file Q (settled (behind bytes end framed)) → DiskCall o2 o3
-      → Becomes (Writes file (end - 1) (1 ∷ []) (Ok u)) o2.files o3.files
-      → Reached two o0 o3 file Q (after_write (settled (behind bytes end framed)) (end - 1) 1 (appended bytes end framed))
-  open_ok o2 o3 u run call becomes =
-      wrote_ok two o0 o2 o3 file Q _ (end - 1) (1 ∷ []) u run call becomes (λ now c image. passes_open bytes now c end framed some within image)
-
-  pub open_err : (o2 o3 : Outside) (e : Failed) → Reached two o0 o2 file Q (settled (behind bytes end framed)) → DiskCall o2 o3
-      → Becomes (Writes file (end - 1) (1 ∷ []) (Err e)) o2.files o3.files → Passed two o0 o3 file Q
-  open_err o2 o3 e run call becomes =
-      wrote_err two o0 o2 o3 file Q _ (end - 1) (1 ∷ []) e run call becomes (λ c image. passes_behind bytes c end framed within image)
-      (λ now c image. passes_open bytes now c end framed some within image)
-
-  pub last_ok : (o3 o4 : Outside) (u : Unit {0}) → Reached two o0 o3 file Q (after_write (settled (behind bytes end framed)) (end - 1) 1 (appended bytes end framed)) → DiskCall o3 o4
-      → Becomes (Syncs file (Ok u)) o3.files o4.files → Reached two o0 o4 file Q (settled (appended bytes end framed))
-  last_ok o3 o4 u run call becomes = synced_ok two o0 o3 o4 file Q _ u run call becomes (λ c image. passes_done bytes c end framed some within image)
-
-  pub last_err : (o3 o4 : Outside) (e : Failed) → Reached two o0 o3 file Q (after_write (settled (behind bytes end framed)) (end - 1) 1 (appended bytes end framed)) → DiskCall o3 o4
-      → Becomes (Syncs file (Err e)) o3.files o4.files → Passed two o0 o4 file Q
-  last_err o3 o4 e run call becomes =
-      synced_err two o0 o3 o4 file Q _ e run call becomes (λ c image. passes_open bytes _ c end framed some within image)
-
-  -- where the second write begins
-  pub room_open : end - 1 ≤ length (behind bytes end framed)
-  room_open = omega (arith, behind_long bytes end framed within)
-
-  pub place_open : (o2 : Outside) → Reached two o0 o2 file Q (settled (behind bytes end framed)) → (two2 : Two File) → o2.files ≡ Some two2 → end - 1 ≤ length (file_of two2 file).now
-  place_open o2 run two2 had =
-      let same : with_file two file (settled (behind bytes end framed)) ≡ two2 = cc in
-      let this : file_of two2 file ≡ settled (behind bytes end framed) = ap (λ (t : Two File). file_of t file) (sym same) ∙ file_of-with_file two file (settled (behind bytes end framed)) in
-      subst (λ (f : File). end - 1 ≤ length f.now) (sym this) room_open
-
-  pub opens : (o4 : Outside) → Reached two o0 o4 file Q (settled (appended bytes end framed)) → (two' : Two File) → o4.files ≡ Some two' → Opens file end framed two two'
-  opens o4 run two' had = cc
 
 -- the files with a frame added
 pub opens_appends : (file end : ℕ) (framed : List ℕ) (two two' : Two File) → IsFramed framed → IsAtRest two file end → Opens file end framed two two' → Appends file end framed two two'

@@ -1,4 +1,6 @@
 pub mod Torn
+pub mod BehindSteps
+pub mod GateSteps
 pub mod AppendSteps
 pub mod Calm
 pub mod CreateSteps

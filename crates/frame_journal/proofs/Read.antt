@@ -4,9 +4,11 @@ use Rattle.std.specs.Int.{w32, to_be_bytes}
 use Rattle.std.proofs.lemmas.List.{take-append-le, drop-drop}
 use Rattle.outside.specs.Files.{Two, File, file_of, read_files}
 use Rattle.outside.specs.Disk.{Reads}
-use Rattle.outside.specs.Frames.{framed}
+use Rattle.outside.specs.Frames.{framed, format_in, generation_in}
 use Rattle.outside.specs.Outside.{Outside, DiskCall, Looks}
 use Rattle.outside.specs.Steps.{looks_none, looks_call}
+use Rattle.frame_journal.specs.Header.{begun_at}
+use Rattle.frame_journal.specs.Journal.{JournalValue}
 use Rattle.frame_journal.specs.Next.{IsOpenGate, FrameRead}
 
 pub looks_once : (o o' : Outside) → DiskCall o o' → o'.files ≡ o.files → o.disk_faults ≤ o'.disk_faults → Looks o o'
@@ -40,3 +42,8 @@ frame_read bytes to place size open_gate is_to =
 pub read_files_of : (two : Two File) (file : ℕ) → file_of (read_files two) file ≡ (file_of two file).now
 read_files_of two zero = refl
 read_files_of two (suc _) = refl
+
+-- the reader of a journal that begins behind a header
+pub begun_as : (file format generation len : ℕ) (bytes : List ℕ) → format ≡ format_in bytes → generation ≡ generation_in bytes → len ≡ length bytes
+    → (let j : JournalValue = record { file = file; format = format; generation = generation; end = 15; len = len; last = 0 } in j ≡ begun_at file bytes)
+begun_as file format generation len bytes e g l = cc

@@ -11,9 +11,13 @@ abbrev pub payload_of : List ℕ → List ℕ
 payload_of framed = take (length framed - 5) (drop 4 framed)
 
 -- a payload's length in four bytes, the payload, and a zero byte
+abbrev pub framed_of : List ℕ → List ℕ
+framed_of payload = to_be_bytes w32 (length payload) ++ payload ++ 0 ∷ []
+
+-- bytes that frame a payload of a length that a frame may have
 pub record IsFramed (framed : List ℕ) : Type 0 where
   pub fits : IsPayload (payload_of framed)
-  pub spelled : framed ≡ to_be_bytes w32 (length (payload_of framed)) ++ payload_of framed ++ 0 ∷ []
+  pub spelled : framed ≡ framed_of (payload_of framed)
 
 -- the bytes of a file after a write at `end` and the byte 1 before it
 abbrev pub appended : List ℕ → ℕ → List ℕ → List ℕ

@@ -1,5 +1,6 @@
 -- A file emptied for a journal, and a journal begun in it.
 use Rattle.std.specs.Prelude.{◌≡◌, ◌≢◌, ◌⊎◌, ℕ, false, List, [], ◌∷◌, ◌++◌, take}
+use Rattle.std.specs.Int.{w64, to_be_bytes}
 use Rattle.outside.specs.Files.{Two, File, file_of, settled, NothingPending}
 use Rattle.outside.specs.Frames.{is_open, header_of, IsAtRest}
 use Rattle.outside.specs.Steps.{other_of}
@@ -13,6 +14,19 @@ pub record IsCleared (files : Two File) (file : ℕ) : Type 0 where
 -- the file as it was, or one with no open header
 abbrev pub BeforeOrShut : List ℕ → List ℕ → Type 0
 BeforeOrShut bytes left = (left ≡ bytes) ⊎ (is_open left ≡ false)
+
+-- a header but for its gate, and a closed gate
+abbrev pub behind_gate : ℕ → List ℕ
+behind_gate generation = 66 ∷ 83 ∷ 80 ∷ 74 ∷ 1 ∷ (to_be_bytes w64 generation ++ 0 ∷ [])
+
+-- All of a journal with no frame but the gate of its header, and nothing pending in its file; the other file is as
+-- before. Frames may be added to it.
+pub record Prepares (file generation : ℕ) (old new : Two File) : Type 0 where
+  pub gate : ℕ
+  pub closed : gate ≢ 1
+  pub bytes : file_of new file ≡ settled (gate ∷ behind_gate generation)
+  pub other : other_of new file ≡ other_of old file
+  pub at_rest : IsAtRest new file 15
 
 -- the bytes of a journal with no frame
 abbrev pub begun_bytes : ℕ → List ℕ

@@ -12,13 +12,17 @@ abbrev pub IsHeaderOf : List ℕ → Option Header → Type 0
 IsHeaderOf bytes None = is_open bytes ≡ false
 IsHeaderOf bytes (Some header) = (is_open bytes ≡ true) × (header.format ≡ format_in bytes) × (header.generation ≡ generation_in bytes)
 
+-- the reader of a journal begins behind this header of a file
+abbrev pub begun_at : ℕ → List ℕ → JournalValue
+begun_at file bytes = record { file = file; format = format_in bytes; generation = generation_in bytes; end = 15; len = length bytes; last = 0 }
+
 -- The journal of two files begins behind the header of the journal's file, where that has format 1; else it is damaged
 -- there, and where no header is open there is none.
 abbrev pub Starts : Two (List ℕ) → Result JournalValue StartFault → Type 0
 Starts files (Ok journal) =
     (journal_file files ≡ Some journal.file)
     × (format_in (file_of files journal.file) ≡ 1)
-    × (journal ≡ record { file = journal.file; end = 15; len = length (file_of files journal.file); last = 0 })
+    × (journal ≡ begun_at journal.file (file_of files journal.file))
 Starts files (Err start.NoStore) = journal_file files ≡ None
 Starts files (Err (start.Damaged place)) =
     (journal_file files ≡ Some place.file) × (format_in (file_of files place.file) ≢ 1) × (place.at ≡ 5)

@@ -1,10 +1,12 @@
 -- A journal's file as it is read and added to.
 use Rattle.std.specs.Prelude.{ℕ}
 
--- the number of the file, the place behind the gate up to which it was read, the length that is known of it, and the
+-- the number of the file, format and generation as its header has them, the place behind the gate up to which it was read, the length that is known of it, and the
 -- place of the last frame read, or 0
 pub record JournalValue : Type 0 where
   pub file : ℕ
+  pub format : ℕ
+  pub generation : ℕ
   pub end : ℕ
   pub len : ℕ
   pub last : ℕ

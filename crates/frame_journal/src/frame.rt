@@ -10,10 +10,7 @@ ghost use Rattle.outside.specs.Disk.{Reads};
 ghost use Rattle.frame_journal.specs.Next.{IsGate, HasSize, IsNextAt, IsSizeOf};
 
 use crate::FrameFault;
-use outside::{Disk, Failed, Place};
-
-// No frame reaches past this length of a file.
-const MOST_BYTES: u64 = 268_435_456;
+use outside::{Disk, Failed, MAX_FRAME, MAX_JOURNAL, Place};
 
 /// What stands at the place of a gate.
 #[derive(Clone, Copy, Debug, PartialEq, Eq)]
@@ -30,7 +27,7 @@ pub enum Gate {
 /// payload.
 pub fn read_gate<D: Disk>(disk: &mut D, file: u8, place: u64, len: u64) -> Result<Gate, Failed>
     requires file { file < 2 }
-    requires place { place < 268435456 }
+    requires place { place < MAX_JOURNAL }
     ensures gate { IfOk result (λ gate. ForSome (D.tells disk.old).files
         (λ two. length (file_of two file).now ≡ len → IsGate (file_of two file).now place gate)) }
     ensures size { IfOk result (HasSize place) }
@@ -48,7 +45,7 @@ pub fn read_gate<D: Disk>(disk: &mut D, file: u8, place: u64, len: u64) -> Resul
 
 // The gate and the length in five bytes, of which so many were read.
 fn gate_in(head: &[u8; 5], n: usize, place: u64, len: u64) -> Gate
-    requires place { place < 268435456 }
+    requires place { place < MAX_JOURNAL }
     ensures gate { (bytes : List ℕ) → length bytes ≡ len → place < len → n ≡ min 5 (len - place)
         → take n head.now ≡ take n (drop place bytes) → IsGate bytes place result }
     ensures size { HasSize place result }
@@ -65,7 +62,7 @@ fn gate_in(head: &[u8; 5], n: usize, place: u64, len: u64) -> Gate
     let [_, a, b, c, d] = *head;
     let size = u32::from_be_bytes([a, b, c, d]);
     let end = place + 5 + u64::from(size);
-    if size == 0 || size > 65_536 || end > len || end + 1 > MOST_BYTES {
+    if size == 0 || size > MAX_FRAME || end > len || end + 1 > MAX_JOURNAL {
         return Gate::Broken;
     }
     Gate::Open(size)
@@ -107,7 +104,7 @@ pub fn next_at<D: Disk>(
     to: &mut Vec<u8>,
 ) -> Result<Option<u32>, FrameFault>
     requires file { file < 2 }
-    requires place { place < 268435456 }
+    requires place { place < MAX_JOURNAL }
     requires fits { ForSome (D.tells disk.old).files (λ two. length (file_of two file).now ≡ len) }
     ensures next { ForSome (D.tells disk.old).files
         (λ two. IsNextAt (file_of two file).now file place to.new.items result) }

@@ -1,20 +1,21 @@
 //! Syncs of both files, and the gates of a journal's file.
-ghost use Rattle.std.specs.Prelude.{◌≡◌, ◌<◌, ◌≤◌, [], ◌∷◌, ◌++◌, Some, false, nat_lt, not, ◌&&◌};
+ghost use Rattle.std.specs.Prelude.{◌≡◌, ◌<◌, ◌≤◌, ◌-◌, Some, false, nat_lt, not, ◌&&◌};
 ghost use Rattle.std.specs.Prelude.{◌==◌, length, OnOk};
-ghost use Rattle.std.specs.Int.{w64, to_be_bytes};
-ghost use Rattle.frame_journal.specs.Create.{IsCleared, Clears, Creates, ShutOrBegun, BeforeOrShut};
-ghost use Rattle.frame_journal.specs.Create.{HasShutGate, ShutsGate, Shortens};
-ghost use Rattle.outside.specs.Frames.{is_open};
 ghost use Rattle.std.specs.Option.{ForSome};
+ghost use Rattle.outside.specs.Faults.{HasCause};
 ghost use Rattle.outside.specs.Files.{Two, File, file_of, NothingPending};
+ghost use Rattle.outside.specs.Disk.{Becomes};
+ghost use Rattle.outside.specs.Frames.{is_open};
+ghost use Rattle.outside.specs.Outside.{DiskRun};
 ghost use Rattle.outside.specs.Steps.{Passed};
 ghost use Rattle.frame_journal.specs.Append.{Opens, Gated};
-ghost use Rattle.outside.specs.Faults.{HasCause};
-ghost use Rattle.outside.specs.Outside.{DiskRun, MomentsAre};
-ghost use Rattle.outside.specs.Disk.{Becomes};
-ghost use Rattle.frame_journal.specs.Gates.{Settles, AnyImage};
+ghost use Rattle.frame_journal.specs.Create.{IsCleared, Clears, Creates, Prepares, behind_gate};
+ghost use Rattle.frame_journal.specs.Create.{ShutOrBegun, BeforeOrShut, HasShutGate, ShutsGate};
+ghost use Rattle.frame_journal.specs.Create.{Shortens};
+ghost use Rattle.frame_journal.specs.Gates.{Settles, AnyImage, WritesBehind, OpensGate};
+ghost use Rattle.frame_journal.specs.Gates.{KeepsFront, KeepsAllBut};
 
-use crate::DiskFault;
+use crate::{DiskFault, FORMAT};
 use outside::Disk;
 
 /// Syncs both files, file 0 first: after it a crash leaves what a read gives.
@@ -29,6 +30,50 @@ pub fn barrier<D: Disk>(disk: &mut D) -> Result<(), DiskFault>
 {
     disk.sync(0)?;
     disk.sync(1)?;
+    Ok(())
+}
+
+/// Writes bytes behind a gate, which stands before `end`, and waits until they are on the disk. At
+/// each moment what lies before `end` is as it was.
+pub fn write_behind<D: Disk>(
+    disk: &mut D,
+    file: u8,
+    end: u64,
+    bytes: &[u8],
+) -> Result<(), DiskFault>
+    requires file { file < 2 }
+    requires fits { ForSome (D.tells disk.old).files (λ two. NothingPending two file
+        × (end ≤ length (file_of two file).now)) }
+    ensures written { OnOk result (Becomes (WritesBehind file end bytes.now)
+        (D.tells disk.old).files (D.tells disk.new).files) }
+    ensures any_moment { (two : Two File) → (D.tells disk.old).files ≡ Some two
+        → Passed two (D.tells disk.old) (D.tells disk.new) file
+        (KeepsFront (file_of two file).now end) }
+    ensures run { DiskRun (D.tells disk.old) (D.tells disk.new) }
+    ensures fault { HasCause (D.tells disk.old).disk_faults (D.tells disk.new).disk_faults result }
+{
+    disk.write_at(file, end, bytes)?;
+    disk.sync(file)?;
+    Ok(())
+}
+
+/// Opens the gate before `end`, which is a header's where `end` is 1, and waits until it is on the
+/// disk. At each moment all bytes but the gate are as they were.
+pub fn open_gate<D: Disk>(disk: &mut D, file: u8, end: u64) -> Result<(), DiskFault>
+    requires file { file < 2 }
+    requires behind { 1 ≤ end }
+    requires fits { ForSome (D.tells disk.old).files (λ two. NothingPending two file
+        × (end ≤ length (file_of two file).now)) }
+    ensures opened { OnOk result (Becomes (OpensGate file end) (D.tells disk.old).files
+        (D.tells disk.new).files) }
+    ensures any_moment { (two : Two File) → (D.tells disk.old).files ≡ Some two
+        → Passed two (D.tells disk.old) (D.tells disk.new) file
+        (KeepsAllBut (file_of two file).now (end - 1)) }
+    ensures run { DiskRun (D.tells disk.old) (D.tells disk.new) }
+    ensures fault { HasCause (D.tells disk.old).disk_faults (D.tells disk.new).disk_faults result }
+{
+    disk.write_at(file, end - 1, &[1])?;
+    disk.sync(file)?;
     Ok(())
 }
 
@@ -47,15 +92,13 @@ pub fn open_behind<D: Disk>(disk: &mut D, file: u8, end: u64, bytes: &[u8]) -> R
     ensures run { DiskRun (D.tells disk.old) (D.tells disk.new) }
     ensures fault { HasCause (D.tells disk.old).disk_faults (D.tells disk.new).disk_faults result }
 {
-    disk.write_at(file, end, bytes)?;
-    disk.sync(file)?;
-    disk.write_at(file, end - 1, &[1])?;
-    disk.sync(file)?;
-    Ok(())
+    write_behind(disk, file, end, bytes)?;
+    open_gate(disk, file, end)
 }
 
-/// Begins a journal of this generation in a file that was cleared. At each moment the file has no
-/// open header or is that journal; after `Ok` every crash leaves the journal.
+/// Begins a journal of this generation in a file that was cleared: all that stands behind its gate,
+/// and then the gate. At each moment the file has no open header or is that journal; after `Ok`
+/// every crash leaves the journal.
 pub fn create<D: Disk>(disk: &mut D, file: u8, generation: u64) -> Result<(), DiskFault>
     requires file { file < 2 }
     requires cleared { ForSome (D.tells disk.old).files (λ two. IsCleared two file) }
@@ -66,16 +109,33 @@ pub fn create<D: Disk>(disk: &mut D, file: u8, generation: u64) -> Result<(), Di
     ensures run { DiskRun (D.tells disk.old) (D.tells disk.new) }
     ensures fault { HasCause (D.tells disk.old).disk_faults (D.tells disk.new).disk_faults result }
 {
+    prepare(disk, file, generation)?;
+    open_gate(disk, file, 1)
+}
+
+/// Puts all of a journal of this generation but the gate of its header into a file that was
+/// cleared, so that frames may be added before `open_gate` at 1 makes it a journal. At each moment
+/// the file has no open header.
+pub fn prepare<D: Disk>(disk: &mut D, file: u8, generation: u64) -> Result<(), DiskFault>
+    requires file { file < 2 }
+    requires cleared { ForSome (D.tells disk.old).files (λ two. IsCleared two file) }
+    ensures prepared { OnOk result (Becomes (Prepares file generation) (D.tells disk.old).files
+        (D.tells disk.new).files) }
+    ensures any_moment { (two : Two File) → (D.tells disk.old).files ≡ Some two
+        → Passed two (D.tells disk.old) (D.tells disk.new) file (λ left. is_open left ≡ false) }
+    ensures run { DiskRun (D.tells disk.old) (D.tells disk.new) }
+    ensures fault { HasCause (D.tells disk.old).disk_faults (D.tells disk.new).disk_faults result }
+{
     let bytes = behind_gate(generation);
-    open_behind(disk, file, 1, &bytes)
+    write_behind(disk, file, 1, &bytes)
 }
 
 // A header but for its gate, and a closed gate.
 fn behind_gate(generation: u64) -> [u8; 14]
-    ensures { result ≡ 66 ∷ 83 ∷ 80 ∷ 74 ∷ 1 ∷ (to_be_bytes w64 generation ++ 0 ∷ []) }
+    ensures { result ≡ behind_gate generation }
 {
     let [a, b, c, d, e, f, g, h] = generation.to_be_bytes();
-    [b'B', b'S', b'P', b'J', 1, a, b, c, d, e, f, g, h, 0]
+    [b'B', b'S', b'P', b'J', FORMAT, a, b, c, d, e, f, g, h, 0]
 }
 
 /// Empties a file for a journal: at each moment it is as it was, or has no open header. After `Ok`

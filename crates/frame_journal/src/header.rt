@@ -1,18 +1,21 @@
 //! The header of a journal's file.
-ghost use Rattle.std.specs.Prelude.{◌≡◌, ◌<◌, ◌≤◌, ℕ, List, take, IfOk, IfSome};
+ghost use Rattle.std.specs.Prelude.{◌≡◌, ◌<◌, ◌≤◌, ℕ, List, Some, take, IfOk, IfSome};
 ghost use Rattle.std.specs.Option.{ForSome, option_map};
 ghost use Rattle.outside.specs.Faults.{HasCause};
 ghost use Rattle.outside.specs.Files.{Two, file_of};
-ghost use Rattle.outside.specs.Frames.{is_open, format_in, journal_file};
+ghost use Rattle.outside.specs.Frames.{is_open, journal_file};
 ghost use Rattle.outside.specs.Outside.{Looks};
 
 use crate::DiskFault;
 use outside::Disk;
 
+/// The format of the frames that this program reads and writes.
+pub const FORMAT: u8 = 1;
+
 /// What an open header says.
 #[derive(Clone, Copy, Debug, PartialEq, Eq)]
 pub struct Header {
-    /// The format of the frames; this program's is 1.
+    /// The format of the frames.
     pub format: u8,
     /// Of two open headers the one with the greater generation counts.
     pub generation: u64,
@@ -63,19 +66,19 @@ pub fn read_header<D: Disk>(disk: &mut D, file: u8) -> Result<Option<Header>, Di
     Ok(Header::of(bytes, n))
 }
 
-// The journal's file by both headers, and its format.
-pub fn journal_of(first: Option<Header>, second: Option<Header>) -> Option<(u8, u8)>
+// The journal's file by both headers, and its header.
+pub fn journal_of(first: Option<Header>, second: Option<Header>) -> Option<(u8, Header)>
     ensures file { (two : Two (List ℕ)) → IsHeaderOf two.first first → IsHeaderOf two.second second
         → journal_file two ≡ option_map (λ found. found.0) result }
-    ensures format { (two : Two (List ℕ)) → IsHeaderOf two.first first
+    ensures header { (two : Two (List ℕ)) → IsHeaderOf two.first first
         → IsHeaderOf two.second second
-        → IfSome result (λ found. found.1 ≡ format_in (file_of two found.0)) }
+        → IfSome result (λ found. IsHeaderOf (file_of two found.0) (Some found.1)) }
     ensures two_files { IfSome result (λ found. found.0 < 2) }
 {
     match (first, second) {
-        (Some(a), Some(b)) if a.generation < b.generation => Some((1, b.format)),
-        (Some(a), _) => Some((0, a.format)),
-        (None, Some(b)) => Some((1, b.format)),
+        (Some(a), Some(b)) if a.generation < b.generation => Some((1, b)),
+        (Some(a), _) => Some((0, a)),
+        (None, Some(b)) => Some((1, b)),
         (None, None) => None,
     }
 }

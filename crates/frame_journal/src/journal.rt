@@ -16,14 +16,16 @@ ghost use Rattle.frame_journal.specs.Append.{IsFramed, Appends, BeforeOrWith};
 use crate::frame::next_at;
 use crate::gates::open_behind;
 use crate::header::journal_of;
-use crate::{DiskFault, FrameFault, StartFault, read_header};
-use outside::{Disk, Place};
+use crate::{DiskFault, FORMAT, FrameFault, StartFault, read_header};
+use outside::{Disk, MAX_JOURNAL, Place};
 use std::marker::Model;
 
 /// A journal's file, read up to a gate.
 #[derive(Drop)]
 pub struct Journal {
     file: u8,
+    format: u8,
+    generation: u64,
     end: u64,
     len: u64,
     last: u64,
@@ -31,19 +33,27 @@ pub struct Journal {
 
 impl Model for Journal {
     ghost use Rattle.std.specs.Prelude.{◌<◌, ◌≤◌};
+    ghost use Rattle.outside.specs.declared.limits.TheConstants.{MAX_JOURNAL};
     ghost use Rattle.frame_journal.specs.Journal.{JournalValue};
 
     ghost Value = { JournalValue };
 
-    ghost view = { λ j. record { file = j.file; end = j.end; len = j.len; last = j.last } };
+    ghost view = { λ j. record {
+      file = j.file;
+      format = j.format;
+      generation = j.generation;
+      end = j.end;
+      len = j.len;
+      last = j.last;
+    } };
 
-    ghost invariant = { λ j. (j.file < 2) × (15 ≤ j.end) × (j.end ≤ 268435456) };
+    ghost invariant = { λ j. (j.file < 2) × (15 ≤ j.end) × (j.end ≤ MAX_JOURNAL) };
 }
 
 impl Journal {
     /// Finds the journal's file: the one with an open header, of two the one with the greater
     /// generation, of two equal ones file 0. `NoStore` comes exactly where no header is open,
-    /// `Damaged` exactly where that file's format is not 1.
+    /// `Damaged` exactly where that file's format is not `FORMAT`.
     pub fn start<D: Disk>(disk: &mut D) -> Result<Journal, StartFault>
         ensures start { ForSome (D.tells disk.old).files (λ two. Starts (read_files two) result) }
         ensures fresh { IfOk result (λ j. (j.file < 2) × (j.end ≡ 15)) }
@@ -54,15 +64,17 @@ impl Journal {
     {
         let first = read_header(disk, 0)?;
         let second = read_header(disk, 1)?;
-        let Some((file, format)) = journal_of(first, second) else {
+        let Some((file, header)) = journal_of(first, second) else {
             return Err(StartFault::NoStore);
         };
-        if format != 1 {
+        if header.format != FORMAT {
             return Err(StartFault::Damaged(Place { file, at: 5 }));
         }
         let len = disk.len(file)?;
         Ok(Journal {
             file,
+            format: header.format,
+            generation: header.generation,
             end: 15,
             len,
             last: 0,
@@ -111,19 +123,18 @@ impl Journal {
     }
 
     /// Adds a frame at the closed gate, in four calls of the disk. `framed` is the payload's length
-    /// in four bytes, big-endian, the payload of 1 to 65,536 bytes, and a zero byte. At each moment
-    /// the frames are those before or those with the new one whole; after `Ok` every crash leaves
-    /// it.
+    /// in four bytes, big-endian, the payload of 1 to `MAX_FRAME` bytes, and a zero byte. At each
+    /// moment the frames are those before or those with the new one whole; after `Ok` every crash
+    /// leaves it.
     pub fn append<D: Disk>(&mut self, disk: &mut D, framed: &[u8]) -> Result<(), DiskFault>
         requires framed { IsFramed framed.now }
-        requires room { self.old.end + length framed.now ≤ 268435456 }
+        requires room { self.old.end + length framed.now ≤ MAX_JOURNAL }
         requires fits { ForSome (D.tells disk.old).files
             (λ two. IsAtRest two self.old.file self.old.end) }
         ensures ok { OnOk result
             (self.new ≡ record self.old {
               end = self.old.end + length framed.now;
-              len = max
-                  self.old.len (self.old.end + length framed.now);
+              len = max self.old.len (self.old.end + length framed.now);
             }) }
         ensures err { OnErr result (self.new ≡ self.old) }
         ensures appended { OnOk result (Becomes (Appends self.old.file self.old.end framed.now)
@@ -141,10 +152,25 @@ impl Journal {
         Ok(())
     }
 
-    /// The place of the closed gate plus one.
+    /// The place of the closed gate plus one, at most the length of the longest journal.
     pub fn end(&self) -> u64
-        ensures { result ≡ self.now.end }
+        ensures value { result ≡ self.now.end }
+        ensures within { result ≤ MAX_JOURNAL }
     {
         self.end
+    }
+
+    /// The format of its frames.
+    pub fn format(&self) -> u8
+        ensures { result ≡ self.now.format }
+    {
+        self.format
+    }
+
+    /// Its generation: of two journals the one with the greater generation counts.
+    pub fn generation(&self) -> u64
+        ensures { result ≡ self.now.generation }
+    {
+        self.generation
     }
 }

@@ -8,6 +8,6 @@ mod header;
 mod journal;
 
 pub use fault::{DiskFault, FrameFault, StartFault};
-pub use gates::{barrier, clear, create};
-pub use header::{Header, read_header};
+pub use gates::{barrier, clear, create, open_gate, prepare};
+pub use header::{FORMAT, Header, read_header};
 pub use journal::Journal;

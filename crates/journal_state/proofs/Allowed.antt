@@ -1,9 +1,12 @@
 -- Parts of the test whether a batch may follow a journal, as the state answers them.
 use Rattle.std.proofs.Common.{◌≡◌, ℕ, Bool, true, false, not, cond, ◌&&◌, List, [], ◌∷◌, map, refl, sym, ◌∙◌, ap, Option, Some, None, nat_eq, eqb-true, eq-eqb}
-use Rattle.std.specs.Prelude.{is_none, nat_lt, nat_le, length, ◌^◌}
+use Rattle.std.specs.Prelude.{is_none, nat_le, length}
+use Rattle.std.specs.List.{list_all}
 use Rattle.std.specs.Cmp.Lexicographic.{pointwise}
-use Rattle.std.proofs.lemmas.Bool.{and_from, lt-ltb, le-leb}
-use Rattle.sync_ids.specs.Values.{MessageValue, IsMessage}
+use Rattle.std.proofs.lemmas.Bool.{and_from, le-leb}
+use Rattle.sync_ids.specs.Values.{AreIds, IsIdList, MessageValue, IsMessage}
+use Rattle.sync_ids.specs.declared.lists.TheConstants.{MAX_IDS}
+use Rattle.sync_ids.specs.declared.message.TheConstants.{MAX_BODY, MAX_TIMESTAMP}
 use Rattle.sync_ids.specs.Ids.{message_id_of}
 use Rattle.sync_ids.specs.declared.records.Record.TheVariants as record_kind
 use Rattle.sync_rules.specs.declared.answers.Judgement.{Judgement}
@@ -14,9 +17,11 @@ use Rattle.sync_rules.specs.Lists.{same_id}
 use Rattle.sync_rules.specs.Clients.{Meaning}
 use Rattle.sync_rules.specs.Facts.{Facts, Held, Id, contact_in, contact_of, held_at, is_invisible, level_at, session_at}
 use Rattle.sync_rules.specs.Steps.{answer_of}
-use Rattle.sync_rules.specs.Sessions.{due, due_by, ids_where, is_welcome, may_share, one_if, shared_ids, taken_message, taken_message_of}
-use Rattle.entry_codec.specs.Allows.{gives, is_empty, is_message, same_entry, same_message}
-use Rattle.journal_state.specs.Allowing.{is_new}
+use Rattle.sync_rules.specs.Sessions.{due, due_by, ids_where, is_welcome, may_share, one_if, shared_ids, taken, taken_message, taken_message_of}
+use Rattle.sync_rules.specs.Allows.{gives, is_empty, is_id_list, is_message, is_record, is_whole, is_within, same_entry, same_message}
+use Rattle.journal_state.specs.declared.allowing.ListKind.{ListKind}
+use Rattle.journal_state.specs.declared.allowing.ListKind.TheVariants as list_kind
+use Rattle.journal_state.specs.Allowing.{is_new, record_of}
 use Rattle.journal_state.specs.Parts.{shared_among}
 use Rattle.journal_state.specs.Whole.{Knows, StateValue, shared_of}
 use Rattle.journal_state.proofs.Places.{id_itself}
@@ -52,9 +57,31 @@ same_message_itself m =
 
 is_message-from : (m : MessageValue) → IsMessage m → is_message m ≡ true
 is_message-from m is =
-    and_from (nat_eq (length m.group) 32) (nat_lt m.timestamp (2 ^ 63) && (nat_le 1 (length m.body) && nat_le (length m.body) 32768)) (eq-eqb (length m.group) 32 is.whole_group)
-    (and_from (nat_lt m.timestamp (2 ^ 63)) (nat_le 1 (length m.body) && nat_le (length m.body) 32768) (lt-ltb m.timestamp (2 ^ 63) is.sound_timestamp)
-    (and_from (nat_le 1 (length m.body)) (nat_le (length m.body) 32768) (le-leb 1 (length m.body) is.some_body) (le-leb (length m.body) 32768 is.short_body)))
+    and_from (nat_eq (length m.group) 32) (nat_le m.timestamp MAX_TIMESTAMP && (nat_le 1 (length m.body) && nat_le (length m.body) MAX_BODY)) (eq-eqb (length m.group) 32 is.whole_group)
+    (and_from (nat_le m.timestamp MAX_TIMESTAMP) (nat_le 1 (length m.body) && nat_le (length m.body) MAX_BODY) (le-leb m.timestamp MAX_TIMESTAMP is.sound_timestamp)
+    (and_from (nat_le 1 (length m.body)) (nat_le (length m.body) MAX_BODY) (le-leb 1 (length m.body) is.some_body) (le-leb (length m.body) MAX_BODY is.short_body)))
+
+-- ---- a list of ids
+
+are_whole : (ids : List Id) → AreIds ids → list_all is_whole ids ≡ true
+are_whole [] are = refl
+are_whole (id ∷ ids) are = and_from (is_whole id) (list_all is_whole ids) (eq-eqb (length id) 32 are.0) (are_whole ids are.1)
+
+pub id_list-from : (ids : List Id) → IsIdList MAX_IDS ids → is_id_list ids ≡ true
+id_list-from ids is =
+    and_from (is_within MAX_IDS ids) (list_all is_whole ids)
+    (and_from (nat_le 1 (length ids)) (nat_le (length ids) MAX_IDS) (le-leb 1 (length ids) is.some) (le-leb (length ids) MAX_IDS is.few))
+    (are_whole ids is.whole)
+
+pub listed_is : (kind : ListKind) (ids : List Id) → is_record (record_of kind ids) ≡ is_id_list ids
+listed_is list_kind.Acks ids = refl
+listed_is list_kind.Offers ids = refl
+listed_is list_kind.Requests ids = refl
+
+pub listed_never : (f : Facts) (session : ℕ) (entries : List Entry) (kind : ListKind) (ids : List Id) → is_id_list ids ≡ false
+    → false ≡ gives f session entries (record_of kind ids)
+listed_never f session entries kind ids never =
+    sym (ap (λ b. b && pointwise same_entry entries (taken f session (record_of kind ids))) (listed_is kind ids ∙ never))
 
 nothing_left : (rest : List Entry) → pointwise same_entry rest [] ≡ is_empty rest
 nothing_left [] = refl

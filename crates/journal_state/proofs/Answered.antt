@@ -1,5 +1,5 @@
 -- One message judged: the answers, and the messages that may be sent on.
-use Rattle.std.proofs.Common.{◌≡◌, ℕ, zero, suc, ◌<◌, Bool, true, false, cond, ◌||◌, List, [], ◌∷◌, length, map, set, Option, None, Some, slice_get, refl, sym, ◌∙◌, ap, subst, arith}
+use Rattle.std.proofs.Common.{◌≡◌, ℕ, zero, suc, ◌<◌, Bool, true, false, cond, ◌||◌, List, [], ◌∷◌, length, map, set, Option, None, Some, slice_get, refl, sym, ◌∙◌, ap, arith}
 use Rattle.std.specs.FinSet as fin_set
 use Rattle.std.specs.Cmp.Lexicographic.{nat_list_cmp_total, texts_ties}
 use Rattle.std.proofs.lemmas.Bool.{or_parts}
@@ -14,7 +14,7 @@ use Rattle.message_graph.specs.declared.nodes.Judged.{Judged}
 use Rattle.message_graph.specs.declared.nodes.Node.{Node}
 use Rattle.message_graph.specs.Nodes as nodes
 use Rattle.journal_state.specs.Parts.{answer_of_node, answers_of, shared_among}
-use Rattle.journal_state.proofs.Places.{id_swap, id_is, id_itself}
+use Rattle.journal_state.proofs.Places.{id_swap, id_itself}
 use Rattle.journal_state.proofs.Apart.{AreApart}
 
 abbrev pub ids_of : List Held → List Id

@@ -1,5 +1,5 @@
 -- A message that its client accepts is of a group that is known.
-use Rattle.std.proofs.Common.{◌≡◌, Bool, true, false, ◌&&◌, Option, None, Some, refl}
+use Rattle.std.proofs.Common.{◌≡◌, ◌&&◌, Option, None, Some, refl}
 use Rattle.std.specs.Prelude.{is_none, is_some}
 use Rattle.sync_ids.specs.Values.{MessageValue}
 use Rattle.sync_ids.specs.Ids.{message_id_of}
@@ -7,7 +7,7 @@ use Rattle.sync_rules.specs.Clients.{Meaning}
 use Rattle.sync_rules.specs.Facts.{Facts, Held, Known, group_at, held_at}
 use Rattle.sync_rules.specs.Legal.{accepts_served}
 use Rattle.sync_rules.specs.Steps.{verdict_for, verdict_in}
-use Rattle.entry_codec.specs.Allows.{may_author}
+use Rattle.sync_rules.specs.Allows.{may_author}
 
 by_parts : (clients : Meaning) (f : Facts) (m : MessageValue) (known : Option Known) (held : Option Held)
     → (is_some known && (is_none held && accepts_served f m.group (verdict_for clients known m))) ≡ (is_none held && accepts_served f m.group (verdict_for clients known m))

@@ -1,8 +1,7 @@
 -- What a state needs to take an allowed batch.
-use Rattle.std.proofs.Common.{◌≡◌, ℕ, zero, suc, ◌+◌, ◌-◌, ◌^◌, ◌<◌, ◌≤◌, min, Bool, true, false, not, cond, ◌&&◌, ◌||◌, nat_eq, nat_lt, List, [], ◌∷◌, ◌++◌, length, map, Option, None, Some, is_some, IfSome, refl, sym, ◌∙◌, ap, subst, arith, length-append, append_assoc}
-use Rattle.std.specs.FinMap as fin_map
+use Rattle.std.proofs.Common.{◌≡◌, ℕ, suc, ◌+◌, ◌-◌, ◌^◌, ◌<◌, ◌≤◌, min, Bool, true, false, not, cond, ◌&&◌, ◌||◌, nat_eq, nat_lt, List, [], ◌∷◌, ◌++◌, length, map, Option, None, Some, is_some, IfSome, refl, sym, ◌∙◌, ap, subst, arith, length-append, append_assoc}
 use Rattle.std.specs.Option.{option_map}
-use Rattle.std.proofs.lemmas.Bool.{and_parts, false≢true, not-true}
+use Rattle.std.proofs.lemmas.Bool.{and_parts, false≢true}
 use Rattle.sync_ids.specs.Ids.{group_id_of, message_id_of}
 use Rattle.sync_ids.specs.Values.{MessageValue}
 use Rattle.sync_ids.specs.declared.records.Record.{Record}
@@ -13,12 +12,12 @@ use Rattle.sync_rules.specs.declared.entries.Out.{Out}
 use Rattle.sync_rules.specs.declared.entries.Session.{Session}
 use Rattle.sync_rules.specs.Clients.{Meaning}
 use Rattle.sync_rules.specs.Lists.{firsts, is_among}
-use Rattle.sync_rules.specs.Facts.{Facts, Held, Id, Known, Wants, after, contact_in, contact_of, group_at, held_at, is_held, is_invisible, level_at, row_at, session_at, takes_of, wanted_from, with_want}
-use Rattle.sync_rules.specs.Legal.{Allowed, IsDue, MayTake}
-use Rattle.sync_rules.specs.Sessions.{is_remembered, is_shown, is_shown_held, is_welcome, one_if, room_after, taken, taken_acks, taken_from, taken_message, taken_message_of, taken_offer, taken_offers, taken_requests, wants_limit}
-use Rattle.entry_codec.specs.Allows.{is_settling_kind}
+use Rattle.sync_rules.specs.Facts.{Facts, Held, Id, Known, after, contact_in, contact_of, group_at, held_at, is_held, is_invisible, level_at, row_at, session_at, wanted_from, with_want}
+use Rattle.sync_rules.specs.Legal.{Allowed, IsDue}
+use Rattle.sync_rules.specs.Sessions.{is_remembered, is_shown, is_shown_held, is_welcome, one_if, room_after, taken, taken_acks, taken_message, taken_message_of, taken_offers, taken_requests, wants_limit}
+use Rattle.sync_rules.specs.Allows.{is_settling_kind}
 use Rattle.journal_state.specs.Room.{rows_room, wants_room}
-use Rattle.journal_state.specs.Taking.{CanHold, CanMark, CanSend, CanTake, CanTakeAll, CanTakeKind, HasContactRoom, HasRoom, HasRows, Spends, Takes}
+use Rattle.journal_state.specs.Taking.{CanMark, CanSend, CanTakeAll, CanTakeKind, HasContactRoom, HasNextNumbers, HasRoom, HasRows, Takes}
 use Rattle.journal_state.specs.Whole.{StateValue}
 use Rattle.journal_state.proofs.Apart.{AreApart}
 use Rattle.journal_state.proofs.Sending.{due_can}
@@ -253,12 +252,6 @@ module _ (f : Facts) (session : ℕ) (known : is_some (session_at f.sessions ses
 
 -- ---- batches
 
--- what callers have of the numbers
-pub record AreFew (f : Facts) : Type 0 where
-  pub held : length f.held < 2 ^ 32 - 1
-  pub sessions : length f.sessions < 2 ^ 32 - 1
-  pub records : (session : ℕ) → takes_of f.takes session < 2 ^ 64 - 1
-
 -- a batch of one entry
 alone : (s : StateValue) (e : Entry) (rest : List Entry) → rest ≡ [] → 1 ≤ s.room.entries → CanTakeKind s e → CanTakeAll s (e ∷ rest)
 alone s e rest none room kind = subst (λ (es : List Entry). CanTakeAll s (e ∷ es)) (sym none) (record { room = room; kind = kind }, (λ next k. tt))
@@ -290,7 +283,7 @@ no_held None e = refl
 no_held (Some x) e = absurd (false≢true (sym e))
 
 -- an allowed batch that is not a settling one can be taken where there is room for it
-pub can_batch : (clients : Meaning) (s : StateValue) (b : List Entry) → Allowed clients s.facts b → is_settling_kind b ≡ false → HasRoom s b → AreFew s.facts
+pub can_batch : (clients : Meaning) (s : StateValue) (b : List Entry) → Allowed clients s.facts b → is_settling_kind b ≡ false → HasRoom s b → HasNextNumbers s.facts
     → AreApart (map (λ (h : Held). h.id) s.facts.held) → CanTakeAll s b
 can_batch clients s [] a kind r few apart = tt
 can_batch clients s (entry.Contact c ∷ rest) a kind r few apart = alone s (entry.Contact c) rest a.0 (room_first s (entry.Contact c) rest r) (a.2, a.3)
@@ -301,7 +294,7 @@ can_batch clients s (entry.Level c g l ∷ rest) a kind r few apart =
     let rows = rows_enough (length s.facts.held) (rows_room s.room c) few.held r.contact.rows in
     alone s (entry.Level c g l) rest a.0 (room_first s (entry.Level c g l) rest r) (a.3, omega (arith, rows), a.2)
 can_batch clients s (entry.Session x ∷ rest) a kind r few apart =
-    alone s (entry.Session x) rest a.0 (room_first s (entry.Session x) rest r) (a.2.numbered, a.2.known_contact, few.sessions)
+    alone s (entry.Session x) rest a.0 (room_first s (entry.Session x) rest r) (a.2.numbered, a.2.known_contact, few.begun)
 can_batch clients s (entry.Take n k ∷ rest) a kind r few apart =
     let room : HasContactRoom s (length (entry.Take n k ∷ rest)) (contact_of s.facts.sessions n) = some_contact s (session_at s.facts.sessions n) (length (entry.Take n k ∷ rest)) a.1.known_session r.contact in
     let rows = rows_enough (length s.facts.held) (rows_room s.room (contact_of s.facts.sessions n)) few.held room.rows in

@@ -1,27 +1,23 @@
 -- The parts after a step that delivers a message.
-use Rattle.std.proofs.Common.{◌≡◌, ◌≢◌, ℕ, zero, suc, ◌+◌, ◌<◌, ◌≤◌, Bool, true, false, cond, ◌&&◌, ◌||◌, List, [], ◌∷◌, ◌++◌, length, map, nat_eq, nat_lt, Option, None, Some, slice_get, slice_index_or, refl, sym, ◌∙◌, ap, subst, arith, eqb-true}
+use Rattle.std.proofs.Common.{◌≡◌, ◌≢◌, ℕ, zero, suc, ◌+◌, ◌<◌, Bool, true, false, cond, ◌&&◌, ◌||◌, List, [], ◌∷◌, ◌++◌, length, map, nat_eq, nat_lt, Option, None, Some, slice_get, slice_index_or, refl, sym, ◌∙◌, ap, subst, arith, eqb-true}
 use Rattle.std.specs.List.{list_all}
 use Rattle.std.specs.FinSet as fin_set
 use Rattle.std.proofs.lemmas.Bool.{false≢true, and_parts, and_from}
 use Rattle.std.proofs.lemmas.List.{map-append, length-append}
 use Rattle.sync_rules.specs.declared.answers.Judgement.{Judgement}
 use Rattle.sync_rules.specs.declared.entries.Entry.TheVariants as entry
-use Rattle.sync_rules.specs.Clients.{Meaning}
 use Rattle.sync_rules.specs.Lists.{same_id, is_among}
-use Rattle.sync_rules.specs.Facts.{Facts, Held, Id, after, level_at, is_level_shared}
+use Rattle.sync_rules.specs.Facts.{Held, Id, after, level_at, is_level_shared}
 use Rattle.sync_rules.specs.Sessions.{is_author, may_share}
-use Rattle.sync_rules.specs.Steps.{answer_of}
 use Rattle.sync_rules.specs.Views.{place_of}
-use Rattle.message_graph.specs.declared.nodes.Judged.{Judged}
 use Rattle.message_graph.specs.declared.nodes.Judged.TheVariants as judged
 use Rattle.message_graph.specs.declared.nodes.Node.{Node}
-use Rattle.message_graph.specs.declared.nodes.Ending.{Ending}
 use Rattle.message_graph.specs.declared.nodes.Ending.TheVariants as ending
 use Rattle.message_graph.specs.Nodes as nodes
 use Rattle.retry_table.specs.Table as retry
 use Rattle.journal_state.specs.Left.{one_if_delivered, sum_of}
 use Rattle.journal_state.specs.Parts.{Parts, answer_of_node, answers_of, facts_of, is_invalid, is_judged, name_at, ids_where, rows_in, shared_among, wants_in}
-use Rattle.journal_state.specs.Whole.{IsState, Knows, id_at, is_delivered_in, may_go, value_of}
+use Rattle.journal_state.specs.Whole.{IsState, is_delivered_in, may_go}
 use Rattle.journal_state.specs.Changes.{delivered_parts}
 use Rattle.journal_state.specs.Delivery.{goes_to, Readies}
 use Rattle.journal_state.proofs.Places.{id_swap, id_is, id_itself}

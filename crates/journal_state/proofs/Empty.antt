@@ -1,19 +1,18 @@
 -- The parts of a journal that has no entries.
-use Rattle.std.proofs.Common.{◌≡◌, ℕ, ◌+◌, ◌<◌, ◌≤◌, Bool, true, false, List, [], ◌∷◌, Option, Some, None, slice_get, refl, sym, ◌∙◌, ap, subst}
+use Rattle.std.proofs.Common.{◌≡◌, ℕ, ◌+◌, List, [], ◌∷◌, Some, None, slice_get, refl, sym, ◌∙◌, ap}
 use Rattle.std.specs.FinMap as fin_map
 use Rattle.std.proofs.lemmas.Bool.{false≢true}
-use Rattle.sync_rules.specs.Facts.{Held, Id, Rows, pair_cmp, level_or, is_invisible, nothing}
-use Rattle.message_graph.specs.declared.nodes.Node.{Node}
+use Rattle.sync_rules.specs.Facts.{Rows, pair_cmp, level_or, is_invisible, nothing}
 use Rattle.retry_table.specs.Table as retry
 use Rattle.visibility_table.specs.Table as levels
-use Rattle.journal_state.specs.Parts.{Parts, put_rows, rows_from, rows_in}
+use Rattle.journal_state.specs.Parts.{Parts, put_rows, rows_from}
 use Rattle.journal_state.specs.Whole.{IsState, value_of}
 
 abbrev pub empty_parts : retry.Table → Parts
 empty_parts table = record {
   table = levels.empty_table;
   held = [];
-  begun = record { sessions = []; takes = fin_map.empty; room = 0 };
+  begun = record { begun = 0; sessions = []; takes = fin_map.empty; room = 0 };
   nodes = [];
   shares = [];
   delivered = [];

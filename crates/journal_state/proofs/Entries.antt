@@ -1,27 +1,21 @@
 -- What an entry that brings no message makes of the parts: a contact, a group, a session, a record.
-use Rattle.std.proofs.Common.{◌≡◌, ℕ, zero, suc, ◌+◌, ◌-◌, ◌<◌, ◌≤◌, ◌^◌, Bool, true, false, cond, nat_eq, nat_lt, List, [], ◌∷◌, ◌++◌, length, map, Option, None, Some, is_some, position, slice_get, refl, sym, ◌∙◌, ap, subst, arith}
+use Rattle.std.proofs.Common.{◌≡◌, ℕ, zero, suc, ◌+◌, ◌-◌, ◌<◌, ◌≤◌, Bool, true, false, cond, nat_eq, nat_lt, List, [], ◌∷◌, ◌++◌, length, map, Option, None, Some, is_some, position, slice_get, refl, sym, ◌∙◌, ap, subst, arith}
 use Rattle.std.specs.List.{list_all, position_from}
-use Rattle.std.specs.Option.{option_map}
 use Rattle.std.specs.FinMap as fin_map
 use Rattle.std.specs.FinSet as fin_set
 use Rattle.std.proofs.lemmas.Bool.{and_parts, and_from, false≢true}
 use Rattle.std.proofs.lemmas.Iterator.Adapters.{position_from-zero}
 use Rattle.sync_ids.specs.Values.{GroupValue}
-use Rattle.sync_rules.specs.declared.entries.Entry.{Entry}
 use Rattle.sync_rules.specs.declared.entries.Entry.TheVariants as entry
 use Rattle.sync_rules.specs.declared.entries.Session.{Session}
 use Rattle.sync_rules.specs.Clients.{Meaning}
 use Rattle.sync_rules.specs.Lists.{same_id}
-use Rattle.sync_rules.specs.Facts.{Facts, Held, Id, Known, after, group_at, known_of, session_at, takes_of}
-use Rattle.sync_rules.specs.Steps.{answer_of, verdict_for, verdict_in}
-use Rattle.message_graph.specs.declared.nodes.Node.{Node}
-use Rattle.retry_table.specs.Table as retry
+use Rattle.sync_rules.specs.Facts.{Facts, Held, Id, Known, after, group_at, known_of, session_at}
+use Rattle.sync_rules.specs.Steps.{answer_of, verdict_for}
 use Rattle.visibility_table.specs.Table as levels
 use Rattle.journal_state.specs.Begun.{Begun}
 use Rattle.journal_state.specs.Parts.{Parts, facts_of, wants_in}
-use Rattle.journal_state.specs.Room.{Room}
-use Rattle.journal_state.specs.Taking.{Spends, Takes}
-use Rattle.journal_state.specs.Whole.{IsState, Knows, StateValue, value_of}
+use Rattle.journal_state.specs.Whole.{IsState, Knows, value_of}
 use Rattle.journal_state.proofs.Seen.{there}
 use Rattle.journal_state.proofs.Next.{many_nodes}
 use Rattle.journal_state.proofs.Wants.{wants_found}

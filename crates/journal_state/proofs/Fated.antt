@@ -1,11 +1,10 @@
 -- What became of the held messages: what the graph says of each node is what the facts say of its message.
-use Rattle.std.proofs.Common.{◌≡◌, ℕ, zero, suc, ◌+◌, ◌*◌, ◌<◌, ◌≤◌, Bool, true, false, cond, ◌||◌, nat_lt, List, [], ◌∷◌, length, map, Option, None, Some, is_some, slice_get, slice_index_or, refl, sym, ◌∙◌, ap, subst, arith}
+use Rattle.std.proofs.Common.{◌≡◌, ℕ, zero, suc, ◌+◌, ◌<◌, ◌≤◌, Bool, true, false, cond, ◌||◌, nat_lt, List, [], ◌∷◌, length, map, Option, None, Some, is_some, slice_get, slice_index_or, refl, sym, ◌∙◌, ap, subst, arith}
 use Rattle.std.specs.List.{list_all}
 use Rattle.std.specs.Option.{option_map}
 use Rattle.std.specs.FinSet as fin_set
 use Rattle.std.proofs.lemmas.Bool.{and_parts}
 use Rattle.sync_rules.specs.declared.answers.Judgement.{Judgement}
-use Rattle.sync_rules.specs.declared.states.Fate.{Fate}
 use Rattle.sync_rules.specs.declared.states.Fate.TheVariants as fate_kind
 use Rattle.sync_rules.specs.Lists.{is_among}
 use Rattle.sync_rules.specs.Facts.{Facts, Held, Id}
@@ -19,11 +18,11 @@ use Rattle.message_graph.specs.declared.nodes.Ending.TheVariants as ending
 use Rattle.message_graph.specs.declared.nodes.Fate as graph_fate
 use Rattle.message_graph.specs.Nodes as nodes
 use Rattle.journal_state.specs.Fates.{fate_as}
-use Rattle.journal_state.specs.Left.{left_in, left_of, one_if_delivered, one_if_none, sum_of}
-use Rattle.journal_state.specs.Lent.{IsNodeOf, StandsForNodes, ending_by, judged_of}
+use Rattle.journal_state.specs.Left.{left_in, left_at, one_if_delivered, one_if_none, sum_of}
+use Rattle.journal_state.specs.Lent.{StandsForNodes, ending_by, judged_of}
 use Rattle.journal_state.specs.Parts.{Parts, answer_of_node, answers_of, facts_of, is_invalid, is_judged, name_at}
-use Rattle.entry_codec.specs.Standing.{room_among, room_for, room_of}
-use Rattle.journal_state.specs.Whole.{IsState, id_at, is_delivered_in, value_of}
+use Rattle.sync_rules.specs.Left.{left_among, left_for, left_of}
+use Rattle.journal_state.specs.Whole.{IsState, is_delivered_in, value_of}
 use Rattle.journal_state.proofs.Places.{place_found}
 use Rattle.journal_state.proofs.Listed.{id_there, below_is}
 use Rattle.journal_state.proofs.Seen.{there}
@@ -44,13 +43,13 @@ fate_tests a (Some ending.Delivered) inv del jud i d j = λ k. cond (i k) fate_k
 fate_tests None None inv del jud i d j = λ k. cond (i k) fate_kind.Invalid (cond (d k) fate_kind.Delivered (cond (j k) fate_kind.Pending fate_kind.Unknown))
 fate_tests (Some x) None inv del jud i d j = λ k. cond (i k) fate_kind.Invalid (cond (d k) fate_kind.Delivered (cond (j k) fate_kind.Pending fate_kind.Unknown))
 
-room_tests : (a : Option Judged) (e : Option Ending) (inv del jud : Bool) → inv ≡ nodes.is_invalid e → del ≡ nodes.is_delivered e → jud ≡ is_some a → (a ≡ None → e ≡ None)
-    → cond jud (cond (del || inv) 0 38) 76 ≡ 38 * (one_if_none a + one_if_none e)
-room_tests None None inv del jud i d j order = ap (λ b. cond b (cond (del || inv) 0 38) 76) j
-room_tests None (Some x) inv del jud i d j order = absurd (let none : Some x ≡ None = order refl in cc)
-room_tests (Some y) None inv del jud i d j order = λ k. cond (j k) (cond (d k || i k) 0 38) 76
-room_tests (Some y) (Some ending.Invalid) inv del jud i d j order = λ k. cond (j k) (cond (d k || i k) 0 38) 76
-room_tests (Some y) (Some ending.Delivered) inv del jud i d j order = λ k. cond (j k) (cond (d k || i k) 0 38) 76
+left_tests : (a : Option Judged) (e : Option Ending) (inv del jud : Bool) → inv ≡ nodes.is_invalid e → del ≡ nodes.is_delivered e → jud ≡ is_some a → (a ≡ None → e ≡ None)
+    → cond jud (cond (del || inv) 0 1) 2 ≡ one_if_none a + one_if_none e
+left_tests None None inv del jud i d j order = ap (λ b. cond b (cond (del || inv) 0 1) 2) j
+left_tests None (Some x) inv del jud i d j order = absurd (let none : Some x ≡ None = order refl in cc)
+left_tests (Some y) None inv del jud i d j order = λ k. cond (j k) (cond (d k || i k) 0 1) 2
+left_tests (Some y) (Some ending.Invalid) inv del jud i d j order = λ k. cond (j k) (cond (d k || i k) 0 1) 2
+left_tests (Some y) (Some ending.Delivered) inv del jud i d j order = λ k. cond (j k) (cond (d k || i k) 0 1) 2
 
 ending_tests : (e : Option Ending) (inv del : Bool) → inv ≡ nodes.is_invalid e → del ≡ nodes.is_delivered e → e ≡ ending_by inv del
 ending_tests None inv del i d = λ k. ending_by (sym i k) (sym d k)
@@ -76,17 +75,17 @@ answers_shown (x ∷ ns) (share ∷ shares) zero node answer at is =
 answers_shown (x ∷ ns) [] (suc n) node answer at is = answers_shown ns [] n node answer at is
 answers_shown (x ∷ ns) (share ∷ shares) (suc n) node answer at is = answers_shown ns shares n node answer at is
 
-rooms : (f : Facts) (ns : List Node) (hs : List Held) → names_of ns ≡ ids_of hs
-    → ((k : ℕ) (y : Node) (h : Held) → slice_get ns k ≡ Some y → slice_get hs k ≡ Some h → room_for f h.id ≡ 38 * left_of y) → room_among f hs ≡ 38 * left_in ns
-rooms f [] [] e each = refl
-rooms f [] (h ∷ hs) e each = absurd (let wrong : [] ≡ h.id ∷ ids_of hs = e in cc)
-rooms f (y ∷ ns) [] e each = absurd (let wrong : y.name ∷ names_of ns ≡ [] = e in cc)
-rooms f (y ∷ ns) (h ∷ hs) e each =
+lefts : (f : Facts) (ns : List Node) (hs : List Held) → names_of ns ≡ ids_of hs
+    → ((k : ℕ) (y : Node) (h : Held) → slice_get ns k ≡ Some y → slice_get hs k ≡ Some h → left_for f h.id ≡ left_at y) → left_among f hs ≡ left_in ns
+lefts f [] [] e each = refl
+lefts f [] (h ∷ hs) e each = absurd (let wrong : [] ≡ h.id ∷ ids_of hs = e in cc)
+lefts f (y ∷ ns) [] e each = absurd (let wrong : y.name ∷ names_of ns ≡ [] = e in cc)
+lefts f (y ∷ ns) (h ∷ hs) e each =
     let whole : y.name ∷ names_of ns ≡ h.id ∷ ids_of hs = e in
     let rest : names_of ns ≡ ids_of hs = cc in
-    let one : room_for f h.id ≡ 38 * left_of y = each 0 y h refl refl in
-    let later : room_among f hs ≡ 38 * left_in ns = rooms f ns hs rest (λ k x g a b. each (suc k) x g a b) in
-    (λ i. one i + later i) ∙ omega arith
+    let one : left_for f h.id ≡ left_at y = each 0 y h refl refl in
+    let later : left_among f hs ≡ left_in ns = lefts f ns hs rest (λ k x g a b. each (suc k) x g a b) in
+    (λ i. one i + later i)
 
 module _ (p : Parts) (s : IsState p) where
   module _ (n : ℕ) (y : Node) (h : Held) (at : slice_get p.nodes n ≡ Some y) (here : slice_get p.held n ≡ Some h) where
@@ -108,9 +107,9 @@ module _ (p : Parts) (s : IsState p) where
         fate_tests y.answer y.ending (fin_set.contains (facts_of p).invalid h.id) (is_among (facts_of p).delivered h.id) (fin_set.contains (facts_of p).judged h.id)
         invalid_at delivered_at judged_at
 
-    room_at : room_for (facts_of p) h.id ≡ 38 * left_of y
-    room_at =
-        room_tests y.answer y.ending (fin_set.contains (facts_of p).invalid h.id) (is_among (facts_of p).delivered h.id) (fin_set.contains (facts_of p).judged h.id)
+    left_here : left_for (facts_of p) h.id ≡ left_at y
+    left_here =
+        left_tests y.answer y.ending (fin_set.contains (facts_of p).invalid h.id) (is_among (facts_of p).delivered h.id) (fin_set.contains (facts_of p).judged h.id)
         invalid_at delivered_at judged_at (s.order n y at)
 
     ending_at : y.ending ≡ ending_by (fin_set.contains (facts_of p).invalid h.id) (is_among (facts_of p).delivered h.id)
@@ -124,9 +123,9 @@ module _ (p : Parts) (s : IsState p) where
       let same : nodes.fate_of y.0 ≡ f = (let both : Some (nodes.fate_of y.0) ≡ Some f = sym (ap (option_map nodes.fate_of) y.1) ∙ is in cc) in
       ap (option_map (λ (w : Held). fate_held (facts_of p) w.id)) h.1 ∙ ap Some (fate_at n y.0 h.0 y.1 h.1 ∙ ap fate_as same)
 
-  -- the room is that for the entries that are left
-  pub room_left : room_of (facts_of p) ≡ 38 * left_in p.nodes
-  room_left = rooms (facts_of p) p.nodes p.held s.named (λ k y h at here. room_at k y h at here)
+  -- the steps that are left are those of the nodes
+  pub all_left : left_of (facts_of p) ≡ left_in p.nodes
+  all_left = lefts (facts_of p) p.nodes p.held s.named (λ k y h at here. left_here k y h at here)
 
   name_here : (n : ℕ) (h : Held) (node : Node) → slice_get p.held n ≡ Some h → slice_get p.nodes n ≡ Some node → node.name ≡ h.id
   name_here n h node here at = name_there p.nodes p.held s.named n node h at here

@@ -1,5 +1,5 @@
 -- What may be shared stays so.
-use Rattle.std.proofs.Common.{◌≡◌, ℕ, zero, suc, Bool, true, List, [], ◌∷◌, set, Option, None, Some, slice_get, refl, sym, ◌∙◌, ap}
+use Rattle.std.proofs.Common.{◌≡◌, ℕ, zero, suc, Bool, true, List, [], ◌∷◌, set, None, Some, refl, sym, ◌∙◌, ap}
 use Rattle.sync_rules.specs.declared.answers.Judgement.{Judgement}
 use Rattle.sync_rules.specs.Sessions.{may_share}
 use Rattle.message_graph.specs.declared.nodes.Judged.{Judged}

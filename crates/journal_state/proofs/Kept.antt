@@ -1,15 +1,15 @@
 -- What a change of the table of what is due makes of the facts.
-use Rattle.std.proofs.Common.{◌≡◌, ℕ, zero, suc, ◌<◌, ◌≤◌, Bool, true, false, cond, ◌&&◌, nat_eq, List, [], ◌∷◌, length, Option, None, Some, slice_get, refl, sym, ◌∙◌, ap, subst, arith, eqb-true}
+use Rattle.std.proofs.Common.{◌≡◌, ℕ, zero, suc, ◌<◌, ◌≤◌, Bool, true, false, cond, ◌&&◌, nat_eq, List, [], ◌∷◌, length, Option, None, Some, slice_get, refl, sym, ◌∙◌, ap, arith, eqb-true}
 use Rattle.std.specs.FinMap as fin_map
 use Rattle.std.proofs.lemmas.Bool.{false≢true}
 use Rattle.sync_rules.specs.Lists.{same_id}
-use Rattle.sync_rules.specs.Facts.{Facts, Held, Id, Row, Rows, change_row, row_at}
-use Rattle.sync_rules.specs.Views.{place_of, IsPlace, IsFound}
+use Rattle.sync_rules.specs.Facts.{Held, Id, Row, change_row, row_at}
+use Rattle.sync_rules.specs.Views.{place_of, IsFound}
 use Rattle.retry_table.specs.Table as retry
 use Rattle.journal_state.specs.Parts.{Parts, facts_of, rows_in, wants_in}
-use Rattle.journal_state.specs.Whole.{IsState, StateValue, value_of}
+use Rattle.journal_state.specs.Whole.{IsState}
 use Rattle.journal_state.proofs.Places.{id_is, id_itself, place_found}
-use Rattle.journal_state.proofs.Pairs.{hits, row_at_put, lean_put}
+use Rattle.journal_state.proofs.Pairs.{row_at_put, lean_put}
 use Rattle.journal_state.proofs.Rows.{row_by, row_found, rows_are, lean_in}
 use Rattle.journal_state.proofs.Seen.{row_there}
 use Rattle.journal_state.proofs.Tables.{SameKept, either, kept_here, kept_there}

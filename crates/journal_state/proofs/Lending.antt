@@ -1,5 +1,5 @@
 -- The tables that are lent stand for the facts.
-use Rattle.std.proofs.Common.{◌≡◌, sym}
+use Rattle.std.proofs.Common.{sym}
 use Rattle.journal_state.specs.Parts.{Parts}
 use Rattle.journal_state.specs.Whole.{IsState, value_of}
 use Rattle.journal_state.specs.Lent.{StandsForRows}

@@ -7,7 +7,7 @@ use Rattle.message_graph.specs.declared.nodes.Ending.TheVariants as ending
 use Rattle.message_graph.specs.declared.nodes.Step.{Step}
 use Rattle.message_graph.specs.declared.nodes.Step.TheVariants as step
 use Rattle.message_graph.specs.Nodes as nodes
-use Rattle.journal_state.specs.Left.{left_in, left_of, one_if_none}
+use Rattle.journal_state.specs.Left.{left_in, left_at, one_if_none}
 use Rattle.journal_state.proofs.Found.{IsNextNode, node_found}
 use Rattle.journal_state.proofs.Sums.{sum_changed}
 
@@ -15,13 +15,13 @@ pub judged_less : (ns : List Node) (n : ℕ) (j : Judged) → nodes.next ns ≡ 
 judged_less ns n j e =
     let f : IsNextNode ns (step.Judge n) = node_found ns (step.Judge n) e in
     let none : one_if_none f.node.answer ≡ 1 = ap one_if_none f.tells.1 in
-    let sums = sum_changed left_of (λ (x : Node). record x { answer = Some j }) n ns f.node f.at in
+    let sums = sum_changed left_at (λ (x : Node). record x { answer = Some j }) n ns f.node f.at in
     omega (arith, none, sums)
 
 one_less : (ns : List Node) (n : ℕ) (end : Ending) (y : Node) → slice_get ns n ≡ Some y → y.ending ≡ None → left_in (nodes.with_ending n end ns) + 1 ≡ left_in ns
 one_less ns n end y at open_now =
     let none : one_if_none y.ending ≡ 1 = ap one_if_none open_now in
-    let sums = sum_changed left_of (λ (x : Node). record x { ending = Some end }) n ns y at in
+    let sums = sum_changed left_at (λ (x : Node). record x { ending = Some end }) n ns y at in
     omega (arith, none, sums)
 
 pub ended_less : (ns : List Node) (s : Step) → nodes.next ns ≡ Some s → nodes.Ends s → left_in (nodes.after_step s ns) + 1 ≡ left_in ns

@@ -1,5 +1,5 @@
 -- What a level makes of the parts.
-use Rattle.std.proofs.Common.{◌≡◌, ◌≢◌, ℕ, zero, suc, ◌+◌, ◌-◌, ◌<◌, ◌≤◌, Bool, true, false, not, cond, ◌&&◌, ◌||◌, nat_eq, nat_lt, List, [], ◌∷◌, ◌++◌, length, map, set, Option, None, Some, is_some, slice_get, slice_index_or, refl, sym, ◌∙◌, ap, subst, arith, eqb-true}
+use Rattle.std.proofs.Common.{◌≡◌, ℕ, zero, suc, ◌-◌, ◌<◌, ◌≤◌, Bool, true, false, cond, ◌&&◌, ◌||◌, nat_eq, nat_lt, List, [], ◌∷◌, ◌++◌, length, map, set, Option, None, Some, is_some, slice_get, slice_index_or, refl, sym, ◌∙◌, ap, subst, arith, eqb-true}
 use Rattle.std.specs.List.{list_all, list_any}
 use Rattle.std.specs.FinMap as fin_map
 use Rattle.std.specs.Ordering.{eq_by_cmp}
@@ -8,7 +8,7 @@ use Rattle.std.proofs.lemmas.Option.{slice_get_past}
 use Rattle.sync_rules.specs.declared.entries.Level.{Level}
 use Rattle.sync_rules.specs.declared.entries.Level.TheVariants as level
 use Rattle.sync_rules.specs.Lists.{same_id}
-use Rattle.sync_rules.specs.Facts.{Facts, Held, Id, Known, group_at, level_at, level_or, put_level, pair_cmp, is_invisible}
+use Rattle.sync_rules.specs.Facts.{Held, Id, group_at, level_at, level_or, put_level, pair_cmp, is_invisible}
 use Rattle.sync_rules.specs.declared.answers.Judgement.{Judgement}
 use Rattle.sync_rules.specs.declared.entries.Entry.TheVariants as entry
 use Rattle.sync_rules.specs.Facts.{after, is_level_shared}
@@ -20,7 +20,7 @@ use Rattle.message_graph.specs.declared.nodes.Judged.{Judged}
 use Rattle.message_graph.specs.declared.nodes.Judged.TheVariants as judged
 use Rattle.visibility_table.specs.Table as levels
 use Rattle.journal_state.specs.Parts.{Parts, answer_of_node, answers_of, facts_of, name_at, shared_among}
-use Rattle.journal_state.specs.Whole.{IsState, id_at, may_go}
+use Rattle.journal_state.specs.Whole.{IsState, may_go}
 use Rattle.journal_state.proofs.Apart.{AreApart, first_apart}
 use Rattle.journal_state.proofs.Answered.{ids_of}
 use Rattle.journal_state.proofs.Kept.{rows_same, wants_same, within_held}

@@ -35,5 +35,6 @@ pub mod Levelled
 pub mod Served
 pub mod Allowed
 pub mod Authored
-pub mod Roomy
+pub mod Leaving
+pub mod Fronts
 pub mod Unknown

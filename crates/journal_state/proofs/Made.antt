@@ -1,5 +1,5 @@
 -- A step is made: the parts after it, by what its function knows.
-use Rattle.std.proofs.Common.{◌≡◌, ℕ, zero, suc, ◌<◌, Bool, ◌||◌, List, [], ◌∷◌, ◌++◌, length, map, set, slice_set, Option, None, Some, slice_get, slice_index_or, refl, sym, ◌∙◌, ap, subst, arith}
+use Rattle.std.proofs.Common.{◌≡◌, ℕ, zero, suc, ◌<◌, Bool, ◌||◌, List, [], ◌∷◌, ◌++◌, length, map, slice_set, Option, Some, slice_get, slice_index_or, sym, ◌∙◌, ap, subst, arith}
 use Rattle.std.specs.Option.{option_map}
 use Rattle.sync_ids.specs.Values.{MessageValue}
 use Rattle.sync_rules.specs.declared.answers.Judgement.{Judgement}
@@ -11,7 +11,6 @@ use Rattle.sync_rules.specs.Facts.{Facts, Held, Id, after}
 use Rattle.sync_rules.specs.Sessions.{is_author}
 use Rattle.sync_rules.specs.Steps.{answer_of, next, verdict_in}
 use Rattle.message_graph.specs.declared.nodes.Judged.{Judged}
-use Rattle.message_graph.specs.declared.nodes.Judged.TheVariants as judged
 use Rattle.message_graph.specs.declared.nodes.Node.{Node}
 use Rattle.message_graph.specs.declared.nodes.Ending.TheVariants as ending
 use Rattle.message_graph.specs.declared.nodes.Step.TheVariants as step
@@ -19,10 +18,9 @@ use Rattle.message_graph.specs.Nodes as nodes
 use Rattle.retry_table.specs.Table as retry
 use Rattle.journal_state.specs.Parts.{Parts, answer_of_node, answers_of, facts_of}
 use Rattle.journal_state.specs.Whole.{StateValue, IsState, Knows, id_at, value_of}
-use Rattle.journal_state.specs.Changes.{judged_parts, delivered_parts}
+use Rattle.journal_state.specs.Changes.{delivered_parts}
 use Rattle.journal_state.specs.Delivery.{goes_to, Grows, Readies}
 use Rattle.journal_state.proofs.Listed.{id_there}
-use Rattle.journal_state.proofs.Next.{many_nodes}
 use Rattle.journal_state.proofs.Found.{IsNext, next_found, judge_next, invalid_next, deliver_next}
 use Rattle.journal_state.proofs.Stepped.{answers_kept, invalid_state, invalid_facts, judged_state, judged_facts, judged_knows, within_list}
 use Rattle.journal_state.proofs.Grown.{grown_state, grown_facts}

@@ -1,9 +1,9 @@
 -- Marks of a list of held messages, one after the other.
-use Rattle.std.proofs.Common.{◌≡◌, ℕ, zero, suc, ◌+◌, ◌<◌, ◌≤◌, Bool, true, false, List, [], ◌∷◌, ◌++◌, length, take, get_or, Option, None, Some, slice_get, refl, sym, ◌∙◌, ap, subst, arith}
+use Rattle.std.proofs.Common.{◌≡◌, ℕ, zero, suc, ◌<◌, Bool, true, List, [], ◌∷◌, ◌++◌, length, get_or, refl, sym, ◌∙◌, ap, arith}
 use Rattle.std.specs.List.{list_all}
 use Rattle.std.proofs.lemmas.Bool.{and_parts}
-use Rattle.sync_rules.specs.Facts.{Facts, Held, Id, Row, Rows, change_row, change_rows, is_held}
-use Rattle.journal_state.specs.Room.{KeepsRoom, rows_room}
+use Rattle.sync_rules.specs.Facts.{Facts, Id, Row, Rows, change_row, change_rows}
+use Rattle.journal_state.specs.Room.{KeepsRoom}
 use Rattle.journal_state.specs.Whole.{StateValue}
 
 pub rows_more : (rows : Rows) (contact : ℕ) (xs : List Id) (x : Id) (f : Row → Row) → change_rows rows contact (xs ++ x ∷ []) f ≡ change_row (change_rows rows contact xs f) contact x f

@@ -1,36 +1,35 @@
 -- What a message that is held makes of the parts.
-use Rattle.std.proofs.Common.{◌≡◌, ℕ, zero, suc, ◌+◌, ◌-◌, ◌<◌, ◌≤◌, Bool, true, false, cond, ◌&&◌, ◌||◌, nat_lt, List, [], ◌∷◌, ◌++◌, length, map, Option, None, Some, is_some, position, slice_get, slice_index_or, refl, sym, ◌∙◌, ap, subst, arith, length-append}
+use Rattle.std.proofs.Common.{◌≡◌, ℕ, zero, suc, ◌+◌, ◌<◌, ◌≤◌, Bool, true, false, cond, ◌&&◌, ◌||◌, nat_lt, List, [], ◌∷◌, ◌++◌, length, map, Option, None, Some, position, slice_get, slice_index_or, refl, sym, ◌∙◌, ap, subst, arith, length-append}
 use Rattle.std.specs.List.{list_all, position_from}
 use Rattle.std.specs.Option.{option_map}
 use Rattle.std.specs.FinMap as fin_map
 use Rattle.std.specs.FinSet as fin_set
 use Rattle.std.specs.Cmp.{nat_cmp_total}
 use Rattle.std.specs.Ordering.{nat_cmp, eq_by_cmp}
-use Rattle.std.proofs.lemmas.Bool.{and_parts, and_from, false≢true}
-use Rattle.std.proofs.lemmas.List.{length-map, map-append}
+use Rattle.std.proofs.lemmas.Bool.{and_parts, and_from}
+use Rattle.std.proofs.lemmas.List.{map-append}
 use Rattle.std.proofs.lemmas.Iterator.Adapters.{position_from-zero}
 use Rattle.sync_rules.specs.declared.answers.Judgement.{Judgement}
 use Rattle.sync_rules.specs.Clients.{Meaning}
 use Rattle.sync_rules.specs.Lists.{same_id, is_among, without}
-use Rattle.sync_rules.specs.Facts.{Facts, Held, Id, Ids, held_at, level_at, is_level_shared, wanted_by_none, no_row, change_each, Wants}
+use Rattle.sync_rules.specs.Facts.{Facts, Held, Id, held_at, level_at, is_level_shared, wanted_by_none, change_each, Wants}
 use Rattle.sync_rules.specs.Sessions.{is_author, may_share}
 use Rattle.sync_rules.specs.Steps.{answer_of, verdict_in}
-use Rattle.sync_rules.specs.Views.{place_of, IsFound}
+use Rattle.sync_rules.specs.Views.{place_of}
 use Rattle.message_graph.specs.declared.nodes.Node.{Node}
 use Rattle.message_graph.specs.Nodes as nodes
 use Rattle.retry_table.specs.Table as retry
 use Rattle.visibility_table.specs.Table as levels
 use Rattle.journal_state.specs.Left.{delivered_among, one_if_delivered}
-use Rattle.journal_state.specs.Parts.{Parts, answer_of_node, answers_of, facts_of, is_invalid, is_judged, name_at, names_where, ids_where, rows_in, shared_among, wants_in}
+use Rattle.journal_state.specs.Parts.{Parts, answer_of_node, answers_of, facts_of, is_invalid, is_judged, name_at, names_where, rows_in, shared_among, wants_in}
 use Rattle.journal_state.specs.Unwanted.{UnwantsBelow}
 use Rattle.journal_state.specs.Whole.{IsState, Knows, is_delivered_in, may_go, value_of}
-use Rattle.journal_state.proofs.Places.{id_is, id_itself, id_swap, place_found}
+use Rattle.journal_state.proofs.Places.{id_itself, id_swap}
 use Rattle.journal_state.proofs.Apart.{AreApart, first_apart, passes, set_named}
 use Rattle.journal_state.proofs.Rows.{row_by, row_found, rows_are, lean_in}
 use Rattle.journal_state.proofs.Sums.{sum_more}
 use Rattle.journal_state.proofs.Next.{many_nodes}
 use Rattle.journal_state.proofs.Seen.{there}
-use Rattle.journal_state.proofs.Tables.{either}
 use Rattle.journal_state.proofs.Kept.{within_held}
 
 -- ---- one more at the end

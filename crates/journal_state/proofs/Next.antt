@@ -1,5 +1,5 @@
 -- The next step of a journal is that of the nodes of its held messages.
-use Rattle.std.proofs.Common.{◌≡◌, ℕ, zero, suc, ◌+◌, ◌<◌, length, Bool, true, false, not, cond, ◌&&◌, ◌||◌, nat_eq, List, [], ◌∷◌, map, Option, None, Some, is_none, IsTrue, ◌↔◌, slice_get, refl, sym, ◌∙◌, ap, subst, arith}
+use Rattle.std.proofs.Common.{◌≡◌, ℕ, suc, ◌+◌, ◌<◌, length, Bool, true, false, not, cond, ◌&&◌, ◌||◌, List, [], ◌∷◌, map, Option, None, Some, is_none, IsTrue, ◌↔◌, slice_get, refl, sym, ◌∙◌, ap, subst, arith}
 use Rattle.std.specs.List.{list_any, list_all}
 use Rattle.std.proofs.lemmas.List.{length-map}
 use Rattle.std.proofs.lemmas.Bool.{false≢true}
@@ -11,8 +11,8 @@ use Rattle.sync_rules.specs.declared.entries.Entry.{Entry}
 use Rattle.sync_rules.specs.declared.entries.Entry.TheVariants as entry
 use Rattle.sync_rules.specs.Clients.{Meaning}
 use Rattle.sync_rules.specs.Lists.{same_id, is_among}
-use Rattle.sync_rules.specs.Facts.{Facts, Held, Id, Known, held_at}
-use Rattle.sync_rules.specs.Steps.{is_elsewhere, is_beside, is_failing, is_served, answer_of, step_accepted, step_open, step_by, step, first_or_next, first_step, next, IsSettled}
+use Rattle.sync_rules.specs.Facts.{Held, Id, held_at}
+use Rattle.sync_rules.specs.Steps.{is_elsewhere, is_beside, is_failing, is_served, step_accepted, step_open, step_by, step, first_or_next, first_step, next, IsSettled}
 use Rattle.message_graph.specs.declared.nodes.Node.{Node}
 use Rattle.message_graph.specs.declared.nodes.Judged.{Judged}
 use Rattle.message_graph.specs.declared.nodes.Judged.TheVariants as judged

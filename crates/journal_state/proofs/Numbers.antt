@@ -1,7 +1,8 @@
 -- Sessions by their numbers, and the counts of the records taken on them.
-use Rattle.std.proofs.Common.{◌≡◌, ℕ, zero, suc, ◌+◌, Bool, true, false, cond, nat_eq, List, [], ◌∷◌, ◌++◌, length, Option, Some, None, slice_get, refl, sym, ◌∙◌, ap, subst, arith}
+use Rattle.std.proofs.Common.{◌≡◌, ℕ, zero, suc, ◌+◌, ◌-◌, ◌<◌, ◌≤◌, false, cond, nat_eq, List, [], ◌∷◌, ◌++◌, length, Option, Some, None, slice_get, refl, sym, ◌∙◌, ap, arith}
+use Rattle.std.proofs.lemmas.Bool.Decides.{nat_tests}
 use Rattle.std.specs.FinMap as fin_map
-use Rattle.std.specs.Cmp.{IsTotalOrder, nat_cmp_total, unsigned_ties, eq_by_cmp_equiv}
+use Rattle.std.specs.Cmp.{nat_cmp_total, unsigned_ties, eq_by_cmp_equiv}
 use Rattle.std.specs.Ordering.{nat_cmp, eq_by_cmp}
 use Rattle.std.specs.Map.{lookup}
 use Rattle.sync_rules.specs.declared.entries.Session.{Session}
@@ -23,17 +24,23 @@ numbered_from i (suc n) (s ∷ ss) h =
     let further : i + suc n ≡ (i + 1) + n = omega arith in
     other_number s i n (session_at ss (i + suc n)) h.0 ∙ (ap (session_at ss) further ∙ numbered_from (i + 1) n ss h.1)
 
--- the session of a number stands at that place
-pub numbered_at : (n : ℕ) (ss : List Session) → IsNumbered 0 ss → slice_get ss n ≡ session_at ss n
-numbered_at n ss h = let e : 0 + n ≡ n = omega arith in sym (ap (session_at ss) (sym e) ∙ numbered_from 0 n ss h)
+-- the session of a number stands at its place behind the first number
+pub numbered_at : (first number : ℕ) (ss : List Session) → first ≤ number → IsNumbered first ss → slice_get ss (number - first) ≡ session_at ss number
+numbered_at first number ss le h = let e : first + (number - first) ≡ number = omega arith in sym (ap (session_at ss) (sym e) ∙ numbered_from first (number - first) ss h)
 
-numbered_more : (i : ℕ) (ss : List Session) (s : Session) → IsNumbered i ss → s.number ≡ i + length ss → IsNumbered i (ss ++ s ∷ [])
-numbered_more i [] s h e = (omega arith, tt)
-numbered_more i (x ∷ ss) s h e = (h.0, numbered_more (i + 1) ss s h.1 (omega arith))
+-- and there is none before it
+pub numbered_before : (first number : ℕ) (ss : List Session) → number < first → IsNumbered first ss → None ≡ session_at ss number
+numbered_before first number [] less h = refl
+numbered_before first number (s ∷ ss) less h =
+    numbered_before (first + 1) number ss (omega arith) h.1 ∙ sym (ap (λ b. cond b (Some s) (session_at ss number)) (apart (s.number) number (omega (arith, h.0))))
+  where
+    apart : (a b : ℕ) → b < a → nat_eq a b ≡ false
+    apart a b l = grind (arith, nat_tests)
 
 -- one session more
-pub numbered_push : (ss : List Session) (s : Session) → IsNumbered 0 ss → s.number ≡ length ss → IsNumbered 0 (ss ++ s ∷ [])
-numbered_push ss s h e = numbered_more 0 ss s h (omega arith)
+pub numbered_more : (i : ℕ) (ss : List Session) (s : Session) → IsNumbered i ss → s.number ≡ i + length ss → IsNumbered i (ss ++ s ∷ [])
+numbered_more i [] s h e = (omega arith, tt)
+numbered_more i (x ∷ ss) s h e = (h.0, numbered_more (i + 1) ss s h.1 (omega arith))
 
 -- ---- counts
 

@@ -1,22 +1,18 @@
 -- Nodes and the held messages that they are of, side by side.
-use Rattle.std.proofs.Common.{◌≡◌, ℕ, zero, suc, ◌+◌, ◌-◌, ◌≤◌, Bool, true, false, not, cond, ◌||◌, ◌&&◌, ◌==◌, nat_eq, List, [], ◌∷◌, map, Option, None, Some, is_some, position, slice_get, refl, sym, ◌∙◌, ap, subst, arith, MatchOption, eqb-true}
-use Rattle.std.specs.List.{list_any, position_from}
+use Rattle.std.proofs.Common.{◌≡◌, ℕ, suc, ◌+◌, ◌-◌, ◌≤◌, Bool, true, false, cond, nat_eq, List, [], ◌∷◌, map, Option, None, Some, position, slice_get, refl, sym, ◌∙◌, ap, arith, eqb-true}
+use Rattle.std.specs.List.{position_from}
 use Rattle.std.specs.Option.{option_map}
-use Rattle.std.specs.FinSet as fin_set
-use Rattle.std.specs.Cmp.Lexicographic.{slice_cmp, nat_list_cmp_total, texts_ties}
-use Rattle.std.specs.Ordering.{nat_cmp, eq_by_cmp}
 use Rattle.std.proofs.lemmas.Bool.{false≢true}
 use Rattle.std.proofs.lemmas.Iterator.Adapters.{position_from-zero}
-use Rattle.sync_rules.specs.declared.answers.Judgement.{Judgement}
 use Rattle.sync_rules.specs.Clients.{Meaning}
-use Rattle.sync_rules.specs.Lists.{same_id, is_among}
-use Rattle.sync_rules.specs.Facts.{Facts, Held, Id, Ids, Known, held_at}
+use Rattle.sync_rules.specs.Lists.{same_id}
+use Rattle.sync_rules.specs.Facts.{Facts, Held, Id, Known, held_at}
 use Rattle.sync_rules.specs.Steps.{answer_of}
 use Rattle.sync_rules.specs.Views.{place_of}
 use Rattle.message_graph.specs.declared.nodes.Node.{Node}
 use Rattle.message_graph.specs.Nodes as nodes
 use Rattle.visibility_table.specs.Table as levels
-use Rattle.journal_state.specs.Parts.{answer_of_node, answers_of, names_where, ids_where}
+use Rattle.journal_state.specs.Parts.{answer_of_node, answers_of}
 use Rattle.journal_state.proofs.Places.{id_swap, id_is, id_itself}
 
 -- ---- groups by number

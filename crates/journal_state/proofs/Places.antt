@@ -1,5 +1,5 @@
 -- Held messages kept as a list of ids with their messages.
-use Rattle.std.proofs.Common.{◌≡◌, ℕ, suc, ◌+◌, ◌<◌, Bool, true, false, cond, nat_eq, List, [], ◌∷◌, length, map, Option, Some, None, position, slice_get, refl, sym, ◌∙◌, ap, subst, arith, MatchOption}
+use Rattle.std.proofs.Common.{◌≡◌, ℕ, suc, ◌+◌, Bool, true, false, cond, List, [], ◌∷◌, map, Option, Some, None, position, refl, ◌∙◌, ap, arith}
 use Rattle.std.specs.List.{position_from}
 use Rattle.std.specs.Map.{lookup, keys_of}
 use Rattle.std.specs.Option.{option_map}
@@ -8,7 +8,7 @@ use Rattle.std.proofs.lemmas.Cmp.{nat_list_eq_equiv}
 use Rattle.std.proofs.lemmas.Iterator.Adapters.{position_from-zero}
 use Rattle.sync_rules.specs.Lists.{same_id}
 use Rattle.sync_rules.specs.Facts.{Id, Held, held_at}
-use Rattle.sync_rules.specs.Views.{place_of, IsPlace, IsFound}
+use Rattle.sync_rules.specs.Views.{place_of, IsFound}
 use Rattle.journal_state.specs.declared.held.Kept.{Kept}
 use Rattle.journal_state.specs.Holding.{held_of}
 

@@ -1,15 +1,12 @@
 -- The rows that the table of what is due stands for.
-use Rattle.std.proofs.Common.{◌≡◌, ◌≢◌, ℕ, zero, suc, ◌+◌, ◌<◌, ◌≤◌, Bool, true, false, cond, ◌&&◌, nat_eq, List, [], ◌∷◌, length, Option, Some, None, slice_get, slice_index_or, slice_set, refl, sym, ◌∙◌, ap, subst, arith, eqb-true}
-use Rattle.std.specs.FinMap as fin_map
+use Rattle.std.proofs.Common.{◌≡◌, ℕ, zero, suc, ◌+◌, ◌<◌, Bool, true, false, cond, ◌&&◌, nat_eq, List, [], ◌∷◌, Option, Some, None, slice_index_or, refl, sym, ◌∙◌, ap, arith, eqb-true}
 use Rattle.std.specs.Option.{option_map}
-use Rattle.std.proofs.lemmas.Bool.{false≢true}
 use Rattle.sync_rules.specs.Lists.{same_id}
-use Rattle.sync_rules.specs.Facts.{Id, Held, Row, Rows, no_row, row_at, put_row}
+use Rattle.sync_rules.specs.Facts.{Id, Held, Row, Rows, no_row, row_at}
 use Rattle.sync_rules.specs.Views.{place_of}
 use Rattle.retry_table.specs.Table as retry
 use Rattle.journal_state.specs.Parts.{put_rows, rows_from, rows_in}
-use Rattle.journal_state.proofs.Places.{id_swap}
-use Rattle.journal_state.proofs.Pairs.{hits, row_at_put, row_at_empty, IsLean, lean_empty, lean_put, same_rows}
+use Rattle.journal_state.proofs.Pairs.{row_at_put, row_at_empty, IsLean, lean_empty, lean_put, same_rows}
 
 -- the row of the message of a place
 abbrev pub row_by : List retry.Kept → Option ℕ → Row

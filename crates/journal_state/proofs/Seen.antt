@@ -1,17 +1,17 @@
 -- What the look-ups of the parts tell of the facts.
-use Rattle.std.proofs.Common.{◌≡◌, ℕ, zero, suc, ◌+◌, ◌<◌, ◌≤◌, Bool, true, false, not, cond, ◌&&◌, ◌||◌, nat_le, nat_lt, List, [], ◌∷◌, length, map, take, Option, Some, None, slice_get, refl, sym, ◌∙◌, ap, subst, arith}
-use Rattle.std.specs.List.{list_all, position_from}
+use Rattle.std.proofs.Common.{◌≡◌, ℕ, zero, suc, ◌+◌, ◌<◌, ◌≤◌, Bool, true, false, not, ◌&&◌, ◌||◌, nat_le, nat_lt, List, [], ◌∷◌, length, map, take, Some, slice_get, refl, sym, ◌∙◌, ap, arith}
+use Rattle.std.specs.List.{list_all}
 use Rattle.std.specs.Option.{option_map}
 use Rattle.std.proofs.lemmas.List.{take-map}
 use Rattle.sync_rules.specs.declared.entries.Mode.{Mode}
 use Rattle.sync_rules.specs.Lists.{is_among}
-use Rattle.sync_rules.specs.Facts.{Facts, Held, Id, Row, row_at, level_at, is_level_shared}
-use Rattle.sync_rules.specs.Sessions.{ids_limit, ids_where, is_author, is_sendable, is_ripe, owed_to, send_of, offers_of}
-use Rattle.sync_rules.specs.Views.{place_of, is_seen_in}
+use Rattle.sync_rules.specs.Facts.{Held, Id, Row, row_at, level_at, is_level_shared}
+use Rattle.sync_rules.specs.Sessions.{ids_limit, is_author, is_sendable, is_ripe, owed_to, send_of, offers_of}
+use Rattle.sync_rules.specs.Views.{is_seen_in}
 use Rattle.retry_table.specs.Table as retry
 use Rattle.retry_table.specs.Due.{numbers_where, is_open, is_sent_at, is_offered_at, owed_in, message_in, offers_in}
-use Rattle.journal_state.specs.Parts.{Parts, answers_of, facts_of, name_at, shared_among}
-use Rattle.journal_state.specs.Whole.{IsState, id_at, may_go}
+use Rattle.journal_state.specs.Parts.{Parts, answers_of, facts_of, shared_among}
+use Rattle.journal_state.specs.Whole.{IsState, id_at}
 use Rattle.journal_state.proofs.Rows.{row_by, row_found}
 use Rattle.journal_state.proofs.Listed.{id_there, listed, first_listed, all_below, found_below, all_taken}
 

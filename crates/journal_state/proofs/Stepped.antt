@@ -1,9 +1,9 @@
 -- The parts after a step that judges a message or says that it is invalid.
-use Rattle.std.proofs.Common.{◌≡◌, ◌≢◌, ℕ, zero, suc, ◌<◌, ◌≤◌, Bool, true, false, cond, ◌&&◌, ◌||◌, ◌⊎◌, inl, inr, List, [], ◌∷◌, length, map, set, nat_lt, Option, None, Some, slice_get, slice_index_or, refl, sym, ◌∙◌, ap, subst, arith}
+use Rattle.std.proofs.Common.{◌≡◌, ℕ, zero, suc, ◌<◌, Bool, true, false, cond, ◌&&◌, ◌||◌, ◌⊎◌, inl, inr, List, [], ◌∷◌, length, map, set, nat_lt, Option, None, Some, slice_get, slice_index_or, refl, sym, ◌∙◌, ap, subst, arith}
 use Rattle.std.specs.List.{list_all}
 use Rattle.std.specs.FinSet as fin_set
 use Rattle.std.proofs.lemmas.Bool.{false≢true}
-use Rattle.std.proofs.lemmas.List.{length-set, length-map}
+use Rattle.std.proofs.lemmas.List.{length-set}
 use Rattle.sync_rules.specs.declared.answers.Judgement.{Judgement}
 use Rattle.sync_rules.specs.declared.entries.Entry.TheVariants as entry
 use Rattle.sync_rules.specs.Clients.{Meaning}
@@ -16,17 +16,14 @@ use Rattle.message_graph.specs.declared.nodes.Node.{Node}
 use Rattle.message_graph.specs.declared.nodes.Ending.{Ending}
 use Rattle.message_graph.specs.declared.nodes.Ending.TheVariants as ending
 use Rattle.message_graph.specs.Nodes as nodes
-use Rattle.visibility_table.specs.Table as levels
-use Rattle.retry_table.specs.Table as retry
 use Rattle.journal_state.specs.Left.{one_if_delivered}
-use Rattle.journal_state.specs.Parts.{Parts, answer_of_node, answers_of, facts_of, is_invalid, is_judged, name_at, names_where, ids_where, shared_among}
-use Rattle.journal_state.specs.Whole.{StateValue, IsState, Knows, is_delivered_in, may_go, value_of}
+use Rattle.journal_state.specs.Parts.{Parts, answer_of_node, answers_of, facts_of, is_invalid, is_judged, name_at, ids_where, shared_among}
+use Rattle.journal_state.specs.Whole.{IsState, Knows, is_delivered_in, may_go, value_of}
 use Rattle.journal_state.specs.Changes.{judged_parts, invalid_parts}
-use Rattle.journal_state.proofs.Places.{id_is, id_itself}
+use Rattle.journal_state.proofs.Places.{id_is}
 use Rattle.journal_state.proofs.Apart.{AreApart, first_apart}
 use Rattle.journal_state.proofs.Changed.{names_of, own_found, names_kept, named_changed, names_same, set_grown}
 use Rattle.journal_state.proofs.Answered.{ids_of, answers_set, answers_judged, shared_others}
-use Rattle.journal_state.proofs.Next.{many_nodes}
 use Rattle.journal_state.proofs.Sums.{sum_kept}
 
 -- ---- one node changed

@@ -1,8 +1,8 @@
 -- Sums over nodes, once one node is changed or one more is there.
-use Rattle.std.proofs.Common.{◌≡◌, ℕ, zero, suc, ◌+◌, ◌*◌, ◌≤◌, Bool, true, false, cond, List, [], ◌∷◌, ◌++◌, length, Option, None, Some, slice_get, refl, sym, ◌∙◌, ap, arith}
+use Rattle.std.proofs.Common.{◌≡◌, ℕ, zero, suc, ◌+◌, ◌*◌, ◌≤◌, Bool, true, false, cond, List, [], ◌∷◌, ◌++◌, length, Option, None, Some, slice_get, ap, arith}
 use Rattle.message_graph.specs.declared.nodes.Node.{Node}
 use Rattle.message_graph.specs.Nodes as nodes
-use Rattle.journal_state.specs.Left.{left_in, left_of, one_if_none, sum_of}
+use Rattle.journal_state.specs.Left.{left_in, one_if_none, sum_of}
 
 pub sum_changed : (weight : Node → ℕ) (f : Node → Node) (n : ℕ) (ns : List Node) (y : Node) → slice_get ns n ≡ Some y
     → sum_of weight (nodes.change f n ns) + weight y ≡ sum_of weight ns + weight (f y)

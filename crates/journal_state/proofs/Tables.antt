@@ -1,8 +1,8 @@
 -- Changes of the table of what is due: look-ups, and room.
-use Rattle.std.proofs.Common.{◌≡◌, ◌≢◌, ℕ, zero, suc, ◌+◌, ◌-◌, ◌<◌, ◌≤◌, max, Bool, true, false, nat_eq, List, [], ◌∷◌, ◌++◌, length, map, set, replicate, slice_index_or, refl, sym, ◌∙◌, ap, subst, arith, eqb-true, length-append, Result, Ok, Err, OnOk, OnErr}
+use Rattle.std.proofs.Common.{◌≡◌, ℕ, zero, suc, ◌+◌, ◌-◌, ◌<◌, ◌≤◌, max, Bool, true, false, nat_eq, List, [], ◌∷◌, ◌++◌, length, map, set, replicate, slice_index_or, refl, sym, ◌∙◌, ap, subst, arith, eqb-true, length-append, Result, Ok, Err, OnOk, OnErr}
 use Rattle.std.proofs.lemmas.Bool.{false≢true}
 use Rattle.std.proofs.lemmas.List.{length-set, length-replicate}
-use Rattle.sync_rules.specs.Facts.{Row, row_heard, row_seen}
+use Rattle.sync_rules.specs.Facts.{row_heard, row_seen}
 use Rattle.retry_table.specs.Table as retry
 use Rattle.journal_state.specs.Room.{KeepsRoom, room_in, rows_room, wants_room}
 use Rattle.journal_state.specs.Taking.{Spends}

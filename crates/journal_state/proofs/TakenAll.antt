@@ -1,10 +1,9 @@
 -- Entries taken one after the other.
-use Rattle.std.proofs.Common.{◌≡◌, ℕ, ◌+◌, List, [], ◌∷◌, ◌++◌, length, refl, sym, ◌∙◌, ap, subst, append_assoc, arith}
+use Rattle.std.proofs.Common.{◌≡◌, List, [], ◌∷◌, ◌++◌, length, refl, sym, ◌∙◌, ap, subst, append_assoc, arith}
 use Rattle.sync_rules.specs.declared.entries.Entry.{Entry}
-use Rattle.sync_rules.specs.Clients.{Meaning}
 use Rattle.sync_rules.specs.Facts.{Facts, after, after_all}
 use Rattle.journal_state.specs.Taking.{CanTake, CanTakeAll, Takes, TakesAll}
-use Rattle.journal_state.specs.Whole.{Knows, StateValue}
+use Rattle.journal_state.specs.Whole.{StateValue}
 
 -- so many entries are taken, and these are left
 pub record IsUnderway (old new : StateValue) (done left all : List Entry) : Type 0 where

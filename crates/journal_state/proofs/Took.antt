@@ -1,8 +1,8 @@
 -- What a state knows of judgements, and the room that is left, once it took an entry.
-use Rattle.std.proofs.Common.{◌≡◌, ℕ, ◌+◌, ◌≤◌, Bool, true, false, cond, List, [], ◌∷◌, ◌++◌, map, Option, None, Some, is_some, refl, sym, ◌∙◌, ap, arith}
+use Rattle.std.proofs.Common.{◌≡◌, true, false, cond, List, [], ◌∷◌, ◌++◌, map, None, Some, is_some, refl, sym, ◌∙◌, ap, arith}
 use Rattle.sync_rules.specs.declared.entries.Entry.{Entry}
 use Rattle.sync_rules.specs.Clients.{Meaning}
-use Rattle.sync_rules.specs.Facts.{Facts, Held, Id, after, held_at, is_held}
+use Rattle.sync_rules.specs.Facts.{Facts, Held, after, held_at, is_held}
 use Rattle.sync_rules.specs.Lists.{same_id}
 use Rattle.sync_rules.specs.Steps.{answer_of}
 use Rattle.journal_state.specs.Room.{Room, KeepsRoom}

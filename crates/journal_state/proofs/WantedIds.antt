@@ -1,16 +1,16 @@
 -- Changes of what is wanted from contacts.
-use Rattle.std.proofs.Common.{◌≡◌, ◌≢◌, ℕ, zero, suc, ◌+◌, ◌-◌, ◌<◌, ◌≤◌, Bool, true, false, not, cond, ◌&&◌, ◌||◌, nat_eq, nat_lt, List, [], ◌∷◌, ◌++◌, length, map, Option, None, Some, is_some, slice_get, slice_index_or, refl, sym, ◌∙◌, ap, subst, arith, eqb-true}
+use Rattle.std.proofs.Common.{◌≡◌, ℕ, zero, suc, ◌+◌, ◌<◌, ◌≤◌, Bool, true, false, cond, nat_eq, nat_lt, List, [], ◌∷◌, ◌++◌, length, Option, None, Some, is_some, slice_index_or, refl, sym, ◌∙◌, ap, subst, arith, eqb-true}
 use Rattle.std.specs.FinMap as fin_map
 use Rattle.std.specs.Cmp.{nat_cmp_total, unsigned_ties}
-use Rattle.std.specs.Ordering.{nat_cmp, eq_by_cmp}
+use Rattle.std.specs.Ordering.{nat_cmp}
 use Rattle.std.proofs.lemmas.Bool.{false≢true}
-use Rattle.sync_rules.specs.Facts.{Facts, Held, Id, with_want, without_each}
-use Rattle.sync_rules.specs.Lists.{is_among, without}
+use Rattle.sync_rules.specs.Facts.{Held, Id, without_each}
+use Rattle.sync_rules.specs.Lists.{without}
 use Rattle.retry_table.specs.Table as retry
 use Rattle.journal_state.specs.Parts.{Parts, facts_of, rows_in, wants_in}
 use Rattle.journal_state.specs.Unwanted.{UnwantsBelow, ChangesIds}
 use Rattle.journal_state.specs.Whole.{IsState}
-use Rattle.sync_rules.specs.Facts.{held_at, is_held}
+use Rattle.sync_rules.specs.Facts.{is_held}
 use Rattle.sync_rules.specs.Views.{IsFound}
 use Rattle.journal_state.specs.Room.{room_in}
 use Rattle.journal_state.specs.Taking.{Spends}

@@ -1,5 +1,5 @@
 -- The facts of a journal as data: a code for each part, by which what a contract sees can hold them.
-use Rattle.std.specs.Prelude.{◌≡◌, ℕ, Bool, List, Option, refl}
+use Rattle.std.specs.Prelude.{ℕ, Bool, List, Option, refl}
 use Rattle.std.specs.Coded.{Coded, code_by, coded×, coded_list, coded_option, coded_bool, coded_ℕ}
 use Rattle.std.specs.FinMap as fin_map
 use Rattle.std.specs.FinSet as fin_set
@@ -47,13 +47,14 @@ wants_code = fin_map.code coded_ℕ (coded_list id_code)
 
 -- the contacts, groups, levels and sessions; the messages; what is owed and wanted
 abbrev Before : Type 0
-Before = ℕ × (List Known × (Levels × (List Session × fin_map.FinMap nat_cmp ℕ)))
+Before = ℕ × (List Known × (Levels × (ℕ × (List Session × fin_map.FinMap nat_cmp ℕ))))
 
 abbrev Messages : Type 0
 Messages = List Held × (Ids × (Ids × List Id))
 
 abbrev before_code : Coded Before
-before_code = coded× coded_ℕ (coded× (coded_list known_code) (coded× levels_code (coded× sessions_code takes_code)))
+before_code =
+    coded× coded_ℕ (coded× (coded_list known_code) (coded× levels_code (coded× coded_ℕ (coded× sessions_code takes_code))))
 
 abbrev messages_code : Coded Messages
 messages_code = coded× (coded_list held_code) (coded× ids_code (coded× ids_code (coded_list id_code)))
@@ -61,13 +62,14 @@ messages_code = coded× (coded_list held_code) (coded× ids_code (coded× ids_co
 abbrev pub facts_code : Coded Facts
 facts_code =
     code_by (Before × (Messages × (Rows × Wants))) (coded× before_code (coded× messages_code (coded× rows_code wants_code)))
-    (λ f. ((f.contacts, (f.groups, (f.levels, (f.sessions, f.takes)))), ((f.held, (f.judged, (f.invalid, f.delivered))), (f.rows, f.wanted))))
+    (λ f. ((f.contacts, (f.groups, (f.levels, (f.begun, (f.sessions, f.takes))))), ((f.held, (f.judged, (f.invalid, f.delivered))), (f.rows, f.wanted))))
     (λ p. record {
       contacts = p.0.0;
       groups = p.0.1.0;
       levels = p.0.1.1.0;
-      sessions = p.0.1.1.1.0;
-      takes = p.0.1.1.1.1;
+      begun = p.0.1.1.1.0;
+      sessions = p.0.1.1.1.1.0;
+      takes = p.0.1.1.1.1.1;
       held = p.1.0.0;
       judged = p.1.0.1.0;
       invalid = p.1.0.1.1.0;

@@ -13,11 +13,11 @@ one_if_none None = 1
 one_if_none (Some x) = 0
 
 -- a message may get one Judged entry, and one Deliver or Invalid entry
-abbrev pub left_of : Node → ℕ
-left_of n = one_if_none n.answer + one_if_none n.ending
+abbrev pub left_at : Node → ℕ
+left_at n = one_if_none n.answer + one_if_none n.ending
 
 abbrev pub left_in : List Node → ℕ
-left_in ns = sum_of left_of ns
+left_in ns = sum_of left_at ns
 
 abbrev pub one_if_delivered : Node → ℕ
 one_if_delivered n = cond (nodes.is_delivered n.ending) 1 0

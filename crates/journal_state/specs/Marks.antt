@@ -1,5 +1,4 @@
 -- What is noted of a held message for a contact.
-use Rattle.std.specs.Prelude.{ℕ}
 use Rattle.sync_rules.specs.Facts.{Row, row_heard, row_seen, row_asked, row_acked, row_offered, row_sent}
 use Rattle.journal_state.specs.declared.marks.Mark.{Mark}
 use Rattle.journal_state.specs.declared.marks.Mark.TheVariants as mark

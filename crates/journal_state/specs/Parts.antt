@@ -1,12 +1,11 @@
 -- What the parts of the state stand for.
-use Rattle.std.specs.Prelude.{◌≡◌, ℕ, zero, suc, ◌+◌, Bool, true, false, cond, List, [], ◌∷◌, length, map, Option, None, Some, is_some, slice_index_or}
+use Rattle.std.specs.Prelude.{ℕ, zero, suc, ◌+◌, Bool, false, cond, List, [], ◌∷◌, map, Option, None, Some, is_some, slice_index_or}
 use Rattle.std.specs.FinMap as fin_map
 use Rattle.std.specs.FinSet as fin_set
 use Rattle.sync_rules.specs.declared.answers.Judgement.{Judgement}
 use Rattle.sync_rules.specs.declared.answers.Judgement.TheVariants as judgement
 use Rattle.sync_rules.specs.Facts.{Facts, Held, Id, Ids, Rows, Wants, put_row}
 use Rattle.sync_rules.specs.Sessions.{may_share}
-use Rattle.sync_rules.specs.Views.{Seen}
 use Rattle.message_graph.specs.declared.nodes.Judged.{Judged}
 use Rattle.message_graph.specs.declared.nodes.Judged.TheVariants as judged
 use Rattle.message_graph.specs.declared.nodes.Node.{Node}
@@ -96,6 +95,7 @@ facts_of p = record {
   contacts = p.table.contacts;
   groups = p.table.groups;
   levels = p.table.levels;
+  begun = p.begun.begun;
   sessions = p.begun.sessions;
   takes = p.begun.takes;
   held = p.held;

@@ -1,5 +1,5 @@
 -- For how much more a state has room.
-use Rattle.std.specs.Prelude.{◌≡◌, ℕ, ◌≤◌, List, map, length, slice_index_or, refl}
+use Rattle.std.specs.Prelude.{ℕ, ◌≤◌, List, map, length, slice_index_or, refl}
 use Rattle.std.specs.Coded.{Coded, code_by, coded×, coded_list, coded_ℕ}
 use Rattle.retry_table.specs.Table as retry
 

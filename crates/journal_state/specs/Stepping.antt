@@ -1,8 +1,10 @@
 -- The entry of a step of the waiting graph.
-use Rattle.std.specs.Prelude.{ℕ, Option, None, Some}
+use Rattle.std.specs.Prelude.{◌≡◌, ℕ, List, ◌++◌, Option, None, Some}
 use Rattle.sync_rules.specs.declared.entries.Entry.{Entry}
 use Rattle.sync_rules.specs.declared.entries.Entry.TheVariants as entry
-use Rattle.sync_rules.specs.Facts.{Facts, Id, after}
+use Rattle.sync_rules.specs.Clients.{Meaning}
+use Rattle.sync_rules.specs.Facts.{Facts, Id, after, after_all}
+use Rattle.sync_rules.specs.Legal.{IsSettling}
 use Rattle.message_graph.specs.declared.nodes.Step.{Step}
 use Rattle.message_graph.specs.declared.nodes.Step.TheVariants as step
 
@@ -22,3 +24,11 @@ number_in (step.Deliver n) = n
 abbrev pub stepped : Facts → Option Entry → Facts
 stepped f None = f
 stepped f (Some e) = after f e
+
+-- the facts are those after a front of the entries, each of them the next step
+pub record PlaysFront (clients : Meaning) (old new : Facts) (entries : List Entry) : Type 0 where
+  pub front : List Entry
+  pub rest : List Entry
+  pub parts : entries ≡ front ++ rest
+  pub steps : IsSettling clients old front
+  pub facts : new ≡ after_all old front

@@ -38,6 +38,12 @@ pub record HasRoom (s : StateValue) (es : List Entry) : Type 0 where
   pub entries : length es ≤ s.room.entries
   pub contact : IfSome (contact_for s.facts.sessions es) (HasContactRoom s (length es))
 
+-- there is a number for one more message, session and record
+pub record HasNextNumbers (f : Facts) : Type 0 where
+  pub held : length f.held < 2 ^ 32 - 1
+  pub begun : f.begun < 2 ^ 32 - 1
+  pub records : (session : ℕ) → takes_of f.takes session < 2 ^ 64 - 1
+
 -- ---- one entry
 
 -- a message that may be held: its group is known, its id is new, and there is a number for it
@@ -68,7 +74,7 @@ abbrev pub CanTakeKind : StateValue → Entry → Type 0
 CanTakeKind s (entry.Contact c) = (c ≡ s.facts.contacts) × (c < 256)
 CanTakeKind s (entry.Group def) = (group_at s.facts.groups (group_id_of def) ≡ None) × (length s.facts.groups < 2 ^ 32 - 1)
 CanTakeKind s (entry.Level c g l) = (is_some (group_at s.facts.groups g) ≡ true) × (length s.facts.held ≤ rows_room s.room c) × (c < s.facts.contacts)
-CanTakeKind s (entry.Session x) = (x.number ≡ length s.facts.sessions) × (x.contact < s.facts.contacts) × (length s.facts.sessions < 2 ^ 32 - 1)
+CanTakeKind s (entry.Session x) = (x.number ≡ s.facts.begun) × (x.contact < s.facts.contacts) × (s.facts.begun < 2 ^ 32 - 1)
 CanTakeKind s (entry.Take n k) = takes_of s.facts.takes n < 2 ^ 64 - 1
 CanTakeKind s (entry.Author m) = CanHold s.facts m
 CanTakeKind s (entry.Arrive n m) =

@@ -1,20 +1,18 @@
 //! A batch that was read from a file is tested and taken.
-ghost use Rattle.std.specs.Prelude.{◌≡◌, ℕ, ◌-◌, ◌^◌, ◌<◌, true, false, length, IfOk};
-ghost use Rattle.sync_rules.specs.Facts.{after, after_all, takes_of};
+ghost use Rattle.std.specs.Prelude.{◌≡◌, true, false, IfOk, OnErr};
+ghost use Rattle.sync_rules.specs.Facts.{after, after_all};
 ghost use Rattle.sync_rules.specs.Steps.{next};
-ghost use Rattle.entry_codec.specs.Allows.{allows, is_settling, is_settling_kind, is_some_of};
-ghost use Rattle.entry_codec.specs.Allows.{same_entry, settles};
+ghost use Rattle.sync_rules.specs.Allows.{allows, is_settling, is_settling_kind, is_some_of};
+ghost use Rattle.sync_rules.specs.Allows.{same_entry, settles};
+ghost use Rattle.journal_state.specs.Stepping.{PlaysFront};
+ghost use Rattle.journal_state.specs.Taking.{HasNextNumbers};
 ghost use Rattle.journal_state.specs.Whole.{Knows};
 
 use crate::naming::id_brought;
 use crate::state::State;
-use entry_codec::laws::allows_is_allowed;
-use entry_codec::same_entry;
 use std::alloc::{AllocError, Global};
-use sync_rules::{Batch, Clients, Entry};
-
-/// The greatest number of entries of a settling batch (this project's profile).
-const MAX_STEPS: usize = 256;
+use sync_rules::laws::allows_is_allowed;
+use sync_rules::{Batch, Clients, Entry, MAX_STEPS, same_entry};
 
 /// Whether a batch begins with a step.
 fn begins_settling(entries: &[Entry]) -> bool
@@ -27,8 +25,9 @@ fn begins_settling(entries: &[Entry]) -> bool
 }
 
 impl State {
-    /// Makes the next step, and answers whether it is this entry; `false` also where no step is
-    /// open. It fails only for want of memory.
+    /// Makes the next step where it is this entry, and answers whether it is; `false` also where no
+    /// step is open. It fails only for want of memory. Where it doesn't make the step, the facts are
+    /// as before.
     fn play_one<C: Clients>(
         &mut self,
         alloc: Global,
@@ -39,18 +38,25 @@ impl State {
         ensures answer { IfOk result
             (λ yes. yes ≡ is_some_of same_entry (next (C.meaning clients.now) self.old.facts)
             entry.now) }
+        ensures step { IfOk result (λ yes. yes ≡ true
+            → next (C.meaning clients.now) self.old.facts ≡ Some entry.now) }
         ensures taken { IfOk result (λ yes. yes ≡ true
             → self.new.facts ≡ after self.old.facts entry.now) }
+        ensures refused { IfOk result (λ yes. yes ≡ false → self.new.facts ≡ self.old.facts) }
+        ensures err { OnErr result (self.new.facts ≡ self.old.facts) }
         ensures knows { Knows (C.meaning clients.now) self.new }
     {
-        match self.step(alloc, clients)? {
-            None => Ok(false),
-            Some(step) => Ok(same_entry(&step, entry)),
+        match self.next_step() {
+            Some(step) if same_entry(&step, entry) => {
+                self.step(alloc, clients)?;
+                Ok(true)
+            }
+            _ => Ok(false),
         }
     }
 
-    /// Makes steps as long as they are these entries, and answers whether they were these. It fails
-    /// only for want of memory.
+    /// Makes steps as long as they are these entries, and answers whether all were. It fails only for
+    /// want of memory.
     fn play<C: Clients>(
         &mut self,
         alloc: Global,
@@ -62,6 +68,8 @@ impl State {
             entries.now) }
         ensures taken { IfOk result (λ yes. yes ≡ true
             → self.new.facts ≡ after_all self.old.facts entries.now) }
+        ensures front { PlaysFront (C.meaning clients.now) self.old.facts self.new.facts
+            entries.now }
         ensures knows { Knows (C.meaning clients.now) self.new }
     {
         for entry in entries {
@@ -84,6 +92,8 @@ impl State {
             (λ yes. yes ≡ is_settling (C.meaning clients.now) self.old.facts entries.now) }
         ensures taken { IfOk result (λ yes. yes ≡ true
             → self.new.facts ≡ after_all self.old.facts entries.now) }
+        ensures front { PlaysFront (C.meaning clients.now) self.old.facts self.new.facts
+            entries.now }
         ensures knows { Knows (C.meaning clients.now) self.new }
     {
         if entries.len() > MAX_STEPS {
@@ -101,13 +111,13 @@ impl State {
     ) -> Result<bool, AllocError>
         requires knows { Knows (C.meaning clients.now) self.old }
         requires kind { is_settling_kind batch ≡ false }
-        requires few_held { length self.old.facts.held < 2 ^ 32 - 1 }
-        requires few_sessions { length self.old.facts.sessions < 2 ^ 32 - 1 }
-        requires few_records { (session : ℕ) → takes_of self.old.facts.takes session < 2 ^ 64 - 1 }
+        requires numbers { HasNextNumbers self.old.facts }
         ensures answer { IfOk result (λ yes. yes ≡ allows (C.meaning clients.now) self.old.facts
             batch) }
         ensures taken { IfOk result (λ yes. yes ≡ true
             → self.new.facts ≡ after_all self.old.facts batch) }
+        ensures refused { IfOk result (λ yes. yes ≡ false → self.new.facts ≡ self.old.facts) }
+        ensures err { OnErr result (self.new.facts ≡ self.old.facts) }
         ensures knows { Knows (C.meaning clients.now) self.new }
     {
         let known = id_brought(batch.entries());
@@ -121,8 +131,9 @@ impl State {
     }
 
     /// Tests whether a batch that was read from a file may follow the journal, and takes it where
-    /// it may. After another answer the state stands for the journal as before, with no, some or
-    /// all of the batch's steps made. It fails only for want of memory.
+    /// it may. After another answer, and where memory was wanting, the state stands for the journal
+    /// as before with a front of the batch, each entry of it the journal's next step; none for a
+    /// batch that is no settling batch. It fails only for want of memory.
     pub fn admit<C: Clients>(
         &mut self,
         alloc: Global,
@@ -130,13 +141,15 @@ impl State {
         batch: Batch,
     ) -> Result<bool, AllocError>
         requires knows { Knows (C.meaning clients.now) self.old }
-        requires few_held { length self.old.facts.held < 2 ^ 32 - 1 }
-        requires few_sessions { length self.old.facts.sessions < 2 ^ 32 - 1 }
-        requires few_records { (session : ℕ) → takes_of self.old.facts.takes session < 2 ^ 64 - 1 }
+        requires numbers { HasNextNumbers self.old.facts }
         ensures answer { IfOk result (λ yes. yes ≡ allows (C.meaning clients.now) self.old.facts
             batch) }
         ensures taken { IfOk result (λ yes. yes ≡ true
             → self.new.facts ≡ after_all self.old.facts batch) }
+        ensures refused { IfOk result (λ yes. yes ≡ false
+            → PlaysFront (C.meaning clients.now) self.old.facts self.new.facts batch) }
+        ensures err { OnErr result (PlaysFront (C.meaning clients.now) self.old.facts
+            self.new.facts batch) }
         ensures knows { Knows (C.meaning clients.now) self.new }
     {
         if begins_settling(batch.entries()) {

@@ -1,32 +1,31 @@
 //! Whether a batch may follow a journal.
 ghost use Rattle.std.specs.Prelude.{◌≡◌, ◌∷◌, ◌&&◌, true, false, is_some, nat_eq, nat_lt, List};
-ghost use Rattle.std.specs.Prelude.{IfOk, IfSome, Some};
+ghost use Rattle.std.specs.Prelude.{IfOk, IfSome, MatchOption, Some};
 ghost use Rattle.std.specs.Cmp.Lexicographic.{pointwise};
 ghost use Rattle.sync_ids.specs.declared.records.Record.TheVariants as record_kind;
 ghost use Rattle.sync_rules.specs.Facts.{group_at, session_at};
 ghost use Rattle.sync_ids.specs.Values.{IsMessage};
 ghost use Rattle.sync_rules.specs.Clients.{Meaning};
 ghost use Rattle.sync_rules.specs.Legal.{suits_nonce};
-ghost use Rattle.sync_rules.specs.Sessions.{due};
+ghost use Rattle.sync_rules.specs.declared.limits.TheConstants.{MAX_CONTACTS};
 ghost use Rattle.sync_rules.specs.declared.entries.Entry.{Entry};
-ghost use Rattle.entry_codec.specs.Allows.{allows, gives, ids_named, is_due, is_record};
-ghost use Rattle.entry_codec.specs.Allows.{is_settling_kind, may_add_group, may_author, may_begin};
-ghost use Rattle.entry_codec.specs.Allows.{may_take, read_as, same_entry};
-ghost use Rattle.journal_state.specs.Allowing.{allows_alone, is_new};
+ghost use Rattle.sync_rules.specs.Allows.{allows, gives, ids_named, is_due, is_id_list, is_record};
+ghost use Rattle.sync_rules.specs.Allows.{is_settling_kind, may_add_group, may_author, may_begin};
+ghost use Rattle.sync_rules.specs.Allows.{may_take, read_as, same_entry};
+ghost use Rattle.journal_state.specs.Allowing.{allows_alone, due_of, is_new, record_of};
 ghost use Rattle.journal_state.specs.Known.{IsIdOf, IsOfAll, IsOfEntry};
 ghost use Rattle.journal_state.specs.Whole.{Knows};
 
 use crate::judging::judgement_of;
 use crate::naming::id_known;
 use crate::state::State;
-use entry_codec::{ids_named, same_entries, same_out};
 use session_core::{due, take};
 use std::alloc::{AllocError, Global};
-use sync_ids::{GroupDef, GroupId, IdList, Message, MessageId, Record, group_id};
-use sync_rules::{Batch, Clients, Entry, Level, Mode, Out, Session, View};
-
-/// The greatest number of groups (this project's profile).
-const MAX_GROUPS: u32 = 1024;
+use sync_ids::{GroupDef, GroupId, IdList, MAX_IDS, Message, MessageId, Record, group_id};
+use sync_rules::{
+    Batch, Clients, Entry, Level, MAX_GROUPS, Mode, Out, Session, View, ids_named, same_entries,
+    same_out,
+};
 
 /// Whether a session has a nonce only in interactive mode.
 fn suits_nonce(session: &Session) -> bool
@@ -49,12 +48,50 @@ fn same_rest(entries: &[Entry], batch: &[Entry]) -> bool
     }
 }
 
+/// The kind of a record that lists ids.
+#[derive(Clone, Copy)]
+enum ListKind {
+    Acks,
+    Offers,
+    Requests,
+}
+
+/// The record of this kind that lists these ids.
+fn record_of(kind: ListKind, ids: IdList<MAX_IDS>) -> Record
+    ensures { result ≡ record_of kind ids }
+{
+    match kind {
+        ListKind::Acks => Record::Ack(ids),
+        ListKind::Offers => Record::Offer(ids),
+        ListKind::Requests => Record::Request(ids),
+    }
+}
+
+/// The ids that these entries name, as a record may list them; `None` comes exactly where there are
+/// none, or too many. It fails only for want of memory.
+fn list_named(alloc: Global, entries: &[Entry]) -> Result<Option<IdList<MAX_IDS>>, AllocError>
+    ensures { IfOk result (λ list. MatchOption list (is_id_list (ids_named entries.now) ≡ false)
+        (λ ids. (ids ≡ ids_named entries.now) × (is_id_list ids ≡ true))) }
+{
+    match IdList::new(ids_named(alloc, entries)?) {
+        Ok(ids) => Ok(Some(ids)),
+        Err(_) => Ok(None),
+    }
+}
+
+/// Shows the prover that a message is within its limits, as every message is. It does nothing.
+fn show_limits(message: &Message)
+    ensures { IsMessage message.now }
+{
+    let _time = message.timestamp();
+}
+
 // ---- one entry
 
 impl State {
     /// Whether a contact of this number may be added.
     fn allows_contact(&self, contact: u8) -> bool
-        ensures { result ≡ (nat_eq contact self.now.facts.contacts && nat_lt contact 256) }
+        ensures { result ≡ (nat_eq contact self.now.facts.contacts && nat_lt contact MAX_CONTACTS) }
     {
         u32::from(contact) == self.contacts()
     }
@@ -66,7 +103,7 @@ impl State {
         if clients.kind_of(def.name(), def.major()).is_none() || self.knows_group(&group_id(def)) {
             return false;
         }
-        self.groups() < MAX_GROUPS
+        (self.groups() as usize) < MAX_GROUPS
     }
 
     /// Whether a level may be set for this contact and group.
@@ -108,12 +145,18 @@ impl State {
         Ok(self.accepts_served(&message.group(), &judgement))
     }
 
-    /// What is due on a session at this time.
-    fn due_on(&self, alloc: Global, session: &Session, now: u64) -> Result<Option<Out>, AllocError>
+    /// What is due on the session of this number at this time, in milliseconds, by the judgements of
+    /// the clients. `None` comes exactly where nothing is due, also where there is no session. It
+    /// fails only for want of memory.
+    pub fn due_on(&self, alloc: Global, session: u32, now: u64) -> Result<Option<Out>, AllocError>
         ensures { (clients : Meaning) → Knows clients self.now
-            → IfOk result (λ what. what ≡ due clients self.now.facts session.now now) }
+            → IfOk result (λ what. what ≡ due_of clients self.now.facts
+            (session_at self.now.facts.sessions session) now) }
     {
-        due(alloc, self, session, now)
+        match self.sessions.find(session) {
+            None => Ok(None),
+            Some(session) => due(alloc, self, &session, now),
+        }
     }
 
     /// Whether this is what is due on a session at this time.
@@ -128,10 +171,7 @@ impl State {
             → IfOk result (λ yes. yes ≡ is_due clients self.now.facts
             (session_at self.now.facts.sessions session) now what.now) }
     {
-        let Some(session) = self.sessions.find(session) else {
-            return Ok(false);
-        };
-        match self.due_on(alloc, &session, now)? {
+        match self.due_on(alloc, session, now)? {
             None => Ok(false),
             Some(output) => Ok(same_out(&output, what)),
         }
@@ -184,57 +224,24 @@ impl State {
         Ok(same_rest(entries, batch.entries()))
     }
 
-    /// Whether the acknowledgements of the ids that these entries name are taken as these entries.
-    fn gives_acks(
+    /// Whether the record of this kind that lists the ids which these entries name is taken as these
+    /// entries.
+    #[tactic(auto, using(crate::proofs::Allowed::listed_is, crate::proofs::Allowed::listed_never))]
+    fn gives_list(
         &self,
         alloc: Global,
         session: &Session,
         k: u64,
         entries: &[Entry],
+        kind: ListKind,
     ) -> Result<bool, AllocError>
         requires { session_at self.now.facts.sessions session.now.number ≡ Some session.now }
         ensures { IfOk result (λ yes. yes ≡ gives self.now.facts session.now.number entries.now
-            (record_kind.Ack (ids_named entries.now))) }
+            (record_of kind (ids_named entries.now))) }
     {
-        match IdList::new(ids_named(alloc, entries)?) {
-            Ok(ids) => self.gives_record(alloc, session, k, entries, Record::Ack(ids)),
-            Err(_) => Ok(false),
-        }
-    }
-
-    /// Whether the requests of the ids that these entries name are taken as these entries.
-    fn gives_requests(
-        &self,
-        alloc: Global,
-        session: &Session,
-        k: u64,
-        entries: &[Entry],
-    ) -> Result<bool, AllocError>
-        requires { session_at self.now.facts.sessions session.now.number ≡ Some session.now }
-        ensures { IfOk result (λ yes. yes ≡ gives self.now.facts session.now.number entries.now
-            (record_kind.Request (ids_named entries.now))) }
-    {
-        match IdList::new(ids_named(alloc, entries)?) {
-            Ok(ids) => self.gives_record(alloc, session, k, entries, Record::Request(ids)),
-            Err(_) => Ok(false),
-        }
-    }
-
-    /// Whether the offers of the ids that these entries name are taken as these entries.
-    fn gives_offers(
-        &self,
-        alloc: Global,
-        session: &Session,
-        k: u64,
-        entries: &[Entry],
-    ) -> Result<bool, AllocError>
-        requires { session_at self.now.facts.sessions session.now.number ≡ Some session.now }
-        ensures { IfOk result (λ yes. yes ≡ gives self.now.facts session.now.number entries.now
-            (record_kind.Offer (ids_named entries.now))) }
-    {
-        match IdList::new(ids_named(alloc, entries)?) {
-            Ok(ids) => self.gives_record(alloc, session, k, entries, Record::Offer(ids)),
-            Err(_) => Ok(false),
+        match list_named(alloc, entries)? {
+            None => Ok(false),
+            Some(ids) => self.gives_record(alloc, session, k, entries, record_of(kind, ids)),
         }
     }
 
@@ -245,7 +252,7 @@ impl State {
         ensures new { result ≡ is_new self.now.facts session.now.contact message.now }
         ensures within { IsMessage message.now }
     {
-        let _time = message.timestamp();
+        show_limits(message);
         if self.level(session.contact, &message.group()) == Level::Invisible {
             return false;
         }
@@ -296,17 +303,17 @@ impl State {
                 Ok(self.gives_arrival(session, *number, known, message, rest))
             }
             Entry::Again(_, _) | Entry::Offered(_, _) => {
-                self.gives_offers(alloc, session, k, entries)
+                self.gives_list(alloc, session, k, entries, ListKind::Offers)
             }
-            Entry::Seen(_, _) => self.gives_acks(alloc, session, k, entries),
-            Entry::Asked(_, _) => self.gives_requests(alloc, session, k, entries),
+            Entry::Seen(_, _) => self.gives_list(alloc, session, k, entries, ListKind::Acks),
+            Entry::Asked(_, _) => self.gives_list(alloc, session, k, entries, ListKind::Requests),
             _ => Ok(false),
         }
     }
 
     /// The session of this number. `None` comes exactly where there is none.
     #[tactic(auto, using(crate::proofs::Allowed::session_number))]
-    pub fn find_session(&self, number: u32) -> Option<Session>
+    pub fn session(&self, number: u32) -> Option<Session>
         ensures value { result ≡ session_at self.now.facts.sessions number }
         ensures numbered { IfSome result (λ s. s.number ≡ number) }
     {
@@ -325,7 +332,7 @@ impl State {
         requires { IsOfAll known.now entries.now }
         ensures { IfOk result (λ yes. yes ≡ may_take self.now.facts session k entries.now) }
     {
-        let Some(found) = self.find_session(session) else {
+        let Some(found) = self.session(session) else {
             return Ok(false);
         };
         if k != self.sessions.takes(session) {

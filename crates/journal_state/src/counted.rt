@@ -8,6 +8,7 @@ ghost use Rattle.journal_state.specs.Left.{left_in};
 
 use message_graph::{Fate, Graph, Judged, Step};
 use std::alloc::{AllocError, Global};
+use std::hash::RandomState;
 use std::marker::Model;
 
 /// The waiting graph of the held messages, with the number of entries that settling may yet add, so
@@ -33,11 +34,12 @@ impl Model for CountedGraph {
 }
 
 impl CountedGraph {
-    /// A graph with no nodes and no room. Answers an error where there is no memory.
-    pub(crate) fn new(alloc: Global) -> Result<CountedGraph, AllocError>
+    /// A graph with no nodes and no room, whose names are hashed by `hasher`. Answers an error where
+    /// there is no memory.
+    pub(crate) fn new(alloc: Global, hasher: RandomState) -> Result<CountedGraph, AllocError>
         ensures { IfOk result (λ g. g ≡ record { nodes = []; spare = 0 }) }
     {
-        let graph = Graph::new(alloc)?;
+        let graph = Graph::new(alloc, hasher)?;
         Ok(CountedGraph { graph, left: 0 })
     }
 

@@ -1,19 +1,16 @@
 //! What became of the held messages.
-ghost use Rattle.std.specs.Prelude.{◌≡◌, ◌<◌, length, Some, slice_get};
+ghost use Rattle.std.specs.Prelude.{◌≡◌, ◌<◌, ◌^◌, length, Some, slice_get};
 ghost use Rattle.std.specs.Option.{option_map};
 ghost use Rattle.sync_rules.specs.Facts.{Id};
 ghost use Rattle.sync_rules.specs.Steps.{fate_held};
 ghost use Rattle.sync_rules.specs.Views.{IsPlace};
 ghost use Rattle.journal_state.specs.Fates.{fate_as};
 ghost use Rattle.journal_state.specs.Lent.{StandsForNodes};
-ghost use Rattle.entry_codec.specs.Standing.{room_of};
+ghost use Rattle.sync_rules.specs.Left.{left_of};
 
 use crate::state::State;
 use message_graph::{Fate as NodeFate, Graph};
 use sync_rules::Fate;
-
-/// The bytes of an entry of a step, 33, and of its frame, 5 more.
-const STEP_BYTES: u64 = 38;
 
 /// A message's state as the graph says it.
 fn fate_as(fate: NodeFate) -> Fate
@@ -28,12 +25,13 @@ fn fate_as(fate: NodeFate) -> Fate
 }
 
 impl State {
-    /// The room in bytes that settling may yet need: 76 for each held message that is not judged,
-    /// 38 for each that is judged and neither delivered nor invalid.
-    pub fn room(&self) -> u64
-        ensures { result ≡ room_of self.now.facts }
+    /// The steps that settling may yet make: two for each held message that is not judged, one for
+    /// each that is judged and neither delivered nor invalid.
+    pub fn left(&self) -> u64
+        ensures count { result ≡ left_of self.now.facts }
+        ensures few { result < 2 ^ 33 }
     {
-        STEP_BYTES * self.graph.left()
+        self.graph.left()
     }
 
     /// The state of the held message of this arrival number, which is below the number of held

@@ -8,6 +8,7 @@ ghost use Rattle.sync_rules.specs.Views.{place_of, IsFound};
 
 use indexmap::IndexMap;
 use std::alloc::{AllocError, Global};
+use std::hash::RandomState;
 use std::marker::Model;
 use sync_ids::{Message, MessageId};
 use sync_rules::Origin;
@@ -23,7 +24,7 @@ pub(crate) struct Kept {
 /// more there is room.
 #[derive(Drop)]
 pub(crate) struct Messages {
-    kept: IndexMap<MessageId, Kept>,
+    kept: IndexMap<MessageId, Kept, RandomState>,
     space: usize,
 }
 
@@ -41,12 +42,12 @@ impl Model for Messages {
 }
 
 impl Messages {
-    /// No messages, and no room.
-    pub(crate) fn new(alloc: Global) -> Messages
+    /// No messages, and no room; ids are hashed by `hasher`.
+    pub(crate) fn new(alloc: Global, hasher: RandomState) -> Messages
         ensures { result ≡ record { held = []; room = 0 } }
     {
         Messages {
-            kept: IndexMap::new(alloc),
+            kept: IndexMap::with_hasher(alloc, hasher),
             space: 0,
         }
     }

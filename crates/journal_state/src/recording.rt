@@ -45,7 +45,7 @@ impl State {
     }
 
     /// The session of this number, which is there.
-    pub(crate) fn session(&self, number: u32) -> Session
+    pub(crate) fn known_session(&self, number: u32) -> Session
         requires { is_some (session_at self.now.facts.sessions number) ≡ true }
         ensures found { session_at self.now.facts.sessions number ≡ Some result }
         ensures known { result.contact < self.now.facts.contacts }

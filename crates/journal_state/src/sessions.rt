@@ -9,11 +9,12 @@ use std::alloc::{AllocError, Global};
 use std::marker::Model;
 use sync_rules::Session;
 
-/// The sessions, numbered from 0, and how many records were taken on each. Contracts see the list
-/// of the sessions, a map from the numbers of those on which a record was taken, and for how many
-/// more sessions and records there is room.
+/// The sessions, which are numbered from the first one's number on, and how many records were taken
+/// on each. Contracts see how many began, the list of them, a map from the numbers of those on
+/// which a record was taken, and for how many more sessions and records there is room.
 #[derive(Drop)]
 pub(crate) struct Sessions {
+    first: u32,
     sessions: Vec<Session>,
     counts: IndexMap<u32, u64>,
     space: usize,
@@ -32,13 +33,15 @@ impl Model for Sessions {
     ghost use Rattle.indexmap.specs.IndexMap.{spare};
 
     ghost view = { λ s. record {
+      begun = s.first + length s.sessions.items;
       sessions = s.sessions.items;
       takes = fin_map.from_entries {R = nat_cmp}
           s.counts.entries;
       room = s.space;
     } };
 
-    ghost invariant = { λ s. IsNumbered 0 s.sessions.items × (length s.sessions.items < 2 ^ 32)
+    ghost invariant = { λ s. IsNumbered s.first s.sessions.items
+        × (s.first + length s.sessions.items < 2 ^ 32)
         × (length s.sessions.items + s.space ≤ vec_capacity s.sessions)
         × (s.space ≤ spare s.counts) };
 }
@@ -46,9 +49,10 @@ impl Model for Sessions {
 impl Sessions {
     /// No sessions, and no room.
     pub(crate) fn new(alloc: Global) -> Sessions
-        ensures { result ≡ record { sessions = []; takes = fin_map.empty; room = 0 } }
+        ensures { result ≡ record { begun = 0; sessions = []; takes = fin_map.empty; room = 0 } }
     {
         Sessions {
+            first: 0,
             sessions: Vec::new(alloc),
             counts: IndexMap::new(alloc),
             space: 0,
@@ -69,10 +73,11 @@ impl Sessions {
 
     /// Begins a session, which has the next number.
     pub(crate) fn begin(&mut self, session: &Session)
-        requires numbered { session.now.number ≡ length self.old.sessions }
+        requires numbered { session.now.number ≡ self.old.begun }
         requires room { 0 < self.old.room }
-        requires few { length self.old.sessions < 2 ^ 32 - 1 }
+        requires few { self.old.begun < 2 ^ 32 - 1 }
         ensures { self.new ≡ record self.old {
+          begun = self.old.begun + 1;
           sessions = self.old.sessions ++ session.now ∷ [];
           room = self.old.room - 1;
         } }
@@ -97,18 +102,21 @@ impl Sessions {
         self.space -= 1;
     }
 
-    /// The number of sessions.
-    pub(crate) fn len(&self) -> u32
-        ensures { result ≡ length self.now.sessions }
+    /// The number of sessions that have begun.
+    pub(crate) fn begun(&self) -> u32
+        ensures { result ≡ self.now.begun }
     {
-        self.sessions.len() as u32
+        self.first + self.sessions.len() as u32
     }
 
     /// The session of this number. `None` comes exactly where there is none.
     pub(crate) fn find(&self, number: u32) -> Option<Session>
         ensures { result ≡ session_at self.now.sessions number }
     {
-        let place = number as usize;
+        if number < self.first {
+            return None;
+        }
+        let place = (number - self.first) as usize;
         if place < self.sessions.len() {
             Some(self.sessions[place])
         } else {

@@ -1,7 +1,7 @@
 //! `State`.
 ghost use Rattle.std.specs.Prelude.{◌≡◌, ◌<◌, [], length, IfOk, Some, slice_get};
 ghost use Rattle.std.specs.Option.{option_map};
-ghost use Rattle.sync_rules.specs.Facts.{nothing};
+ghost use Rattle.sync_rules.specs.Facts.{nothing, takes_of};
 ghost use Rattle.journal_state.specs.Lent.{StandsForRows};
 
 use crate::counted::CountedGraph;
@@ -9,6 +9,7 @@ use crate::held::Messages;
 use crate::sessions::Sessions;
 use retry_table::Retry;
 use std::alloc::{AllocError, Global};
+use std::hash::RandomState;
 use std::marker::Model;
 use sync_ids::{GroupDef, GroupId, Message, MessageId};
 use sync_rules::Origin;
@@ -44,17 +45,18 @@ impl Model for State {
 }
 
 impl State {
-    /// The state of a journal that has no entries. Answers an error where there is no memory.
-    pub fn new(alloc: Global) -> Result<State, AllocError>
+    /// The state of a journal that has no entries; ids are hashed by `hasher`. Answers an error where
+    /// there is no memory.
+    pub fn new(alloc: Global, hasher: RandomState) -> Result<State, AllocError>
         ensures facts { IfOk result (λ s. s.facts ≡ nothing) }
         ensures answers { IfOk result (λ s. s.answers ≡ []) }
     {
         let table = Levels::new(alloc)?;
-        let graph = CountedGraph::new(alloc)?;
-        let retry = Retry::new(alloc)?;
+        let graph = CountedGraph::new(alloc, hasher)?;
+        let retry = Retry::new(alloc, hasher)?;
         Ok(State {
             table,
-            messages: Messages::new(alloc),
+            messages: Messages::new(alloc, hasher),
             sessions: Sessions::new(alloc),
             graph,
             shares: Vec::new(alloc),
@@ -85,11 +87,18 @@ impl State {
         self.table.groups()
     }
 
-    /// The number of sessions.
+    /// The number of sessions that have begun.
     pub fn sessions(&self) -> u32
-        ensures { result ≡ length self.now.facts.sessions }
+        ensures { result ≡ self.now.facts.begun }
     {
-        self.sessions.len()
+        self.sessions.begun()
+    }
+
+    /// How many records were taken on the session of this number; 0 where there is none.
+    pub fn takes(&self, session: u32) -> u64
+        ensures { result ≡ takes_of self.now.facts.takes session }
+    {
+        self.sessions.takes(session)
     }
 
     /// The definition of the group of this number, which is below the number of groups.

@@ -1,5 +1,6 @@
 //! The next step of a journal.
-ghost use Rattle.std.specs.Prelude.{◌≡◌, ◌<◌, ◌↔◌, length, IsTrue, IfOk, OnErr};
+ghost use Rattle.std.specs.Prelude.{◌≡◌, ◌+◌, ◌<◌, ◌≤◌, ◌↔◌, length, IsTrue, IfOk, IfSome, OnErr};
+ghost use Rattle.sync_rules.specs.Left.{left_of};
 ghost use Rattle.sync_rules.specs.Clients.{Meaning};
 ghost use Rattle.sync_rules.specs.Steps.{next, IsSettled};
 ghost use Rattle.journal_state.specs.Whole.{id_at, Knows};
@@ -8,7 +9,7 @@ ghost use Rattle.journal_state.specs.Stepping.{entry_of, number_in, stepped};
 use crate::state::State;
 use message_graph::Step;
 use std::alloc::{AllocError, Global};
-use sync_rules::{Clients, Entry};
+use sync_rules::{Clients, Entry, laws};
 
 impl State {
     /// The next step of the journal: that of the first held message, in order of arrival, that has
@@ -31,6 +32,8 @@ impl State {
         requires knows { Knows (C.meaning clients.now) self.old }
         ensures step { IfOk result (λ e. e ≡ next (C.meaning clients.now) self.old.facts) }
         ensures facts { IfOk result (λ e. self.new.facts ≡ stepped self.old.facts e) }
+        ensures left { IfOk result (λ e. IfSome e
+            (λ _. left_of self.new.facts + 1 ≤ left_of self.old.facts)) }
         ensures knows { Knows (C.meaning clients.now) self.new }
         ensures err { OnErr result ((self.new.facts ≡ self.old.facts)
             × (self.new.answers ≡ self.old.answers)) }
@@ -39,6 +42,7 @@ impl State {
             return Ok(None);
         };
         let entry = self.entry_of(step);
+        laws::left();
         match step {
             Step::Judge(n) => self.judge(alloc, clients, n)?,
             Step::Invalid(n) => self.refuse(n),

@@ -1,11 +1,12 @@
 //! A batch is taken without memory.
-ghost use Rattle.std.specs.Prelude.{◌≡◌, ℕ, ◌-◌, ◌^◌, ◌<◌, ◌≤◌, false, length};
+ghost use Rattle.std.specs.Prelude.{◌≡◌, ◌≤◌, false};
 ghost use Rattle.sync_rules.specs.Clients.{Meaning};
-ghost use Rattle.sync_rules.specs.Facts.{after_all, takes_of};
+ghost use Rattle.sync_rules.specs.Facts.{after_all};
 ghost use Rattle.sync_rules.specs.Legal.{Allowed};
-ghost use Rattle.entry_codec.specs.Allows.{is_settling_kind};
+ghost use Rattle.sync_rules.specs.Allows.{is_settling_kind};
 ghost use Rattle.journal_state.specs.Known.{IsIdOf, IsOfAll, IsOfEntry};
-ghost use Rattle.journal_state.specs.Taking.{CanTake, CanTakeAll, HasRoom, Takes, TakesAll};
+ghost use Rattle.journal_state.specs.Taking.{CanTake, CanTakeAll, HasNextNumbers, HasRoom, Takes};
+ghost use Rattle.journal_state.specs.Taking.{TakesAll};
 ghost use Rattle.journal_state.specs.Whole.{Knows};
 
 use crate::marks::Mark;
@@ -22,9 +23,7 @@ impl State {
         requires allowed { (clients : Meaning) × Allowed clients self.old.facts batch }
         requires kind { is_settling_kind batch ≡ false }
         requires room { HasRoom self.old batch }
-        requires few_held { length self.old.facts.held < 2 ^ 32 - 1 }
-        requires few_sessions { length self.old.facts.sessions < 2 ^ 32 - 1 }
-        requires few_records { (session : ℕ) → takes_of self.old.facts.takes session < 2 ^ 64 - 1 }
+        requires numbers { HasNextNumbers self.old.facts }
         ensures facts { self.new.facts ≡ after_all self.old.facts batch }
         ensures knows { (clients : Meaning) → Knows clients self.old → Knows clients self.new }
     {
@@ -37,9 +36,7 @@ impl State {
         requires kind { is_settling_kind batch ≡ false }
         requires named { IsOfAll known.now batch }
         requires room { HasRoom self.old batch }
-        requires few_held { length self.old.facts.held < 2 ^ 32 - 1 }
-        requires few_sessions { length self.old.facts.sessions < 2 ^ 32 - 1 }
-        requires few_records { (session : ℕ) → takes_of self.old.facts.takes session < 2 ^ 64 - 1 }
+        requires numbers { HasNextNumbers self.old.facts }
         ensures facts { self.new.facts ≡ after_all self.old.facts batch }
         ensures knows { (clients : Meaning) → Knows clients self.old → Knows clients self.new }
     {
@@ -97,7 +94,7 @@ impl State {
         requires named { IsIdOf known.now message }
         ensures { Takes self.old self.new (Entry.Arrive session message) }
     {
-        let contact = self.session(session).contact;
+        let contact = self.known_session(session).contact;
         let id = id_known(known, &message);
         self.hold(id, message, Origin::From(contact));
         self.mark(contact, &id, Mark::Heard);
@@ -108,7 +105,7 @@ impl State {
         requires { CanTake self.old (Entry.Again session id) }
         ensures { Takes self.old self.new (Entry.Again session id) }
     {
-        let contact = self.session(session).contact;
+        let contact = self.known_session(session).contact;
         self.mark(contact, &id, Mark::Heard);
     }
 
@@ -117,7 +114,7 @@ impl State {
         requires { CanTake self.old (Entry.Seen session id) }
         ensures { Takes self.old self.new (Entry.Seen session id) }
     {
-        let contact = self.session(session).contact;
+        let contact = self.known_session(session).contact;
         self.mark(contact, &id, Mark::Seen);
     }
 
@@ -126,7 +123,7 @@ impl State {
         requires { CanTake self.old (Entry.Asked session id) }
         ensures { Takes self.old self.new (Entry.Asked session id) }
     {
-        let contact = self.session(session).contact;
+        let contact = self.known_session(session).contact;
         self.mark(contact, &id, Mark::Asked);
     }
 
@@ -135,7 +132,7 @@ impl State {
         requires { CanTake self.old (Entry.Offered session id) }
         ensures { Takes self.old self.new (Entry.Offered session id) }
     {
-        let contact = self.session(session).contact;
+        let contact = self.known_session(session).contact;
         self.want(contact, id);
     }
 
@@ -144,7 +141,7 @@ impl State {
         requires { CanTake self.old (Entry.Out session now out) }
         ensures { Takes self.old self.new (Entry.Out session now out) }
     {
-        let on = self.session(session);
+        let on = self.known_session(session);
         match out {
             Out::Acks(ids) => self.mark_all(on.contact, ids.as_slice(), Mark::Acked),
             Out::Requests(ids) => self.unwant(on.contact, ids.as_slice()),

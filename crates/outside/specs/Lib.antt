@@ -14,6 +14,7 @@ pub mod MemDisk
 pub mod MemTold
 pub mod MemImage
 pub mod Steps
+pub mod Runs
 pub mod Frames
 pub mod Script
 pub mod MemHost

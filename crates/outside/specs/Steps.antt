@@ -4,7 +4,7 @@ use Rattle.std.proofs.Common.{refl, sym, ap, ◌∙◌, subst, inl, inr, arith}
 use Rattle.outside.specs.declared.failed.Failed.{Failed}
 use Rattle.outside.specs.Files.{Two, File, IsFileImage, IsImage, file_of, with_file, settled}
 use Rattle.outside.specs.Links.{Links, sent_of}
-use Rattle.outside.specs.Outside.{Outside, Moment, IsNow, DiskCall, MomentsAre, DiskRun, Looks}
+use Rattle.outside.specs.Outside.{Outside, Moment, IsNow, Elapses, DiskCall, MomentsAre, DiskRun, Looks}
 use Rattle.outside.specs.Disk.{Becomes, Writes, Cuts, Syncs, after_write, after_cut, overwritten}
 
 -- ---- the two files
@@ -50,18 +50,21 @@ pub record FileMoment (Q : List ℕ → Type 0) (two : Two File) (sent : List (L
 pub moments_none : (o : Outside) (P : Moment → Type 0) → ((m : Moment) → o.moments o.clock m → P m) → MomentsAre o o P
 moments_none o P now = record { later = omega arith; each = now; before = λ t m _ w. inl w }
 
--- one call more
-pub moments_call : (o0 o o' : Outside) (P : Moment → Type 0) → MomentsAre o0 o P → DiskCall o o' → ((m : Moment) → o'.moments o'.clock m → P m) → MomentsAre o0 o' P
-moments_call o0 o o' P run call now = record {
-  later = omega (arith, run.later, call.time.later);
-  each = λ m w. elim (call.time.nothing_else o0.clock m run.later w) [ inl old ↦ run.each m old | inr new ↦ now m new ];
+-- one call more of any kind, by its own moments; and one on the disk
+pub moments_during : (o0 o o' : Outside) (during P : Moment → Type 0) → MomentsAre o0 o P → Elapses o o' during → ((m : Moment) → during m → P m) → MomentsAre o0 o' P
+moments_during o0 o o' during P run time own = record {
+  later = omega (arith, run.later, time.later);
+  each = λ m w. elim (time.nothing_else o0.clock m run.later w) [ inl old ↦ run.each m old | inr new ↦ own m new ];
   before = λ t m before w.
       let earlier : t ≤ o.clock = omega (arith, run.later, before) in
-      elim (call.time.nothing_else t m earlier w) [
+      elim (time.nothing_else t m earlier w) [
         | inl old ↦ run.before t m before old
-        | inr new ↦ inr (now m new)
+        | inr new ↦ inr (own m new)
       ];
 }
+
+pub moments_call : (o0 o o' : Outside) (P : Moment → Type 0) → MomentsAre o0 o P → DiskCall o o' → ((m : Moment) → o'.moments o'.clock m → P m) → MomentsAre o0 o' P
+moments_call o0 o o' P run call now = moments_during o0 o o' (o'.moments o'.clock) P run call.time now
 
 -- a weaker word on the moments
 pub moments_map : (o o' : Outside) (P Q : Moment → Type 0) → ((m : Moment) → P m → Q m) → MomentsAre o o' P → MomentsAre o o' Q

@@ -7,7 +7,7 @@ ghost use Rattle.outside.specs.Faults.{HasCause, Rose};
 ghost use Rattle.outside.specs.Input.{ReadsInput};
 
 use crate::{Failed, Source};
-use std::alloc::{AllocError, AllocFailed};
+use std::alloc::AllocError;
 
 // How many bytes a read asks for at most.
 const PIECE: usize = 65_536;
@@ -27,14 +27,6 @@ impl From<AllocError> for InputFault {
     ghost from_gives = { λ _ e. e ≡ Memory };
 
     fn from(_: AllocError) -> InputFault {
-        InputFault::Memory
-    }
-}
-
-impl<T: Drop> From<AllocFailed<T>> for InputFault {
-    ghost from_gives = { λ _ e. e ≡ Memory };
-
-    fn from(_: AllocFailed<T>) -> InputFault {
         InputFault::Memory
     }
 }

@@ -45,5 +45,3 @@ pub use random::MemRandom;
 pub use reply::Reply;
 pub use stream::{Sink, Source};
 pub use untold::Untold;
-#[cfg(test)]
-mod silent_tests;

@@ -92,8 +92,8 @@ impl MemHost {
     }
 
     /// Begins anew over the same files, as a program that is started again: links, scripts,
-    /// readings, nonces and what was heard are gone; the calls of the disk, and which of them are to
-    /// fail, stay.
+    /// readings, nonces and what was heard are gone; the calls of the disk, and which of them are
+    /// to fail, stay.
     pub fn restart(&mut self) -> Result<(), AllocError>
         ensures ok { OnOk result (self.new ≡ fresh_host self.old.disk) }
         ensures no_links { OnOk result (links_of self.new.disk ≡ []) }
@@ -136,7 +136,8 @@ impl MemHost {
         self.disk.fail_at(call)
     }
 
-    /// From the call of its disk of this number on every call of its disk fails and leaves no trace.
+    /// From the call of its disk of this number on every call of its disk fails and leaves no
+    /// trace.
     pub fn stop_at(&mut self, call: u64)
         ensures { self.new ≡ record self.old { disk = record self.old.disk { stop = Some call } } }
     {

@@ -1,5 +1,6 @@
 //! The disk, the links and the clock of this machine.
 ghost use Rattle.std.specs.Prelude.{◌≡◌, ◌≤◌, IfOk, Ok, MatchResult};
+ghost use Rattle.outside.specs.declared.limits.TheConstants.{LINKS};
 ghost use Rattle.outside.specs.Faults.{HasCause};
 
 use crate::real_file::RealFile;
@@ -12,7 +13,7 @@ use std::time::Clock;
 
 /// A disk of the files `bsp.0` and `bsp.1` in a folder, the links and the clock of this machine. It
 /// tells its counts alone: of its links, and of the failures of the disk and of each link. No link
-/// is made yet.
+/// is made yet. After a sync of a file that failed each call on that file fails.
 #[derive(Drop)]
 pub struct FileHost<R: Runtime + Net> {
     rt: R,
@@ -21,7 +22,7 @@ pub struct FileHost<R: Runtime + Net> {
     disk_faults: u64,
     dialled: u8,
     link_faults: [u64; LINKS],
-    ghost few: { dialled ≤ 8 },
+    ghost few: { dialled ≤ LINKS },
 }
 
 impl<R: Runtime + AllocGlobal + Net> FileHost<R> {

@@ -1,22 +1,41 @@
 //! A file of this machine.
-ghost use Rattle.std.specs.Prelude.{◌≤◌, length, IfOk};
+ghost use Rattle.std.specs.Prelude.{◌≡◌, ◌≤◌, true, length, is_err, IfOk};
 
-use crate::streams::{read_once, write_once};
+use crate::ahead::{AHEAD, Ahead};
+use crate::streams::{read_full, write_full};
 use std::alloc::{AllocError, Global};
 use std::fs::{OpenFile, OpenOptions};
 use std::io;
-use std::io::{ErrorKind, Read, Seek, SeekFrom, Write};
+use std::io::{ErrorKind, Seek, SeekFrom};
 use std::path::{Path, PathBuf};
 use std::rt::Files;
 
-/// A file in a folder. It is opened at the first call that finds it there, and made by the first
-/// write; until then it is empty.
+/// For what a file was opened.
+#[derive(Clone, Copy, PartialEq, Eq)]
+enum Access {
+    /// It was not looked for yet.
+    Unseen,
+    /// For reading alone, or it was not there.
+    Reading,
+    /// For writing too.
+    Writing,
+}
+
+/// A file in a folder that no other process writes. It is opened at the first call, for reading
+/// alone, and again at the first call that writes, which makes it if it is not there; until then
+/// what is not there is empty. Its length and the bytes of reads ahead are kept. Its first sync
+/// makes its name durable too. After a sync that failed each call fails.
 #[derive(Drop)]
 pub struct RealFile<R: Files> {
     folder: PathBuf,
     path: PathBuf,
     file: Option<R::File>,
-    is_new: bool,
+    access: Access,
+    len: Option<u64>,
+    position: Option<u64>,
+    ahead: Ahead,
+    is_named: bool,
+    has_failed: bool,
 }
 
 impl<R: Files> RealFile<R> {
@@ -27,25 +46,181 @@ impl<R: Files> RealFile<R> {
             folder: folder.join(alloc, "")?,
             path: folder.join(alloc, name)?,
             file: None,
-            is_new: false,
+            access: Access::Unseen,
+            len: None,
+            position: None,
+            ahead: Ahead::new(alloc),
+            is_named: false,
+            has_failed: false,
         })
     }
 
     /// The length of the file in bytes.
-    pub fn len(&mut self, files: &R) -> io::Result<u64> {
+    pub fn len(&mut self, files: &R) -> io::Result<u64>
+        ensures over { self.old.has_failed ≡ true → (is_err result ≡ true)
+            × (self.new.has_failed ≡ true) }
+        ensures still { self.new.has_failed ≡ self.old.has_failed }
+    {
         self.find(files)?;
-        match &self.file {
-            Some(file) => Ok(file.metadata()?.len()),
-            None => Ok(0),
+        match (self.len, &self.file) {
+            (Some(len), _) => Ok(len),
+            (None, Some(file)) => {
+                let len = file.metadata()?.len();
+                self.len = Some(len);
+                Ok(len)
+            }
+            (None, None) => Ok(0),
         }
     }
 
     /// Reads from place `at` on into the front of `buf`, as many bytes as there are, or as it has
     /// room for.
     pub fn read_at(&mut self, files: &R, at: u64, buf: &mut [u8]) -> io::Result<usize>
-        ensures { IfOk result (λ n. n ≤ length buf.new) }
+        ensures bound { IfOk result (λ n. n ≤ length buf.new) }
+        ensures over { self.old.has_failed ≡ true → (is_err result ≡ true)
+            × (self.new.has_failed ≡ true) }
+    {
+        let left = self.len(files)?.saturating_sub(at);
+        let wanted = left.min(buf.len() as u64) as usize;
+        let wanted = wanted.min(buf.len());
+        let part = &mut buf[..wanted];
+        let had = self.ahead.copy(at, part);
+        if had == wanted {
+            return Ok(had);
+        }
+        if wanted > AHEAD {
+            return self.read_past(at, part);
+        }
+        self.read_ahead(at, left.min(AHEAD as u64) as usize)?;
+        Ok(self.ahead.copy(at, part))
+    }
+
+    /// Writes all bytes from place `at` on.
+    pub fn write_at(&mut self, files: &R, at: u64, bytes: &[u8]) -> io::Result<()>
+        ensures over { self.old.has_failed ≡ true → (is_err result ≡ true)
+            × (self.new.has_failed ≡ true) }
+    {
+        self.find_to_write(files, true)?;
+        let had = self.len(files)?;
+        self.forget();
+        if let Some(file) = &mut self.file {
+            file.seek(SeekFrom::Start(at))?;
+            write_full(file, bytes)?;
+        }
+        let end = at.saturating_add(bytes.len() as u64);
+        self.len = Some(had.max(end));
+        self.position = Some(end);
+        Ok(())
+    }
+
+    /// Cuts the file to a length.
+    pub fn cut(&mut self, files: &R, len: u64) -> io::Result<()>
+        ensures over { self.old.has_failed ≡ true → (is_err result ≡ true)
+            × (self.new.has_failed ≡ true) }
+    {
+        self.find_to_write(files, false)?;
+        self.forget();
+        if let Some(file) = &self.file {
+            file.set_len(len)?;
+            self.len = Some(len);
+        }
+        Ok(())
+    }
+
+    /// Waits until the file is on its device, and at the first time its name too.
+    pub fn sync(&mut self, files: &R) -> io::Result<()>
+        ensures over { self.old.has_failed ≡ true → (is_err result ≡ true)
+            × (self.new.has_failed ≡ true) }
+        ensures fails { is_err result ≡ true → self.new.has_failed ≡ true }
+    {
+        match self.sync_all(files) {
+            Ok(()) => Ok(()),
+            Err(e) => {
+                self.has_failed = true;
+                Err(e)
+            }
+        }
+    }
+
+    fn sync_all(&mut self, files: &R) -> io::Result<()>
+        ensures over { self.old.has_failed ≡ true → (is_err result ≡ true)
+            × (self.new.has_failed ≡ true) }
     {
         self.find(files)?;
+        if let Some(file) = &self.file {
+            file.sync_all()?;
+            if !self.is_named {
+                open(files, self.folder.as_path(), false, false)?.sync_all()?;
+                self.is_named = true;
+            }
+        }
+        Ok(())
+    }
+
+    // What was kept of the file is no longer known.
+    fn forget(&mut self) {
+        self.len = None;
+        self.position = None;
+        self.ahead.clear();
+    }
+
+    // Opens the file where it is there and was not looked for.
+    fn find(&mut self, files: &R) -> io::Result<()>
+        ensures over { self.old.has_failed ≡ true → (is_err result ≡ true)
+            × (self.new.has_failed ≡ true) }
+        ensures still { self.new.has_failed ≡ self.old.has_failed }
+    {
+        if self.has_failed {
+            return Err(ErrorKind::Other.into());
+        }
+        if self.access == Access::Unseen {
+            match open(files, self.path.as_path(), false, false) {
+                Ok(file) => self.take(file)?,
+                Err(e) if e.kind() == ErrorKind::NotFound => {}
+                Err(e) => return Err(e),
+            }
+            self.access = Access::Reading;
+        }
+        Ok(())
+    }
+
+    // The file as it was found, unless it is a folder.
+    fn take(&mut self, file: R::File) -> io::Result<()>
+        ensures { self.new.has_failed ≡ self.old.has_failed }
+    {
+        let found = file.metadata()?;
+        if found.is_dir() {
+            return Err(ErrorKind::IsADirectory.into());
+        }
+        self.len = Some(found.len());
+        self.position = Some(0);
+        self.file = Some(file);
+        Ok(())
+    }
+
+    // Opens the file for writing too, and makes it where that is asked and it is not there.
+    fn find_to_write(&mut self, files: &R, make: bool) -> io::Result<()>
+        ensures over { self.old.has_failed ≡ true → (is_err result ≡ true)
+            × (self.new.has_failed ≡ true) }
+    {
+        self.find(files)?;
+        if self.access != Access::Writing && (make || self.file.is_some()) {
+            let file = open(files, self.path.as_path(), true, make)?;
+            if self.file.is_none() {
+                self.len = Some(0);
+            }
+            self.file = Some(file);
+            self.position = Some(0);
+            self.access = Access::Writing;
+        }
+        Ok(())
+    }
+
+    // Reads more bytes than are read ahead.
+    fn read_past(&mut self, at: u64, buf: &mut [u8]) -> io::Result<usize>
+        ensures { IfOk result (λ n. n ≤ length buf.new) }
+    {
+        self.position = None;
         match &mut self.file {
             Some(file) => {
                 file.seek(SeekFrom::Start(at))?;
@@ -55,94 +230,24 @@ impl<R: Files> RealFile<R> {
         }
     }
 
-    /// Writes all bytes from place `at` on.
-    pub fn write_at(&mut self, files: &R, at: u64, bytes: &[u8]) -> io::Result<()> {
-        self.find(files)?;
-        if self.file.is_none() {
-            self.file = Some(open(files, self.path.as_path(), true)?);
-            self.is_new = true;
-        }
-        match &mut self.file {
-            Some(file) => {
+    fn read_ahead(&mut self, at: u64, size: usize) -> io::Result<()> {
+        if let Some(file) = &mut self.file {
+            if self.position != Some(at) {
+                self.position = None;
                 file.seek(SeekFrom::Start(at))?;
-                write_full(file, bytes)
             }
-            None => Ok(()),
-        }
-    }
-
-    /// Cuts the file to a length.
-    pub fn cut(&mut self, files: &R, len: u64) -> io::Result<()> {
-        self.find(files)?;
-        match &self.file {
-            Some(file) => file.set_len(len),
-            None => Ok(()),
-        }
-    }
-
-    /// Waits until the file is on its device, and its name too where it was made here.
-    pub fn sync(&mut self, files: &R) -> io::Result<()> {
-        self.find(files)?;
-        if let Some(file) = &self.file {
-            file.sync_all()?;
-        }
-        if self.is_new {
-            open_folder(files, self.folder.as_path())?.sync_all()?;
-            self.is_new = false;
-        }
-        Ok(())
-    }
-
-    // Opens the file where it is there.
-    fn find(&mut self, files: &R) -> io::Result<()> {
-        if self.file.is_none() {
-            match open(files, self.path.as_path(), false) {
-                Ok(file) => self.file = Some(file),
-                Err(e) if e.kind() == ErrorKind::NotFound => {}
-                Err(e) => return Err(e),
-            }
+            self.position = None;
+            let n = self.ahead.fill(file, at, size)?;
+            self.position = Some(at.saturating_add(n as u64));
         }
         Ok(())
     }
 }
 
-fn open<R: Files>(files: &R, path: Path<'_>, make: bool) -> io::Result<R::File> {
+fn open<R: Files>(files: &R, path: Path<'_>, write: bool, make: bool) -> io::Result<R::File> {
     let mut options = OpenOptions::new();
     options.read(true);
-    options.write(true);
+    options.write(write);
     options.create(make);
     options.open(files, path)
-}
-
-fn open_folder<R: Files>(files: &R, path: Path<'_>) -> io::Result<R::File> {
-    let mut options = OpenOptions::new();
-    options.read(true);
-    options.open(files, path)
-}
-
-// Reads until the buffer is full or nothing is left.
-fn read_full<F: Read>(file: &mut F, buf: &mut [u8]) -> io::Result<usize>
-    ensures { IfOk result (λ n. n ≤ length buf.new) }
-{
-    let mut done = 0;
-    'pieces: while done < buf.len() {
-        match read_once(file, &mut buf[done..]) {
-            Some(0) => break,
-            Some(n) => done += n,
-            None => return Err(ErrorKind::Other.into()),
-        }
-    }
-    Ok(done)
-}
-
-// Writes all bytes.
-fn write_full<F: Write>(file: &mut F, bytes: &[u8]) -> io::Result<()> {
-    let mut done = 0;
-    'pieces: while done < bytes.len() {
-        match write_once(file, &bytes[done..]) {
-            Some(n) => done += n,
-            None => return Err(ErrorKind::Other.into()),
-        }
-    }
-    Ok(())
 }

@@ -1,7 +1,8 @@
 //! Standard streams as sources and sinks.
-ghost use Rattle.std.specs.Prelude.{ℕ, ◌<◌, ◌≤◌, length, IfSome};
+ghost use Rattle.std.specs.Prelude.{ℕ, ◌<◌, ◌≤◌, length, IfOk, IfSome};
 
 use outside::{Failed, Sink, Source};
+use std::io;
 use std::io::{ErrorKind, Read, Write};
 
 /// A source over a reader. It tells its failures alone, and not what bytes are left.
@@ -92,4 +93,31 @@ pub(crate) fn write_once<W: Write>(to: &mut W, bytes: &[u8]) -> Option<usize>
         }
     }
     None
+}
+
+// Reads until the buffer is full or nothing is left.
+pub(crate) fn read_full<R: Read>(from: &mut R, buf: &mut [u8]) -> io::Result<usize>
+    ensures { IfOk result (λ n. n ≤ length buf.new) }
+{
+    let mut done = 0;
+    'pieces: while done < buf.len() {
+        match read_once(from, &mut buf[done..]) {
+            Some(0) => break,
+            Some(n) => done += n,
+            None => return Err(ErrorKind::Other.into()),
+        }
+    }
+    Ok(done)
+}
+
+// Writes all bytes.
+pub(crate) fn write_full<W: Write>(to: &mut W, bytes: &[u8]) -> io::Result<()> {
+    let mut done = 0;
+    'pieces: while done < bytes.len() {
+        match write_once(to, &bytes[done..]) {
+            Some(n) => done += n,
+            None => return Err(ErrorKind::Other.into()),
+        }
+    }
+    Ok(())
 }

@@ -6,7 +6,7 @@ use Rattle.sync_rules.specs.declared.entries.Entry.TheVariants as entry
 use Rattle.sync_rules.specs.declared.entries.Out.{Out}
 use Rattle.sync_rules.specs.declared.entries.Out.TheVariants as out
 use Rattle.sync_rules.specs.Lists.{same_id, is_among}
-use Rattle.sync_rules.specs.Facts.{Facts, Id, Row, facts, contact_of, latency_of, row_heard, row_seen, row_acked, row_asked, row_offered, row_sent}
+use Rattle.sync_rules.specs.Facts.{Facts, Id, Row, contact_of, latency_of, row_heard, row_seen, row_acked, row_asked, row_offered, row_sent}
 
 -- the row after an output to the contact
 abbrev pub row_then_out : Id → ℕ → ℕ → Row → Out → Row

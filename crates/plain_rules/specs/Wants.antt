@@ -7,7 +7,7 @@ use Rattle.sync_rules.specs.declared.entries.Out.{Out}
 use Rattle.sync_rules.specs.declared.entries.Out.TheVariants as out
 use Rattle.plain_rules.specs.declared.wants.WantedLine.{WantedLine}
 use Rattle.sync_rules.specs.Lists.{same_id, is_among}
-use Rattle.sync_rules.specs.Facts.{Facts, Id, facts, is_held, contact_of, wanted_from}
+use Rattle.sync_rules.specs.Facts.{Facts, Id, is_held, contact_of, wanted_from}
 
 -- the ids of one contact among the lines of all
 abbrev pub wanted_in : ℕ → List WantedLine → List Id

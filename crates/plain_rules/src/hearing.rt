@@ -1,6 +1,7 @@
 //! A journal that is played without a disk: it takes messages and settles after each.
 ghost use Rattle.std.specs.Option.{option_to_list};
 ghost use Rattle.std.specs.Prelude.{◌≡◌, ◌+◌, is_some, true, IfOk, OnOk};
+ghost use Rattle.sync_ids.specs.Values.{IsMessage};
 ghost use Rattle.sync_ids.specs.declared.records.Record.TheVariants as record_kind;
 ghost use Rattle.sync_rules.specs.Clients.{Meaning};
 ghost use Rattle.sync_rules.specs.Facts.{contact_of, facts, Extends};
@@ -69,6 +70,14 @@ pub fn take_message(
     }
 }
 
+// Every message that a program holds is within its limits; a batch that takes it is legal only so.
+// It does nothing.
+fn messages_are_within(message: &Message)
+    ensures { IsMessage message.now }
+{
+    let _body = message.body();
+}
+
 /// Takes this message as the session's `k`-th record, `contact` being the session's contact, and
 /// settles. It fails only for want of memory, and then the journal is extended by the batches made
 /// before.
@@ -89,8 +98,7 @@ pub fn hear_message<C: Clients>(
     ensures legal { Legal (C.meaning clients.now) j.new.items }
     ensures extends { Extends j.new.items j.old.items }
 {
-    // A batch is legal only where the message is within its limits.
-    let _within = message.timestamp();
+    messages_are_within(&message);
     let batch = take_message(alloc, j.as_slice(), session, contact, k, message)?;
     j.push(batch)?;
     settle_in(alloc, j, clients)

@@ -1,4 +1,5 @@
-//! The sessions at a place in a list of batches: behind some batches and some entries of the next one.
+//! The sessions at a place in a list of batches: behind some batches and some entries of the next
+//! one.
 ghost use Rattle.plain_rules.specs.Sessions.{first_session, first_session_in, session_named};
 ghost use Rattle.std.specs.Option.{option_copied};
 ghost use Rattle.std.specs.Prelude.{◌≡◌};

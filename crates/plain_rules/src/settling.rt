@@ -47,7 +47,8 @@ fn push_to_last(j: &mut Vec<Batch>, entry: Entry) -> Result<(), AllocError>
 }
 
 // A settling batch at the end of the journal that begins with this step and goes on while a step is
-// left, to MAX_STEPS entries. It fails only for want of memory, and then the steps made before stand.
+// left, to MAX_STEPS entries. It fails only for want of memory, and then the steps made before
+// stand.
 fn settle_batch<C: Clients>(
     alloc: Global,
     j: &mut Vec<Batch>,
@@ -56,7 +57,8 @@ fn settle_batch<C: Clients>(
 ) -> Result<(), AllocError>
     requires { next (C.meaning clients.now) (facts j.old.items) ≡ Some first }
     ensures settles { Settles (C.meaning clients.now) j.old.items j.new.items }
-    ensures added { OnOk result (AddsSettling (C.meaning clients.now) MAX_STEPS j.old.items j.new.items) }
+    ensures added { OnOk result (AddsSettling (C.meaning clients.now) MAX_STEPS j.old.items
+        j.new.items) }
 {
     push_one(alloc, j, first)?;
     for count in 1..MAX_STEPS {
@@ -69,8 +71,8 @@ fn settle_batch<C: Clients>(
 }
 
 /// Settles a list of batches: it is extended by settling batches until it has no next step. Each
-/// batch is filled to MAX_STEPS entries while a step is left. It fails only for want of memory, and then
-/// the steps made before stand.
+/// batch is filled to MAX_STEPS entries while a step is left. It fails only for want of memory, and
+/// then the steps made before stand.
 pub fn settle_in<C: Clients>(
     alloc: Global,
     j: &mut Vec<Batch>,

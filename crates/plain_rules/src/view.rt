@@ -5,6 +5,7 @@ ghost use Rattle.std.specs.Prelude.{◌≡◌, ◌↔◌, IfOk, IsErrOf, List};
 ghost use Rattle.sync_rules.specs.Facts.{facts};
 ghost use Rattle.sync_rules.specs.Sessions.{shared_ids};
 ghost use Rattle.sync_rules.specs.Views.{KnowsShown};
+ghost use Rattle.plain_rules.specs.declared.view.PlainFault.TheVariants as fault;
 
 use crate::due::{first_sent, offered_ids, owed_ids};
 use crate::levels::knows_levels;
@@ -27,6 +28,14 @@ pub enum PlainFault {
     /// A group that is not Invisible to some contact is not known.
     #[error("a group is not known")]
     UnknownGroup,
+}
+
+impl From<AllocError> for PlainFault {
+    ghost from_gives = { λ _ e. e ≡ fault.Memory };
+
+    fn from(_: AllocError) -> PlainFault {
+        PlainFault::Memory
+    }
 }
 
 /// A view of a list of batches by plain scans, which go over all entries at each call: what other
@@ -89,15 +98,9 @@ fn gather<'a, C: Clients>(
         (λ v. v ≡ (batches.now, shared_ids (C.meaning clients.now) (facts batches.now))) }
     ensures refused { IsErrOf result PlainFault.UnknownGroup → ⊥ }
 {
-    let Ok(held) = held_lines(alloc, batches) else {
-        return Err(PlainFault::Memory);
-    };
-    let Ok(wanted) = wanted_lines(alloc, batches) else {
-        return Err(PlainFault::Memory);
-    };
-    let Ok(shared) = shared_in(alloc, batches, clients) else {
-        return Err(PlainFault::Memory);
-    };
+    let held = held_lines(alloc, batches)?;
+    let wanted = wanted_lines(alloc, batches)?;
+    let shared = shared_in(alloc, batches, clients)?;
     plain_view(batches, held, wanted, shared)
 }
 

@@ -1,8 +1,8 @@
 -- What a stream is behind its rest, and records that are spelled one behind the other.
 use Rattle.std.proofs.Common.{◌≡◌, ◌≢◌, ℕ, zero, suc, ◌-◌, ◌≤◌, List, [], ◌∷◌, ◌++◌, length, drop, refl, sym, ap, ◌∙◌, arith, length-drop}
-use Rattle.std.specs.Prelude.{Some, None, All}
+use Rattle.std.specs.Prelude.{Some, None}
 use Rattle.std.proofs.lemmas.List.{append_assoc, append-nil}
-use Rattle.std.proofs.lemmas.List.Elements.{All-head, All-tail}
+use Rattle.std.specs.List.{AllByRecursion}
 use Rattle.sync_ids.specs.Records.{IsRecord}
 use Rattle.sync_ids.specs.declared.records.Record.{Record}
 use Rattle.record_grammar.specs.Spelling.{Spells, spelled, spelling}
@@ -93,13 +93,13 @@ fronts b more =
     (records_of more_items, ap records_of ((goes_on_behind 0 b).begins more) ∙ records_joined (items 0 b) more_items)
 
 -- records that are spelled one behind the other are read so
-pub spelled_read : (place : ℕ) (rs : List Record) (more : List ℕ) → All IsRecord rs
+pub spelled_read : (place : ℕ) (rs : List Record) (more : List ℕ) → AllByRecursion IsRecord rs
     → (items place (spelled rs ++ more) ≡ placed place rs ++ items (behind place rs) more)
     × (ending place (spelled rs ++ more) ≡ ending (behind place rs) more)
 spelled_read place [] more all = (refl, refl)
 spelled_read place (r ∷ rs) more all =
-    let one : Spells r (spelling r) = record { within = All-head IsRecord r rs all; is = refl } in
-    let later = spelled_read (advanced place (length (spelling r))) rs more (All-tail IsRecord r rs all) in
+    let one : Spells r (spelling r) = record { within = all.0; is = refl } in
+    let later = spelled_read (advanced place (length (spelling r))) rs more all.1 in
     let whole : (spelling r ++ spelled rs) ++ more ≡ spelling r ++ (spelled rs ++ more) = append_assoc (spelling r) (spelled rs) more in (
       ap (items place) whole ∙ one_first place r (spelling r) (spelled rs ++ more) one ∙ ap (λ (x : List Item). item.One place r ∷ x) later.0,
       ap (ending place) whole ∙ one_ends place r (spelling r) (spelled rs ++ more) one ∙ later.1,
@@ -110,7 +110,7 @@ unfolding records_of
 placed_records place [] = refl
 placed_records place (r ∷ rs) = ap (λ (x : List Record). r ∷ x) (placed_records (advanced place (length (spelling r))) rs)
 
-pub spelled_streams : (rs : List Record) → All IsRecord rs
+pub spelled_streams : (rs : List Record) → AllByRecursion IsRecord rs
     → (items 0 (spelled rs) ≡ placed 0 rs) × (records (spelled rs) ≡ rs) × (ending 0 (spelled rs) ≡ ending_kind.Clean)
 spelled_streams rs all =
     let read = spelled_read 0 rs [] all in

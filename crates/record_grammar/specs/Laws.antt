@@ -1,5 +1,6 @@
 -- What reading has to do with spelling.
-use Rattle.std.specs.Prelude.{◌≡◌, ◌≢◌, ◌⊎◌, ℕ, ◌+◌, ◌<◌, ◌≤◌, List, [], ◌∷◌, ◌++◌, length, slice_index, take, All}
+use Rattle.std.specs.Prelude.{◌≡◌, ◌≢◌, ◌⊎◌, ℕ, ◌+◌, ◌<◌, ◌≤◌, List, [], ◌∷◌, ◌++◌, length, slice_index, take}
+use Rattle.std.specs.List.{AllByRecursion}
 use Rattle.sync_ids.specs.declared.records.Record.{Record}
 use Rattle.sync_ids.specs.Records.{IsRecord}
 use Rattle.record_grammar.specs.declared.front.TheConstants.{MAX_RECORD}
@@ -72,13 +73,13 @@ StreamsAreMadeOfItems = (place : ℕ) (bytes : List ℕ) → ((i : ℕ) → slic
 -- Records that are spelled one behind the other are the first items of what they begin, each at its place, and what
 -- follows comes behind them.
 abbrev pub SpelledRecordsReadBack : Type 0
-SpelledRecordsReadBack = (place : ℕ) (rs : List Record) (more : List ℕ) → All IsRecord rs
+SpelledRecordsReadBack = (place : ℕ) (rs : List Record) (more : List ℕ) → AllByRecursion IsRecord rs
     → (items place (spelled rs ++ more) ≡ placed place rs ++ items (behind place rs) more)
     × (ending place (spelled rs ++ more) ≡ ending (behind place rs) more)
 
 -- Alone they are a stream of these records that ends clean.
 abbrev pub SpelledRecordsAreStreams : Type 0
-SpelledRecordsAreStreams = (rs : List Record) → All IsRecord rs
+SpelledRecordsAreStreams = (rs : List Record) → AllByRecursion IsRecord rs
     → (items 0 (spelled rs) ≡ placed 0 rs) × (records (spelled rs) ≡ rs) × (ending 0 (spelled rs) ≡ ending_kind.Clean)
 
 -- a stream goes on behind its rest

@@ -1,5 +1,5 @@
 -- A stream heard piece by piece.
-use Rattle.std.proofs.Common.{◌≡◌, ℕ, ◌+◌, ◌-◌, ◌<◌, ◌≤◌, min, Bool, true, false, List, [], ◌∷◌, ◌++◌, length, take, drop, refl, sym, ap, ◌∙◌, arith, length-append, length-drop}
+use Rattle.std.proofs.Common.{◌≡◌, ℕ, ◌+◌, ◌≤◌, min, Bool, true, false, List, [], ◌∷◌, ◌++◌, length, take, drop, refl, sym, ap, ◌∙◌, arith, length-append, length-drop}
 use Rattle.std.proofs.lemmas.List.{append_assoc, append-nil, length-take-le, take-append-drop}
 use Rattle.std.specs.Prelude.{if◌then◌else◌}
 use Rattle.record_grammar.specs.Stream.{ending, items}
@@ -54,7 +54,7 @@ read_bad piece left old new has place why read bad = record {
 }
 
 -- more behind a piece is left behind what is left of it
-read_wider : (piece left more : List ℕ) (old new : ReaderState) (has : List Item) → ReadsOn piece old has left new
+pub read_wider : (piece left more : List ℕ) (old new : ReaderState) (has : List Item) → ReadsOn piece old has left new
     → ReadsOn (piece ++ more) old has (left ++ more) new
 read_wider piece left more old new has read = record {
   items_stay = λ later. ap (λ (x : List ℕ). items old.place (old.bytes ++ x)) (append_assoc piece more later) ∙ read.items_stay (more ++ later)
@@ -63,7 +63,8 @@ read_wider piece left more old new has read = record {
       ∙ ap (λ (x : List ℕ). ending new.place (new.bytes ++ x)) (sym (append_assoc left more later));
 }
 
-read_then : (piece mid_left rest : List ℕ) (old mid new : ReaderState) (has others : List Item) → ReadsOn piece old has mid_left mid
+-- what is read of what is left comes behind
+pub read_then : (piece mid_left rest : List ℕ) (old mid new : ReaderState) (has others : List Item) → ReadsOn piece old has mid_left mid
     → ReadsOn mid_left mid others rest new → ReadsOn piece old (has ++ others) rest new
 read_then piece mid_left rest old mid new has others first second = record {
   items_stay = λ more. first.items_stay more ∙ ap (λ (x : List Item). has ++ x) (second.items_stay more)

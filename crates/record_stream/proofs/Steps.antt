@@ -1,12 +1,10 @@
 -- What a reader's steps do to the bytes that it holds.
-use Rattle.std.proofs.Common.{◌≡◌, ◌≢◌, ℕ, zero, suc, ◌+◌, ◌-◌, ◌^◌, ◌<◌, ◌≤◌, min, Bool, true, false, List, [], ◌∷◌, ◌++◌, length, take, drop, refl, sym, ap, ◌∙◌, arith, length-append, length-drop}
+use Rattle.std.proofs.Common.{◌≡◌, ℕ, zero, suc, ◌+◌, ◌-◌, ◌<◌, ◌≤◌, Bool, true, false, List, [], ◌∷◌, ◌++◌, length, take, drop, refl, sym, ap, ◌∙◌, arith, length-append, length-drop}
 use Rattle.std.proofs.lemmas.List.{append_assoc, append-nil, drop_all, drop-append-le, drop-drop, take_all, length-take-le, take_at}
-use Rattle.std.proofs.lemmas.List.Edits.{take-paste}
 use Rattle.std.specs.List.{copy_within}
 use Rattle.sync_ids.specs.declared.records.Record.{Record}
 use Rattle.record_grammar.specs.Reading.{found_in, front_in}
-use Rattle.record_grammar.specs.Stream.{GoesOn, IsRest, advanced, ending, items, parsed}
-use Rattle.record_grammar.specs.Laws.{IsSpelled}
+use Rattle.record_grammar.specs.Stream.{GoesOn, IsRest, advanced, items, parsed}
 use Rattle.record_grammar.specs.declared.front.Reason.{Reason}
 use Rattle.record_grammar.specs.declared.reading.Found.{Found}
 use Rattle.record_grammar.specs.declared.reading.Found.TheVariants as found

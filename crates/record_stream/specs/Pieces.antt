@@ -21,6 +21,16 @@ abbrev pub ReadingsJoin : Type 0
 ReadingsJoin = (piece left more rest : List ℕ) (old mid new : ReaderState) (has others : List Item) → ReadsOn piece old has left mid
     → ReadsOn (left ++ more) mid others rest new → ReadsOn (piece ++ more) old (has ++ others) rest new
 
+-- what comes behind a piece is left behind what is left of it
+abbrev pub ReadingsWiden : Type 0
+ReadingsWiden = (piece left more : List ℕ) (old new : ReaderState) (has : List Item) → ReadsOn piece old has left new
+    → ReadsOn (piece ++ more) old has (left ++ more) new
+
+-- what is read of what is left of a piece comes behind what was read of it
+abbrev pub ReadingsFollow : Type 0
+ReadingsFollow = (piece left rest : List ℕ) (old mid new : ReaderState) (has others : List Item) → ReadsOn piece old has left mid
+    → ReadsOn left mid others rest new → ReadsOn piece old (has ++ others) rest new
+
 -- Once all bytes of a stream were read from its start, the items given are those of the stream, and it ends as what the
 -- reader holds does.
 abbrev pub ReadingsAreWhole : Type 0

@@ -1,7 +1,7 @@
 -- A reader, seen as its place in the stream, the bytes that it holds, and whether it has answered that they are no record.
-use Rattle.std.specs.Prelude.{◌≡◌, ℕ, ◌+◌, ◌-◌, ◌≤◌, ◌<◌, Bool, true, false, List, [], ◌++◌, length, take, drop}
+use Rattle.std.specs.Prelude.{◌≡◌, ℕ, ◌-◌, ◌≤◌, ◌<◌, Bool, true, false, List, [], ◌++◌, length, take, drop}
 use Rattle.record_grammar.specs.Reading.{found_in}
-use Rattle.record_grammar.specs.Stream.{IsRest, ending, items, place_after, used_of}
+use Rattle.record_grammar.specs.Stream.{IsRest, ending, items, place_after}
 use Rattle.record_grammar.specs.declared.front.Reason.{Reason}
 use Rattle.record_grammar.specs.declared.reading.Found.{Found}
 use Rattle.record_grammar.specs.declared.reading.Found.TheVariants as found

@@ -9,7 +9,7 @@ mod piece;
 mod pieces;
 mod reader;
 
-pub use laws::{readings_are_whole, readings_join};
+pub use laws::{readings_are_whole, readings_follow, readings_join, readings_widen};
 pub use listener::{Listener, hear_piece};
 pub use piece::Piece;
 pub use pieces::{Heard, read_pieces};

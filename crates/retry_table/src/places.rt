@@ -6,9 +6,7 @@ ghost use Rattle.retry_table.specs.Due.{numbers_where};
 
 use due_tree::DueTree;
 use std::alloc::{AllocError, Global};
-
-/// The most ids in one output.
-pub(crate) const IDS_LIMIT: usize = 1536;
+use sync_ids::MAX_IDS;
 
 /// Puts a number at a place, or makes it absent; a place that has it is not written.
 pub(crate) fn put(queue: &mut DueTree, place: usize, number: Option<u64>)
@@ -32,7 +30,7 @@ pub(crate) fn due_places(alloc: Global, queue: &DueTree, bound: u64) -> Result<V
 {
     let mut places = Vec::new(alloc);
     let mut from = 0;
-    for _i in 0..IDS_LIMIT {
+    for _i in 0..MAX_IDS {
         match queue.next_at_most(from, bound) {
             None => return Ok(places),
             Some(place) => {

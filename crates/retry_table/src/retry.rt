@@ -15,12 +15,9 @@ use std::alloc::{AllocError, Global};
 use std::hash::RandomState;
 use std::marker::Model;
 use sync_ids::MessageId;
-use sync_rules::Mode;
+use sync_rules::{MAX_CONTACTS, Mode};
 
-/// The number of contacts that there may be.
-const CONTACTS: usize = 256;
-
-/// What is kept for each contact, a number from 0 to 255: a row for each message, by its arrival
+/// What is kept for each contact, a number below `MAX_CONTACTS`: a row for each message, by its arrival
 /// number, and the ids wanted from the contact. Contracts see for each contact the list of its
 /// rows, which is as long as there is room, and the list of its wanted ids with the room for more
 /// of them.
@@ -33,21 +30,22 @@ pub struct Retry {
 impl Model for Retry {
     ghost use Rattle.std.specs.Prelude.{◌≡◌, length};
     ghost use Rattle.retry_table.specs.Table.{Table};
+    ghost use Rattle.sync_rules.specs.declared.limits.TheConstants.{MAX_CONTACTS};
 
     ghost Value = { Table };
 
     ghost view = { λ t. record { rows = t.rows.items; wants = t.wants.items } };
 
-    ghost invariant = { λ t. (length t.rows.items ≡ 256) × (length t.wants.items ≡ 256) };
+    ghost invariant = { λ t. (length t.rows.items ≡ MAX_CONTACTS) × (length t.wants.items ≡ MAX_CONTACTS) };
 }
 
 /// The rows of all contacts: none.
 fn no_rows(alloc: Global) -> Result<Vec<Queues>, AllocError>
     ensures rows { IfOk result (λ v. (contact : ℕ) → slice_index_or v.items contact [] ≡ []) }
-    ensures len { IfOk result (λ v. length v.items ≡ 256) }
+    ensures len { IfOk result (λ v. length v.items ≡ MAX_CONTACTS) }
 {
     let mut rows = Vec::new(alloc);
-    for _i in 0..CONTACTS {
+    for _i in 0..MAX_CONTACTS {
         rows.push(Queues::new(alloc)?)?;
     }
     Ok(rows)
@@ -57,10 +55,10 @@ fn no_rows(alloc: Global) -> Result<Vec<Queues>, AllocError>
 fn no_wants(alloc: Global, hasher: RandomState) -> Result<Vec<Wanted>, AllocError>
     ensures wants { IfOk result (λ v. (contact : ℕ)
         → slice_index_or v.items contact no_wants ≡ no_wants) }
-    ensures len { IfOk result (λ v. length v.items ≡ 256) }
+    ensures len { IfOk result (λ v. length v.items ≡ MAX_CONTACTS) }
 {
     let mut wants = Vec::new(alloc);
-    for _i in 0..CONTACTS {
+    for _i in 0..MAX_CONTACTS {
         wants.push(Wanted::new(alloc, hasher))?;
     }
     Ok(wants)

@@ -5,12 +5,11 @@ ghost use Rattle.sync_rules.specs.Lists.{is_among, without};
 ghost use Rattle.retry_table.specs.Table.{no_wants, with_room};
 ghost use Rattle.retry_table.specs.Due.{requests_in};
 
-use crate::places::IDS_LIMIT;
 use indexmap::IndexSet;
 use std::alloc::{AllocError, Global};
 use std::hash::RandomState;
 use std::marker::Model;
-use sync_ids::MessageId;
+use sync_ids::{MAX_IDS, MessageId};
 
 /// The ids wanted from one contact, in the order in which they were added, and for how many more
 /// there is room.
@@ -108,7 +107,7 @@ impl Wanted {
         ensures { IfOk result (λ v. v.items ≡ requests_in self.now.ids) }
     {
         let ids = self.ids.as_slice();
-        let count = IDS_LIMIT.min(ids.len());
+        let count = MAX_IDS.min(ids.len());
         Vec::from_slice(*self.ids.allocator(), &ids[..count])
     }
 }

@@ -4,7 +4,7 @@ ghost use Rattle.sync_rules.specs.Sessions.{acks_due, due_by, offers_due, offers
 ghost use Rattle.sync_rules.specs.Sessions.{requests_due, wanted_of};
 
 use std::alloc::{AllocError, Global};
-use sync_ids::{IdList, MessageId};
+use sync_ids::{IdList, MAX_IDS, MessageId};
 use sync_rules::{Mode, Out, Session, View};
 
 /// The output that is due on a session at this time, in milliseconds, over the facts of the view.
@@ -69,8 +69,8 @@ fn offers<V: View>(
 }
 
 // A list of these ids, unless there are none.
-fn id_list(ids: Vec<MessageId>) -> Option<IdList<1536>>
-    requires { length ids.items ≤ 1536 }
+fn id_list(ids: Vec<MessageId>) -> Option<IdList<MAX_IDS>>
+    requires { length ids.items ≤ MAX_IDS }
     ensures { MatchOption result (ids.items ≡ []) (λ list. list ≡ ids.items) }
 {
     IdList::new(ids).ok()

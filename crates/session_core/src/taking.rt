@@ -12,10 +12,7 @@ ghost use Rattle.session_core.specs.Taking.{IsShownPlace, take_of};
 use crate::first_ids::first_ids;
 use std::alloc::{AllocError, Global};
 use sync_ids::{Message, MessageId, Record};
-use sync_rules::{Batch, Entry, Level, Session, View, id_of};
-
-/// How many ids may be wanted from a contact (this project's profile).
-pub const MAX_WANTED: u32 = 1000;
+use sync_rules::{Batch, Entry, Level, MAX_WANTED, Session, View, id_of};
 
 /// The batch that the session's `k`-th record makes, `k` counting from 0: that it was taken, and
 /// then exactly what it is taken as over the facts of the view. It fails only for want of memory.

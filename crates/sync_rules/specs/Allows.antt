@@ -1,6 +1,6 @@
 -- Whether a batch may follow a journal, as a test: what `Allowed` says of the facts of the journal, by cases on the
 -- first entry.
-use Rattle.std.specs.Prelude.{◌≡◌, ℕ, ◌^◌, Bool, true, false, ◌&&◌, nat_eq, nat_lt, nat_le, List, [], ◌∷◌, length, Option, Some, None, is_some, is_none}
+use Rattle.std.specs.Prelude.{◌≡◌, ℕ, Bool, true, false, ◌&&◌, nat_eq, nat_lt, nat_le, List, [], ◌∷◌, length, Option, Some, None, is_some, is_none}
 use Rattle.std.specs.List.{filter_map, list_all}
 use Rattle.std.specs.Cmp.Lexicographic.{pointwise}
 use Rattle.sync_ids.specs.Values.{GroupValue, MessageValue}

@@ -1,5 +1,5 @@
 -- The parts of the facts as data: a code for each, by which what a contract sees can hold them.
-use Rattle.std.specs.Prelude.{◌≡◌, ℕ, List, refl}
+use Rattle.std.specs.Prelude.{ℕ, refl}
 use Rattle.std.specs.Coded.{Coded, code_by, coded×, coded_list, coded_ℕ}
 use Rattle.std.specs.FinMap as fin_map
 use Rattle.sync_ids.specs.Values.{GroupValue}

@@ -1,6 +1,6 @@
 -- What the facts of every legal journal are: sessions, held messages, groups, levels, rows, wanted ids and ends that fit
 -- together.
-use Rattle.std.specs.Prelude.{◌≡◌, ℕ, ◌<◌, ◌≤◌, Bool, true, false, List, [], ◌∷◌, length, Some, None, is_some}
+use Rattle.std.specs.Prelude.{◌≡◌, ℕ, ◌<◌, ◌≤◌, true, false, List, [], ◌∷◌, length, Some, None, is_some}
 use Rattle.std.specs.List.{AllByRecursion}
 use Rattle.std.specs.FinMap as fin_map
 use Rattle.std.specs.FinSet as fin_set

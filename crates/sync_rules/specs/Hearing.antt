@@ -1,5 +1,5 @@
 -- A journal that grows by settling and by records that are taken, without a disk.
-use Rattle.std.specs.Prelude.{◌≡◌, ℕ, ◌≤◌, true, List, [], ◌∷◌, ◌++◌, length, is_some, None}
+use Rattle.std.specs.Prelude.{◌≡◌, ℕ, true, List, [], ◌∷◌, ◌++◌, is_some, None}
 use Rattle.sync_ids.specs.Values.{GroupValue}
 use Rattle.sync_ids.specs.Ids.{group_id_of}
 use Rattle.sync_ids.specs.declared.records.Record.{Record}
@@ -11,7 +11,7 @@ use Rattle.sync_rules.specs.Clients.{Meaning}
 use Rattle.sync_rules.specs.Facts.{facts, session_at, contact_of, takes_of}
 use Rattle.sync_rules.specs.Steps.{IsSettled}
 use Rattle.sync_rules.specs.Sessions.{taken}
-use Rattle.sync_rules.specs.Legal.{Legal, IsSettling, AllSettling}
+use Rattle.sync_rules.specs.Legal.{Legal, AllSettling}
 
 -- a journal is extended by settling batches alone
 pub record Settles (clients : Meaning) (old new : List (List Entry)) : Type 0 where

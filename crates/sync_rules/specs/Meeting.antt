@@ -7,7 +7,7 @@ use Rattle.sync_rules.specs.declared.entries.Entry.TheVariants as entry
 use Rattle.sync_rules.specs.declared.limits.TheConstants.{MAX_CONTACTS, MAX_WANTED}
 use Rattle.sync_rules.specs.Clients.{Meaning}
 use Rattle.sync_rules.specs.Lists.{is_among}
-use Rattle.sync_rules.specs.Facts.{Facts, Id, after, after_all, nothing, entries_of, group_at, held_at, is_held, session_at, contact_of, level_at, is_invisible, takes_of, wanted_from}
+use Rattle.sync_rules.specs.Facts.{Facts, Id, after, after_all, nothing, entries_of, group_at, is_held, session_at, contact_of, level_at, is_invisible, takes_of, wanted_from}
 use Rattle.sync_rules.specs.Steps.{IsSettled, next}
 use Rattle.sync_rules.specs.Sessions.{is_shown}
 use Rattle.sync_rules.specs.Legal.{IsDue, MayAddGroup, MayAuthor, MayBegin}

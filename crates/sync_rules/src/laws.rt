@@ -120,9 +120,9 @@ pub fn expiry()
     ensures last { (j : List (List Entry)) → ExpiryLaw (entries_of j) }
 {}
 
-/// Begun: the number of sessions that have begun is that of the sessions in the list. An entry, some
-/// entries and some batches keep it in any facts, and it holds of every list of batches, legal or
-/// not.
+/// Begun: the number of sessions that have begun is that of the sessions in the list. An entry,
+/// some entries and some batches keep it in any facts, and it holds of every list of batches, legal
+/// or not.
 pub fn begun()
     ensures entry { EntryKeepsBegun }
     ensures entries { EntriesKeepBegun }
@@ -138,7 +138,8 @@ pub fn left()
     ensures bounded { LeftIsBounded }
 {}
 
-/// Allows: the test of a batch says yes exactly where the batch may follow a journal of these facts.
+/// Allows: the test of a batch says yes exactly where the batch may follow a journal of these
+/// facts.
 pub fn allows_is_allowed()
     ensures { AllowsIsAllowed }
 {

@@ -1,12 +1,21 @@
 //! The rules of a node of the Bramble Synchronisation Protocol over its journal: what an entry
 //! says, what a journal makes known, when a message may be delivered, what is sent, and which batch
-//! may follow which journal. The definitions stand in `specs/`, and their laws in the module
-//! `laws`.
+//! may follow which journal. The definitions stand in `specs/`, and their laws in the modules
+//! `laws` and `growth`.
+//!
+//! - `entries`: the entries of a journal and its batches; `comparing` tells whether two are equal.
+//! - `limits`: the limits that a legal journal keeps.
+//! - `states`: what is said of a message, and why a command is refused.
+//! - `answers`: what a client says of a group's messages.
+//! - `view`: what a session may ask of a store.
+//! - `lookups`, `steps`: the facts and the next step of a list of batches, by plain scans.
+//! - `laws`, `growth`: the laws, each the contract of a function that does nothing.
 #![tactic(auto)]
 
 mod answers;
 mod comparing;
 mod entries;
+pub mod growth;
 pub mod laws;
 mod limits;
 pub mod lookups;

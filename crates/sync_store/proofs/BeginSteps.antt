@@ -1,5 +1,5 @@
 -- A store begun, call by call.
-use Rattle.std.proofs.Common.{◌≡◌, ℕ, ◌+◌, ◌≤◌, Bool, true, false, ◌||◌, List, [], ◌∷◌, ◌++◌, map, Option, None, Some, Result, Ok, Err, IfOk, is_some, refl, sym, ap, ◌∙◌, subst, inl, inr, ◌⊎◌, arith, lit≤}
+use Rattle.std.proofs.Common.{◌≡◌, ℕ, ◌+◌, ◌≤◌, Bool, true, false, ◌||◌, List, [], ◌∷◌, ◌++◌, Option, None, Some, Result, Ok, Err, IfOk, is_some, refl, sym, ap, ◌∙◌, subst, inl, inr, ◌⊎◌, arith, lit≤}
 use Rattle.std.specs.Option.{ForSome}
 use Rattle.std.proofs.lemmas.Bool.{or_parts}
 use Rattle.std.proofs.lemmas.List.Elements.{All-nil}
@@ -14,11 +14,11 @@ use Rattle.frame_journal.specs.declared.fault.DiskFault.{DiskFault}
 use Rattle.frame_journal.specs.Gates.{Settles, AnyImage}
 use Rattle.sync_rules.specs.Clients.{Meaning}
 use Rattle.sync_rules.specs.Facts.{facts, nothing}
-use Rattle.entry_codec.specs.Laws.{payload}
+use Rattle.entry_codec.specs.Payloads.{payloads}
+use Rattle.entry_codec.specs.StandingLaws.{JournalsStand}
 use Rattle.entry_codec.specs.Standing.{stands, stands_in, journal, no_store}
 use Rattle.sync_store.specs.Begin.{Begins, InitMoment, IsFree, StandsForNone, has_open}
 use Rattle.sync_store.proofs.FitSteps.{settled_only}
-use Rattle.sync_store.proofs.Stands.{stands_has}
 
 -- no header is open
 none_open : (m : Two (List ℕ)) → is_open m.first ≡ false → is_open m.second ≡ false → journal_file m ≡ None
@@ -35,13 +35,20 @@ first_open m first second = cc
 begun_open : is_open (begun_bytes 1) ≡ true
 begun_open = refl
 
-begun_frames : HasFrames (begun_bytes 1) (header_of 1 1) (map payload [])
+begun_frames : HasFrames (begun_bytes 1) (header_of 1 1) (payloads nothing [])
 begun_frames = record { gate = 0; rest = []; whole = refl; closed = λ e. absurd (omega arith); long = refl; payloads_fit = All-nil IsPayload }
 
-begun_stands : (clients : Meaning) (m : Two (List ℕ)) → m.first ≡ begun_bytes 1 → is_open m.second ≡ false → stands clients m ≡ journal []
-begun_stands clients m first second =
-    stands_has clients m 0 (header_of 1 1) [] (first_open m (ap is_open first ∙ begun_open) second) (ap format_in first)
-    (subst (λ (bytes : List ℕ). HasFrames bytes (header_of 1 1) (map payload [])) (sym first) begun_frames) tt tt (lit≤ tt)
+begun_stands : JournalsStand → (clients : Meaning) (m : Two (List ℕ)) → m.first ≡ begun_bytes 1 → is_open m.second ≡ false → stands clients m ≡ journal []
+begun_stands stand clients m first second =
+    stand clients m 0 [] (record {
+      found = first_open m (ap is_open first ∙ begun_open) second;
+      format_is = ap format_in first;
+      header = header_of 1 1;
+      frames = subst (λ (bytes : List ℕ). HasFrames bytes (header_of 1 1) (payloads nothing [])) (sym first) begun_frames;
+      legal = tt;
+      within = tt;
+      bounded = lit≤ tt;
+    })
 
 -- ---- file 0 emptied, and a journal begun in it
 
@@ -64,12 +71,12 @@ clear_moment two links free m moment =
     inr (free.none_open, inl (λ clients. shut_stands clients m.files (shut_by two m.files.first free moment.this) (second_only two m.files.second free moment.other)), moment.nothing_sent)
 
 -- and while a journal is begun in it
-create_moment : (two : Two File) (links : Links) → IsFree two → (at : Two File) → at.second ≡ two.second → (m : Moment) → FileMoment (ShutOrBegun 1) at (sent_of links.told) 0 m → InitMoment two links m
-create_moment two links free at same m moment =
+create_moment : JournalsStand → (two : Two File) (links : Links) → IsFree two → (at : Two File) → at.second ≡ two.second → (m : Moment) → FileMoment (ShutOrBegun 1) at (sent_of links.told) 0 m → InitMoment two links m
+create_moment stand two links free at same m moment =
     let other : is_open m.files.second ≡ false = second_only two m.files.second free (subst (λ (f : File). IsFileImage f m.files.second) same moment.other) in
     elim moment.this [
       | inl shut ↦ inr (free.none_open, inl (λ clients. shut_stands clients m.files shut other), moment.nothing_sent)
-      | inr begun ↦ inr (free.none_open, inr (λ clients. begun_stands clients m.files begun other), moment.nothing_sent)
+      | inr begun ↦ inr (free.none_open, inr (λ clients. begun_stands stand clients m.files begun other), moment.nothing_sent)
     ]
 
 pub clear_moments : (two : Two File) (o0 o o' : Outside) → IsFree two → o.links ≡ o0.links → Passed two o o' 0 (BeforeOrShut (file_of two 0).now) → MomentsAre o o' (InitMoment two o0.links)
@@ -77,21 +84,21 @@ clear_moments two o0 o o' free links passed =
     moments_map o o' (FileMoment (BeforeOrShut two.first.now) two (sent_of o.links.told) 0) (InitMoment two o0.links)
     (λ m moment. clear_moment two o0.links free m (subst (λ (l : Links). FileMoment (BeforeOrShut two.first.now) two (sent_of l.told) 0 m) links moment)) passed
 
-pub create_moments : (two at : Two File) (o0 o o' : Outside) → IsFree two → at.second ≡ two.second → o.links ≡ o0.links → Passed at o o' 0 (ShutOrBegun 1) → MomentsAre o o' (InitMoment two o0.links)
-create_moments two at o0 o o' free same links passed =
+pub create_moments : JournalsStand → (two at : Two File) (o0 o o' : Outside) → IsFree two → at.second ≡ two.second → o.links ≡ o0.links → Passed at o o' 0 (ShutOrBegun 1) → MomentsAre o o' (InitMoment two o0.links)
+create_moments stand two at o0 o o' free same links passed =
     moments_map o o' (FileMoment (ShutOrBegun 1) at (sent_of o.links.told) 0) (InitMoment two o0.links)
-    (λ m moment. create_moment two o0.links free at same m (subst (λ (l : Links). FileMoment (ShutOrBegun 1) at (sent_of l.told) 0 m) links moment)) passed
+    (λ m moment. create_moment stand two o0.links free at same m (subst (λ (l : Links). FileMoment (ShutOrBegun 1) at (sent_of l.told) 0 m) links moment)) passed
 
 -- ---- the end
 
-pub begins_from : (two at end : Two File) → IsFree two → at.second ≡ two.second → Creates 0 1 at end → Begins two end
-begins_from two at end free same creates =
+pub begins_from : JournalsStand → (two at end : Two File) → IsFree two → at.second ≡ two.second → Creates 0 1 at end → Begins two end
+begins_from stand two at end free same creates =
     let second : end.second ≡ settled two.second.now = creates.other ∙ same ∙ free.second_settled in
     record {
       first = creates.bytes;
       second = second;
       each_image = λ clients left image.
-          begun_stands clients left
+          begun_stands stand clients left
           (settled_only (begun_bytes 1) left.first (subst (λ (f : File). IsFileImage f left.first) creates.bytes image.first))
           (ap is_open (settled_only two.second.now left.second (subst (λ (f : File). IsFileImage f left.second) second image.second)) ∙ second_shut two free);
     }
@@ -153,18 +160,18 @@ init_then o0 o1 o2 two at told looks run settles later =
     (λ m moment. moment_first o0 two at o0.links m told settles (subst (λ (l : Links). InitMoment at l m) run.same_links moment)) later)
 
 -- clear and then create
-pub begin_then : (two at : Two File) (o0 o1 o2 : Outside) → IsFree two → o0.files ≡ Some two → Passed two o0 o1 0 (BeforeOrShut (file_of two 0).now) → DiskRun o0 o1 → at.second ≡ two.second
+pub begin_then : JournalsStand → (two at : Two File) (o0 o1 o2 : Outside) → IsFree two → o0.files ≡ Some two → Passed two o0 o1 0 (BeforeOrShut (file_of two 0).now) → DiskRun o0 o1 → at.second ≡ two.second
     → Passed at o1 o2 0 (ShutOrBegun 1) → MomentsAre o0 o2 (InitMoment two o0.links)
-begin_then two at o0 o1 o2 free told cleared run same created =
-    moments_then o0 o1 o2 (InitMoment two o0.links) (clear_moments two o0 o0 o1 free refl cleared) (create_moments two at o0 o1 o2 free same run.same_links created)
+begin_then stand two at o0 o1 o2 free told cleared run same created =
+    moments_then o0 o1 o2 (InitMoment two o0.links) (clear_moments two o0 o0 o1 free refl cleared) (create_moments stand two at o0 o1 o2 free same run.same_links created)
 
-pub begun_becomes : (o0 o1 o2 : Option (Two File)) → ForSome o0 IsFree → Becomes (Clears 0) o0 o1 → Becomes (Creates 0 1) o1 o2 → Becomes Begins o0 o2
-begun_becomes None None None free first second = tt
-begun_becomes None None (Some c) free first second = absurd second
-begun_becomes None (Some b) o2 free first second = absurd first
-begun_becomes (Some a) None o2 free first second = absurd first
-begun_becomes (Some a) (Some b) None free first second = absurd second
-begun_becomes (Some a) (Some b) (Some c) free first second = begins_from a b c (free a refl) first.other second
+pub begun_becomes : JournalsStand → (o0 o1 o2 : Option (Two File)) → ForSome o0 IsFree → Becomes (Clears 0) o0 o1 → Becomes (Creates 0 1) o1 o2 → Becomes Begins o0 o2
+begun_becomes stand None None None free first second = tt
+begun_becomes stand None None (Some c) free first second = absurd second
+begun_becomes stand None (Some b) o2 free first second = absurd first
+begun_becomes stand (Some a) None o2 free first second = absurd first
+begun_becomes stand (Some a) (Some b) None free first second = absurd second
+begun_becomes stand (Some a) (Some b) (Some c) free first second = begins_from stand a b c (free a refl) first.other second
 
 pub init_becomes : (o0 o1 o2 : Option (Two File)) → Becomes Settles o0 o1 → Becomes Begins o1 o2 → Becomes Begins o0 o2
 init_becomes None None None first second = tt

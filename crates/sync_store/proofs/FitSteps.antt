@@ -1,31 +1,31 @@
 -- What a frame more makes of files that fit a store.
-use Rattle.std.proofs.Common.{◌≡◌, ℕ, zero, suc, ◌+◌, ◌≤◌, Bool, true, false, List, [], ◌∷◌, ◌++◌, map, length, Option, None, Some, Result, Ok, Err, refl, sym, ap, ◌∙◌, subst, inl, inr, arith, append-nil, append_assoc}
+use Rattle.std.proofs.Common.{◌≡◌, ℕ, zero, suc, ◌+◌, ◌≤◌, Bool, true, false, List, [], ◌∷◌, ◌++◌, length, Option, Some, Result, Ok, Err, refl, sym, ap, ◌∙◌, subst, inl, inr, arith}
 use Rattle.std.specs.List.{AllByRecursion}
 use Rattle.std.specs.Option.{ForSome}
 use Rattle.std.proofs.lemmas.List.{ext_get_or}
 use Rattle.outside.specs.Files.{Two, File, IsFileImage, IsImage, NothingPending, file_of, read_files, settled}
-use Rattle.outside.specs.Frames.{HasFrames, IsAtRest, end_of, format_in, journal_file, most_bytes}
-use Rattle.outside.specs.Images.{settled_image}
+use Rattle.outside.specs.Frames.{HasFrames, IsAtRest, format_in, most_bytes}
 use Rattle.outside.specs.Links.{Links, sent_of}
 use Rattle.outside.specs.Disk.{Becomes}
 use Rattle.outside.specs.Outside.{Outside, Moment, MomentsAre}
 use Rattle.outside.specs.Steps.{FileMoment, Passed, becomes_told, image_file, image_other, moments_map, moments_none, other_of}
-use Rattle.frame_journal.specs.Append.{payload_of, IsFramed, Appends, BeforeOrWith}
+use Rattle.frame_journal.specs.Append.{payload_of, Appends, BeforeOrWith}
 use Rattle.sync_rules.specs.declared.entries.Entry.{Entry}
 use Rattle.sync_rules.specs.Clients.{Meaning}
-use Rattle.sync_rules.specs.Facts.{Facts, after_all, facts}
+use Rattle.sync_rules.specs.Facts.{Facts, after_all, facts, nothing}
 use Rattle.sync_rules.specs.Legal.{Allowed, Legal}
-use Rattle.entry_codec.specs.Laws.{payload}
+use Rattle.entry_codec.specs.Payloads.{journal_end, payload, payload_len, payloads}
+use Rattle.entry_codec.specs.Growing.{all_push, facts_push, legal_push, payloads_push}
 use Rattle.entry_codec.specs.Spelling.{IsEntry}
 use Rattle.entry_codec.specs.Standing.{stands, journal, room_of}
+use Rattle.entry_codec.specs.StandingLaws.{JournalsStand}
 use Rattle.sync_store.specs.declared.fault.StoreFault.{StoreFault}
-use Rattle.sync_store.specs.Store.{StoreValue, IsStore}
+use Rattle.sync_store.specs.Store.{StoreValue}
 use Rattle.sync_store.specs.Fitting.{Fits, FitsSome}
 use Rattle.sync_store.specs.Commits.{Gains, MayAdd}
-use Rattle.sync_store.specs.Moments.{JournalMoment, Extends, AtMost, added, Adds}
+use Rattle.sync_store.specs.Moments.{JournalMoment, Leads, WithAtMost, journal_with, Adds}
+use Rattle.sync_store.proofs.Framing.{end_framed, framed_long}
 use Rattle.sync_store.proofs.Headers.{one_format, one_journal_file}
-use Rattle.sync_store.proofs.Batches.{All-push, facts-push, legal_push, payloads-push, end-push, framed_long}
-use Rattle.sync_store.proofs.Stands.{stands_has}
 
 -- ---- the two files
 
@@ -55,42 +55,51 @@ other_reads : (two : Two File) (file : ℕ) → other_of (read_files two) file �
 other_reads two zero = refl
 other_reads two (suc _) = refl
 
-this_reads : (two : Two File) (file : ℕ) → file_of (read_files two) file ≡ (file_of two file).now
+pub this_reads : (two : Two File) (file : ℕ) → file_of (read_files two) file ≡ (file_of two file).now
 this_reads two zero = refl
 this_reads two (suc _) = refl
 
 -- ---- what the files of a moment stand for
 
 -- frames of a journal behind the store's header, and the other file as it was
-stands_at : (clients : Meaning) (s : StoreValue) (j : List (List Entry)) (two : Two File) (fits : Fits clients s j two) (m : Two (List ℕ)) (k : List (List Entry))
-    → HasFrames (file_of m s.file) fits.header (map payload k) → other_of m s.file ≡ (other_of two s.file).now → Legal clients k
-    → AllByRecursion (λ batch. AllByRecursion IsEntry batch) k → end_of (map payload k) + room_of (facts k) ≤ most_bytes → stands clients m ≡ journal k
-stands_at clients s j two fits m k frames other legal within bounded =
-    let reads : HasFrames (file_of (read_files two) s.file) fits.header (map payload j) =
-    subst (λ (bytes : List ℕ). HasFrames bytes fits.header (map payload j)) (sym (this_reads two s.file)) fits.frames in
-    stands_has clients m s.file fits.header k
-    (one_journal_file m (read_files two) s.file fits.header (map payload k) (map payload j) frames reads (other ∙ sym (other_reads two s.file)) ∙ fits.file_is)
-    (one_format (file_of m s.file) (file_of two s.file).now fits.header (map payload k) (map payload j) frames fits.frames ∙ fits.format_is)
-    frames legal within bounded
+stands_at : JournalsStand → (clients : Meaning) (s : StoreValue) (j : List (List Entry)) (two : Two File) (fits : Fits clients s j two) (m : Two (List ℕ)) (k : List (List Entry))
+    → HasFrames (file_of m s.file) fits.header (payloads nothing k) → other_of m s.file ≡ (other_of two s.file).now → Legal clients k
+    → AllByRecursion (λ batch. AllByRecursion IsEntry batch) k → journal_end k + room_of (facts k) ≤ most_bytes → stands clients m ≡ journal k
+stands_at stand clients s j two fits m k frames other legal within bounded =
+    let reads : HasFrames (file_of (read_files two) s.file) fits.header (payloads nothing j) =
+    subst (λ (bytes : List ℕ). HasFrames bytes fits.header (payloads nothing j)) (sym (this_reads two s.file)) fits.frames in
+    stand clients m s.file k (record {
+      found =
+          one_journal_file m (read_files two) s.file fits.header (payloads nothing k) (payloads nothing j) frames reads (other ∙ sym (other_reads two s.file))
+          ∙ fits.file_is;
+      format_is =
+          one_format (file_of m s.file) (file_of two s.file).now fits.header (payloads nothing k) (payloads nothing j) frames fits.frames
+          ∙ fits.format_is ∙ fits.format_known;
+      header = fits.header;
+      frames = frames;
+      legal = legal;
+      within = within;
+      bounded = bounded;
+    })
 
 -- the room of a store in words of its journal
 bounded_now : (clients : Meaning) (s : StoreValue) (j : List (List Entry)) (two : Two File) → Fits clients s j two → s.end + room_of s.state.facts ≤ most_bytes
-    → end_of (map payload j) + room_of (facts j) ≤ most_bytes
+    → journal_end j + room_of (facts j) ≤ most_bytes
 bounded_now clients s j two fits roomy =
     let same : room_of (facts j) ≡ room_of s.state.facts = ap room_of fits.facts_are in
     omega (arith, fits.end_is, same, roomy)
 
 -- every crash of now leaves files that stand for the journal
-pub fits_image : (clients : Meaning) (s : StoreValue) (j : List (List Entry)) (two : Two File) (m : Two (List ℕ)) → Fits clients s j two → s.end + room_of s.state.facts ≤ most_bytes → IsImage two m
-    → stands clients m ≡ journal j
-fits_image clients s j two m fits roomy image =
+pub fits_image : JournalsStand → (clients : Meaning) (s : StoreValue) (j : List (List Entry)) (two : Two File) (m : Two (List ℕ)) → Fits clients s j two
+    → s.end + room_of s.state.facts ≤ most_bytes → IsImage two m → stands clients m ≡ journal j
+fits_image stand clients s j two m fits roomy image =
     let this : file_of m s.file ≡ (file_of two s.file).now =
     settled_only (file_of two s.file).now (file_of m s.file)
     (subst (λ (f : File). IsFileImage f (file_of m s.file)) (this_settled two s.file fits.first_settled fits.second_settled) (image_file two m s.file image)) in
     let other : other_of m s.file ≡ (other_of two s.file).now =
     settled_only (other_of two s.file).now (other_of m s.file)
     (subst (λ (f : File). IsFileImage f (other_of m s.file)) (other_settled two s.file fits.first_settled fits.second_settled) (image_other two m s.file image)) in
-    stands_at clients s j two fits m j (subst (λ (bytes : List ℕ). HasFrames bytes fits.header (map payload j)) (sym this) fits.frames) other fits.legal fits.within
+    stands_at stand clients s j two fits m j (subst (λ (bytes : List ℕ). HasFrames bytes fits.header (payloads nothing j)) (sym this) fits.frames) other fits.legal fits.within
     (bounded_now clients s j two fits roomy)
 
 -- ---- a batch more
@@ -99,111 +108,117 @@ allowed_here : (clients : Meaning) (s : StoreValue) (j : List (List Entry)) (two
     → Allowed clients (facts j) batch
 allowed_here clients s j two batch framed fits may = subst (λ (f : Facts). Allowed clients f batch) (sym fits.facts_are) may.allowed
 
+payload_here : (clients : Meaning) (s : StoreValue) (j : List (List Entry)) (two : Two File) (batch : List Entry) (framed : List ℕ) → Fits clients s j two → MayAdd clients s batch framed
+    → payload_of framed ≡ payload (facts j) batch
+payload_here clients s j two batch framed fits may = may.payload_is ∙ ap (λ (f : Facts). payload f batch) (sym fits.facts_are)
+
 bounded_then : (clients : Meaning) (s : StoreValue) (j : List (List Entry)) (two : Two File) (batch : List Entry) (framed : List ℕ) → Fits clients s j two → MayAdd clients s batch framed
-    → end_of (map payload (j ++ batch ∷ [])) + room_of (facts (j ++ batch ∷ [])) ≤ most_bytes
+    → journal_end (j ++ batch ∷ []) + room_of (facts (j ++ batch ∷ [])) ≤ most_bytes
 bounded_then clients s j two batch framed fits may =
     let same : room_of (facts (j ++ batch ∷ [])) ≡ room_of (after_all s.state.facts batch) =
-    ap room_of (facts-push j batch ∙ ap (λ (f : Facts). after_all f batch) fits.facts_are) in
-    omega (arith, end-push j batch framed may.is_framed may.payload_is, fits.end_is, same, may.still_roomy)
+    ap room_of (facts_push j batch ∙ ap (λ (f : Facts). after_all f batch) fits.facts_are) in
+    omega (arith, end_framed j batch framed may.is_framed (payload_here clients s j two batch framed fits may), fits.end_is, same, may.still_roomy)
 
-more_frames : (bytes header : List ℕ) (j : List (List Entry)) (batch : List Entry) (framed : List ℕ) → payload_of framed ≡ payload batch → HasFrames bytes header (map payload j ++ payload_of framed ∷ [])
-    → HasFrames bytes header (map payload (j ++ batch ∷ []))
+more_frames : (bytes header : List ℕ) (j : List (List Entry)) (batch : List Entry) (framed : List ℕ) → payload_of framed ≡ payload (facts j) batch
+    → HasFrames bytes header (payloads nothing j ++ payload_of framed ∷ []) → HasFrames bytes header (payloads nothing (j ++ batch ∷ []))
 more_frames bytes header j batch framed same frames =
-    subst (λ (ps : List (List ℕ)). HasFrames bytes header ps) (ap (λ p. map payload j ++ p ∷ []) same ∙ sym (payloads-push j batch)) frames
+    subst (λ (ps : List (List ℕ)). HasFrames bytes header ps) (ap (λ p. payloads nothing j ++ p ∷ []) same ∙ sym (payloads_push nothing j batch)) frames
 
 -- a moment of an append: the files stand for the journal, or for it with the batch
-adds_moment : (clients : Meaning) (s : StoreValue) (j : List (List Entry)) (two : Two File) (batch : List Entry) (framed : List ℕ) (sent : List (List ℕ)) → Fits clients s j two
-    → MayAdd clients s batch framed → (m : Moment) → FileMoment (BeforeOrWith (file_of two s.file).now s.end framed) two sent s.file m → JournalMoment clients (AtMost batch) j sent m
-adds_moment clients s j two batch framed sent fits may m moment =
+adds_moment : JournalsStand → (clients : Meaning) (s : StoreValue) (j : List (List Entry)) (two : Two File) (batch : List Entry) (framed : List ℕ) (sent : List (List ℕ)) → Fits clients s j two
+    → MayAdd clients s batch framed → (m : Moment) → FileMoment (BeforeOrWith (file_of two s.file).now s.end framed) two sent s.file m → JournalMoment clients (WithAtMost j batch) sent m
+adds_moment stand clients s j two batch framed sent fits may m moment =
     let other : other_of m.files s.file ≡ (other_of two s.file).now =
     settled_only (other_of two s.file).now (other_of m.files s.file)
     (subst (λ (f : File). IsFileImage f (other_of m.files s.file)) (other_settled two s.file fits.first_settled fits.second_settled) moment.other) in
-    elim (moment.this fits.header (map payload j) fits.frames fits.end_is) [
+    elim (moment.this fits.header (payloads nothing j) fits.frames fits.end_is) [
       | inl before ↦ record {
-        more = [];
+        whole = j;
         has = inl refl;
-        stands_for =
-            stands_at clients s j two fits m.files j before other fits.legal fits.within (bounded_now clients s j two fits may.roomy)
-            ∙ ap journal (sym (append-nil j));
+        stands_for = stands_at stand clients s j two fits m.files j before other fits.legal fits.within (bounded_now clients s j two fits may.roomy);
         nothing_sent = moment.nothing_sent;
       }
       | inr with_it ↦ record {
-        more = batch ∷ [];
+        whole = j ++ batch ∷ [];
         has = inr refl;
         stands_for =
-            stands_at clients s j two fits m.files (j ++ batch ∷ []) (more_frames (file_of m.files s.file) fits.header j batch framed may.payload_is with_it) other
+            stands_at stand clients s j two fits m.files (j ++ batch ∷ [])
+            (more_frames (file_of m.files s.file) fits.header j batch framed (payload_here clients s j two batch framed fits may) with_it) other
             (legal_push clients j batch fits.legal (allowed_here clients s j two batch framed fits may))
-            (All-push (λ b. AllByRecursion IsEntry b) j batch fits.within may.within) (bounded_then clients s j two batch framed fits may);
+            (all_push (λ b. AllByRecursion IsEntry b) j batch fits.within may.within) (bounded_then clients s j two batch framed fits may);
         nothing_sent = moment.nothing_sent;
       }
     ]
 
 -- after an append the disk fits the store with the batch
-pub adds_fits : (clients : Meaning) (s new : StoreValue) (j : List (List Entry)) (two two' : Two File) (batch : List Entry) (framed : List ℕ) → Fits clients s j two → MayAdd clients s batch framed
-    → Appends s.file s.end framed two two' → Gains s new batch → Fits clients new (j ++ batch ∷ []) two'
-adds_fits clients s new j two two' batch framed fits may appends is_with =
-    let long : length framed ≡ 5 + length (payload batch) = framed_long framed may.is_framed ∙ ap (λ p. 5 + length p) may.payload_is in
+pub adds_fits : JournalsStand → (clients : Meaning) (s new : StoreValue) (j : List (List Entry)) (two two' : Two File) (batch : List Entry) (framed : List ℕ) → Fits clients s j two
+    → MayAdd clients s batch framed → Appends s.file s.end framed two two' → Gains s new batch → Fits clients new (j ++ batch ∷ []) two'
+adds_fits stand clients s new j two two' batch framed fits may appends is_with =
+    let payload_is = payload_here clients s j two batch framed fits may in
+    let long : length framed ≡ 5 + payload_len batch = framed_long framed may.is_framed ∙ ap (λ p. 5 + length p) may.payload_is in
     let grows : new.end ≡ s.end + length framed = omega (arith, is_with.end, long) in
     let other : other_of two' s.file ≡ settled (other_of two' s.file).now =
     appends.other ∙ other_settled two s.file fits.first_settled fits.second_settled ∙ ap (λ (f : File). settled f.now) (sym appends.other) in
     let reads_other : other_of (read_files two') s.file ≡ (other_of two s.file).now = other_reads two' s.file ∙ ap (λ (f : File). f.now) appends.other in
-    let frames : HasFrames (file_of two' s.file).now fits.header (map payload (j ++ batch ∷ [])) =
-    more_frames (file_of two' s.file).now fits.header j batch framed may.payload_is (appends.frames fits.header (map payload j) fits.frames fits.end_is) in
-    let read_frames : HasFrames (file_of (read_files two') s.file) fits.header (map payload (j ++ batch ∷ [])) =
-    subst (λ (bytes : List ℕ). HasFrames bytes fits.header (map payload (j ++ batch ∷ []))) (sym (this_reads two' s.file)) frames in
-    let before : HasFrames (file_of (read_files two) s.file) fits.header (map payload j) =
-    subst (λ (bytes : List ℕ). HasFrames bytes fits.header (map payload j)) (sym (this_reads two s.file)) fits.frames in
+    let more = payloads nothing (j ++ batch ∷ []) in
+    let frames : HasFrames (file_of two' s.file).now fits.header more =
+    more_frames (file_of two' s.file).now fits.header j batch framed payload_is (appends.frames fits.header (payloads nothing j) fits.frames fits.end_is) in
+    let read_frames : HasFrames (file_of (read_files two') s.file) fits.header more =
+    subst (λ (bytes : List ℕ). HasFrames bytes fits.header more) (sym (this_reads two' s.file)) frames in
+    let before : HasFrames (file_of (read_files two) s.file) fits.header (payloads nothing j) =
+    subst (λ (bytes : List ℕ). HasFrames bytes fits.header (payloads nothing j)) (sym (this_reads two s.file)) fits.frames in
     let legal = legal_push clients j batch fits.legal (allowed_here clients s j two batch framed fits may) in
-    let within = All-push (λ b. AllByRecursion IsEntry b) j batch fits.within may.within in
+    let within = all_push (λ b. AllByRecursion IsEntry b) j batch fits.within may.within in
     record {
       first_settled = first_of two' s.file appends.at_rest.settled other;
       second_settled = second_of two' s.file appends.at_rest.settled other;
-      stands_for = stands_at clients s j two fits (read_files two') (j ++ batch ∷ []) read_frames reads_other legal within (bounded_then clients s j two batch framed fits may);
-      facts_are = facts-push j batch ∙ ap (λ (f : Facts). after_all f batch) fits.facts_are ∙ sym is_with.facts;
+      stands_for =
+          stands_at stand clients s j two fits (read_files two') (j ++ batch ∷ []) read_frames reads_other legal within (bounded_then clients s j two batch framed fits may);
+      facts_are = facts_push j batch ∙ ap (λ (f : Facts). after_all f batch) fits.facts_are ∙ sym is_with.facts;
       legal = legal;
       file_is =
-          one_journal_file (read_files two') (read_files two) s.file fits.header (map payload (j ++ batch ∷ [])) (map payload j) read_frames before (reads_other ∙ sym (other_reads two s.file))
+          one_journal_file (read_files two') (read_files two) s.file fits.header more (payloads nothing j) read_frames before (reads_other ∙ sym (other_reads two s.file))
           ∙ fits.file_is ∙ ap Some (sym is_with.file);
       format_is =
           ap (λ k. format_in (file_of two' k).now) is_with.file
-          ∙ one_format (file_of two' s.file).now (file_of two s.file).now fits.header (map payload (j ++ batch ∷ [])) (map payload j) frames fits.frames ∙ fits.format_is;
+          ∙ one_format (file_of two' s.file).now (file_of two s.file).now fits.header more (payloads nothing j) frames fits.frames
+          ∙ fits.format_is ∙ sym is_with.format;
+      format_known = is_with.format ∙ fits.format_known;
       header = fits.header;
-      frames = subst (λ k. HasFrames (file_of two' k).now fits.header (map payload (j ++ batch ∷ []))) (sym is_with.file) frames;
-      end_is = grows ∙ ap (λ e. e + length framed) fits.end_is ∙ sym (end-push j batch framed may.is_framed may.payload_is);
+      frames = subst (λ k. HasFrames (file_of two' k).now fits.header more) (sym is_with.file) frames;
+      end_is = grows ∙ ap (λ e. e + length framed) fits.end_is ∙ sym (end_framed j batch framed may.is_framed payload_is);
       within = within;
     }
 
 -- ---- the run of an append
 
-pub adds_moments : (clients : Meaning) (s : StoreValue) (j : List (List Entry)) (two : Two File) (batch : List Entry) (framed : List ℕ) (o o' : Outside) → Fits clients s j two
+pub adds_moments : JournalsStand → (clients : Meaning) (s : StoreValue) (j : List (List Entry)) (two : Two File) (batch : List Entry) (framed : List ℕ) (o o' : Outside) → Fits clients s j two
     → MayAdd clients s batch framed → Passed two o o' s.file (BeforeOrWith (file_of two s.file).now s.end framed)
-    → MomentsAre o o' (JournalMoment clients (AtMost batch) j (sent_of o.links.told))
-adds_moments clients s j two batch framed o o' fits may passed =
-    moments_map o o' (FileMoment (BeforeOrWith (file_of two s.file).now s.end framed) two (sent_of o.links.told) s.file) (JournalMoment clients (AtMost batch) j (sent_of o.links.told))
-    (adds_moment clients s j two batch framed (sent_of o.links.told) fits may) passed
+    → MomentsAre o o' (JournalMoment clients (WithAtMost j batch) (sent_of o.links.told))
+adds_moments stand clients s j two batch framed o o' fits may passed =
+    moments_map o o' (FileMoment (BeforeOrWith (file_of two s.file).now s.end framed) two (sent_of o.links.told) s.file)
+    (JournalMoment clients (WithAtMost j batch) (sent_of o.links.told))
+    (adds_moment stand clients s j two batch framed (sent_of o.links.told) fits may) passed
 
-true≢false : {A : Type 0} (b : Bool) → b ≡ true → b ≡ false → A
+pub true≢false : {A : Type 0} (b : Bool) → b ≡ true → b ≡ false → A
 true≢false b is_true is_false = cc
 
-told_same : (a b c : Two File) (o o' : Option (Two File)) → o ≡ Some a → o ≡ Some b → a ≡ b
-told_same a b c o o' first second = cc
-
-pub adds_ok : (clients : Meaning) (s new : StoreValue) (j : List (List Entry)) (two : Two File) (batch : List Entry) (framed : List ℕ) (u : Unit {0}) (o o' : Outside) → Fits clients s j two
+pub adds_ok : JournalsStand → (clients : Meaning) (s new : StoreValue) (j : List (List Entry)) (two : Two File) (batch : List Entry) (framed : List ℕ) (u : Unit {0}) (o o' : Outside) → Fits clients s j two
     → MayAdd clients s batch framed → o.files ≡ Some two → Passed two o o' s.file (BeforeOrWith (file_of two s.file).now s.end framed)
     → Becomes (Appends s.file s.end framed) o.files o'.files → Gains s new batch → Adds clients batch (Ok u) new o o' j
-adds_ok clients s new j two batch framed u o o' fits may told passed becomes is_with = record {
-  moments = adds_moments clients s j two batch framed o o' fits may passed;
+adds_ok stand clients s new j two batch framed u o o' fits may told passed becomes is_with = record {
+  moments = adds_moments stand clients s j two batch framed o o' fits may passed;
   ends = λ still two' told'.
       let there = becomes_told (Appends s.file s.end framed) o.files o'.files two told becomes in
       let same : there.0 ≡ two' = cc in
-      (batch ∷ [], refl, adds_fits clients s new j two two' batch framed fits may (subst (λ (t : Two File). Appends s.file s.end framed two t) same there.2) is_with);
+      (j ++ batch ∷ [], refl, adds_fits stand clients s new j two two' batch framed fits may (subst (λ (t : Two File). Appends s.file s.end framed two t) same there.2) is_with);
 }
 
-pub adds_err : (clients : Meaning) (s new : StoreValue) (j : List (List Entry)) (two : Two File) (batch : List Entry) (framed : List ℕ) (e : StoreFault) (o o' : Outside) → Fits clients s j two
+pub adds_err : JournalsStand → (clients : Meaning) (s new : StoreValue) (j : List (List Entry)) (two : Two File) (batch : List Entry) (framed : List ℕ) (e : StoreFault) (o o' : Outside) → Fits clients s j two
     → MayAdd clients s batch framed → Passed two o o' s.file (BeforeOrWith (file_of two s.file).now s.end framed)
     → new.closed ≡ true → Adds clients batch (Err e) new o o' j
-adds_err clients s new j two batch framed e o o' fits may passed closed = record {
-  moments = adds_moments clients s j two batch framed o o' fits may passed;
+adds_err stand clients s new j two batch framed e o o' fits may passed closed = record {
+  moments = adds_moments stand clients s j two batch framed o o' fits may passed;
   ends = λ still two' told'. true≢false new.closed closed still;
 }
 
@@ -211,6 +226,7 @@ adds_err clients s new j two batch framed e o o' fits may passed closed = record
 pub record IsSame (s new : StoreValue) : Type 0 where
   pub facts : new.state.facts ≡ s.state.facts
   pub file : new.file ≡ s.file
+  pub format : new.format ≡ s.format
   pub end : new.end ≡ s.end
 
 pub fits_same : (clients : Meaning) (s new : StoreValue) (j : List (List Entry)) (two : Two File) → Fits clients s j two → IsSame s new → Fits clients new j two
@@ -221,30 +237,29 @@ fits_same clients s new j two fits same = record {
   facts_are = fits.facts_are ∙ sym same.facts;
   legal = fits.legal;
   file_is = fits.file_is ∙ ap Some (sym same.file);
-  format_is = ap (λ k. format_in (file_of two k).now) same.file ∙ fits.format_is;
+  format_is = ap (λ k. format_in (file_of two k).now) same.file ∙ fits.format_is ∙ sym same.format;
+  format_known = same.format ∙ fits.format_known;
   header = fits.header;
-  frames = subst (λ k. HasFrames (file_of two k).now fits.header (map payload j)) (sym same.file) fits.frames;
+  frames = subst (λ k. HasFrames (file_of two k).now fits.header (payloads nothing j)) (sym same.file) fits.frames;
   end_is = same.end ∙ fits.end_is;
   within = fits.within;
 }
 
+pub fits_some_same : (clients : Meaning) (s new : StoreValue) (files : Option (Two File)) → FitsSome clients s files → IsSame s new → FitsSome clients new files
+fits_some_same clients s new files fits same two told = let there = fits two told in (there.0, fits_same clients s new there.0 two there.1 same)
+
 -- no call on the disk
-pub extends_none : (clients : Meaning) (P Q : List (List Entry) → Type 0) (s new : StoreValue) (j : List (List Entry)) (two : Two File) (o : Outside) → Fits clients s j two
-    → s.end + room_of s.state.facts ≤ most_bytes → o.files ≡ Some two → IsSame s new → P [] → Q [] → Extends clients P Q new o o j
-extends_none clients P Q s new j two o fits roomy told same p q = record {
+pub leads_none : JournalsStand → (clients : Meaning) (P Q : List (List Entry) → Type 0) (s new : StoreValue) (j : List (List Entry)) (two : Two File) (o : Outside) → Fits clients s j two
+    → s.end + room_of s.state.facts ≤ most_bytes → o.files ≡ Some two → IsSame s new → P j → Q j → Leads clients P Q new o o
+leads_none stand clients P Q s new j two o fits roomy told same p q = record {
   moments =
-      moments_none o (JournalMoment clients P j (sent_of o.links.told))
+      moments_none o (JournalMoment clients P (sent_of o.links.told))
       (λ m w.
       let now = o.now_is two m told w in
-      record {
-        more = [];
-        has = p;
-        stands_for = fits_image clients s j two m.files fits roomy now.image ∙ ap journal (sym (append-nil j));
-        nothing_sent = now.sent;
-      });
+      record { whole = j; has = p; stands_for = fits_image stand clients s j two m.files fits roomy now.image; nothing_sent = now.sent });
   ends = λ still two' told'.
       let one : two ≡ two' = cc in
-      ([], q, subst (λ (k : List (List Entry)). Fits clients new k two') (sym (append-nil j)) (subst (λ (t : Two File). Fits clients new j t) one (fits_same clients s new j two fits same)));
+      (j, q, subst (λ (t : Two File). Fits clients new j t) one (fits_same clients s new j two fits same));
 }
 
 -- a journal's file at rest, as an append asks
@@ -252,10 +267,10 @@ at_rest : (clients : Meaning) (s : StoreValue) (j : List (List Entry)) (two : Tw
 at_rest clients s j two fits = record {
   settled = this_settled two s.file fits.first_settled fits.second_settled;
   header = fits.header;
-  payloads = map payload j;
+  payloads = payloads nothing j;
   frames = fits.frames;
   end_is = fits.end_is;
 }
 
-pub rests : (clients : Meaning) (s : StoreValue) (files : Option (Two File)) → FitsSome clients s files → s.closed ≡ false → ForSome files (λ two. IsAtRest two s.file s.end)
-rests clients s files fits still two told = let there = fits still two told in at_rest clients s there.0 two there.1
+pub rests : (clients : Meaning) (s : StoreValue) (files : Option (Two File)) → FitsSome clients s files → ForSome files (λ two. IsAtRest two s.file s.end)
+rests clients s files fits two told = let there = fits two told in at_rest clients s there.0 two there.1

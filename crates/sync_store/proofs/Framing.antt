@@ -3,8 +3,11 @@ use Rattle.std.proofs.Common.{◌≡◌, ℕ, ◌+◌, ◌-◌, ◌≤◌, List,
 use Rattle.std.specs.Int.{w32, to_be_bytes}
 use Rattle.std.proofs.Math.Seq.{take-append_seam, drop-append_seam}
 use Rattle.outside.specs.Frames.{IsPayload}
-use Rattle.frame_journal.specs.Append.{payload_of, IsFramed}
-use Rattle.sync_store.specs.Commits.{framed_of}
+use Rattle.frame_journal.specs.Append.{framed_of, payload_of, IsFramed}
+use Rattle.sync_rules.specs.declared.entries.Entry.{Entry}
+use Rattle.sync_rules.specs.Facts.{facts}
+use Rattle.entry_codec.specs.Payloads.{journal_end, payload}
+use Rattle.entry_codec.specs.Growing.{journal_end_push}
 
 be_long : (n : ℕ) → length (to_be_bytes w32 n) ≡ 4
 be_long n = refl
@@ -29,5 +32,14 @@ framed_so p fits =
     let same = payload_framed p in
     record {
       fits = subst IsPayload (sym same) fits;
-      spelled = ap (λ q. to_be_bytes w32 (length q) ++ q ++ 0 ∷ []) (sym same);
+      spelled = ap framed_of (sym same);
     }
+
+pub framed_long : (framed : List ℕ) → IsFramed framed → length framed ≡ 5 + length (payload_of framed)
+framed_long framed is_framed = ap length is_framed.spelled ∙ framed_length (payload_of framed)
+
+-- the end of a journal with a batch more
+pub end_framed : (j : List (List Entry)) (b : List Entry) (framed : List ℕ) → IsFramed framed → payload_of framed ≡ payload (facts j) b
+    → journal_end (j ++ b ∷ []) ≡ journal_end j + length framed
+end_framed j b framed is_framed same =
+    omega (arith, journal_end_push j b, framed_long framed is_framed, ap length same)

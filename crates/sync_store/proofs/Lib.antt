@@ -1,15 +1,12 @@
 mod LoadSteps
 mod LoadEnds
 mod Headers
-mod Stands
-mod Batches
-mod FitSteps
-mod SettleSteps
-mod FillSteps
-mod RoomSteps
-mod BeginSteps
-mod Latencies
-mod Counts
 mod Framing
+mod FitSteps
+mod Steps
+mod SettleSteps
+mod BeginSteps
 pub mod Limits
 mod Growth
+mod Due
+mod Errors

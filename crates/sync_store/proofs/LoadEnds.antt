@@ -19,12 +19,14 @@ use Rattle.frame_journal.specs.Journal.{JournalValue}
 use Rattle.frame_journal.specs.Header.{Starts}
 use Rattle.frame_journal.specs.declared.fault.StartFault.{StartFault}
 use Rattle.frame_journal.specs.declared.fault.StartFault.TheVariants as start
-use Rattle.entry_codec.specs.Laws.{payload}
+use Rattle.entry_codec.specs.Payloads.{payloads}
 use Rattle.entry_codec.specs.Standing.{damaged, journal, no_store, room_of, stands}
 use Rattle.entry_codec.specs.Fronts.{Front, front_closed, front_format, front_frames, front_none, front_start}
 use Rattle.journal_state.specs.Whole.{Knows, StateValue}
 use Rattle.sync_store.specs.Store.{StoreValue}
 use Rattle.sync_store.specs.Fitting.{Fits, FitsSome}
+use Rattle.sync_store.specs.Ready.{IsReady}
+use Rattle.sync_store.specs.Faults.{load_of_start}
 use Rattle.sync_store.specs.declared.fault.LoadFault.{LoadFault}
 use Rattle.sync_store.specs.declared.fault.LoadFault.TheVariants as load
 use Rattle.sync_store.specs.Loading.{AreDamaged, HasRead, HasReadAll, IsAtEnd, IsLoaded, LeavesSettled, ReadsAll, SoFar, StandsFor}
@@ -77,8 +79,10 @@ pub starts_so_far : (clients : Meaning) (files : Option (Two File)) (j : Journal
     → s.facts ≡ nothing → Knows clients s → SoFar clients files j s
 starts_so_far clients files j s starts fresh empty knows = record {
   knows = knows;
-  few = omega (arith, ap (λ (f : Facts). length f.held) empty, ap (λ (f : Facts). length f.sessions) empty, fresh);
-  records = λ session. no_records s.facts session j.end empty;
+  numbers = record {
+    few = omega (arith, ap (λ (f : Facts). length f.held) empty, ap (λ (f : Facts). f.begun) empty, fresh);
+    records = λ session. no_records s.facts session j.end empty;
+  };
   started = omega (arith, fresh);
   bounded = omega (arith, fresh);
   begun = λ early. empty;
@@ -93,18 +97,36 @@ starts_so_far clients files j s starts fresh empty knows = record {
       };
 }
 
-pub starts_none : (clients : Meaning) (o0 o1 o2 : Outside) (two : Two File) → Becomes Settles o0.files o1.files → Looks o1 o2 → ((mid : Two File) → o1.files ≡ Some mid → Starts (read_files mid) (Err start.NoStore))
+starts_none : (clients : Meaning) (o0 o1 : Outside) (two : Two File) → Becomes Settles o0.files o1.files → ((mid : Two File) → o1.files ≡ Some mid → Starts (read_files mid) (Err start.NoStore))
     → o0.files ≡ Some two → stands clients (read_files two) ≡ no_store
-starts_none clients o0 o1 o2 two settles looks starts told =
+starts_none clients o0 o1 two settles starts told =
     let mid = barrier_told o0 o1 two settles told in
     ap (stands clients) (sym mid.2) ∙ front_none clients (read_files mid.0) (starts mid.0 mid.1)
 
-pub starts_damaged : (clients : Meaning) (o0 o1 : Outside) (two : Two File) (place : Place) → Becomes Settles o0.files o1.files → ((mid : Two File) → o1.files ≡ Some mid → Starts (read_files mid) (Err (start.Damaged place)))
+starts_damaged : (clients : Meaning) (o0 o1 : Outside) (two : Two File) (place : Place) → Becomes Settles o0.files o1.files → ((mid : Two File) → o1.files ≡ Some mid → Starts (read_files mid) (Err (start.Damaged place)))
     → o0.files ≡ Some two → stands clients (read_files two) ≡ damaged place.file place.at
 starts_damaged clients o0 o1 two place settles starts told =
     let mid = barrier_told o0 o1 two settles told in
     let is = starts mid.0 mid.1 in
     ap (stands clients) (sym mid.2) ∙ front_format clients (read_files mid.0) place.file is.0 is.1 ∙ ap (λ (n : ℕ). damaged place.file n) (sym is.2)
+
+-- no journal was found
+pub starts_fault : (clients : Meaning) (o0 o1 : Outside) (two : Two File) (e : StartFault) → Becomes Settles o0.files o1.files → ((mid : Two File) → o1.files ≡ Some mid → Starts (read_files mid) (Err e))
+    → o0.files ≡ Some two → IsLoaded clients (read_files two) (Err (load_of_start e))
+starts_fault clients o0 o1 two start.NoStore settles starts told = starts_none clients o0 o1 two settles starts told
+starts_fault clients o0 o1 two start.DiskFault settles starts told = tt
+starts_fault clients o0 o1 two (start.Damaged place) settles starts told = starts_damaged clients o0 o1 two place settles starts told
+
+pub starts_leaves : (o0 o1 o2 : Outside) (e : StartFault) → Becomes Settles o0.files o1.files → Looks o1 o2 → LeavesSettled o0.files o2.files (Err (load_of_start e))
+starts_leaves o0 o1 o2 start.NoStore settles looks = settles_then o0 o1 o2 settles looks
+starts_leaves o0 o1 o2 start.DiskFault settles looks = tt
+starts_leaves o0 o1 o2 (start.Damaged place) settles looks = settles_then o0 o1 o2 settles looks
+
+pub reads_leaves : (o0 o1 o2 : Outside) (e : LoadFault) → Becomes Settles o0.files o1.files → Looks o1 o2 → LeavesSettled o0.files o2.files (Err e)
+reads_leaves o0 o1 o2 load.NoStore settles looks = settles_then o0 o1 o2 settles looks
+reads_leaves o0 o1 o2 load.DiskFault settles looks = tt
+reads_leaves o0 o1 o2 load.Memory settles looks = settles_then o0 o1 o2 settles looks
+reads_leaves o0 o1 o2 (load.Damaged place) settles looks = settles_then o0 o1 o2 settles looks
 
 -- ---- the end
 
@@ -141,17 +163,17 @@ becomes_back step (Some x) None b told becomes = absurd becomes
 becomes_back step (Some x) (Some y) b told becomes = let same : y ≡ b = cc in (x, refl, subst (λ z. step x z) same becomes)
 
 abbrev pub store_of : JournalValue → StateValue → ℕ → StoreValue
-store_of j s limit = record { state = s; file = j.file; end = j.end; limit = limit; closed = false }
+store_of j s limit = record { state = s; file = j.file; format = 1; end = j.end; limit = limit; closed = false }
 
 -- the disk fits the store
 pub fits_loaded : (clients : Meaning) (o0 o1 o2 : Outside) (j : JournalValue) (s : StateValue) (limit : ℕ) → Becomes Settles o0.files o1.files → o2.files ≡ o1.files → HasReadAll clients o2.files j s
     → FitsSome clients (store_of j s limit) o2.files
 unfolding loaded
-fits_loaded clients o0 o1 o2 j s limit settles same all is_open two told =
+fits_loaded clients o0 o1 o2 j s limit settles same all two told =
     let old = becomes_back Settles o0.files o1.files two (sym same ∙ told) settles in
     let read = all.so_far.known two told in
     let stand = loaded clients two o2.files j (store_of j s limit) all told in
-    let At : List ℕ → Type 0 = λ b. HasFrames b (take 14 (file_of (read_files two) j.file)) (map payload read.done) in (
+    let At : List ℕ → Type 0 = λ b. HasFrames b (take 14 (file_of (read_files two) j.file)) (payloads nothing read.done) in (
       read.done,
       record {
         first_settled = settled_first old.0 two old.2;
@@ -161,6 +183,7 @@ fits_loaded clients o0 o1 o2 j s limit settles same all is_open two told =
         legal = read.front.legal;
         file_is = read.front.found;
         format_is = ap format_in (sym (as_read two j.file)) ∙ read.front.format_is;
+        format_known = refl;
         header = take 14 (file_of (read_files two) j.file);
         frames = subst At (as_read two j.file) (front_frames clients (read_files two) j.file read.done j.end read.front (all.at_end two told));
         end_is = read.front.end_is;
@@ -177,12 +200,11 @@ answers_fault clients o0 o1 o2 two j s (load.Damaged place) settles same there t
 answers_fault clients o0 o1 o2 two j s load.DiskFault settles same there told = tt
 answers_fault clients o0 o1 o2 two j s load.Memory settles same there told = tt
 
-pub none_is : (files : Two (List ℕ)) (e : StartFault) → e ≡ start.NoStore → Starts files (Err e) → Starts files (Err start.NoStore)
-none_is files e is there = let P : StartFault → Type 0 = λ x. Starts files (Err x) in subst P is there
-
-pub damaged_is : (files : Two (List ℕ)) (e : StartFault) (place : Place) → e ≡ start.Damaged place → Starts files (Err e) → Starts files (Err (start.Damaged place))
-damaged_is files e place is there = let P : StartFault → Type 0 = λ x. Starts files (Err x) in subst P is there
-
 -- the state of no entries knows every client's judgements
 pub knows_none : (clients : Meaning) (s : StateValue) → s.facts ≡ nothing → s.answers ≡ [] → Knows clients s
 knows_none clients s empty none = none ∙ ap (λ (f : Facts). map (answer_of clients f) f.held) (sym empty)
+
+pub ready_loaded : (clients : Meaning) (o0 o1 o2 : Outside) (j : JournalValue) (s : StateValue) (limit : ℕ) → Becomes Settles o0.files o1.files → o2.files ≡ o1.files → HasReadAll clients o2.files j s
+    → IsReady clients (store_of j s limit) o2.files
+ready_loaded clients o0 o1 o2 j s limit settles same all =
+    record { still_open = refl; knows = all.so_far.knows; fits = fits_loaded clients o0 o1 o2 j s limit settles same all }

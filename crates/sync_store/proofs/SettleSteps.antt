@@ -1,89 +1,225 @@
 -- Settling, one batch after another.
-use Rattle.std.proofs.Common.{◌≡◌, ℕ, ◌+◌, ◌*◌, ◌≤◌, Bool, true, false, List, [], ◌∷◌, ◌++◌, length, Option, None, Some, Result, Ok, Err, is_some, refl, sym, ap, ◌∙◌, subst, inl, inr, arith, append-nil, append_assoc}
+use Rattle.std.proofs.Common.{◌≡◌, ◌⊎◌, ℕ, ◌+◌, ◌*◌, ◌≤◌, ◌<◌, Bool, true, false, List, [], ◌∷◌, ◌++◌, length, Option, Some, Result, Ok, Err, refl, sym, ap, ◌∙◌, subst, inl, inr, arith, append-nil, append_assoc, length-append}
+use Rattle.std.specs.List.{AllByRecursion}
 use Rattle.outside.specs.Files.{Two, File}
-use Rattle.outside.specs.Frames.{most_bytes}
 use Rattle.outside.specs.Links.{Links, sent_of}
-use Rattle.outside.specs.Outside.{Outside, Moment, MomentsAre, DiskRun}
-use Rattle.outside.specs.Steps.{moments_map, moments_then, told_back, told_on}
+use Rattle.outside.specs.Outside.{Outside, Moment, DiskRun}
+use Rattle.outside.specs.Steps.{moments_map, moments_then, run_none, run_then, told_back, told_on}
 use Rattle.sync_rules.specs.declared.entries.Entry.{Entry}
 use Rattle.sync_rules.specs.Clients.{Meaning}
-use Rattle.sync_rules.specs.Facts.{Facts, after_all, after_batches, facts, nothing}
-use Rattle.sync_rules.specs.Legal.{AllSettling, IsSettlingBatch}
-use Rattle.entry_codec.specs.Standing.{journal}
+use Rattle.sync_rules.specs.Facts.{Facts, after_batches}
+use Rattle.sync_rules.specs.Left.{left_of}
+use Rattle.sync_rules.specs.LeftLaws.{left_few}
+use Rattle.sync_rules.specs.Legal.{AllSettling}
+use Rattle.sync_rules.specs.Steps.{IsSettled}
+use Rattle.entry_codec.specs.Growing.{after_batches-append, settling-append}
+use Rattle.entry_codec.specs.StandingLaws.{JournalsStand}
+use Rattle.journal_state.specs.Whole.{Knows}
 use Rattle.sync_store.specs.declared.fault.StoreFault.{StoreFault}
-use Rattle.sync_store.specs.Store.{StoreValue}
+use Rattle.sync_store.specs.declared.fault.StoreFault.TheVariants as fault
+use Rattle.sync_store.specs.Store.{StoreValue, IsStore}
 use Rattle.sync_store.specs.Fitting.{Fits, FitsSome}
-use Rattle.sync_store.specs.Moments.{JournalMoment, Extends, AtMost, added, Adds, Settles}
-use Rattle.sync_store.proofs.Batches.{after-append, settling-append}
+use Rattle.sync_store.specs.Ready.{IsReady}
+use Rattle.sync_store.specs.Moments.{JournalMoment, Leads, WithAtMost, journal_with, Adds, IsBetween}
+use Rattle.sync_store.specs.Settling.{AreFilled, BatchSo, ComesBy, HasSettled, IsFullBatch, IsOneBatch, MakesBatch, SettlesSo, settling_len, steps_in}
+use Rattle.sync_store.proofs.FitSteps.{IsSame, leads_none, true≢false}
+use Rattle.sync_store.proofs.Steps.{all-append, batches_lower, filled_all, filled_push, steps_in-append}
 
 -- a weaker word on a run
-extends_map : (clients : Meaning) (P P' Q Q' : List (List Entry) → Type 0) (s : StoreValue) (o o' : Outside) (j : List (List Entry))
-    → ((more : List (List Entry)) → P more → P' more) → ((more : List (List Entry)) → Q more → Q' more) → Extends clients P Q s o o' j → Extends clients P' Q' s o o' j
-extends_map clients P P' Q Q' s o o' j p q run = record {
+leads_map : (clients : Meaning) (P P' Q Q' : List (List Entry) → Type 0) (s : StoreValue) (o o' : Outside) → ((whole : List (List Entry)) → P whole → P' whole)
+    → ((whole : List (List Entry)) → Q whole → Q' whole) → Leads clients P Q s o o' → Leads clients P' Q' s o o'
+leads_map clients P P' Q Q' s o o' p q run = record {
   moments =
-      moments_map o o' (JournalMoment clients P j (sent_of o.links.told)) (JournalMoment clients P' j (sent_of o.links.told))
-      (λ m moment. record { more = moment.more; has = p moment.more moment.has; stands_for = moment.stands_for; nothing_sent = moment.nothing_sent }) run.moments;
+      moments_map o o' (JournalMoment clients P (sent_of o.links.told)) (JournalMoment clients P' (sent_of o.links.told))
+      (λ m moment. record { whole = moment.whole; has = p moment.whole moment.has; stands_for = moment.stands_for; nothing_sent = moment.nothing_sent }) run.moments;
   ends = λ still two told. let there = run.ends still two told in (there.0, q there.0 there.1, there.2);
 }
 
-moment_later : (clients : Meaning) (P P' : List (List Entry) → Type 0) (j more : List (List Entry)) (sent sent' : List (List ℕ)) → sent' ≡ sent
-    → ((further : List (List Entry)) → P further → P' (more ++ further)) → (m : Moment) → JournalMoment clients P (j ++ more) sent' m → JournalMoment clients P' j sent m
-moment_later clients P P' j more sent sent' same both m moment = record {
-  more = more ++ moment.more;
-  has = both moment.more moment.has;
-  stands_for = moment.stands_for ∙ ap journal (append_assoc j more moment.more);
-  nothing_sent = moment.nothing_sent ∙ same;
+-- ---- journals with a front of further batches
+
+between_first : (j xs ys whole : List (List Entry)) → IsBetween j xs whole → IsBetween j (xs ++ ys) whole
+between_first j xs ys whole b = record {
+  front = b.front;
+  rest = b.rest ++ ys;
+  parts = ap (λ (l : List (List Entry)). l ++ ys) b.parts ∙ append_assoc b.front b.rest ys;
+  is = b.is;
 }
 
-facts_there : (clients : Meaning) (s : StoreValue) (j more : List (List Entry)) (two : Two File) (f : Facts) → facts j ≡ f → Fits clients s (j ++ more) two → after_batches f more ≡ s.state.facts
-facts_there clients s j more two f here fits = ap (λ (g : Facts). after_batches g more) (sym here) ∙ sym (after-append nothing j more) ∙ fits.facts_are
+between_then : (j xs ys whole : List (List Entry)) → IsBetween (j ++ xs) ys whole → IsBetween j (xs ++ ys) whole
+between_then j xs ys whole b = record {
+  front = xs ++ b.front;
+  rest = b.rest;
+  parts = ap (λ (l : List (List Entry)). xs ++ l) b.parts ∙ sym (append_assoc xs b.front b.rest);
+  is = b.is ∙ append_assoc j xs b.front;
+}
 
--- settling on after settling
-pub settles_then : (clients : Meaning) (s0 s1 s2 : StoreValue) (o0 o1 o2 : Outside) → Settles clients s0 s1 o0 o1 → s1.closed ≡ false → DiskRun o0 o1 → Settles clients s1 s2 o1 o2 → Settles clients s0 s2 o0 o2
-settles_then clients s0 s1 s2 o0 o1 o2 first still run second two told j fits =
+between_one : (j : List (List Entry)) (batch : List Entry) (whole : List (List Entry)) → WithAtMost j batch whole → IsBetween j (batch ∷ []) whole
+between_one j batch whole (inl before) = record { front = []; rest = batch ∷ []; parts = refl; is = before ∙ sym (append-nil j) }
+between_one j batch whole (inr with_it) = record { front = batch ∷ []; rest = []; parts = refl; is = with_it }
+
+-- ---- no batch, and one
+
+pub comes_none : JournalsStand → (clients : Meaning) (s new : StoreValue) (o : Outside) → IsStore s → IsSame s new → new.limit ≡ s.limit → ComesBy clients s new o o []
+comes_none stand clients s new o store same limit = record {
+  settling = tt;
+  facts = same.facts;
+  file = same.file;
+  format = same.format;
+  limit = limit;
+  end = λ still. omega (arith, same.end);
+  leads = λ two told j fits.
+      leads_none stand clients (IsBetween j []) (λ whole. whole ≡ j ++ []) s new j two o fits store.roomy told same
+      (record { front = []; rest = []; parts = refl; is = sym (append-nil j) }) (sym (append-nil j));
+}
+
+pub leads_one : (clients : Meaning) (j : List (List Entry)) (batch : List Entry) (new : StoreValue) (u : Unit {0}) (o o' : Outside) → Adds clients batch (Ok u) new o o' j
+    → Leads clients (IsBetween j (batch ∷ [])) (λ whole. whole ≡ j ++ batch ∷ []) new o o'
+leads_one clients j batch new u o o' adds =
+    leads_map clients (WithAtMost j batch) (IsBetween j (batch ∷ [])) (λ whole. whole ≡ journal_with j batch (Ok u)) (λ whole. whole ≡ j ++ batch ∷ []) new o o'
+    (between_one j batch) (λ whole is. is) adds
+
+-- the store is closed, so nothing is said of its end
+pub leads_one_closed : (clients : Meaning) (j : List (List Entry)) (batch : List Entry) (new : StoreValue) (e : StoreFault) (o o' : Outside) → Adds clients batch (Err e) new o o' j → new.closed ≡ true
+    → Leads clients (IsBetween j (batch ∷ [])) (λ whole. whole ≡ j ++ batch ∷ []) new o o'
+leads_one_closed clients j batch new e o o' adds closed = record {
+  moments =
+      moments_map o o' (JournalMoment clients (WithAtMost j batch) (sent_of o.links.told)) (JournalMoment clients (IsBetween j (batch ∷ [])) (sent_of o.links.told))
+      (λ m moment. record { whole = moment.whole; has = between_one j batch moment.whole moment.has; stands_for = moment.stands_for; nothing_sent = moment.nothing_sent }) adds.moments;
+  ends = λ still two told. true≢false new.closed closed still;
+}
+
+-- ---- batches and then further ones
+
+settling_len-append : (xs ys : List (List Entry)) → settling_len (xs ++ ys) ≡ settling_len xs + settling_len ys
+settling_len-append xs ys = omega (arith, steps_in-append xs ys, length-append xs ys)
+
+pub comes_then : (clients : Meaning) (s0 s1 s2 : StoreValue) (o0 o1 o2 : Outside) (xs ys : List (List Entry)) → ComesBy clients s0 s1 o0 o1 xs → s1.closed ≡ false → DiskRun o0 o1
+    → ComesBy clients s1 s2 o1 o2 ys → ComesBy clients s0 s2 o0 o2 (xs ++ ys)
+comes_then clients s0 s1 s2 o0 o1 o2 xs ys first still run second =
     let f = s0.state.facts in
-    let begun = first two told j fits in
-    let there = told_on o0 o1 two run.same_told told in
-    let mid = begun.ends still there.0 there.1 in
-    let at = facts_there clients s1 j mid.0 there.0 f fits.facts_are mid.2 in
-    let both : (further : List (List Entry)) → AllSettling clients s1.state.facts further → AllSettling clients f (mid.0 ++ further) =
-    λ further settling. settling-append clients f mid.0 further mid.1 (subst (λ (g : Facts). AllSettling clients g further) (sym at) settling) in
-    let later = second there.0 there.1 (j ++ mid.0) mid.2 in
-    let same : sent_of o1.links.told ≡ sent_of o0.links.told = ap (λ (l : Links). sent_of l.told) run.same_links in
     record {
-      moments =
-          moments_then o0 o1 o2 (JournalMoment clients (AllSettling clients f) j (sent_of o0.links.told)) begun.moments
-          (moments_map o1 o2 (JournalMoment clients (AllSettling clients s1.state.facts) (j ++ mid.0) (sent_of o1.links.told))
-          (JournalMoment clients (AllSettling clients f) j (sent_of o0.links.told))
-          (moment_later clients (AllSettling clients s1.state.facts) (AllSettling clients f) j mid.0 (sent_of o0.links.told) (sent_of o1.links.told) same both) later.moments);
-      ends = λ open' two' told'.
-          let end = later.ends open' two' told' in
-          (mid.0 ++ end.0, both end.0 end.1, subst (λ (k : List (List Entry)). Fits clients s2 k two') (append_assoc j mid.0 end.0) end.2);
+      settling = settling-append clients f xs ys first.settling (subst (λ (g : Facts). AllSettling clients g ys) first.facts second.settling);
+      facts = second.facts ∙ ap (λ (g : Facts). after_batches g ys) first.facts ∙ sym (after_batches-append f xs ys);
+      file = second.file ∙ first.file;
+      format = second.format ∙ first.format;
+      limit = second.limit ∙ first.limit;
+      end = λ open'. omega (arith, first.end still, second.end open', settling_len-append xs ys);
+      leads = λ two told j fits.
+          let begun = first.leads two told j fits in
+          let there = told_on o0 o1 two run.same_told told in
+          let mid = begun.ends still there.0 there.1 in
+          let later = second.leads there.0 there.1 (j ++ xs) (subst (λ (k : List (List Entry)). Fits clients s1 k there.0) mid.1 mid.2) in
+          let same : sent_of o1.links.told ≡ sent_of o0.links.told = ap (λ (l : Links). sent_of l.told) run.same_links in
+          let sent0 = sent_of o0.links.told in
+          record {
+            moments =
+                moments_then o0 o1 o2 (JournalMoment clients (IsBetween j (xs ++ ys)) sent0)
+                (moments_map o0 o1 (JournalMoment clients (IsBetween j xs) sent0) (JournalMoment clients (IsBetween j (xs ++ ys)) sent0)
+                (λ m moment. record {
+                  whole = moment.whole;
+                  has = between_first j xs ys moment.whole moment.has;
+                  stands_for = moment.stands_for;
+                  nothing_sent = moment.nothing_sent;
+                }) begun.moments)
+                (moments_map o1 o2 (JournalMoment clients (IsBetween (j ++ xs) ys) (sent_of o1.links.told)) (JournalMoment clients (IsBetween j (xs ++ ys)) sent0)
+                (λ m moment. record {
+                  whole = moment.whole;
+                  has = between_then j xs ys moment.whole moment.has;
+                  stands_for = moment.stands_for;
+                  nothing_sent = moment.nothing_sent ∙ same;
+                }) later.moments);
+            ends = λ open' two' told'. let end = later.ends open' two' told' in (end.0, end.1 ∙ append_assoc j xs ys, end.2);
+          };
     }
 
--- one settling batch
-settling_one : (clients : Meaning) (f : Facts) (batch : List Entry) (more : List (List Entry)) → IsSettlingBatch clients f batch → AtMost batch more → AllSettling clients f more
-settling_one clients f batch more settling at_most =
-    elim at_most [
-      | inl none ↦ subst (λ (k : List (List Entry)). AllSettling clients f k) (sym none) tt
-      | inr one ↦ subst (λ (k : List (List Entry)). AllSettling clients f k) (sym one) (settling, tt)
-    ]
-
-added_most : (batch : List Entry) (result : Result (Unit {0}) StoreFault) (more : List (List Entry)) → more ≡ added batch result → AtMost batch more
-added_most batch (Ok _) more same = inr same
-added_most batch (Err _) more same = inl same
-
-pub adds_settles : (clients : Meaning) (f : Facts) (batch : List Entry) (result : Result (Unit {0}) StoreFault) (s : StoreValue) (o o' : Outside) (j : List (List Entry)) → IsSettlingBatch clients f batch
-    → Adds clients batch result s o o' j → Extends clients (AllSettling clients f) (AllSettling clients f) s o o' j
-adds_settles clients f batch result s o o' j settling adds =
-    extends_map clients (AtMost batch) (AllSettling clients f) (λ more. more ≡ added batch result) (AllSettling clients f) s o o' j (λ more most. settling_one clients f batch more settling most)
-    (λ more same. settling_one clients f batch more settling (added_most batch result more same)) adds
-
--- at the end of a run that extends a journal the disk fits the store
-pub fits_after : (clients : Meaning) (P Q : List (List Entry) → Type 0) (s s' : StoreValue) (o o' : Outside) → DiskRun o o' → s.closed ≡ false
-    → ((two : Two File) → o.files ≡ Some two → (j : List (List Entry)) → Fits clients s j two → Extends clients P Q s' o o' j) → FitsSome clients s o.files → FitsSome clients s' o'.files
-fits_after clients P Q s s' o o' run still extends fits still' two' told' =
+-- at the end the disk fits the store
+pub comes_fits : (clients : Meaning) (s s' : StoreValue) (o o' : Outside) (more : List (List Entry)) → DiskRun o o' → ComesBy clients s s' o o' more → FitsSome clients s o.files → s'.closed ≡ false
+    → FitsSome clients s' o'.files
+comes_fits clients s s' o o' more run comes fits still two' told' =
     let there = told_back o o' two' run.same_told told' in
-    let begun = fits still there.0 there.1 in
-    let end = (extends there.0 there.1 begun.0 begun.1).ends still' two' told' in
-    (begun.0 ++ end.0, end.2)
+    let begun = fits there.0 there.1 in
+    let end = (comes.leads there.0 there.1 begun.0 begun.1).ends still two' told' in
+    (end.0, end.2)
+
+-- and so it does after a commit
+pub adds_ready_fits : (clients : Meaning) (s s' : StoreValue) (batch : List Entry) (result : Result (Unit {0}) StoreFault) (o o' : Outside) → DiskRun o o'
+    → ((two : Two File) → o.files ≡ Some two → (j : List (List Entry)) → Fits clients s j two → Adds clients batch result s' o o' j) → FitsSome clients s o.files → s'.closed ≡ false
+    → FitsSome clients s' o'.files
+adds_ready_fits clients s s' batch result o o' run adds fits still two' told' =
+    let there = told_back o o' two' run.same_told told' in
+    let begun = fits there.0 there.1 in
+    let end = (adds there.0 there.1 begun.0 begun.1).ends still two' told' in
+    (end.0, end.2)
+
+-- ---- the loop
+
+-- a store was settled by filled batches so far, and each of them is full or no step is left
+pub record SettlesOn (clients : Meaning) (s new : StoreValue) (o o' : Outside) : Type 0 where
+  pub more : List (List Entry)
+  pub comes : ComesBy clients s new o o' more
+  pub filled : AreFilled more
+  pub each : IsOneBatch clients new more
+  pub run : DiskRun o o'
+
+pub settles_begun : JournalsStand → (clients : Meaning) (s : StoreValue) (o : Outside) → IsStore s → SettlesOn clients s s o o
+settles_begun stand clients s o store = record {
+  more = [];
+  comes = comes_none stand clients s s o store (record { facts = refl; file = refl; format = refl; end = refl }) refl;
+  filled = tt;
+  each = inl tt;
+  run = run_none o;
+}
+
+full_so_far : (clients : Meaning) (s : StoreValue) (more : List (List Entry)) → (IsSettled clients s.state.facts → ⊥) → IsOneBatch clients s more → AllByRecursion IsFullBatch more
+full_so_far clients s more unsettled (inl full) = full
+full_so_far clients s more unsettled (inr settled) = absurd (unsettled settled)
+
+each_then : (clients : Meaning) (s : StoreValue) (xs ys : List (List Entry)) → AllByRecursion IsFullBatch xs → IsOneBatch clients s ys → IsOneBatch clients s (xs ++ ys)
+each_then clients s xs ys full (inl all) = inl (all-append IsFullBatch xs ys full all)
+each_then clients s xs ys full (inr settled) = inr settled
+
+-- one batch more
+pub settles_more : (clients : Meaning) (s0 s1 s2 : StoreValue) (o0 o1 o2 : Outside) (u : Unit {0}) → SettlesOn clients s0 s1 o0 o1 → s1.closed ≡ false → (IsSettled clients s1.state.facts → ⊥)
+    → MakesBatch clients s1 s2 (Ok u) o1 o2 → DiskRun o1 o2 → SettlesOn clients s0 s2 o0 o2
+settles_more clients s0 s1 s2 o0 o1 o2 u so_far still unsettled made run =
+    let full = full_so_far clients s1 so_far.more unsettled so_far.each in
+    record {
+      more = so_far.more ++ made.more;
+      comes = comes_then clients s0 s1 s2 o0 o1 o2 so_far.more made.more so_far.comes still so_far.run made.comes;
+      filled = filled_push so_far.more made.more full made.few;
+      each = each_then clients s2 so_far.more made.more full made.answer.2;
+      run = run_then o0 o1 o2 so_far.run run;
+    }
+
+-- what settling by some batches answers
+has_settled : (clients : Meaning) (s new : StoreValue) (result : Result (Unit {0}) StoreFault) (o o' : Outside) (more : List (List Entry)) → ComesBy clients s new o o' more → AreFilled more
+    → SettlesSo clients new result → HasSettled clients s new result o o'
+has_settled clients s new result o o' more comes filled answer =
+    let fewer = batches_lower clients s.state.facts more comes.settling in
+    let same : left_of new.state.facts ≡ left_of (after_batches s.state.facts more) = ap left_of comes.facts in
+    record {
+      more = more;
+      comes = comes;
+      filled = filled;
+      room = omega (arith, fewer, same);
+      few = omega (arith, fewer, left_few s.state.facts);
+      answer = answer;
+    }
+
+-- no step is left
+pub settled_ok : (clients : Meaning) (s new : StoreValue) (u : Unit {0}) (o o' : Outside) → SettlesOn clients s new o o' → new.closed ≡ false → IsSettled clients new.state.facts
+    → HasSettled clients s new (Ok u) o o'
+settled_ok clients s new u o o' so_far still settled = has_settled clients s new (Ok u) o o' so_far.more so_far.comes so_far.filled (still, settled)
+
+batch_so : (clients : Meaning) (old new : StoreValue) (more : List (List Entry)) (e : StoreFault) → BatchSo clients old new more (Err e) → SettlesSo clients new (Err e)
+batch_so clients old new more fault.Closed answer = answer
+batch_so clients old new more fault.Full answer = answer
+batch_so clients old new more fault.Memory answer = answer
+batch_so clients old new more fault.DiskFault answer = answer
+
+-- a batch failed
+pub settled_err : (clients : Meaning) (s0 s1 s2 : StoreValue) (e : StoreFault) (o0 o1 o2 : Outside) → SettlesOn clients s0 s1 o0 o1 → s1.closed ≡ false → (IsSettled clients s1.state.facts → ⊥)
+    → MakesBatch clients s1 s2 (Err e) o1 o2 → HasSettled clients s0 s2 (Err e) o0 o2
+settled_err clients s0 s1 s2 e o0 o1 o2 so_far still unsettled made =
+    has_settled clients s0 s2 (Err e) o0 o2 (so_far.more ++ made.more) (comes_then clients s0 s1 s2 o0 o1 o2 so_far.more made.more so_far.comes still so_far.run made.comes)
+    (filled_push so_far.more made.more (full_so_far clients s1 so_far.more unsettled so_far.each) made.few) (batch_so clients s1 s2 made.more e made.answer)

@@ -1,13 +1,13 @@
 -- The disk fits a store: its files stand for a journal that has the store's facts.
-use Rattle.std.specs.Prelude.{◌≡◌, ℕ, ◌+◌, ◌≤◌, false, List, map, Option, Some}
+use Rattle.std.specs.Prelude.{◌≡◌, ℕ, ◌+◌, ◌≤◌, List, Option, Some}
 use Rattle.std.specs.List.{AllByRecursion}
 use Rattle.outside.specs.Files.{Two, File, IsImage, file_of, read_files, NothingPending}
-use Rattle.outside.specs.Frames.{HasFrames, end_of, format_in, journal_file, most_bytes}
+use Rattle.outside.specs.Frames.{HasFrames, format_in, journal_file, most_bytes}
 use Rattle.sync_rules.specs.declared.entries.Entry.{Entry}
 use Rattle.sync_rules.specs.Clients.{Meaning}
-use Rattle.sync_rules.specs.Facts.{facts}
+use Rattle.sync_rules.specs.Facts.{facts, nothing}
 use Rattle.sync_rules.specs.Legal.{Legal}
-use Rattle.entry_codec.specs.Laws.{payload}
+use Rattle.entry_codec.specs.Payloads.{journal_end, payloads}
 use Rattle.entry_codec.specs.Spelling.{IsEntry}
 use Rattle.entry_codec.specs.Standing.{stands, journal, room_of}
 use Rattle.sync_store.specs.Store.{StoreValue}
@@ -20,20 +20,22 @@ pub record Fits (clients : Meaning) (s : StoreValue) (j : List (List Entry)) (tw
   pub stands_for : stands clients (read_files two) ≡ journal j
   pub facts_are : facts j ≡ s.state.facts
   pub legal : Legal clients j
-  -- the journal's file is the store's, and its frames are the journal's batches up to the closed gate, which is before the store's end
+  -- the journal's file is the store's, and so is its format, which is the first
   pub file_is : journal_file (read_files two) ≡ Some s.file
-  pub format_is : format_in (file_of two s.file).now ≡ 1
+  pub format_is : format_in (file_of two s.file).now ≡ s.format
+  pub format_known : s.format ≡ 1
+  -- its frames are the journal's batches, up to the closed gate, which is before the store's end
   pub header : List ℕ
-  pub frames : HasFrames (file_of two s.file).now header (map payload j)
-  pub end_is : s.end ≡ end_of (map payload j)
+  pub frames : HasFrames (file_of two s.file).now header (payloads nothing j)
+  pub end_is : s.end ≡ journal_end j
   pub within : AllByRecursion (λ batch. AllByRecursion IsEntry batch) j
 
--- where the store is not closed and the files are told they fit it with some journal
+-- where the files are told they fit the store with some journal
 abbrev pub FitsSome : Meaning → StoreValue → Option (Two File) → Type 0
-FitsSome clients s files = s.closed ≡ false → (two : Two File) → files ≡ Some two → (j : List (List Entry)) × Fits clients s j two
+FitsSome clients s files = (two : Two File) → files ≡ Some two → (j : List (List Entry)) × Fits clients s j two
 
 -- whatever a crash leaves of a disk that fits a store stands for the journal
 abbrev pub ImagesStand : Type 0
 ImagesStand =
-    (clients : Meaning) (s : StoreValue) (j : List (List Entry)) (two : Two File) (left : Two (List ℕ)) → Fits clients s j two → s.end + room_of s.state.facts ≤ most_bytes → IsImage two left
-    → stands clients left ≡ journal j
+    (clients : Meaning) (s : StoreValue) (j : List (List Entry)) (two : Two File) (left : Two (List ℕ)) → Fits clients s j two
+    → s.end + room_of s.state.facts ≤ most_bytes → IsImage two left → stands clients left ≡ journal j

@@ -1,8 +1,12 @@
+pub mod Faults
 pub mod Store
 pub mod Inside
 pub mod Fitting
+pub mod Ready
 pub mod Moments
 pub mod Begin
 pub mod Commits
+pub mod Settling
 pub mod Refusals
 pub mod Loading
+pub mod Cited

@@ -9,14 +9,14 @@ use Rattle.frame_journal.specs.Gates.{Settles}
 use Rattle.frame_journal.specs.Journal.{JournalValue}
 use Rattle.sync_rules.specs.declared.entries.Entry.{Entry}
 use Rattle.sync_rules.specs.Clients.{Meaning}
-use Rattle.sync_rules.specs.Facts.{after_all, facts, nothing, takes_of}
+use Rattle.sync_rules.specs.Facts.{after_all, facts, nothing}
+use Rattle.sync_rules.specs.Allows.{allows}
 use Rattle.entry_codec.specs.Spelling.{IsEntry}
-use Rattle.entry_codec.specs.Laws.{payload}
-use Rattle.entry_codec.specs.Allows.{allows}
-use Rattle.entry_codec.specs.Standing.{batch_of, damaged, journal, no_store, room_of, stands}
+use Rattle.entry_codec.specs.Payloads.{batch_of, payload}
+use Rattle.entry_codec.specs.Standing.{damaged, journal, no_store, room_of, stands}
 use Rattle.entry_codec.specs.Fronts.{Front}
 use Rattle.journal_state.specs.Whole.{Knows, StateValue}
-use Rattle.sync_store.specs.Store.{StoreValue}
+use Rattle.sync_store.specs.Store.{HasNumbers, StoreValue}
 use Rattle.sync_store.specs.declared.fault.LoadFault.{LoadFault}
 use Rattle.sync_store.specs.declared.fault.LoadFault.TheVariants as load
 
@@ -56,8 +56,7 @@ pub record HasRead (clients : Meaning) (two : Two File) (j : JournalValue) (s : 
 -- A reader of a journal's file has played the batches up to its gate: the state is that of these batches.
 pub record SoFar (clients : Meaning) (files : Option (Two File)) (j : JournalValue) (s : StateValue) : Type 0 where
   pub knows : Knows clients s
-  pub few : length s.facts.held + length s.facts.sessions ≤ j.end
-  pub records : (session : ℕ) → takes_of s.facts.takes session ≤ j.end
+  pub numbers : HasNumbers s.facts j.end
   pub started : 15 ≤ j.end
   pub bounded : j.end ≤ most_bytes
   -- the place of the last frame is that of a frame, once there was one
@@ -77,8 +76,8 @@ AreDamaged clients files place = (two : Two File) → files ≡ Some two → sta
 -- a payload was played: its batch is allowed, and the state is that behind it
 pub record HasPlayed (clients : Meaning) (s s' : StateValue) (to : List ℕ) : Type 0 where
   pub batch : List Entry
-  pub read : batch_of to ≡ Some batch
-  pub spelled : to ≡ payload batch
+  pub read : batch_of s.facts to ≡ Some batch
+  pub spelled : to ≡ payload s.facts batch
   pub within : AllByRecursion IsEntry batch
   pub allowed : allows clients s.facts batch ≡ true
   pub facts_are : s'.facts ≡ after_all s.facts batch
@@ -86,15 +85,13 @@ pub record HasPlayed (clients : Meaning) (s s' : StateValue) (to : List ℕ) : T
 
 -- a payload is none of a batch that is allowed
 abbrev pub IsRefused : Meaning → StateValue → List ℕ → Type 0
-IsRefused clients s to = (batch_of to ≡ None) ⊎ ((batch : List Entry) × (batch_of to ≡ Some batch) × (allows clients s.facts batch ≡ false))
+IsRefused clients s to = (batch_of s.facts to ≡ None) ⊎ ((batch : List Entry) × (batch_of s.facts to ≡ Some batch) × (allows clients s.facts batch ≡ false))
 
 -- what playing the last frame that was read answers
-abbrev pub Plays : Meaning → JournalValue → StateValue → StateValue → List ℕ → Result Bool LoadFault → Type 0
-Plays clients j s s' to (Ok true) = (j.end ≤ most_bytes) × HasPlayed clients s s' to
-Plays clients j s s' to (Ok false) = ⊥
+abbrev pub Plays : Meaning → JournalValue → StateValue → StateValue → List ℕ → Result (Unit {0}) LoadFault → Type 0
+Plays clients j s s' to (Ok _) = HasPlayed clients s s' to
 Plays clients j s s' to (Err load.NoStore) = ⊥
-Plays clients j s s' to (Err (load.Damaged place)) =
-    (place.file ≡ j.file) × (place.at ≡ j.last) × ((most_bytes < j.end) ⊎ IsRefused clients s to)
+Plays clients j s s' to (Err (load.Damaged place)) = (place.file ≡ j.file) × (place.at ≡ j.last) × IsRefused clients s to
 Plays clients j s s' to (Err load.DiskFault) = ⊥
 Plays clients j s s' to (Err load.Memory) = Unit {0}
 

@@ -7,24 +7,25 @@ use Rattle.sync_rules.specs.declared.answers.Judgement.{Judgement}
 use Rattle.sync_rules.specs.declared.answers.Judgement.TheVariants as judgement
 use Rattle.sync_rules.specs.declared.states.Refused.{Refused}
 use Rattle.sync_rules.specs.declared.states.Refused.TheVariants as refused
+use Rattle.sync_rules.specs.declared.limits.TheConstants.{MAX_CONTACTS, MAX_GROUPS}
 use Rattle.sync_rules.specs.Clients.{Meaning}
 use Rattle.sync_rules.specs.Facts.{Facts, Id, group_at, held_at}
 use Rattle.sync_rules.specs.Steps.{is_served, kind_of_def, verdict_in}
 use Rattle.sync_store.specs.declared.fault.PostFault.{PostFault}
 use Rattle.sync_store.specs.declared.fault.PostFault.TheVariants as post
 
--- the number of a further contact; there are at most 256
+-- the number of a further contact; there are at most MAX_CONTACTS
 abbrev pub contact_answer : Facts → Result ℕ Refused
-contact_answer f = if nat_lt f.contacts 256 then Ok f.contacts else Err refused.TooManyContacts
+contact_answer f = if nat_lt f.contacts MAX_CONTACTS then Ok f.contacts else Err refused.TooManyContacts
 
--- a further group: its client is known, its id is new, and fewer than 1,024 are known
+-- a further group: its client is known, its id is new, and fewer than MAX_GROUPS are known
 abbrev pub group_answer : Meaning → Facts → GroupValue → Result Id Refused
 group_answer clients f def =
     if is_none (kind_of_def clients def)
     then Err refused.UnknownClient
     else (if is_some (group_at f.groups (group_id_of def))
     then Err refused.GroupExists
-    else (if nat_lt (length f.groups) 1024 then Ok (group_id_of def) else Err refused.TooManyGroups))
+    else (if nat_lt (length f.groups) MAX_GROUPS then Ok (group_id_of def) else Err refused.TooManyGroups))
 
 -- a level of a group for a contact: both are known
 abbrev pub level_answer : Facts → ℕ → Id → Result (Unit {0}) Refused

@@ -2,28 +2,36 @@
 use Rattle.std.specs.Prelude.{◌≡◌, ℕ, ◌+◌, ◌≤◌, Bool, length, refl}
 use Rattle.std.specs.Coded.{Coded, code_by, coded×, coded_bool, coded_ℕ}
 use Rattle.outside.specs.Frames.{most_bytes}
-use Rattle.sync_rules.specs.Facts.{takes_of}
+use Rattle.sync_rules.specs.Facts.{Facts, takes_of}
 use Rattle.entry_codec.specs.Standing.{room_of}
 use Rattle.journal_state.specs.Whole.{StateValue, state_code}
 
--- The facts of the journal and the judgements of its messages; the number of the journal's file, and the place of its closed
--- gate plus one; the length that commits may fill; and whether a call on the disk failed. The journal itself is not kept.
+-- The facts of the journal and the judgements of its messages; the number of the journal's file, its format, and the place of
+-- its closed gate plus one; the length that commits may fill; and whether a call on the disk failed. The journal itself is not
+-- kept.
 pub record StoreValue : Type 0 where
   pub state : StateValue
   pub file : ℕ
+  pub format : ℕ
   pub end : ℕ
   pub limit : ℕ
   pub closed : Bool
 
 abbrev pub store_code : Coded StoreValue
 store_code =
-    code_by (StateValue × (ℕ × (ℕ × (ℕ × Bool)))) (coded× state_code (coded× coded_ℕ (coded× coded_ℕ (coded× coded_ℕ coded_bool))))
-    (λ s. (s.state, (s.file, (s.end, (s.limit, s.closed)))))
-    (λ p. record { state = p.0; file = p.1.0; end = p.1.1.0; limit = p.1.1.1.0; closed = p.1.1.1.1 }) (λ _. refl)
+    code_by (StateValue × (ℕ × (ℕ × (ℕ × (ℕ × Bool)))))
+    (coded× state_code (coded× coded_ℕ (coded× coded_ℕ (coded× coded_ℕ (coded× coded_ℕ coded_bool)))))
+    (λ s. (s.state, (s.file, (s.format, (s.end, (s.limit, s.closed))))))
+    (λ p. record { state = p.0; file = p.1.0; format = p.1.1.0; end = p.1.1.1.0; limit = p.1.1.1.1.0; closed = p.1.1.1.1.1 })
+    (λ _. refl)
 
--- the numbers of a store: settling finds its room; each held message, session and record taken has its bytes in the file
+-- the counts of a journal that ends there: each held message, each session begun and each record taken has its bytes in the file
+pub record HasNumbers (f : Facts) (end : ℕ) : Type 0 where
+  pub few : length f.held + f.begun ≤ end
+  pub records : (session : ℕ) → takes_of f.takes session ≤ end
+
+-- what every store keeps: its limit is one of a journal, settling finds its room, and its counts are bounded by its end
 pub record IsStore (s : StoreValue) : Type 0 where
   pub limited : s.limit ≤ most_bytes
   pub roomy : s.end + room_of s.state.facts ≤ most_bytes
-  pub few : length s.state.facts.held + length s.state.facts.sessions ≤ s.end
-  pub records : (session : ℕ) → takes_of s.state.facts.takes session ≤ s.end
+  pub numbers : HasNumbers s.state.facts s.end

@@ -9,6 +9,7 @@ ghost use Rattle.frame_journal.specs.Gates.{Settles, AnyImage};
 ghost use Rattle.sync_store.specs.Begin.{Begins, InitMoment, IsAnswer, IsFree, has_open};
 
 use crate::InitFault;
+use crate::laws::cite_laws;
 use crate::store::Store;
 use frame_journal::{DiskFault, barrier, clear, create, read_header};
 use outside::Disk;
@@ -78,6 +79,7 @@ fn begin<D: Disk>(disk: &mut D) -> Result<(), DiskFault>
     ensures run { DiskRun (D.tells disk.old) (D.tells disk.new) }
     ensures fault { HasCause (D.tells disk.old).disk_faults (D.tells disk.new).disk_faults result }
 {
+    cite_laws();
     clear(disk, 0)?;
     create(disk, 0, 1)?;
     Ok(())

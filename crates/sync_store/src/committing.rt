@@ -4,19 +4,21 @@ ghost use Rattle.std.specs.Prelude.{nat_lt, IfErr, IfOk, IsErrOf, OnOk};
 ghost use Rattle.outside.specs.Faults.{HasCause, Rose};
 ghost use Rattle.outside.specs.Files.{Two, File};
 ghost use Rattle.outside.specs.Outside.{DiskRun};
+ghost use Rattle.journal_state.specs.Taking.{HasRoom};
 ghost use Rattle.journal_state.specs.Whole.{Knows};
 ghost use Rattle.sync_rules.specs.declared.entries.Entry.{Entry};
+ghost use Rattle.sync_rules.specs.Allows.{allows, is_settling_kind};
 ghost use Rattle.sync_rules.specs.Legal.{Allowed};
-ghost use Rattle.entry_codec.specs.Allows.{allows, is_settling_kind};
-ghost use Rattle.journal_state.specs.Taking.{HasRoom};
-ghost use Rattle.sync_store.specs.Commits.{Commits, Gains, MayAdd, Unasked, Untouched, needed};
-ghost use Rattle.sync_store.specs.Fitting.{Fits, FitsSome};
+ghost use Rattle.sync_store.specs.Commits.{Commits, Gains, MayAdd, Unasked, needed};
+ghost use Rattle.sync_store.specs.Fitting.{Fits};
 ghost use Rattle.sync_store.specs.Moments.{Adds};
+ghost use Rattle.sync_store.specs.Ready.{IsReady};
 
 use crate::StoreFault;
 use crate::frames::frame_batch;
+use crate::laws::cite_laws;
 use crate::store::Store;
-use entry_codec::{batch_len, laws};
+use entry_codec::{STEP_BYTES, batch_len};
 use outside::Disk;
 use std::alloc::AllocError;
 use sync_rules::{Batch, Clients};
@@ -46,8 +48,8 @@ impl Store {
         clients: &C,
         batch: Batch,
     ) -> Result<(), StoreFault>
-        requires fits { FitsSome (C.meaning clients.now) self.old (D.tells disk.old).files }
-        requires knows { self.old.closed ≡ false → Knows (C.meaning clients.now) self.old.state }
+        requires ready { self.old.closed ≡ false
+            → IsReady (C.meaning clients.now) self.old (D.tells disk.old).files }
         requires allowed { self.old.closed ≡ false
             → Allowed (C.meaning clients.now) self.old.state.facts batch }
         requires kind { is_settling_kind batch ≡ false }
@@ -57,36 +59,8 @@ impl Store {
             → Fits (C.meaning clients.now) self.old j two
             → Adds (C.meaning clients.now) batch result self.new (D.tells disk.old)
             (D.tells disk.new) j }
-        ensures fits { FitsSome (C.meaning clients.now) self.new (D.tells disk.new).files }
-        ensures knows { self.new.closed ≡ false → Knows (C.meaning clients.now) self.new.state }
-        ensures untouched { Untouched result (D.tells disk.old).files (D.tells disk.new).files }
-        ensures unasked { Unasked result disk.old disk.new }
-        ensures run { DiskRun (D.tells disk.old) (D.tells disk.new) }
-        ensures fault { IsErrOf result StoreFault.DiskFault
-            → Rose (D.tells disk.old).disk_faults (D.tells disk.new).disk_faults }
-    {
-        self.commit_batch(disk, clients, batch)
-    }
-
-    fn commit_batch<D: Disk, C: Clients>(
-        &mut self,
-        disk: &mut D,
-        clients: &C,
-        batch: Batch,
-    ) -> Result<(), StoreFault>
-        requires fits { FitsSome (C.meaning clients.now) self.old (D.tells disk.old).files }
-        requires knows { self.old.closed ≡ false → Knows (C.meaning clients.now) self.old.state }
-        requires allowed { self.old.closed ≡ false
-            → Allowed (C.meaning clients.now) self.old.state.facts batch }
-        requires kind { is_settling_kind batch ≡ false }
-        ensures answer { Commits self.old self.new batch result }
-        ensures extends { self.old.closed ≡ false → (two : Two File)
-            → (D.tells disk.old).files ≡ Some two → (j : List (List Entry))
-            → Fits (C.meaning clients.now) self.old j two
-            → Adds (C.meaning clients.now) batch result self.new (D.tells disk.old)
-            (D.tells disk.new) j }
-        ensures knows { self.new.closed ≡ false → Knows (C.meaning clients.now) self.new.state }
-        ensures untouched { Untouched result (D.tells disk.old).files (D.tells disk.new).files }
+        ensures ready { self.new.closed ≡ false
+            → IsReady (C.meaning clients.now) self.new (D.tells disk.new).files }
         ensures unasked { Unasked result disk.old disk.new }
         ensures run { DiskRun (D.tells disk.old) (D.tells disk.new) }
         ensures fault { IsErrOf result StoreFault.DiskFault
@@ -95,10 +69,10 @@ impl Store {
         if self.closed {
             return Err(StoreFault::Closed);
         }
+        cite_laws();
         if self.is_full(clients, &batch) {
             return Err(StoreFault::Full);
         }
-        laws::payloads_fit_frames();
         let framed = frame_batch(self.alloc, &batch)?;
         self.state.reserve(&batch)?;
         self.add(disk, clients, framed.as_slice(), batch)
@@ -113,7 +87,7 @@ impl Store {
         ensures { result ≡ nat_lt self.now.limit (needed self.now batch.now) }
     {
         let _meaning = clients;
-        let room = self.state.room_with(batch);
+        let room = self.state.left_with(batch).saturating_mul(STEP_BYTES);
         let len = batch_len(batch) as u64;
         let all = room
             .saturating_add(len)
@@ -129,8 +103,7 @@ impl Store {
         framed: &[u8],
         batch: Batch,
     ) -> Result<(), StoreFault>
-        requires fits { FitsSome (C.meaning clients.now) self.old (D.tells disk.old).files }
-        requires still_open { self.old.closed ≡ false }
+        requires ready { IsReady (C.meaning clients.now) self.old (D.tells disk.old).files }
         requires may { MayAdd (C.meaning clients.now) self.old batch framed.now }
         requires kind { is_settling_kind batch ≡ false }
         requires room { HasRoom self.old.state batch }
@@ -141,13 +114,14 @@ impl Store {
             → (j : List (List Entry)) → Fits (C.meaning clients.now) self.old j two
             → Adds (C.meaning clients.now) batch result self.new (D.tells disk.old)
             (D.tells disk.new) j }
-        ensures knows { OnOk result (Knows (C.meaning clients.now) self.old.state
-            → Knows (C.meaning clients.now) self.new.state) }
+        ensures ready { self.new.closed ≡ false
+            → IsReady (C.meaning clients.now) self.new (D.tells disk.new).files }
         ensures run { DiskRun (D.tells disk.old) (D.tells disk.new) }
         ensures fault { HasCause (D.tells disk.old).disk_faults (D.tells disk.new).disk_faults
             result }
     {
         let _meaning = clients;
+        cite_laws();
         match self.journal.append(disk, framed) {
             Ok(()) => {
                 self.state.take(batch);

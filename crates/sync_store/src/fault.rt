@@ -5,7 +5,7 @@ ghost use Rattle.sync_store.specs.declared.fault.LoadFault.TheVariants as load;
 ghost use Rattle.sync_store.specs.declared.fault.InitFault.TheVariants as init;
 ghost use Rattle.sync_store.specs.declared.fault.PostFault.TheVariants as post;
 
-use frame_journal::DiskFault;
+use frame_journal::{DiskFault, FrameFault, StartFault};
 use outside::Place;
 use std::alloc::{AllocError, AllocFailed};
 use sync_rules::Refused;
@@ -65,6 +65,34 @@ impl From<DiskFault> for LoadFault {
 
     fn from(_: DiskFault) -> LoadFault {
         LoadFault::DiskFault
+    }
+}
+
+impl From<StartFault> for LoadFault {
+    ghost use Rattle.sync_store.specs.Faults.{load_of_start};
+
+    ghost from_gives = { λ fault e. e ≡ load_of_start fault };
+
+    fn from(fault: StartFault) -> LoadFault {
+        match fault {
+            StartFault::NoStore => LoadFault::NoStore,
+            StartFault::DiskFault => LoadFault::DiskFault,
+            StartFault::Damaged(place) => LoadFault::Damaged(place),
+        }
+    }
+}
+
+impl From<FrameFault> for LoadFault {
+    ghost use Rattle.sync_store.specs.Faults.{load_of_frame};
+
+    ghost from_gives = { λ fault e. e ≡ load_of_frame fault };
+
+    fn from(fault: FrameFault) -> LoadFault {
+        match fault {
+            FrameFault::Memory => LoadFault::Memory,
+            FrameFault::DiskFault => LoadFault::DiskFault,
+            FrameFault::Damaged(place) => LoadFault::Damaged(place),
+        }
     }
 }
 

@@ -8,21 +8,16 @@ use crate::PostFault;
 use crate::store::Store;
 use std::alloc::AllocError;
 use sync_ids::{GroupDef, GroupId, Message, MessageId, group_id};
-use sync_rules::{Clients, Judgement, Refused, View, id_of};
-
-// The greatest number of contacts.
-const MOST_CONTACTS: u32 = 256;
-
-// The greatest number of groups.
-const MOST_GROUPS: u32 = 1024;
+use sync_rules::{Clients, Judgement, MAX_CONTACTS, MAX_GROUPS, Refused, View, id_of};
 
 impl Store {
-    /// The number that a further contact gets. `TooManyContacts` comes exactly where 256 are known.
+    /// The number that a further contact gets. `TooManyContacts` comes exactly where `MAX_CONTACTS`
+    /// are known.
     pub fn may_contact(&self) -> Result<u8, Refused>
         ensures { result ≡ contact_answer self.now.state.facts }
     {
         let contacts = self.contacts();
-        if contacts < MOST_CONTACTS {
+        if (contacts as usize) < MAX_CONTACTS {
             Ok(contacts as u8)
         } else {
             Err(Refused::TooManyContacts)
@@ -30,7 +25,7 @@ impl Store {
     }
 
     /// The id of a further group. In this order, each exactly: `UnknownClient`, `GroupExists`,
-    /// `TooManyGroups` where 1,024 are known.
+    /// `TooManyGroups` where `MAX_GROUPS` are known.
     pub fn may_group<C: Clients>(&self, clients: &C, def: &GroupDef) -> Result<GroupId, Refused>
         ensures { result ≡ group_answer (C.meaning clients.now) self.now.state.facts def.now }
     {
@@ -41,7 +36,7 @@ impl Store {
         if self.state.knows_group(&id) {
             return Err(Refused::GroupExists);
         }
-        if self.state.groups() < MOST_GROUPS {
+        if (self.state.groups() as usize) < MAX_GROUPS {
             Ok(id)
         } else {
             Err(Refused::TooManyGroups)
@@ -82,10 +77,9 @@ impl Store {
         if self.state.find(&id).is_some() {
             return Err(PostFault::Refused(Refused::AlreadyHeld));
         }
-        match self.judgement_of(clients, message) {
-            Err(_) => Err(PostFault::Memory),
-            Ok(Judgement::Refuse) => Err(PostFault::Refused(Refused::InvalidPost)),
-            Ok(Judgement::Accept { deps, .. }) => {
+        match self.judgement_of(clients, message)? {
+            Judgement::Refuse => Err(PostFault::Refused(Refused::InvalidPost)),
+            Judgement::Accept { deps, .. } => {
                 if self.state.serves_all(&group, deps.as_slice()) {
                     Ok(id)
                 } else {

@@ -1,6 +1,6 @@
 //! The steps of a journal, committed until it is settled.
-ghost use Rattle.std.specs.Prelude.{◌≡◌, ◌⊎◌, ◌+◌, ◌<◌, ◌≤◌, [], false, true, Some, length, max};
-ghost use Rattle.std.specs.Prelude.{vec_capacity, vec_len, IfErr, IsErrOf, OnErr, OnOk};
+ghost use Rattle.std.specs.Prelude.{◌≡◌, ◌⊎◌, ◌+◌, ◌≤◌, [], false, true, Err, Some, length};
+ghost use Rattle.std.specs.Prelude.{vec_capacity, vec_len, IfErr, IsErrOf, OnOk};
 ghost use Rattle.std.specs.Option.{ForSome};
 ghost use Rattle.outside.specs.Faults.{HasCause, Rose};
 ghost use Rattle.outside.specs.Files.{Two, File, file_of};
@@ -14,70 +14,47 @@ ghost use Rattle.sync_rules.specs.Facts.{after_all};
 ghost use Rattle.sync_rules.specs.Legal.{IsSettling};
 ghost use Rattle.sync_rules.specs.Steps.{IsSettled};
 ghost use Rattle.entry_codec.specs.Standing.{room_of};
-ghost use Rattle.sync_store.specs.Commits.{Fills, FillsEach, Proceeds, SettlesOne, SettlesSo};
-ghost use Rattle.sync_store.specs.Fitting.{FitsSome};
-ghost use Rattle.sync_store.specs.Moments.{Settles};
+ghost use Rattle.sync_store.specs.Ready.{IsReady};
+ghost use Rattle.sync_store.specs.Settling.{HasSettled, MakesBatch};
 
 use crate::StoreFault;
-use crate::frames::{MOST_FRAMED, MOST_STEPS, frame_steps};
+use crate::frames::{MOST_FRAMED, frame_steps};
+use crate::laws::cite_laws;
 use crate::store::Store;
 use journal_state::State;
-use outside::Disk;
+use outside::{Disk, MAX_JOURNAL};
 use std::alloc::{AllocError, Global};
-use sync_rules::{Clients, Entry};
+use sync_rules::{Clients, Entry, MAX_STEPS};
 
 impl Store {
-    /// Commits settling batches, each filled to 256 entries while a step is left, until the journal
-    /// is settled. It never answers `Full`: each commit leaves room for settling. `Closed` comes
-    /// exactly where an earlier call answered `DiskFault`, and no call on the disk is made then.
-    /// After `Memory` the journal is extended by the steps made before it, and after `DiskFault`
-    /// the store is closed. At each moment the files stand for the journal with some settling
-    /// batches.
+    /// Commits settling batches, each filled to `MAX_STEPS` entries while a step is left, until the
+    /// journal is settled: at most two entries for each held message. It never answers `Full`: each
+    /// commit leaves room for settling. `Closed` comes exactly where an earlier call answered
+    /// `DiskFault`; then all is as before, and no call on the disk is made. After `Memory` the
+    /// journal is extended by the steps made before it, and after `DiskFault` the store is closed.
+    /// At each moment the files stand for the journal with a front of these batches.
     pub fn settle<D: Disk, C: Clients>(
         &mut self,
         disk: &mut D,
         clients: &C,
     ) -> Result<(), StoreFault>
-        requires fits { FitsSome (C.meaning clients.now) self.old (D.tells disk.old).files }
-        requires knows { self.old.closed ≡ false → Knows (C.meaning clients.now) self.old.state }
-        ensures answer { SettlesSo (C.meaning clients.now) self.old self.new result }
-        ensures proceeds { Proceeds (C.meaning clients.now) self.old self.new }
-        ensures filled { self.new.closed ≡ false → Fills (C.meaning clients.now) self.old self.new }
-        ensures settles { self.old.closed ≡ false
-            → Settles (C.meaning clients.now) self.old self.new (D.tells disk.old)
+        requires ready { self.old.closed ≡ false
+            → IsReady (C.meaning clients.now) self.old (D.tells disk.old).files }
+        ensures settled { self.old.closed ≡ false
+            → HasSettled (C.meaning clients.now) self.old self.new result (D.tells disk.old)
             (D.tells disk.new) }
-        ensures closed { self.old.closed ≡ true → disk.new ≡ disk.old }
-        ensures fits { FitsSome (C.meaning clients.now) self.new (D.tells disk.new).files }
-        ensures knows { self.new.closed ≡ false → Knows (C.meaning clients.now) self.new.state }
+        ensures closed { self.old.closed ≡ true → (result ≡ Err StoreFault.Closed)
+            × (self.new ≡ self.old) × (disk.new ≡ disk.old) }
+        ensures ready { self.new.closed ≡ false
+            → IsReady (C.meaning clients.now) self.new (D.tells disk.new).files }
         ensures run { DiskRun (D.tells disk.old) (D.tells disk.new) }
         ensures fault { IsErrOf result StoreFault.DiskFault
             → Rose (D.tells disk.old).disk_faults (D.tells disk.new).disk_faults }
     {
-        self.settle_all(disk, clients)
-    }
-
-    fn settle_all<D: Disk, C: Clients>(
-        &mut self,
-        disk: &mut D,
-        clients: &C,
-    ) -> Result<(), StoreFault>
-        requires fits { FitsSome (C.meaning clients.now) self.old (D.tells disk.old).files }
-        requires knows { self.old.closed ≡ false → Knows (C.meaning clients.now) self.old.state }
-        ensures answer { SettlesSo (C.meaning clients.now) self.old self.new result }
-        ensures proceeds { Proceeds (C.meaning clients.now) self.old self.new }
-        ensures filled { self.new.closed ≡ false → Fills (C.meaning clients.now) self.old self.new }
-        ensures settles { self.old.closed ≡ false
-            → Settles (C.meaning clients.now) self.old self.new (D.tells disk.old)
-            (D.tells disk.new) }
-        ensures closed { self.old.closed ≡ true → disk.new ≡ disk.old }
-        ensures knows { self.new.closed ≡ false → Knows (C.meaning clients.now) self.new.state }
-        ensures run { DiskRun (D.tells disk.old) (D.tells disk.new) }
-        ensures fault { IsErrOf result StoreFault.DiskFault
-            → Rose (D.tells disk.old).disk_faults (D.tells disk.new).disk_faults }
-    {
-        if self.is_shut() {
+        if self.is_closed() {
             return Err(StoreFault::Closed);
         }
+        cite_laws();
         'batches: while !self.is_settled() {
             self.settle_batch(disk, clients)?;
         }
@@ -90,22 +67,17 @@ impl Store {
         disk: &mut D,
         clients: &C,
     ) -> Result<(), StoreFault>
-        requires fits { FitsSome (C.meaning clients.now) self.old (D.tells disk.old).files }
-        requires still_open { self.old.closed ≡ false }
-        requires knows { Knows (C.meaning clients.now) self.old.state }
+        requires ready { IsReady (C.meaning clients.now) self.old (D.tells disk.old).files }
         requires unsettled { IsSettled (C.meaning clients.now) self.old.state.facts → ⊥ }
-        ensures answer { SettlesOne self.old self.new result }
-        ensures proceeds { Proceeds (C.meaning clients.now) self.old self.new }
-        ensures filled { self.new.closed ≡ false → Fills (C.meaning clients.now) self.old self.new }
-        ensures each { OnOk result (FillsEach (C.meaning clients.now) self.old self.new) }
-        ensures settles { Settles (C.meaning clients.now) self.old self.new (D.tells disk.old)
-            (D.tells disk.new) }
+        ensures made { MakesBatch (C.meaning clients.now) self.old self.new result
+            (D.tells disk.old) (D.tells disk.new) }
         ensures knows { Knows (C.meaning clients.now) self.new.state }
         ensures run { DiskRun (D.tells disk.old) (D.tells disk.new) }
         ensures fault { IsErrOf result StoreFault.DiskFault
             → Rose (D.tells disk.old).disk_faults (D.tells disk.new).disk_faults }
     {
-        let entries = Vec::with_capacity(self.alloc, MOST_STEPS)?;
+        cite_laws();
+        let entries = Vec::with_capacity(self.alloc, MAX_STEPS)?;
         let framed = Vec::with_capacity(self.alloc, MOST_FRAMED)?;
         self.settle_into(disk, clients, entries, framed)
     }
@@ -118,25 +90,20 @@ impl Store {
         mut entries: Vec<Entry>,
         mut framed: Vec<u8>,
     ) -> Result<(), StoreFault>
-        requires fits { FitsSome (C.meaning clients.now) self.old (D.tells disk.old).files }
-        requires still_open { self.old.closed ≡ false }
-        requires knows { Knows (C.meaning clients.now) self.old.state }
+        requires ready { IsReady (C.meaning clients.now) self.old (D.tells disk.old).files }
         requires unsettled { IsSettled (C.meaning clients.now) self.old.state.facts → ⊥ }
         requires no_entries { entries.items ≡ [] }
-        requires entries_room { 256 ≤ vec_capacity entries }
+        requires entries_room { MAX_STEPS ≤ vec_capacity entries }
         requires no_frame { framed.items ≡ [] }
-        requires frame_room { 8453 ≤ vec_capacity framed }
-        ensures answer { SettlesOne self.old self.new result }
-        ensures proceeds { Proceeds (C.meaning clients.now) self.old self.new }
-        ensures filled { self.new.closed ≡ false → Fills (C.meaning clients.now) self.old self.new }
-        ensures each { OnOk result (FillsEach (C.meaning clients.now) self.old self.new) }
-        ensures settles { Settles (C.meaning clients.now) self.old self.new (D.tells disk.old)
-            (D.tells disk.new) }
+        requires frame_room { MOST_FRAMED ≤ vec_capacity framed }
+        ensures made { MakesBatch (C.meaning clients.now) self.old self.new result
+            (D.tells disk.old) (D.tells disk.new) }
         ensures knows { Knows (C.meaning clients.now) self.new.state }
         ensures run { DiskRun (D.tells disk.old) (D.tells disk.new) }
         ensures fault { IsErrOf result StoreFault.DiskFault
             → Rose (D.tells disk.old).disk_faults (D.tells disk.new).disk_faults }
     {
+        cite_laws();
         let filled = fill(&mut self.state, self.alloc, clients, &mut entries);
         if entries.is_empty() {
             filled?;
@@ -152,7 +119,7 @@ impl Store {
     fn write<D: Disk>(&mut self, disk: &mut D, framed: &[u8]) -> Result<(), StoreFault>
         requires framed { IsFramed framed.now }
         requires room { self.old.end + length framed.now + room_of self.old.state.facts
-            ≤ 268435456 }
+            ≤ MAX_JOURNAL }
         requires fits { ForSome (D.tells disk.old).files
             (λ two. IsAtRest two self.old.file self.old.end) }
         ensures ok { OnOk result
@@ -188,17 +155,17 @@ fn fill<C: Clients>(
 ) -> Result<(), AllocError>
     requires knows { Knows (C.meaning clients.now) state.old }
     requires empty { entries.old.items ≡ [] }
-    requires room { 256 ≤ vec_capacity entries.old }
+    requires room { MAX_STEPS ≤ vec_capacity entries.old }
     ensures steps { IsSettling (C.meaning clients.now) state.old.facts entries.new.items }
-    ensures few { vec_len entries.new ≤ 256 }
+    ensures few { vec_len entries.new ≤ MAX_STEPS }
     ensures facts { state.new.facts ≡ after_all state.old.facts entries.new.items }
     ensures knows { Knows (C.meaning clients.now) state.new }
     ensures none { OnOk result (entries.new.items ≡ []
         → IsSettled (C.meaning clients.now) state.old.facts) }
-    ensures full { OnOk result ((vec_len entries.new ≡ 256)
+    ensures full { OnOk result ((vec_len entries.new ≡ MAX_STEPS)
         ⊎ IsSettled (C.meaning clients.now) state.new.facts) }
 {
-    'steps: for _made in 0..MOST_STEPS {
+    'steps: for _made in 0..MAX_STEPS {
         let Some(entry) = state.step(alloc, clients)? else {
             return Ok(());
         };

@@ -1,22 +1,27 @@
 //! `Store`.
-ghost use Rattle.std.specs.Prelude.{◌≡◌, ◌+◌, ◌<◌, ◌≤◌, ◌↔◌, IsTrue, length, Some, slice_get};
+ghost use Rattle.std.specs.Prelude.{◌≡◌, ◌+◌, ◌<◌, ◌≤◌, ◌↔◌, ◌∷◌, [], IsTrue, length, Some};
+ghost use Rattle.std.specs.Prelude.{slice_get, IfOk, IfSome};
 ghost use Rattle.std.specs.Option.{option_map};
 ghost use Rattle.entry_codec.specs.Standing.{room_of};
+ghost use Rattle.journal_state.specs.Allowing.{due_of};
 ghost use Rattle.journal_state.specs.Lent.{StandsForNodes, StandsForRows};
 ghost use Rattle.journal_state.specs.Whole.{Knows};
 ghost use Rattle.sync_rules.specs.Clients.{Meaning};
-ghost use Rattle.sync_rules.specs.Facts.{Id};
+ghost use Rattle.sync_rules.specs.Facts.{Id, session_at, takes_of};
+ghost use Rattle.sync_rules.specs.Legal.{Allowed};
 ghost use Rattle.sync_rules.specs.Steps.{IsSettled, fate_held};
 ghost use Rattle.sync_rules.specs.Views.{IsPlace};
+ghost use Rattle.sync_rules.specs.declared.entries.Entry.TheVariants as entry;
 
+use entry_codec::STEP_BYTES;
 use frame_journal::Journal;
 use journal_state::State;
 use message_graph::Graph;
 use retry_table::Retry;
-use std::alloc::Global;
+use std::alloc::{AllocError, Global};
 use std::marker::Model;
 use sync_ids::{GroupDef, GroupId, Message, MessageId};
-use sync_rules::{Fate, Origin};
+use sync_rules::{Fate, Origin, Out, Session};
 
 /// A legal journal on a disk. Contracts see the facts of the journal and the judgements of its
 /// messages, the number of its file and the place of its closed gate plus one, the length that
@@ -68,16 +73,47 @@ impl Store {
         self.state.groups()
     }
 
-    /// The number of sessions.
+    /// The number of sessions that have begun.
     pub fn sessions(&self) -> u32
-        ensures { result ≡ length self.now.state.facts.sessions }
+        ensures { result ≡ self.now.state.facts.begun }
     {
         self.state.sessions()
     }
 
-    /// The place of the journal's closed gate plus one, in bytes.
+    /// The session of this number. `None` comes exactly where there is none.
+    pub fn session(&self, number: u32) -> Option<Session>
+        ensures value { result ≡ session_at self.now.state.facts.sessions number }
+        ensures numbered { IfSome result (λ s. s.number ≡ number) }
+    {
+        self.state.session(number)
+    }
+
+    /// How many records were taken on the session of this number; 0 where there is none.
+    pub fn takes(&self, session: u32) -> u64
+        ensures { result ≡ takes_of self.now.state.facts.takes session }
+    {
+        self.state.takes(session)
+    }
+
+    /// The output that is due on the session of this number at this time in milliseconds: what a
+    /// settled journal may be extended by. `None` comes exactly where nothing is due, or where there
+    /// is no such session. It fails only for want of memory.
+    pub fn due_on(&self, session: u32, now: u64) -> Result<Option<Out>, AllocError>
+        ensures due { (clients : Meaning) → Knows clients self.now.state
+            → IfOk result (λ what. what ≡ due_of clients self.now.state.facts
+            (session_at self.now.state.facts.sessions session) now) }
+        ensures allowed { (clients : Meaning) → Knows clients self.now.state
+            → IsSettled clients self.now.state.facts → IfOk result (λ what. IfSome what
+            (λ w. Allowed clients self.now.state.facts (entry.Out session now w ∷ []))) }
+    {
+        self.state.due_on(self.alloc, session, now)
+    }
+
+    /// The place of the journal's closed gate plus one, in bytes. It bounds the counts of the
+    /// journal, and is itself at most the greatest length.
     pub fn end(&self) -> u64
-        ensures { result ≡ self.now.end }
+        ensures value { result ≡ self.now.end }
+        ensures numbers { IsStore self.now }
     {
         self.journal.end()
     }
@@ -90,26 +126,18 @@ impl Store {
         self.state.is_settled()
     }
 
-    /// The room in bytes that settling may yet need: 76 for each held message that is not judged,
-    /// 38 for each that is judged and neither delivered nor invalid. Behind the journal it is
-    /// within the greatest length.
+    /// The room in bytes that settling may yet need: `STEP_BYTES` for each step that is left, two
+    /// for each held message that is not judged, and one for each that is judged and neither
+    /// delivered nor invalid. Behind the journal it is within the greatest length.
     pub fn room(&self) -> u64
         ensures room { result ≡ room_of self.now.state.facts }
         ensures within { self.now.end + result ≤ 268435456 }
     {
-        let _end = self.journal.end();
-        self.state.room()
+        STEP_BYTES * self.state.left()
     }
 
-    /// Whether a call on the disk failed.
+    /// Whether a call on the disk failed. The counts of a closed store are bounded too.
     pub fn is_closed(&self) -> bool
-        ensures { result ≡ self.now.closed }
-    {
-        self.closed
-    }
-
-    // The same, with the numbers that every store keeps.
-    pub(crate) fn is_shut(&self) -> bool
         ensures closed { result ≡ self.now.closed }
         ensures numbers { IsStore self.now }
     {

@@ -1,5 +1,5 @@
-//! Entries and journals: the rules, the bundled clients, the bytes of entries and batches, what a session does, and
-//! a journal that is played.
+//! Entries and journals: the rules, the bundled clients, the bytes of entries and batches, what a
+//! session does, and a journal that is played.
 #![tactic(auto)]
 
 #[cfg(test)]

@@ -6,6 +6,7 @@ ghost use Rattle.sync_rules.specs.declared.answers.Judgement.TheVariants as judg
 
 use journal_play::{Play, play_says};
 use std::alloc::{AllocError, Global};
+use std::hash::RandomState;
 use std::process::Abort;
 use std::test::Fail;
 use sync_ids::{GroupDef, GroupId, IdList, Message, MessageId, Record, group_id};
@@ -135,6 +136,7 @@ fn played(
 
 #[test]
 fn plays_records(rt: HostRuntime) -> Result<(), Fail> {
+    let hasher = RandomState::new(&rt)?;
     play_says();
     let cases: [(&[u8], bool, &str); 10] = [
         (
@@ -185,7 +187,7 @@ fn plays_records(rt: HostRuntime) -> Result<(), Fail> {
         (&[101, 0], false, ""),
     ];
     for (heard, refuses, want) in cases {
-        let text = played(&rt, rt.alloc(), heard, refuses)?;
+        let text = played(&rt, rt.alloc(), hasher, heard, refuses)?;
         assert_eq!(rt; text.as_str(), want);
     }
     Ok(())

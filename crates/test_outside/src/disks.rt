@@ -128,3 +128,19 @@ fn by_the_trait(rt: HostRuntime) -> Result<(), Fail> {
     }
     Ok(())
 }
+
+#[test]
+fn stops(rt: HostRuntime) -> Result<(), Fail> {
+    let mut disk = disk_with(rt.alloc(), b"abc")?;
+    disk.stop_at(1);
+    assert_eq!(rt; disk.write_at(0, 0, b"XY"), Ok(()));
+    assert_eq!(rt; disk.write_at(0, 0, b"Z"), Err(Failed));
+    let mut buf = [9u8; 4];
+    assert_eq!(rt; disk.read_at(0, 0, &mut buf), Err(Failed));
+    assert_eq!(rt; (disk.len(0), disk.sync(0)), (Err(Failed), Err(Failed)));
+    compare(&rt, &disk, [b"XYc", b"abc", b"XYc", b"\0\0c", b"\x01\x01c"])?;
+    assert_eq!(rt; disk.calls(), 5);
+    disk.fail_none();
+    assert_eq!(rt; (disk.sync(0), disk.len(0)), (Ok(()), Ok(3)));
+    Ok(())
+}

@@ -1,73 +1,8 @@
 use frame_journal::{FrameFault, Journal, StartFault, barrier, clear, create, read_header};
-use outside::{Disk, Failed, MemDisk, Pick};
+use outside::{MemDisk, Pick, Untold};
 use std::alloc::Global;
 use std::process::Abort;
 use std::test::Fail;
-
-// A disk in memory that tells nothing but its count, as a real one.
-#[derive(Drop)]
-struct Untold {
-    disk: MemDisk,
-    faults: u64,
-}
-
-impl Untold {
-    ghost use Rattle.outside.specs.Faults.{HasCause};
-
-    // Counts a failure.
-    fn counted<T>(&mut self, answer: Result<T, Failed>) -> Result<T, Failed>
-        ensures { HasCause self.old.faults self.new.faults result }
-    {
-        match answer {
-            Ok(value) => Ok(value),
-            Err(fault) => {
-                self.faults = self.faults.saturating_add(1);
-                Err(fault)
-            }
-        }
-    }
-}
-
-impl Disk for Untold {
-    ghost use Rattle.std.specs.Prelude.{[]};
-    ghost use Rattle.outside.specs.Silent.{silent};
-
-    ghost tells = { λ d. silent d.faults 0 [] };
-
-    fn len(&mut self, file: u8) -> Result<u64, Failed> {
-        let answer = self.disk.len(file);
-        self.counted(answer)
-    }
-
-    fn read_at(&mut self, file: u8, at: u64, buf: &mut [u8]) -> Result<usize, Failed> {
-        match self.disk.read_at(file, at, buf) {
-            Ok(n) => Ok(n),
-            Err(fault) => {
-                self.faults = self.faults.saturating_add(1);
-                Err(fault)
-            }
-        }
-    }
-
-    fn write_at(&mut self, file: u8, at: u64, bytes: &[u8]) -> Result<(), Failed> {
-        let answer = if at <= self.disk.file(file).len() as u64 {
-            self.disk.write_at(file, at, bytes)
-        } else {
-            Err(Failed)
-        };
-        self.counted(answer)
-    }
-
-    fn cut(&mut self, file: u8, len: u64) -> Result<(), Failed> {
-        let answer = self.disk.cut(file, len);
-        self.counted(answer)
-    }
-
-    fn sync(&mut self, file: u8) -> Result<(), Failed> {
-        let answer = self.disk.sync(file);
-        self.counted(answer)
-    }
-}
 
 // A journal of generation 1 with the payload 01 00.
 const ROW: [u8; 22] = [
@@ -84,7 +19,7 @@ enum Ending {
 }
 
 fn ending_of(alloc: Global, disk: MemDisk) -> Ending {
-    let mut disk = Untold { disk, faults: 0 };
+    let mut disk = Untold::new(disk);
     let mut journal = match Journal::start(&mut disk) {
         Ok(journal) => journal,
         Err(StartFault::NoStore) => return Ending::NoStore,
@@ -164,7 +99,7 @@ fn lengths_and_generations(rt: HostRuntime) -> Result<(), Fail> {
 // Clears file 0, begins a journal in it and adds the payload 01 00, with this call failing.
 fn written(rt: &impl Abort, alloc: Global, failing: u64) -> Result<MemDisk, Fail> {
     let disk = MemDisk::new(alloc, Vec::from_slice(alloc, &[0])?, Vec::new(alloc))?;
-    let mut disk = Untold { disk, faults: 0 };
+    let mut disk = Untold::new(disk);
     disk.disk.fail_at(failing)?;
     let answer = write_all(&mut disk);
     assert_eq!(rt; answer.is_err(), failing < 11);
@@ -231,7 +166,7 @@ fn cleared(rt: HostRuntime) -> Result<(), Fail> {
         (&[0u8][..], 0),
     ] {
         let disk = MemDisk::new(alloc, Vec::from_slice(alloc, before)?, Vec::new(alloc))?;
-        let mut disk = Untold { disk, faults: 0 };
+        let mut disk = Untold::new(disk);
         assert_eq!(rt;
             clear(&mut disk, 0).is_ok() && barrier(&mut disk).is_ok(),
             true

@@ -2,7 +2,7 @@ ghost use Rattle.std.specs.Prelude.{◌≡◌, ◌<◌, [], length, IfOk, OnOk};
 ghost use Rattle.outside.specs.MemHost.{links_of};
 
 use crate::disks::use_disk;
-use outside::{Answer, Failed, Heard, Host, MemDisk, MemHost};
+use outside::{Answer, Disk, Failed, Heard, Host, MemDisk, MemHost, Pick};
 use std::alloc::Global;
 use std::process::Abort;
 use std::test::Fail;
@@ -185,5 +185,36 @@ fn the_disk_of_a_host(rt: HostRuntime) -> Result<(), Fail> {
     assert_eq!(rt; use_disk(&mut host), Ok(0));
     assert_eq!(rt; host.disk().calls(), 9);
     assert_eq!(rt; host.into_disk().starved(), 0);
+    Ok(())
+}
+
+// A link made again hears the end, and the clock gives 0.
+fn begin_again(rt: &impl Abort, host: &mut MemHost) -> Result<(), Failed>
+    requires { links_of host.old.disk ≡ [] }
+{
+    dial_two(host)?;
+    assert_eq!(rt; host.nonce(0), Err(Failed));
+    assert_eq!(rt; host.now(), 0);
+    Ok(())
+}
+
+#[test]
+fn restarts_and_crashes(rt: HostRuntime) -> Result<(), Fail> {
+    let mut host = linked_host(rt.alloc())?;
+    plan(&mut host, Answer::Idle)?;
+    host.set_clock(7)?;
+    host.give_nonce([1; 16])?;
+    assert_eq!(rt; host.write_at(0, 0, b"ab"), Ok(()));
+    host.stop_at(host.disk().calls());
+    assert_eq!(rt; host.cut(0, 0), Err(Failed));
+    host.restart()?;
+    assert!(rt; host.sent(0).is_empty());
+    assert_eq!(rt; host.disk().calls(), 2);
+    begin_again(&rt, &mut host)?;
+    assert_eq!(rt; host.disk().file(0), b"ab".as_slice());
+    host.crash(Pick::Old)?;
+    assert!(rt; host.disk().file(0).is_empty());
+    assert_eq!(rt; host.disk().calls(), 0);
+    begin_again(&rt, &mut host)?;
     Ok(())
 }

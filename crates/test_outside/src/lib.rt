@@ -10,4 +10,6 @@ mod frames;
 #[cfg(test)]
 mod hosts;
 #[cfg(test)]
+mod silent;
+#[cfg(test)]
 mod streams;

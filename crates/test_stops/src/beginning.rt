@@ -1,12 +1,12 @@
 //! A store that is begun, stopped at each call of the disk under each image, and begun again.
 use crate::compare::{PICKS, compare, is_open};
-use crate::device::end_of;
 use crate::files::disk_with;
 use anyhow::Result;
 use client_basic::Bundle;
 use outside::{MemDisk, Pick};
 use std::alloc::Global;
 use sync_store::{InitFault, LoadFault, Store};
+use test_device::end_of;
 
 /// The end of the journal that has no frames.
 pub(crate) const EMPTY: u64 = 15;

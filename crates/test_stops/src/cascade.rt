@@ -1,7 +1,6 @@
 //! Many messages that wait for one which arrives last.
 use crate::compare::{PICKS, compare};
-use crate::device::{AddFault, Device};
-use crate::files::{Payloads, deliveries};
+use crate::files::deliveries;
 use crate::hearing::{begin, hear, hear_settled};
 use crate::posting::APPEND_CALLS;
 use crate::values::{group_def, message};
@@ -14,6 +13,7 @@ use std::alloc::Global;
 use sync_ids::{GroupId, Message, MessageId, group_id};
 use sync_rules::id_of;
 use sync_store::StoreFault;
+use test_device::{AddFault, Device, Payloads};
 
 /// How many messages wait.
 const WAITING: u64 = 599;

@@ -1,7 +1,6 @@
 //! Files of which a byte was changed or the end is missing, and two files with open headers: what a
 //! load answers.
 use crate::compare::{PICKS, compare};
-use crate::device::end_of;
 use crate::files::{CONTACT, disk_with};
 use anyhow::Result;
 use client_basic::Bundle;
@@ -9,6 +8,7 @@ use outside::MemDisk;
 use std::alloc::Global;
 use std::fmt::Display;
 use sync_store::LoadFault;
+use test_device::end_of;
 
 /// Loads each damaged file, and prints what each load answers.
 pub(crate) fn load_each(rt: &impl Print, alloc: Global) -> Result<()> {

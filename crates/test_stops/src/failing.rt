@@ -2,16 +2,15 @@
 //! next load.
 use crate::beginning::{EMPTY, begun, count_calls};
 use crate::compare::compare;
-use crate::device::{AddFault, end_of};
 use crate::files::{GROUP, disk_with};
 use crate::posting::{APPEND_CALLS, ENDS, LOAD_CALLS, POST_CALLS, Posted, note, post};
-use crate::values::batch_of;
 use anyhow::Result;
 use client_basic::Bundle;
 use outside::MemDisk;
 use std::alloc::Global;
 use sync_rules::Entry;
 use sync_store::{InitFault, LoadFault, StoreFault};
+use test_device::{AddFault, batch_of, end_of};
 
 const CLOSED: Result<(), AddFault> = Err(AddFault::Store(StoreFault::Closed));
 

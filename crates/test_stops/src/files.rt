@@ -1,12 +1,11 @@
-//! Files that are written by hand, and frames that are read plainly.
-ghost use Rattle.std.specs.Prelude.{length};
-ghost use Rattle.std.specs.Iterator.{at_most};
+//! Files that are written by hand, and what their frames say.
 
 use entry_codec::read_batch;
 use outside::MemDisk;
 use std::alloc::{AllocError, Global};
 use sync_ids::MessageId;
 use sync_rules::Entry;
+use test_device::Payloads;
 
 /// A journal of generation 1 with one contact.
 pub(crate) const CONTACT: [u8; 22] = [
@@ -23,39 +22,6 @@ pub(crate) const GROUP: [u8; 40] = [
 pub(crate) fn disk_with(alloc: Global, file0: &[u8], file1: &[u8]) -> Result<MemDisk, AllocError> {
     let first = Vec::from_slice(alloc, file0)?;
     MemDisk::new(alloc, first, Vec::from_slice(alloc, file1)?)
-}
-
-/// The payloads of a file's frames: from the first gate on, as long as a gate is open.
-#[derive(Clone, Copy)]
-pub(crate) struct Payloads<'a> {
-    rest: &'a [u8],
-}
-
-impl<'a> Payloads<'a> {
-    /// Those of this file.
-    pub(crate) fn of(file: &'a [u8]) -> Payloads<'a> {
-        match file.split_at_checked(14) {
-            Some((_, rest)) => Payloads { rest },
-            None => Payloads { rest: &[] },
-        }
-    }
-}
-
-impl<'a> Iterator for Payloads<'a> {
-    type Item = &'a [u8];
-
-    ghost remaining = { λ s. at_most (length s.rest.now) };
-
-    fn next(&mut self) -> Option<&'a [u8]> {
-        let (head, behind) = self.rest.split_at_checked(5)?;
-        let [1, a, b, c, d] = *head else {
-            return None;
-        };
-        let size = u32::from_be_bytes([a, b, c, d]);
-        let (payload, rest) = behind.split_at_checked(size as usize)?;
-        self.rest = rest;
-        Some(payload)
-    }
 }
 
 /// How many frames a file has; `None` where they are not the first ones of the other file.

@@ -1,14 +1,12 @@
 //! Messages that arrive from a contact.
-use crate::device::{AddFault, Device};
 use crate::files::disk_with;
-use crate::values::batch_of;
-use anyhow::{Result, anyhow};
-use outside::{MAX_JOURNAL, MemDisk};
+use anyhow::Result;
+use outside::MemDisk;
 use session_core::take;
 use std::alloc::Global;
 use sync_ids::{GroupDef, Message, Record, group_id};
 use sync_rules::{Clients, Entry, Level, Mode, Session};
-use sync_store::Store;
+use test_device::{Device, batch_of};
 
 /// The session on which messages arrive.
 const SESSION: Session = Session {
@@ -25,13 +23,9 @@ pub(crate) fn begin<C: Clients + Drop>(
     clients: C,
     def: GroupDef,
 ) -> Result<Device<MemDisk, C>> {
-    let device = begin_empty(alloc, clients)?;
+    let disk = disk_with(alloc, &[], &[])?;
+    let device = Device::begin(alloc, disk, clients)?;
     with_first(alloc, device, def)
-}
-
-fn begin_empty<C: Clients + Drop>(alloc: Global, clients: C) -> Result<Device<MemDisk, C>> {
-    let disk = begun_disk(alloc)?;
-    Device::load(alloc, disk, clients, MAX_JOURNAL)
 }
 
 fn with_first<C: Clients + Drop>(
@@ -41,12 +35,6 @@ fn with_first<C: Clients + Drop>(
 ) -> Result<Device<MemDisk, C>> {
     add_first(alloc, &mut device, def)?;
     Ok(device)
-}
-
-fn begun_disk(alloc: Global) -> Result<MemDisk> {
-    let mut disk = disk_with(alloc, &[], &[])?;
-    Store::init(&mut disk).map_err(|fault| anyhow!("no store was begun: {fault:?}"))?;
-    Ok(disk)
 }
 
 /// Adds what the journal begins with.
@@ -79,13 +67,8 @@ pub(crate) fn hear<C: Clients + Drop>(
     number: u64,
     message: Message,
 ) -> Result<()> {
-    let batch = take(
-        alloc,
-        device.store(),
-        &SESSION,
-        number,
-        Record::Message(message),
-    )?;
+    let record = Record::Message(message);
+    let batch = take(alloc, device.store(), &SESSION, number, record)?;
     device.add(batch)?;
     Ok(())
 }
@@ -97,7 +80,8 @@ pub(crate) fn hear_settled<C: Clients + Drop>(
     number: u64,
     message: Message,
 ) -> Result<()> {
-    hear(alloc, device, number, message)?;
-    device.settle().map_err(AddFault::Store)?;
+    let record = Record::Message(message);
+    let batch = take(alloc, device.store(), &SESSION, number, record)?;
+    device.add_settled(batch)?;
     Ok(())
 }

@@ -1,15 +1,14 @@
 //! A limit that leaves room for a message and its settling, and one that lacks a byte.
 use crate::compare::compare;
-use crate::device::{AddFault, Device};
-use crate::files::{GROUP, Payloads, disk_with};
+use crate::files::{GROUP, disk_with};
 use crate::posting::{LOAD_CALLS, note};
-use crate::values::batch_of;
 use anyhow::Result;
 use client_basic::Bundle;
 use outside::MemDisk;
 use std::alloc::Global;
 use sync_rules::Entry;
 use sync_store::StoreFault;
+use test_device::{AddFault, Device, Payloads, batch_of};
 
 /// The end, the frame of 44 bytes, and twice 38 bytes for its settling come to 165.
 const ENOUGH: u64 = 40 + 5 + 44 + 76;

@@ -6,7 +6,6 @@ mod beginning;
 mod cascade;
 mod compare;
 mod damage;
-mod device;
 mod failing;
 mod files;
 mod hearing;

@@ -2,7 +2,6 @@
 ghost use Rattle.std.specs.Prelude.{◌≡◌, ◌∷◌, [], cond, nat_eq, IfOk};
 
 use crate::compare::compare;
-use crate::device::{AddFault, Device};
 use crate::hearing::{begin, hear_settled};
 use crate::values::{group_def, message};
 use anyhow::Result;
@@ -10,6 +9,7 @@ use outside::MemDisk;
 use std::alloc::{AllocError, Global};
 use sync_ids::{Message, MessageId, group_id};
 use sync_rules::{Clients, DepList, Fate, Judgement, id_of};
+use test_device::{AddFault, Device};
 
 /// Says of the message of time 0 that it depends on the second, and of any other that it depends on
 /// the first.

@@ -1,8 +1,7 @@
 //! A message that is posted and settled, stopped at each call of the disk under each image.
 use crate::compare::{PICKS, compare, is_open};
-use crate::device::{AddFault, Device, end_of};
 use crate::files::{GROUP, count_front, deliveries, disk_with};
-use crate::values::{batch_of, group_def, message};
+use crate::values::{group_def, message};
 use anyhow::Result;
 use client_basic::Bundle;
 use outside::{MAX_JOURNAL, MemDisk, Pick};
@@ -10,6 +9,7 @@ use std::alloc::Global;
 use sync_ids::{Message, group_id};
 use sync_rules::{Entry, id_of};
 use sync_store::StoreFault;
+use test_device::{AddFault, Device, batch_of, end_of};
 
 /// How many calls a load of the file `GROUP` makes: two syncs, two headers, the length, two for
 /// each of two frames, and the closed gate.

@@ -1,8 +1,7 @@
 //! The values that the tables are made of.
-use anyhow::{Result, anyhow};
+use anyhow::Result;
 use std::alloc::Global;
 use sync_ids::{GroupDef, GroupId, Message};
-use sync_rules::{Batch, Entry};
 
 /// The group of this name, major version 0, with the descriptor `d`.
 pub(crate) fn group_def(alloc: Global, name: &str) -> Result<GroupDef> {
@@ -13,9 +12,4 @@ pub(crate) fn group_def(alloc: Global, name: &str) -> Result<GroupDef> {
 /// A message of this time and body.
 pub(crate) fn message(alloc: Global, group: GroupId, time: u64, body: &[u8]) -> Result<Message> {
     Ok(Message::new(group, time, body.to_vec(alloc)?)?)
-}
-
-/// A batch of one entry.
-pub(crate) fn batch_of(alloc: Global, entry: Entry) -> Result<Batch> {
-    Batch::new(vec![in alloc; entry]?).map_err(|_| anyhow!("a batch of no entries"))
 }

@@ -2,7 +2,6 @@
 //! functions over the batches.
 #![tactic(auto)]
 
-mod calls;
 mod compare;
 mod finding;
 mod following;

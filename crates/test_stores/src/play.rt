@@ -1,88 +1,61 @@
 //! A case: random batches, tried on a store and on the plain side.
-ghost use Rattle.std.specs.Prelude.{OnOk};
-ghost use Rattle.test_stores.specs.Ready.{IsReady};
 
-use crate::calls::{Pictured, begin, load_picture, settle, try_batch};
 use crate::compare::compare;
 use crate::finding::Lookup;
 use crate::game::Game;
 use anyhow::Result;
-use outside::{Disk, MemDisk};
+use outside::{MAX_JOURNAL, MemDisk, Pick};
 use std::alloc::Global;
-use sync_rules::{Batch, Clients};
-use sync_store::Store;
+use sync_rules::Batch;
+use test_device::{AddFault, Device};
 use test_drafts::Timing;
+
+type Node = Device<MemDisk, Timing>;
 
 /// Plays the case of this number, and prints each answer that differs. Whether all were the same.
 pub(crate) fn play_case(rt: &impl Print, alloc: Global, number: u32) -> Result<bool> {
     let mut game = Game::new(alloc, number)?;
-    let mut disk = MemDisk::new(alloc, Vec::new(alloc), Vec::new(alloc))?;
-    play_all(&mut game, &mut disk, &Timing)?;
+    play_all(&mut game)?;
     for finding in game.findings.iter() {
         println!(rt; "case {number}, batch {}: {:?}", finding.step, finding.what)?;
     }
     Ok(game.findings.is_empty())
 }
 
-fn play_all<D: Disk + Pictured, C: Clients>(
-    game: &mut Game,
-    disk: &mut D,
-    clients: &C,
-) -> Result<()> {
-    let mut store = begin(game.alloc, disk, clients)?;
-    'steps: for step in 0..game.steps {
+fn play_all(game: &mut Game) -> Result<()> {
+    let alloc = game.alloc;
+    let disk = MemDisk::new(alloc, Vec::new(alloc), Vec::new(alloc))?;
+    let mut device = Device::begin(alloc, disk, Timing)?;
+    for step in 0..game.steps {
         game.step = step;
-        play_step(game, &mut store, disk, clients)?;
+        if let Some(batch) = game.next_batch()? {
+            play_batch(game, &mut device, batch)?;
+        }
     }
     Ok(())
 }
 
-/// Tries the next batch, if there is one.
-fn play_step<D: Disk + Pictured, C: Clients>(
-    game: &mut Game,
-    store: &mut Store,
-    disk: &mut D,
-    clients: &C,
-) -> Result<()>
-    requires { IsReady (C.meaning clients.now) store.old (D.tells disk.old).files }
-    ensures { OnOk result (IsReady (C.meaning clients.now) store.new (D.tells disk.new).files) }
-{
-    match game.next_batch()? {
-        Some(batch) => play_batch(game, store, disk, clients, batch),
-        None => Ok(()),
-    }
-}
-
-fn play_batch<D: Disk + Pictured, C: Clients>(
-    game: &mut Game,
-    store: &mut Store,
-    disk: &mut D,
-    clients: &C,
-    batch: Batch,
-) -> Result<()>
-    requires { IsReady (C.meaning clients.now) store.old (D.tells disk.old).files }
-    ensures { OnOk result (IsReady (C.meaning clients.now) store.new (D.tells disk.new).files) }
-{
+/// Commits a batch where it may follow, settles where that is planned, and compares.
+fn play_batch(game: &mut Game, device: &mut Node, batch: Batch) -> Result<()> {
     let plan = game.plan(&batch)?;
-    let may = try_batch(store, disk, clients, batch, plan.follows)?;
+    let may = device.allows(&batch)?;
     game.note(Lookup::Allows, may == plan.follows)?;
-    settle(store, disk, clients, plan.settles)?;
-    compare_all(game, store, disk, clients, plan.settles)
+    if may && plan.follows {
+        device.add(batch)?;
+    }
+    if plan.settles {
+        device.settle().map_err(AddFault::Store)?;
+    }
+    compare_all(game, device, plan.settles)
 }
 
-/// Compares what the disk has, the store's look-ups, and those of the store that is loaded of the
-/// disk.
-fn compare_all<D: Pictured, C: Clients>(
-    game: &mut Game,
-    store: &Store,
-    disk: &D,
-    clients: &C,
-    settles: bool,
-) -> Result<()> {
-    let picture = disk.picture()?;
-    game.read(picture.file(0), settles)?;
-    match load_picture(game.alloc, picture, clients) {
-        Ok(loaded) => compare(game, store, &loaded),
+/// Compares what the disk has, the store's look-ups, and those of the store that is loaded of what
+/// a crash may leave of the disk, as little as may be.
+fn compare_all(game: &mut Game, device: &Node, settles: bool) -> Result<()> {
+    let left = device.disk().image(Pick::Old)?;
+    game.read(left.file(0), settles)?;
+    match Device::load(game.alloc, left, Timing, MAX_JOURNAL) {
+        Ok(loaded) => compare(game, device.store(), loaded.store()),
         Err(_) => game.note(Lookup::Load, false),
     }
 }

@@ -1,5 +1,5 @@
-//! The tables of a store, each against a plain one or by hand: the tree of what is due, the waiting graph, the
-//! rows of contacts, the levels.
+//! The tables of a store, each against a plain one or by hand: the tree of what is due, the waiting
+//! graph, the rows of contacts, the levels.
 #![tactic(auto)]
 
 #[cfg(test)]

@@ -1,4 +1,3 @@
-use Rattle.std.proofs.Common.{rules}
 use Rattle.bramble_hash.specs.Blake2b.{words}
 use Rattle.bramble_hash.proofs.block.words.Goals as goal
 

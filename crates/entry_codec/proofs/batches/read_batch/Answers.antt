@@ -1,7 +1,7 @@
 use Rattle.std.proofs.Common.{◌≡◌, arith, List, ap, sym, refl, ◌∙◌}
 use Rattle.std.specs.Prelude.{Some}
 use Rattle.sync_rules.specs.declared.entries.Entry.{Entry}
-use Rattle.entry_codec.specs.Standing.{batch_of}
+use Rattle.entry_codec.specs.Payloads.{batch_in}
 use Rattle.entry_codec.proofs.BatchLaws.{batch_spelled, in_bad, in_done, in_empty, in_more, none_left, rest_shorter, some_entries, some_left}
 use Rattle.entry_codec.proofs.Readers.{IsBytes}
 use Rattle.entry_codec.proofs.batches.read_batch.Goals as goal
@@ -25,7 +25,7 @@ returns-in-Err-BadEntry-clause-exact c =
     (some_left c.entries.front.rest.now c.is_empty.result c.is_empty.ensures c.entries-test.true) bad)
 
 -- all entries are read, and they are a batch
-all_read : (c : In-Ok-new) → batch_of c.args.bytes.now ≡ Some c.in-Ok-new.batch
+all_read : (c : In-Ok-new) → batch_in c.args.bytes.now ≡ Some c.in-Ok-new.batch
 all_read c =
     in_done c.args.bytes.now c.entries.front.rest.now c.entries.entries.items c.entries.invariant
     (none_left c.entries.front.rest.now c.is_empty.result c.is_empty.ensures c.entries-test.false)

@@ -1,5 +1,4 @@
-use Rattle.std.proofs.Common.{◌≡◌, sym, subst}
-use Rattle.retry_table.specs.Table as retry
+use Rattle.std.proofs.Common.{sym, subst}
 use Rattle.journal_state.specs.Delivery.{Grows}
 use Rattle.journal_state.proofs.Grown.{either, reserved, same_table}
 use Rattle.journal_state.proofs.delivering.reserve_row.Goals as goal

@@ -1,4 +1,3 @@
-use Rattle.std.proofs.Common.{◌≡◌}
 use Rattle.journal_state.proofs.WantedIds.{unwants_none, unwants_more}
 use Rattle.journal_state.proofs.holding.unwant_from_all.Goals as goal
 

@@ -1,5 +1,4 @@
-use Rattle.std.proofs.Common.{◌≡◌, ℕ, ◌+◌, ◌<◌, ◌≤◌, true, nat_lt, List, [], ◌∷◌, ◌++◌, take, get_or, length, sym, ap, ◌∙◌, subst, arith, rules}
-use Rattle.std.specs.List.{list_all}
+use Rattle.std.proofs.Common.{ℕ, ◌<◌, nat_lt, List, take, get_or, length, sym, subst, arith}
 use Rattle.std.proofs.lemmas.List.{take_more, take_all}
 use Rattle.retry_table.specs.Table as retry
 use Rattle.journal_state.specs.Levelling.{levelled_at, Levels}

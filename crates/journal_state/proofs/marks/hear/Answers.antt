@@ -1,4 +1,3 @@
-use Rattle.std.proofs.Common.{◌≡◌}
 use Rattle.journal_state.proofs.Tables.{heard_twice}
 use Rattle.journal_state.proofs.marks.hear.Goals as goal
 

@@ -22,7 +22,7 @@ returns-clause-goes_on g c =
     let settles : Settles clients (old ++ take_batch old c.args.session c.args.k (record_kind.Message c.args.message) ∷ []) c.settle_in.new.j.items =
     subst (λ (j : List (List Entry)). Settles clients j c.settle_in.new.j.items) mid c.settle_in.ensures.settles in
     on_ok c.settle_in.result
-    (λ s. hears_on clients old c.args.session c.args.contact c.args.k c.requires c.args.message c.timestamp-within.ensures.within c.settle_in.new.j.items
+    (λ s. hears_on clients old c.args.session c.args.contact c.args.k c.requires c.args.message c.messages_are_within.ensures c.settle_in.new.j.items
     (record { settles = settles; settled = s }))
     c.settle_in.ensures.settled
 
@@ -36,4 +36,4 @@ returns-clause-legal g c =
     c.in_ok-push.ensures.items ∙ ap (λ (b : List Entry). old ++ b ∷ []) batch in
     c.settle_in.ensures.legal
     (subst (Legal clients) (sym mid)
-    (take_legal clients old c.args.session c.args.contact c.args.k c.requires c.args.message c.timestamp-within.ensures.within))
+    (take_legal clients old c.args.session c.args.contact c.args.k c.requires c.args.message c.messages_are_within.ensures))

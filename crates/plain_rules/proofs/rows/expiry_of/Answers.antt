@@ -1,5 +1,5 @@
 -- The wait doubles, and what is left is the sum that stops at 2^64 - 1.
-use Rattle.std.proofs.Common.{◌≡◌, ◌*◌, ◌-◌, ◌^◌, min, ◌∙◌, ap}
+use Rattle.std.proofs.Common.{◌*◌, ◌-◌, ◌^◌, min, ◌∙◌, ap}
 use Rattle.plain_rules.proofs.RowScans.{doubled}
 use Rattle.plain_rules.proofs.rows.expiry_of.Goals as goal
 

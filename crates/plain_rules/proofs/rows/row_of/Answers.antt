@@ -1,5 +1,5 @@
 -- At the beginning no pair has a row; one more batch makes of the row what its entries make of it.
-use Rattle.std.proofs.Common.{◌≡◌, List, take, sym, ◌∙◌, ap, subst}
+use Rattle.std.proofs.Common.{List, take, sym, ◌∙◌, ap}
 use Rattle.sync_rules.specs.declared.entries.Entry.{Entry}
 use Rattle.sync_rules.specs.Facts.{Facts, facts, after_all, row_at}
 use Rattle.plain_rules.proofs.RowScans.{no_row_at}

@@ -1,6 +1,5 @@
 -- What is set at the last place is the last batch with the entry.
-use Rattle.std.proofs.Common.{◌≡◌, ◌+◌, ◌-◌, ◌++◌, ◌∷◌, [], List, Result, Ok, Err, OnOk, length, get_or, arith}
-use Rattle.sync_rules.specs.declared.entries.Entry.{Entry}
+use Rattle.std.proofs.Common.{◌-◌, Result, Ok, Err, OnOk, arith}
 use Rattle.plain_rules.proofs.Filling.{set_last}
 use Rattle.plain_rules.proofs.settling.push_to_last.Goals as goal
 

@@ -1,10 +1,10 @@
 -- Each turn of the loop puts one next step into the batch.
-use Rattle.std.proofs.Common.{◌≡◌, ◌+◌, ◌≤◌, List, Some, sym, ◌∙◌, ap, subst, arith}
+use Rattle.std.proofs.Common.{◌≡◌, ◌+◌, List, Some, sym, ◌∙◌, ap, subst}
 use Rattle.sync_rules.specs.declared.entries.Entry.{Entry}
 use Rattle.sync_rules.specs.Facts.{facts}
 use Rattle.plain_rules.specs.Settling.{AddsSettling}
 use Rattle.sync_rules.specs.Steps.{next}
-use Rattle.plain_rules.proofs.Filling.{adds_one, adds_more, adds_up_to, adds_settles}
+use Rattle.plain_rules.proofs.Filling.{adds_more}
 use Rattle.plain_rules.proofs.settling.settle_batch.Goals as goal
 
 pub loop-count-preserved : goal.loop-count-preserved

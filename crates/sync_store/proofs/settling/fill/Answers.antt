@@ -5,8 +5,7 @@ use Rattle.sync_rules.specs.Facts.{Facts, after, after_all}
 use Rattle.sync_rules.specs.Legal.{IsSettling}
 use Rattle.sync_rules.specs.Steps.{next}
 use Rattle.journal_state.specs.Stepping.{stepped}
-use Rattle.sync_store.proofs.Growth.{after_push}
-use Rattle.sync_store.proofs.RoomSteps.{settling-push}
+use Rattle.sync_store.proofs.Steps.{after_push, settling-push}
 use Rattle.sync_store.proofs.settling.fill.Goals as goal
 
 pub steps-preserved : goal.steps-preserved

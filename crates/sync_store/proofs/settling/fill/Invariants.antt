@@ -1,5 +1,6 @@
 use Rattle.std.proofs.Common.{◌≡◌, ◌≤◌, vec_capacity, vec_len}
 use Rattle.journal_state.specs.Whole.{Knows}
+use Rattle.sync_rules.specs.declared.limits.TheConstants.{MAX_STEPS}
 use Rattle.sync_rules.specs.Facts.{after_all}
 use Rattle.sync_rules.specs.Legal.{IsSettling}
 use Rattle.sync_store.proofs.settling.fill.Given as goal
@@ -11,5 +12,5 @@ invariant-steps g l = record {
   made : l.state.facts ≡ after_all l.fn.state.facts l.entries.items;
   knows : Knows (g.C.Clients.meaning l.clients) l.state;
   count : vec_len l.entries ≡ l._made;
-  capacity : 256 ≤ vec_capacity l.entries;
+  capacity : MAX_STEPS ≤ vec_capacity l.entries;
 }

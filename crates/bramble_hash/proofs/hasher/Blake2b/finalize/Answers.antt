@@ -1,6 +1,4 @@
-use Rattle.std.proofs.Common.{◌≡◌, ap, sym, ◌∙◌, refl, take}
-use Rattle.std.specs.Int.{w64, to_le_bytes}
-use Rattle.std.specs.List.{flat_map}
+use Rattle.std.proofs.Common.{◌≡◌, ap, ◌∙◌, refl, take}
 use Rattle.bramble_hash.specs.Blake2b.{State, padded}
 use Rattle.bramble_hash.proofs.Absorbing.{digest_at}
 use Rattle.bramble_hash.proofs.hasher.Blake2b.finalize.Goals as goal

@@ -1,5 +1,4 @@
-use Rattle.std.proofs.Common.{◌≡◌, ℕ, ◌-◌, ◌++◌, ◌<◌, List, [], length, take, replicate, arith, refl, sym, ap, ◌∙◌, eq-eqb}
-use Rattle.std.proofs.lemmas.List.{drop-replicate, length-replicate, take_all}
+use Rattle.std.proofs.Common.{◌≡◌, ◌<◌, length, arith, refl}
 use Rattle.std.proofs.lemmas.Bool.Decides.{nat_tests}
 use Rattle.bramble_hash.proofs.Absorbing.{key_padded, Holds_keyed, Holds_new}
 use Rattle.bramble_hash.proofs.hasher.Blake2b.keyed.Goals as goal

@@ -1,5 +1,5 @@
 use Rattle.std.proofs.Common.{rules}
-use Rattle.bramble_hash.specs.Blake2b.{Holds, all_but_last, cut, key_block, marked}
+use Rattle.bramble_hash.specs.Blake2b.{all_but_last, cut, key_block, marked}
 use Rattle.bramble_hash.proofs.hasher.Blake2b.new.Goals as goal
 
 pub returns-clause-holds : goal.returns-clause-holds

@@ -1,8 +1,7 @@
 use Rattle.std.proofs.Common.{◌∙◌, sym, ap, refl, length}
 use Rattle.outside.specs.Files.{read_files}
 use Rattle.outside.specs.Steps.{looks_then, looks_call}
-use Rattle.frame_journal.proofs.Read.{read_files_of}
-use Rattle.frame_journal.specs.Journal.{JournalValue}
+use Rattle.frame_journal.proofs.Read.{read_files_of, begun_as}
 use Rattle.frame_journal.proofs.journal.Journal.start.Goals as goal
 
 pub returns-in_default-clause-start : goal.returns-in_default-clause-start
@@ -10,12 +9,12 @@ returns-in_default-clause-start g c two told =
     let told1 = c.read_header.ensures.looks.same_files ∙ told in
     c.in_default.ensures.file (read_files two) (c.in_ok-first.ensures.header two told) (c.in_ok-second.ensures.header two told1)
 
-pub returns-then-format-ne1-clause-start : goal.returns-then-format-ne1-clause-start
-returns-then-format-ne1-clause-start g c two told =
+pub returns-then-header-ne-FORMAT-clause-start : goal.returns-then-header-ne-FORMAT-clause-start
+returns-then-header-ne-FORMAT-clause-start g c two told =
     let told1 = c.read_header.ensures.looks.same_files ∙ told in
     let h1 = c.in_ok-first.ensures.header two told in
     let h2 = c.in_ok-second.ensures.header two told1 in
-    (c.in-Some.ensures.file (read_files two) h1 h2, λ e. c.if-format-ne1.true (c.in-Some.ensures.format (read_files two) h1 h2 ∙ e), refl)
+    (c.in-Some.ensures.file (read_files two) h1 h2, λ e. c.if-header-ne-FORMAT.true ((c.in-Some.ensures.header (read_files two) h1 h2).1 ∙ e), refl)
 
 pub returns-in_err-len-clause-looks : goal.returns-in_err-len-clause-looks
 returns-in_err-len-clause-looks g c =
@@ -30,10 +29,11 @@ returns-clause-start g c two told =
     let told2 = c.read_header-2.ensures.looks.same_files ∙ told1 in
     let h1 = c.in_ok-first.ensures.header two told in
     let h2 = c.in_ok-second.ensures.header two told1 in
+    let header = c.in-Some.ensures.header (read_files two) h1 h2 in
     let long = c.in_ok-len.ensures.length two told2 ∙ sym (ap length (read_files_of two c.in-Some.file)) in (
       c.in-Some.ensures.file (read_files two) h1 h2,
-      sym (c.in-Some.ensures.format (read_files two) h1 h2) ∙ c.if-format-ne1.false,
-      ap (λ n. let j : JournalValue = record { file = c.in-Some.file; end = 15; len = n; last = 0 } in j) long,
+      sym header.1 ∙ c.if-header-ne-FORMAT.false,
+      begun_as c.in-Some.file _ _ _ _ header.1 header.2 long,
     )
 
 pub returns-clause-looks : goal.returns-clause-looks

@@ -1,4 +1,4 @@
-use Rattle.std.proofs.Common.{◌≡◌, ℕ, Some, None, Option, sym, ap, subst, ◌∙◌}
+use Rattle.std.proofs.Common.{◌≡◌, ℕ, Some, Option, sym, ap, subst, ◌∙◌}
 use Rattle.sync_rules.specs.Views.{place_of, IsFound}
 use Rattle.journal_state.specs.Holding.{Holding}
 use Rattle.journal_state.proofs.Places.{kept_place, place_found}

@@ -1,4 +1,4 @@
-use Rattle.std.proofs.Common.{◌≡◌, ℕ, ◌+◌, ◌-◌, Some, ap, ◌∙◌}
+use Rattle.std.proofs.Common.{◌≡◌, ℕ, ◌+◌, ◌-◌, ap, ◌∙◌}
 use Rattle.std.specs.FinMap as fin_map
 use Rattle.std.specs.Ordering.{nat_cmp}
 use Rattle.sync_rules.specs.Facts.{takes_of}
@@ -13,4 +13,4 @@ returns c =
     let counts : ◌≡◌ {A = fin_map.FinMap nat_cmp ℕ} (fin_map.from_entries c.insert.new.self.entries) (fin_map.insert c.args.self.now.takes c.args.number (takes_of c.args.self.now.takes c.args.number + 1)) =
     put ∙ (ap (λ (b : Begun). fin_map.insert b.takes c.args.number (c.takes-count.result + 1)) c.self.view_is
     ∙ ap (λ (n : ℕ). fin_map.insert c.args.self.now.takes c.args.number (n + 1)) c.takes-count.ensures) in
-    λ k. record { sessions = (c.self.view_is k).sessions; takes = counts k; room = (c.self.view_is k).room - 1 }
+    λ k. record { begun = (c.self.view_is k).begun; sessions = (c.self.view_is k).sessions; takes = counts k; room = (c.self.view_is k).room - 1 }

@@ -1,4 +1,4 @@
-use Rattle.std.proofs.Common.{◌≡◌, Some, None, sym, ap, ◌∙◌}
+use Rattle.std.proofs.Common.{sym, ap, ◌∙◌}
 use Rattle.sync_rules.specs.Facts.{takes_of, count_or}
 use Rattle.journal_state.specs.Begun.{Begun}
 use Rattle.journal_state.proofs.Numbers.{kept_count}

@@ -1,8 +1,8 @@
-use Rattle.std.proofs.Common.{◌≡◌, Bool, true, false, not, sym, subst, ◌∙◌}
+use Rattle.std.proofs.Common.{◌≡◌, true, sym, subst, ◌∙◌}
 use Rattle.sync_rules.specs.Clients.{Meaning}
 use Rattle.sync_rules.specs.Facts.{Facts}
 use Rattle.sync_rules.specs.Legal.{Allowed}
-use Rattle.entry_codec.specs.Allows.{allows}
+use Rattle.sync_rules.specs.Allows.{allows}
 use Rattle.journal_state.proofs.state.State.admit_other.Goals as goal
 
 pub take_knowing-requires-clause-allowed : goal.take_knowing-requires-clause-allowed

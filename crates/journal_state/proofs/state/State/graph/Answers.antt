@@ -1,4 +1,4 @@
-use Rattle.std.proofs.Common.{◌≡◌, sym, subst}
+use Rattle.std.proofs.Common.{sym, subst}
 use Rattle.message_graph.specs.Nodes as nodes
 use Rattle.journal_state.specs.Lent.{StandsForNodes}
 use Rattle.journal_state.specs.Whole.{StateValue, value_of}

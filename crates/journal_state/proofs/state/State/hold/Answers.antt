@@ -1,7 +1,6 @@
-use Rattle.std.proofs.Common.{◌≡◌, ℕ, ◌+◌, ◌-◌, ◌<◌, ◌≤◌, Bool, false, None, Some, List, [], ◌∷◌, ◌++◌, length, vec_capacity, slice_get, slice_index_or, refl, ap, sym, subst, ◌∙◌, arith, length-append}
+use Rattle.std.proofs.Common.{◌≡◌, ◌+◌, ◌-◌, ◌≤◌, Bool, false, None, Some, List, [], ◌∷◌, ◌++◌, length, slice_get, slice_index_or, ap, sym, subst, ◌∙◌, arith, length-append}
 use Rattle.sync_ids.specs.Ids.{message_id_of}
-use Rattle.sync_rules.specs.Clients.{Meaning}
-use Rattle.sync_rules.specs.Facts.{Facts, Held, Id, held_at, wanted_by_none}
+use Rattle.sync_rules.specs.Facts.{Held, Id, held_at, wanted_by_none}
 use Rattle.message_graph.specs.declared.nodes.Node.{Node}
 use Rattle.message_graph.specs.Nodes as nodes
 use Rattle.retry_table.specs.Table as retry

@@ -1,6 +1,6 @@
-use Rattle.std.proofs.Common.{◌≡◌, ◌+◌, ◌<◌, List, [], ◌∷◌, ◌++◌, map, take, get_or, length, sym, ap, ◌∙◌, arith, rules}
+use Rattle.std.proofs.Common.{◌≡◌, ◌+◌, ◌<◌, List, [], ◌∷◌, ◌++◌, map, take, get_or, length, sym, ap, ◌∙◌, rules}
 use Rattle.std.proofs.lemmas.List.{map-append, take_more}
-use Rattle.sync_rules.specs.Facts.{Held, Id}
+use Rattle.sync_rules.specs.Facts.{Held}
 use Rattle.journal_state.specs.Whole.{id_at}
 use Rattle.journal_state.proofs.Listed.{id_shown}
 use Rattle.journal_state.proofs.state.State.ids.Goals as goal

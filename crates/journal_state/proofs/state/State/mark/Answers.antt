@@ -1,5 +1,5 @@
-use Rattle.std.proofs.Common.{◌≡◌, ℕ, ◌<◌, ◌≤◌, List, Option, Some, length, ap, sym, subst, ◌∙◌, arith}
-use Rattle.sync_rules.specs.Facts.{Facts, Id, change_row}
+use Rattle.std.proofs.Common.{ℕ, ◌<◌, ◌≤◌, List, Option, length, ap, sym, subst, ◌∙◌, arith}
+use Rattle.sync_rules.specs.Facts.{change_row}
 use Rattle.sync_rules.specs.Views.{IsFound, IsPlace}
 use Rattle.retry_table.specs.Table as retry
 use Rattle.journal_state.specs.Marks.{marked}

@@ -1,10 +1,7 @@
-use Rattle.std.proofs.Common.{◌≡◌, ℕ, ◌+◌, ◌<◌, ◌≤◌, true, List, [], ◌∷◌, ◌++◌, take, get_or, length, sym, ap, ◌∙◌, subst, arith, rules}
-use Rattle.std.specs.List.{list_all}
+use Rattle.std.proofs.Common.{◌≡◌, ◌+◌, List, [], ◌∷◌, ◌++◌, take, get_or, length, sym, ap, ◌∙◌, subst, arith}
 use Rattle.std.proofs.lemmas.List.{take_more, take_all}
 use Rattle.sync_rules.specs.Facts.{Held, Id, is_held}
 use Rattle.journal_state.specs.Marks.{marked}
-use Rattle.journal_state.specs.Room.{rows_room}
-use Rattle.journal_state.specs.Whole.{StateValue}
 use Rattle.journal_state.proofs.MarkedMore.{IsMarked, marked_none, marked_more, marked_held, all_at}
 use Rattle.journal_state.proofs.state.State.mark_all.Goals as goal
 

@@ -1,5 +1,4 @@
-use Rattle.std.proofs.Common.{◌≡◌, take}
-use Rattle.sync_rules.specs.Facts.{change_rows}
+use Rattle.std.proofs.Common.{take}
 use Rattle.journal_state.specs.Marks.{marked}
 use Rattle.journal_state.proofs.MarkedMore.{IsMarked}
 use Rattle.journal_state.proofs.state.State.mark_all.Given as goal

@@ -1,11 +1,10 @@
-use Rattle.std.proofs.Common.{◌≡◌, ◌+◌, ◌≤◌, [], length, nat_lt, slice_get, refl, sym, ap, subst, ◌∙◌, arith}
+use Rattle.std.proofs.Common.{◌≡◌, length, nat_lt, slice_get, sym, ap, subst, ◌∙◌, arith}
 use Rattle.std.specs.List.{list_all}
 use Rattle.message_graph.specs.Nodes as nodes
 use Rattle.visibility_table.specs.Table as levels
 use Rattle.journal_state.specs.Begun.{Begun}
 use Rattle.journal_state.specs.Parts.{Parts}
-use Rattle.journal_state.specs.Whole.{IsState, StateValue, value_of}
-use Rattle.journal_state.specs.Inside.{parts}
+use Rattle.journal_state.specs.Whole.{IsState, value_of}
 use Rattle.journal_state.proofs.Empty.{empty_parts, empty_is_state, empty_facts, not_there}
 use Rattle.journal_state.proofs.state.State.new.Goals as goal
 

@@ -1,5 +1,4 @@
-use Rattle.std.proofs.Common.{◌≡◌, ◌≤◌, ap, sym, subst, ◌∙◌, arith}
-use Rattle.sync_rules.specs.Facts.{Facts}
+use Rattle.std.proofs.Common.{ap, subst, ◌∙◌, arith}
 use Rattle.journal_state.specs.Room.{KeepsRoom, room_in}
 use Rattle.journal_state.specs.Whole.{StateValue}
 use Rattle.journal_state.specs.Inside.{parts}

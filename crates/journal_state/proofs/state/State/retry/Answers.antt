@@ -1,4 +1,4 @@
-use Rattle.std.proofs.Common.{◌≡◌, subst}
+use Rattle.std.proofs.Common.{subst}
 use Rattle.journal_state.specs.Whole.{StateValue}
 use Rattle.journal_state.specs.Inside.{parts}
 use Rattle.journal_state.specs.Lent.{StandsForRows}

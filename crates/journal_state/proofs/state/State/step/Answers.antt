@@ -1,11 +1,10 @@
-use Rattle.std.proofs.Common.{◌≡◌, ◌<◌, Option, None, Some, length, refl, sym, ap, subst, ◌∙◌, arith}
+use Rattle.std.proofs.Common.{◌≡◌, ◌<◌, ◌+◌, ◌≤◌, Option, None, Some, length, refl, sym, ap, subst, ◌∙◌, arith}
 use Rattle.std.specs.Option.{option_map}
-use Rattle.sync_rules.specs.declared.entries.Entry.{Entry}
-use Rattle.sync_rules.specs.declared.entries.Entry.TheVariants as entry
 use Rattle.sync_rules.specs.Clients.{Meaning}
+use Rattle.sync_rules.specs.Facts.{Facts, after}
+use Rattle.sync_rules.specs.Left.{left_of}
 use Rattle.sync_rules.specs.Steps.{next}
 use Rattle.message_graph.specs.declared.nodes.Step.{Step}
-use Rattle.message_graph.specs.declared.nodes.Step.TheVariants as step
 use Rattle.message_graph.specs.Nodes as nodes
 use Rattle.journal_state.specs.Parts.{Parts}
 use Rattle.journal_state.specs.Stepping.{entry_of, number_in}
@@ -13,6 +12,7 @@ use Rattle.journal_state.specs.Whole.{StateValue, IsState, Knows, id_at, value_o
 use Rattle.journal_state.specs.Inside.{parts}
 use Rattle.journal_state.proofs.Next.{found_next, many_nodes, next_within}
 use Rattle.journal_state.proofs.state.State.step.Goals as goal
+use Rattle.journal_state.proofs.state.State.step.Goals.{in-Judge+in_ok-judge-in-Judge, in-Invalid, in-Deliver+in_ok-deliver-in-Deliver}
 
 -- the graph's next step is the journal's
 told : (clients : Meaning) (p : Parts) (s : IsState p) (v : StateValue) → value_of p ≡ v → Knows clients v → (o : Option Step) → o ≡ nodes.next p.nodes
@@ -64,3 +64,18 @@ pub returns-clause-step : goal.returns-clause-step
 returns-clause-step g c =
     ap Some c.entry_of-entry.ensures
     ∙ told (g.C.Clients.meaning c.args.clients.now) (parts c.self.inside) c.self.invariant.state c.args.self.now c.self.view_is c.requires.knows (Some c.in-Some.step) c.in-Some.ensures
+
+pub returns-clause-left : goal.returns-clause-left
+returns-clause-left g c =
+    let clients : Meaning = g.C.Clients.meaning c.args.clients.now in
+    let f = c.args.self.now.facts in
+    let as_entry = λ (s : Step). after f (entry_of (id_at f.held) s) in
+    let facts_are : c.match-step.self.facts ≡ as_entry c.in-Some.step =
+    (elim c.match-step.branch [
+      | in-Judge+in_ok-judge-in-Judge w ↦ ap (λ (v : StateValue). v.facts) w.self-is ∙ (w.in_ok-judge-in-Judge.ensures.facts ∙ ap as_entry (sym w.in-Judge.is))
+      | in-Invalid w ↦ ap (λ (v : StateValue). v.facts) w.self-is ∙ (w.refuse.ensures.facts ∙ ap as_entry (sym w.in-Invalid.is))
+      | in-Deliver+in_ok-deliver-in-Deliver w ↦ ap (λ (v : StateValue). v.facts) w.self-is ∙ (w.in_ok-deliver-in-Deliver.ensures.facts ∙ ap as_entry (sym w.in-Deliver.is))
+    ]) in
+    let is_next : next clients f ≡ Some (entry_of (id_at f.held) c.in-Some.step) =
+    sym (told clients (parts c.self.inside) c.self.invariant.state c.args.self.now c.self.view_is c.requires.knows (Some c.in-Some.step) c.in-Some.ensures) in
+    subst (λ (h : Facts). left_of h + 1 ≤ left_of f) (sym facts_are) (c.left.ensures.step clients f (entry_of (id_at f.held) c.in-Some.step) is_next)

@@ -1,4 +1,4 @@
-use Rattle.std.proofs.Common.{◌≡◌, ℕ, ◌≤◌, length, refl, sym, ap, subst, ◌∙◌}
+use Rattle.std.proofs.Common.{◌≡◌, ◌≤◌, length, refl, sym, ap, subst, ◌∙◌}
 use Rattle.sync_rules.specs.declared.entries.Entry.TheVariants as entry
 use Rattle.sync_rules.specs.Facts.{change_row, contact_in, contact_of, row_asked}
 use Rattle.journal_state.specs.Room.{rows_room}
@@ -7,11 +7,11 @@ use Rattle.journal_state.proofs.state.State.take_asked.Goals as goal
 
 pub mark-requires-clause-room : goal.mark-requires-clause-room
 mark-requires-clause-room c =
-    subst (λ n. length c.args.self.now.facts.held ≤ rows_room c.args.self.now.room n) (ap contact_in c.session-contact.ensures.found) c.requires.kind.on.rows
+    subst (λ n. length c.args.self.now.facts.held ≤ rows_room c.args.self.now.room n) (ap contact_in c.known_session-contact.ensures.found) c.requires.kind.on.rows
 
 pub returns : goal.returns
 returns c =
-    let contact : c.session-contact.result.contact ≡ contact_of c.args.self.now.facts.sessions c.args.session = sym (ap contact_in c.session-contact.ensures.found) in
+    let contact : c.known_session-contact.result.contact ≡ contact_of c.args.self.now.facts.sessions c.args.session = sym (ap contact_in c.known_session-contact.ensures.found) in
     takes_same c.args.self.now c.mark.new.self (entry.Asked c.args.session c.args.id)
     (c.mark.ensures.facts ∙ (λ i. record c.args.self.now.facts { rows = change_row c.args.self.now.facts.rows (contact i) c.args.id row_asked }))
     c.mark.ensures.answers (λ clients. refl) (kept_spends c.args.self.now.room c.mark.new.self.room c.mark.ensures.room)

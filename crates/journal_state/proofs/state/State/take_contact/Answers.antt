@@ -1,10 +1,7 @@
-use Rattle.std.proofs.Common.{◌≡◌, ◌+◌, ◌-◌, ◌<◌, ◌≤◌, nat_lt, ap, sym, subst, ◌∙◌, arith}
-use Rattle.std.specs.List.{list_all}
+use Rattle.std.proofs.Common.{◌≡◌, ◌+◌, ◌-◌, nat_lt, ap, sym, subst, ◌∙◌, arith}
 use Rattle.sync_rules.specs.declared.entries.Entry.TheVariants as entry
 use Rattle.sync_rules.specs.declared.entries.Session.{Session}
-use Rattle.sync_rules.specs.Clients.{Meaning}
 use Rattle.visibility_table.specs.Table as levels
-use Rattle.journal_state.specs.Room.{room_in}
 use Rattle.journal_state.specs.Parts.{Parts}
 use Rattle.journal_state.specs.Taking.{Takes}
 use Rattle.journal_state.specs.Whole.{StateValue, value_of}

@@ -1,10 +1,9 @@
-use Rattle.std.proofs.Common.{◌≡◌, List, map, sym, ap, subst, ◌∙◌}
+use Rattle.std.proofs.Common.{List, map, sym, ap, subst, ◌∙◌}
 use Rattle.sync_rules.specs.declared.entries.Entry.{Entry}
-use Rattle.sync_rules.specs.Facts.{Facts, Held, after_all}
+use Rattle.sync_rules.specs.Facts.{Held, after_all}
 use Rattle.journal_state.specs.Known.{IsOfAll}
 use Rattle.journal_state.specs.Taking.{CanTakeAll}
 use Rattle.journal_state.specs.Whole.{StateValue}
-use Rattle.journal_state.specs.Inside.{parts}
 use Rattle.journal_state.proofs.Apart.{AreApart, first_apart}
 use Rattle.journal_state.proofs.CanTaken.{can_batch}
 use Rattle.journal_state.proofs.state.State.take_knowing.Goals as goal
@@ -15,7 +14,7 @@ take_all-requires-clause-can c =
     subst (λ (v : StateValue). AreApart (map (λ (h : Held). h.id) v.facts.held)) c.self.view_is (first_apart c.self.inside.messages.held c.self.invariant.state.distinct) in
     subst (λ (es : List Entry). CanTakeAll c.args.self.now es) (sym c.into_entries.ensures.value)
     (can_batch c.requires.allowed.0 c.args.self.now c.args.batch c.requires.allowed.1 c.requires.kind c.requires.room
-    (record { held = c.requires.few_held; sessions = c.requires.few_sessions; records = c.requires.few_records }) apart)
+    c.requires.numbers apart)
 
 pub take_all-requires-clause-named : goal.take_all-requires-clause-named
 take_all-requires-clause-named c = subst (IsOfAll c.args.known.now) (sym c.into_entries.ensures.value) c.requires.named

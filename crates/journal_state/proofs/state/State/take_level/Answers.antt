@@ -1,13 +1,11 @@
-use Rattle.std.proofs.Common.{◌≡◌, ℕ, ◌+◌, ◌-◌, ◌<◌, ◌≤◌, Bool, true, nat_lt, List, length, slice_index_or, is_some, ap, sym, subst, ◌∙◌, arith}
+use Rattle.std.proofs.Common.{◌≡◌, ℕ, ◌-◌, ◌<◌, Bool, true, nat_lt, List, is_some, ap, sym, subst, ◌∙◌, arith}
 use Rattle.std.specs.List.{list_all}
 use Rattle.sync_rules.specs.declared.entries.Entry.TheVariants as entry
 use Rattle.sync_rules.specs.declared.entries.Session.{Session}
 use Rattle.sync_rules.specs.Facts.{group_at, is_level_shared}
-use Rattle.retry_table.specs.Table as retry
 use Rattle.visibility_table.specs.Table as levels
 use Rattle.journal_state.specs.Levelling.{Levels, levelled_at}
 use Rattle.journal_state.specs.Parts.{Parts}
-use Rattle.journal_state.specs.Room.{room_in}
 use Rattle.journal_state.specs.Taking.{Takes}
 use Rattle.journal_state.specs.Whole.{StateValue, value_of}
 use Rattle.journal_state.specs.Inside.{parts}

@@ -1,6 +1,6 @@
-use Rattle.std.proofs.Common.{◌≡◌, ℕ, ◌+◌, ◌<◌, ◌≤◌, List, length, ap, sym, subst, ◌∙◌, arith}
+use Rattle.std.proofs.Common.{◌≡◌, ◌<◌, ap, sym, subst, ◌∙◌}
 use Rattle.std.specs.FinMap as fin_map
-use Rattle.sync_rules.specs.Facts.{Facts, Id, wanted_from, without_each}
+use Rattle.sync_rules.specs.Facts.{wanted_from, without_each}
 use Rattle.retry_table.specs.Table as retry
 use Rattle.journal_state.specs.Room.{room_in}
 use Rattle.journal_state.specs.Taking.{Spends}

@@ -1,6 +1,6 @@
-use Rattle.std.proofs.Common.{◌≡◌, ℕ, ◌+◌, ◌-◌, ◌^◌, ◌<◌, ◌≤◌, Bool, List, Option, length, is_some, ap, sym, subst, ◌∙◌, arith}
+use Rattle.std.proofs.Common.{◌≡◌, ◌-◌, ◌^◌, ◌<◌, List, length, ap, sym, subst, ◌∙◌, arith}
 use Rattle.std.specs.FinMap as fin_map
-use Rattle.sync_rules.specs.Facts.{Facts, Id, is_held, wanted_from, with_want}
+use Rattle.sync_rules.specs.Facts.{Id, is_held, wanted_from, with_want}
 use Rattle.retry_table.specs.Table as retry
 use Rattle.journal_state.specs.Room.{room_in}
 use Rattle.journal_state.specs.Taking.{Spends}

@@ -1,4 +1,4 @@
-use Rattle.std.proofs.Common.{◌≡◌, ◌<◌, length, slice_get, sym, ap, subst, ◌∙◌}
+use Rattle.std.proofs.Common.{◌<◌, length, slice_get, sym, ap, subst, ◌∙◌}
 use Rattle.sync_rules.specs.Views.{is_seen_in}
 use Rattle.journal_state.specs.Whole.{StateValue}
 use Rattle.journal_state.specs.Inside.{parts}

@@ -1,4 +1,4 @@
-use Rattle.std.proofs.Common.{◌≡◌, ℕ, ◌<◌, Option, Some, None, length, nat_lt, sym, ap, ◌∙◌}
+use Rattle.std.proofs.Common.{ℕ, Option, Some, length, sym, ap, ◌∙◌}
 use Rattle.std.specs.Option.{option_map}
 use Rattle.sync_rules.specs.Sessions.{send_of}
 use Rattle.journal_state.specs.Whole.{StateValue, id_at, shared_of}

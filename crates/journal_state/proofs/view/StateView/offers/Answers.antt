@@ -1,7 +1,7 @@
 use Rattle.std.proofs.Common.{◌≡◌, ℕ, true, List, IfOk, length, map, nat_lt, sym, ap, subst, ◌∙◌}
 use Rattle.std.specs.List.{list_all}
 use Rattle.sync_rules.specs.Sessions.{offers_of}
-use Rattle.sync_rules.specs.Facts.{Held, Id}
+use Rattle.sync_rules.specs.Facts.{Id}
 use Rattle.retry_table.specs.Table as retry
 use Rattle.retry_table.specs.Due.{offers_in}
 use Rattle.journal_state.specs.Whole.{StateValue, id_at, shared_of}

@@ -1,10 +1,10 @@
 use Rattle.std.proofs.Common.{◌≡◌, ℕ, true, List, IfOk, length, map, nat_lt, sym, ap, subst, ◌∙◌}
 use Rattle.std.specs.List.{list_all}
 use Rattle.sync_rules.specs.Sessions.{owed_to}
-use Rattle.sync_rules.specs.Facts.{Held, Id}
+use Rattle.sync_rules.specs.Facts.{Id}
 use Rattle.retry_table.specs.Table as retry
 use Rattle.retry_table.specs.Due.{owed_in}
-use Rattle.journal_state.specs.Whole.{StateValue, id_at, shared_of}
+use Rattle.journal_state.specs.Whole.{StateValue, id_at}
 use Rattle.journal_state.specs.Inside.{parts}
 use Rattle.journal_state.proofs.Seen.{owed_found, owed_below}
 use Rattle.journal_state.proofs.view.StateView.owed.Goals as goal

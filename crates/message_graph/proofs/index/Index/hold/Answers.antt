@@ -23,10 +23,11 @@ places_are c = rw c.unwrap.ensures at c.push.ensures.items
 pub invariant_of-self : goal.invariant_of-self
 invariant_of-self c =
     let i = c.self.inside in
-    let slot : Slot = record { holder = Some c.args.number; last = c.index_mut-slot.result.now.last } in
-    (relinked i.names.keys i.slots.items i.edges.items c.self.invariant.0 (set i.slots.items c.place-place.result slot) (length-set i.slots.items c.place-place.result slot)
-    (map-set_same (λ (s : Slot). s.last) i.slots.items c.place-place.result slot c.index_mut-slot.result.now (ap (λ (s : Slot). s.last) c.index_mut-slot.ensures.value)),
-    rw (places_are c) (placed-hold i.slots.items i.places.items c.place-place.result slot (within c) (ap Some (number_is c)) c.self.invariant.1))
+    let slot : Slot = record { holder = Some c.args.number; last = c.index_mut-slot.result.now.last } in (
+      relinked i.names.keys i.slots.items i.edges.items c.self.invariant.0 (set i.slots.items c.place-place.result slot) (length-set i.slots.items c.place-place.result slot)
+          (map-set_same (λ (s : Slot). s.last) i.slots.items c.place-place.result slot c.index_mut-slot.result.now (ap (λ (s : Slot). s.last) c.index_mut-slot.ensures.value)),
+      rw (places_are c) (placed-hold i.slots.items i.places.items c.place-place.result slot (within c) (ap Some (number_is c)) c.self.invariant.1),
+    )
 
 pub returns-clause-holders : goal.returns-clause-holders
 returns-clause-holders c = λ other.

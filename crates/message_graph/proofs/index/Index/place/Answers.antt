@@ -50,9 +50,10 @@ invariant_of-self c = (rw (same_keys c) c.self.invariant.0, c.self.invariant.1)
 pub invariant_of-self-2 : goal.invariant_of-self-2
 unfolding new_slot
 invariant_of-self-2 c =
-    let i = c.self.inside in
-    (rw (keys_are c, slots_are c) (linked-push i.names.keys i.slots.items i.edges.items c.self.invariant.0 c.args.name new_slot (passes_none (same_name c.args.name) i.names.keys (absent c)) refl),
-    rw (slots_are c) (placed-push i.slots.items i.places.items new_slot refl c.self.invariant.1))
+    let i = c.self.inside in (
+      rw (keys_are c, slots_are c) (linked-push i.names.keys i.slots.items i.edges.items c.self.invariant.0 c.args.name new_slot (passes_none (same_name c.args.name) i.names.keys (absent c)) refl),
+      rw (slots_are c) (placed-push i.slots.items i.places.items new_slot refl c.self.invariant.1),
+    )
 
 pub returns-clause-edges : goal.returns-clause-edges
 returns-clause-edges c =

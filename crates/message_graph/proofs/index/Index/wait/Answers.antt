@@ -27,10 +27,11 @@ invariant_of-self c =
     let i = c.self.inside in
     let slot : Slot = record { holder = c.index_mut-slot.result.now.holder; last = Some c.len-edge.result } in
     let e : Edge = record { place = c.place-place.result; waiter = c.args.waiter; before = c.index.result.now.last } in
-    let count : c.len-edge.result ≡ length i.edges.items = search rules in
-    (rw (edges_are c) (linked-wait i.names.keys i.slots.items i.edges.items c.self.invariant.0 c.place-place.result c.args.waiter slot e (within c) (ap Some count) refl refl
-    (sym (slot_last i.slots.items c.place-place.result c.index.result.now (omega (arith, within c, c.self.invariant.0.many)) c.index.ensures))),
-    placed-same i.slots.items (set i.slots.items c.place-place.result slot) i.places.items (holders_same c) (length-set i.slots.items c.place-place.result slot) c.self.invariant.1)
+    let count : c.len-edge.result ≡ length i.edges.items = search rules in (
+      rw (edges_are c) (linked-wait i.names.keys i.slots.items i.edges.items c.self.invariant.0 c.place-place.result c.args.waiter slot e (within c) (ap Some count) refl refl
+          (sym (slot_last i.slots.items c.place-place.result c.index.result.now (omega (arith, within c, c.self.invariant.0.many)) c.index.ensures))),
+      placed-same i.slots.items (set i.slots.items c.place-place.result slot) i.places.items (holders_same c) (length-set i.slots.items c.place-place.result slot) c.self.invariant.1,
+    )
 
 pub returns-clause-holders : goal.returns-clause-holders
 returns-clause-holders c = λ other.

@@ -1,5 +1,5 @@
 -- The levels decide.
-use Rattle.std.proofs.Common.{◌≡◌, true, false, refl, sym, ◌∙◌}
+use Rattle.std.proofs.Common.{refl, sym, ◌∙◌}
 use Rattle.std.proofs.lemmas.Bool.{false≢true}
 use Rattle.plain_rules.proofs.view.PlainView.new.Goals as goal
 

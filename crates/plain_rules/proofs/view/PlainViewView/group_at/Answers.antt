@@ -1,5 +1,5 @@
 -- The line at the number is that of the message of the number.
-use Rattle.std.proofs.Common.{◌≡◌, ◌<◌, ℕ, List, Option, length, take, sym, ◌∙◌, ap, subst, arith}
+use Rattle.std.proofs.Common.{◌≡◌, ◌<◌, List, length, sym, subst, arith}
 use Rattle.std.specs.List.{slice_get}
 use Rattle.sync_rules.specs.declared.entries.Entry.{Entry}
 use Rattle.sync_rules.specs.Facts.{Id, facts}

@@ -1,6 +1,5 @@
 -- The ids of the lines are those of the held messages.
-use Rattle.std.proofs.Common.{◌≡◌, ◌<◌, ℕ, List, Option, length, take, sym, ◌∙◌, ap, subst, arith}
-use Rattle.std.specs.List.{slice_get}
+use Rattle.std.proofs.Common.{◌≡◌, List, take, ◌∙◌, ap, subst}
 use Rattle.sync_rules.specs.declared.entries.Entry.{Entry}
 use Rattle.sync_rules.specs.Facts.{Id, facts}
 use Rattle.plain_rules.specs.Lines.{line_ids, is_line_owed}

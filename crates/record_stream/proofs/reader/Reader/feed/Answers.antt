@@ -1,5 +1,5 @@
-use Rattle.std.proofs.Common.{◌≡◌, ◌+◌, ◌-◌, ◌≤◌, List, ℕ, length, take, drop, refl, sym, ap, ◌∙◌, arith}
-use Rattle.record_stream.proofs.Steps.{Held, feeds, moved, refused_ends}
+use Rattle.std.proofs.Common.{◌≡◌, ◌+◌, ◌-◌, ◌≤◌, ℕ, length, drop, refl, ap, arith}
+use Rattle.record_stream.proofs.Steps.{Held, feeds, moved}
 use Rattle.record_stream.proofs.reader.Reader.feed.Goals as goal
 use Rattle.record_stream.proofs.reader.Reader.feed.Goals.{then-self-gt0, else-self-gt0}
 

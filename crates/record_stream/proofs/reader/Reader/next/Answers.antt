@@ -1,9 +1,5 @@
-use Rattle.std.proofs.Common.{◌≡◌, ◌+◌, ◌-◌, List, ℕ, take, drop, refl, sym, ap, ◌∙◌, arith}
-use Rattle.record_grammar.specs.Reading.{found_in}
-use Rattle.record_grammar.specs.Stream.{GoesOn, advanced}
-use Rattle.record_grammar.specs.declared.reading.Found.{Found}
-use Rattle.record_grammar.specs.declared.reading.Found.TheVariants as found
-use Rattle.record_stream.specs.Reading.{ReaderState, after}
+use Rattle.std.proofs.Common.{◌-◌, take, drop, sym, ap, ◌∙◌}
+use Rattle.record_stream.specs.Reading.{ReaderState}
 use Rattle.record_stream.proofs.Steps.{bad_leaves, more_leaves, not_failed, one_after, one_read, refused_of, skipped_after, skipped_read}
 use Rattle.record_stream.proofs.reader.Reader.next.Goals as goal
 

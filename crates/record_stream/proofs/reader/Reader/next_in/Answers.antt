@@ -1,4 +1,4 @@
-use Rattle.std.proofs.Common.{◌≡◌, ◌≤◌, [], length}
+use Rattle.std.proofs.Common.{◌≤◌, [], length}
 use Rattle.record_stream.proofs.Hearing.{fed_counted, fed_few, read_fed}
 use Rattle.record_stream.proofs.reader.Reader.next_in.Goals as goal
 

@@ -1,42 +1,51 @@
-use Rattle.std.proofs.Common.{◌≡◌, ◌+◌, ℕ, List, length, refl, sym, ap, ◌∙◌, subst, false, arith}
-use Rattle.outside.specs.Files.{Two, File}
+use Rattle.std.proofs.Common.{◌≡◌, ◌+◌, List, ℕ, length, refl, sym, ap, ◌∙◌, subst, false, arith, Ok}
 use Rattle.frame_journal.specs.Journal.{JournalValue}
-use Rattle.journal_state.specs.Whole.{StateValue}
+use Rattle.journal_state.specs.Whole.{Knows, StateValue}
 use Rattle.sync_rules.specs.declared.entries.Entry.{Entry}
 use Rattle.sync_rules.specs.Clients.{Meaning}
 use Rattle.sync_rules.specs.Facts.{after_all}
 use Rattle.sync_rules.specs.Legal.{Allowed}
-use Rattle.entry_codec.specs.Laws.{payload}
+use Rattle.entry_codec.specs.Payloads.{payload_len}
 use Rattle.sync_store.specs.declared.fault.StoreFault.TheVariants as fault
 use Rattle.sync_store.specs.Store.{StoreValue}
 use Rattle.sync_store.specs.Inside.{value_of}
-use Rattle.sync_store.specs.Fitting.{Fits}
+use Rattle.sync_store.specs.Fitting.{Fits, FitsSome}
 use Rattle.sync_store.specs.Commits.{Gains, MayAdd}
-use Rattle.sync_store.proofs.Batches.{framed_long}
 use Rattle.sync_store.proofs.FitSteps.{adds_err, adds_ok}
+use Rattle.sync_store.proofs.Framing.{framed_long}
 use Rattle.sync_store.proofs.Growth.{grown_store}
+use Rattle.sync_store.proofs.SettleSteps.{adds_ready_fits}
 use Rattle.sync_store.proofs.store.Store.add.Goals as goal
 
 -- what the store becomes once the frame is added and the batch taken
 gained : (clients : Meaning) (s : StoreValue) (state : StateValue) (journal : JournalValue) (batch : List Entry) (framed : List ℕ) → MayAdd clients s batch framed → s.closed ≡ false
     → state.facts ≡ after_all s.state.facts batch → journal.file ≡ s.file → journal.end ≡ s.end + length framed
-    → Gains s (record { state = state; file = journal.file; end = journal.end; limit = s.limit; closed = s.closed }) batch
+    → Gains s (record { state = state; file = journal.file; format = s.format; end = journal.end; limit = s.limit; closed = s.closed }) batch
 gained clients s state journal batch framed may still facts file end =
-    let long : length framed ≡ 5 + length (payload batch) = framed_long framed may.is_framed ∙ ap (λ p. 5 + length p) may.payload_is in
-    record { facts = facts; file = file; end = omega (arith, end, long); limit = refl; closed = still }
+    let long : length framed ≡ 5 + payload_len batch = framed_long framed may.is_framed ∙ ap (λ p. 5 + length p) may.payload_is in
+    record { facts = facts; file = file; format = refl; end = omega (arith, end, long); limit = refl; closed = still }
 
 pub take-requires-clause-allowed : goal.take-requires-clause-allowed
 take-requires-clause-allowed g c =
     let clients = g.C.Clients.meaning c.args.clients.now in
     (clients, subst (λ (v : StoreValue). Allowed clients v.state.facts c.args.batch) (sym c.self.view_is) c.requires.may.allowed)
 
+pub take-requires-clause-numbers : goal.take-requires-clause-numbers
+take-requires-clause-numbers g c =
+    let store = c.self.invariant in
+    record {
+      held = omega (arith, store.numbers.few, store.roomy);
+      begun = omega (arith, store.numbers.few, store.roomy);
+      records = λ session. omega (arith, store.numbers.records session, store.roomy);
+    }
+
 pub invariant_of-self : goal.invariant_of-self
 invariant_of-self g c =
     let clients = g.C.Clients.meaning c.args.clients.now in
     let s = value_of c.self.inside in
     let may = subst (λ (v : StoreValue). MayAdd clients v c.args.batch c.args.framed.now) (sym c.self.view_is) c.requires.may in
-    let still : s.closed ≡ false = ap (λ (v : StoreValue). v.closed) c.self.view_is ∙ c.requires.still_open in
-    grown_store clients s _ c.args.batch c.args.framed.now c.self.invariant may
+    let still : s.closed ≡ false = ap (λ (v : StoreValue). v.closed) c.self.view_is ∙ c.requires.ready.still_open in
+    grown_store c.cite_laws.ensures clients s _ c.args.batch c.args.framed.now c.self.invariant may
     (gained clients s c.take.new.self c.append.new.self c.args.batch c.args.framed.now may still c.take.ensures.facts (ap (λ (j : JournalValue). j.file) c.in-Ok.ensures.ok) (ap (λ (j : JournalValue). j.end) c.in-Ok.ensures.ok))
 
 pub returns-in-Ok-clause-extends : goal.returns-in-Ok-clause-extends
@@ -45,9 +54,29 @@ returns-in-Ok-clause-extends g c two told j fits =
     let s = value_of c.self.inside in
     let may = subst (λ (v : StoreValue). MayAdd clients v c.args.batch c.args.framed.now) (sym c.self.view_is) c.requires.may in
     let fits' = subst (λ (v : StoreValue). Fits clients v j two) (sym c.self.view_is) fits in
-    let still : s.closed ≡ false = ap (λ (v : StoreValue). v.closed) c.self.view_is ∙ c.requires.still_open in
-    adds_ok clients s _ j two c.args.batch c.args.framed.now tt (g.D.Disk.tells c.args.disk.now) (g.D.Disk.tells c.append.new.disk) fits' may told (c.in-Ok.ensures.any_moment two told) c.in-Ok.ensures.appended
+    let still : s.closed ≡ false = ap (λ (v : StoreValue). v.closed) c.self.view_is ∙ c.requires.ready.still_open in
+    adds_ok c.cite_laws.ensures.stand clients s _ j two c.args.batch c.args.framed.now tt (g.D.Disk.tells c.args.disk.now) (g.D.Disk.tells c.append.new.disk) fits' may told
+    (c.in-Ok.ensures.any_moment two told) c.in-Ok.ensures.appended
     (gained clients s c.take.new.self c.append.new.self c.args.batch c.args.framed.now may still c.take.ensures.facts (ap (λ (j : JournalValue). j.file) c.in-Ok.ensures.ok) (ap (λ (j : JournalValue). j.end) c.in-Ok.ensures.ok))
+
+pub returns-in-Ok-clause-ready : goal.returns-in-Ok-clause-ready
+returns-in-Ok-clause-ready g c still =
+    let clients = g.C.Clients.meaning c.args.clients.now in
+    let s = value_of c.self.inside in
+    let o = g.D.Disk.tells c.args.disk.now in
+    let o' = g.D.Disk.tells c.append.new.disk in
+    let may = subst (λ (v : StoreValue). MayAdd clients v c.args.batch c.args.framed.now) (sym c.self.view_is) c.requires.may in
+    let gains =
+    gained clients s c.take.new.self c.append.new.self c.args.batch c.args.framed.now may still c.take.ensures.facts (ap (λ (j : JournalValue). j.file) c.in-Ok.ensures.ok)
+    (ap (λ (j : JournalValue). j.end) c.in-Ok.ensures.ok) in
+    record {
+      still_open = still;
+      knows = c.take.ensures.knows clients (subst (λ (v : StoreValue). Knows clients v.state) (sym c.self.view_is) c.requires.ready.knows);
+      fits =
+          adds_ready_fits clients s _ c.args.batch (Ok tt) o o' c.in-Ok.ensures.run
+          (λ two told j fits. adds_ok c.cite_laws.ensures.stand clients s _ j two c.args.batch c.args.framed.now tt o o' fits may told (c.in-Ok.ensures.any_moment two told) c.in-Ok.ensures.appended gains)
+          (subst (λ (v : StoreValue). FitsSome clients v o.files) (sym c.self.view_is) c.requires.ready.fits) still;
+    }
 
 pub returns-in-Err-clause-extends : goal.returns-in-Err-clause-extends
 returns-in-Err-clause-extends g c two told j fits =
@@ -55,4 +84,5 @@ returns-in-Err-clause-extends g c two told j fits =
     let s = value_of c.self.inside in
     let may = subst (λ (v : StoreValue). MayAdd clients v c.args.batch c.args.framed.now) (sym c.self.view_is) c.requires.may in
     let fits' = subst (λ (v : StoreValue). Fits clients v j two) (sym c.self.view_is) fits in
-    adds_err clients s _ j two c.args.batch c.args.framed.now fault.DiskFault (g.D.Disk.tells c.args.disk.now) (g.D.Disk.tells c.append.new.disk) fits' may (c.in-Err.ensures.any_moment two told) refl
+    adds_err c.cite_laws.ensures.stand clients s _ j two c.args.batch c.args.framed.now fault.DiskFault (g.D.Disk.tells c.args.disk.now) (g.D.Disk.tells c.append.new.disk) fits' may
+    (c.in-Err.ensures.any_moment two told) refl

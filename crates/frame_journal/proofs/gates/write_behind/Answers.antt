@@ -1,0 +1,46 @@
+use Rattle.std.proofs.Common.{◌∙◌}
+use Rattle.outside.specs.Files.{Two, File}
+use Rattle.frame_journal.specs.Gates.{WritesBehind}
+use Rattle.frame_journal.proofs.BehindSteps.{write_ok, write_err, sync_ok, sync_err, writes}
+use Rattle.frame_journal.proofs.AppendSteps.{becomes_from}
+use Rattle.frame_journal.proofs.gates.write_behind.Goals as goal
+
+pub write_at-requires-clause-place : goal.write_at-requires-clause-place
+write_at-requires-clause-place g c two told = (c.requires.fits two told).1
+
+pub returns-in_err-write_at-clause-any_moment : goal.returns-in_err-write_at-clause-any_moment
+returns-in_err-write_at-clause-any_moment g c two told =
+    let o0 = g.D.Disk.tells c.args.disk.now in
+    let fits = c.requires.fits two told in
+    write_err two o0 c.args.file c.args.end c.args.bytes.now told fits.0 fits.1 (g.D.Disk.tells c.write_at.new.self) _ c.in_err-write_at.ensures.call c.in_err-write_at.ensures.written
+
+pub returns-in_err-sync-clause-any_moment : goal.returns-in_err-sync-clause-any_moment
+returns-in_err-sync-clause-any_moment g c two told =
+    let o0 = g.D.Disk.tells c.args.disk.now in
+    let fits = c.requires.fits two told in
+    let o1 = g.D.Disk.tells c.write_at.new.self in
+    let first = write_ok two o0 c.args.file c.args.end c.args.bytes.now told fits.0 fits.1 o1 tt c.in_ok-write_at.ensures.call c.in_ok-write_at.ensures.written in
+    sync_err two o0 c.args.file c.args.end c.args.bytes.now told fits.0 fits.1 o1 (g.D.Disk.tells c.sync.new.self) _ first c.in_err-sync.ensures.call c.in_err-sync.ensures.synced
+
+pub returns-clause-written : goal.returns-clause-written
+returns-clause-written g c =
+    becomes_from (WritesBehind c.args.file c.args.end c.args.bytes.now) (g.D.Disk.tells c.args.disk.now).files (g.D.Disk.tells c.sync.new.self).files
+    (c.in_ok-sync.ensures.call.same_told ∙ c.in_ok-write_at.ensures.call.same_told)
+    (λ (two two' : Two File) told had.
+    let o0 = g.D.Disk.tells c.args.disk.now in
+    let fits = c.requires.fits two told in
+    let o1 = g.D.Disk.tells c.write_at.new.self in
+    let o2 = g.D.Disk.tells c.sync.new.self in
+    let first = write_ok two o0 c.args.file c.args.end c.args.bytes.now told fits.0 fits.1 o1 tt c.in_ok-write_at.ensures.call c.in_ok-write_at.ensures.written in
+    let second = sync_ok two o0 c.args.file c.args.end c.args.bytes.now told fits.0 fits.1 o1 o2 tt first c.in_ok-sync.ensures.call c.in_ok-sync.ensures.synced in
+    writes two o0 c.args.file c.args.end c.args.bytes.now told fits.0 fits.1 o2 second two' had)
+
+pub returns-clause-any_moment : goal.returns-clause-any_moment
+returns-clause-any_moment g c two told =
+    let o0 = g.D.Disk.tells c.args.disk.now in
+    let fits = c.requires.fits two told in
+    let o1 = g.D.Disk.tells c.write_at.new.self in
+    let o2 = g.D.Disk.tells c.sync.new.self in
+    let first = write_ok two o0 c.args.file c.args.end c.args.bytes.now told fits.0 fits.1 o1 tt c.in_ok-write_at.ensures.call c.in_ok-write_at.ensures.written in
+    let second = sync_ok two o0 c.args.file c.args.end c.args.bytes.now told fits.0 fits.1 o1 o2 tt first c.in_ok-sync.ensures.call c.in_ok-sync.ensures.synced in
+    second.moments

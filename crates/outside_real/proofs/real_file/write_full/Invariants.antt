@@ -1,8 +1,0 @@
-use Rattle.std.proofs.Common.{length, ◌-◌, ◌≤◌}
-use Rattle.outside_real.proofs.real_file.write_full.Given as goal
-
-abbrev pub invariant-pieces : goal.invariant-pieces
-invariant-pieces g l = l.done ≤ length l.bytes
-
-abbrev pub decreases-pieces : goal.decreases-pieces
-decreases-pieces g l = length l.initial.bytes - l.done

@@ -1,0 +1,5 @@
+use Rattle.sync_rules.specs.ConsistencyLaws.{legal_consistent}
+use Rattle.sync_rules.proofs.growth.consistent.Goals as goal
+
+pub returns : goal.returns
+returns c = legal_consistent

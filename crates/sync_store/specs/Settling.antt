@@ -1,0 +1,98 @@
+-- What settling answers, and what stands after each answer: one list of batches tells all of it.
+use Rattle.std.specs.Prelude.{◌≡◌, ◌⊎◌, ℕ, ◌+◌, ◌*◌, ◌<◌, ◌≤◌, true, false, List, [], ◌∷◌, ◌++◌, length, Some, Result, Ok, Err}
+use Rattle.std.specs.List.{AllByRecursion}
+use Rattle.outside.specs.Files.{Two, File}
+use Rattle.outside.specs.Outside.{Outside}
+use Rattle.sync_rules.specs.declared.entries.Entry.{Entry}
+use Rattle.sync_rules.specs.declared.entries.Entry.TheVariants as entry
+use Rattle.sync_rules.specs.declared.limits.TheConstants.{MAX_STEPS}
+use Rattle.sync_rules.specs.Clients.{Meaning}
+use Rattle.sync_rules.specs.Facts.{after_batches}
+use Rattle.sync_rules.specs.Left.{left_of}
+use Rattle.sync_rules.specs.Legal.{AllSettling}
+use Rattle.sync_rules.specs.Steps.{IsSettled}
+use Rattle.entry_codec.specs.declared.lengths.TheConstants.{STEP_BYTES, STEP_LEN}
+use Rattle.entry_codec.specs.Standing.{room_of}
+use Rattle.sync_store.specs.Store.{StoreValue}
+use Rattle.sync_store.specs.Fitting.{Fits}
+use Rattle.sync_store.specs.Moments.{IsBetween, Leads}
+use Rattle.sync_store.specs.declared.fault.StoreFault.{StoreFault}
+use Rattle.sync_store.specs.declared.fault.StoreFault.TheVariants as fault
+
+-- an entry of settling
+abbrev pub IsStep : Entry → Type 0
+IsStep (entry.Judged id) = Unit {0}
+IsStep (entry.Deliver id) = Unit {0}
+IsStep (entry.Invalid id) = Unit {0}
+IsStep _ = ⊥
+
+-- how many entries batches have
+abbrev pub steps_in : List (List Entry) → ℕ
+steps_in [] = 0
+steps_in (b ∷ bs) = length b + steps_in bs
+
+-- how many bytes the frames of settling batches have: a step has STEP_LEN, and a frame 5 beside its entries
+abbrev pub settling_len : List (List Entry) → ℕ
+settling_len more = STEP_LEN * steps_in more + 5 * length more
+
+-- as many steps as a batch may have
+abbrev pub IsFullBatch : List Entry → Type 0
+IsFullBatch b = length b ≡ MAX_STEPS
+
+-- each batch but the last is full
+abbrev pub AreFilled : List (List Entry) → Type 0
+AreFilled [] = Unit {0}
+AreFilled (b ∷ []) = Unit {0}
+AreFilled (b ∷ c ∷ bs) = IsFullBatch b × AreFilled (c ∷ bs)
+
+-- Full never comes. After Ok the journal is settled; after DiskFault the store is closed, and after Memory it is not.
+abbrev pub SettlesSo : Meaning → StoreValue → Result (Unit {0}) StoreFault → Type 0
+SettlesSo clients new (Ok _) = (new.closed ≡ false) × IsSettled clients new.state.facts
+SettlesSo clients new (Err fault.Closed) = ⊥
+SettlesSo clients new (Err fault.Full) = ⊥
+SettlesSo clients new (Err fault.Memory) = new.closed ≡ false
+SettlesSo clients new (Err fault.DiskFault) = new.closed ≡ true
+
+-- A store came by these settling batches to this one. Its facts are those after them, also where the disk failed at the last of
+-- them. At each moment the files stand for the journal with a front of them, and in the end, unless the store is closed, the disk
+-- fits it with the journal and all of them.
+pub record ComesBy (clients : Meaning) (old new : StoreValue) (o o' : Outside) (more : List (List Entry)) : Type 0 where
+  pub settling : AllSettling clients old.state.facts more
+  pub facts : new.state.facts ≡ after_batches old.state.facts more
+  pub file : new.file ≡ old.file
+  pub format : new.format ≡ old.format
+  pub limit : new.limit ≡ old.limit
+  pub end : new.closed ≡ false → new.end ≡ old.end + settling_len more
+  pub leads : (two : Two File) → o.files ≡ Some two → (j : List (List Entry)) → Fits clients old j two
+      → Leads clients (IsBetween j more) (λ whole. whole ≡ j ++ more) new o o'
+
+-- A store that is not closed was settled, as far as the answer says.
+pub record HasSettled (clients : Meaning) (old new : StoreValue) (result : Result (Unit {0}) StoreFault) (o o' : Outside) : Type 0 where
+  pub more : List (List Entry)
+  pub comes : ComesBy clients old new o o' more
+  pub filled : AreFilled more
+  -- each step takes its bytes of the room, so there are at most two for each held message
+  pub room : room_of new.state.facts + STEP_BYTES * steps_in more ≤ room_of old.state.facts
+  pub few : steps_in more ≤ 2 * length old.state.facts.held
+  pub answer : SettlesSo clients new result
+
+-- ---- one batch
+
+-- no batch, or one that is full or the last
+abbrev pub IsOneBatch : Meaning → StoreValue → List (List Entry) → Type 0
+IsOneBatch clients new more = (AllByRecursion IsFullBatch more) ⊎ IsSettled clients new.state.facts
+
+-- what stands of one batch that was asked for where a step was left
+abbrev pub BatchSo : Meaning → StoreValue → StoreValue → List (List Entry) → Result (Unit {0}) StoreFault → Type 0
+BatchSo clients old new more (Ok _) = (new.closed ≡ false) × (left_of new.state.facts < left_of old.state.facts) × IsOneBatch clients new more
+BatchSo clients old new more (Err fault.Closed) = ⊥
+BatchSo clients old new more (Err fault.Full) = ⊥
+BatchSo clients old new more (Err fault.Memory) = new.closed ≡ false
+BatchSo clients old new more (Err fault.DiskFault) = new.closed ≡ true
+
+-- at most one settling batch was made
+pub record MakesBatch (clients : Meaning) (old new : StoreValue) (result : Result (Unit {0}) StoreFault) (o o' : Outside) : Type 0 where
+  pub more : List (List Entry)
+  pub comes : ComesBy clients old new o o' more
+  pub few : length more ≤ 1
+  pub answer : BatchSo clients old new more result
