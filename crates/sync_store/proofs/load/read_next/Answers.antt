@@ -1,4 +1,4 @@
-use Rattle.std.proofs.Common.{Err, sym, subst, Result, Bool}
+use Rattle.std.proofs.Common.{Err, Ok, sym, subst, Result, Bool}
 use Rattle.outside.specs.Files.{file_of}
 use Rattle.sync_store.specs.declared.fault.LoadFault.{LoadFault}
 use Rattle.sync_store.specs.Faults.{load_of_frame}
@@ -46,4 +46,4 @@ returns-clause-turn g c =
     turn_played c.cite_laws.ensures clients files files' j j' c.args.state.now c.play.new.state to tt c.requires c.next_frame.ensures.looks.same_files
     (λ two told. next_true (file_of two j.file).now j j' to c.in_ok-more.more c.if-not-more.false (c.in_ok-more.ensures.next two told))
     (moves_true j j' c.in_ok-more.more c.if-not-more.false c.in_ok-more.ensures.moves)
-    (played_as clients j' c.args.state.now c.play.new.state c.as_slice.result.now to _ c.as_slice.ensures.value c.in_ok-play.ensures)
+    (played_as clients j' c.args.state.now c.play.new.state c.as_slice.result.now to (Ok tt) c.as_slice.ensures.value c.in_ok-play.ensures)

@@ -11,7 +11,7 @@ batches-init g c =
     let s = c.args.self.now in
     let still : s.closed ≡ false = sym c.is_closed.ensures.closed ∙ c.if-is_closed.false in
     record {
-      ready = c.requires still;
+      ready = c.requires.ready still;
       settles = settles_begun c.cite_laws.ensures.stand (g.C.Clients.meaning c.args.clients.now) s (g.D.Disk.tells c.args.disk.now) c.is_closed.ensures.numbers;
     }
 
