@@ -1,4 +1,5 @@
 pub mod Lines
+pub mod Groups
 pub mod Passing
 pub mod Looks
 pub mod Adds

@@ -1,5 +1,5 @@
-//! Plays the commands of a store over a host in memory, and compares what they print, their status
-//! and the files that they leave with tables. The bytes and ids of the tables are those of an
+//! Plays the commands over a host in memory, and compares what they print, their status and the
+//! files that they leave with tables. The bytes and ids of the tables are those of an
 //! independent program, whose BLAKE2b is that of Python's hashlib.
 #![tactic(auto)]
 
@@ -10,6 +10,7 @@ mod journal;
 mod journals;
 mod limits;
 mod play;
+mod records;
 mod refusals;
 mod scenes;
 mod session;
@@ -17,6 +18,7 @@ mod slow;
 mod steps;
 mod stops;
 mod stored;
+mod streams;
 mod tally;
 mod want;
 mod words;
@@ -36,9 +38,11 @@ enum Table {
     Damage,
     Stops,
     Failing,
+    Loads,
+    Streams,
 }
 
-const TABLES: [(&str, Table); 8] = [
+const TABLES: [(&str, Table); 10] = [
     ("session", Table::Session),
     ("stored", Table::Stored),
     ("refusals", Table::Refusals),
@@ -47,6 +51,8 @@ const TABLES: [(&str, Table); 8] = [
     ("damage", Table::Damage),
     ("stops", Table::Stops),
     ("failing calls", Table::Failing),
+    ("refusals behind a load", Table::Loads),
+    ("streams", Table::Streams),
 ];
 
 fn main(rt: HostRuntime) -> Result<()> {
@@ -68,5 +74,7 @@ fn play_table<P: Print>(rt: &P, alloc: Global, table: Table, tally: &mut Tally) 
         Table::Damage => damage::play_all(rt, alloc, tally),
         Table::Stops => stops::play_all(rt, alloc, tally),
         Table::Failing => failing::play_all(rt, alloc, tally),
+        Table::Loads => refusals::play_loads(rt, alloc, tally),
+        Table::Streams => streams::play_all(rt, alloc, tally),
     }
 }

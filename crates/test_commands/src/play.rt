@@ -1,9 +1,12 @@
 //! One command over a disk in memory.
 
 use crate::slow::{SlowSink, SlowSource, part_of};
+use anyhow::Result;
 use client_basic::Bundle;
-use outside::{MemDisk, MemHost, MemSink, MemSource};
+use outside::{MemDisk, MemHost, MemRandom, MemSink, MemSource};
 use std::alloc::{AllocError, Global};
+use std::hash::RandomState;
+use sync_rules::Clients;
 use sync_top::{Status, run};
 
 /// The call that fails, counted from 0, of those of one kind.
@@ -14,19 +17,32 @@ pub(crate) enum Failing {
     Read(u64),
     Out(u64),
     Err(u64),
+    /// A read and a write of the output.
+    ReadAndOut(u64, u64),
+    /// A write of the output and one of the error output.
+    OutAndErr(u64, u64),
 }
 
 impl Failing {
+    fn of_read(self) -> Option<u64> {
+        match self {
+            Failing::Read(call) | Failing::ReadAndOut(call, _) => Some(call),
+            _ => None,
+        }
+    }
+
     fn of_out(self) -> Option<u64> {
         match self {
-            Failing::Out(call) => Some(call),
+            Failing::Out(call) | Failing::ReadAndOut(_, call) | Failing::OutAndErr(call, _) => {
+                Some(call)
+            }
             _ => None,
         }
     }
 
     fn of_err(self) -> Option<u64> {
         match self {
-            Failing::Err(call) => Some(call),
+            Failing::Err(call) | Failing::OutAndErr(_, call) => Some(call),
             _ => None,
         }
     }
@@ -71,45 +87,40 @@ impl Came {
 }
 
 /// Runs the command on this disk.
-pub(crate) fn play(alloc: Global, order: &Order<'_>, disk: MemDisk) -> Result<Came, AllocError> {
-    let words = words_of(alloc, order.words)?;
-    let source = source_of(alloc, order)?;
-    let out = sink_of(alloc, order.failing.of_out())?;
-    let err = sink_of(alloc, order.failing.of_err())?;
-    let disk = failing_disk(alloc, disk, order.failing)?;
-    let host = MemHost::new(alloc, disk)?;
-    Ok(command(alloc, words.as_slice(), host, source, out, err))
+pub(crate) fn play(alloc: Global, order: &Order<'_>, disk: MemDisk) -> Result<Came> {
+    play_for(alloc, order, disk, &Bundle::new())
 }
 
-// The one call of `run`.
-fn command(
+/// Runs the command on this disk, for these clients.
+pub(crate) fn play_for<C: Clients>(
     alloc: Global,
-    words: &[String],
-    host: MemHost,
-    source: SlowSource,
-    out: SlowSink,
-    err: SlowSink,
-) -> Came {
-    let mut host = host;
-    let mut source = source;
-    let mut out = out;
-    let mut err = err;
-    let clients = Bundle::new();
+    order: &Order<'_>,
+    disk: MemDisk,
+    clients: &C,
+) -> Result<Came> {
+    let hasher = RandomState::new(&MemRandom(0))?;
+    let words = words_of(alloc, order.words)?;
+    let mut source = source_of(alloc, order)?;
+    let mut out = sink_of(alloc, order.failing.of_out())?;
+    let mut err = sink_of(alloc, order.failing.of_err())?;
+    let disk = failing_disk(alloc, disk, order.failing)?;
+    let mut host = MemHost::new(alloc, disk)?;
     let status = run(
         alloc,
-        words,
+        hasher,
+        words.as_slice(),
         &mut host,
         &mut source,
         &mut out,
         &mut err,
-        &clients,
+        clients,
     );
-    Came {
+    Ok(Came {
         status,
         out,
         err,
         disk: host.into_disk(),
-    }
+    })
 }
 
 // The words of a line; an empty line has none.
@@ -125,10 +136,7 @@ fn words_of(alloc: Global, line: &str) -> Result<Vec<String>, AllocError> {
 }
 
 fn source_of(alloc: Global, order: &Order<'_>) -> Result<SlowSource, AllocError> {
-    let mut failing = Vec::new(alloc);
-    if let Failing::Read(call) = order.failing {
-        failing.push(call)?;
-    }
+    let failing = calls_of(alloc, order.failing.of_read())?;
     let bytes = order.input.to_vec(alloc)?;
     Ok(SlowSource {
         most: part_of(bytes.len()),
@@ -137,11 +145,16 @@ fn source_of(alloc: Global, order: &Order<'_>) -> Result<SlowSource, AllocError>
 }
 
 fn sink_of(alloc: Global, call: Option<u64>) -> Result<SlowSink, AllocError> {
-    let mut failing = Vec::new(alloc);
+    Ok(SlowSink(MemSink::new(alloc, calls_of(alloc, call)?)))
+}
+
+// The list of this call.
+fn calls_of(alloc: Global, call: Option<u64>) -> Result<Vec<u64>, AllocError> {
+    let mut calls = Vec::new(alloc);
     if let Some(call) = call {
-        failing.push(call)?;
+        calls.push(call)?;
     }
-    Ok(SlowSink(MemSink::new(alloc, failing)))
+    Ok(calls)
 }
 
 // The disk, which is to fail at the call counted from now on.

@@ -4,7 +4,7 @@ use crate::journal::journal_of;
 use crate::journals::{
     BOTH, EMPTY, FEED, FRESH, HELD, INVALID, NOTE, ONE, PENDING, THREAD, UNKNOWN,
 };
-use crate::play::{Failing, Order};
+use crate::play::{Failing, Order, play};
 use crate::tally::{Tally, expect};
 use crate::want::{Files, Said};
 use anyhow::Result;
@@ -33,6 +33,27 @@ pub(crate) fn play_all<P: Print>(rt: &P, alloc: Global, tally: &mut Tally) -> Re
         play_again(rt, alloc, before, tally)?;
     }
     play_unread(rt, alloc, tally)
+}
+
+/// Plays all refusals over a disk whose first call behind the load fails: a refused command makes no
+/// call there.
+pub(crate) fn play_loads<P: Print>(rt: &P, alloc: Global, tally: &mut Tally) -> Result<()> {
+    for refusal in &REFUSALS {
+        play_load(rt, alloc, refusal, tally)?;
+    }
+    Ok(())
+}
+
+fn play_load<P: Print>(rt: &P, alloc: Global, refusal: &Refusal, tally: &mut Tally) -> Result<()> {
+    let files = Files::one(alloc, journal_of(alloc, refusal.before)?);
+    let shown = play(alloc, &Order::new("show", b""), files.disk(alloc)?)?;
+    let line = format!(in alloc; "refused: {}\n", refusal.line)?;
+    let said = Said::line(alloc, Status::Refused, line.as_bytes())?;
+    let order = Order {
+        failing: Failing::Disk(shown.disk.calls()),
+        ..Order::new(refusal.words, refusal.input)
+    };
+    expect(rt, alloc, &order, &files, &said, &files, tally)
 }
 
 fn play_refusal<P: Print>(

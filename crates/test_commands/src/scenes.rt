@@ -71,7 +71,7 @@ impl Scene {
             ..Order::new(self.words, self.input)
         };
         let disk = self.files(alloc, 0)?.disk(alloc)?;
-        Ok(play(alloc, &order, disk)?)
+        play(alloc, &order, disk)
     }
 
     /// How many calls of the disk the command makes.

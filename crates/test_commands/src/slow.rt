@@ -23,9 +23,7 @@ pub(crate) struct SlowSource {
 }
 
 impl Source for SlowSource {
-    ghost left = { λ _. None };
-
-    ghost source_faults = { λ s. s.source.faults };
+    ghost tells = { λ s. record { bytes = None; faults = s.source.faults } };
 
     fn read(&mut self, buf: &mut [u8]) -> Result<usize, Failed> {
         let n = buf.len().min(self.most);
@@ -38,9 +36,7 @@ impl Source for SlowSource {
 pub(crate) struct SlowSink(pub(crate) MemSink);
 
 impl Sink for SlowSink {
-    ghost written = { λ _. None };
-
-    ghost sink_faults = { λ s. s.0.faults };
+    ghost tells = { λ s. record { bytes = None; faults = s.0.faults } };
 
     fn write(&mut self, bytes: &[u8]) -> Result<usize, Failed> {
         let n = bytes.len().min(PIECE);

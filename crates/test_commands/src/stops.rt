@@ -7,7 +7,7 @@ use crate::tally::Tally;
 use crate::want::{Files, Said};
 use anyhow::Result;
 use outside::Pick;
-use std::alloc::{AllocError, Global};
+use std::alloc::Global;
 use sync_top::Status;
 
 const PICKS: [Pick; 4] = [Pick::Old, Pick::New, Pick::Zero, Pick::Ones];
@@ -45,7 +45,7 @@ fn opened(pick: Pick) -> u64 {
     }
 }
 
-fn begin(alloc: Global, failing: Failing, files: &Files) -> Result<Came, AllocError> {
+fn begin(alloc: Global, failing: Failing, files: &Files) -> Result<Came> {
     let order = Order {
         failing,
         ..Order::new("init", b"")
@@ -54,14 +54,14 @@ fn begin(alloc: Global, failing: Failing, files: &Files) -> Result<Came, AllocEr
 }
 
 // How many calls of the disk an `init` makes.
-fn calls_of(alloc: Global, files: &Files) -> Result<u64, AllocError> {
+fn calls_of(alloc: Global, files: &Files) -> Result<u64> {
     Ok(begin(alloc, Failing::Nothing, files)?.disk.calls())
 }
 
 // The files that a crash leaves of an `init` that is stopped.
-fn stopped(alloc: Global, call: u64, pick: Pick, files: &Files) -> Result<Files, AllocError> {
+fn stopped(alloc: Global, call: u64, pick: Pick, files: &Files) -> Result<Files> {
     let came = begin(alloc, Failing::Disk(call), files)?;
-    Files::on(alloc, &came.disk.image(pick)?)
+    Ok(Files::on(alloc, &came.disk.image(pick)?)?)
 }
 
 // An `init` that is stopped, a second one that is stopped, and a third.
@@ -91,7 +91,7 @@ fn begin_twice<P: Print>(rt: &P, alloc: Global, files: &Files, tally: &mut Tally
 
 // Whether an `init` leaves the empty journal: done where no file has an open header, and else
 // refused.
-fn begins(alloc: Global, files: &Files) -> Result<bool, AllocError> {
+fn begins(alloc: Global, files: &Files) -> Result<bool> {
     let said = if files.are_begun() {
         Said::line(alloc, Status::Exists, b"store exists\n")?
     } else {
