@@ -77,11 +77,7 @@ fn commit_settled<D: Disk, C: Clients>(
 }
 
 // Settles the journal.
-fn settle<D: Disk, C: Clients>(
-    store: &mut Store,
-    disk: &mut D,
-    clients: &C,
-) -> Result<(), Outcome>
+fn settle<D: Disk, C: Clients>(store: &mut Store, disk: &mut D, clients: &C) -> Result<(), Outcome>
     requires ready { IsReady (C.meaning clients.now) store.old (D.tells disk.old).files }
     ensures run { DiskRun (D.tells disk.old) (D.tells disk.new) }
     ensures by { ExtendsBy (D.tells disk.old) (D.tells disk.new) result }

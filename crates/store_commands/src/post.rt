@@ -36,7 +36,15 @@ pub fn post_message<D: Disk, S: Source, W: Sink, C: Clients>(
     }
     let body = read_body(alloc, input)?;
     let entry = plan_post(&store, clients, group, timestamp, body)?;
-    add_entry(alloc, store, entry, Settling::BeforeAndAfter, disk, out, clients)
+    add_entry(
+        alloc,
+        store,
+        entry,
+        Settling::BeforeAndAfter,
+        disk,
+        out,
+        clients,
+    )
 }
 
 // Reads a body: the whole input, of which no more than 32,769 bytes are read.

@@ -88,12 +88,7 @@ fn try_input<S: Source, W: Sink, C: Clients>(
 }
 
 // Finishes a played journal and writes its text.
-fn print_play<W: Sink>(
-    alloc: Global,
-    play: Play,
-    heard: &Heard,
-    out: &mut W,
-) -> Result<(), Outcome>
+fn print_play<W: Sink>(alloc: Global, play: Play, heard: &Heard, out: &mut W) -> Result<(), Outcome>
     ensures { PrintsPlay play heard.now.stop heard.now.ending (W.tells out.old) (W.tells out.new)
         (came_to result) }
 {

@@ -294,7 +294,8 @@ fn add_ending(ending: &LinkText, to: &mut ErrorText)
 // A link whose peer has no version in common with this side.
 fn add_no_version(place: u64, to: &mut ErrorText)
     requires { array_string_len to.old ≤ 930 }
-    ensures { AddsPart to.old to.new (codes "no common version at " ++ (decimal place ++ 10 ∷ [])) 89 }
+    ensures { AddsPart to.old to.new (codes "no common version at " ++ (decimal place ++ 10 ∷ []))
+        89 }
 {
     add_number("no common version at ", place, "\n", to);
 }

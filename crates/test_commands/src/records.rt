@@ -8,8 +8,7 @@ use sync_ids::{Fixed, GroupId};
 pub(crate) const NOTES: &str = "76ff4980d3b5f63962cee45401b6b1bb92efe989c27de4629aac92b18163e6e0";
 
 /// The group of the client `thread` and the descriptor `d`.
-pub(crate) const THREADS: &str =
-    "643823e9a30aff464f444740f79260a2363b6453227d987e04a1c9bb5def2d0e";
+pub(crate) const THREADS: &str = "643823e9a30aff464f444740f79260a2363b6453227d987e04a1c9bb5def2d0e";
 
 /// The id of these digits.
 pub(crate) fn id(digits: &str) -> Result<GroupId> {

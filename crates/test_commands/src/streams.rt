@@ -142,23 +142,73 @@ fn play_long<P: Print>(rt: &P, alloc: Global, long: &Long, tally: &mut Tally) ->
     let word = "n".repeat(alloc, long.count)?;
     let words = format!(in alloc; "{}{word}{}", long.front, long.behind)?;
     let said = Said::line(alloc, long.status, long.line)?;
-    play_case(rt, alloc, &Order::new(words.as_str(), b"\x01"), &said, tally)
+    play_case(
+        rt,
+        alloc,
+        &Order::new(words.as_str(), b"\x01"),
+        &said,
+        tally,
+    )
 }
 
 const OTHERS: [(&[u8], Status, &[u8]); 13] = [
     (&[0, 4, 0, 1, 0], Status::Done, b""),
     (&[0, 9, 0, 2, 1, 1], Status::Done, b""),
-    (&[1], Status::BadStream, b"bad record at 45: wrong version\n"),
-    (&[0, 9, 0xc0, 1], Status::BadStream, b"bad record at 45: too long\n"),
-    (&[0, 0, 0, 0], Status::BadStream, b"bad record at 45: empty id list\n"),
-    (&[0, 3, 0, 33], Status::BadStream, b"bad record at 45: ragged id list\n"),
-    (&[0, 1, 0, 40], Status::BadStream, b"bad record at 45: short message\n"),
-    (&[0, 1, 0x80, 0x29], Status::BadStream, b"bad record at 45: body too long\n"),
-    (&[0, 4, 0, 0], Status::BadStream, b"bad record at 45: bad versions\n"),
-    (&[0, 4, 0, 11], Status::BadStream, b"bad record at 45: bad versions\n"),
-    (&[0, 5, 0, 15], Status::BadStream, b"bad record at 45: bad nonce\n"),
-    (&[0, 5, 0, 17], Status::BadStream, b"bad record at 45: bad nonce\n"),
-    (&[0, 2, 0, 64], Status::BadStream, b"ended inside a record at 45\n"),
+    (
+        &[1],
+        Status::BadStream,
+        b"bad record at 45: wrong version\n",
+    ),
+    (
+        &[0, 9, 0xc0, 1],
+        Status::BadStream,
+        b"bad record at 45: too long\n",
+    ),
+    (
+        &[0, 0, 0, 0],
+        Status::BadStream,
+        b"bad record at 45: empty id list\n",
+    ),
+    (
+        &[0, 3, 0, 33],
+        Status::BadStream,
+        b"bad record at 45: ragged id list\n",
+    ),
+    (
+        &[0, 1, 0, 40],
+        Status::BadStream,
+        b"bad record at 45: short message\n",
+    ),
+    (
+        &[0, 1, 0x80, 0x29],
+        Status::BadStream,
+        b"bad record at 45: body too long\n",
+    ),
+    (
+        &[0, 4, 0, 0],
+        Status::BadStream,
+        b"bad record at 45: bad versions\n",
+    ),
+    (
+        &[0, 4, 0, 11],
+        Status::BadStream,
+        b"bad record at 45: bad versions\n",
+    ),
+    (
+        &[0, 5, 0, 15],
+        Status::BadStream,
+        b"bad record at 45: bad nonce\n",
+    ),
+    (
+        &[0, 5, 0, 17],
+        Status::BadStream,
+        b"bad record at 45: bad nonce\n",
+    ),
+    (
+        &[0, 2, 0, 64],
+        Status::BadStream,
+        b"ended inside a record at 45\n",
+    ),
 ];
 
 // Other records, or what is none, between two records of one message.
@@ -215,8 +265,18 @@ const LISTINGS: [(&[u8], Status, &[u8], &[u8]); 6] = [
     (b"", Status::Done, b"", b""),
     (MIXED, Status::Done, MIXED_LINES, b""),
     (b"\x01", Status::BadStream, b"", NO_RECORD),
-    (b"\0\x04\0", Status::BadStream, b"", b"ended inside a record at 0\n"),
-    (b"\0\x04", Status::BadStream, b"", b"ended inside a record at 0\n"),
+    (
+        b"\0\x04\0",
+        Status::BadStream,
+        b"",
+        b"ended inside a record at 0\n",
+    ),
+    (
+        b"\0\x04",
+        Status::BadStream,
+        b"",
+        b"ended inside a record at 0\n",
+    ),
     (
         MIXED_AND_ONE,
         Status::BadStream,
@@ -248,7 +308,13 @@ fn play_ids<P: Print>(rt: &P, alloc: Global, tally: &mut Tally) -> Result<()> {
     input.extend_from_slice(id(FF_ID)?.as_bytes())?;
     add_record(&mut input, NOTES, 0, b"x")?;
     let said = Said::done(alloc, ACK_LINES)?;
-    play_case(rt, alloc, &Order::new("records", input.as_slice()), &said, tally)
+    play_case(
+        rt,
+        alloc,
+        &Order::new("records", input.as_slice()),
+        &said,
+        tally,
+    )
 }
 
 // The first read fails: nothing was read. The one behind all bytes fails: all was read, and its end
@@ -258,8 +324,18 @@ const FAILING: [(Failing, Status, &[u8], &[u8]); 7] = [
     (Failing::Read(4), Status::ReadFault, X_LINE, b"read fault\n"),
     (Failing::Out(0), Status::WriteFault, b"", b"write fault\n"),
     (Failing::Err(0), Status::BadStream, X_LINE, b""),
-    (Failing::ReadAndOut(4, 0), Status::ReadFault, b"", b"read fault\n"),
-    (Failing::ReadAndOut(0, 0), Status::ReadFault, b"", b"read fault\n"),
+    (
+        Failing::ReadAndOut(4, 0),
+        Status::ReadFault,
+        b"",
+        b"read fault\n",
+    ),
+    (
+        Failing::ReadAndOut(0, 0),
+        Status::ReadFault,
+        b"",
+        b"read fault\n",
+    ),
     (Failing::OutAndErr(0, 0), Status::WriteFault, b"", b""),
 ];
 

@@ -25,12 +25,12 @@ returns-in_err-entry g c =
 pub add_entry-requires-clause-follows : goal.add_entry-requires-clause-follows
 add_entry-requires-clause-follows g c =
     let clients = g.C.Clients.meaning c.args.clients.now in
-    (contact_follows clients c.in_ok-store.store.state.facts  c.in_ok-entry.entry c.in_ok-entry.ensures).follows
+    (contact_follows clients c.in_ok-store.store.state.facts c.in_ok-entry.entry c.in_ok-entry.ensures).follows
 
 pub add_entry-requires-clause-kind : goal.add_entry-requires-clause-kind
 add_entry-requires-clause-kind g c =
     let clients = g.C.Clients.meaning c.args.clients.now in
-    (contact_follows clients c.in_ok-store.store.state.facts  c.in_ok-entry.entry c.in_ok-entry.ensures).kind
+    (contact_follows clients c.in_ok-store.store.state.facts c.in_ok-entry.entry c.in_ok-entry.ensures).kind
 
 pub returns : goal.returns
 returns g c =
