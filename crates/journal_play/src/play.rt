@@ -63,8 +63,8 @@ impl Model for Play {
 
 impl Play {
     /// A journal with this group, whose client has this kind, Visible to contact 0, and one batch
-    /// session with that contact. `hasher` is for the tables whose keys a stranger chooses. It fails
-    /// only for want of memory.
+    /// session with that contact. `hasher` is for the tables whose keys a stranger chooses. It
+    /// fails only for want of memory.
     pub fn begin(
         alloc: Global,
         hasher: RandomState,

@@ -35,8 +35,8 @@ pub(crate) fn play_all<P: Print>(rt: &P, alloc: Global, tally: &mut Tally) -> Re
     play_unread(rt, alloc, tally)
 }
 
-/// Plays all refusals over a disk whose first call behind the load fails: a refused command makes no
-/// call there.
+/// Plays all refusals over a disk whose first call behind the load fails: a refused command makes
+/// no call there.
 pub(crate) fn play_loads<P: Print>(rt: &P, alloc: Global, tally: &mut Tally) -> Result<()> {
     for refusal in &REFUSALS {
         play_load(rt, alloc, refusal, tally)?;
