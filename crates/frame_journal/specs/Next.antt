@@ -62,5 +62,6 @@ IsNext bytes old new to (Err fault.Memory) = new ≡ old
 -- whatever the disk tells: how far the reader moved, and that it did not at another answer
 abbrev pub Moves : JournalValue → JournalValue → Result Bool FrameFault → Type 0
 Moves old new (Ok true) = (new.file ≡ old.file) × (new.len ≡ old.len) × (new.last ≡ old.end - 1) × (old.end + 6 ≤ new.end) × (new.end ≤ old.end + 5 + MAX_FRAME) × (new.format ≡ old.format) × (new.generation ≡ old.generation)
+    × (new.end ≤ most_bytes)
 Moves old new (Ok false) = new ≡ old
 Moves old new (Err _) = new ≡ old

@@ -1,7 +1,6 @@
 -- What is due may follow a settled journal.
 use Rattle.std.proofs.Common.{◌≡◌, ℕ, [], ◌∷◌, refl, sym, IfOk}
 use Rattle.std.specs.Prelude.{Option, None, Some, Result, Ok, Err, IfSome}
-
 use Rattle.sync_rules.specs.declared.entries.Entry.TheVariants as entry
 use Rattle.sync_rules.specs.declared.entries.Out.{Out}
 use Rattle.sync_rules.specs.declared.entries.Session.{Session}

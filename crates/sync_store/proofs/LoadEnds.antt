@@ -91,6 +91,7 @@ starts_so_far clients files j s starts fresh empty knows = record {
       let At : ℕ → Type 0 = λ n. Front clients (read_files two) j.file [] n in
       record {
         long = ap length (sym (as_read two j.file)) ∙ sym (ap (λ (v : JournalValue). v.len) is.2);
+        known_format = ap (λ (v : JournalValue). v.format) is.2 ∙ is.1;
         done = [];
         front = subst At (sym fresh) (front_start clients (read_files two) j.file is.0 is.1);
         facts_are = sym empty;
@@ -163,7 +164,7 @@ becomes_back step (Some x) None b told becomes = absurd becomes
 becomes_back step (Some x) (Some y) b told becomes = let same : y ≡ b = cc in (x, refl, subst (λ z. step x z) same becomes)
 
 abbrev pub store_of : JournalValue → StateValue → ℕ → StoreValue
-store_of j s limit = record { state = s; file = j.file; format = 1; end = j.end; limit = limit; closed = false }
+store_of j s limit = record { state = s; file = j.file; format = j.format; end = j.end; limit = limit; closed = false }
 
 -- the disk fits the store
 pub fits_loaded : (clients : Meaning) (o0 o1 o2 : Outside) (j : JournalValue) (s : StateValue) (limit : ℕ) → Becomes Settles o0.files o1.files → o2.files ≡ o1.files → HasReadAll clients o2.files j s
@@ -182,8 +183,8 @@ fits_loaded clients o0 o1 o2 j s limit settles same all two told =
         facts_are = read.facts_are;
         legal = read.front.legal;
         file_is = read.front.found;
-        format_is = ap format_in (sym (as_read two j.file)) ∙ read.front.format_is;
-        format_known = refl;
+        format_is = ap format_in (sym (as_read two j.file)) ∙ read.front.format_is ∙ sym read.known_format;
+        format_known = read.known_format;
         header = take 14 (file_of (read_files two) j.file);
         frames = subst At (as_read two j.file) (front_frames clients (read_files two) j.file read.done j.end read.front (all.at_end two told));
         end_is = read.front.end_is;

@@ -54,6 +54,7 @@ has_more laws clients two j j' s s' to read next played =
     let At : JournalValue → Type 0 = λ v. Front clients (read_files two) v.file (read.done ++ played.batch ∷ []) v.end in
     record {
       long = subst Long (sym next.moved) read.long;
+      known_format = ap (λ (v : JournalValue). v.format) next.moved ∙ read.known_format;
       done = read.done ++ played.batch ∷ [];
       front = subst At (sym next.moved) more;
       facts_are = facts_push read.done played.batch ∙ ap (λ (f : Facts). after_all f played.batch) same ∙ sym played.facts_are;
@@ -79,7 +80,7 @@ turn_more laws clients files files' j j' s s' to so_far same next moves played =
         knows = played.knows;
         numbers = more_numbers laws clients s s' to j.end j'.end played so_far.numbers (omega arith);
         started = omega (arith, so_far.started);
-        bounded = moves.5;
+        bounded = moves.7;
         begun = λ early. absurd (omega (arith, so_far.started));
         known = λ two told. let told' = sym same ∙ told in has_more laws clients two j j' s s' to (so_far.known two told') (next two told') played;
       },

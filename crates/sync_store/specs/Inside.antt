@@ -2,6 +2,5 @@
 use Rattle.sync_store.specs.declared.store.Store.TheInside.{Inside}
 use Rattle.sync_store.specs.Store.{StoreValue}
 
--- the first format is the only one that is opened
 abbrev pub value_of : Inside → StoreValue
-value_of s = record { state = s.state; file = s.journal.file; format = 1; end = s.journal.end; limit = s.limit; closed = s.closed }
+value_of s = record { state = s.state; file = s.journal.file; format = s.journal.format; end = s.journal.end; limit = s.limit; closed = s.closed }

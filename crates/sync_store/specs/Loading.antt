@@ -49,6 +49,7 @@ LeavesSettled old new (Err load.Memory) = Becomes Settles old new
 -- the batches that were read of these files
 pub record HasRead (clients : Meaning) (two : Two File) (j : JournalValue) (s : StateValue) : Type 0 where
   pub long : length (file_of two j.file).now ≡ j.len
+  pub known_format : j.format ≡ 1
   pub done : List (List Entry)
   pub front : Front clients (read_files two) j.file done j.end
   pub facts_are : facts done ≡ s.facts

@@ -72,7 +72,6 @@ fn read_next<D: Disk, C: Clients>(
 
 // Whether the journal, which was read to its closed gate, leaves its room.
 fn test_room(journal: &Journal, state: &State) -> Result<(), LoadFault>
-    requires bounded { journal.now.end ≤ MAX_JOURNAL }
     requires started { 15 ≤ journal.now.end }
     requires read { journal.now.last < 14 → state.now.facts ≡ nothing }
     ensures { HasItsRoom journal.now state.now result }

@@ -3,6 +3,7 @@ ghost use Rattle.std.specs.Prelude.{◌≡◌, ◌+◌, ◌<◌, ◌≤◌, ◌�
 ghost use Rattle.std.specs.Prelude.{slice_get, IfOk, IfSome};
 ghost use Rattle.std.specs.Option.{option_map};
 ghost use Rattle.entry_codec.specs.Standing.{room_of};
+ghost use Rattle.outside.specs.declared.limits.TheConstants.{MAX_JOURNAL};
 ghost use Rattle.journal_state.specs.Allowing.{due_of};
 ghost use Rattle.journal_state.specs.Lent.{StandsForNodes, StandsForRows};
 ghost use Rattle.journal_state.specs.Whole.{Knows};
@@ -131,7 +132,7 @@ impl Store {
     /// delivered nor invalid. Behind the journal it is within the greatest length.
     pub fn room(&self) -> u64
         ensures room { result ≡ room_of self.now.state.facts }
-        ensures within { self.now.end + result ≤ 268435456 }
+        ensures within { self.now.end + result ≤ MAX_JOURNAL }
     {
         STEP_BYTES * self.state.left()
     }
