@@ -1,6 +1,6 @@
 -- An error that goes on by `?`: what holds of the outcome that it is turned into holds of the answer.
 use Rattle.std.proofs.Common.{◌≡◌, ℕ, List, ap, sym, subst, Result, Ok, Err}
-use Rattle.std.specs.Prelude.{IsErrAnd}
+use Rattle.std.specs.Prelude.{IsErrAnd, OnOk}
 use Rattle.outside.specs.Files.{Two, File}
 use Rattle.outside.specs.Outside.{Outside}
 use Rattle.outside.specs.Streams.{Stream}
@@ -59,3 +59,8 @@ module _ (r : Result (Unit {0}) Outcome) (x : Outcome) (is : IsErrAnd r (λ e. e
 pub refused_on : (r : Result Entry Refused) (why : Refused) → IsErrAnd r (λ e. e ≡ why) → plan_of r ≡ refuses why
 refused_on (Ok e) why is = absurd is
 refused_on (Err e) why is = ap refuses is
+
+-- an answer that is an error says nothing of Ok
+pub no_ok : (P : Type 0) (r : Result (Unit {0}) Outcome) (x : Outcome) → IsErrAnd r (λ e. e ≡ x) → OnOk r P
+no_ok P (Ok u) x is = absurd is
+no_ok P (Err e) x is = tt

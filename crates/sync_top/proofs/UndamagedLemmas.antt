@@ -5,7 +5,7 @@ use Rattle.outside.specs.Files.{Two, File, IsImage, read_files}
 use Rattle.outside.specs.Frames.{generation_in, is_open, journal_file}
 use Rattle.outside.specs.Outside.{Outside, Moment, MomentsAre, IsNow}
 use Rattle.outside.specs.Steps.{moments_map, moments_none}
-use Rattle.outside.specs.Streams.{Stream}
+use Rattle.outside.specs.Streams.{IsIdle, Stream}
 use Rattle.sync_rules.specs.declared.entries.Entry.{Entry}
 use Rattle.sync_rules.specs.declared.states.Refused.TheVariants as refused
 use Rattle.sync_rules.specs.Clients.{Meaning}
@@ -18,12 +18,14 @@ use Rattle.sync_words.specs.Reading.{Asked}
 use Rattle.sync_words.specs.Reading.Asked.{Usage, Do}
 use Rattle.sync_words.specs.declared.command.Command.TheVariants as command
 use Rattle.store_commands.specs.declared.commit.Settling.{Settling}
+use Rattle.store_commands.specs.declared.commit.Settling.TheVariants as settling
+use Rattle.store_commands.specs.declared.listing.Listing.TheVariants as listing
 use Rattle.store_commands.specs.Entries.{AddsMoment, HasAdded}
 use Rattle.store_commands.specs.Init.{HasBegun}
-use Rattle.store_commands.specs.Plans.{Plan}
+use Rattle.store_commands.specs.Plans.{Plan, contact_plan, group_plan, level_plan}
 use Rattle.store_commands.specs.Post.{HasPosted, PostsBody, StopsShort}
 use Rattle.store_commands.specs.Show.{HasLooked}
-use Rattle.store_commands.specs.Shown.{Showing}
+use Rattle.store_commands.specs.Shown.{Showing, body_shown, listing_shown}
 use Rattle.sync_top.specs.Run.{Comes, ComesOfStore, KeepsHost}
 use Rattle.sync_top.specs.Undamaged.{StandsForSome, Undamaged}
 
@@ -69,8 +71,8 @@ module _ (clients : Meaning) (old new : Outside) where
   added_moment plan standing came sent two each m (inl now) = each m.files now.image
   added_moment plan standing came sent two each m (inr adds) = record { of = adds.1.leads.whole; stands_for = adds.1.leads.stands_for }
 
-  of_added : (plan : Facts → Plan) (settling : Settling) (out out' : Stream) (came : Outcome) → HasAdded clients plan settling old new out out' came → Undamaged clients old new
-  of_added plan settling out out' came did two files each = moments_map old new _ _ (added_moment plan _ came _ two each) (did.told two files).moments
+  of_added : (plan : Facts → Plan) (asked : Settling) (out out' : Stream) (came : Outcome) → HasAdded clients plan asked old new out out' came → Undamaged clients old new
+  of_added plan asked out out' came did two files each = moments_map old new _ _ (added_moment plan _ came _ two each) (did.told two files).moments
 
   module _ (group : Id) (timestamp : ℕ) (input input' out out' : Stream) where
     of_stopped : (came : Outcome) → StopsShort clients group old new input input' out out' came → Undamaged clients old new
@@ -109,19 +111,19 @@ module _ {H : Type 0} (tells : H → Outside) (clients : Meaning) (h h' : H) (in
   undamaged (Do (command.Try name descriptor)) comes keeps = kept keeps
   undamaged (Do command.Records) comes keeps = kept keeps
   undamaged (Do command.Init) comes keeps =
-      of_store clients (tells h) (tells h') _ input input' out out' came (λ did. of_begun clients (tells h) (tells h') out out' came did.0) comes
+      of_store clients (tells h) (tells h') (λ o. HasBegun (tells h) (tells h') out out' o × IsIdle input input') input input' out out' came (λ did. of_begun clients (tells h) (tells h') out out' came did.0) comes
   undamaged (Do command.Contact) comes keeps =
-      of_store clients (tells h) (tells h') _ input input' out out' came (λ did. of_added clients (tells h) (tells h') _ _ out out' came did.0) comes
+      of_store clients (tells h) (tells h') (λ o. HasAdded clients contact_plan settling.Before (tells h) (tells h') out out' o × IsIdle input input') input input' out out' came (λ did. of_added clients (tells h) (tells h') _ _ out out' came did.0) comes
   undamaged (Do (command.Group name major descriptor)) comes keeps =
-      of_store clients (tells h) (tells h') _ input input' out out' came (λ did. of_added clients (tells h) (tells h') _ _ out out' came did.0) comes
+      of_store clients (tells h) (tells h') (λ o. HasAdded clients (λ f. group_plan clients f (record { name = name; major = major; descriptor = descriptor })) settling.Before (tells h) (tells h') out out' o × IsIdle input input') input input' out out' came (λ did. of_added clients (tells h) (tells h') _ _ out out' came did.0) comes
   undamaged (Do (command.Share contact group level)) comes keeps =
-      of_store clients (tells h) (tells h') _ input input' out out' came (λ did. of_added clients (tells h) (tells h') _ _ out out' came did.0) comes
+      of_store clients (tells h) (tells h') (λ o. HasAdded clients (λ f. level_plan f contact group level) settling.Before (tells h) (tells h') out out' o × IsIdle input input') input input' out out' came (λ did. of_added clients (tells h) (tells h') _ _ out out' came did.0) comes
   undamaged (Do (command.Post group timestamp)) comes keeps =
-      of_store clients (tells h) (tells h') _ input input' out out' came
+      of_store clients (tells h) (tells h') (λ o. HasPosted clients group timestamp (tells h) (tells h') input input' out out' o) input input' out out' came
       (λ did. of_posted clients (tells h) (tells h') group timestamp input input' out out' came did) comes
   undamaged (Do command.Show) comes keeps =
-      of_store clients (tells h) (tells h') _ input input' out out' came (λ did. of_looked clients (tells h) (tells h') _ out out' came did.0) comes
+      of_store clients (tells h) (tells h') (λ o. HasLooked clients (listing_shown listing.Store) (tells h) (tells h') out out' o × IsIdle input input') input input' out out' came (λ did. of_looked clients (tells h) (tells h') _ out out' came did.0) comes
   undamaged (Do command.Inbox) comes keeps =
-      of_store clients (tells h) (tells h') _ input input' out out' came (λ did. of_looked clients (tells h) (tells h') _ out out' came did.0) comes
+      of_store clients (tells h) (tells h') (λ o. HasLooked clients (listing_shown listing.Inbox) (tells h) (tells h') out out' o × IsIdle input input') input input' out out' came (λ did. of_looked clients (tells h) (tells h') _ out out' came did.0) comes
   undamaged (Do (command.Body id)) comes keeps =
-      of_store clients (tells h) (tells h') _ input input' out out' came (λ did. of_looked clients (tells h) (tells h') _ out out' came did.0) comes
+      of_store clients (tells h) (tells h') (λ o. HasLooked clients (body_shown id) (tells h) (tells h') out out' o × IsIdle input input') input input' out out' came (λ did. of_looked clients (tells h) (tells h') _ out out' came did.0) comes
