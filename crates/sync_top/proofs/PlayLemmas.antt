@@ -16,18 +16,6 @@ records_push [] i = refl
 records_push (item.One place r ∷ some) i = ap (λ (l : List Record). r ∷ l) (records_push some i)
 records_push (item.Skipped place type_byte len ∷ some) i = records_push some i
 
-no_records : records_of [] ≡ []
-unfolding records_of
-no_records = refl
-
--- nothing was heard
-pub plays_nothing : (clients : Meaning) (play : Played) → Plays clients play [] clients play
-plays_nothing clients play = record {
-  same = refl;
-  takes = λ def records played.
-      subst (λ (rs : List Record). HasPlayed clients def rs play) (sym (ap (λ (l : List Record). records ++ l) no_records ∙ append-nil records)) played;
-}
-
 -- an item without a record changes nothing
 pub plays_same : (clients : Meaning) (play : Played) (some : List Item) (clients' : Meaning) (play' : Played) (i : Item) → records_of (i ∷ []) ≡ []
     → Plays clients play some clients' play' → Plays clients play (some ++ i ∷ []) clients' play'

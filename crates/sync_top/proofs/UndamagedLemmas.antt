@@ -31,15 +31,18 @@ use Rattle.sync_top.specs.Undamaged.{StandsForSome, Undamaged}
 
 -- ---- a store that is begun
 
--- the file by which headers are open
-file_by : (a b c : Bool) → (a || b) ≡ false → (if a then (if b && c then Some 1 else Some 0) else (if b then Some 1 else None)) ≡ None
-file_by true b c none = cc
-file_by false true c none = cc
-file_by false false c none = refl
+-- the journal's file by which headers are open, and whether the second is the later one
+abbrev file_where : (first second later : Bool) → Option ℕ
+file_where first second later = if first then (if second && later then Some 1 else Some 0) else (if second then Some 1 else None)
+
+no_file : (a b c : Bool) → (a || b) ≡ false → file_where a b c ≡ None
+no_file true b c none = absurd (let e : true ≡ false = none in cc)
+no_file false true c none = absurd (let e : true ≡ false = none in cc)
+no_file false false c none = refl
 
 none_open : (two : Two File) → has_open two ≡ false → journal_file (read_files two) ≡ None
 none_open two none =
-    file_by (is_open two.first.now) (is_open two.second.now) (nat_lt (generation_in two.first.now) (generation_in two.second.now)) none
+    no_file (is_open two.first.now) (is_open two.second.now) (nat_lt (generation_in two.first.now) (generation_in two.second.now)) none
 
 no_store_there : (clients : Meaning) (two : Two File) → has_open two ≡ false → stands clients (read_files two) ≡ no_store
 unfolding stands

@@ -20,8 +20,7 @@ pub struct Player<'a, C: Clients> {
 }
 
 impl<'a, C: Clients> Listener for Player<'a, C> {
-    ghost use Rattle.sync_top.specs.Plays.{Plays};
-    ghost use Rattle.sync_top.proofs.PlayLemmas.{plays_nothing};
+    ghost use Rattle.sync_top.specs.Plays.{Plays, plays_nothing};
 
     ghost heard = { λ first items now. Plays (C.meaning first.clients.now) first.play items
         (C.meaning now.clients.now) now.play };

@@ -34,14 +34,14 @@ returns-in-Post-clause-comes g c =
     as_command (g.C.Clients.meaning c.args.clients.now) c.args.asked (command.Post c.in-Post.group c.in-Post.timestamp) _ _ _ _ _ _ _ c.in-Post.is
     (inl c.post_message.ensures)
 
-pub returns-in-Group-clause-comes : goal.returns-in-Group-clause-comes
-returns-in-Group-clause-comes g c =
+pub returns-in_ok-def-in-Group-clause-comes : goal.returns-in_ok-def-in-Group-clause-comes
+returns-in_ok-def-in-Group-clause-comes g c =
     group_comes (g.C.Clients.meaning c.args.clients.now) c.args.asked c.in-Group.name c.in-Group.descriptor c.as_str-in-Group.result.now c.as_str-in-Group-2.result.now
-    c.in-Group.major c.in_ok-def.def _ _ _ _ _ _ _ c.in-Group.is c.as_str-in-Group.ensures c.as_str-in-Group-2.ensures c.in_ok-def.ensures c.add_group.ensures
+    c.in-Group.major c.in_ok-def-in-Group.def _ _ _ _ _ _ _ c.in-Group.is c.as_str-in-Group.ensures c.as_str-in-Group-2.ensures c.in_ok-def-in-Group.ensures c.add_group.ensures
     (record { same = refl; same_faults = refl })
 
-pub returns-in_err-def-clause-comes : goal.returns-in_err-def-clause-comes
-returns-in_err-def-clause-comes g c =
+pub returns-in_err-def-in-Group-clause-comes : goal.returns-in_err-def-in-Group-clause-comes
+returns-in_err-def-in-Group-clause-comes g c =
     let clients = g.C.Clients.meaning c.args.clients.now in
     comes_on c.from_residual.result outcome.Memory c.from_residual.ensures.1 clients (Do c.args.asked) _ _ _ _ _ _
     (memory_comes clients (Do c.args.asked) _ _ _ _ _ (record { same = refl; same_faults = refl }) (record { same = refl; same_faults = refl }))

@@ -3,7 +3,8 @@ use Rattle.record_grammar.specs.Stream.{items, records_of}
 use Rattle.journal_play.specs.Playing.{IsTextOf}
 use Rattle.sync_words.specs.declared.outcome.Outcome.TheVariants as outcome
 use Rattle.sync_top.specs.declared.input.TheConstants.{MAX_INPUT}
-use Rattle.sync_top.proofs.PlayLemmas.{played_all, plays_nothing}
+use Rattle.sync_top.specs.Plays.{plays_nothing}
+use Rattle.sync_top.proofs.PlayLemmas.{played_all}
 use Rattle.sync_top.proofs.StateLemmas.{streams_on}
 use Rattle.sync_top.proofs.StreamLemmas.{play_streams}
 use Rattle.sync_top.proofs.streams.try_input.Goals as goal
@@ -22,6 +23,6 @@ pub returns : goal.returns
 returns g c =
     let clients = g.C.Clients.meaning c.args.clients.now in
     let heard = c.in_ok-heard.ensures in
-    let plays = heard.hears _ [] (plays_nothing clients c.in_ok-play.play) in
+    let plays = heard.hears (record { clients = c.args.clients; play = c.in_ok-play.play }) [] (plays_nothing clients c.in_ok-play.play) in
     play_streams clients c.args.def _ _ _ _ _ heard.read _ _ _ heard.consumed
     (played_all clients _ _ _ (items 0 (take MAX_INPUT heard.read)) c.args.def plays (c.in_ok-play.ensures clients c.requires)) heard.ends heard.stops c.print_play.ensures
