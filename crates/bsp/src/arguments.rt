@@ -6,12 +6,13 @@ ghost use Rattle.bsp.specs.Arguments.{IsWordOf};
 use std::alloc::{AllocError, Global};
 use std::env::FillError;
 use std::rt::Env;
+use sync_ids::MAX_DESCRIPTOR;
 
 // The most bytes of one argument that the system hands on.
 const MAX_ARGUMENT: usize = 131_072;
 
 // More bytes than any word of a command has: such a word is wrong wherever it stands.
-const NOT_A_WORD: usize = 16_385;
+const NOT_A_WORD: usize = MAX_DESCRIPTOR + 1;
 
 /// The words after the program's name. An argument that is not text is handed on as a word that is
 /// wrong wherever it stands. It fails only for want of memory.
@@ -38,7 +39,7 @@ fn word(alloc: Global, bytes: &[u8]) -> Result<String, AllocError>
 }
 
 fn not_a_word(alloc: Global) -> Result<String, AllocError>
-    ensures { IfOk result (λ word. 16384 < length (string_bytes word)) }
+    ensures { IfOk result (λ word. MAX_DESCRIPTOR < length (string_bytes word)) }
 {
     "x".repeat(alloc, NOT_A_WORD)
 }

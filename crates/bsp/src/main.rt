@@ -6,23 +6,28 @@ mod arguments;
 use client_basic::Bundle;
 use outside::Sink;
 use outside_real::{FileHost, StdSink, StdSource};
-use std::alloc::Global;
+use std::hash::RandomState;
 use std::process::ExitCode;
-use sync_top::{Outcome, Status, run};
+use sync_top::{Outcome, report, run};
 
 fn main(rt: HostRuntime) -> ExitCode {
     let alloc = rt.alloc();
     let mut err = StdSink::new(rt.stderr());
     let Ok(words) = arguments::words(&rt, alloc) else {
-        return out_of_memory(alloc, &mut err);
+        return out_of_memory(&mut err);
+    };
+    // A system that gives no random bytes has none to give for the tables.
+    let Ok(hasher) = RandomState::new(&rt) else {
+        return out_of_memory(&mut err);
     };
     let Ok(mut host) = FileHost::new(rt, ".") else {
-        return out_of_memory(alloc, &mut err);
+        return out_of_memory(&mut err);
     };
     let mut input = StdSource::new(rt.stdin());
     let mut out = StdSink::new(rt.stdout());
     let status = run(
         alloc,
+        hasher,
         words.as_slice(),
         &mut host,
         &mut input,
@@ -30,13 +35,10 @@ fn main(rt: HostRuntime) -> ExitCode {
         &mut err,
         &Bundle::new(),
     );
-    ExitCode::from(status as u8)
+    ExitCode::from(status.number())
 }
 
-fn out_of_memory<S: Sink>(alloc: Global, err: &mut S) -> ExitCode {
-    let status = sync_top::report(alloc, Outcome::Memory, err);
-    ExitCode::from(status as u8)
+fn out_of_memory<S: Sink>(err: &mut S) -> ExitCode {
+    let status = report(&Outcome::Memory, err);
+    ExitCode::from(status.number())
 }
-
-#[cfg(test)]
-mod tests;

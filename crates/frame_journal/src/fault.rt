@@ -4,7 +4,7 @@ ghost use Rattle.frame_journal.specs.declared.fault.StartFault.TheVariants as st
 ghost use Rattle.frame_journal.specs.declared.fault.FrameFault.TheVariants as frame;
 
 use outside::{Failed, Place};
-use std::alloc::AllocError;
+use std::alloc::{AllocError, AllocFailed};
 
 /// A call on the disk failed; its count of faults rose in that call.
 #[derive(Clone, Copy, Debug, PartialEq, Eq)]
@@ -66,6 +66,14 @@ impl From<AllocError> for FrameFault {
     ghost from_gives = { λ _ e. e ≡ frame.Memory };
 
     fn from(_: AllocError) -> FrameFault {
+        FrameFault::Memory
+    }
+}
+
+impl<T: Drop> From<AllocFailed<T>> for FrameFault {
+    ghost from_gives = { λ _ e. e ≡ frame.Memory };
+
+    fn from(_: AllocFailed<T>) -> FrameFault {
         FrameFault::Memory
     }
 }

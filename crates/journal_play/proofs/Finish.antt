@@ -10,9 +10,9 @@ use Rattle.sync_rules.specs.Clients.{Meaning}
 use Rattle.sync_rules.specs.Lists.{is_among}
 use Rattle.sync_rules.specs.Facts.{Facts, Held, held_at, arrived, facts, entries_of}
 use Rattle.sync_rules.specs.Steps.{answer_of}
-use Rattle.sync_rules.proofs.Elements.{In}
-use Rattle.sync_rules.proofs.Sound.{SoundFacts}
-use Rattle.sync_rules.proofs.Runs.{legal_sound}
+use Rattle.sync_rules.specs.Elements.{In}
+use Rattle.sync_rules.specs.Sound.{SoundFacts}
+use Rattle.sync_rules.specs.Runs.{legal_sound}
 use Rattle.message_graph.specs.declared.nodes.Judged.{Judged}
 use Rattle.message_graph.specs.Nodes.{fate_by}
 use Rattle.journal_play.specs.Texts.{Line, told, unended, line_at, text_of}

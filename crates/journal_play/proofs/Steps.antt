@@ -16,12 +16,12 @@ use Rattle.sync_rules.specs.Facts.{Facts, Held, Known, Id, held_at, is_held, aft
 use Rattle.sync_rules.specs.Steps.{verdict_in, verdict_for, verdict_by, next, kind_of_def}
 use Rattle.sync_rules.specs.Rounds.{Graph, good, good_next, bad, bad_first, bad_more}
 use Rattle.sync_rules.specs.Hearing.{Settles}
-use Rattle.sync_rules.proofs.Elements.{In, same_id-is, same_id_itself, tally}
-use Rattle.sync_rules.proofs.RoundLaws.{disjoint}
-use Rattle.sync_rules.proofs.Sound.{SoundFacts, graph, contains-more, held_at-In, has_delivery, has_refusal}
-use Rattle.sync_rules.proofs.Kept.{delivery}
-use Rattle.sync_rules.proofs.Runs.{legal_sound}
-use Rattle.sync_rules.proofs.WorkLaws.{facts-push, settles_step, settles_legal, settles_itself}
+use Rattle.sync_rules.specs.Elements.{In, same_id-is, same_id_itself, tally}
+use Rattle.sync_rules.specs.RoundLaws.{disjoint}
+use Rattle.sync_rules.specs.Sound.{SoundFacts, graph, contains-more, held_at-In, has_delivery, has_refusal}
+use Rattle.sync_rules.specs.Kept.{delivery}
+use Rattle.sync_rules.specs.Runs.{legal_sound}
+use Rattle.sync_rules.specs.WorkLaws.{facts-push, settles_step, settles_legal, settles_itself}
 use Rattle.message_graph.specs.declared.nodes.Node.{Node}
 use Rattle.message_graph.specs.declared.nodes.Ending.TheVariants as ending
 use Rattle.message_graph.specs.declared.nodes.Step.{Step}

@@ -2,7 +2,6 @@
 ghost use Rattle.std.specs.Prelude.{◌≡◌, ◌≢◌, ℕ, ◌++◌, ◌<◌, ◌^◌, List, [], ◌∷◌, length, IfOk, OnOk};
 ghost use Rattle.std.specs.Prelude.{Some, None, slice_get};
 ghost use Rattle.std.specs.String.{string_bytes};
-ghost use Rattle.sync_ids.specs.Records.{IsRecord};
 ghost use Rattle.sync_ids.specs.Values.{GroupValue};
 ghost use Rattle.sync_ids.specs.declared.records.Record.{Record};
 ghost use Rattle.sync_rules.specs.Clients.{Meaning};
@@ -22,8 +21,9 @@ use crate::kept::{Fresh, Head};
 use crate::lines::{add_line, make_head};
 use message_graph::{Fate, Graph, Judged, Names, Step};
 use std::alloc::{AllocError, Global};
+use std::hash::RandomState;
 use std::marker::Model;
-use sync_ids::{GroupDef, GroupId, Message, MessageId, Record, group_id};
+use sync_ids::{GroupDef, GroupId, Message, MessageId, Record, group_id, records_are_within};
 use sync_rules::{Clients, Judgement};
 
 // The number of the one group.
@@ -63,13 +63,19 @@ impl Model for Play {
 
 impl Play {
     /// A journal with this group, whose client has this kind, Visible to contact 0, and one batch
-    /// session with that contact. It fails only for want of memory.
-    pub fn begin(alloc: Global, def: GroupDef, kind: u8) -> Result<Play, AllocError>
+    /// session with that contact. `hasher` is for the tables whose keys a stranger chooses. It
+    /// fails only for want of memory.
+    pub fn begin(
+        alloc: Global,
+        hasher: RandomState,
+        def: GroupDef,
+        kind: u8,
+    ) -> Result<Play, AllocError>
         ensures { IfOk result (λ play. (clients : Meaning) → kind_of_def clients def ≡ Some kind
             → HasPlayed clients def [] play) }
     {
         let group = group_id(&def);
-        let graph = Graph::new(alloc)?;
+        let graph = Graph::new(alloc, hasher)?;
         Ok(Play {
             kind,
             group,
@@ -91,7 +97,8 @@ impl Play {
             → HasPlayed (C.meaning clients.now) def records self.old
             → HasPlayed (C.meaning clients.now) def (records ++ heard ∷ []) self.new) }
     {
-        check_limits(&heard);
+        // A batch is legal only where its record is within its limits.
+        records_are_within(&heard);
         let just = self.take(heard)?;
         self.settle(alloc, clients, &just)
     }
@@ -253,27 +260,6 @@ impl Play {
         add_line(alloc, state, head, &mut self.text)?;
         self.graph.apply(step);
         Ok(())
-    }
-}
-
-// A batch is legal only where its record is within its limits, which each kind of record says
-// itself.
-fn check_limits(record: &Record)
-    ensures { IsRecord record.now }
-{
-    match record {
-        Record::Ack(ids) | Record::Offer(ids) | Record::Request(ids) => {
-            let _ids = ids.as_slice();
-        }
-        Record::Message(message) => {
-            let _timestamp = message.timestamp();
-        }
-        Record::Versions(versions) => {
-            let _versions = versions.as_slice();
-        }
-        Record::Priority(nonce) => {
-            let _nonce = nonce.as_bytes();
-        }
     }
 }
 

@@ -9,10 +9,10 @@ use Rattle.outside.specs.Steps.{becomes_told}
 use Rattle.frame_journal.specs.Gates.{Settles}
 use Rattle.sync_store.specs.Begin.{Begins, InitMoment, IsAnswer}
 use Rattle.sync_store.specs.declared.fault.InitFault.TheVariants as init
-use Rattle.store_commands.specs.declared.outcome.Outcome.{Outcome}
-use Rattle.store_commands.specs.declared.outcome.Outcome.TheVariants as outcome
-use Rattle.store_commands.specs.Beginning.{BeginsBy, BeginsEnds, HasBegun, PrintsReady}
-use Rattle.store_commands.specs.Flow.{Flow, IsIdle}
+use Rattle.sync_words.specs.declared.outcome.Outcome.{Outcome}
+use Rattle.sync_words.specs.declared.outcome.Outcome.TheVariants as outcome
+use Rattle.store_commands.specs.Init.{BeginsBy, BeginsEnds, HasBegun, PrintsReady}
+use Rattle.outside.specs.Streams.{Stream, IsIdle}
 use Rattle.store_commands.proofs.Loads.{reads_same}
 
 begins_at : (old new : Option (Two File)) (two two' : Two File) → Becomes Begins old new → old ≡ Some two → new ≡ Some two' → Begins two two'
@@ -21,38 +21,38 @@ begins_at old new two two' becomes told told' =
     let same : at.0 ≡ two' = let it = sym at.1 ∙ told' in cc in
     subst (Begins two) same at.2
 
-ready_by : (old new : Outside) (out : Flow) (came : Outcome) → PrintsReady out came → BeginsBy old new out came
-ready_by old new out outcome.Done p = p
-ready_by old new out outcome.WriteFault p = p
-ready_by old new out _ p = absurd p
+ready_by : (old new : Outside) (out out' : Stream) (came : Outcome) → PrintsReady out out' came → BeginsBy old new out out' came
+ready_by old new out out' outcome.Done p = p
+ready_by old new out out' outcome.WriteFault p = p
+ready_by old new out out' _ p = absurd p
 
-ready_ends : (two two' : Two File) (out : Flow) (came : Outcome) → PrintsReady out came → IsAnswer two (Ok tt) → Begins two two' → BeginsEnds two two' came
-ready_ends two two' out outcome.Done p none begins = (none, begins)
-ready_ends two two' out outcome.WriteFault p none begins = (none, begins)
-ready_ends two two' out _ p none begins = absurd p
+ready_ends : (two two' : Two File) (out out' : Stream) (came : Outcome) → PrintsReady out out' came → IsAnswer two (Ok tt) → Begins two two' → BeginsEnds two two' came
+ready_ends two two' out out' outcome.Done p none begins = (none, begins)
+ready_ends two two' out out' outcome.WriteFault p none begins = (none, begins)
+ready_ends two two' out out' _ p none begins = absurd p
 
-pub begun_ready : (old new : Outside) (out : Flow) (came : Outcome) → DiskRun old new → ForSome old.files (λ two. IsAnswer two (Ok tt)) → Becomes Begins old.files new.files
-    → ((two : Two File) → old.files ≡ Some two → MomentsAre old new (InitMoment two old.links)) → PrintsReady out came → HasBegun old new out came
-begun_ready old new out came run none begins moments printed = record {
+pub begun_ready : (old new : Outside) (out out' : Stream) (came : Outcome) → DiskRun old new → ForSome old.files (λ two. IsAnswer two (Ok tt)) → Becomes Begins old.files new.files
+    → ((two : Two File) → old.files ≡ Some two → MomentsAre old new (InitMoment two old.links)) → PrintsReady out out' came → HasBegun old new out out' came
+begun_ready old new out out' came run none begins moments printed = record {
   run = run;
-  by = ready_by old new out came printed;
+  by = ready_by old new out out' came printed;
   told = λ two told. record {
     moments = moments two told;
-    ends = λ two' told'. ready_ends two two' out came printed (none two told) (begins_at old.files new.files two two' begins told told');
+    ends = λ two' told'. ready_ends two two' out out' came printed (none two told) (begins_at old.files new.files two two' begins told told');
   };
 }
 
-pub begun_exists : (old new : Outside) (out : Flow) → DiskRun old new → ForSome old.files (λ two. IsAnswer two (Err init.Exists)) → Becomes Settles old.files new.files
-    → ((two : Two File) → old.files ≡ Some two → MomentsAre old new (InitMoment two old.links)) → IsIdle out → HasBegun old new out outcome.Exists
-begun_exists old new out run some settled moments idle = record {
+pub begun_exists : (old new : Outside) (out out' : Stream) → DiskRun old new → ForSome old.files (λ two. IsAnswer two (Err init.Exists)) → Becomes Settles old.files new.files
+    → ((two : Two File) → old.files ≡ Some two → MomentsAre old new (InitMoment two old.links)) → IsIdle out out' → HasBegun old new out out' outcome.Exists
+begun_exists old new out out' run some settled moments idle = record {
   run = run;
   by = idle;
   told = λ two told. record { moments = moments two told; ends = λ two' told'. (some two told, reads_same old.files new.files two two' settled told told') };
 }
 
-pub begun_failed : (old new : Outside) (out : Flow) → DiskRun old new → Rose old.disk_faults new.disk_faults
-    → ((two : Two File) → old.files ≡ Some two → MomentsAre old new (InitMoment two old.links)) → IsIdle out → HasBegun old new out outcome.DiskFault
-begun_failed old new out run rose moments idle = record {
+pub begun_failed : (old new : Outside) (out out' : Stream) → DiskRun old new → Rose old.disk_faults new.disk_faults
+    → ((two : Two File) → old.files ≡ Some two → MomentsAre old new (InitMoment two old.links)) → IsIdle out out' → HasBegun old new out out' outcome.DiskFault
+begun_failed old new out out' run rose moments idle = record {
   run = run;
   by = (rose, idle);
   told = λ two told. record { moments = moments two told; ends = λ two' told'. tt };

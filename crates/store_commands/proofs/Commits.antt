@@ -1,25 +1,23 @@
 -- From the batch that is added to the entry and its line.
-use Rattle.std.proofs.Common.{◌≡◌, ℕ, ◌<◌, Bool, false, List, [], ◌∷◌, length, refl, sym, ap, ◌∙◌, subst, inl, arith, append-nil, Some, Result, Ok, Err}
+use Rattle.std.proofs.Common.{◌≡◌, ℕ, ◌<◌, true, List, [], ◌∷◌, ◌++◌, length, refl, sym, ap, ◌∙◌, subst, inl, arith, append-nil, Some, Result, Ok, Err}
 use Rattle.std.proofs.lemmas.List.{ext_get_or}
 use Rattle.outside.specs.Files.{Two, File, IsFileImage, IsImage, NothingPending, read_files, settled}
 use Rattle.outside.specs.Links.{sent_of}
 use Rattle.outside.specs.Outside.{Outside, Moment, DiskRun}
 use Rattle.outside.specs.Steps.{moments_none, run_none}
+use Rattle.outside.specs.Streams.{Stream, IsIdle}
 use Rattle.sync_rules.specs.declared.entries.Entry.{Entry}
 use Rattle.sync_rules.specs.Clients.{Meaning}
-use Rattle.sync_rules.specs.Facts.{facts}
-use Rattle.entry_codec.specs.Standing.{journal, stands}
+use Rattle.entry_codec.specs.Standing.{stands}
 use Rattle.sync_store.specs.Store.{StoreValue}
 use Rattle.sync_store.specs.Fitting.{Fits}
 use Rattle.sync_store.specs.Moments.{JournalMoment}
-use Rattle.sync_store.specs.declared.fault.StoreFault.{StoreFault}
-use Rattle.sync_store.specs.declared.fault.StoreFault.TheVariants as store
-use Rattle.store_commands.specs.declared.outcome.Outcome.{Outcome}
-use Rattle.store_commands.specs.declared.outcome.Outcome.TheVariants as outcome
-use Rattle.store_commands.specs.Adding.{AddsAtMost, AddsBy, IsAdded, is_early}
-use Rattle.store_commands.specs.Extending.{EntryAdded, EntryEnds, ExtendsBy, ExtendsEnds, ExtendsTold, came_of}
-use Rattle.store_commands.specs.Flow.{Flow, IsIdle}
-use Rattle.store_commands.specs.Looking.{PrintsText}
+use Rattle.sync_words.specs.declared.outcome.Outcome.{Outcome}
+use Rattle.sync_words.specs.declared.outcome.Outcome.TheVariants as outcome
+use Rattle.store_commands.specs.declared.commit.Settling.{Settling}
+use Rattle.store_commands.specs.Commit.{ExtendsBy, ExtendsEnds, ExtendsTold, GoesOn, IsAdded}
+use Rattle.store_commands.specs.Entries.{AddsBy, EntryAdded, EntryEnds, is_late}
+use Rattle.store_commands.specs.Show.{PrintsText}
 use Rattle.store_commands.specs.Shown.{added_text}
 
 -- ---- no call was made
@@ -43,102 +41,103 @@ files_only two left first second image =
 
 -- each moment of now stands for the journal that the disk fits
 still_moment : (clients : Meaning) (s : StoreValue) (batch : List Entry) (j : List (List Entry)) (two : Two File) (o : Outside) → o.files ≡ Some two → Fits clients s j two → (m : Moment)
-    → o.moments o.clock m → JournalMoment clients (AddsAtMost clients (facts j) batch) j (sent_of o.links.told) m
+    → o.moments o.clock m → JournalMoment clients (GoesOn clients j batch) (sent_of o.links.told) m
 still_moment clients s batch j two o files fits m w =
     let now = o.now_is two m files w in
     let same = files_only two m.files fits.first_settled fits.second_settled now.image in
     record {
-      more = [];
-      has = inl tt;
-      stands_for = ap (stands clients) same ∙ fits.stands_for ∙ ap journal (sym (append-nil j));
+      whole = j;
+      has = record { more = []; is = sym (append-nil j); adds = inl tt };
+      stands_for = ap (stands clients) same ∙ fits.stands_for;
       nothing_sent = now.sent;
     }
 
 -- memory was wanting before any call
-pub entry_none : (clients : Meaning) (again : Bool) (s : StoreValue) (e : Entry) (o : Outside) (out : Flow) → IsIdle out → EntryAdded clients again s e o o out outcome.Memory
-entry_none clients again s e o out idle = record {
-  run = run_none o;
-  by = idle;
-  late = refl;
-  told = λ two files j fits. record {
-    moments = moments_none o _ (still_moment clients s (e ∷ []) j two o files fits);
-    ends = λ two' files'. tt;
-  };
-}
+pub entry_none : (clients : Meaning) (settling : Settling) (s : StoreValue) (e : Entry) (o : Outside) (out out' : Stream) (came : Outcome) → came ≡ outcome.Memory → IsIdle out out'
+    → EntryAdded clients settling s e o o out out' came
+entry_none clients settling s e o out out' came is idle =
+    subst (λ (c : Outcome). EntryAdded clients settling s e o o out out' c) (sym is) (record {
+      run = run_none o;
+      by = idle;
+      late = refl;
+      told = λ two files j fits. record {
+        moments = moments_none o _ (still_moment clients s (e ∷ []) j two o files fits);
+        ends = λ two' files'. tt;
+      };
+    })
 
 -- ---- the line
 
-printed_by : (o o2 : Outside) (out : Flow) (text : List ℕ) (came : Outcome) → PrintsText text out came → AddsBy o o2 out came
-printed_by o o2 out text outcome.Done p = tt
-printed_by o o2 out text outcome.WriteFault p = p.0
-printed_by o o2 out text outcome.Memory p = p
-printed_by o o2 out text _ p = absurd p
+printed_by : (o o2 : Outside) (out out' : Stream) (text : List ℕ) (came : Outcome) → PrintsText text out out' came → AddsBy o o2 out out' came
+printed_by o o2 out out' text outcome.Done p = tt
+printed_by o o2 out out' text outcome.WriteFault p = p.0
+printed_by o o2 out out' text outcome.Memory p = p
+printed_by o o2 out out' text _ p = absurd p
 
-printed_late : (out : Flow) (text : List ℕ) (came : Outcome) → PrintsText text out came → is_early came ≡ false
-printed_late out text outcome.Done p = refl
-printed_late out text outcome.WriteFault p = refl
-printed_late out text outcome.Memory p = refl
-printed_late out text _ p = absurd p
+printed_late : (out out' : Stream) (text : List ℕ) (came : Outcome) → PrintsText text out out' came → is_late came ≡ true
+printed_late out out' text outcome.Done p = refl
+printed_late out out' text outcome.WriteFault p = refl
+printed_late out out' text outcome.Memory p = refl
+printed_late out out' text _ p = absurd p
 
-printed_ends : (clients : Meaning) (again : Bool) (j : List (List Entry)) (e : Entry) (out : Flow) (came : Outcome) (two : Two File) → IsAdded clients again j (e ∷ []) two
-    → PrintsText (added_text e) out came → EntryEnds clients again j e out came two
-printed_ends clients again j e out outcome.Done two added p = (added, p)
-printed_ends clients again j e out outcome.WriteFault two added p = (added, p.1)
-printed_ends clients again j e out outcome.Memory two added p = tt
-printed_ends clients again j e out _ two added p = absurd p
+printed_ends : (clients : Meaning) (settling : Settling) (j : List (List Entry)) (e : Entry) (out out' : Stream) (came : Outcome) (two : Two File) → IsAdded clients settling j (e ∷ []) two
+    → PrintsText (added_text e) out out' came → EntryEnds clients settling j e out out' came two
+printed_ends clients settling j e out out' outcome.Done two added p = (added, p)
+printed_ends clients settling j e out out' outcome.WriteFault two added p = (added, p.1)
+printed_ends clients settling j e out out' outcome.Memory two added p = tt
+printed_ends clients settling j e out out' _ two added p = absurd p
 
 -- what is told of a batch, for the batch of an entry
-of_entry : (clients : Meaning) (again : Bool) (o o2 : Outside) (j : List (List Entry)) (e : Entry) (batch : List Entry) (result : Result (Unit {0}) StoreFault) → batch ≡ e ∷ []
-    → ExtendsTold clients j batch (IsAdded clients again j batch) o o2 result → ExtendsTold clients j (e ∷ []) (IsAdded clients again j (e ∷ [])) o o2 result
-of_entry clients again o o2 j e batch result is told =
-    subst (λ (b : List Entry). ExtendsTold clients j b (IsAdded clients again j b) o o2 result) is told
+of_entry : (clients : Meaning) (settling : Settling) (o o2 : Outside) (j : List (List Entry)) (e : Entry) (batch : List Entry) (result : Result (Unit {0}) Outcome) → batch ≡ e ∷ []
+    → ExtendsTold clients j batch (IsAdded clients settling j batch) o o2 result → ExtendsTold clients j (e ∷ []) (IsAdded clients settling j (e ∷ [])) o o2 result
+of_entry clients settling o o2 j e batch result is told =
+    subst (λ (b : List Entry). ExtendsTold clients j b (IsAdded clients settling j b) o o2 result) is told
 
-pub entry_printed : (clients : Meaning) (again : Bool) (s : StoreValue) (e : Entry) (o o2 : Outside) (out : Flow) (text : List ℕ) (batch : List Entry) (u : Unit {0}) (came : Outcome)
+pub entry_printed : (clients : Meaning) (settling : Settling) (s : StoreValue) (e : Entry) (o o2 : Outside) (out out' : Stream) (text : List ℕ) (batch : List Entry) (u : Unit {0}) (came : Outcome)
     → batch ≡ e ∷ [] → text ≡ added_text e → DiskRun o o2
-    → ((two : Two File) → o.files ≡ Some two → (j : List (List Entry)) → Fits clients s j two → ExtendsTold clients j batch (IsAdded clients again j batch) o o2 (Ok u))
-    → PrintsText text out came → EntryAdded clients again s e o o2 out came
-entry_printed clients again s e o o2 out text batch u came is line run told printed =
-    let p : PrintsText (added_text e) out came = subst (λ (t : List ℕ). PrintsText t out came) line printed in
+    → ((two : Two File) → o.files ≡ Some two → (j : List (List Entry)) → Fits clients s j two → ExtendsTold clients j batch (IsAdded clients settling j batch) o o2 (Ok u))
+    → PrintsText text out out' came → EntryAdded clients settling s e o o2 out out' came
+entry_printed clients settling s e o o2 out out' text batch u came is line run told printed =
+    let p : PrintsText (added_text e) out out' came = subst (λ (t : List ℕ). PrintsText t out out' came) line printed in
     record {
       run = run;
-      by = printed_by o o2 out (added_text e) came p;
-      late = printed_late out (added_text e) came p;
+      by = printed_by o o2 out out' (added_text e) came p;
+      late = printed_late out out' (added_text e) came p;
       told = λ two files j fits.
-          let went = of_entry clients again o o2 j e batch (Ok u) is (told two files j fits) in
-          record { moments = went.moments; ends = λ two' files'. printed_ends clients again j e out came two' (went.ends two' files') p };
+          let went = of_entry clients settling o o2 j e batch (Ok u) is (told two files j fits) in
+          record { moments = went.moments; ends = λ two' files'. printed_ends clients settling j e out out' came two' (went.ends two' files') p };
     }
 
 -- ---- the batch was not added
 
-failed_by : (o o2 : Outside) (out : Flow) (fault : StoreFault) → IsIdle out → ExtendsBy o o2 (Err fault) → AddsBy o o2 out (came_of fault)
-failed_by o o2 out store.Full idle by = idle
-failed_by o o2 out store.DiskFault idle by = (by, idle)
-failed_by o o2 out store.Memory idle by = idle
-failed_by o o2 out store.Closed idle by = idle
+failed_by : (o o2 : Outside) (out out' : Stream) (came : Outcome) → IsIdle out out' → ExtendsBy o o2 (Err came) → AddsBy o o2 out out' came
+failed_by o o2 out out' outcome.Full idle by = idle
+failed_by o o2 out out' outcome.DiskFault idle by = (by, idle)
+failed_by o o2 out out' outcome.Memory idle by = idle
+failed_by o o2 out out' _ idle by = absurd by
 
-failed_late : (fault : StoreFault) → is_early (came_of fault) ≡ false
-failed_late store.Full = refl
-failed_late store.DiskFault = refl
-failed_late store.Memory = refl
-failed_late store.Closed = refl
+failed_late : (o o2 : Outside) (came : Outcome) → ExtendsBy o o2 (Err came) → is_late came ≡ true
+failed_late o o2 outcome.Full by = refl
+failed_late o o2 outcome.DiskFault by = refl
+failed_late o o2 outcome.Memory by = refl
+failed_late o o2 _ by = absurd by
 
-failed_ends : (clients : Meaning) (again : Bool) (j : List (List Entry)) (e : Entry) (out : Flow) (fault : StoreFault) (P : Two File → Type 0) (two : Two File)
-    → ExtendsEnds clients j (e ∷ []) P (Err fault) two → EntryEnds clients again j e out (came_of fault) two
-failed_ends clients again j e out store.Full P two ends = ends
-failed_ends clients again j e out store.DiskFault P two ends = tt
-failed_ends clients again j e out store.Memory P two ends = tt
-failed_ends clients again j e out store.Closed P two ends = tt
+failed_ends : (clients : Meaning) (settling : Settling) (o o2 : Outside) (j : List (List Entry)) (e : Entry) (out out' : Stream) (came : Outcome) (P : Two File → Type 0) (two : Two File)
+    → ExtendsBy o o2 (Err came) → ExtendsEnds clients j (e ∷ []) P (Err came) two → EntryEnds clients settling j e out out' came two
+failed_ends clients settling o o2 j e out out' outcome.Full P two by ends = ends
+failed_ends clients settling o o2 j e out out' outcome.DiskFault P two by ends = tt
+failed_ends clients settling o o2 j e out out' outcome.Memory P two by ends = tt
+failed_ends clients settling o o2 j e out out' _ P two by ends = absurd by
 
-pub entry_failed : (clients : Meaning) (again : Bool) (s : StoreValue) (e : Entry) (o o2 : Outside) (out : Flow) (batch : List Entry) (fault : StoreFault) (came : Outcome)
-    → came ≡ came_of fault → batch ≡ e ∷ [] → IsIdle out → DiskRun o o2 → ExtendsBy o o2 (Err fault)
-    → ((two : Two File) → o.files ≡ Some two → (j : List (List Entry)) → Fits clients s j two → ExtendsTold clients j batch (IsAdded clients again j batch) o o2 (Err fault))
-    → EntryAdded clients again s e o o2 out came
-entry_failed clients again s e o o2 out batch fault came how is idle run by told =
-    subst (EntryAdded clients again s e o o2 out) (sym how) (record {
-      run = run;
-      by = failed_by o o2 out fault idle by;
-      late = failed_late fault;
-      told = λ two files j fits.
-          let went = of_entry clients again o o2 j e batch (Err fault) is (told two files j fits) in
-          record { moments = went.moments; ends = λ two' files'. failed_ends clients again j e out fault (IsAdded clients again j (e ∷ [])) two' (went.ends two' files') };
-    })
+pub entry_failed : (clients : Meaning) (settling : Settling) (s : StoreValue) (e : Entry) (o o2 : Outside) (out out' : Stream) (batch : List Entry) (came : Outcome)
+    → batch ≡ e ∷ [] → IsIdle out out' → DiskRun o o2 → ExtendsBy o o2 (Err came)
+    → ((two : Two File) → o.files ≡ Some two → (j : List (List Entry)) → Fits clients s j two → ExtendsTold clients j batch (IsAdded clients settling j batch) o o2 (Err came))
+    → EntryAdded clients settling s e o o2 out out' came
+entry_failed clients settling s e o o2 out out' batch came is idle run by told = record {
+  run = run;
+  by = failed_by o o2 out out' came idle by;
+  late = failed_late o o2 came by;
+  told = λ two files j fits.
+      let went = of_entry clients settling o o2 j e batch (Err came) is (told two files j fits) in
+      record { moments = went.moments; ends = λ two' files'. failed_ends clients settling o o2 j e out out' came (IsAdded clients settling j (e ∷ [])) two' by (went.ends two' files') };
+}

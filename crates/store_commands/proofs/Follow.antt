@@ -6,7 +6,8 @@ use Rattle.std.specs.List.{list_all, list_any}
 use Rattle.std.proofs.lemmas.List.Folds.{list_any-append}
 use Rattle.std.proofs.lemmas.Bool.{and_parts}
 use borrow.Author.Tests.{ltb-true}
-use Rattle.entry_codec.specs.Allows.{is_settling_kind}
+use Rattle.sync_rules.specs.Allows.{is_settling_kind}
+use Rattle.sync_ids.specs.declared.message.TheConstants.{MAX_BODY}
 use Rattle.sync_ids.specs.Values.{GroupValue, MessageValue}
 use Rattle.sync_ids.specs.Ids.{group_id_of, message_id_of}
 use Rattle.sync_rules.specs.declared.answers.Judgement.{Judgement}
@@ -20,7 +21,7 @@ use Rattle.sync_rules.specs.Lists.{is_among, same_id}
 use Rattle.sync_rules.specs.Facts.{Facts, Held, Id, Known, after, after_all, after_batches, group_at, held_at}
 use Rattle.sync_rules.specs.Legal.{accepts_served, AllSettling, IsSettling}
 use Rattle.sync_rules.specs.Steps.{answer_of, first_or_next, first_step, is_beside, is_ended, is_failing, is_served, kind_of_def, step, step_by, step_open, verdict_in}
-use Rattle.store_commands.specs.Extending.{MayFollow}
+use Rattle.store_commands.specs.Commit.{MayFollow}
 use Rattle.sync_store.specs.Refusals.{judged_answer}
 use Rattle.store_commands.specs.Plans.{adds, refuses, body_plan, contact_plan, group_plan, level_plan, message_plan, planned, post_plan}
 
@@ -257,10 +258,10 @@ message_follows clients f m e is =
 
 body_follows : (clients : Meaning) (f : Facts) (m : MessageValue) (e : Entry) → body_plan clients f m ≡ adds e → MayAdd clients f e
 body_follows clients f m e is =
-    elim (length m.body == 0) as (λ b. (if b then refuses refused.EmptyBody else if nat_lt 32768 (length m.body) then refuses refused.BodyTooLong else message_plan clients f m) ≡ adds e → MayAdd clients f e) [
+    elim (length m.body == 0) as (λ b. (if b then refuses refused.EmptyBody else if nat_lt MAX_BODY (length m.body) then refuses refused.BodyTooLong else message_plan clients f m) ≡ adds e → MayAdd clients f e) [
       | true ↦ λ w. cc
       | false ↦ λ w.
-          elim (nat_lt 32768 (length m.body)) as (λ b. (if b then refuses refused.BodyTooLong else message_plan clients f m) ≡ adds e → MayAdd clients f e) [
+          elim (nat_lt MAX_BODY (length m.body)) as (λ b. (if b then refuses refused.BodyTooLong else message_plan clients f m) ≡ adds e → MayAdd clients f e) [
             | true ↦ λ v. cc
             | false ↦ λ v. message_follows clients f m e v
           ] w

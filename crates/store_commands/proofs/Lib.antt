@@ -1,9 +1,10 @@
-pub mod TextLemmas
 pub mod Lines
+pub mod Groups
+pub mod Passing
 pub mod Looks
 pub mod Adds
 pub mod Follow
-pub mod Entries
+pub mod EntryLemmas
 pub mod Commits
 pub mod Loads
 pub mod Posts

@@ -5,7 +5,7 @@ use Rattle.outside.specs.Files.{Two, File, read_files}
 use Rattle.outside.specs.Outside.{Outside}
 use Rattle.outside.specs.Steps.{becomes_told}
 use Rattle.frame_journal.specs.Gates.{AnyImage, Settles}
-use Rattle.store_commands.specs.Looking.{Rests}
+use Rattle.store_commands.specs.Show.{Rests}
 
 pub reads_same : (old new : Option (Two File)) (two two' : Two File) → Becomes Settles old new → old ≡ Some two → new ≡ Some two' → read_files two' ≡ read_files two
 reads_same old new two two' becomes told told' =

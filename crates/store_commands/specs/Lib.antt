@@ -1,10 +1,8 @@
-pub mod Flow
-pub mod Outcomes
 pub mod Plans
 pub mod Shown
-pub mod Looking
-pub mod Loading
-pub mod Adding
-pub mod Extending
-pub mod Beginning
-pub mod Posting
+pub mod Show
+pub mod Load
+pub mod Commit
+pub mod Entries
+pub mod Init
+pub mod Post

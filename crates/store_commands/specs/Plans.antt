@@ -1,6 +1,7 @@
 -- What a command that adds to a journal plans, by the facts of the journal as it was loaded, before it is settled: the test
 -- that refuses it, of several that fail the first in order, or the one entry that it adds. The tests are those of a store.
 use Rattle.std.specs.Prelude.{ℕ, ◌==◌, nat_lt, if◌then◌else◌, length, is_some, Result, Ok, Err}
+use Rattle.sync_ids.specs.declared.message.TheConstants.{MAX_BODY}
 use Rattle.sync_ids.specs.Values.{GroupValue, MessageValue}
 use Rattle.sync_rules.specs.declared.entries.Entry.{Entry}
 use Rattle.sync_rules.specs.declared.entries.Entry.TheVariants as entry
@@ -37,11 +38,11 @@ level_plan f contact group l = planned (λ (u : Unit {0}). entry.Level contact g
 abbrev pub message_plan : Meaning → Facts → MessageValue → Plan
 message_plan clients f m = planned (λ (id : Id). entry.Author m) (post_answer clients f m)
 
--- a body of a known group, of 1 to 32,768 bytes
+-- a body of a known group, of 1 to MAX_BODY bytes
 abbrev pub body_plan : Meaning → Facts → MessageValue → Plan
 body_plan clients f m =
     if length m.body == 0 then refuses refused.EmptyBody
-    else if nat_lt 32768 (length m.body) then refuses refused.BodyTooLong
+    else if nat_lt MAX_BODY (length m.body) then refuses refused.BodyTooLong
     else message_plan clients f m
 
 -- `post`: the group is known before the body is read

@@ -8,8 +8,11 @@ use Rattle.sync_rules.specs.declared.entries.Level.{Level}
 use Rattle.sync_rules.specs.declared.entries.Level.TheVariants as level
 use Rattle.sync_rules.specs.declared.states.Refused.{Refused}
 use Rattle.sync_rules.specs.declared.states.Refused.TheVariants as refused
+use Rattle.sync_rules.specs.declared.limits.TheConstants.{MAX_CONTACTS}
 use Rattle.sync_rules.specs.Facts.{Facts, Held, Id, Known, held_at, level_at}
 use Rattle.sync_rules.specs.Steps.{fate_held}
+use Rattle.store_commands.specs.declared.listing.Listing.{Listing}
+use Rattle.store_commands.specs.declared.listing.Listing.TheVariants as listing
 use Rattle.sync_words.specs.EntryTexts.{contact_text, group_text, posted_text, set_level_text}
 use Rattle.sync_words.specs.HeldTexts.{contacts_text, inbox_text, known_group_text, message_state_text, sessions_text}
 
@@ -49,13 +52,13 @@ levels_below f (suc n) = levels_below f n ++ contact_levels f n
 abbrev pub message_line : Facts → Held → List ℕ
 message_line f h = message_state_text h.id h.message.group (fate_held f h.id)
 
--- All that `show` prints: the contacts, the groups, the levels, the messages in order of arrival, the sessions. A contact's
--- number is below 256, and a legal journal has no more contacts.
+-- All that `show` prints: the contacts, the groups, the levels, the messages in order of arrival, the number of sessions
+-- begun. A legal journal has no more than MAX_CONTACTS contacts.
 abbrev pub show_text : Facts → List ℕ
 show_text f =
     contacts_text f.contacts
     ++ (flat_map group_line f.groups
-    ++ (levels_below f (min 256 f.contacts) ++ (flat_map (message_line f) f.held ++ sessions_text (length f.sessions))))
+    ++ (levels_below f (min MAX_CONTACTS f.contacts) ++ (flat_map (message_line f) f.held ++ sessions_text (f.begun))))
 
 -- ---- `inbox`
 
@@ -74,11 +77,13 @@ pub data Showing : Type 0 where
   denies : Refused → Showing
   shows : List ℕ → Showing
 
-abbrev pub show_shown : Facts → Showing
-show_shown f = shows (show_text f)
+-- what a listing prints
+abbrev pub listing_text : Listing → Facts → List ℕ
+listing_text listing.Store f = show_text f
+listing_text listing.Inbox f = inbox_of f
 
-abbrev pub inbox_shown : Facts → Showing
-inbox_shown f = shows (inbox_of f)
+abbrev pub listing_shown : Listing → Facts → Showing
+listing_shown what f = shows (listing_text what f)
 
 -- `body`: the bytes of the body as they are, of a message that is held
 abbrev pub body_of : Option Held → Showing

@@ -1,20 +1,25 @@
 //! The commands of a store: what each does to its files, what it prints, and what it comes to.
+//!
+//! - `init`, `entries`, `post`, `show`: the commands, a file for each kind.
+//! - `load`: a store that is loaded, or what the command comes to without one.
+//! - `plans`: the tests of a command over the loaded journal, and the entry that it plans.
+//! - `commit`: settling, a batch, and settling again, with the answers of a store as outcomes.
+//! - `listing`, `print`: what is printed of a store, and how it goes out.
 #![tactic(auto)]
 
-mod adding;
-mod beginning;
-mod extending;
+mod commit;
+mod entries;
+mod init;
 mod listing;
-mod loading;
-mod looking;
-mod outcome;
-mod planning;
-mod posting;
-mod text;
+mod load;
+mod plans;
+mod post;
+mod print;
+mod show;
 
-pub use adding::{add_contact, add_group, set_level};
-pub use beginning::make_store;
-pub use looking::{list_inbox, show, write_body};
-pub use outcome::Outcome;
-pub use posting::post_message;
-pub use text::write_text;
+pub use commit::Settling;
+pub use entries::{add_contact, add_group, set_level};
+pub use init::make_store;
+pub use listing::Listing;
+pub use post::post_message;
+pub use show::{list, write_body};

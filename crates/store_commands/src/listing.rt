@@ -6,17 +6,42 @@ ghost use Rattle.std.specs.String.{string_bytes};
 ghost use Rattle.sync_rules.specs.Facts.{Held, Id, Known, held_at};
 ghost use Rattle.store_commands.specs.Shown.{contact_levels, delivered_line, group_level};
 ghost use Rattle.store_commands.specs.Shown.{group_line, inbox_of, level_line, levels_below};
-ghost use Rattle.store_commands.specs.Shown.{message_line, show_text};
+ghost use Rattle.store_commands.specs.Shown.{listing_text, message_line, show_text};
 
 use std::alloc::{AllocError, Global};
-use sync_rules::{Level, View};
+use sync_rules::{Level, MAX_CONTACTS, View};
 use sync_store::Store;
 use sync_words::{
     contacts_line, inbox_line, known_group_line, level_line, sessions_line, state_line,
 };
 
-/// All that `show` prints.
-pub fn add_show(alloc: Global, store: &Store, to: &mut String) -> Result<(), AllocError>
+/// A listing of a store.
+#[derive(Clone, Copy, Debug, PartialEq, Eq)]
+pub enum Listing {
+    /// `show`: contacts, groups, levels, messages with their states, and the number of sessions.
+    Store,
+    /// `inbox`: the delivered messages in the order of their delivery.
+    Inbox,
+}
+
+/// All that a listing prints.
+pub fn add_listing(
+    alloc: Global,
+    store: &Store,
+    listing: Listing,
+    to: &mut String,
+) -> Result<(), AllocError>
+    ensures { OnOk result (string_bytes to.new ≡ string_bytes to.old ++ listing_text listing
+        store.now.state.facts) }
+{
+    match listing {
+        Listing::Store => add_show(alloc, store, to),
+        Listing::Inbox => add_inbox(alloc, store, to),
+    }
+}
+
+// All that `show` prints.
+fn add_show(alloc: Global, store: &Store, to: &mut String) -> Result<(), AllocError>
     ensures { OnOk result (string_bytes to.new ≡ string_bytes to.old ++ show_text
         store.now.state.facts) }
 {
@@ -50,9 +75,9 @@ fn add_group(alloc: Global, store: &Store, n: u32, to: &mut String) -> Result<()
 // The levels that are not Invisible.
 fn add_levels(alloc: Global, store: &Store, to: &mut String) -> Result<(), AllocError>
     ensures { OnOk result (string_bytes to.new ≡ string_bytes to.old ++ levels_below
-        store.now.state.facts (min 256 store.now.state.facts.contacts)) }
+        store.now.state.facts (min MAX_CONTACTS store.now.state.facts.contacts)) }
 {
-    'contacts: for contact in 0..store.contacts().min(256) {
+    'contacts: for contact in 0..store.contacts().min(MAX_CONTACTS as u32) {
         add_contact_levels(alloc, store, contact as u8, to)?;
     }
     Ok(())
@@ -115,8 +140,8 @@ fn add_message(alloc: Global, store: &Store, n: u32, to: &mut String) -> Result<
     state_line(alloc, &id, &group, store.fate(n), to)
 }
 
-/// All that `inbox` prints.
-pub fn add_inbox(alloc: Global, store: &Store, to: &mut String) -> Result<(), AllocError>
+// All that `inbox` prints.
+fn add_inbox(alloc: Global, store: &Store, to: &mut String) -> Result<(), AllocError>
     ensures { OnOk result (string_bytes to.new ≡ string_bytes to.old ++ inbox_of
         store.now.state.facts) }
 {

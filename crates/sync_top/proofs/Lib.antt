@@ -1,3 +1,5 @@
-pub mod PieceLemmas
+pub mod InputLemmas
+pub mod PlayLemmas
 pub mod StreamLemmas
 pub mod StateLemmas
+pub mod UndamagedLemmas

@@ -1,11 +1,14 @@
--- Where `try` wrote its whole text, it told the state of each message.
-use Rattle.std.proofs.Common.{◌≡◌, false, ℕ, List, refl, sym, ap, ◌∙◌, subst, inl, inr, Option, Some, None}
+-- Where `try` wrote its whole text, it told the state of each message; and what words come to that could not be obeyed.
+use Rattle.std.proofs.Common.{◌≡◌, ℕ, List, refl, sym, ap, ◌∙◌, subst, inl, inr, Option, Some, None, Result, Ok, Err}
+use Rattle.std.specs.Prelude.{IsErrAnd}
 use Rattle.std.specs.Io.KnownBytes.{Appends}
 use Rattle.std.proofs.lemmas.List.{take_all}
 use Rattle.outside.specs.Files.{read_files}
 use Rattle.outside.specs.Outside.{Outside}
 use Rattle.outside.specs.Steps.{looks_none, run_none}
+use Rattle.outside.specs.Streams.{Stream, IsIdle}
 use Rattle.record_grammar.specs.Stream.{items, records, records_of}
+use Rattle.record_grammar.specs.declared.stream.Item.{Item}
 use Rattle.journal_play.specs.Fates.{SaysFates}
 use Rattle.journal_play.specs.Playing.{IsTextOf}
 use Rattle.sync_ids.specs.Ids.{group_id_of}
@@ -13,28 +16,29 @@ use Rattle.sync_ids.specs.Values.{GroupValue}
 use Rattle.sync_ids.specs.declared.records.Record.{Record}
 use Rattle.sync_rules.specs.Clients.{Meaning}
 use Rattle.sync_rules.specs.Steps.{kind_of_def}
-use Rattle.sync_top.specs.declared.outcome.Outcome.{Outcome}
-use Rattle.sync_top.specs.declared.outcome.Outcome.TheVariants as outcome
+use Rattle.sync_words.specs.declared.outcome.Outcome.{Outcome}
+use Rattle.sync_words.specs.declared.outcome.Outcome.TheVariants as outcome
 use Rattle.sync_words.specs.declared.status.Status.{Status}
-use Rattle.store_commands.specs.Flow.{Flow, IsIdle}
-use Rattle.sync_top.specs.Flow.{limit}
-use Rattle.sync_top.specs.Outcomes.{status_of}
-use Rattle.sync_top.specs.Run.{Comes, DoesNothing, KeepsHost, Reports, ReadsStream, ReadsWhole, TriesClient}
-use Rattle.sync_top.specs.States.{TellsStates, TellsGroup, TellsWhole}
-use Rattle.sync_words.specs.Reading.{Asked}
+use Rattle.sync_words.specs.Outcomes.{came_to, status_of, words_came}
+use Rattle.sync_words.specs.Reading.{Asked, IsReadAs}
 use Rattle.sync_words.specs.Reading.Asked.{Usage, Do}
 use Rattle.sync_words.specs.declared.command.Command.{Command}
 use Rattle.sync_words.specs.declared.command.Command.TheVariants as command
-use Rattle.store_commands.specs.declared.outcome.Outcome.{Outcome as StoreOutcome}
-use Rattle.store_commands.specs.Adding.{HasAdded}
+use Rattle.sync_words.specs.declared.command.WordsFault.{WordsFault}
+use Rattle.sync_words.specs.declared.command.WordsFault.TheVariants as fault
+use Rattle.store_commands.specs.declared.commit.Settling.TheVariants as settling
+use Rattle.store_commands.specs.Entries.{HasAdded}
 use Rattle.store_commands.specs.Plans.{group_plan}
+use Rattle.sync_top.specs.declared.input.TheConstants.{MAX_INPUT}
+use Rattle.sync_top.specs.Run.{Comes, DoesNothing, KeepsHost, Reports, ReadsStream, ReadsWhole, Streams, TriesClient}
+use Rattle.sync_top.specs.States.{TellsStates, TellsGroup, TellsWhole}
 
 module _ (law : (clients : Meaning) (kind : ℕ) (def : GroupValue) (records : List Record) (text : List ℕ)
     → kind_of_def clients def ≡ Some kind → IsTextOf clients def records text → SaysFates clients kind (group_id_of def) records text)
-    (clients : Meaning) (input out : Flow) where
+    (clients : Meaning) (input input' out out' : Stream) where
   whole_states : (kind : ℕ) (def : GroupValue) (came : Outcome) → kind_of_def clients def ≡ Some kind
-      → (r : ReadsStream (λ some text. IsTextOf clients def (records_of some) text) input out came)
-      → ReadsWhole input r.read → Appends out.before out.after r.text → TellsStates clients kind def input out
+      → (r : ReadsStream (λ some text. IsTextOf clients def (records_of some) text) input input' out out' came)
+      → ReadsWhole input input' r.read → Appends out.bytes out'.bytes r.text → TellsStates clients kind def input input' out out'
   whole_states kind def came known r whole written = record {
     read = r.read;
     text = r.text;
@@ -42,50 +46,45 @@ module _ (law : (clients : Meaning) (kind : ℕ) (def : GroupValue) (records : L
     whole = whole;
     says =
         law clients kind def (records r.read) r.text known
-        (subst (λ (bytes : List ℕ). IsTextOf clients def (records_of (items 0 bytes)) r.text) (take_all limit r.read whole.within) r.text_is);
+        (subst (λ (bytes : List ℕ). IsTextOf clients def (records_of (items 0 bytes)) r.text) (take_all MAX_INPUT r.read whole.within) r.text_is);
     written = written;
   }
 
   abbrev Tells : (name descriptor : List ℕ) → Outcome → Type 0
-  Tells name descriptor came = TellsWhole clients (Do (command.Try name descriptor)) input out (status_of came)
+  Tells name descriptor came = TellsWhole clients (Do (command.Try name descriptor)) input input' out out' (status_of came)
 
   group_states : (name descriptor : List ℕ) (o : Option ℕ) (came : Outcome) → clients.kind_of name 0 ≡ o
-      → TriesClient clients name descriptor o input out came → Tells name descriptor came
+      → TriesClient clients name descriptor o input input' out out' came → Tells name descriptor came
   group_states name descriptor None outcome.Done known tries = absurd tries
   group_states name descriptor None (outcome.Bad place why) known tries = absurd tries
   group_states name descriptor None (outcome.Inside place) known tries = absurd tries
-  group_states name descriptor None (outcome.OfStore did) known tries = absurd tries
-  group_states name descriptor (Some kind) (outcome.OfStore did) known tries = absurd tries.ended
+  group_states name descriptor None (outcome.Links ends) known tries = absurd tries
+  group_states name descriptor None _ known tries = tt
   group_states name descriptor (Some kind) outcome.Done known tries =
-      subst (λ o. TellsGroup clients name descriptor o input out) (sym known)
+      subst (λ o. TellsGroup clients name descriptor o input input' out out') (sym known)
       (whole_states kind (record { name = name; major = 0; descriptor = descriptor }) outcome.Done known tries tries.ended.0 tries.ended.2)
   group_states name descriptor (Some kind) (outcome.Bad place why) known tries =
-      subst (λ o. TellsGroup clients name descriptor o input out) (sym known)
+      subst (λ o. TellsGroup clients name descriptor o input input' out out') (sym known)
       (whole_states kind (record { name = name; major = 0; descriptor = descriptor }) (outcome.Bad place why) known tries tries.ended.0 tries.ended.2)
   group_states name descriptor (Some kind) (outcome.Inside place) known tries =
-      subst (λ o. TellsGroup clients name descriptor o input out) (sym known)
+      subst (λ o. TellsGroup clients name descriptor o input input' out out') (sym known)
       (whole_states kind (record { name = name; major = 0; descriptor = descriptor }) (outcome.Inside place) known tries tries.ended.0 tries.ended.2)
-  group_states name descriptor o (outcome.Usage place) known tries = tt
-  group_states name descriptor o outcome.UnknownClient known tries = tt
-  group_states name descriptor o outcome.ReadFault known tries = tt
-  group_states name descriptor o outcome.Memory known tries = tt
-  group_states name descriptor o outcome.WriteFault known tries = tt
-  group_states name descriptor o outcome.TooMuch known tries = tt
+  group_states name descriptor (Some kind) (outcome.Links ends) known tries = absurd tries.ended
+  group_states name descriptor (Some kind) _ known tries = tt
 
-  pub tells : (words : Asked) (old new : Outside) (err : Flow) (came : Outcome) (given : Status) → Comes clients words old new input out came → Reports came err given
-      → TellsWhole clients words input out given
-  tells (Usage place) old new err came given comes reports = tt
-  tells (Do (command.Try name descriptor)) old new err came given comes (inl told) =
-      subst (TellsWhole clients (Do (command.Try name descriptor)) input out) (sym told.0) (group_states name descriptor (clients.kind_of name 0) came refl comes)
-  tells (Do (command.Try name descriptor)) old new err came given comes (inr memory) =
-      subst (TellsWhole clients (Do (command.Try name descriptor)) input out) (sym memory.0) tt
-  tells (Do _) old new err came given comes reports = tt
+  pub tells : (words : Asked) (old new : Outside) (err err' : Stream) (came : Outcome) (given : Status) → Comes clients words old new input input' out out' came → Reports came err err' given
+      → TellsWhole clients words input input' out out' given
+  tells (Usage place) old new err err' came given comes reports = tt
+  tells (Do (command.Try name descriptor)) old new err err' came given comes reports =
+      subst (TellsWhole clients (Do (command.Try name descriptor)) input input' out out') (sym reports.0)
+      (group_states name descriptor (clients.kind_of name 0) came refl comes)
+  tells (Do _) old new err err' came given comes reports = tt
 
 -- ---- memory
 
 -- no call was made
-pub does_nothing : (o : Outside) (input out : Flow) → IsIdle input → IsIdle out → DoesNothing o o input out
-does_nothing o input out idle quiet = record {
+does_nothing : (o : Outside) (input input' out out' : Stream) → IsIdle input input' → IsIdle out out' → DoesNothing o o input input' out out'
+does_nothing o input input' out out' idle quiet = record {
   run = run_none o;
   rests = λ two told. record {
     moments = (looks_none o).moments two told;
@@ -94,24 +93,26 @@ does_nothing o input out idle quiet = record {
   untouched = (idle, quiet);
 }
 
-tries_memory : (clients : Meaning) (name descriptor : List ℕ) (o : Option ℕ) (input out : Flow) → IsIdle out
-    → TriesClient clients name descriptor o input out outcome.Memory
-tries_memory clients name descriptor None input out idle = idle
-tries_memory clients name descriptor (Some kind) input out idle = idle
+pub tries_memory : (clients : Meaning) (name descriptor : List ℕ) (o : Option ℕ) (input input' out out' : Stream) → IsIdle out out'
+    → TriesClient clients name descriptor o input input' out out' outcome.Memory
+tries_memory clients name descriptor None input input' out out' idle = idle
+tries_memory clients name descriptor (Some kind) input input' out out' idle = idle
 
 -- memory may be wanting for any words
-pub memory_comes : (clients : Meaning) (words : Asked) (o : Outside) (input out : Flow) → IsIdle input → IsIdle out → Comes clients words o o input out outcome.Memory
-memory_comes clients (Usage place) o input out idle quiet = quiet
-memory_comes clients (Do (command.Try name descriptor)) o input out idle quiet = tries_memory clients name descriptor (clients.kind_of name 0) input out quiet
-memory_comes clients (Do command.Records) o input out idle quiet = quiet
-memory_comes clients (Do command.Init) o input out idle quiet = does_nothing o input out idle quiet
-memory_comes clients (Do command.Contact) o input out idle quiet = does_nothing o input out idle quiet
-memory_comes clients (Do (command.Group name major descriptor)) o input out idle quiet = does_nothing o input out idle quiet
-memory_comes clients (Do (command.Share contact group level)) o input out idle quiet = does_nothing o input out idle quiet
-memory_comes clients (Do (command.Post group timestamp)) o input out idle quiet = does_nothing o input out idle quiet
-memory_comes clients (Do command.Show) o input out idle quiet = does_nothing o input out idle quiet
-memory_comes clients (Do command.Inbox) o input out idle quiet = does_nothing o input out idle quiet
-memory_comes clients (Do (command.Body id)) o input out idle quiet = does_nothing o input out idle quiet
+pub memory_comes : (clients : Meaning) (words : Asked) (o : Outside) (input input' out out' : Stream) → IsIdle input input' → IsIdle out out'
+    → Comes clients words o o input input' out out' outcome.Memory
+memory_comes clients (Usage place) o input input' out out' idle quiet = quiet
+memory_comes clients (Do (command.Try name descriptor)) o input input' out out' idle quiet =
+    tries_memory clients name descriptor (clients.kind_of name 0) input input' out out' quiet
+memory_comes clients (Do command.Records) o input input' out out' idle quiet = quiet
+memory_comes clients (Do _) o input input' out out' idle quiet = inr (refl, does_nothing o input input' out out' idle quiet)
+
+-- words that were not read come to their place, or memory was wanting
+pub words_come : (clients : Meaning) (words : Asked) (o : Outside) (input input' out out' : Stream) (e : WordsFault) → IsReadAs words (Err e) → IsIdle input input' → IsIdle out out'
+    → Comes clients words o o input input' out out' (words_came e)
+words_come clients words o input input' out out' (fault.Usage place) is idle quiet =
+    subst (λ (a : Asked). Comes clients a o o input input' out out' (outcome.Usage place)) (sym is) (refl, (idle, quiet))
+words_come clients words o input input' out out' fault.Memory is idle quiet = memory_comes clients words o input input' out out' idle quiet
 
 -- a host that nothing was done to is as before
 pub keeps_host : {H : Type 0} (words : Asked) (host : H) → KeepsHost words host host
@@ -123,13 +124,46 @@ keeps_host (Do _) host = tt
 -- ---- a group
 
 -- a group was added, of the definition that the words give
-pub group_comes : (clients : Meaning) (asked : Command) (name descriptor given rest : List ℕ) (major : ℕ) (def : GroupValue) (old new : Outside) (input out : Flow) (did : StoreOutcome)
+pub group_comes : (clients : Meaning) (asked : Command) (name descriptor given rest : List ℕ) (major : ℕ) (def : GroupValue) (old new : Outside) (input input' out out' : Stream) (came : Outcome)
     → asked ≡ command.Group name major descriptor → given ≡ name → rest ≡ descriptor → def ≡ record { name = given; major = major; descriptor = rest }
-    → HasAdded clients (λ f. group_plan clients f def) false old new out did → IsIdle input → Comes clients (Do asked) old new input out (outcome.OfStore did)
-group_comes clients asked name descriptor given rest major def old new input out did is first second made added idle =
+    → HasAdded clients (λ f. group_plan clients f def) settling.Before old new out out' came → IsIdle input input' → Comes clients (Do asked) old new input input' out out' came
+group_comes clients asked name descriptor given rest major def old new input input' out out' came is first second made added idle =
     let words : def ≡ record { name = name; major = major; descriptor = descriptor } =
     let with_name : List ℕ → GroupValue = λ x. record { name = x; major = major; descriptor = rest } in
     let with_descriptor : List ℕ → GroupValue = λ x. record { name = name; major = major; descriptor = x } in
     made ∙ ap with_name first ∙ ap with_descriptor second in
-    subst (λ (a : Command). Comes clients (Do a) old new input out (outcome.OfStore did)) (sym is)
-    (subst (λ (d : GroupValue). HasAdded clients (λ f. group_plan clients f d) false old new out did) words added, idle)
+    subst (λ (a : Command). Comes clients (Do a) old new input input' out out' came) (sym is)
+    (inl (subst (λ (d : GroupValue). HasAdded clients (λ f. group_plan clients f d) settling.Before old new out out' came) words added, idle))
+
+-- ---- answers of commands
+
+-- what holds of a command holds of one that is it
+pub as_command : (clients : Meaning) (asked is : Command) (old new : Outside) (input input' out out' : Stream) (came : Outcome) → asked ≡ is
+    → Comes clients (Do is) old new input input' out out' came → Comes clients (Do asked) old new input input' out out' came
+as_command clients asked is old new input input' out out' came same comes =
+    subst (λ (a : Command). Comes clients (Do a) old new input input' out out' came) (sym same) comes
+
+-- the outcome that was reported is that of the command
+pub reports_as : (came came' : Outcome) (err err' : Stream) (given : Status) → came ≡ came' → Reports came err err' given → Reports came' err err' given
+reports_as came came' err err' given same reports = subst (λ (o : Outcome). Reports o err err' given) same reports
+
+-- what goes on by `?`
+passed : (P : Outcome → Type 0) (r : Result (Unit {0}) Outcome) (x : Outcome) → IsErrAnd r (λ e. e ≡ x) → P x → P (came_to r)
+passed P (Ok u) x is h = absurd is
+passed P (Err e) x is h = subst P (sym is) h
+
+module _ (r : Result (Unit {0}) Outcome) (x : Outcome) (is : IsErrAnd r (λ e. e ≡ x)) where
+  pub came_on : came_to r ≡ x
+  came_on = passed (λ (came : Outcome). came ≡ x) r x is refl
+
+  pub comes_on : (clients : Meaning) (words : Asked) (old new : Outside) (input input' out out' : Stream) → Comes clients words old new input input' out out' x
+      → Comes clients words old new input input' out out' (came_to r)
+  comes_on clients words old new input input' out out' = passed (λ (came : Outcome). Comes clients words old new input input' out out' came) r x is
+
+  pub streams_on : (told : List Item → List ℕ → Type 0) (input input' out out' : Stream) → Streams told input input' out out' x → Streams told input input' out out' (came_to r)
+  streams_on told input input' out out' = passed (λ (came : Outcome). Streams told input input' out out' came) r x is
+
+  pub tries_on : (clients : Meaning) (name descriptor : List ℕ) (o : Option ℕ) (input input' out out' : Stream) → TriesClient clients name descriptor o input input' out out' x
+      → TriesClient clients name descriptor o input input' out out' (came_to r)
+  tries_on clients name descriptor o input input' out out' =
+      passed (λ (came : Outcome). TriesClient clients name descriptor o input input' out out' came) r x is

@@ -1,6 +1,7 @@
-pub mod Outcomes
-pub mod Flow
-pub mod Pieces
+pub mod Reasons
+pub mod RecordText
+pub mod Input
+pub mod Plays
 pub mod Run
 pub mod States
-pub mod RecordText
+pub mod Undamaged

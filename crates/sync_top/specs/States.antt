@@ -9,7 +9,7 @@ use Rattle.sync_ids.specs.Values.{GroupValue}
 use Rattle.sync_rules.specs.Clients.{Meaning}
 use Rattle.sync_words.specs.declared.status.Status.{Status}
 use Rattle.sync_words.specs.declared.status.Status.TheVariants as status
-use Rattle.store_commands.specs.Flow.{Flow}
+use Rattle.outside.specs.Streams.{Stream}
 use Rattle.sync_top.specs.Run.{ReadsWhole}
 use Rattle.sync_words.specs.Reading.{Asked}
 use Rattle.sync_words.specs.Reading.Asked.{Usage, Do}
@@ -17,22 +17,22 @@ use Rattle.sync_words.specs.declared.command.Command.TheVariants as command
 
 -- the input was read to its end, and the output got a text that says the state of each message which the records of the
 -- bytes read bring to the group, whose client has this kind
-pub record TellsStates (clients : Meaning) (kind : ℕ) (def : GroupValue) (input out : Flow) : Type 0 where
+pub record TellsStates (clients : Meaning) (kind : ℕ) (def : GroupValue) (input input' out out' : Stream) : Type 0 where
   pub read : List ℕ
   pub text : List ℕ
-  pub consumed : Consumes input.before input.after read
-  pub whole : ReadsWhole input read
+  pub consumed : Consumes input.bytes input'.bytes read
+  pub whole : ReadsWhole input input' read
   pub says : SaysFates clients kind (group_id_of def) (records read) text
-  pub written : Appends out.before out.after text
+  pub written : Appends out.bytes out'.bytes text
 
 -- the client of the name is known, and the states in the group of this descriptor are told
-abbrev pub TellsGroup : Meaning → (name descriptor : List ℕ) → Option ℕ → (input out : Flow) → Type 0
-TellsGroup clients name descriptor None input out = ⊥
-TellsGroup clients name descriptor (Some kind) input out =
-    TellsStates clients kind (record { name = name; major = 0; descriptor = descriptor }) input out
+abbrev pub TellsGroup : Meaning → (name descriptor : List ℕ) → Option ℕ → (input input' out out' : Stream) → Type 0
+TellsGroup clients name descriptor None input input' out out' = ⊥
+TellsGroup clients name descriptor (Some kind) input input' out out' =
+    TellsStates clients kind (record { name = name; major = 0; descriptor = descriptor }) input input' out out'
 
 -- `try` tells the states where it answers that all was done or that the input is no stream of records
-abbrev pub TellsWhole : Meaning → Asked → (input out : Flow) → Status → Type 0
-TellsWhole clients (Do (command.Try name descriptor)) input out status.Done = TellsGroup clients name descriptor (clients.kind_of name 0) input out
-TellsWhole clients (Do (command.Try name descriptor)) input out status.BadStream = TellsGroup clients name descriptor (clients.kind_of name 0) input out
-TellsWhole clients words input out given = Unit {0}
+abbrev pub TellsWhole : Meaning → Asked → (input input' out out' : Stream) → Status → Type 0
+TellsWhole clients (Do (command.Try name descriptor)) input input' out out' status.Done = TellsGroup clients name descriptor (clients.kind_of name 0) input input' out out'
+TellsWhole clients (Do (command.Try name descriptor)) input input' out out' status.BadStream = TellsGroup clients name descriptor (clients.kind_of name 0) input input' out out'
+TellsWhole clients words input input' out out' given = Unit {0}

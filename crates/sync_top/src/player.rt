@@ -1,12 +1,13 @@
 // A journal that is played as its records are heard.
-ghost use Rattle.std.specs.Prelude.{◌≡◌, [], ◌∷◌};
+ghost use Rattle.std.specs.Prelude.{◌≡◌, [], ◌∷◌, ◌++◌, List};
 ghost use Rattle.std.specs.Option.{option_to_list};
 ghost use Rattle.record_grammar.specs.Stream.{records_of};
+ghost use Rattle.sync_ids.specs.Values.{GroupValue};
+ghost use Rattle.sync_ids.specs.declared.records.Record.{Record};
 ghost use Rattle.journal_play.specs.Playing.{HasPlayed};
 
-use crate::listener::Listener;
 use journal_play::Play;
-use record_grammar::Item;
+use record_stream::{Item, Listener};
 use std::alloc::{AllocError, Global};
 use sync_ids::Record;
 use sync_rules::Clients;
@@ -19,8 +20,12 @@ pub struct Player<'a, C: Clients> {
 }
 
 impl<'a, C: Clients> Listener for Player<'a, C> {
-    ghost heard = { λ p subject items. (C.meaning p.clients.now ≡ subject.0)
-        × HasPlayed (C.meaning p.clients.now) subject.1 (records_of items) p.play };
+    ghost use Rattle.sync_top.specs.Plays.{Plays, plays_nothing};
+
+    ghost heard = { λ first items now. Plays (C.meaning first.clients.now) first.play items
+        (C.meaning now.clients.now) now.play };
+
+    ghost heard_nothing = { λ p. plays_nothing (C.meaning p.clients.now) p.play };
 
     fn hear(&mut self, alloc: Global, item: Item) -> Result<(), AllocError> {
         let Some(record) = record_in(item) else {

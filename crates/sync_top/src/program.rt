@@ -1,28 +1,30 @@
 // A command from its words to its status.
 ghost use Rattle.std.specs.Prelude.{◌≡◌};
-ghost use Rattle.store_commands.specs.Flow.{Flow};
 ghost use Rattle.sync_top.specs.Run.{Comes, KeepsHost, Ran, Reports};
 ghost use Rattle.sync_top.specs.States.{TellsWhole};
+ghost use Rattle.sync_top.specs.Undamaged.{Undamaged};
+ghost use Rattle.sync_words.specs.Outcomes.{came_to};
 ghost use Rattle.sync_words.specs.Reading.{asks, IsWithin, texts};
 ghost use Rattle.sync_words.specs.Reading.Asked.{Do};
 
-use crate::outcome::Outcome;
 use crate::streams::{group_of, list_records, try_group};
 use journal_play::play_says;
-use outside::{Host, Sink, Source};
+use outside::{Host, Sink, Source, write_text};
 use std::alloc::Global;
+use std::hash::RandomState;
 use store_commands::{
-    add_contact, add_group, list_inbox, make_store, post_message, set_level, show, write_body,
-    write_text,
+    Listing, add_contact, add_group, list, make_store, post_message, set_level, write_body,
 };
 use sync_rules::Clients;
-use sync_words::{Command, Status, WordsFault, read_words};
+use sync_words::{Command, Outcome, Status, read_words};
 
 /// Runs the command that the words ask for: it reads `input`, writes its text to `out` and its
 /// line, if it has one, to `err`, and says what it came to. The words are those after the program's
-/// name. A failing `err` never changes the status.
+/// name; `hasher` is for the tables whose keys a stranger chooses. A failing `err` never changes
+/// the status.
 pub fn run<H: Host, S: Source, W: Sink, E: Sink, C: Clients>(
     alloc: Global,
+    hasher: RandomState,
     words: &[String],
     host: &mut H,
     input: &mut S,
@@ -31,119 +33,58 @@ pub fn run<H: Host, S: Source, W: Sink, E: Sink, C: Clients>(
     clients: &C,
 ) -> Status
     ensures ran { Ran (C.meaning clients.now) (asks (texts words.now)) (H.tells host.old)
-        (H.tells host.new)
-        (record {
-          before = S.left input.old;
-          after = S.left input.new;
-          faults = S.source_faults
-              input.old;
-          faults' = S.source_faults input.new;
-        })
-        (record {
-          before = W.written out.old;
-          after = W.written out.new;
-          faults = W.sink_faults
-              out.old;
-          faults' = W.sink_faults out.new;
-        })
-        (record {
-          before = E.written err.old;
-          after = E.written err.new;
-          faults = E.sink_faults
-              err.old;
-          faults' = E.sink_faults err.new;
-        })
-        result }
-    ensures states { TellsWhole (C.meaning clients.now) (asks (texts words.now))
-        (record {
-          before = S.left input.old;
-          after = S.left input.new;
-          faults = S.source_faults
-              input.old;
-          faults' = S.source_faults input.new;
-        })
-        (record {
-          before = W.written out.old;
-          after = W.written out.new;
-          faults = W.sink_faults
-              out.old;
-          faults' = W.sink_faults out.new;
-        })
-        result }
+        (H.tells host.new) (S.tells input.old) (S.tells input.new) (W.tells out.old)
+        (W.tells out.new) (E.tells err.old) (E.tells err.new) result }
+    ensures states { TellsWhole (C.meaning clients.now) (asks (texts words.now)) (S.tells input.old)
+        (S.tells input.new) (W.tells out.old) (W.tells out.new) result }
     ensures host { KeepsHost (asks (texts words.now)) host.old host.new }
+    ensures undamaged { Undamaged (C.meaning clients.now) (H.tells host.old) (H.tells host.new) }
 {
     // The law that the clause on the states rests on.
     play_says();
-    let outcome = command(alloc, words, host, input, out, clients);
-    report(alloc, outcome, err)
+    let outcome = Outcome::of(command(alloc, hasher, words, host, input, out, clients));
+    report(&outcome, err)
 }
 
 // Does what the words ask for.
 fn command<H: Host, S: Source, W: Sink, C: Clients>(
     alloc: Global,
+    hasher: RandomState,
     words: &[String],
     host: &mut H,
     input: &mut S,
     out: &mut W,
     clients: &C,
-) -> Outcome
+) -> Result<(), Outcome>
     ensures comes { Comes (C.meaning clients.now) (asks (texts words.now)) (H.tells host.old)
-        (H.tells host.new)
-        (record {
-          before = S.left input.old;
-          after = S.left input.new;
-          faults = S.source_faults
-              input.old;
-          faults' = S.source_faults input.new;
-        })
-        (record {
-          before = W.written out.old;
-          after = W.written out.new;
-          faults = W.sink_faults
-              out.old;
-          faults' = W.sink_faults out.new;
-        })
-        result }
+        (H.tells host.new) (S.tells input.old) (S.tells input.new) (W.tells out.old)
+        (W.tells out.new) (came_to result) }
     ensures host { KeepsHost (asks (texts words.now)) host.old host.new }
 {
-    match read_words(alloc, words) {
-        Ok(asked) => obey(alloc, asked, host, input, out, clients),
-        Err(WordsFault::Usage(place)) => Outcome::Usage(place),
-        Err(WordsFault::Memory) => Outcome::Memory,
-    }
+    let asked = read_words(alloc, words)?;
+    obey(alloc, hasher, asked, host, input, out, clients)
 }
 
 // Does what a command says.
 fn obey<H: Host, S: Source, W: Sink, C: Clients>(
     alloc: Global,
+    hasher: RandomState,
     asked: Command,
     host: &mut H,
     input: &mut S,
     out: &mut W,
     clients: &C,
-) -> Outcome
+) -> Result<(), Outcome>
     requires { IsWithin asked }
     ensures comes { Comes (C.meaning clients.now) (Do asked) (H.tells host.old) (H.tells host.new)
-        (record {
-          before = S.left input.old;
-          after = S.left input.new;
-          faults = S.source_faults
-              input.old;
-          faults' = S.source_faults input.new;
-        })
-        (record {
-          before = W.written out.old;
-          after = W.written out.new;
-          faults = W.sink_faults
-              out.old;
-          faults' = W.sink_faults out.new;
-        })
-        result }
+        (S.tells input.old) (S.tells input.new) (W.tells out.old) (W.tells out.new)
+        (came_to result) }
     ensures host { KeepsHost (Do asked) host.old host.new }
 {
     match asked {
         Command::Try(name, descriptor) => try_group(
             alloc,
+            hasher,
             name.as_str(),
             descriptor.as_str(),
             input,
@@ -151,47 +92,28 @@ fn obey<H: Host, S: Source, W: Sink, C: Clients>(
             clients,
         ),
         Command::Records => list_records(alloc, input, out),
-        Command::Init => Outcome::OfStore(make_store(host, out)),
-        Command::Contact => Outcome::OfStore(add_contact(alloc, host, out, clients)),
+        Command::Init => make_store(host, out),
+        Command::Contact => add_contact(alloc, hasher, host, out, clients),
         Command::Group(name, major, descriptor) => {
-            match group_of(alloc, name.as_str(), major, descriptor.as_str()) {
-                Ok(def) => Outcome::OfStore(add_group(alloc, def, host, out, clients)),
-                Err(_) => Outcome::Memory,
-            }
+            let def = group_of(alloc, name.as_str(), major, descriptor.as_str())?;
+            add_group(alloc, hasher, def, host, out, clients)
         }
-        Command::Share(contact, group, level) => Outcome::OfStore(set_level(
-            alloc, contact, &group, level, host, out, clients,
-        )),
-        Command::Post(group, timestamp) => Outcome::OfStore(post_message(
-            alloc, group, timestamp, host, input, out, clients,
-        )),
-        Command::Show => Outcome::OfStore(show(alloc, host, out, clients)),
-        Command::Inbox => Outcome::OfStore(list_inbox(alloc, host, out, clients)),
-        Command::Body(id) => Outcome::OfStore(write_body(alloc, &id, host, out, clients)),
+        Command::Share(contact, group, level) => {
+            set_level(alloc, hasher, contact, &group, level, host, out, clients)
+        }
+        Command::Post(group, timestamp) => {
+            post_message(alloc, hasher, group, timestamp, host, input, out, clients)
+        }
+        Command::Show => list(alloc, hasher, Listing::Store, host, out, clients),
+        Command::Inbox => list(alloc, hasher, Listing::Inbox, host, out, clients),
+        Command::Body(id) => write_body(alloc, hasher, &id, host, out, clients),
     }
 }
 
-/// Writes the line of an outcome, and says its status: `Memory` where memory is wanting for the
-/// line.
-pub fn report<E: Sink>(alloc: Global, outcome: Outcome, err: &mut E) -> Status
-    ensures { Reports outcome
-        (record {
-          before = E.written err.old;
-          after = E.written err.new;
-          faults = E.sink_faults
-              err.old;
-          faults' = E.sink_faults err.new;
-        })
-        result }
+/// Writes what the error output gets of an outcome, and says its status. It takes no memory.
+pub fn report<E: Sink>(outcome: &Outcome, err: &mut E) -> Status
+    ensures { Reports outcome.now (E.tells err.old) (E.tells err.new) result }
 {
-    match outcome.line(alloc) {
-        Ok(line) => {
-            let _ = write_text(err, line.as_str());
-            outcome.status()
-        }
-        Err(_) => {
-            let _ = write_text(err, "out of memory\n");
-            Status::Memory
-        }
-    }
+    let _ = write_text(err, outcome.text().as_str());
+    outcome.status()
 }

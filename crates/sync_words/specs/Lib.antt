@@ -5,3 +5,5 @@ pub mod StreamTexts
 pub mod EntryTexts
 pub mod HeldTexts
 pub mod ErrorTexts
+pub mod Statuses
+pub mod Outcomes

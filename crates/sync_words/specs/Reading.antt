@@ -3,6 +3,9 @@ use Rattle.std.specs.Prelude.{◌≡◌, ℕ, ◌+◌, ◌≤◌, Bool, true, fa
 use Rattle.std.specs.Str.{bytes_eq}
 use Rattle.std.specs.String.{string_bytes}
 use Rattle.std.specs.declared.alloc.Global.{Global}
+use Rattle.sync_ids.specs.declared.def.TheConstants.{MAX_NAME, MAX_DESCRIPTOR}
+use Rattle.sync_ids.specs.declared.message.TheConstants.{MAX_TIMESTAMP}
+use Rattle.sync_words.specs.declared.command.TheConstants.{MAX_CONTACT, MAX_MAJOR}
 use Rattle.sync_words.specs.declared.command.Command.{Command}
 use Rattle.sync_words.specs.declared.command.Command.TheVariants as command
 use Rattle.sync_words.specs.declared.command.WordsFault.{WordsFault}
@@ -50,16 +53,16 @@ asks_try = word_then name_in (λ name. word_then descriptor_in (λ descriptor. e
 -- a client's name, a major version and a descriptor
 abbrev pub asks_group : Rest
 asks_group =
-    word_then name_in (λ name. word_then (number_in 4294967295) (λ major. word_then descriptor_in (λ descriptor.
+    word_then name_in (λ name. word_then (number_in MAX_MAJOR) (λ major. word_then descriptor_in (λ descriptor.
     ends (command.Group name major descriptor))))
 
 -- a contact, a group and a level
 abbrev pub asks_share : Rest
-asks_share = word_then (number_in 255) (λ contact. word_then id_in (λ group. word_then level_in (λ level. ends (command.Share contact group level))))
+asks_share = word_then (number_in MAX_CONTACT) (λ contact. word_then id_in (λ group. word_then level_in (λ level. ends (command.Share contact group level))))
 
 -- a group and a time
 abbrev pub asks_post : Rest
-asks_post = word_then id_in (λ group. word_then (number_in 9223372036854775807) (λ timestamp. ends (command.Post group timestamp)))
+asks_post = word_then id_in (λ group. word_then (number_in MAX_TIMESTAMP) (λ timestamp. ends (command.Post group timestamp)))
 
 -- the id of a message
 abbrev pub asks_body : Rest
@@ -103,16 +106,16 @@ IsReadAs asked (Err fault.Memory) = Unit {0}
 -- ---- limits
 
 abbrev pub IsName : List ℕ → Type 0
-IsName word = (1 ≤ length word) × (length word ≤ 255)
+IsName word = (1 ≤ length word) × (length word ≤ MAX_NAME)
 
 abbrev pub IsDescriptor : List ℕ → Type 0
-IsDescriptor word = length word ≤ 16384
+IsDescriptor word = length word ≤ MAX_DESCRIPTOR
 
 -- the parts of a command are within their limits
 abbrev pub IsWithin : Command → Type 0
 IsWithin (command.Try name descriptor) = IsName name × IsDescriptor descriptor
 IsWithin (command.Group name major descriptor) = IsName name × IsDescriptor descriptor
-IsWithin (command.Post group timestamp) = timestamp ≤ 9223372036854775807
+IsWithin (command.Post group timestamp) = timestamp ≤ MAX_TIMESTAMP
 IsWithin _ = Unit {0}
 
 -- ---- a single word

@@ -6,16 +6,17 @@ use Rattle.std.specs.Char.{is_ascii_digit}
 use Rattle.std.specs.Str.{bytes_eq}
 use Rattle.std.specs.Str.Parse.{digits_value}
 use Rattle.hex.specs.Hex.{decode_of, is_hex_digit}
+use Rattle.sync_ids.specs.declared.def.TheConstants.{MAX_NAME, MAX_DESCRIPTOR}
 use Rattle.sync_rules.specs.declared.entries.Level.{Level}
 use Rattle.sync_rules.specs.declared.entries.Level.TheVariants as level
 
--- a client's name has 1 to 255 bytes
+-- a client's name has 1 to MAX_NAME bytes
 abbrev pub name_in : List ℕ → Option (List ℕ)
-name_in word = if nat_le 1 (length word) && nat_le (length word) 255 then Some word else None
+name_in word = if nat_le 1 (length word) && nat_le (length word) MAX_NAME then Some word else None
 
--- a descriptor has at most 16,384 bytes
+-- a descriptor has at most MAX_DESCRIPTOR bytes
 abbrev pub descriptor_in : List ℕ → Option (List ℕ)
-descriptor_in word = if nat_le (length word) 16384 then Some word else None
+descriptor_in word = if nat_le (length word) MAX_DESCRIPTOR then Some word else None
 
 -- whether a text of digits begins with a zero that others follow
 abbrev pub has_leading_zero : List ℕ → Bool

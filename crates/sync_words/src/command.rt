@@ -8,10 +8,10 @@ use crate::reading::{descriptor_at, id_at, is_left_at, level_at, name_at, number
 use crate::word::Word;
 use std::alloc::{AllocError, Global};
 use sync_ids::{GroupId, MAX_TIMESTAMP, MessageId};
-use sync_rules::Level;
+use sync_rules::{Level, MAX_CONTACTS};
 
 // The greatest number of a contact.
-const MAX_CONTACT: u64 = 255;
+const MAX_CONTACT: u64 = MAX_CONTACTS as u64 - 1;
 
 // The greatest major version of a client.
 const MAX_MAJOR: u64 = 4_294_967_295;

@@ -5,6 +5,8 @@ mod command;
 mod entry_lines;
 mod error_lines;
 mod held_lines;
+mod links;
+mod outcome;
 mod reading;
 mod status;
 mod stream_lines;
@@ -13,12 +15,14 @@ mod word;
 pub use command::{Command, WordsFault, read_words};
 pub use entry_lines::{contact_line, group_line, level_line, posted_line, ready_line};
 pub use error_lines::{
-    LinkText, ReasonText, bad_record_line, damaged_line, inside_line, link_line, plain_line,
-    refused_line, script_line, usage_line,
+    ErrorText, LinkText, MAX_ERROR, ReasonText, bad_record_line, damaged_line, inside_line,
+    link_line, plain_line, refused_line, script_line, usage_line,
 };
 pub use held_lines::{
     contacts_line, device_line, inbox_line, known_group_line, sessions_line, state_line,
 };
+pub use links::{LinkEnd, LinkEnds};
+pub use outcome::Outcome;
 pub use status::Status;
 pub use stream_lines::{record_line, skipped_line, try_line};
 pub use word::Word;

@@ -9,7 +9,7 @@ ghost use Rattle.sync_words.specs.Words.{is_digits, is_number, has_leading_zero}
 use crate::command::WordsFault;
 use crate::word::Word;
 use std::alloc::Global;
-use sync_ids::Fixed;
+use sync_ids::{Fixed, MAX_DESCRIPTOR, MAX_NAME};
 use sync_rules::Level;
 
 // The word at a place, if there is one.
@@ -30,7 +30,7 @@ pub fn name_at(alloc: Global, words: &[String], place: usize) -> Result<Word, Wo
     ensures err { IfErr result (Stops name_in (texts words.now) place) }
 {
     match word_at(words, place) {
-        Some(word) if (1..=255).contains(&word.len()) => copied(alloc, word),
+        Some(word) if (1..=MAX_NAME).contains(&word.len()) => copied(alloc, word),
         _ => Err(WordsFault::Usage(place)),
     }
 }
@@ -42,7 +42,7 @@ pub fn descriptor_at(alloc: Global, words: &[String], place: usize) -> Result<Wo
     ensures err { IfErr result (Stops descriptor_in (texts words.now) place) }
 {
     match word_at(words, place) {
-        Some(word) if word.len() <= 16_384 => copied(alloc, word),
+        Some(word) if word.len() <= MAX_DESCRIPTOR => copied(alloc, word),
         _ => Err(WordsFault::Usage(place)),
     }
 }

@@ -1,38 +1,66 @@
 //! The status of a run.
+ghost use Rattle.std.specs.Prelude.{◌≡◌};
+ghost use Rattle.sync_words.specs.Statuses.{number_of};
 
-/// What a run of a command came to. Its number is the exit status of `bsp`.
+/// What a run of a command came to.
 #[derive(Clone, Copy, Debug, PartialEq, Eq)]
 pub enum Status {
     /// All that the command says was done.
-    Done = 0,
+    Done,
     /// The words are not in the grammar.
-    Usage = 1,
+    Usage,
     /// Neither file has an open header.
-    NoStore = 2,
+    NoStore,
     /// `init` where a file has an open header.
-    Exists = 3,
+    Exists,
     /// A test of the command failed.
-    Refused = 4,
+    Refused,
     /// The files stand for no journal.
-    Damaged = 5,
+    Damaged,
     /// A call on the disk failed.
-    DiskFault = 6,
+    DiskFault,
     /// A call on a link failed.
-    LinkFault = 7,
+    LinkFault,
     /// A read of the input failed.
-    ReadFault = 8,
+    ReadFault,
     /// The input, or a link's, is no stream of records.
-    BadStream = 9,
+    BadStream,
     /// The journal has no room.
-    Full = 10,
+    Full,
     /// The turns of `sync` were used up.
-    TurnsUsed = 11,
+    TurnsUsed,
     /// Memory ran out.
-    Memory = 12,
+    Memory,
     /// A write to the output failed.
-    WriteFault = 13,
+    WriteFault,
     /// More than 268,435,456 bytes were read.
-    TooMuch = 14,
+    TooMuch,
     /// A script of several devices has a bad line.
-    BadScript = 15,
+    BadScript,
+}
+
+impl Status {
+    /// The exit status of a program that ends so.
+    pub fn number(self) -> u8
+        ensures { result ≡ number_of self }
+    {
+        match self {
+            Status::Done => 0,
+            Status::Usage => 1,
+            Status::NoStore => 2,
+            Status::Exists => 3,
+            Status::Refused => 4,
+            Status::Damaged => 5,
+            Status::DiskFault => 6,
+            Status::LinkFault => 7,
+            Status::ReadFault => 8,
+            Status::BadStream => 9,
+            Status::Full => 10,
+            Status::TurnsUsed => 11,
+            Status::Memory => 12,
+            Status::WriteFault => 13,
+            Status::TooMuch => 14,
+            Status::BadScript => 15,
+        }
+    }
 }

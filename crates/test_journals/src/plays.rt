@@ -6,6 +6,7 @@ ghost use Rattle.sync_rules.specs.declared.answers.Judgement.TheVariants as judg
 
 use journal_play::{Play, play_says};
 use std::alloc::{AllocError, Global};
+use std::hash::RandomState;
 use std::process::Abort;
 use std::test::Fail;
 use sync_ids::{GroupDef, GroupId, IdList, Message, MessageId, Record, group_id};
@@ -114,12 +115,18 @@ fn record(
     Ok(Record::Message(message(rt, alloc, group, n)?))
 }
 
-fn played(rt: &impl Abort, alloc: Global, heard: &[u8], refuses: bool) -> Result<String, Fail> {
+fn played(
+    rt: &impl Abort,
+    alloc: Global,
+    hasher: RandomState,
+    heard: &[u8],
+    refuses: bool,
+) -> Result<String, Fail> {
     let def = group(alloc, b"d")?;
     let own = group_id(&def);
     let other = group_id(&group(alloc, b"e")?);
     let clients = client(rt, alloc, &own, refuses)?;
-    let mut play = Play::begin(alloc, def, 0)?;
+    let mut play = Play::begin(alloc, hasher, def, 0)?;
     for n in heard {
         let next = record(rt, alloc, &own, &other, *n)?;
         play.hear(alloc, &clients, next)?;
@@ -129,6 +136,7 @@ fn played(rt: &impl Abort, alloc: Global, heard: &[u8], refuses: bool) -> Result
 
 #[test]
 fn plays_records(rt: HostRuntime) -> Result<(), Fail> {
+    let hasher = RandomState::new(&rt)?;
     play_says();
     let cases: [(&[u8], bool, &str); 10] = [
         (
@@ -179,7 +187,7 @@ fn plays_records(rt: HostRuntime) -> Result<(), Fail> {
         (&[101, 0], false, ""),
     ];
     for (heard, refuses, want) in cases {
-        let text = played(&rt, rt.alloc(), heard, refuses)?;
+        let text = played(&rt, rt.alloc(), hasher, heard, refuses)?;
         assert_eq!(rt; text.as_str(), want);
     }
     Ok(())

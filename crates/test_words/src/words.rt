@@ -418,7 +418,7 @@ fn add_streams(alloc: Global, to: &mut String) -> Result<(), Fail> {
         (6, LinkText::NoVersion(0)),
         (7, LinkText::Failed),
     ] {
-        link_line(alloc, link, &ending, to)?;
+        link_line(link, &ending, to)?;
     }
     Ok(())
 }

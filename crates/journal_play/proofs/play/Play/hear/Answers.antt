@@ -8,5 +8,5 @@ returns g c =
     on_both c.settle.result
     (λ reaches settled. λ def records played.
     hears_shown (g.C.Clients.meaning c.args.clients.now) def records c.args.self.now c.take.new.self c.settle.new.self c.args.heard c.in_ok-just.just played
-    c.check_limits.ensures c.in_ok-just.ensures.taken c.in_ok-just.ensures.just reaches settled)
+    c.records_are_within.ensures c.in_ok-just.ensures.taken c.in_ok-just.ensures.just reaches settled)
     c.settle.ensures.reaches c.settle.ensures.settled

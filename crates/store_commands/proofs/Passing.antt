@@ -1,0 +1,66 @@
+-- An error that goes on by `?`: what holds of the outcome that it is turned into holds of the answer.
+use Rattle.std.proofs.Common.{◌≡◌, ℕ, List, ap, sym, subst, Result, Ok, Err}
+use Rattle.std.specs.Prelude.{IsErrAnd, OnOk}
+use Rattle.outside.specs.Files.{Two, File}
+use Rattle.outside.specs.Outside.{Outside}
+use Rattle.outside.specs.Streams.{Stream}
+use Rattle.sync_rules.specs.declared.entries.Entry.{Entry}
+use Rattle.sync_rules.specs.Clients.{Meaning}
+use Rattle.sync_rules.specs.Facts.{Facts, Id}
+use Rattle.sync_store.specs.Store.{StoreValue}
+use Rattle.sync_words.specs.declared.outcome.Outcome.{Outcome}
+use Rattle.sync_words.specs.Outcomes.{came_to}
+use Rattle.store_commands.specs.declared.commit.Settling.{Settling}
+use Rattle.store_commands.specs.Commit.{ExtendsBy, ExtendsTold}
+use Rattle.store_commands.specs.Entries.{EntryAdded, HasAdded}
+use Rattle.sync_rules.specs.declared.states.Refused.{Refused}
+use Rattle.store_commands.specs.Plans.{Plan, plan_of, refuses}
+use Rattle.store_commands.specs.Post.{HasPosted}
+use Rattle.store_commands.specs.Show.{HasLooked}
+use Rattle.store_commands.specs.Shown.{Showing}
+
+-- what holds of an outcome
+passed : (P : Outcome → Type 0) (r : Result (Unit {0}) Outcome) (x : Outcome) → IsErrAnd r (λ e. e ≡ x) → P x → P (came_to r)
+passed P (Ok u) x is h = absurd is
+passed P (Err e) x is h = subst P (sym is) h
+
+-- what holds of an answer
+passed_on : (P : Result (Unit {0}) Outcome → Type 0) (r : Result (Unit {0}) Outcome) (x : Outcome) → IsErrAnd r (λ e. e ≡ x) → P (Err x) → P r
+passed_on P (Ok u) x is h = absurd is
+passed_on P (Err e) x is h = subst (λ (o : Outcome). P (Err o)) (sym is) h
+
+module _ (r : Result (Unit {0}) Outcome) (x : Outcome) (is : IsErrAnd r (λ e. e ≡ x)) where
+  pub by_on : (o o' : Outside) → ExtendsBy o o' (Err x) → ExtendsBy o o' r
+  by_on o o' = passed_on (λ (q : Result (Unit {0}) Outcome). ExtendsBy o o' q) r x is
+
+  pub told_on_error : (clients : Meaning) (j : List (List Entry)) (batch : List Entry) (P : Two File → Type 0) (o o' : Outside) → ExtendsTold clients j batch P o o' (Err x)
+      → ExtendsTold clients j batch P o o' r
+  told_on_error clients j batch P o o' = passed_on (λ (q : Result (Unit {0}) Outcome). ExtendsTold clients j batch P o o' q) r x is
+
+  pub entry_on : (clients : Meaning) (asked : Settling) (s : StoreValue) (e : Entry) (o o' : Outside) (out out' : Stream) → EntryAdded clients asked s e o o' out out' x
+      → EntryAdded clients asked s e o o' out out' (came_to r)
+  entry_on clients asked s e o o' out out' = passed (λ (came : Outcome). EntryAdded clients asked s e o o' out out' came) r x is
+
+  pub added_on : (clients : Meaning) (plan : Facts → Plan) (asked : Settling) (o o' : Outside) (out out' : Stream) → HasAdded clients plan asked o o' out out' x
+      → HasAdded clients plan asked o o' out out' (came_to r)
+  added_on clients plan asked o o' out out' = passed (λ (came : Outcome). HasAdded clients plan asked o o' out out' came) r x is
+
+  pub looked_on : (clients : Meaning) (shown : Facts → Showing) (o o' : Outside) (out out' : Stream) → HasLooked clients shown o o' out out' x
+      → HasLooked clients shown o o' out out' (came_to r)
+  looked_on clients shown o o' out out' = passed (λ (came : Outcome). HasLooked clients shown o o' out out' came) r x is
+
+  pub posted_on : (clients : Meaning) (group : Id) (timestamp : ℕ) (o o' : Outside) (input input' out out' : Stream)
+      → HasPosted clients group timestamp o o' input input' out out' x → HasPosted clients group timestamp o o' input input' out out' (came_to r)
+  posted_on clients group timestamp o o' input input' out out' =
+      passed (λ (came : Outcome). HasPosted clients group timestamp o o' input input' out out' came) r x is
+
+-- ---- refusals
+
+pub refused_on : (r : Result Entry Refused) (why : Refused) → IsErrAnd r (λ e. e ≡ why) → plan_of r ≡ refuses why
+refused_on (Ok e) why is = absurd is
+refused_on (Err e) why is = ap refuses is
+
+-- an answer that is an error says nothing of Ok
+pub no_ok : (P : Type 0) (r : Result (Unit {0}) Outcome) (x : Outcome) → IsErrAnd r (λ e. e ≡ x) → OnOk r P
+no_ok P (Ok u) x is = absurd is
+no_ok P (Err e) x is = tt

@@ -1,6 +1,0 @@
-use Rattle.std.proofs.Common.{ap}
-use Rattle.store_commands.specs.Plans.{planned}
-use Rattle.store_commands.proofs.planning.plan_message.Goals as goal
-
-pub returns-in-Ok : goal.returns-in-Ok
-returns-in-Ok g c = ap (planned _) c.in-Ok.ensures

@@ -1,0 +1,6 @@
+use Rattle.std.proofs.Common.{ap}
+use Rattle.store_commands.specs.Plans.{planned}
+use Rattle.store_commands.proofs.plans.plan_message.Goals as goal
+
+pub returns-in-Ok : goal.returns-in-Ok
+returns-in-Ok g c = ap (planned _) c.in-Ok.ensures

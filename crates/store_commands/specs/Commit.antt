@@ -1,0 +1,140 @@
+-- What settling a store, adding a batch to it and settling again comes to.
+use Rattle.std.specs.Prelude.{◌≡◌, ◌⊎◌, ℕ, ◌+◌, ◌<◌, ◌≤◌, false, List, [], ◌∷◌, ◌++◌, Some, Result, Ok, Err}
+use Rattle.outside.specs.declared.limits.TheConstants.{MAX_JOURNAL}
+use Rattle.outside.specs.Faults.{Rose}
+use Rattle.outside.specs.Files.{Two, File, read_files, NothingPending}
+use Rattle.outside.specs.Links.{sent_of}
+use Rattle.outside.specs.Outside.{Outside, MomentsAre}
+use Rattle.sync_rules.specs.declared.entries.Entry.{Entry}
+use Rattle.sync_rules.specs.Clients.{Meaning}
+use Rattle.sync_rules.specs.Facts.{Facts, facts, after_all, after_batches}
+use Rattle.sync_rules.specs.Legal.{Allowed, AllSettling}
+use Rattle.sync_rules.specs.Steps.{IsSettled}
+use Rattle.entry_codec.specs.Payloads.{journal_end, payload_len}
+use Rattle.entry_codec.specs.Standing.{journal, room_of, stands}
+use Rattle.sync_store.specs.Commits.{needed}
+use Rattle.sync_store.specs.Store.{StoreValue}
+use Rattle.sync_store.specs.Fitting.{Fits}
+use Rattle.sync_store.specs.Moments.{JournalMoment, Leads, WithAtMost}
+use Rattle.sync_store.specs.Settling.{ComesBy}
+use Rattle.sync_words.specs.declared.outcome.Outcome.{Outcome}
+use Rattle.sync_words.specs.declared.outcome.Outcome.TheVariants as outcome
+use Rattle.store_commands.specs.declared.commit.Settling.{Settling}
+use Rattle.store_commands.specs.declared.commit.Settling.TheVariants as settling
+
+-- ---- journals
+
+-- behind a journal of these facts: settling, the batch, and settling
+pub record AddsOne (clients : Meaning) (f : Facts) (batch : List Entry) (more : List (List Entry)) : Type 0 where
+  pub first : List (List Entry)
+  pub rest : List (List Entry)
+  pub is : more ≡ first ++ batch ∷ rest
+  pub settles : AllSettling clients f first
+  pub settles_again : AllSettling clients (after_all (after_batches f first) batch) rest
+
+-- settling, and at most the one batch
+abbrev pub AddsAtMost : Meaning → Facts → List Entry → List (List Entry) → Type 0
+AddsAtMost clients f batch more = AllSettling clients f more ⊎ AddsOne clients f batch more
+
+-- the journal goes on from an earlier one by settling and at most the one batch
+pub record GoesOn (clients : Meaning) (j : List (List Entry)) (batch : List Entry) (whole : List (List Entry)) : Type 0 where
+  pub more : List (List Entry)
+  pub is : whole ≡ j ++ more
+  pub adds : AddsAtMost clients (facts j) batch more
+
+-- what stands behind the batch: nothing, or settling up to its end
+abbrev pub Follows : Settling → Meaning → Facts → List (List Entry) → Type 0
+Follows settling.Before clients f rest = rest ≡ []
+Follows settling.BeforeAndAfter clients f rest = AllSettling clients f rest × IsSettled clients (after_batches f rest)
+
+-- the length that a journal needs with a batch: the batch's frame is added, and room is counted for all that settling may then add
+abbrev pub needed_by : List (List Entry) → List Entry → ℕ
+needed_by j batch = journal_end j + 5 + payload_len batch + room_of (after_all (facts j) batch)
+
+-- The files stand for the journal, all of its settling, the one batch, for which there was room when it was committed, and what
+-- follows it; nothing is pending in them, so that each crash leaves this.
+pub record IsAdded (clients : Meaning) (settling : Settling) (j : List (List Entry)) (batch : List Entry) (two : Two File) : Type 0 where
+  pub first : List (List Entry)
+  pub rest : List (List Entry)
+  pub settles : AllSettling clients (facts j) first
+  pub settled : IsSettled clients (after_batches (facts j) first)
+  pub roomy : needed_by (j ++ first) batch ≤ MAX_JOURNAL
+  pub follows : Follows settling clients (after_all (after_batches (facts j) first) batch) rest
+  pub stands_for : stands clients (read_files two) ≡ journal (j ++ (first ++ batch ∷ rest))
+  pub first_settled : NothingPending two 0
+  pub second_settled : NothingPending two 1
+
+-- the files stand for the journal and all of its settling, and there is no room for the batch
+pub record IsFull (clients : Meaning) (j : List (List Entry)) (batch : List Entry) (two : Two File) : Type 0 where
+  pub first : List (List Entry)
+  pub settles : AllSettling clients (facts j) first
+  pub settled : IsSettled clients (after_batches (facts j) first)
+  pub stands_for : stands clients (read_files two) ≡ journal (j ++ first)
+  pub over : MAX_JOURNAL < needed_by (j ++ first) batch
+
+-- ---- a store that is ready
+
+-- a batch may follow a journal of these facts once that is settled
+pub record MayFollow (clients : Meaning) (f : Facts) (batch : List Entry) : Type 0 where
+  pub follows : (more : List (List Entry)) → AllSettling clients f more → IsSettled clients (after_batches f more) → Allowed clients (after_batches f more) batch
+
+-- the causes, whatever the disk tells
+abbrev pub ExtendsBy : (old new : Outside) → Result (Unit {0}) Outcome → Type 0
+ExtendsBy old new (Ok _) = Unit {0}
+ExtendsBy old new (Err outcome.Full) = Unit {0}
+ExtendsBy old new (Err outcome.Memory) = Unit {0}
+ExtendsBy old new (Err outcome.DiskFault) = Rose old.disk_faults new.disk_faults
+ExtendsBy old new (Err _) = ⊥
+
+-- what settling leaves of the store: at Ok it is settled
+abbrev pub SettledBy : Meaning → StoreValue → Result (Unit {0}) Outcome → Type 0
+SettledBy clients s (Ok _) = (s.closed ≡ false) × IsSettled clients s.state.facts
+SettledBy clients s (Err outcome.Memory) = Unit {0}
+SettledBy clients s (Err outcome.DiskFault) = Unit {0}
+SettledBy clients s (Err _) = ⊥
+
+-- a store came by settling batches as far as the answer says
+pub record SettlesAs (clients : Meaning) (s s' : StoreValue) (old new : Outside) (result : Result (Unit {0}) Outcome) : Type 0 where
+  pub more : List (List Entry)
+  pub comes : ComesBy clients s s' old new more
+  pub answer : SettledBy clients s' result
+
+-- the sum of the room, by the answer of a commit
+abbrev pub Weighs : StoreValue → StoreValue → List Entry → Result (Unit {0}) Outcome → Type 0
+Weighs s s' batch (Ok _) = (s'.closed ≡ false) × (needed s batch ≤ s.limit)
+Weighs s s' batch (Err outcome.Full) = (s'.closed ≡ false) × (s.limit < needed s batch)
+Weighs s s' batch (Err outcome.Memory) = Unit {0}
+Weighs s s' batch (Err outcome.DiskFault) = Unit {0}
+Weighs s s' batch (Err _) = ⊥
+
+-- the journal behind a commit, by its answer
+abbrev pub journal_by : List (List Entry) → List Entry → Result (Unit {0}) Outcome → List (List Entry)
+journal_by j batch (Ok _) = j ++ batch ∷ []
+journal_by j batch (Err _) = j
+
+-- a batch was committed, or not
+pub record CommitsAs (clients : Meaning) (s s' : StoreValue) (batch : List Entry) (old new : Outside) (result : Result (Unit {0}) Outcome) : Type 0 where
+  pub answer : Weighs s s' batch result
+  pub leads : (two : Two File) → old.files ≡ Some two → (j : List (List Entry)) → Fits clients s j two
+      → Leads clients (WithAtMost j batch) (λ k. k ≡ journal_by j batch result) s' old new
+
+-- ---- settling, the batch, and settling again
+
+-- by the answer
+abbrev pub ExtendsEnds : Meaning → List (List Entry) → List Entry → (Two File → Type 0) → Result (Unit {0}) Outcome → Two File → Type 0
+ExtendsEnds clients j batch P (Ok _) two = P two
+ExtendsEnds clients j batch P (Err outcome.Full) two = IsFull clients j batch two
+ExtendsEnds clients j batch P (Err _) two = Unit {0}
+
+-- each moment stands for the journal with settling and at most the batch, and at Ok the files are so
+pub record ExtendsTold (clients : Meaning) (j : List (List Entry)) (batch : List Entry) (P : Two File → Type 0) (old new : Outside) (result : Result (Unit {0}) Outcome) : Type 0 where
+  pub moments : MomentsAre old new (JournalMoment clients (GoesOn clients j batch) (sent_of old.links.told))
+  pub ends : (two : Two File) → new.files ≡ Some two → ExtendsEnds clients j batch P result two
+
+-- the disk fits the store with the journal, all of its settling, and the batch, for which there was room
+pub record HasBatch (clients : Meaning) (j : List (List Entry)) (batch : List Entry) (s : StoreValue) (two : Two File) : Type 0 where
+  pub first : List (List Entry)
+  pub settles : AllSettling clients (facts j) first
+  pub settled : IsSettled clients (after_batches (facts j) first)
+  pub roomy : needed_by (j ++ first) batch ≤ MAX_JOURNAL
+  pub fits : Fits clients s (j ++ (first ++ batch ∷ [])) two

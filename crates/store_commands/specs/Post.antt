@@ -1,0 +1,104 @@
+-- What `post` does: it reads a body, adds a message of a known group, and settles.
+use Rattle.std.specs.Prelude.{◌≡◌, ◌⊎◌, ℕ, ◌+◌, ◌≤◌, Bool, true, false, List, length, Option, Some, is_some, Result, Ok, Err}
+use Rattle.std.specs.Global.{Vec}
+use Rattle.std.specs.Io.KnownBytes.{Consumes, IsAtEnd}
+use Rattle.outside.specs.Faults.{Rose}
+use Rattle.outside.specs.Files.{Two, File, read_files}
+use Rattle.outside.specs.Outside.{Outside, DiskRun}
+use Rattle.outside.specs.Streams.{Stream, IsIdle}
+use Rattle.sync_ids.specs.declared.message.TheConstants.{MAX_BODY}
+use Rattle.sync_ids.specs.Values.{MessageValue}
+use Rattle.sync_rules.specs.declared.entries.Entry.{Entry}
+use Rattle.sync_rules.specs.declared.states.Refused.TheVariants as refused
+use Rattle.sync_rules.specs.Clients.{Meaning}
+use Rattle.sync_rules.specs.Facts.{Id, facts, group_at}
+use Rattle.entry_codec.specs.Standing.{Standing, no_store, damaged, journal, stands}
+use Rattle.sync_words.specs.declared.outcome.Outcome.{Outcome}
+use Rattle.sync_words.specs.declared.outcome.Outcome.TheVariants as outcome
+use Rattle.store_commands.specs.declared.commit.Settling.TheVariants as settling
+use Rattle.store_commands.specs.Entries.{HasAdded}
+use Rattle.store_commands.specs.Plans.{Plan, adds, refuses, post_plan}
+use Rattle.store_commands.specs.Show.{Keeps, Rests}
+
+-- the body of a post is the whole input, or its first bytes, one more than a body may have
+pub record IsBody (input input' : Stream) (body : List ℕ) : Type 0 where
+  pub consumed : Consumes input.bytes input'.bytes body
+  pub whole : (IsAtEnd input'.bytes × (length body ≤ MAX_BODY)) ⊎ (length body ≡ MAX_BODY + 1)
+
+-- the message of a group, a time and a body
+abbrev pub message_of : Id → ℕ → List ℕ → MessageValue
+message_of group timestamp body = record { group = group; timestamp = timestamp; body = body }
+
+-- the body was read, and the message that is added, or refused, is of it
+pub record PostsBody (clients : Meaning) (group : Id) (timestamp : ℕ) (old new : Outside) (input input' out out' : Stream) (came : Outcome) : Type 0 where
+  pub body : List ℕ
+  pub reads : IsBody input input' body
+  pub added : HasAdded clients (λ f. post_plan clients f (message_of group timestamp body)) settling.BeforeAndAfter old new out out' came
+
+-- the files stood for a journal that knows the group, or that does not
+pub record Groups (standing : Standing) (group : Id) (answer : Bool) : Type 0 where
+  pub of : List (List Entry)
+  pub stood : standing ≡ journal of
+  pub known : is_some (group_at (facts of).groups group) ≡ answer
+
+-- The causes of an outcome for which no body was read whole: the input is read once the group is known to be there. Where memory
+-- was wanting it may have been read in part.
+abbrev pub StopsBy : (old new : Outside) (input input' : Stream) → Outcome → Type 0
+StopsBy old new input input' outcome.NoStore = IsIdle input input'
+StopsBy old new input input' (outcome.Damaged place) = IsIdle input input'
+StopsBy old new input input' (outcome.Refused refused.UnknownGroup) = IsIdle input input'
+StopsBy old new input input' outcome.DiskFault = Rose old.disk_faults new.disk_faults × IsIdle input input'
+StopsBy old new input input' outcome.ReadFault = Rose input.faults input'.faults
+StopsBy old new input input' outcome.Memory = Unit {0}
+StopsBy old new input input' _ = ⊥
+
+-- by what the files stood for
+abbrev pub StopsEnds : Standing → Id → Outcome → Type 0
+StopsEnds standing group outcome.NoStore = standing ≡ no_store
+StopsEnds standing group (outcome.Damaged place) = standing ≡ damaged place.file place.at
+StopsEnds standing group (outcome.Refused why) = Groups standing group false
+StopsEnds standing group outcome.ReadFault = Groups standing group true
+StopsEnds standing group _ = Unit {0}
+
+-- what is so where the files are told: nothing was added
+pub record StopsTold (clients : Meaning) (group : Id) (two : Two File) (old new : Outside) (came : Outcome) : Type 0 where
+  pub rests : Rests (Keeps came two) two old new
+  pub ends : StopsEnds (stands clients (read_files two)) group came
+
+-- no body was read whole, nothing was added and nothing printed
+pub record StopsShort (clients : Meaning) (group : Id) (old new : Outside) (input input' out out' : Stream) (came : Outcome) : Type 0 where
+  pub run : DiskRun old new
+  pub by : StopsBy old new input input' came
+  pub quiet : IsIdle out out'
+  pub told : (two : Two File) → old.files ≡ Some two → StopsTold clients group two old new came
+
+-- A message is posted, or it is refused; or the command stopped before its body was read.
+abbrev pub HasPosted : Meaning → Id → ℕ → (old new : Outside) → (input input' out out' : Stream) → Outcome → Type 0
+HasPosted clients group timestamp old new input input' out out' outcome.NoStore = StopsShort clients group old new input input' out out' outcome.NoStore
+HasPosted clients group timestamp old new input input' out out' (outcome.Damaged place) =
+    StopsShort clients group old new input input' out out' (outcome.Damaged place)
+HasPosted clients group timestamp old new input input' out out' (outcome.Refused refused.UnknownGroup) =
+    StopsShort clients group old new input input' out out' (outcome.Refused refused.UnknownGroup)
+HasPosted clients group timestamp old new input input' out out' outcome.ReadFault = StopsShort clients group old new input input' out out' outcome.ReadFault
+HasPosted clients group timestamp old new input input' out out' outcome.DiskFault =
+    StopsShort clients group old new input input' out out' outcome.DiskFault
+    ⊎ PostsBody clients group timestamp old new input input' out out' outcome.DiskFault
+HasPosted clients group timestamp old new input input' out out' outcome.Memory =
+    StopsShort clients group old new input input' out out' outcome.Memory
+    ⊎ PostsBody clients group timestamp old new input input' out out' outcome.Memory
+HasPosted clients group timestamp old new input input' out out' came = PostsBody clients group timestamp old new input input' out out' came
+
+-- a plan as it is answered, but for want of memory
+abbrev pub IsPlanned : Plan → Result Entry Outcome → Type 0
+IsPlanned plan (Ok e) = plan ≡ adds e
+IsPlanned plan (Err outcome.Memory) = Unit {0}
+IsPlanned plan (Err (outcome.Refused why)) = plan ≡ refuses why
+IsPlanned plan (Err _) = ⊥
+
+-- what reading a body answers
+abbrev pub IsRead : (input input' : Stream) → Result (Vec ℕ) Outcome → Type 0
+IsRead input input' (Ok body) = IsBody input input' body.items
+IsRead input input' (Err (outcome.Refused refused.BodyTooLong)) = (body : List ℕ) × IsBody input input' body × (length body ≡ MAX_BODY + 1)
+IsRead input input' (Err outcome.ReadFault) = Rose input.faults input'.faults
+IsRead input input' (Err outcome.Memory) = Unit {0}
+IsRead input input' (Err came) = ⊥

@@ -1,0 +1,121 @@
+// A batch that is added to a store: the journal is settled before it. The store's answers are
+// outcomes here; a store that is ready is not closed.
+ghost use Rattle.std.specs.Prelude.{◌≡◌, List, Some, false, OnOk};
+ghost use Rattle.outside.specs.Files.{Two, File};
+ghost use Rattle.outside.specs.Outside.{DiskRun};
+ghost use Rattle.sync_rules.specs.declared.entries.Entry.{Entry};
+ghost use Rattle.sync_rules.specs.Allows.{is_settling_kind};
+ghost use Rattle.sync_rules.specs.Legal.{Allowed};
+ghost use Rattle.sync_store.specs.Fitting.{Fits};
+ghost use Rattle.sync_store.specs.Ready.{IsReady};
+ghost use Rattle.store_commands.specs.Commit.{CommitsAs, ExtendsBy, ExtendsTold, HasBatch};
+ghost use Rattle.store_commands.specs.Commit.{IsAdded, MayFollow, SettlesAs};
+ghost use Rattle.store_commands.specs.Load.{MayExtend};
+
+use outside::Disk;
+use sync_rules::{Batch, Clients};
+use sync_store::{Store, StoreFault};
+use sync_words::Outcome;
+
+/// Where a command settles the journal: before its own batch, or behind it too.
+#[derive(Clone, Copy, Debug, PartialEq, Eq)]
+pub enum Settling {
+    /// Before the batch alone.
+    Before,
+    /// Before the batch and behind it.
+    BeforeAndAfter,
+}
+
+/// Settles the journal, commits the batch, and settles again where that is asked for.
+pub fn extend<D: Disk, C: Clients>(
+    store: &mut Store,
+    batch: Batch,
+    settling: Settling,
+    disk: &mut D,
+    clients: &C,
+) -> Result<(), Outcome>
+    requires ready { MayExtend (C.meaning clients.now) store.old (D.tells disk.old).files }
+    requires follows { MayFollow (C.meaning clients.now) store.old.state.facts batch }
+    requires kind { is_settling_kind batch ≡ false }
+    ensures run { DiskRun (D.tells disk.old) (D.tells disk.new) }
+    ensures by { ExtendsBy (D.tells disk.old) (D.tells disk.new) result }
+    ensures told { (two : Two File) → (D.tells disk.old).files ≡ Some two → (j : List (List Entry))
+        → Fits (C.meaning clients.now) store.old j two
+        → ExtendsTold (C.meaning clients.now) j batch
+        (IsAdded (C.meaning clients.now) settling j batch) (D.tells disk.old) (D.tells disk.new)
+        result }
+{
+    commit_settled(store, batch, disk, clients)?;
+    match settling {
+        Settling::Before => Ok(()),
+        Settling::BeforeAndAfter => settle(store, disk, clients),
+    }
+}
+
+// Settles the journal and commits the batch.
+fn commit_settled<D: Disk, C: Clients>(
+    store: &mut Store,
+    batch: Batch,
+    disk: &mut D,
+    clients: &C,
+) -> Result<(), Outcome>
+    requires ready { MayExtend (C.meaning clients.now) store.old (D.tells disk.old).files }
+    requires follows { MayFollow (C.meaning clients.now) store.old.state.facts batch }
+    requires kind { is_settling_kind batch ≡ false }
+    ensures run { DiskRun (D.tells disk.old) (D.tells disk.new) }
+    ensures by { ExtendsBy (D.tells disk.old) (D.tells disk.new) result }
+    ensures told { (two : Two File) → (D.tells disk.old).files ≡ Some two → (j : List (List Entry))
+        → Fits (C.meaning clients.now) store.old j two
+        → ExtendsTold (C.meaning clients.now) j batch
+        (HasBatch (C.meaning clients.now) j batch store.new) (D.tells disk.old) (D.tells disk.new)
+        result }
+    ensures ready { OnOk result (IsReady (C.meaning clients.now) store.new
+        (D.tells disk.new).files) }
+{
+    settle(store, disk, clients)?;
+    commit(store, batch, disk, clients)
+}
+
+// Settles the journal.
+fn settle<D: Disk, C: Clients>(store: &mut Store, disk: &mut D, clients: &C) -> Result<(), Outcome>
+    requires ready { IsReady (C.meaning clients.now) store.old (D.tells disk.old).files }
+    ensures run { DiskRun (D.tells disk.old) (D.tells disk.new) }
+    ensures by { ExtendsBy (D.tells disk.old) (D.tells disk.new) result }
+    ensures settled { SettlesAs (C.meaning clients.now) store.old store.new (D.tells disk.old)
+        (D.tells disk.new) result }
+    ensures ready { OnOk result (IsReady (C.meaning clients.now) store.new
+        (D.tells disk.new).files) }
+{
+    match store.settle(disk, clients) {
+        Ok(()) => Ok(()),
+        Err(StoreFault::Memory) => Err(Outcome::Memory),
+        Err(StoreFault::DiskFault) => Err(Outcome::DiskFault),
+        Err(StoreFault::Full | StoreFault::Closed) => unreachable!(),
+    }
+}
+
+// Commits the batch.
+fn commit<D: Disk, C: Clients>(
+    store: &mut Store,
+    batch: Batch,
+    disk: &mut D,
+    clients: &C,
+) -> Result<(), Outcome>
+    requires ready { IsReady (C.meaning clients.now) store.old (D.tells disk.old).files }
+    requires allowed { Allowed (C.meaning clients.now) store.old.state.facts batch }
+    requires kind { is_settling_kind batch ≡ false }
+    ensures run { DiskRun (D.tells disk.old) (D.tells disk.new) }
+    ensures by { ExtendsBy (D.tells disk.old) (D.tells disk.new) result }
+    ensures committed { CommitsAs (C.meaning clients.now) store.old store.new batch
+        (D.tells disk.old) (D.tells disk.new) result }
+    ensures ready { OnOk result (IsReady (C.meaning clients.now) store.new
+        (D.tells disk.new).files) }
+{
+    match store.commit(disk, clients, batch) {
+        Ok(()) => Ok(()),
+        Err(StoreFault::Full) => Err(Outcome::Full),
+        Err(StoreFault::Memory) => Err(Outcome::Memory),
+        Err(StoreFault::DiskFault) => Err(Outcome::DiskFault),
+        Err(StoreFault::Closed) => unreachable!(),
+    }
+}

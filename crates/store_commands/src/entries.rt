@@ -1,0 +1,133 @@
+// The commands that add one entry to a journal: `contact`, `group`, `share`.
+ghost use Rattle.std.specs.Prelude.{◌≡◌, ◌∷◌, [], ◌++◌, false, IfOk, OnOk};
+ghost use Rattle.std.specs.String.{string_bytes};
+ghost use Rattle.sync_rules.specs.Allows.{is_settling_kind};
+ghost use Rattle.sync_words.specs.Outcomes.{came_to};
+ghost use Rattle.store_commands.specs.Commit.{MayFollow};
+ghost use Rattle.store_commands.specs.Entries.{EntryAdded, HasAdded};
+ghost use Rattle.store_commands.specs.Load.{MayExtend};
+ghost use Rattle.store_commands.specs.Plans.{contact_plan, group_plan, level_plan};
+ghost use Rattle.store_commands.specs.Shown.{added_text};
+
+use crate::commit::{Settling, extend};
+use crate::load::load_store;
+use crate::plans::{plan_contact, plan_group, plan_level};
+use crate::print::print_bytes;
+use outside::{Disk, Sink};
+use std::alloc::{AllocError, Global};
+use std::hash::RandomState;
+use sync_ids::{GroupDef, GroupId, group_id};
+use sync_rules::{Batch, Clients, Entry, Level, id_of};
+use sync_store::Store;
+use sync_words::{Outcome, contact_line, group_line, level_line, posted_line};
+
+/// Adds the next contact and prints its number.
+pub fn add_contact<D: Disk, W: Sink, C: Clients>(
+    alloc: Global,
+    hasher: RandomState,
+    disk: &mut D,
+    out: &mut W,
+    clients: &C,
+) -> Result<(), Outcome>
+    ensures { HasAdded (C.meaning clients.now) contact_plan Settling.Before (D.tells disk.old)
+        (D.tells disk.new) (W.tells out.old) (W.tells out.new) (came_to result) }
+{
+    let store = load_store(alloc, hasher, disk, clients)?;
+    let entry = plan_contact(&store)?;
+    add_entry(alloc, store, entry, Settling::Before, disk, out, clients)
+}
+
+/// Adds a group and prints its id.
+pub fn add_group<D: Disk, W: Sink, C: Clients>(
+    alloc: Global,
+    hasher: RandomState,
+    def: GroupDef,
+    disk: &mut D,
+    out: &mut W,
+    clients: &C,
+) -> Result<(), Outcome>
+    ensures { HasAdded (C.meaning clients.now) (λ f. group_plan (C.meaning clients.now) f def)
+        Settling.Before (D.tells disk.old) (D.tells disk.new) (W.tells out.old) (W.tells out.new)
+        (came_to result) }
+{
+    let store = load_store(alloc, hasher, disk, clients)?;
+    let entry = plan_group(&store, clients, def)?;
+    add_entry(alloc, store, entry, Settling::Before, disk, out, clients)
+}
+
+/// Sets the level of a group for a contact and prints it.
+pub fn set_level<D: Disk, W: Sink, C: Clients>(
+    alloc: Global,
+    hasher: RandomState,
+    contact: u8,
+    group: &GroupId,
+    level: Level,
+    disk: &mut D,
+    out: &mut W,
+    clients: &C,
+) -> Result<(), Outcome>
+    ensures { HasAdded (C.meaning clients.now) (λ f. level_plan f contact group.now level)
+        Settling.Before (D.tells disk.old) (D.tells disk.new) (W.tells out.old) (W.tells out.new)
+        (came_to result) }
+{
+    let store = load_store(alloc, hasher, disk, clients)?;
+    let entry = plan_level(&store, contact, group, level)?;
+    add_entry(alloc, store, entry, Settling::Before, disk, out, clients)
+}
+
+/// Settles the journal, adds the entry, settles again where that is asked for, and prints the
+/// entry's line.
+pub fn add_entry<D: Disk, W: Sink, C: Clients>(
+    alloc: Global,
+    store: Store,
+    entry: Entry,
+    settling: Settling,
+    disk: &mut D,
+    out: &mut W,
+    clients: &C,
+) -> Result<(), Outcome>
+    requires ready { MayExtend (C.meaning clients.now) store (D.tells disk.old).files }
+    requires follows { MayFollow (C.meaning clients.now) store.state.facts (entry ∷ []) }
+    requires kind { is_settling_kind (entry ∷ []) ≡ false }
+    ensures { EntryAdded (C.meaning clients.now) settling store entry (D.tells disk.old)
+        (D.tells disk.new) (W.tells out.old) (W.tells out.new) (came_to result) }
+{
+    let mut store = store;
+    let line = line_of(alloc, &entry)?;
+    let batch = batch_of(alloc, entry)?;
+    extend(&mut store, batch, settling, disk, clients)?;
+    print_bytes(line.as_bytes(), out)
+}
+
+// The line of an entry that a command adds.
+fn line_of(alloc: Global, entry: &Entry) -> Result<String, AllocError>
+    ensures { IfOk result (λ line. string_bytes line ≡ added_text entry.now) }
+{
+    let mut line = String::new(alloc);
+    add_line(alloc, entry, &mut line)?;
+    Ok(line)
+}
+
+fn add_line(alloc: Global, entry: &Entry, to: &mut String) -> Result<(), AllocError>
+    ensures { OnOk result (string_bytes to.new ≡ string_bytes to.old ++ added_text entry.now) }
+{
+    match entry {
+        Entry::Contact(n) => contact_line(*n, to),
+        Entry::Group(def) => group_line(alloc, &group_id(def), to),
+        Entry::Level(contact, group, level) => level_line(alloc, *contact, group, *level, to),
+        Entry::Author(message) => posted_line(alloc, &id_of(message), to),
+        _ => Ok(()),
+    }
+}
+
+// The batch of one entry.
+fn batch_of(alloc: Global, entry: Entry) -> Result<Batch, AllocError>
+    ensures { IfOk result (λ batch. batch ≡ entry ∷ []) }
+{
+    let mut entries = Vec::new(alloc);
+    entries.push(entry)?;
+    match Batch::new(entries) {
+        Ok(batch) => Ok(batch),
+        Err(_) => unreachable!(),
+    }
+}

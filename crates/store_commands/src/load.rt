@@ -1,0 +1,38 @@
+// A store that is loaded, or what the command comes to without one.
+ghost use Rattle.std.specs.Prelude.{◌≡◌, Some};
+ghost use Rattle.outside.specs.Files.{Two, File, read_files};
+ghost use Rattle.outside.specs.Outside.{DiskRun};
+ghost use Rattle.entry_codec.specs.Standing.{stands};
+ghost use Rattle.store_commands.specs.Show.{Rests};
+ghost use Rattle.store_commands.specs.Load.{IsLoaded, IsOpened, LoadedBy, LoadKeeps};
+
+use outside::{Disk, MAX_JOURNAL};
+use std::alloc::Global;
+use std::hash::RandomState;
+use sync_rules::Clients;
+use sync_store::{LoadFault, Store};
+use sync_words::Outcome;
+
+/// Loads the store of these files.
+pub fn load_store<D: Disk, C: Clients>(
+    alloc: Global,
+    hasher: RandomState,
+    disk: &mut D,
+    clients: &C,
+) -> Result<Store, Outcome>
+    ensures run { DiskRun (D.tells disk.old) (D.tells disk.new) }
+    ensures by { LoadedBy (D.tells disk.old) (D.tells disk.new) result }
+    ensures rests { (two : Two File) → (D.tells disk.old).files ≡ Some two
+        → Rests (LoadKeeps result two) two (D.tells disk.old) (D.tells disk.new) }
+    ensures loaded { (two : Two File) → (D.tells disk.old).files ≡ Some two
+        → IsLoaded (stands (C.meaning clients.now) (read_files two)) result }
+    ensures opened { IsOpened (C.meaning clients.now) (D.tells disk.new).files result }
+{
+    match Store::load(alloc, hasher, disk, clients, MAX_JOURNAL) {
+        Ok(store) => Ok(store),
+        Err(LoadFault::Memory) => Err(Outcome::Memory),
+        Err(LoadFault::DiskFault) => Err(Outcome::DiskFault),
+        Err(LoadFault::NoStore) => Err(Outcome::NoStore),
+        Err(LoadFault::Damaged(place)) => Err(Outcome::Damaged(place)),
+    }
+}

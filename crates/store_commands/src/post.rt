@@ -1,0 +1,61 @@
+// The command `post GROUP TIMESTAMP`.
+ghost use Rattle.std.specs.Prelude.{◌≤◌};
+ghost use Rattle.sync_words.specs.Outcomes.{came_to};
+ghost use Rattle.store_commands.specs.Post.{HasPosted, IsRead};
+
+use crate::commit::Settling;
+use crate::entries::add_entry;
+use crate::load::load_store;
+use crate::plans::{knows_group, plan_post};
+use outside::{Disk, InputFault, Sink, Source, read_input};
+use std::alloc::Global;
+use std::hash::RandomState;
+use sync_ids::{GroupId, MAX_BODY, MAX_TIMESTAMP};
+use sync_rules::{Clients, Refused};
+use sync_words::Outcome;
+
+/// Reads a body from the input, adds its message to a group, settles, and prints the message's id.
+pub fn post_message<D: Disk, S: Source, W: Sink, C: Clients>(
+    alloc: Global,
+    hasher: RandomState,
+    group: GroupId,
+    timestamp: u64,
+    disk: &mut D,
+    input: &mut S,
+    out: &mut W,
+    clients: &C,
+) -> Result<(), Outcome>
+    requires { timestamp ≤ MAX_TIMESTAMP }
+    ensures { HasPosted (C.meaning clients.now) group timestamp (D.tells disk.old)
+        (D.tells disk.new) (S.tells input.old) (S.tells input.new) (W.tells out.old)
+        (W.tells out.new) (came_to result) }
+{
+    let store = load_store(alloc, hasher, disk, clients)?;
+    if !knows_group(&store, &group) {
+        return Err(Outcome::Refused(Refused::UnknownGroup));
+    }
+    let body = read_body(alloc, input)?;
+    let entry = plan_post(&store, clients, group, timestamp, body)?;
+    add_entry(
+        alloc,
+        store,
+        entry,
+        Settling::BeforeAndAfter,
+        disk,
+        out,
+        clients,
+    )
+}
+
+// Reads a body: the whole input, of which no more than 32,769 bytes are read.
+fn read_body<S: Source>(alloc: Global, input: &mut S) -> Result<Vec<u8>, Outcome>
+    ensures { IsRead (S.tells input.old) (S.tells input.new) result }
+{
+    let mut body = Vec::new(alloc);
+    match read_input(input, MAX_BODY as u64, &mut body) {
+        Ok(()) => Ok(body),
+        Err(InputFault::TooMuch) => Err(Outcome::Refused(Refused::BodyTooLong)),
+        Err(InputFault::ReadFault) => Err(Outcome::ReadFault),
+        Err(InputFault::Memory) => Err(Outcome::Memory),
+    }
+}

@@ -1,0 +1,47 @@
+-- What a player has heard, item by item.
+use Rattle.std.proofs.Common.{◌≡◌, List, [], ◌∷◌, ◌++◌, refl, sym, ◌∙◌, subst, ap, append-nil, append_assoc}
+use Rattle.record_grammar.specs.Stream.{records_of}
+use Rattle.record_grammar.specs.declared.stream.Item.{Item}
+use Rattle.record_grammar.specs.declared.stream.Item.TheVariants as item
+use Rattle.journal_play.specs.Playing.{Played, HasPlayed}
+use Rattle.sync_ids.specs.Values.{GroupValue}
+use Rattle.sync_ids.specs.declared.records.Record.{Record}
+use Rattle.sync_rules.specs.Clients.{Meaning}
+use Rattle.sync_top.specs.Plays.{Plays}
+
+-- the records of one item more
+records_push : (some : List Item) (i : Item) → records_of (some ++ i ∷ []) ≡ records_of some ++ records_of (i ∷ [])
+unfolding records_of
+records_push [] i = refl
+records_push (item.One place r ∷ some) i = ap (λ (l : List Record). r ∷ l) (records_push some i)
+records_push (item.Skipped place type_byte len ∷ some) i = records_push some i
+
+-- an item without a record changes nothing
+pub plays_same : (clients : Meaning) (play : Played) (some : List Item) (clients' : Meaning) (play' : Played) (i : Item) → records_of (i ∷ []) ≡ []
+    → Plays clients play some clients' play' → Plays clients play (some ++ i ∷ []) clients' play'
+plays_same clients play some clients' play' i none plays = record {
+  same = plays.same;
+  takes = λ def records played.
+      let all : records_of (some ++ i ∷ []) ≡ records_of some = records_push some i ∙ ap (λ (l : List Record). records_of some ++ l) none ∙ append-nil (records_of some) in
+      subst (λ (rs : List Record). HasPlayed clients def (records ++ rs) play') (sym all) (plays.takes def records played);
+}
+
+-- a record more
+pub plays_more : (clients : Meaning) (play : Played) (some : List Item) (clients' : Meaning) (play' play'' : Played) (i : Item) (r : Record) → records_of (i ∷ []) ≡ r ∷ []
+    → ((def : GroupValue) (records : List Record) → HasPlayed clients' def records play' → HasPlayed clients' def (records ++ r ∷ []) play'')
+    → Plays clients play some clients' play' → Plays clients play (some ++ i ∷ []) clients' play''
+plays_more clients play some clients' play' play'' i r one hears plays = record {
+  same = plays.same;
+  takes = λ def records played.
+      let all : records_of (some ++ i ∷ []) ≡ records_of some ++ r ∷ [] = records_push some i ∙ ap (λ (l : List Record). records_of some ++ l) one in
+      let has : HasPlayed clients' def (records ++ records_of some) play' =
+      subst (λ (m : Meaning). HasPlayed m def (records ++ records_of some) play') (sym plays.same) (plays.takes def records played) in
+      let more : HasPlayed clients def ((records ++ records_of some) ++ r ∷ []) play'' =
+      subst (λ (m : Meaning). HasPlayed m def ((records ++ records_of some) ++ r ∷ []) play'') plays.same (hears def (records ++ records_of some) has) in
+      subst (λ (rs : List Record). HasPlayed clients def rs play'') (append_assoc records (records_of some) (r ∷ []) ∙ ap (λ (l : List Record). records ++ l) (sym all)) more;
+}
+
+-- what a player has taken that was begun with nothing
+pub played_all : (clients clients' : Meaning) (play play' : Played) (some : List Item) (def : GroupValue) → Plays clients play some clients' play' → HasPlayed clients def [] play
+    → HasPlayed clients def (records_of some) play'
+played_all clients clients' play play' some def plays begun = plays.takes def [] begun

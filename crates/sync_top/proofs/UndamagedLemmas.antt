@@ -1,0 +1,132 @@
+-- No command damages a store.
+use Rattle.std.proofs.Common.{◌≡◌, ℕ, Bool, true, false, List, [], refl, sym, ap, ◌∙◌, subst, inl, inr, Option, Some, None}
+use Rattle.std.specs.Prelude.{◌⊎◌, ◌&&◌, ◌||◌, if◌then◌else◌, nat_lt}
+use Rattle.outside.specs.Files.{Two, File, IsImage, read_files}
+use Rattle.outside.specs.Frames.{generation_in, is_open, journal_file}
+use Rattle.outside.specs.Outside.{Outside, Moment, MomentsAre, IsNow}
+use Rattle.outside.specs.Steps.{moments_map, moments_none}
+use Rattle.outside.specs.Streams.{IsIdle, Stream}
+use Rattle.sync_rules.specs.declared.entries.Entry.{Entry}
+use Rattle.sync_rules.specs.declared.states.Refused.TheVariants as refused
+use Rattle.sync_rules.specs.Clients.{Meaning}
+use Rattle.sync_rules.specs.Facts.{Facts, Id}
+use Rattle.entry_codec.specs.Standing.{Standing, journal, no_store, stands, stands_in}
+use Rattle.sync_store.specs.Begin.{InitMoment, has_open}
+use Rattle.sync_words.specs.declared.outcome.Outcome.{Outcome}
+use Rattle.sync_words.specs.declared.outcome.Outcome.TheVariants as outcome
+use Rattle.sync_words.specs.Reading.{Asked}
+use Rattle.sync_words.specs.Reading.Asked.{Usage, Do}
+use Rattle.sync_words.specs.declared.command.Command.TheVariants as command
+use Rattle.store_commands.specs.declared.commit.Settling.{Settling}
+use Rattle.store_commands.specs.declared.commit.Settling.TheVariants as settling
+use Rattle.store_commands.specs.declared.listing.Listing.TheVariants as listing
+use Rattle.store_commands.specs.Entries.{AddsMoment, HasAdded}
+use Rattle.store_commands.specs.Init.{HasBegun}
+use Rattle.store_commands.specs.Plans.{Plan, contact_plan, group_plan, level_plan}
+use Rattle.store_commands.specs.Post.{HasPosted, PostsBody, StopsShort}
+use Rattle.store_commands.specs.Show.{HasLooked}
+use Rattle.store_commands.specs.Shown.{Showing, body_shown, listing_shown}
+use Rattle.sync_top.specs.Run.{Comes, ComesOfStore, KeepsHost}
+use Rattle.sync_top.specs.Undamaged.{StandsForSome, Undamaged}
+
+-- ---- a store that is begun
+
+-- the journal's file by which headers are open, and whether the second is the later one
+abbrev file_where : (first second later : Bool) → Option ℕ
+file_where first second later = if first then (if second && later then Some 1 else Some 0) else (if second then Some 1 else None)
+
+no_file : (a b c : Bool) → (a || b) ≡ false → file_where a b c ≡ None
+no_file true b c none = absurd (let e : true ≡ false = none in cc)
+no_file false true c none = absurd (let e : true ≡ false = none in cc)
+no_file false false c none = refl
+
+none_open : (two : Two File) → has_open two ≡ false → journal_file (read_files two) ≡ None
+none_open two none =
+    no_file (is_open two.first.now) (is_open two.second.now) (nat_lt (generation_in two.first.now) (generation_in two.second.now)) none
+
+no_store_there : (clients : Meaning) (two : Two File) → has_open two ≡ false → stands clients (read_files two) ≡ no_store
+unfolding stands
+no_store_there clients two none = ap (stands_in clients (read_files two)) (none_open two none)
+
+-- ---- the moments of the commands
+
+module _ (clients : Meaning) (old new : Outside) where
+  -- nothing is left but what a crash might have left before
+  of_now : ((two : Two File) → old.files ≡ Some two → MomentsAre old new (IsNow two old.links)) → Undamaged clients old new
+  of_now moments two files each = moments_map old new _ _ (λ m w. each m.files w.image) (moments two files)
+
+  -- a store was begun where there was one: there is no such moment
+  begun_moment : (two : Two File) → old.files ≡ Some two → ((left : Two (List ℕ)) → IsImage two left → StandsForSome clients left) → (m : Moment) → InitMoment two old.links m
+      → StandsForSome clients m.files
+  begun_moment two files each m (inl now) = each m.files now.image
+  begun_moment two files each m (inr begun) =
+      let some = each (read_files two) (old.reads two files) in
+      absurd (let both : no_store ≡ journal some.of = sym (no_store_there clients two begun.0) ∙ some.stands_for in cc)
+
+  of_begun : (out out' : Stream) (came : Outcome) → HasBegun old new out out' came → Undamaged clients old new
+  of_begun out out' came did two files each = moments_map old new _ _ (begun_moment two files each) (did.told two files).moments
+
+  of_looked : (shown : Facts → Showing) (out out' : Stream) (came : Outcome) → HasLooked clients shown old new out out' came → Undamaged clients old new
+  of_looked shown out out' came did = of_now (λ two files. (did.told two files).rests.moments)
+
+  added_moment : (plan : Facts → Plan) (standing : Standing) (came : Outcome) (sent : List (List ℕ)) (two : Two File) → ((left : Two (List ℕ)) → IsImage two left → StandsForSome clients left)
+      → (m : Moment) → IsNow two old.links m ⊎ AddsMoment clients plan standing came sent m → StandsForSome clients m.files
+  added_moment plan standing came sent two each m (inl now) = each m.files now.image
+  added_moment plan standing came sent two each m (inr adds) = record { of = adds.1.leads.whole; stands_for = adds.1.leads.stands_for }
+
+  of_added : (plan : Facts → Plan) (asked : Settling) (out out' : Stream) (came : Outcome) → HasAdded clients plan asked old new out out' came → Undamaged clients old new
+  of_added plan asked out out' came did two files each = moments_map old new _ _ (added_moment plan _ came _ two each) (did.told two files).moments
+
+  module _ (group : Id) (timestamp : ℕ) (input input' out out' : Stream) where
+    of_stopped : (came : Outcome) → StopsShort clients group old new input input' out out' came → Undamaged clients old new
+    of_stopped came did = of_now (λ two files. (did.told two files).rests.moments)
+
+    of_body : (came : Outcome) → PostsBody clients group timestamp old new input input' out out' came → Undamaged clients old new
+    of_body came did = of_added _ _ out out' came did.added
+
+    of_posted : (came : Outcome) → HasPosted clients group timestamp old new input input' out out' came → Undamaged clients old new
+    of_posted outcome.NoStore did = of_stopped outcome.NoStore did
+    of_posted (outcome.Damaged place) did = of_stopped (outcome.Damaged place) did
+    of_posted (outcome.Refused refused.UnknownGroup) did = of_stopped (outcome.Refused refused.UnknownGroup) did
+    of_posted outcome.ReadFault did = of_stopped outcome.ReadFault did
+    of_posted outcome.DiskFault (inl did) = of_stopped outcome.DiskFault did
+    of_posted outcome.DiskFault (inr did) = of_body outcome.DiskFault did
+    of_posted outcome.Memory (inl did) = of_stopped outcome.Memory did
+    of_posted outcome.Memory (inr did) = of_body outcome.Memory did
+    of_posted came did = of_body came did
+
+  of_store : (did : Outcome → Type 0) (input input' out out' : Stream) (came : Outcome) → (did came → Undamaged clients old new)
+      → ComesOfStore did old new input input' out out' came → Undamaged clients old new
+  of_store did input input' out out' came of_did (inl done) = of_did done
+  of_store did input input' out out' came of_did (inr none) = of_now (λ two files. (none.1.rests two files).moments)
+
+-- ---- all commands
+
+nothing_done : (clients : Meaning) (o : Outside) → Undamaged clients o o
+nothing_done clients o two files each = moments_none o _ (λ m w. each m.files (o.now_is two m files w).image)
+
+module _ {H : Type 0} (tells : H → Outside) (clients : Meaning) (h h' : H) (input input' out out' : Stream) (came : Outcome) where
+  kept : h' ≡ h → Undamaged clients (tells h) (tells h')
+  kept same = subst (λ (x : H). Undamaged clients (tells h) (tells x)) (sym same) (nothing_done clients (tells h))
+
+  pub undamaged : (words : Asked) → Comes clients words (tells h) (tells h') input input' out out' came → KeepsHost words h h' → Undamaged clients (tells h) (tells h')
+  undamaged (Usage place) comes keeps = kept keeps
+  undamaged (Do (command.Try name descriptor)) comes keeps = kept keeps
+  undamaged (Do command.Records) comes keeps = kept keeps
+  undamaged (Do command.Init) comes keeps =
+      of_store clients (tells h) (tells h') (λ o. HasBegun (tells h) (tells h') out out' o × IsIdle input input') input input' out out' came (λ did. of_begun clients (tells h) (tells h') out out' came did.0) comes
+  undamaged (Do command.Contact) comes keeps =
+      of_store clients (tells h) (tells h') (λ o. HasAdded clients contact_plan settling.Before (tells h) (tells h') out out' o × IsIdle input input') input input' out out' came (λ did. of_added clients (tells h) (tells h') _ _ out out' came did.0) comes
+  undamaged (Do (command.Group name major descriptor)) comes keeps =
+      of_store clients (tells h) (tells h') (λ o. HasAdded clients (λ f. group_plan clients f (record { name = name; major = major; descriptor = descriptor })) settling.Before (tells h) (tells h') out out' o × IsIdle input input') input input' out out' came (λ did. of_added clients (tells h) (tells h') _ _ out out' came did.0) comes
+  undamaged (Do (command.Share contact group level)) comes keeps =
+      of_store clients (tells h) (tells h') (λ o. HasAdded clients (λ f. level_plan f contact group level) settling.Before (tells h) (tells h') out out' o × IsIdle input input') input input' out out' came (λ did. of_added clients (tells h) (tells h') _ _ out out' came did.0) comes
+  undamaged (Do (command.Post group timestamp)) comes keeps =
+      of_store clients (tells h) (tells h') (λ o. HasPosted clients group timestamp (tells h) (tells h') input input' out out' o) input input' out out' came
+      (λ did. of_posted clients (tells h) (tells h') group timestamp input input' out out' came did) comes
+  undamaged (Do command.Show) comes keeps =
+      of_store clients (tells h) (tells h') (λ o. HasLooked clients (listing_shown listing.Store) (tells h) (tells h') out out' o × IsIdle input input') input input' out out' came (λ did. of_looked clients (tells h) (tells h') _ out out' came did.0) comes
+  undamaged (Do command.Inbox) comes keeps =
+      of_store clients (tells h) (tells h') (λ o. HasLooked clients (listing_shown listing.Inbox) (tells h) (tells h') out out' o × IsIdle input input') input input' out out' came (λ did. of_looked clients (tells h) (tells h') _ out out' came did.0) comes
+  undamaged (Do (command.Body id)) comes keeps =
+      of_store clients (tells h) (tells h') (λ o. HasLooked clients (body_shown id) (tells h) (tells h') out out' o × IsIdle input input') input input' out out' came (λ did. of_looked clients (tells h) (tells h') _ out out' came did.0) comes

@@ -1,0 +1,18 @@
+-- No own damage: a store that nobody else wrote is never damaged.
+use Rattle.std.specs.Prelude.{◌≡◌, ℕ, List, Some}
+use Rattle.outside.specs.Files.{Two, File, IsImage}
+use Rattle.outside.specs.Outside.{Outside, MomentsAre}
+use Rattle.sync_rules.specs.declared.entries.Entry.{Entry}
+use Rattle.sync_rules.specs.Clients.{Meaning}
+use Rattle.entry_codec.specs.Standing.{journal, stands}
+
+-- the files stand for a journal
+pub record StandsForSome (clients : Meaning) (files : Two (List ℕ)) : Type 0 where
+  pub of : List (List Entry)
+  pub stands_for : stands clients files ≡ journal of
+
+-- If whatever a crash might have left at the start stands for a journal, so does whatever it might leave at any moment of the run.
+abbrev pub Undamaged : Meaning → (old new : Outside) → Type 0
+Undamaged clients old new =
+    (two : Two File) → old.files ≡ Some two → ((left : Two (List ℕ)) → IsImage two left → StandsForSome clients left)
+    → MomentsAre old new (λ m. StandsForSome clients m.files)

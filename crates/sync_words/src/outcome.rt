@@ -1,0 +1,167 @@
+//! What a command came to.
+ghost use Rattle.std.specs.Prelude.{◌≡◌, ◌≤◌, [], length};
+ghost use Rattle.sync_words.specs.Outcomes.{came_to, links_text, status_of, text_of};
+
+use crate::command::WordsFault;
+use crate::error_lines::{
+    ErrorText, ReasonText, add_bad_record, add_damaged, add_inside, add_link, add_plain,
+    add_refused, add_script, add_usage,
+};
+use crate::links::{LinkEnd, LinkEnds};
+use crate::status::Status;
+use outside::{LINKS, Place};
+use std::alloc::AllocError;
+use sync_rules::Refused;
+
+/// What a command came to, with what its lines on the error output name.
+#[derive(Debug, Drop)]
+pub enum Outcome {
+    /// All was done; there is no line.
+    Done,
+    /// The place of the first wrong word.
+    Usage(usize),
+    /// Neither file has an open header.
+    NoStore,
+    /// A file has an open header where a store was to be made.
+    Exists,
+    /// A test of the command failed.
+    Refused(Refused),
+    /// The files stand for no journal: this place of theirs is damaged.
+    Damaged(Place),
+    /// A call on the disk failed.
+    DiskFault,
+    /// The links of the command ended so; there is a line for each.
+    Links(LinkEnds),
+    /// A read of the input failed.
+    ReadFault,
+    /// At this place of the input something begins that is no record.
+    Bad(u64, ReasonText),
+    /// The input ends inside a record that begins at this place.
+    Inside(u64),
+    /// The journal has no room for what was to be added.
+    Full,
+    /// Memory ran out.
+    Memory,
+    /// A write to the output failed.
+    WriteFault,
+    /// The input is too long.
+    TooMuch,
+    /// The first bad line of a script, counted from 1.
+    BadScript(u64),
+}
+
+impl From<AllocError> for Outcome {
+    ghost use Rattle.std.specs.Prelude.{◌≡◌};
+    ghost use Rattle.sync_words.specs.declared.outcome.Outcome.TheVariants as outcome;
+
+    ghost from_gives = { λ _ came. came ≡ outcome.Memory };
+
+    fn from(_: AllocError) -> Outcome {
+        Outcome::Memory
+    }
+}
+
+impl From<Refused> for Outcome {
+    ghost use Rattle.std.specs.Prelude.{◌≡◌};
+    ghost use Rattle.sync_words.specs.declared.outcome.Outcome.TheVariants as outcome;
+
+    ghost from_gives = { λ why came. came ≡ outcome.Refused why };
+
+    fn from(why: Refused) -> Outcome {
+        Outcome::Refused(why)
+    }
+}
+
+impl From<WordsFault> for Outcome {
+    ghost use Rattle.std.specs.Prelude.{◌≡◌};
+    ghost use Rattle.sync_words.specs.Outcomes.{words_came};
+
+    ghost from_gives = { λ fault came. came ≡ words_came fault };
+
+    fn from(fault: WordsFault) -> Outcome {
+        match fault {
+            WordsFault::Usage(place) => Outcome::Usage(place),
+            WordsFault::Memory => Outcome::Memory,
+        }
+    }
+}
+
+impl Outcome {
+    /// What a command came to that did all, or ended before with an outcome.
+    pub fn of(ended: Result<(), Outcome>) -> Outcome
+        ensures { result ≡ came_to ended }
+    {
+        match ended {
+            Ok(()) => Outcome::Done,
+            Err(came) => came,
+        }
+    }
+
+    /// The status of this outcome.
+    pub fn status(&self) -> Status
+        ensures { result ≡ status_of self.now }
+    {
+        match self {
+            Outcome::Done => Status::Done,
+            Outcome::Usage(_) => Status::Usage,
+            Outcome::NoStore => Status::NoStore,
+            Outcome::Exists => Status::Exists,
+            Outcome::Refused(_) => Status::Refused,
+            Outcome::Damaged(_) => Status::Damaged,
+            Outcome::DiskFault => Status::DiskFault,
+            Outcome::Links(ends) => ends.status(),
+            Outcome::ReadFault => Status::ReadFault,
+            Outcome::Bad(_, _) | Outcome::Inside(_) => Status::BadStream,
+            Outcome::Full => Status::Full,
+            Outcome::Memory => Status::Memory,
+            Outcome::WriteFault => Status::WriteFault,
+            Outcome::TooMuch => Status::TooMuch,
+            Outcome::BadScript(_) => Status::BadScript,
+        }
+    }
+
+    /// What the error output gets: a line, nothing where all was done, or a line for each link. It
+    /// takes no memory.
+    pub fn text(&self) -> ErrorText
+        ensures { result.bytes ≡ text_of self.now }
+    {
+        let mut text = ErrorText::new();
+        self.add_to(&mut text);
+        text
+    }
+
+    fn add_to(&self, to: &mut ErrorText)
+        requires { to.old.bytes ≡ [] }
+        ensures { to.new.bytes ≡ text_of self.now }
+    {
+        match self {
+            Outcome::Done => {}
+            Outcome::Usage(place) => add_usage(*place, to),
+            Outcome::NoStore => add_plain(Status::NoStore, to),
+            Outcome::Exists => add_plain(Status::Exists, to),
+            Outcome::Refused(why) => add_refused(*why, to),
+            Outcome::Damaged(place) => add_damaged(place.file, place.at, to),
+            Outcome::DiskFault => add_plain(Status::DiskFault, to),
+            Outcome::Links(ends) => add_links(ends.as_slice(), to),
+            Outcome::ReadFault => add_plain(Status::ReadFault, to),
+            Outcome::Bad(place, reason) => add_bad_record(*place, *reason, to),
+            Outcome::Inside(place) => add_inside(*place, to),
+            Outcome::Full => add_plain(Status::Full, to),
+            Outcome::Memory => add_plain(Status::Memory, to),
+            Outcome::WriteFault => add_plain(Status::WriteFault, to),
+            Outcome::TooMuch => add_plain(Status::TooMuch, to),
+            Outcome::BadScript(line) => add_script(*line, to),
+        }
+    }
+}
+
+// A line for each link.
+fn add_links(ends: &[LinkEnd], to: &mut ErrorText)
+    requires few { length ends.now ≤ LINKS }
+    requires start { to.old.bytes ≡ [] }
+    ensures { to.new.bytes ≡ links_text ends.now }
+{
+    for end in ends {
+        add_link(end.link, &end.ending, to);
+    }
+}

@@ -1,0 +1,80 @@
+//! Plays the commands over a host in memory, and compares what they print, their status and the
+//! files that they leave with tables. The bytes and ids of the tables are those of an
+//! independent program, whose BLAKE2b is that of Python's hashlib.
+#![tactic(auto)]
+
+mod damage;
+mod damage_tables;
+mod failing;
+mod journal;
+mod journals;
+mod limits;
+mod play;
+mod records;
+mod refusals;
+mod scenes;
+mod session;
+mod slow;
+mod steps;
+mod stops;
+mod stored;
+mod streams;
+mod tally;
+mod want;
+mod words;
+
+use crate::tally::Tally;
+use anyhow::Result;
+use std::alloc::Global;
+
+/// A table of cases.
+#[derive(Clone, Copy)]
+enum Table {
+    Session,
+    Stored,
+    Refusals,
+    Limits,
+    Words,
+    Damage,
+    Stops,
+    Failing,
+    Loads,
+    Streams,
+}
+
+const TABLES: [(&str, Table); 10] = [
+    ("session", Table::Session),
+    ("stored", Table::Stored),
+    ("refusals", Table::Refusals),
+    ("limits", Table::Limits),
+    ("words", Table::Words),
+    ("damage", Table::Damage),
+    ("stops", Table::Stops),
+    ("failing calls", Table::Failing),
+    ("refusals behind a load", Table::Loads),
+    ("streams", Table::Streams),
+];
+
+fn main(rt: HostRuntime) -> Result<()> {
+    for (name, table) in TABLES {
+        let mut tally = Tally::new(name);
+        play_table(&rt, rt.alloc(), table, &mut tally)?;
+        tally.close(&rt)?;
+    }
+    Ok(())
+}
+
+fn play_table<P: Print>(rt: &P, alloc: Global, table: Table, tally: &mut Tally) -> Result<()> {
+    match table {
+        Table::Session => session::play_all(rt, alloc, tally),
+        Table::Stored => stored::play_all(rt, alloc, tally),
+        Table::Refusals => refusals::play_all(rt, alloc, tally),
+        Table::Limits => limits::play_all(rt, alloc, tally),
+        Table::Words => words::play_all(rt, alloc, tally),
+        Table::Damage => damage::play_all(rt, alloc, tally),
+        Table::Stops => stops::play_all(rt, alloc, tally),
+        Table::Failing => failing::play_all(rt, alloc, tally),
+        Table::Loads => refusals::play_loads(rt, alloc, tally),
+        Table::Streams => streams::play_all(rt, alloc, tally),
+    }
+}

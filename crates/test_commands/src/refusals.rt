@@ -1,0 +1,310 @@
+//! What the commands refuse, each with its line, the files as they were.
+
+use crate::journal::journal_of;
+use crate::journals::{
+    BOTH, EMPTY, FEED, FRESH, HELD, INVALID, NOTE, ONE, PENDING, THREAD, UNKNOWN,
+};
+use crate::play::{Failing, Order, play};
+use crate::tally::{Tally, expect};
+use crate::want::{Files, Said};
+use anyhow::Result;
+use std::alloc::Global;
+use sync_top::Status;
+
+/// A command that is refused: the payloads of the journal, its words and input, and what follows
+/// `refused: ` in its line.
+#[derive(Clone, Copy)]
+struct Refusal {
+    before: &'static str,
+    words: &'static str,
+    input: &'static [u8],
+    line: &'static str,
+}
+
+/// Plays all refusals, and all commands without a store.
+pub(crate) fn play_all<P: Print>(rt: &P, alloc: Global, tally: &mut Tally) -> Result<()> {
+    for refusal in &REFUSALS {
+        play_refusal(rt, alloc, refusal, tally)?;
+    }
+    for words in OF_A_STORE {
+        play_without(rt, alloc, words, tally)?;
+    }
+    for before in BEGUN {
+        play_again(rt, alloc, before, tally)?;
+    }
+    play_unread(rt, alloc, tally)
+}
+
+/// Plays all refusals over a disk whose first call behind the load fails: a refused command makes
+/// no call there.
+pub(crate) fn play_loads<P: Print>(rt: &P, alloc: Global, tally: &mut Tally) -> Result<()> {
+    for refusal in &REFUSALS {
+        play_load(rt, alloc, refusal, tally)?;
+    }
+    Ok(())
+}
+
+fn play_load<P: Print>(rt: &P, alloc: Global, refusal: &Refusal, tally: &mut Tally) -> Result<()> {
+    let files = Files::one(alloc, journal_of(alloc, refusal.before)?);
+    let shown = play(alloc, &Order::new("show", b""), files.disk(alloc)?)?;
+    let line = format!(in alloc; "refused: {}\n", refusal.line)?;
+    let said = Said::line(alloc, Status::Refused, line.as_bytes())?;
+    let order = Order {
+        failing: Failing::Disk(shown.disk.calls()),
+        ..Order::new(refusal.words, refusal.input)
+    };
+    expect(rt, alloc, &order, &files, &said, &files, tally)
+}
+
+fn play_refusal<P: Print>(
+    rt: &P,
+    alloc: Global,
+    refusal: &Refusal,
+    tally: &mut Tally,
+) -> Result<()> {
+    let files = Files::one(alloc, journal_of(alloc, refusal.before)?);
+    let line = format!(in alloc; "refused: {}\n", refusal.line)?;
+    let said = Said::line(alloc, Status::Refused, line.as_bytes())?;
+    let order = Order::new(refusal.words, refusal.input);
+    expect(rt, alloc, &order, &files, &said, &files, tally)
+}
+
+// A command of a store where there is none; a failing source makes no difference.
+fn play_without<P: Print>(rt: &P, alloc: Global, words: &str, tally: &mut Tally) -> Result<()> {
+    let files = Files::none(alloc);
+    let said = Said::line(alloc, Status::NoStore, b"no store\n")?;
+    expect(rt, alloc, &unread(words), &files, &said, &files, tally)
+}
+
+// A second `init`, over the journal of these payloads.
+fn play_again<P: Print>(rt: &P, alloc: Global, before: &str, tally: &mut Tally) -> Result<()> {
+    let files = Files::one(alloc, journal_of(alloc, before)?);
+    let said = Said::line(alloc, Status::Exists, b"store exists\n")?;
+    let order = Order::new("init", b"");
+    expect(rt, alloc, &order, &files, &said, &files, tally)
+}
+
+// A post to an unknown group is refused before its body is read.
+fn play_unread<P: Print>(rt: &P, alloc: Global, tally: &mut Tally) -> Result<()> {
+    let files = Files::one(alloc, journal_of(alloc, ONE)?);
+    let said = Said::line(alloc, Status::Refused, b"refused: unknown group\n")?;
+    expect(rt, alloc, &unread(UNREAD), &files, &said, &files, tally)
+}
+
+// A command whose first read would fail.
+fn unread(words: &str) -> Order<'_> {
+    Order {
+        failing: Failing::Read(0),
+        ..Order::new(words, b"x")
+    }
+}
+
+const OF_A_STORE: [&str; 8] = [
+    "contact",
+    "group note 0 d",
+    "group chat 0 d",
+    "share 0 76ff4980d3b5f63962cee45401b6b1bb92efe989c27de4629aac92b18163e6e0 shared",
+    "post 76ff4980d3b5f63962cee45401b6b1bb92efe989c27de4629aac92b18163e6e0 0",
+    "show",
+    "inbox",
+    "body 3443418c0382800e42ae01fb9d676b7b25405d2875809cf8d6808f04741c96a4",
+];
+
+const BEGUN: [&str; 4] = [EMPTY, ONE, HELD, "00"];
+
+const UNREAD: &str = "post 76ff4980d3b5f63962cee45401b6b1bb92efe989c27de4629aac92b18163e6e0 0";
+
+const REFUSALS: [Refusal; 32] = [
+    Refusal {
+        before: ONE,
+        words: "group chat 0 d",
+        input: b"",
+        line: "unknown client",
+    },
+    Refusal {
+        before: ONE,
+        words: "group note 1 d",
+        input: b"",
+        line: "unknown client",
+    },
+    Refusal {
+        before: ONE,
+        words: "group note 4294967295 d",
+        input: b"",
+        line: "unknown client",
+    },
+    Refusal {
+        before: ONE,
+        words: "group Note 0 d",
+        input: b"",
+        line: "unknown client",
+    },
+    Refusal {
+        before: NOTE,
+        words: "group note 0 d",
+        input: b"",
+        line: "group exists",
+    },
+    Refusal {
+        before: EMPTY,
+        words: "share 0 76ff4980d3b5f63962cee45401b6b1bb92efe989c27de4629aac92b18163e6e0 shared",
+        input: b"",
+        line: "unknown contact",
+    },
+    Refusal {
+        before: NOTE,
+        words: "share 1 76ff4980d3b5f63962cee45401b6b1bb92efe989c27de4629aac92b18163e6e0 shared",
+        input: b"",
+        line: "unknown contact",
+    },
+    Refusal {
+        before: NOTE,
+        words: "share 255 76ff4980d3b5f63962cee45401b6b1bb92efe989c27de4629aac92b18163e6e0 invisible",
+        input: b"",
+        line: "unknown contact",
+    },
+    Refusal {
+        before: ONE,
+        words: "share 1 76ff4980d3b5f63962cee45401b6b1bb92efe989c27de4629aac92b18163e6e0 shared",
+        input: b"",
+        line: "unknown contact",
+    },
+    Refusal {
+        before: ONE,
+        words: "share 0 76ff4980d3b5f63962cee45401b6b1bb92efe989c27de4629aac92b18163e6e0 shared",
+        input: b"",
+        line: "unknown group",
+    },
+    Refusal {
+        before: NOTE,
+        words: "share 0 c1af82673999b1a2e9fa43bb9059dffe0c9aae24bcb4e2d70ebeaa554b9a5736 visible",
+        input: b"",
+        line: "unknown group",
+    },
+    Refusal {
+        before: ONE,
+        words: "post 76ff4980d3b5f63962cee45401b6b1bb92efe989c27de4629aac92b18163e6e0 0",
+        input: b"x",
+        line: "unknown group",
+    },
+    Refusal {
+        before: NOTE,
+        words: "post c1af82673999b1a2e9fa43bb9059dffe0c9aae24bcb4e2d70ebeaa554b9a5736 0",
+        input: b"",
+        line: "unknown group",
+    },
+    Refusal {
+        before: NOTE,
+        words: "post 76ff4980d3b5f63962cee45401b6b1bb92efe989c27de4629aac92b18163e6e0 0",
+        input: b"",
+        line: "empty body",
+    },
+    Refusal {
+        before: NOTE,
+        words: "post 76ff4980d3b5f63962cee45401b6b1bb92efe989c27de4629aac92b18163e6e0 0",
+        input: b"\xff",
+        line: "invalid post",
+    },
+    Refusal {
+        before: NOTE,
+        words: "post 76ff4980d3b5f63962cee45401b6b1bb92efe989c27de4629aac92b18163e6e0 0",
+        input: b"caf\xc3",
+        line: "invalid post",
+    },
+    Refusal {
+        before: HELD,
+        words: "post 76ff4980d3b5f63962cee45401b6b1bb92efe989c27de4629aac92b18163e6e0 0",
+        input: b"x",
+        line: "already held",
+    },
+    Refusal {
+        before: FRESH,
+        words: "post 76ff4980d3b5f63962cee45401b6b1bb92efe989c27de4629aac92b18163e6e0 0",
+        input: b"x",
+        line: "already held",
+    },
+    Refusal {
+        before: INVALID,
+        words: "post 76ff4980d3b5f63962cee45401b6b1bb92efe989c27de4629aac92b18163e6e0 0",
+        input: b"\xff",
+        line: "already held",
+    },
+    Refusal {
+        before: PENDING,
+        words: "post c1af82673999b1a2e9fa43bb9059dffe0c9aae24bcb4e2d70ebeaa554b9a5736 6",
+        input: b"\x01S\x98\xca\xc9\xcc\xe3\xe6\xb9MJ\xf70[\x12\x18\xf5j\x84\xd7A\x81p\xbd\xee\xec ld\xa8r\xa4xreply",
+        line: "dependency not delivered",
+    },
+    Refusal {
+        before: UNKNOWN,
+        words: "post c1af82673999b1a2e9fa43bb9059dffe0c9aae24bcb4e2d70ebeaa554b9a5736 6",
+        input: b"\x01S\x98\xca\xc9\xcc\xe3\xe6\xb9MJ\xf70[\x12\x18\xf5j\x84\xd7A\x81p\xbd\xee\xec ld\xa8r\xa4xreply",
+        line: "dependency not delivered",
+    },
+    Refusal {
+        before: THREAD,
+        words: "post c1af82673999b1a2e9fa43bb9059dffe0c9aae24bcb4e2d70ebeaa554b9a5736 6",
+        input: b"\x01S\x98\xca\xc9\xcc\xe3\xe6\xb9MJ\xf70[\x12\x18\xf5j\x84\xd7A\x81p\xbd\xee\xec ld\xa8r\xa4xreply",
+        line: "dependency not delivered",
+    },
+    Refusal {
+        before: BOTH,
+        words: "post c1af82673999b1a2e9fa43bb9059dffe0c9aae24bcb4e2d70ebeaa554b9a5736 6",
+        input: b"\x014CA\x8c\x03\x82\x80\x0eB\xae\x01\xfb\x9dgk{%@](u\x80\x9c\xf8\xd6\x80\x8f\x04t\x1c\x96\xa4reply",
+        line: "dependency not delivered",
+    },
+    Refusal {
+        before: THREAD,
+        words: "post c1af82673999b1a2e9fa43bb9059dffe0c9aae24bcb4e2d70ebeaa554b9a5736 6",
+        input: b"\x02S\x98\xca\xc9\xcc\xe3\xe6\xb9MJ\xf70[\x12\x18\xf5j\x84\xd7A\x81p\xbd\xee\xec ld\xa8r\xa4xS\x98\xca\xc9\xcc\xe3\xe6\xb9MJ\xf70[\x12\x18\xf5j\x84\xd7A\x81p\xbd\xee\xec ld\xa8r\xa4xreply",
+        line: "invalid post",
+    },
+    Refusal {
+        before: THREAD,
+        words: "post c1af82673999b1a2e9fa43bb9059dffe0c9aae24bcb4e2d70ebeaa554b9a5736 6",
+        input: b"\x01S\x98\xca\xc9\xcc\xe3\xe6\xb9MJ\xf70[\x12\x18\xf5j\x84\xd7A\x81p\xbd\xee\xec ld\xa8r\xa4",
+        line: "invalid post",
+    },
+    Refusal {
+        before: THREAD,
+        words: "post c1af82673999b1a2e9fa43bb9059dffe0c9aae24bcb4e2d70ebeaa554b9a5736 6",
+        input: b"\x00\xff",
+        line: "invalid post",
+    },
+    Refusal {
+        before: PENDING,
+        words: "post c1af82673999b1a2e9fa43bb9059dffe0c9aae24bcb4e2d70ebeaa554b9a5736 5",
+        input: b"\x00root",
+        line: "already held",
+    },
+    Refusal {
+        before: FEED,
+        words: "post ae410749f4a5b231dd415c01415a10250f9521f182c5d3f375e137210f86aa62 0",
+        input: b"\x00\x00\x00\x00\x00\x00\x00\x00\x00\x00\x00\x00\x00\x00\x00\x00\x00\x00\x00\x00\x00\x00\x00\x00\x00\x00\x00\x00\x00\x00\x00",
+        line: "invalid post",
+    },
+    Refusal {
+        before: FEED,
+        words: "post ae410749f4a5b231dd415c01415a10250f9521f182c5d3f375e137210f86aa62 0",
+        input: b"\x00\x00\x00\x00\x00\x00\x00\x00\x00\x00\x00\x00\x00\x00\x00\x00\x00\x00\x00\x00\x00\x00\x00\x00\x00\x00\x00\x00\x00\x00\x00\x00\x80",
+        line: "invalid post",
+    },
+    Refusal {
+        before: FEED,
+        words: "post ae410749f4a5b231dd415c01415a10250f9521f182c5d3f375e137210f86aa62 0",
+        input: b"4CA\x8c\x03\x82\x80\x0eB\xae\x01\xfb\x9dgk{%@](u\x80\x9c\xf8\xd6\x80\x8f\x04t\x1c\x96\xa4next",
+        line: "dependency not delivered",
+    },
+    Refusal {
+        before: HELD,
+        words: "body f3c078734405d1e3152fc6548e466217931d53878072075aaa1919563f46b353",
+        input: b"",
+        line: "unknown message",
+    },
+    Refusal {
+        before: EMPTY,
+        words: "body 3443418c0382800e42ae01fb9d676b7b25405d2875809cf8d6808f04741c96a4",
+        input: b"",
+        line: "unknown message",
+    },
+];

@@ -1,0 +1,225 @@
+//! Commands that are stopped or meet a failing call, and the journals that may be left of them.
+
+use crate::journal::{add_frames, journal_of};
+use crate::journals::{EMPTY, FRESH, HELD, NOTE, ONE};
+use crate::play::{Came, Failing, Order, play};
+use crate::want::{Files, Said};
+use anyhow::Result;
+use outside::MemDisk;
+use std::alloc::Global;
+use sync_top::Status;
+
+/// A command over a journal. It appends so many frames, and each time the gate of a frame opens
+/// there is a new journal.
+#[derive(Clone, Copy)]
+pub(crate) struct Scene {
+    /// Whether there is a journal before; `init` begins one, in place of a frame.
+    pub(crate) begun: bool,
+    /// The payloads of the journal before.
+    pub(crate) before: &'static str,
+    pub(crate) words: &'static str,
+    pub(crate) input: &'static [u8],
+    pub(crate) out: &'static [u8],
+    /// The payloads of the frames that it appends.
+    pub(crate) adds: &'static str,
+    /// What `show` prints of each journal, from the one before on.
+    pub(crate) shown: [&'static str; 3],
+}
+
+// How many calls of a disk begin a journal or append a frame: a write behind the gate, a sync, the
+// gate, a sync.
+const CALLS: u64 = 4;
+
+impl Scene {
+    /// How many journals there are after the one before.
+    pub(crate) fn stages(&self) -> u64 {
+        if !self.begun {
+            return 1;
+        }
+        let mut count = 0u64;
+        for payload in self.adds.split(' ') {
+            count = count.saturating_add(u64::from(!payload.is_empty()));
+        }
+        count
+    }
+
+    /// The file after so many of them.
+    pub(crate) fn file(&self, alloc: Global, stage: u64) -> Result<Vec<u8>> {
+        if !self.begun && stage == 0 {
+            return Ok(Vec::new(alloc));
+        }
+        let mut file = journal_of(alloc, self.before)?;
+        let mut left = stage;
+        for payload in self.adds.split(' ') {
+            if left > 0 {
+                add_frames(alloc, &mut file, payload)?;
+            }
+            left = left.saturating_sub(1);
+        }
+        Ok(file)
+    }
+
+    /// The files after so many of them.
+    pub(crate) fn files(&self, alloc: Global, stage: u64) -> Result<Files> {
+        Ok(Files::one(alloc, self.file(alloc, stage)?))
+    }
+
+    /// What comes of the command with this failing call.
+    pub(crate) fn play(&self, alloc: Global, failing: Failing) -> Result<Came> {
+        let order = Order {
+            failing,
+            ..Order::new(self.words, self.input)
+        };
+        let disk = self.files(alloc, 0)?.disk(alloc)?;
+        play(alloc, &order, disk)
+    }
+
+    /// How many calls of the disk the command makes.
+    pub(crate) fn calls(&self, alloc: Global) -> Result<u64> {
+        Ok(self.play(alloc, Failing::Nothing)?.disk.calls())
+    }
+
+    /// The journal that stands when the call of this number did not come to its end: that before
+    /// the append which it belongs to, or the one behind it from that call of the append on which
+    /// `opened` names.
+    pub(crate) fn stage_at(&self, calls: u64, call: u64, opened: u64) -> u64 {
+        let appends = self.stages().saturating_mul(CALLS);
+        let first = calls.saturating_sub(appends);
+        if call < first {
+            return 0;
+        }
+        let at = call.saturating_sub(first);
+        (at / CALLS).saturating_add(u64::from(at % CALLS >= opened))
+    }
+
+    /// Whether the disk has the journal of this stage, by its bytes and by `show`.
+    pub(crate) fn is_at(&self, alloc: Global, stage: u64, disk: MemDisk) -> Result<bool> {
+        let file = self.file(alloc, stage)?;
+        let whole = disk.file(0).starts_with(file.as_slice());
+        let files = Files::on(alloc, &disk)?;
+        let said = self.said_at(alloc, stage)?;
+        let came = play(alloc, &Order::new("show", b""), disk)?;
+        Ok(whole && said.is_of(&came) && files.are_on(&came.disk))
+    }
+
+    // What `show` comes to at a stage.
+    fn said_at(&self, alloc: Global, stage: u64) -> Result<Said> {
+        if !self.begun && stage == 0 {
+            return Ok(Said::line(alloc, Status::NoStore, b"no store\n")?);
+        }
+        let text = self.shown.get(stage as usize).copied().unwrap_or("");
+        Ok(Said::done(alloc, text.as_bytes())?)
+    }
+}
+
+pub(crate) const SCENES: [Scene; 9] = [
+    Scene {
+        begun: false,
+        before: EMPTY,
+        words: "init",
+        input: b"",
+        out: b"ready\n",
+        adds: "",
+        shown: ["", "contacts 0\nsessions 0\n", ""],
+    },
+    Scene {
+        begun: true,
+        before: EMPTY,
+        words: "contact",
+        input: b"",
+        out: b"contact 0\n",
+        adds: "0100",
+        shown: ["contacts 0\nsessions 0\n", "contacts 1\nsessions 0\n", ""],
+    },
+    Scene {
+        begun: true,
+        before: FRESH,
+        words: "contact",
+        input: b"",
+        out: b"contact 1\n",
+        adds: "083443418c0382800e42ae01fb9d676b7b25405d2875809cf8d6808f04741c96a4093443418c0382800e42ae01fb9d676b7b25405d2875809cf8d6808f04741c96a4 0101",
+        shown: [
+            "contacts 1\ngroup 76ff4980d3b5f63962cee45401b6b1bb92efe989c27de4629aac92b18163e6e0 6e6f7465 0 64\nmessage 3443418c0382800e42ae01fb9d676b7b25405d2875809cf8d6808f04741c96a4 76ff4980d3b5f63962cee45401b6b1bb92efe989c27de4629aac92b18163e6e0 unknown\nsessions 0\n",
+            "contacts 1\ngroup 76ff4980d3b5f63962cee45401b6b1bb92efe989c27de4629aac92b18163e6e0 6e6f7465 0 64\nmessage 3443418c0382800e42ae01fb9d676b7b25405d2875809cf8d6808f04741c96a4 76ff4980d3b5f63962cee45401b6b1bb92efe989c27de4629aac92b18163e6e0 delivered\nsessions 0\n",
+            "contacts 2\ngroup 76ff4980d3b5f63962cee45401b6b1bb92efe989c27de4629aac92b18163e6e0 6e6f7465 0 64\nmessage 3443418c0382800e42ae01fb9d676b7b25405d2875809cf8d6808f04741c96a4 76ff4980d3b5f63962cee45401b6b1bb92efe989c27de4629aac92b18163e6e0 delivered\nsessions 0\n",
+        ],
+    },
+    Scene {
+        begun: true,
+        before: ONE,
+        words: "group note 0 d",
+        input: b"",
+        out: b"group 76ff4980d3b5f63962cee45401b6b1bb92efe989c27de4629aac92b18163e6e0\n",
+        adds: "02046e6f746500000000000164",
+        shown: [
+            "contacts 1\nsessions 0\n",
+            "contacts 1\ngroup 76ff4980d3b5f63962cee45401b6b1bb92efe989c27de4629aac92b18163e6e0 6e6f7465 0 64\nsessions 0\n",
+            "",
+        ],
+    },
+    Scene {
+        begun: true,
+        before: NOTE,
+        words: "share 0 76ff4980d3b5f63962cee45401b6b1bb92efe989c27de4629aac92b18163e6e0 shared",
+        input: b"",
+        out: b"level 0 76ff4980d3b5f63962cee45401b6b1bb92efe989c27de4629aac92b18163e6e0 shared\n",
+        adds: "030076ff4980d3b5f63962cee45401b6b1bb92efe989c27de4629aac92b18163e6e002",
+        shown: [
+            "contacts 1\ngroup 76ff4980d3b5f63962cee45401b6b1bb92efe989c27de4629aac92b18163e6e0 6e6f7465 0 64\nsessions 0\n",
+            "contacts 1\ngroup 76ff4980d3b5f63962cee45401b6b1bb92efe989c27de4629aac92b18163e6e0 6e6f7465 0 64\nlevel 0 76ff4980d3b5f63962cee45401b6b1bb92efe989c27de4629aac92b18163e6e0 shared\nsessions 0\n",
+            "",
+        ],
+    },
+    Scene {
+        begun: true,
+        before: NOTE,
+        words: "post 76ff4980d3b5f63962cee45401b6b1bb92efe989c27de4629aac92b18163e6e0 0",
+        input: b"hello, all",
+        out: b"posted 50cb8797d89a0de4ff1e84fc2b295b602916f17f16a041f5afa4e1adb1820bc1\n",
+        adds: "0676ff4980d3b5f63962cee45401b6b1bb92efe989c27de4629aac92b18163e6e00000000000000000000a68656c6c6f2c20616c6c 0850cb8797d89a0de4ff1e84fc2b295b602916f17f16a041f5afa4e1adb1820bc10950cb8797d89a0de4ff1e84fc2b295b602916f17f16a041f5afa4e1adb1820bc1",
+        shown: [
+            "contacts 1\ngroup 76ff4980d3b5f63962cee45401b6b1bb92efe989c27de4629aac92b18163e6e0 6e6f7465 0 64\nsessions 0\n",
+            "contacts 1\ngroup 76ff4980d3b5f63962cee45401b6b1bb92efe989c27de4629aac92b18163e6e0 6e6f7465 0 64\nmessage 50cb8797d89a0de4ff1e84fc2b295b602916f17f16a041f5afa4e1adb1820bc1 76ff4980d3b5f63962cee45401b6b1bb92efe989c27de4629aac92b18163e6e0 unknown\nsessions 0\n",
+            "contacts 1\ngroup 76ff4980d3b5f63962cee45401b6b1bb92efe989c27de4629aac92b18163e6e0 6e6f7465 0 64\nmessage 50cb8797d89a0de4ff1e84fc2b295b602916f17f16a041f5afa4e1adb1820bc1 76ff4980d3b5f63962cee45401b6b1bb92efe989c27de4629aac92b18163e6e0 delivered\nsessions 0\n",
+        ],
+    },
+    Scene {
+        begun: true,
+        before: HELD,
+        words: "show",
+        input: b"",
+        out: b"contacts 1\ngroup 76ff4980d3b5f63962cee45401b6b1bb92efe989c27de4629aac92b18163e6e0 6e6f7465 0 64\nmessage 3443418c0382800e42ae01fb9d676b7b25405d2875809cf8d6808f04741c96a4 76ff4980d3b5f63962cee45401b6b1bb92efe989c27de4629aac92b18163e6e0 delivered\nsessions 0\n",
+        adds: "",
+        shown: [
+            "contacts 1\ngroup 76ff4980d3b5f63962cee45401b6b1bb92efe989c27de4629aac92b18163e6e0 6e6f7465 0 64\nmessage 3443418c0382800e42ae01fb9d676b7b25405d2875809cf8d6808f04741c96a4 76ff4980d3b5f63962cee45401b6b1bb92efe989c27de4629aac92b18163e6e0 delivered\nsessions 0\n",
+            "",
+            "",
+        ],
+    },
+    Scene {
+        begun: true,
+        before: HELD,
+        words: "inbox",
+        input: b"",
+        out: b"3443418c0382800e42ae01fb9d676b7b25405d2875809cf8d6808f04741c96a4 76ff4980d3b5f63962cee45401b6b1bb92efe989c27de4629aac92b18163e6e0 0 self 1\n",
+        adds: "",
+        shown: [
+            "contacts 1\ngroup 76ff4980d3b5f63962cee45401b6b1bb92efe989c27de4629aac92b18163e6e0 6e6f7465 0 64\nmessage 3443418c0382800e42ae01fb9d676b7b25405d2875809cf8d6808f04741c96a4 76ff4980d3b5f63962cee45401b6b1bb92efe989c27de4629aac92b18163e6e0 delivered\nsessions 0\n",
+            "",
+            "",
+        ],
+    },
+    Scene {
+        begun: true,
+        before: HELD,
+        words: "body 3443418c0382800e42ae01fb9d676b7b25405d2875809cf8d6808f04741c96a4",
+        input: b"",
+        out: b"x",
+        adds: "",
+        shown: [
+            "contacts 1\ngroup 76ff4980d3b5f63962cee45401b6b1bb92efe989c27de4629aac92b18163e6e0 6e6f7465 0 64\nmessage 3443418c0382800e42ae01fb9d676b7b25405d2875809cf8d6808f04741c96a4 76ff4980d3b5f63962cee45401b6b1bb92efe989c27de4629aac92b18163e6e0 delivered\nsessions 0\n",
+            "",
+            "",
+        ],
+    },
+];

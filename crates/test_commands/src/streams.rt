@@ -1,0 +1,478 @@
+//! `try` and `records`: streams of records, whole, cut, and with something in them that is none,
+//! and reads and writes that fail.
+
+use crate::play::{Failing, Order, play_for};
+use crate::records::{NOTES, add_record, add_reply, id};
+use crate::tally::{Tally, expect};
+use crate::want::{Files, Said};
+use anyhow::Result;
+use std::alloc::{AllocError, Global};
+use sync_ids::{MAX_BODY, Message, MessageId};
+use sync_rules::{Clients, DepList, Judgement};
+use sync_top::Status;
+
+const TRY: &str = "try note d";
+
+const X_LINE: &[u8] =
+    b"deliver 3443418c0382800e42ae01fb9d676b7b25405d2875809cf8d6808f04741c96a4 0 1\n";
+
+const NO_RECORD: &[u8] = b"bad record at 0: wrong version\n";
+
+/// Plays all streams.
+pub(crate) fn play_all<P: Print>(rt: &P, alloc: Global, tally: &mut Tally) -> Result<()> {
+    play_messages(rt, alloc, tally)?;
+    play_words(rt, alloc, tally)?;
+    play_others(rt, alloc, tally)?;
+    play_cuts(rt, alloc, tally)?;
+    play_listings(rt, alloc, tally)?;
+    play_ids(rt, alloc, tally)?;
+    play_failing(rt, alloc, tally)?;
+    play_replies(rt, alloc, tally)?;
+    play_crossed(rt, alloc, tally)
+}
+
+// A command that uses no store.
+fn play_case<P: Print>(
+    rt: &P,
+    alloc: Global,
+    order: &Order<'_>,
+    said: &Said,
+    tally: &mut Tally,
+) -> Result<()> {
+    let files = Files::none(alloc);
+    expect(rt, alloc, order, &files, said, &files, tally)
+}
+
+const OTHER: &str = "f18047a15b1b3a1f78be0e024a5c97a470d496106a97e648913359802f573b26";
+
+const EMPTY: &str = "0ada50e60812e63ce2e5091237bee5d271a63a3ecf58a41709959bdf0f46fe7e";
+
+const MESSAGE_LINES: &[u8] =
+    b"deliver 3443418c0382800e42ae01fb9d676b7b25405d2875809cf8d6808f04741c96a4 0 1\ninvalid f3c078734405d1e3152fc6548e466217931d53878072075aaa1919563f46b353 0 1\ndeliver bf732d2a6c496988001c86803dc467d4f2b738820c121a34ea55beeb59c1ff30 9223372036854775807 5\ndeliver 9b602c220eadc59dfe12e8edf740e7efa1459e04b5f1cf83ae6931f39c9ef10c 7 32768\n";
+
+const EMPTY_LINE: &[u8] =
+    b"deliver bc4e14694e92c13e93c98a2d4563920a030b330a8adbf33ecf3a27eaeb85d1de 0 1\n";
+
+// Messages of the group and of others, one of them twice, and the limits of time and body.
+fn play_messages<P: Print>(rt: &P, alloc: Global, tally: &mut Tally) -> Result<()> {
+    let long = vec![in alloc; b'x'; MAX_BODY]?;
+    let mut input = Vec::new(alloc);
+    add_record(&mut input, NOTES, 0, b"x")?;
+    add_record(&mut input, NOTES, 0, b"x")?;
+    add_record(&mut input, OTHER, 0, b"x")?;
+    add_record(&mut input, NOTES, 0, b"\xff")?;
+    add_record(&mut input, NOTES, u64::MAX / 2, b"hello")?;
+    add_record(&mut input, NOTES, 7, long.as_slice())?;
+    add_record(&mut input, EMPTY, 0, b"x")?;
+    add_record(&mut input, NOTES, 0, b"\xff")?;
+    let said = Said::done(alloc, MESSAGE_LINES)?;
+    play_case(rt, alloc, &Order::new(TRY, input.as_slice()), &said, tally)?;
+    let said = Said::done(alloc, EMPTY_LINE)?;
+    let order = Order::new("try note ", input.as_slice());
+    play_case(rt, alloc, &order, &said, tally)
+}
+
+const WORDS: [(&str, Status, &[u8]); 10] = [
+    ("Try note d", Status::Usage, b"usage: word 0\n"),
+    ("records x", Status::Usage, b"usage: word 1\n"),
+    ("sync", Status::Usage, b"usage: word 0\n"),
+    ("try", Status::Usage, b"usage: word 1\n"),
+    ("try  d", Status::Usage, b"usage: word 1\n"),
+    ("try note", Status::Usage, b"usage: word 2\n"),
+    ("try note d e", Status::Usage, b"usage: word 3\n"),
+    ("try note d e f", Status::Usage, b"usage: word 3\n"),
+    ("try chat d", Status::Refused, b"refused: unknown client\n"),
+    (TRY, Status::BadStream, NO_RECORD),
+];
+
+// Words, over one byte that begins no record.
+fn play_words<P: Print>(rt: &P, alloc: Global, tally: &mut Tally) -> Result<()> {
+    for (words, status, line) in WORDS {
+        let said = Said::line(alloc, status, line)?;
+        play_case(rt, alloc, &Order::new(words, b"\x01"), &said, tally)?;
+    }
+    for long in &LONG {
+        play_long(rt, alloc, long, tally)?;
+    }
+    Ok(())
+}
+
+/// A word of so many letters behind these words and before those, with what comes of it.
+#[derive(Clone, Copy)]
+struct Long {
+    front: &'static str,
+    count: usize,
+    behind: &'static str,
+    status: Status,
+    line: &'static [u8],
+}
+
+const LONG: [Long; 4] = [
+    Long {
+        front: "try ",
+        count: 256,
+        behind: " d",
+        status: Status::Usage,
+        line: b"usage: word 1\n",
+    },
+    Long {
+        front: "try ",
+        count: 255,
+        behind: " d",
+        status: Status::Refused,
+        line: b"refused: unknown client\n",
+    },
+    Long {
+        front: "try note ",
+        count: 16_385,
+        behind: "",
+        status: Status::Usage,
+        line: b"usage: word 2\n",
+    },
+    Long {
+        front: "try note ",
+        count: 16_384,
+        behind: "",
+        status: Status::BadStream,
+        line: NO_RECORD,
+    },
+];
+
+fn play_long<P: Print>(rt: &P, alloc: Global, long: &Long, tally: &mut Tally) -> Result<()> {
+    let word = "n".repeat(alloc, long.count)?;
+    let words = format!(in alloc; "{}{word}{}", long.front, long.behind)?;
+    let said = Said::line(alloc, long.status, long.line)?;
+    play_case(
+        rt,
+        alloc,
+        &Order::new(words.as_str(), b"\x01"),
+        &said,
+        tally,
+    )
+}
+
+const OTHERS: [(&[u8], Status, &[u8]); 13] = [
+    (&[0, 4, 0, 1, 0], Status::Done, b""),
+    (&[0, 9, 0, 2, 1, 1], Status::Done, b""),
+    (
+        &[1],
+        Status::BadStream,
+        b"bad record at 45: wrong version\n",
+    ),
+    (
+        &[0, 9, 0xc0, 1],
+        Status::BadStream,
+        b"bad record at 45: too long\n",
+    ),
+    (
+        &[0, 0, 0, 0],
+        Status::BadStream,
+        b"bad record at 45: empty id list\n",
+    ),
+    (
+        &[0, 3, 0, 33],
+        Status::BadStream,
+        b"bad record at 45: ragged id list\n",
+    ),
+    (
+        &[0, 1, 0, 40],
+        Status::BadStream,
+        b"bad record at 45: short message\n",
+    ),
+    (
+        &[0, 1, 0x80, 0x29],
+        Status::BadStream,
+        b"bad record at 45: body too long\n",
+    ),
+    (
+        &[0, 4, 0, 0],
+        Status::BadStream,
+        b"bad record at 45: bad versions\n",
+    ),
+    (
+        &[0, 4, 0, 11],
+        Status::BadStream,
+        b"bad record at 45: bad versions\n",
+    ),
+    (
+        &[0, 5, 0, 15],
+        Status::BadStream,
+        b"bad record at 45: bad nonce\n",
+    ),
+    (
+        &[0, 5, 0, 17],
+        Status::BadStream,
+        b"bad record at 45: bad nonce\n",
+    ),
+    (
+        &[0, 2, 0, 64],
+        Status::BadStream,
+        b"ended inside a record at 45\n",
+    ),
+];
+
+// Other records, or what is none, between two records of one message.
+fn play_others<P: Print>(rt: &P, alloc: Global, tally: &mut Tally) -> Result<()> {
+    for (other, status, line) in OTHERS {
+        play_between(rt, alloc, other, status, line, tally)?;
+    }
+    let mut late = Vec::new(alloc);
+    add_record(&mut late, NOTES, 1 << 63, b"x")?;
+    let line = b"bad record at 45: bad timestamp\n";
+    play_between(rt, alloc, late.as_slice(), Status::BadStream, line, tally)
+}
+
+fn play_between<P: Print>(
+    rt: &P,
+    alloc: Global,
+    other: &[u8],
+    status: Status,
+    line: &[u8],
+    tally: &mut Tally,
+) -> Result<()> {
+    let mut input = Vec::new(alloc);
+    add_record(&mut input, NOTES, 0, b"x")?;
+    input.extend_from_slice(other)?;
+    add_record(&mut input, NOTES, 0, b"x")?;
+    let said = Said::new(alloc, status, X_LINE, line)?;
+    play_case(rt, alloc, &Order::new(TRY, input.as_slice()), &said, tally)
+}
+
+// A record, and every front of it behind it.
+fn play_cuts<P: Print>(rt: &P, alloc: Global, tally: &mut Tally) -> Result<()> {
+    let mut record = Vec::new(alloc);
+    add_record(&mut record, NOTES, 0, b"x")?;
+    let line = b"ended inside a record at 45\n";
+    let said = Said::new(alloc, Status::BadStream, X_LINE, line)?;
+    for n in 1..record.len() {
+        let mut input = record.clone()?;
+        input.extend_from_slice(&record.as_slice()[..n])?;
+        play_case(rt, alloc, &Order::new(TRY, input.as_slice()), &said, tally)?;
+    }
+    Ok(())
+}
+
+const MIXED: &[u8] =
+    b"\0\x04\0\x01\0\0\x09\0\x02\xaa\xbb\0\x05\0\x10\0\x01\x02\x03\x04\x05\x06\x07\x08\x09\x0a\x0b\x0c\x0d\x0e\x0f";
+
+const MIXED_AND_ONE: &[u8] =
+    b"\0\x04\0\x01\0\0\x09\0\x02\xaa\xbb\0\x05\0\x10\0\x01\x02\x03\x04\x05\x06\x07\x08\x09\x0a\x0b\x0c\x0d\x0e\x0f\x01";
+
+const MIXED_LINES: &[u8] =
+    b"0 VERSIONS 00\n5 SKIPPED 9 2\n11 PRIORITY 000102030405060708090a0b0c0d0e0f\n";
+
+const LISTINGS: [(&[u8], Status, &[u8], &[u8]); 6] = [
+    (b"", Status::Done, b"", b""),
+    (MIXED, Status::Done, MIXED_LINES, b""),
+    (b"\x01", Status::BadStream, b"", NO_RECORD),
+    (
+        b"\0\x04\0",
+        Status::BadStream,
+        b"",
+        b"ended inside a record at 0\n",
+    ),
+    (
+        b"\0\x04",
+        Status::BadStream,
+        b"",
+        b"ended inside a record at 0\n",
+    ),
+    (
+        MIXED_AND_ONE,
+        Status::BadStream,
+        MIXED_LINES,
+        b"bad record at 31: wrong version\n",
+    ),
+];
+
+// `records` over records of several kinds.
+fn play_listings<P: Print>(rt: &P, alloc: Global, tally: &mut Tally) -> Result<()> {
+    for (input, status, out, err) in LISTINGS {
+        let said = Said::new(alloc, status, out, err)?;
+        play_case(rt, alloc, &Order::new("records", input), &said, tally)?;
+    }
+    Ok(())
+}
+
+const X_ID: &str = "3443418c0382800e42ae01fb9d676b7b25405d2875809cf8d6808f04741c96a4";
+
+const FF_ID: &str = "f3c078734405d1e3152fc6548e466217931d53878072075aaa1919563f46b353";
+
+const ACK_LINES: &[u8] =
+    b"0 ACK 3443418c0382800e42ae01fb9d676b7b25405d2875809cf8d6808f04741c96a4 f3c078734405d1e3152fc6548e466217931d53878072075aaa1919563f46b353\n68 MESSAGE 3443418c0382800e42ae01fb9d676b7b25405d2875809cf8d6808f04741c96a4 76ff4980d3b5f63962cee45401b6b1bb92efe989c27de4629aac92b18163e6e0 0 1\n";
+
+// `records` over a list of ids and a message.
+fn play_ids<P: Print>(rt: &P, alloc: Global, tally: &mut Tally) -> Result<()> {
+    let mut input = [0, 0, 0, 64].to_vec(alloc)?;
+    input.extend_from_slice(id(X_ID)?.as_bytes())?;
+    input.extend_from_slice(id(FF_ID)?.as_bytes())?;
+    add_record(&mut input, NOTES, 0, b"x")?;
+    let said = Said::done(alloc, ACK_LINES)?;
+    play_case(
+        rt,
+        alloc,
+        &Order::new("records", input.as_slice()),
+        &said,
+        tally,
+    )
+}
+
+// The first read fails: nothing was read. The one behind all bytes fails: all was read, and its end
+// is not known.
+const FAILING: [(Failing, Status, &[u8], &[u8]); 7] = [
+    (Failing::Read(0), Status::ReadFault, b"", b"read fault\n"),
+    (Failing::Read(4), Status::ReadFault, X_LINE, b"read fault\n"),
+    (Failing::Out(0), Status::WriteFault, b"", b"write fault\n"),
+    (Failing::Err(0), Status::BadStream, X_LINE, b""),
+    (
+        Failing::ReadAndOut(4, 0),
+        Status::ReadFault,
+        b"",
+        b"read fault\n",
+    ),
+    (
+        Failing::ReadAndOut(0, 0),
+        Status::ReadFault,
+        b"",
+        b"read fault\n",
+    ),
+    (Failing::OutAndErr(0, 0), Status::WriteFault, b"", b""),
+];
+
+// A record and a byte that begins none; and `records` over a source whose reads fail.
+fn play_failing<P: Print>(rt: &P, alloc: Global, tally: &mut Tally) -> Result<()> {
+    let mut input = Vec::new(alloc);
+    add_record(&mut input, NOTES, 0, b"x")?;
+    input.push(1)?;
+    for (failing, status, out, err) in FAILING {
+        let said = Said::new(alloc, status, out, err)?;
+        let order = Order {
+            failing,
+            ..Order::new(TRY, input.as_slice())
+        };
+        play_case(rt, alloc, &order, &said, tally)?;
+    }
+    for (call, out) in [(0, b"".as_slice()), (4, MIXED_LINES)] {
+        let said = Said::new(alloc, Status::ReadFault, out, b"read fault\n")?;
+        let order = Order {
+            failing: Failing::Read(call),
+            ..Order::new("records", MIXED)
+        };
+        play_case(rt, alloc, &order, &said, tally)?;
+    }
+    Ok(())
+}
+
+const A_ID: &str = "7508b128eedb7712a21c18b07c2429a0bde1f25a8bb53c2eeceaf5e18c974a60";
+
+const B_ID: &str = "1df1e213cea7232868034568465e45cbb408c40f3c14c3b86460c51ee11a201d";
+
+const BAD_A_ID: &str = "7cf2174db5aaf7e08ef4aae28d181fd117eaa3e5ff5a815bc72f4ba3b071e5bc";
+
+const BAD_B_ID: &str = "3e4b46c75176c251da33f492fb58e4800ab8f6a856372e5b9dd541a5ecea18f5";
+
+/// A message of the thread: its time, its parent, if it has one, and its text.
+type Reply = (u64, &'static str, &'static [u8]);
+
+const REPLIES: [(&[Reply], &[u8]); 4] = [
+    (
+        &[(2, A_ID, b"b"), (1, "", b"a")],
+        b"deliver 7508b128eedb7712a21c18b07c2429a0bde1f25a8bb53c2eeceaf5e18c974a60 1 2\ndeliver 1df1e213cea7232868034568465e45cbb408c40f3c14c3b86460c51ee11a201d 2 34\n",
+    ),
+    (
+        &[
+            (2, A_ID, b"b"),
+            (1, "", b"a"),
+            (2, A_ID, b"b"),
+            (3, B_ID, b""),
+            (1, "", b"a"),
+        ],
+        b"deliver 7508b128eedb7712a21c18b07c2429a0bde1f25a8bb53c2eeceaf5e18c974a60 1 2\ndeliver 1df1e213cea7232868034568465e45cbb408c40f3c14c3b86460c51ee11a201d 2 34\ndeliver 2617b60c6b519395d7cbe8cb91ec146eed925a7c1ff210f0a2c665446b96f70c 3 33\n",
+    ),
+    (
+        &[(3, B_ID, b""), (2, A_ID, b"b")],
+        b"pending 2617b60c6b519395d7cbe8cb91ec146eed925a7c1ff210f0a2c665446b96f70c 3 33\npending 1df1e213cea7232868034568465e45cbb408c40f3c14c3b86460c51ee11a201d 2 34\n",
+    ),
+    (
+        &[(3, BAD_B_ID, b""), (2, BAD_A_ID, b"b"), (1, "", b"\xff")],
+        b"invalid 7cf2174db5aaf7e08ef4aae28d181fd117eaa3e5ff5a815bc72f4ba3b071e5bc 1 2\ninvalid 3e4b46c75176c251da33f492fb58e4800ab8f6a856372e5b9dd541a5ecea18f5 2 34\ninvalid 1cd9992d106896b07dc9e0f2984050f6b141d1757f3cb039adef64df073710f4 3 33\n",
+    ),
+];
+
+// Replies that come before what they answer.
+fn play_replies<P: Print>(rt: &P, alloc: Global, tally: &mut Tally) -> Result<()> {
+    for (replies, lines) in REPLIES {
+        let mut input = Vec::new(alloc);
+        for (time, parent, text) in replies {
+            add_reply(alloc, &mut input, *time, parent, text)?;
+        }
+        let said = Said::done(alloc, lines)?;
+        let order = Order::new("try thread d", input.as_slice());
+        play_case(rt, alloc, &order, &said, tally)?;
+    }
+    Ok(())
+}
+
+const CYCLE: &str = "14daddcdfefd1bd0849c039bb886c6b417facf2eec2a40c82e03df27489d0bf6";
+
+const CYCLE_A: &str = "531972ae2e6cd81929d723c74c35bb629933088dc8431f4372305604e95e6fdf";
+
+const CYCLE_B: &str = "831e960d8fba2e9bed19997cf5062ca0ff37bc10e22f56c5e22fcb65b618f33a";
+
+const CYCLE_LINES: &[u8] =
+    b"pending 531972ae2e6cd81929d723c74c35bb629933088dc8431f4372305604e95e6fdf 1 1\npending 831e960d8fba2e9bed19997cf5062ca0ff37bc10e22f56c5e22fcb65b618f33a 2 1\n";
+
+/// A client of every group: a message of time 1 depends on the second of two ids, any other one on
+/// the first.
+#[derive(Drop)]
+struct Crossed {
+    first: MessageId,
+    second: MessageId,
+}
+
+impl Clients for Crossed {
+    ghost use Rattle.std.specs.Prelude.{true, [], ◌∷◌, ◌==◌, if◌then◌else◌, Some};
+    ghost use Rattle.sync_rules.specs.declared.answers.Judgement.TheVariants as judgement;
+
+    ghost meaning = { λ c. record {
+      kind_of = λ name major. Some 0;
+      verdict = λ kind m. judgement.Accept ((if m.timestamp == 1 then c.second else c.first) ∷ [])
+          true;
+    } };
+
+    fn kind_of(&self, _name: &str, _major: u32) -> Option<u8> {
+        Some(0)
+    }
+
+    fn judge(&self, alloc: Global, _kind: u8, message: &Message) -> Result<Judgement, AllocError> {
+        let other = if message.timestamp() == 1 {
+            self.second
+        } else {
+            self.first
+        };
+        let mut ids = Vec::new(alloc);
+        ids.push(other)?;
+        match DepList::new(ids) {
+            Ok(deps) => Ok(Judgement::Accept { deps, share: true }),
+            Err(_) => unreachable!(),
+        }
+    }
+}
+
+// Two messages, each of which depends on the other.
+fn play_crossed<P: Print>(rt: &P, alloc: Global, tally: &mut Tally) -> Result<()> {
+    let clients = Crossed {
+        first: id(CYCLE_A)?,
+        second: id(CYCLE_B)?,
+    };
+    let mut input = Vec::new(alloc);
+    add_record(&mut input, CYCLE, 1, b"a")?;
+    add_record(&mut input, CYCLE, 2, b"b")?;
+    let order = Order::new("try cycle d", input.as_slice());
+    let said = Said::done(alloc, CYCLE_LINES)?;
+    let came = play_for(alloc, &order, Files::none(alloc).disk(alloc)?, &clients)?;
+    if !tally.count(said.is_of(&came)) {
+        println!(rt; "apart: {}", order.words)?;
+    }
+    Ok(())
+}
