@@ -100,27 +100,42 @@ pub(crate) fn play_for<C: Clients>(
 ) -> Result<Came> {
     let hasher = RandomState::new(&MemRandom(0))?;
     let words = words_of(alloc, order.words)?;
-    let mut source = source_of(alloc, order)?;
-    let mut out = sink_of(alloc, order.failing.of_out())?;
-    let mut err = sink_of(alloc, order.failing.of_err())?;
+    let source = source_of(alloc, order)?;
+    let out = sink_of(alloc, order.failing.of_out())?;
+    let err = sink_of(alloc, order.failing.of_err())?;
     let disk = failing_disk(alloc, disk, order.failing)?;
-    let mut host = MemHost::new(alloc, disk)?;
+    let host = MemHost::new(alloc, disk)?;
+    let streams = (source, out, err);
+    Ok(command(alloc, hasher, words.as_slice(), host, streams, clients))
+}
+
+// The one call of `run`.
+fn command<C: Clients>(
+    alloc: Global,
+    hasher: RandomState,
+    words: &[String],
+    host: MemHost,
+    streams: (SlowSource, SlowSink, SlowSink),
+    clients: &C,
+) -> Came {
+    let mut host = host;
+    let (mut source, mut out, mut err) = streams;
     let status = run(
         alloc,
         hasher,
-        words.as_slice(),
+        words,
         &mut host,
         &mut source,
         &mut out,
         &mut err,
         clients,
     );
-    Ok(Came {
+    Came {
         status,
         out,
         err,
         disk: host.into_disk(),
-    })
+    }
 }
 
 // The words of a line; an empty line has none.
