@@ -15,8 +15,3 @@ pub use batches::{batch_len, read_batch, write_batch};
 pub use lengths::{MAX_BATCH_LEN, MAX_SPELLING, STEP_BYTES, STEP_LEN, entry_len};
 pub use reading::{EntryFound, read_entry};
 pub use writing::write_entry;
-
-#[cfg(test)]
-mod batch_tests;
-#[cfg(test)]
-mod tests;

@@ -11,6 +11,3 @@ pub use fault::{DiskFault, FrameFault, StartFault};
 pub use gates::{barrier, clear, create, open_gate, prepare};
 pub use header::{FORMAT, Header, read_header};
 pub use journal::Journal;
-
-#[cfg(test)]
-mod tests;
