@@ -21,7 +21,10 @@ fn make(rt: &impl Abort, disk: &mut MemDisk, op: &Op, fails: bool) -> Result<(),
             assert!(rt; *at <= disk.file(0).len() as u64);
             disk.write_at(0, *at, bytes)
         }
-        Op::Cut(len) => disk.cut(0, *len),
+        Op::Cut(len) => {
+            assert!(rt; *len <= disk.file(0).len() as u64);
+            disk.cut(0, *len)
+        }
         Op::Sync => disk.sync(0),
     };
     assert_eq!(rt; answer.is_err(), fails);
