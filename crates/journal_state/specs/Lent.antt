@@ -4,6 +4,7 @@ use Rattle.std.specs.Option.{option_map}
 use Rattle.std.specs.FinSet as fin_set
 use Rattle.sync_rules.specs.declared.answers.Judgement.{Judgement}
 use Rattle.sync_rules.specs.declared.answers.Judgement.TheVariants as judgement
+use Rattle.sync_rules.specs.declared.limits.TheConstants.{MAX_CONTACTS}
 use Rattle.sync_rules.specs.Lists.{is_among}
 use Rattle.sync_rules.specs.Facts.{Held, row_at, wanted_from}
 use Rattle.message_graph.specs.declared.nodes.Judged.{Judged}
@@ -19,7 +20,7 @@ use Rattle.journal_state.specs.Whole.{StateValue, may_go, shared_of}
 -- other rows, and the wanted ids are those of the facts
 pub record StandsForRows (s : StateValue) (table : retry.Table) : Type 0 where
   pub row : (contact n : ℕ) (h : Held) → slice_get s.facts.held n ≡ Some h → (retry.kept_at table contact n).row ≡ row_at s.facts.rows contact h.id
-  pub ready : (contact n : ℕ) (h : Held) → contact < 256 → slice_get s.facts.held n ≡ Some h
+  pub ready : (contact n : ℕ) (h : Held) → contact < MAX_CONTACTS → slice_get s.facts.held n ≡ Some h
       → (retry.kept_at table contact n).ready ≡ may_go s.facts.levels s.facts.delivered (shared_of s) contact h
   pub others : (contact n : ℕ) → length s.facts.held ≤ n → retry.kept_at table contact n ≡ retry.no_kept
   pub wants : (contact : ℕ) → (retry.wants_of table contact).ids ≡ wanted_from s.facts.wanted contact
