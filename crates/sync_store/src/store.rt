@@ -7,6 +7,7 @@ ghost use Rattle.outside.specs.declared.limits.TheConstants.{MAX_JOURNAL};
 ghost use Rattle.journal_state.specs.Allowing.{due_of};
 ghost use Rattle.journal_state.specs.Lent.{StandsForNodes, StandsForRows};
 ghost use Rattle.journal_state.specs.Whole.{Knows};
+ghost use Rattle.sync_rules.specs.declared.limits.TheConstants.{MAX_CONTACTS};
 ghost use Rattle.sync_rules.specs.Clients.{Meaning};
 ghost use Rattle.sync_rules.specs.Facts.{Id, session_at, takes_of};
 ghost use Rattle.sync_rules.specs.Legal.{Allowed};
@@ -60,9 +61,10 @@ impl Store {
         self.state.held()
     }
 
-    /// The number of contacts.
+    /// The number of contacts, at most `MAX_CONTACTS`.
     pub fn contacts(&self) -> u32
-        ensures { result ≡ self.now.state.facts.contacts }
+        ensures value { result ≡ self.now.state.facts.contacts }
+        ensures few { result ≤ MAX_CONTACTS }
     {
         self.state.contacts()
     }
