@@ -1,6 +1,7 @@
 //! `State`.
-ghost use Rattle.std.specs.Prelude.{◌≡◌, ◌<◌, [], length, IfOk, Some, slice_get};
+ghost use Rattle.std.specs.Prelude.{◌≡◌, ◌<◌, ◌≤◌, [], length, IfOk, Some, slice_get};
 ghost use Rattle.std.specs.Option.{option_map};
+ghost use Rattle.sync_rules.specs.declared.limits.TheConstants.{MAX_CONTACTS};
 ghost use Rattle.sync_rules.specs.Facts.{nothing, takes_of};
 ghost use Rattle.journal_state.specs.Lent.{StandsForRows};
 ghost use Rattle.journal_state.specs.Sound.{IsSound};
@@ -81,9 +82,10 @@ impl State {
         self.messages.len()
     }
 
-    /// The number of contacts.
+    /// The number of contacts, at most `MAX_CONTACTS`.
     pub fn contacts(&self) -> u32
-        ensures { result ≡ self.now.facts.contacts }
+        ensures value { result ≡ self.now.facts.contacts }
+        ensures few { result ≤ MAX_CONTACTS }
     {
         self.table.contacts()
     }
