@@ -27,8 +27,7 @@ use Rattle.message_graph.specs.declared.nodes.Ending.TheVariants as ending
 use Rattle.message_graph.specs.declared.nodes.Step.{Step}
 use Rattle.message_graph.specs.declared.nodes.Step.TheVariants as graph_step
 use Rattle.message_graph.specs.Nodes as nodes
-use Rattle.message_graph.proofs.Steps.{next_judge, next_end}
-use Rattle.message_graph.proofs.Changes.{there_within}
+use Rattle.message_graph.specs.NodeLaws.{next_judge, next_end, there_within}
 use Rattle.journal_play.specs.Texts.{Line, told, line_of, line_at, text_of}
 use Rattle.journal_play.specs.Playing.{Story, node_of, judged_of, Mirrors, StandsFor}
 use Rattle.journal_play.specs.Keeping.{stepping, number_in, Reaches, IsStepped}
