@@ -34,7 +34,8 @@ use Rattle.message_graph.specs.declared.nodes.Node.{Node}
 use Rattle.message_graph.specs.Nodes as nodes
 use Rattle.message_graph.specs.NodeLaws.{number_of-node_named}
 use Rattle.journal_play.specs.Texts.{Line, told_by, told, text_of}
-use Rattle.journal_play.specs.Playing.{Plays, Story, node_of, answer_shown, ending_by, Mirrors, StandsFor, IsStoryOf}
+use Rattle.journal_play.specs.Playing.{Plays, Story, node_of, answer_shown, Mirrors, StandsFor, IsStoryOf}
+use Rattle.message_graph.specs.Nodes.{ending_by}
 use Rattle.journal_play.specs.Keeping.{holding, taking, taking_message, Reaches}
 use Rattle.journal_play.proofs.Same.{node_named-held, next_same, entry_of, id_at}
 use Rattle.journal_play.proofs.Changes.{ids_of}
