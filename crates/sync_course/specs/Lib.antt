@@ -1,0 +1,15 @@
+pub mod Events
+pub mod Paths
+pub mod Links
+pub mod LinkTurns
+pub mod Turns
+pub mod Closing
+pub mod PathLaws
+pub mod ToldLaws
+pub mod CallLaws
+pub mod LiftLaws
+pub mod MoveLaws
+pub mod Suits
+pub mod CountLaws
+pub mod RunLaws
+pub mod Quiet
