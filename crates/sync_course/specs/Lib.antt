@@ -13,3 +13,6 @@ pub mod Suits
 pub mod CountLaws
 pub mod RunLaws
 pub mod Quiet
+pub mod QuietLaws
+pub mod EndLaws
+pub mod SuitLaws

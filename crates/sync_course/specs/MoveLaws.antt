@@ -96,9 +96,10 @@ next_moves : (clients : Meaning) (n : ℕ) (doing : Doing) (e : Event) (p q : Pl
 next_moves clients n Done Pass p q s = moves_none clients p.facts q.facts (ap (λ (x : Place). x.facts) s)
 next_moves clients n _ _ p q s = absurd s
 
-ends_moves : (clients : Meaning) (e : Event) (p q : Place) → EndsTurn e p q → Moves clients (batches_of (e ∷ [])) p.facts q.facts
-ends_moves clients Pass p q s = moves_none clients p.facts q.facts (ap (λ (x : Place). x.facts) s)
-ends_moves clients _ p q s = absurd s
+ends_moves : (clients : Meaning) (doing : Doing) (e : Event) (p q : Place) → EndsTurn doing e p q
+    → Moves clients (batches_of (e ∷ [])) p.facts q.facts
+ends_moves clients Asks Pass p q s = moves_none clients p.facts q.facts (ap (λ (x : Place). x.facts) s)
+ends_moves clients _ _ p q s = absurd s
 
 works_moves : (clients : Meaning) (terms : Terms) (n : ℕ) (doing : Doing) (link : Link) (e : Event) (p q : Place)
     → WorksOn clients terms n doing link e p q → Moves clients (batches_of (e ∷ [])) p.facts q.facts
@@ -108,7 +109,7 @@ works_moves clients terms n doing link e p q s =
 
 turn_moves : (clients : Meaning) (terms : Terms) (n : ℕ) (doing : Doing) (o : Option Link) (e : Event) (p q : Place)
     → TurnStep clients terms n doing o e p q → Moves clients (batches_of (e ∷ [])) p.facts q.facts
-turn_moves clients terms n doing None e p q s = ends_moves clients e p q s
+turn_moves clients terms n doing None e p q s = ends_moves clients doing e p q s
 turn_moves clients terms n doing (Some link) e p q s =
     elim s [
       | inl works ↦ works_moves clients terms n doing link e p q works

@@ -353,11 +353,11 @@ module _ (go_on : StreamsGoOn) (join : RecordsJoin) (clients : Meaning) (terms :
 
   turn_sound : (n : ℕ) (doing : Doing) (o : Option Link) (e : Event) (p q : Place) → p.stage ≡ Works n doing → slice_get p.links n ≡ o
       → TurnStep clients terms n doing o e p q → IsOfJournal clients q.facts → Sound p → Sound q
-  turn_sound n doing None e p q is at t journal s = ends e t
+  turn_sound n doing None e p q is at t journal s = ends doing e is t
     where
-      ends : (e : Event) → EndsTurn e p q → Sound q
-      ends Pass t = sound_at q (turn_ended p) t (sound_ends p n doing is at s)
-      ends _ t = absurd t
+      ends : (d : Doing) (e : Event) → p.stage ≡ Works n d → EndsTurn d e p q → Sound q
+      ends Asks Pass is t = sound_at q (turn_ended p) t (sound_ends p n Asks is at s)
+      ends _ _ is t = absurd t
   turn_sound n doing (Some link) e p q is at t journal s =
       elim t [
         | inl works ↦

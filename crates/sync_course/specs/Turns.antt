@@ -99,12 +99,12 @@ GoesToNext n Done Pass p q = q ≡ record p { stage = Works (suc n) Asks }
 GoesToNext n _ _ p q = ⊥
 
 -- behind the last link the turn ends
-abbrev pub EndsTurn : Event → Place → Place → Type 0
-EndsTurn Pass p q = q ≡ turn_ended p
-EndsTurn _ p q = ⊥
+abbrev pub EndsTurn : Doing → Event → Place → Place → Type 0
+EndsTurn Asks Pass p q = q ≡ turn_ended p
+EndsTurn _ _ p q = ⊥
 
 abbrev pub TurnStep : Meaning → Terms → ℕ → Doing → Option Link → Event → Place → Place → Type 0
-TurnStep clients terms n doing None e p q = EndsTurn e p q
+TurnStep clients terms n doing None e p q = EndsTurn doing e p q
 TurnStep clients terms n doing (Some link) e p q = WorksOn clients terms n doing link e p q ⊎ GoesToNext n doing e p q
 
 -- by its stage, a step of a run
