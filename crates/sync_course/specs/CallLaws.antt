@@ -1,5 +1,5 @@
 -- What each call of a link's turn does, as a step of the course: one law for each, for any journal before and after.
-use Rattle.std.proofs.Common.{◌≡◌, ◌⊎◌, ℕ, suc, true, false, List, [], ◌∷◌, ◌++◌, length, append-nil, append_assoc, refl, sym, ◌∙◌, ap, subst, inl, inr, Result, Ok, Err}
+use Rattle.std.proofs.Common.{◌≡◌, ℕ, suc, true, false, List, [], ◌∷◌, ◌++◌, length, append-nil, refl, sym, ◌∙◌, ap, subst, inl, inr, Ok, Err}
 use Rattle.outside.specs.declared.failed.Failed.{Failed}
 use Rattle.outside.specs.declared.host.Heard.{Heard}
 use Rattle.outside.specs.declared.host.Heard.TheVariants as answer
@@ -11,15 +11,15 @@ use Rattle.sync_ids.specs.declared.records.Record.{Record}
 use Rattle.sync_rules.specs.declared.entries.Entry.{Entry}
 use Rattle.sync_rules.specs.declared.entries.Out.{Out}
 use Rattle.sync_rules.specs.Clients.{Meaning}
-use Rattle.sync_rules.specs.Facts.{Facts, after_all, after_batches, session_at}
+use Rattle.sync_rules.specs.Facts.{after_all, after_batches, session_at}
 use Rattle.sync_rules.specs.Legal.{Allowed, AllSettling, IsDue}
 use Rattle.sync_rules.specs.Steps.{IsSettled}
 use Rattle.sync_course.specs.declared.TheConstants.{MAX_OUTPUTS, PIECE_LEN}
-use Rattle.sync_course.specs.Events.{Event, Commit, Hear, Miss, Read, Break, Pass, asked_event, batches_of, Told}
+use Rattle.sync_course.specs.Events.{Event, Commit, Read, Break, Pass, asked_event, batches_of, Told}
 use Rattle.sync_course.specs.Paths.{Path, Runs}
 use Rattle.sync_course.specs.PathLaws.{path_one}
 use Rattle.sync_course.specs.Links.{is_going, is_sent_to}
-use Rattle.sync_course.specs.LinkTurns.{Asks, Takes, Waits, Sends as Sending, Puts, Done, Spot, LinkStep, StepOf, IsEnough, PassesItem, answered_spot, failed_spot, heard_spot, next_take, out_batch, out_spot, taken_spot}
+use Rattle.sync_course.specs.LinkTurns.{Asks, Takes, Waits, Sends as Sending, Puts, Done, Spot, LinkStep, StepOf, IsEnough, PassesItem, answered_spot, failed_spot, next_take, out_batch, out_spot, taken_spot}
 use Rattle.sync_course.specs.ToldLaws.{batches_of_commits, commits, told_asked, told_broken, told_commits, told_none, told_pass, told_read, told_sent}
 
 -- one event that commits nothing

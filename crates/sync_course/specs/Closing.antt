@@ -5,7 +5,7 @@ use Rattle.sync_course.specs.declared.ends.LinkEnd.TheVariants as end
 use Rattle.sync_course.specs.declared.ends.LinkLine.{LinkLine}
 use Rattle.sync_course.specs.declared.ends.LinkLine.TheVariants as line
 use Rattle.sync_course.specs.Links.{Link}
-use Rattle.sync_course.specs.Turns.{Place, Terms, is_over}
+use Rattle.sync_course.specs.Turns.{Place, is_over}
 
 -- The line of a link. One that is still asked is quiet where the run was over; one that is not closed is unfinished where it was
 -- not.

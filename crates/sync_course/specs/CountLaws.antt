@@ -1,19 +1,17 @@
 -- The records taken on a session are a front of those heard on its link.
-use Rattle.std.proofs.Common.{◌≡◌, ◌⊎◌, ℕ, zero, suc, ◌+◌, ◌<◌, Bool, true, false, cond, nat_eq, List, [], ◌∷◌, ◌++◌, length, drop, eq-eqb, length-append, append-nil, append_assoc, refl, sym, ◌∙◌, ap, subst, inl, inr, arith, Option, None, Some}
+use Rattle.std.proofs.Common.{◌≡◌, ℕ, zero, suc, ◌+◌, Bool, true, false, cond, nat_eq, List, [], ◌∷◌, ◌++◌, length, drop, eq-eqb, length-append, append-nil, append_assoc, refl, sym, ◌∙◌, ap, subst, inl, inr}
 use Rattle.std.proofs.lemmas.Bool.{ne_eqb}
 use Rattle.outside.specs.Links.{Reply, got, idle, ended}
 use Rattle.record_grammar.specs.Laws.{RecordsJoin, StreamsGoOn}
 use Rattle.record_grammar.specs.Stream.{ending, items, records, records_of, rest, rest_place}
 use Rattle.record_grammar.specs.declared.stream.Ending.{Ending}
-use Rattle.record_grammar.specs.declared.stream.Ending.TheVariants as ending_kind
 use Rattle.record_grammar.specs.declared.stream.Item.{Item}
 use Rattle.record_grammar.specs.declared.stream.Item.TheVariants as item
 use Rattle.sync_ids.specs.declared.records.Record.{Record}
 use Rattle.sync_rules.specs.declared.entries.Entry.{Entry}
-use Rattle.sync_rules.specs.declared.entries.Entry.TheVariants as entry
 use Rattle.sync_rules.specs.Clients.{Meaning}
 use Rattle.sync_rules.specs.Facts.{Facts, after_all, takes_of}
-use Rattle.sync_rules.specs.Growth.{OnlySettles, TakesOne}
+use Rattle.sync_rules.specs.Growth.{TakesOne}
 use Rattle.sync_rules.specs.Legal.{Allowed, IsSettlingBatch}
 use Rattle.sync_rules.specs.Sessions.{taken}
 use Rattle.sync_rules.specs.StepKinds.{settling_only, takes_one}
@@ -21,8 +19,8 @@ use Rattle.sync_course.specs.declared.ends.LinkEnd.{LinkEnd}
 use Rattle.sync_course.specs.declared.ends.LinkEnd.TheVariants as end
 use Rattle.sync_course.specs.Events.{Event, Commit, Hear, Miss, Read, Break, Pass}
 use Rattle.sync_course.specs.Links.{Link, closes, is_going, items_after, link_after, new_items, stands_behind}
-use Rattle.sync_course.specs.LinkTurns.{Asks, Takes, Waits, Sends, Puts, Done, Doing, IsEnough, LinkStep, PassesItem, PutsOut, SendsNext, SettlesOn, Spot, StepOf, TakesNext, heard_spot, next_take, out_batch}
-use Rattle.sync_course.specs.Suits.{IsCounted, IsTaken, keeps_all}
+use Rattle.sync_course.specs.LinkTurns.{Asks, Takes, Waits, Sends, Puts, Doing, LinkStep, PassesItem, SendsNext, SettlesOn, Spot, StepOf, TakesNext, heard_spot, next_take}
+use Rattle.sync_course.specs.Suits.{IsCounted, keeps_all}
 
 -- the items that a link is to take
 abbrev pub pending : Doing → List Item
@@ -41,7 +39,7 @@ new_items_follow go_on heard bytes =
     let behind : List Item = items (rest_place 0 heard) (rest 0 heard ++ bytes) in
     let parts : items 0 (heard ++ bytes) ≡ items 0 heard ++ behind = (go_on 0 heard).begins bytes in
     let new : new_items heard bytes ≡ behind =
-        ap (drop (length (items 0 heard))) parts ∙ drop_front (items 0 heard) behind in
+    ap (drop (length (items 0 heard))) parts ∙ drop_front (items 0 heard) behind in
     parts ∙ ap (λ (l : List Item). items 0 heard ++ l) (sym new)
 
 -- whatever follows those of before are the new ones
@@ -142,7 +140,7 @@ module _ (go_on : StreamsGoOn) (join : RecordsJoin) where
   unfolding records_of
   counted_taken f g session place r its link one c =
       let count : takes_of g.takes session ≡ length (c.done ++ r ∷ []) =
-          one ∙ ap (λ (n : ℕ). n + 1) c.count ∙ sym (length-append c.done (r ∷ [])) in
+      one ∙ ap (λ (n : ℕ). n + 1) c.count ∙ sym (length-append c.done (r ∷ [])) in
       elim (closes r) as (λ b. IsCounted g session (cond b [] its)
       (record link { nonce = (link_after place r link).nonce; stands = cond b (end.NoVersion place) link.stands })) [
         | true ↦ record {
@@ -192,7 +190,7 @@ module _ (go_on : StreamsGoOn) (join : RecordsJoin) where
   takes_counted clients session (item.One place r ∷ its) b p q s c =
       let allowed : Allowed clients p.facts (next_take p.facts session r) = subst (Allowed clients p.facts) s.0 s.1 in
       let one : takes_of (after_all p.facts b).takes session ≡ takes_of p.facts.takes session + 1 =
-          ap (λ (x : List Entry). takes_of (after_all p.facts x).takes session) s.0 ∙ takes_here clients p.facts session r allowed in
+      ap (λ (x : List Entry). takes_of (after_all p.facts x).takes session) s.0 ∙ takes_here clients p.facts session r allowed in
       counts_at session q _ s.2 (counted_taken p.facts (after_all p.facts b) session place r its p.link one c)
 
   passes_counted : (session : ℕ) (its : List Item) (p q : Spot) → PassesItem its p q → IsCounted p.facts session its p.link → Counts session q

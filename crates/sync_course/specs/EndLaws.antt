@@ -1,8 +1,7 @@
 -- How a run stands that is over, and which batches its course added to the journal.
-use Rattle.std.proofs.Common.{◌≡◌, ◌⊎◌, ℕ, zero, suc, ◌+◌, ◌<◌, ◌≤◌, Bool, true, false, not, cond, ◌&&◌, ◌||◌, nat_le, List, [], ◌∷◌, ◌++◌, length, append-nil, refl, sym, ◌∙◌, ap, subst, inl, inr, arith, Option, None, Some}
-use Rattle.std.specs.List.{list_any}
+use Rattle.std.proofs.Common.{◌≡◌, ℕ, zero, suc, ◌+◌, ◌<◌, ◌≤◌, Bool, true, false, not, cond, ◌||◌, nat_le, List, [], ◌∷◌, ◌++◌, length, append-nil, refl, sym, ◌∙◌, ap, subst, inl, inr, arith, Option, None, Some}
 use Rattle.std.specs.Prelude.{nat_lt, slice_get}
-use Rattle.std.proofs.lemmas.Bool.{and_parts, false≢true, leb-true, ltb-true, or_cases, or_left, or_right}
+use Rattle.std.proofs.lemmas.Bool.{and_parts, false≢true, leb-true, ltb-true, or_left, or_right}
 use Rattle.outside.specs.Links.{Reply, got, idle, ended}
 use Rattle.record_grammar.specs.Laws.{RecordsJoin, StreamsGoOn}
 use Rattle.record_grammar.specs.Stream.{records, records_of}
@@ -19,11 +18,11 @@ use Rattle.sync_rules.specs.StepKinds.{settled_stays}
 use Rattle.sync_rules.specs.Steps.{IsSettled}
 use Rattle.sync_course.specs.Events.{Event, Commit, Hear, Miss, Read, Break, Pass}
 use Rattle.sync_course.specs.Paths.{Path}
-use Rattle.sync_course.specs.Links.{Link, is_going, is_sent_to}
-use Rattle.sync_course.specs.LinkTurns.{Asks, Takes, Waits, Sends, Puts, Done, Doing, LinkStep, PassesItem, PutsOut, SendsNext, Spot, StepOf, TakesNext, heard_spot, out_batch}
+use Rattle.sync_course.specs.Links.{Link, is_going}
+use Rattle.sync_course.specs.LinkTurns.{Asks, Takes, Waits, Sends, Puts, Done, Doing, PassesItem, SendsNext, Spot, StepOf, TakesNext, heard_spot, out_batch}
 use Rattle.sync_course.specs.Turns.{Attaches, Between, Course, Ended, EndsTurn, GoesToNext, Greets, Place, RunStep, Settles, Stage, StageStep, Terms, TurnStep, Works, first_place, is_at_end, is_over, some_going, spot_of, turn_ended, with_spot}
 use Rattle.sync_course.specs.RunLaws.{IsSound, first_sound, path_sound, pending_at}
-use Rattle.sync_course.specs.Quiet.{EndsQuiet, IsQuietAt, idle_answers, last_reading}
+use Rattle.sync_course.specs.Quiet.{EndsQuiet, idle_answers, last_reading}
 use Rattle.sync_course.specs.QuietLaws.{BetweenTurns, IsStillAt, path_still}
 use Rattle.sync_course.specs.Suits.{IsCounted, IsTaken, keeps_all}
 
@@ -169,21 +168,21 @@ pub course_ends_quiet : StreamsGoOn → RecordsJoin → (clients : Meaning) (ter
 course_ends_quiet go_on join clients terms sessions j events last legal begun course over =
     let start : Place = first_place sessions (facts j) in
     let settled : IsSettled clients last.facts =
-        subst (λ (st : Stage). SettledAt clients st last.facts) course.at_end
-        (path_settled clients terms start last events course.path tt) in
+    subst (λ (st : Stage). SettledAt clients st last.facts) course.at_end
+    (path_settled clients terms start last events course.path tt) in
     let still : BetweenTurns clients terms (λ i. idle_answers i events) (λ i. last_reading i events) last =
-        subst (λ (st : Stage). IsStillAt clients terms (λ i. idle_answers i events) (λ i. last_reading i events) st last) course.at_end
-        (path_still clients terms (λ i. 0) (λ i. None) start last events course.path refl) in
+    subst (λ (st : Stage). IsStillAt clients terms (λ i. idle_answers i events) (λ i. last_reading i events) st last) course.at_end
+    (path_still clients terms (λ i. 0) (λ i. None) start last events course.path refl) in
     let sound : IsSound clients terms.first sessions last =
-        path_sound go_on join clients terms sessions start last events course.path (first_sound clients terms.first sessions j legal begun) in
+    path_sound go_on join clients terms sessions start last events course.path (first_sound clients terms.first sessions j legal begun) in
     let parts = and_parts (nat_lt 0 last.still) (not (some_going last.links) || nat_le terms.quiet last.still) over in
     let some : 0 < last.still = ltb-true 0 last.still parts.0 in
     record {
       settled = settled;
       idle = λ i link at going.
           let quiet : terms.quiet ≤ last.still =
-              leb-true terms.quiet last.still
-              (had_quiet (some_going last.links) (nat_le terms.quiet last.still) parts.1 (going_there last.links i link at going)) in
+          leb-true terms.quiet last.still
+          (had_quiet (some_going last.links) (nat_le terms.quiet last.still) parts.1 (going_there last.links i link at going)) in
           let idles : last.still ≤ idle_answers i events = still.idle i link at going in
           omega (arith, quiet, idles);
       nothing_due = still.quiet some;

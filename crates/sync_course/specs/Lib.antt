@@ -16,3 +16,4 @@ pub mod Quiet
 pub mod QuietLaws
 pub mod EndLaws
 pub mod SuitLaws
+pub mod OutLaws

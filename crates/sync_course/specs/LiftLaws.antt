@@ -1,18 +1,18 @@
 -- A link's turn as a part of the run, and the steps of the run between the turns of its links.
-use Rattle.std.proofs.Common.{◌≡◌, ◌⊎◌, ℕ, zero, suc, ◌+◌, ◌<◌, Bool, true, false, cond, List, [], ◌∷◌, ◌++◌, length, append-nil, refl, sym, ◌∙◌, ap, subst, inl, inr, arith, Option, None, Some}
+use Rattle.std.proofs.Common.{◌≡◌, ℕ, zero, suc, ◌+◌, ◌<◌, Bool, true, false, cond, List, [], ◌∷◌, ◌++◌, length, refl, sym, ap, subst, inl, inr, arith, Option, None, Some}
 use Rattle.std.specs.Prelude.{slice_get, slice_set}
 use Rattle.outside.specs.Outside.{Outside}
 use Rattle.sync_rules.specs.declared.entries.Entry.{Entry}
 use Rattle.sync_rules.specs.declared.entries.Entry.TheVariants as entry
 use Rattle.sync_rules.specs.declared.entries.Session.{Session}
 use Rattle.sync_rules.specs.Clients.{Meaning}
-use Rattle.sync_rules.specs.Facts.{Facts, after_all, after_batches}
+use Rattle.sync_rules.specs.Facts.{after_all, after_batches}
 use Rattle.sync_rules.specs.Legal.{Allowed, AllSettling}
 use Rattle.sync_rules.specs.Steps.{IsSettled}
 use Rattle.sync_course.specs.Events.{Event, Commit, Break, Pass, Told}
 use Rattle.sync_course.specs.Paths.{Path, Runs, Breaks}
 use Rattle.sync_course.specs.PathLaws.{path_maps, path_one}
-use Rattle.sync_course.specs.ToldLaws.{commits, told_broken, told_pass}
+use Rattle.sync_course.specs.ToldLaws.{commits, told_pass}
 use Rattle.sync_course.specs.CallLaws.{runs_commits, runs_quiet}
 use Rattle.sync_course.specs.Links.{Link}
 use Rattle.sync_course.specs.LinkTurns.{Asks, Doing, Done, LinkStep, Spot}

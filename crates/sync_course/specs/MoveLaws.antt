@@ -1,10 +1,9 @@
 -- What one step of a course does to the journal: the batch of its event may follow, and the facts are those behind it.
-use Rattle.std.proofs.Common.{◌≡◌, ◌⊎◌, ℕ, zero, suc, ◌+◌, Bool, true, false, cond, List, [], ◌∷◌, ◌++◌, refl, sym, ◌∙◌, ap, subst, inl, inr, Option, None, Some}
+use Rattle.std.proofs.Common.{◌≡◌, ℕ, zero, suc, ◌+◌, Bool, true, false, cond, List, [], ◌∷◌, ◌++◌, refl, sym, ◌∙◌, ap, subst, inl, inr, Option, None, Some}
 use Rattle.outside.specs.Links.{Reply, got, idle, ended}
 use Rattle.record_grammar.specs.declared.stream.Item.{Item}
 use Rattle.record_grammar.specs.declared.stream.Item.TheVariants as item
 use Rattle.sync_rules.specs.declared.entries.Entry.{Entry}
-use Rattle.sync_rules.specs.declared.entries.Session.{Session}
 use Rattle.sync_rules.specs.Clients.{Meaning}
 use Rattle.sync_rules.specs.Facts.{Facts, after_all, after_batches}
 use Rattle.sync_rules.specs.Legal.{Allowed, GoesOn}
@@ -14,8 +13,8 @@ use Rattle.sync_course.specs.Events.{Event, Commit, Hear, Miss, Read, Break, Pas
 use Rattle.sync_course.specs.Paths.{Path}
 use Rattle.sync_course.specs.ToldLaws.{batches_of-append}
 use Rattle.sync_course.specs.Links.{Link}
-use Rattle.sync_course.specs.LinkTurns.{Asks, Takes, Waits, Sends, Puts, Done, Doing, IsEnough, LinkStep, PassesItem, PutsOut, SendsNext, SettlesOn, Spot, StepOf, TakesNext, heard_spot}
-use Rattle.sync_course.specs.Turns.{Attaches, Between, Ended, EndsTurn, GoesToNext, Greets, Place, RunStep, Settles, StageStep, Stage, Terms, TurnStep, Works, WorksOn, first_place, is_at_end, spot_of, with_spot}
+use Rattle.sync_course.specs.LinkTurns.{Asks, Takes, Waits, Sends, Puts, Done, Doing, LinkStep, PassesItem, SendsNext, SettlesOn, Spot, StepOf, TakesNext, heard_spot}
+use Rattle.sync_course.specs.Turns.{Attaches, Between, Ended, EndsTurn, GoesToNext, Greets, Place, RunStep, Settles, StageStep, Stage, Terms, TurnStep, Works, WorksOn, is_at_end, spot_of}
 
 -- these batches may follow, and those are the facts behind them
 pub record Moves (clients : Meaning) (batches : List (List Entry)) (old new : Facts) : Type 0 where

@@ -1,5 +1,5 @@
 -- Paths, one behind the other.
-use Rattle.std.proofs.Common.{◌≡◌, List, [], ◌∷◌, ◌++◌, append-nil, append_assoc, refl, sym, ◌∙◌, ap, subst}
+use Rattle.std.proofs.Common.{List, [], ◌∷◌, ◌++◌, append-nil, append_assoc, refl, sym, ap, subst}
 use Rattle.sync_course.specs.Events.{Event}
 use Rattle.sync_course.specs.Paths.{Path}
 

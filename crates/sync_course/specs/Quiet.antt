@@ -1,5 +1,5 @@
 -- How a run ends that is over: what its last turns had, read off its events.
-use Rattle.std.specs.Prelude.{◌≡◌, ℕ, zero, suc, ◌+◌, ◌<◌, ◌≤◌, Bool, true, false, cond, nat_eq, List, [], ◌∷◌, ◌++◌, Option, None, Some, slice_get}
+use Rattle.std.specs.Prelude.{◌≡◌, ℕ, suc, ◌+◌, ◌≤◌, true, cond, nat_eq, List, [], ◌∷◌, Option, None, Some, slice_get}
 use Rattle.outside.specs.Links.{Reply, got, idle, ended}
 use Rattle.sync_rules.specs.Clients.{Meaning}
 use Rattle.sync_rules.specs.Facts.{Facts, session_at}

@@ -1,34 +1,25 @@
 -- What the last still turns of a run had: Idle answers alone, and nothing due at the readings made in them. And where the journal is
 -- settled.
-use Rattle.std.proofs.Common.{◌≡◌, ◌⊎◌, ℕ, zero, suc, ◌+◌, ◌<◌, ◌≤◌, Bool, true, false, not, cond, ◌&&◌, ◌||◌, nat_eq, nat_le, eq-eqb, List, [], ◌∷◌, ◌++◌, length, append-nil, length-append, refl, sym, ◌∙◌, ap, subst, inl, inr, arith, Option, None, Some}
-use Rattle.std.specs.List.{list_any}
-use Rattle.std.specs.Prelude.{nat_lt, slice_get, slice_set}
-use Rattle.std.proofs.lemmas.Bool.{and_parts, cases_eq, false≢true, leb-true, ltb-true, ne_eqb, or_cases, or_left, or_right}
+use Rattle.std.proofs.Common.{◌≡◌, ℕ, zero, suc, ◌+◌, ◌<◌, ◌≤◌, Bool, true, false, cond, nat_eq, eq-eqb, List, [], ◌∷◌, length, refl, sym, ◌∙◌, ap, subst, inl, inr, arith, Option, None, Some}
+use Rattle.std.specs.Prelude.{slice_get}
+use Rattle.std.proofs.lemmas.Bool.{cases_eq, false≢true, ne_eqb}
 use Rattle.outside.specs.Links.{Reply, got, idle, ended}
-use Rattle.record_grammar.specs.Laws.{RecordsJoin, StreamsGoOn}
-use Rattle.record_grammar.specs.Stream.{records, records_of}
 use Rattle.record_grammar.specs.declared.stream.Item.{Item}
 use Rattle.record_grammar.specs.declared.stream.Item.TheVariants as item
-use Rattle.sync_ids.specs.declared.records.Record.{Record}
 use Rattle.sync_rules.specs.declared.entries.Entry.{Entry}
-use Rattle.sync_rules.specs.declared.entries.Entry.TheVariants as entry
-use Rattle.sync_rules.specs.declared.entries.Session.{Session}
 use Rattle.sync_rules.specs.Clients.{Meaning}
-use Rattle.sync_rules.specs.Facts.{Facts, after_all, facts, session_at}
-use Rattle.sync_rules.specs.Legal.{Legal}
-use Rattle.sync_rules.specs.StepKinds.{settled_stays}
-use Rattle.sync_rules.specs.Steps.{IsSettled}
+use Rattle.sync_rules.specs.Facts.{Facts, after_all}
 use Rattle.sync_course.specs.declared.TheConstants.{MAX_OUTPUTS}
 use Rattle.sync_course.specs.declared.ends.LinkEnd.{LinkEnd}
 use Rattle.sync_course.specs.declared.ends.LinkEnd.TheVariants as end
 use Rattle.sync_course.specs.Events.{Event, Commit, Hear, Miss, Read, Break, Pass}
 use Rattle.sync_course.specs.Paths.{Path}
 use Rattle.sync_course.specs.Links.{Link, is_going, is_sent_to}
-use Rattle.sync_course.specs.LinkTurns.{Asks, Takes, Waits, Sends, Puts, Done, Doing, IsEnough, IsNothingDue, LinkStep, PassesItem, SendsNext, Spot, StepOf, TakesNext, heard_spot}
-use Rattle.sync_course.specs.Turns.{Attaches, Between, Course, Ended, EndsTurn, GoesToNext, Greets, Place, RunStep, Settles, Stage, StageStep, Terms, TurnStep, Works, WorksOn, first_place, is_at_end, is_over, some_going, spot_of, turn_ended, with_spot}
+use Rattle.sync_course.specs.LinkTurns.{Asks, Takes, Waits, Sends, Puts, Done, Doing, IsEnough, LinkStep, PassesItem, SendsNext, Spot, StepOf, TakesNext, heard_spot}
+use Rattle.sync_course.specs.Turns.{Attaches, Between, Ended, EndsTurn, GoesToNext, Greets, Place, RunStep, Settles, Stage, StageStep, Terms, TurnStep, Works, is_at_end, spot_of, turn_ended, with_spot}
 use Rattle.sync_course.specs.LiftLaws.{get_other, get_set, get_within}
 use Rattle.sync_course.specs.RunLaws.{IsClosedFrom, redundant_get}
-use Rattle.sync_course.specs.Quiet.{EndsQuiet, IsQuietAt, idle_answers, idles_after, idles_by, idles_with, last_reading, reading_after, reading_by}
+use Rattle.sync_course.specs.Quiet.{IsQuietAt, idles_after, idles_by, idles_with, reading_after, reading_by}
 
 -- ---- a link in a turn that did not move
 
@@ -269,11 +260,11 @@ module _ (clients : Meaning) (terms : Terms) where
   }
   still_closed idles readings n doing p none false t =
       let had : (i : ℕ) (link : Link) → (c : IsClosedFrom i p.links link)
-          → HadTurn clients p.facts (terms.first + i) p.still (idles i) (readings i) c.was =
-          λ i link c.
-              let within : i < length p.links = get_within p.links i c.was c.at in
-              let past : length p.links ≤ n = get_none p.links n none in
-              (t refl).passed i c.was c.at (omega (arith, within, past))
+      → HadTurn clients p.facts (terms.first + i) p.still (idles i) (readings i) c.was =
+      λ i link c.
+      let within : i < length p.links = get_within p.links i c.was c.at in
+      let past : length p.links ≤ n = get_none p.links n none in
+      (t refl).passed i c.was c.at (omega (arith, within, past))
       in
       record {
         idle = λ i link at going.
@@ -301,10 +292,10 @@ module _ (clients : Meaning) (terms : Terms) where
       let session : ℕ = terms.first + n in
       let from : Spot = spot_of doing link p in
       let st : StillStep clients session p.still (idles_by n (idles n) e) (reading_by n (readings n) e) from spot =
-          still_step clients n session p.still doing e (idles n) (readings n) from spot steps unmoved (λ was. (t was).here link at) in
+      still_step clients n session p.still doing e (idles n) (readings n) from spot steps unmoved (λ was. (t was).here link at) in
       let turn : InTurn clients terms idles readings n doing p = t st.unmoved in
       let leaves : (i : ℕ) → (i ≡ n → ⊥) → Leaves clients n session p.still i e =
-          λ i other. leaves_step clients n session p.still i doing e from spot other steps in
+      λ i other. leaves_step clients n session p.still i doing e from spot other steps in
       record {
         passed = λ i other at_i less.
             let apart : i ≡ n → ⊥ = λ same. let s : i ≡ n = same in let l : i < n = less in omega (arith, s, l) in

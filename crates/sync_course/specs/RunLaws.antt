@@ -1,37 +1,32 @@
 -- What every place of a run keeps: its journal is legal, the sessions that began are the first of those it was given, and on each
 -- link the records taken are a front of those heard. Therefore each batch suits the run.
-use Rattle.std.proofs.Common.{◌≡◌, ◌⊎◌, ℕ, zero, suc, ◌+◌, ◌<◌, ◌≤◌, Bool, true, false, cond, ◌&&◌, nat_eq, eq-eqb, eqb-true, List, [], ◌∷◌, ◌++◌, length, append-nil, append_assoc, length-append, refl, sym, ◌∙◌, ap, subst, inl, inr, arith, Option, None, Some, is_some}
+use Rattle.std.proofs.Common.{◌≡◌, ◌⊎◌, ℕ, zero, suc, ◌+◌, ◌<◌, Bool, true, false, cond, ◌&&◌, nat_eq, eq-eqb, List, [], ◌∷◌, ◌++◌, length, append_assoc, length-append, refl, sym, ◌∙◌, ap, subst, inl, inr, arith, Option, None, Some}
 use Rattle.std.specs.Prelude.{nat_lt, slice_get, slice_set}
 use Rattle.std.proofs.lemmas.Bool.{and_parts, cases_eq, ne_eqb, or_cases}
-use Rattle.record_grammar.specs.Laws.{FrontsHaveFronts, RecordsJoin, StreamsGoOn}
-use Rattle.record_grammar.specs.Stream.{items, parsed, records, records_of}
+use Rattle.record_grammar.specs.Laws.{RecordsJoin, StreamsGoOn}
+use Rattle.record_grammar.specs.Stream.{items, parsed, records_of}
 use Rattle.record_grammar.specs.declared.stream.Item.{Item}
-use Rattle.record_grammar.specs.declared.stream.Item.TheVariants as item
-use Rattle.sync_ids.specs.declared.records.Record.{Record}
 use Rattle.sync_rules.specs.declared.entries.Entry.{Entry}
 use Rattle.sync_rules.specs.declared.entries.Entry.TheVariants as entry
 use Rattle.sync_rules.specs.declared.entries.Session.{Session}
 use Rattle.sync_rules.specs.Clients.{Meaning}
 use Rattle.sync_rules.specs.Consistency.{HasSessions}
-use Rattle.sync_rules.specs.Continuing.{front_itself, front_then, legal-append, facts-append}
-use Rattle.sync_rules.specs.Elements.{In, In-append_right}
+use Rattle.sync_rules.specs.Continuing.{legal-append, facts-append}
 use Rattle.sync_rules.specs.Facts.{Facts, after_all, after_batches, facts, session_at, takes_of}
-use Rattle.sync_rules.specs.Growth.{IsFront, OnlySettles}
-use Rattle.sync_rules.specs.Legal.{Allowed, GoesOn, IsSettlingBatch, Legal}
+use Rattle.sync_rules.specs.Legal.{GoesOn, IsSettlingBatch, Legal}
 use Rattle.sync_rules.specs.SessionLaws.{legal_sessions}
 use Rattle.sync_rules.specs.StepKinds.{settling_only}
-use Rattle.sync_rules.specs.StepLaws.{IsSettlingEntry, next_is_settling}
 use Rattle.sync_course.specs.declared.ends.LinkEnd.{LinkEnd}
 use Rattle.sync_course.specs.declared.ends.LinkEnd.TheVariants as end
-use Rattle.sync_course.specs.Events.{Event, Commit, Hear, Miss, Read, Break, Pass, batches_of}
+use Rattle.sync_course.specs.Events.{Event, Commit, Break, Pass, batches_of}
 use Rattle.sync_course.specs.Paths.{Path}
 use Rattle.sync_course.specs.Links.{Link, beats, closed_from, is_beaten, is_going, is_kept, link_of, without_redundant}
-use Rattle.sync_course.specs.LinkTurns.{Asks, Takes, Waits, Sends, Puts, Done, Doing, LinkStep, Spot, StepOf, SendsNext, TakesNext, next_take}
-use Rattle.sync_course.specs.Turns.{Attaches, Between, Ended, EndsTurn, GoesToNext, Greets, Place, RunStep, Settles, Stage, StageStep, Terms, TurnStep, Works, WorksOn, attached, first_place, is_at_end, spot_of, turn_ended, unattached, with_spot}
+use Rattle.sync_course.specs.LinkTurns.{Asks, Done, Doing, LinkStep, Spot}
+use Rattle.sync_course.specs.Turns.{Attaches, Between, Ended, EndsTurn, GoesToNext, Greets, Place, RunStep, Settles, Stage, StageStep, Terms, TurnStep, Works, first_place, is_at_end, spot_of, turn_ended, with_spot}
 use Rattle.sync_course.specs.CountLaws.{counted_ends, counted_same, going_keeps, link_step_counted, link_step_leaves, pending}
 use Rattle.sync_course.specs.LiftLaws.{get_other, get_set, get_within}
 use Rattle.sync_course.specs.MoveLaws.{Moves, run_step_moves}
-use Rattle.sync_course.specs.Suits.{AllSuit, IsCounted, IsTaken, Suits, TakesHeard, heard_in, heard_on, keeps_all}
+use Rattle.sync_course.specs.Suits.{IsCounted, keeps_all}
 
 -- ---- lists
 
@@ -166,7 +161,7 @@ module _ (go_on : StreamsGoOn) (join : RecordsJoin) (clients : Meaning) (terms :
       → IsOfJournal clients (after_all p.facts b) → Sound p → Sound (record p { facts = after_all p.facts b })
   sound_settles p left b is settling journal s =
       let was : (p.facts.begun ≡ terms.first) × (length p.links ≡ 0) =
-          subst (λ (st : Stage). IsAttaching terms.first st (length p.links) p.facts) is s.attaching in
+      subst (λ (st : Stage). IsAttaching terms.first st (length p.links) p.facts) is s.attaching in
       record {
         of_journal = journal;
         left = s.left;
@@ -188,7 +183,7 @@ module _ (go_on : StreamsGoOn) (join : RecordsJoin) (clients : Meaning) (terms :
   sound_attaches : (p : Place) (left : List Session) → p.stage ≡ Settles left → Sound p → Sound (record p { stage = Attaches left })
   sound_attaches p left is s =
       let was : (p.facts.begun ≡ terms.first) × (length p.links ≡ 0) =
-          subst (λ (st : Stage). IsAttaching terms.first st (length p.links) p.facts) is s.attaching in
+      subst (λ (st : Stage). IsAttaching terms.first st (length p.links) p.facts) is s.attaching in
       let of : left ≡ sessions = subst (AreLeft sessions) is s.left in
       let begun : p.facts.begun ≡ terms.first = was.0 in
       let none : length p.links ≡ 0 = was.1 in
@@ -204,7 +199,7 @@ module _ (go_on : StreamsGoOn) (join : RecordsJoin) (clients : Meaning) (terms :
       → Sound (record p { stage = Greets x left; facts = after_all p.facts (entry.Session x ∷ []) })
   sound_begins p x left is journal s =
       let was : p.facts.begun ≡ terms.first + length p.links =
-          subst (λ (st : Stage). IsAttaching terms.first st (length p.links) p.facts) is s.attaching in
+      subst (λ (st : Stage). IsAttaching terms.first st (length p.links) p.facts) is s.attaching in
       let of : (done : List Session) × (sessions ≡ done ++ x ∷ left) = subst (AreLeft sessions) is s.left in
       record {
         of_journal = journal;
@@ -223,7 +218,7 @@ module _ (go_on : StreamsGoOn) (join : RecordsJoin) (clients : Meaning) (terms :
       → Sound (record p { stage = Attaches left; links = p.links ++ link_of x stands ∷ [] })
   sound_greets p x left stands is s =
       let was : (p.facts.begun ≡ suc (terms.first + length p.links)) × (takes_of p.facts.takes (terms.first + length p.links) ≡ 0) =
-          subst (λ (st : Stage). IsAttaching terms.first st (length p.links) p.facts) is s.attaching in
+      subst (λ (st : Stage). IsAttaching terms.first st (length p.links) p.facts) is s.attaching in
       let of : (done : List Session) × (sessions ≡ done ++ x ∷ left) = subst (AreLeft sessions) is s.left in
       let begun : p.facts.begun ≡ suc (terms.first + length p.links) = was.0 in
       let more : length (p.links ++ link_of x stands ∷ []) ≡ length p.links + 1 = length-append p.links (link_of x stands ∷ []) in
@@ -325,14 +320,14 @@ module _ (go_on : StreamsGoOn) (join : RecordsJoin) (clients : Meaning) (terms :
             elim (cases_eq i n) [
               | inl same ↦
                   let here : slice_get (slice_set p.links n spot.link) n ≡ Some other =
-                      subst (λ (k : ℕ). slice_get (slice_set p.links n spot.link) k ≡ Some other) same at_i in
+                  subst (λ (k : ℕ). slice_get (slice_set p.links n spot.link) k ≡ Some other) same at_i in
                   let is_spot : Some spot.link ≡ Some other = sym (get_set p.links n spot.link (get_within p.links n link at)) ∙ here in
                   let same_link : spot.link ≡ other = cc in
                   let before : IsCounted p.facts (terms.first + n) (pending doing) link =
-                      subst (λ (its : List Item). IsCounted p.facts (terms.first + n) its link)
-                      (pend n ∙ ap (λ (b : Bool). cond b (pending doing) []) itself) (s.counted n link at) in
+                  subst (λ (its : List Item). IsCounted p.facts (terms.first + n) its link)
+                  (pend n ∙ ap (λ (b : Bool). cond b (pending doing) []) itself) (s.counted n link at) in
                   let after_it : IsCounted spot.facts (terms.first + n) (pending spot.doing) spot.link =
-                      link_step_counted go_on join clients n (terms.first + n) (spot_of doing link p) spot e steps before in
+                  link_step_counted go_on join clients n (terms.first + n) (spot_of doing link p) spot e steps before in
                   subst (λ (k : ℕ). IsCounted spot.facts (terms.first + k) (cond (nat_eq n k) (pending spot.doing) []) other) (sym same)
                   (subst (λ (l : Link). IsCounted spot.facts (terms.first + n) (cond (nat_eq n n) (pending spot.doing) []) l) same_link
                   (subst (λ (b : Bool). IsCounted spot.facts (terms.first + n) (cond b (pending spot.doing) []) spot.link) (sym itself) after_it))
@@ -340,8 +335,8 @@ module _ (go_on : StreamsGoOn) (join : RecordsJoin) (clients : Meaning) (terms :
                   let old : slice_get p.links i ≡ Some other = sym (get_other p.links n i spot.link apart_is) ∙ at_i in
                   let differs : nat_eq n i ≡ false = ne_eqb n i (λ e. apart_is (sym e)) in
                   let before : IsCounted p.facts (terms.first + i) [] other =
-                      subst (λ (its : List Item). IsCounted p.facts (terms.first + i) its other)
-                      (pend i ∙ ap (λ (b : Bool). cond b (pending doing) []) differs) (s.counted i other old) in
+                  subst (λ (its : List Item). IsCounted p.facts (terms.first + i) its other)
+                  (pend i ∙ ap (λ (b : Bool). cond b (pending doing) []) differs) (s.counted i other old) in
                   subst (λ (b : Bool). IsCounted spot.facts (terms.first + i) (cond b (pending spot.doing) []) other) (sym differs)
                   (counted_same p.facts spot.facts (terms.first + i) [] other
                   (link_step_leaves clients n (terms.first + n) (terms.first + i) (spot_of doing link p) spot e (apart terms.first i n apart_is) steps) before)
@@ -377,7 +372,7 @@ module _ (go_on : StreamsGoOn) (join : RecordsJoin) (clients : Meaning) (terms :
   stage_sound (Settles left) Pass p q is t journal s = sound_at q _ t.1 (sound_attaches p left is s)
   stage_sound (Attaches (x ∷ left)) (Commit b) p q is t journal s =
       let same : q ≡ record p { stage = Greets x left; facts = after_all p.facts (entry.Session x ∷ []) } =
-          t.2 ∙ ap (λ (l : List Entry). record p { stage = Greets x left; facts = after_all p.facts l }) t.0 in
+      t.2 ∙ ap (λ (l : List Entry). record p { stage = Greets x left; facts = after_all p.facts l }) t.0 in
       sound_at q _ same (sound_begins p x left is (subst (IsOfJournal clients) (ap (λ (y : Place). y.facts) same) journal) s)
   stage_sound (Attaches []) Pass p q is t journal s = sound_at q _ t (sound_between p is s)
   stage_sound (Greets x left) Pass p q is t journal s = sound_at q _ t (sound_greets p x left end.Going is s)

@@ -1,6 +1,6 @@
 -- Each batch of a course suits the run: it is one of those that may come, and the k-th record taken on a session is the k-th heard on
 -- its link.
-use Rattle.std.proofs.Common.{◌≡◌, ◌⊎◌, ℕ, zero, suc, ◌+◌, Bool, true, false, cond, List, [], ◌∷◌, ◌++◌, length, append-nil, append_assoc, refl, sym, ◌∙◌, ap, subst, inl, inr, arith, eq-eqb, Option, None, Some}
+use Rattle.std.proofs.Common.{◌≡◌, ℕ, zero, suc, ◌+◌, Bool, true, false, cond, List, [], ◌∷◌, ◌++◌, length, append-nil, refl, sym, ◌∙◌, ap, subst, inl, inr, arith, eq-eqb, Option, None, Some}
 use Rattle.std.specs.Prelude.{slice_get, slice_set}
 use Rattle.std.proofs.lemmas.Bool.{cases_eq}
 use Rattle.outside.specs.Links.{Reply, got, idle, ended}
@@ -13,26 +13,24 @@ use Rattle.sync_rules.specs.declared.entries.Entry.{Entry}
 use Rattle.sync_rules.specs.declared.entries.Entry.TheVariants as entry
 use Rattle.sync_rules.specs.declared.entries.Session.{Session}
 use Rattle.sync_rules.specs.Clients.{Meaning}
-use Rattle.sync_rules.specs.Continuing.{front_itself, front_then}
+use Rattle.sync_rules.specs.Continuing.{front_then}
 use Rattle.sync_rules.specs.Elements.{In, In-append_right}
 use Rattle.sync_rules.specs.Facts.{Facts, after_all, after_batches, takes_of}
 use Rattle.sync_rules.specs.Growth.{IsFront}
 use Rattle.sync_rules.specs.Legal.{IsSettlingBatch}
-use Rattle.sync_rules.specs.Sessions.{taken}
 use Rattle.sync_rules.specs.StepLaws.{IsSettlingEntry, next_is_settling}
-use Rattle.sync_course.specs.declared.ends.LinkEnd.{LinkEnd}
 use Rattle.sync_course.specs.declared.ends.LinkEnd.TheVariants as end
 use Rattle.sync_course.specs.Events.{Event, Commit, Hear, Miss, Read, Break, Pass, batches_of}
 use Rattle.sync_course.specs.Paths.{Path}
 use Rattle.sync_course.specs.ToldLaws.{batches_of-append}
-use Rattle.sync_course.specs.Links.{Link, closed_from, link_of, without_redundant}
-use Rattle.sync_course.specs.LinkTurns.{Asks, Takes, Waits, Sends, Puts, Done, Doing, LinkStep, PassesItem, SendsNext, Spot, StepOf, TakesNext, heard_spot, next_take}
-use Rattle.sync_course.specs.Turns.{Attaches, Between, Ended, EndsTurn, GoesToNext, Greets, Place, RunStep, Settles, Stage, StageStep, Terms, TurnStep, Works, WorksOn, is_at_end, spot_of, turn_ended, with_spot}
+use Rattle.sync_course.specs.Links.{Link, closed_from, link_of}
+use Rattle.sync_course.specs.LinkTurns.{Asks, Takes, Waits, Sends, Puts, Done, Doing, PassesItem, SendsNext, Spot, StepOf, TakesNext, heard_spot}
+use Rattle.sync_course.specs.Turns.{Attaches, Between, Ended, EndsTurn, GoesToNext, Greets, Place, RunStep, Settles, Stage, StageStep, Terms, TurnStep, Works, WorksOn, is_at_end, spot_of}
 use Rattle.sync_course.specs.CountLaws.{pending}
 use Rattle.sync_course.specs.LiftLaws.{get_other, get_set, get_within}
 use Rattle.sync_course.specs.MoveLaws.{run_step_moves}
 use Rattle.sync_course.specs.RunLaws.{AreLeft, IsSound, get_front, get_middle, pending_at, step_sound}
-use Rattle.sync_course.specs.Suits.{AllSuit, IsCounted, Suits, TakesHeard, heard_in, heard_on}
+use Rattle.sync_course.specs.Suits.{AllSuit, IsCounted, Suits, heard_in, heard_on}
 
 -- ---- what was heard only grows
 
@@ -121,7 +119,7 @@ works_heard : (clients : Meaning) (terms : Terms) (n : ℕ) (doing : Doing) (lin
     → WorksOn clients terms n doing link e p q → AllHeardGrow p q
 works_heard clients terms n doing link e p q at works = λ i.
     let grows : IsFront link.heard works.spot.link.heard =
-        step_heard clients n (terms.first + n) doing e (spot_of doing link p) works.spot works.steps in
+    step_heard clients n (terms.first + n) doing e (spot_of doing link p) works.spot works.steps in
     subst (λ (x : Place). IsFront (heard_on p i) (heard_on x i)) (sym works.leads)
     (elim (cases_eq i n) [
       | inl same ↦
@@ -197,7 +195,7 @@ module _ (fronts : FrontsHaveFronts) (clients : Meaning) (first : ℕ) (sessions
       let later : List Record = (fronts link.heard front.more).0 in
       let behind : List Record = records_of its ++ c.dropped in
       let whole : records (heard n) ≡ (c.done ++ r ∷ behind) ++ later =
-          ap records front.goes_on ∙ (fronts link.heard front.more).1 ∙ ap (λ (l : List Record). l ++ later) c.parts in
+      ap records front.goes_on ∙ (fronts link.heard front.more).1 ∙ ap (λ (l : List Record). l ++ later) c.parts in
       subst (λ (l : List Record). slice_get l (takes_of f.takes session) ≡ Some r) (sym whole)
       (subst (λ (k : ℕ). slice_get ((c.done ++ r ∷ behind) ++ later) k ≡ Some r) (sym c.count)
       (get_front (c.done ++ r ∷ behind) later (length c.done) r (get_middle c.done behind r)))
@@ -291,11 +289,11 @@ module _ (go_on : StreamsGoOn) (join : RecordsJoin) (fronts : FrontsHaveFronts) 
   path_suits p q (e ∷ es) path grows s =
       let next : Place = path.0 in
       let from_next : (i : ℕ) → IsFront (heard_on next i) (heard i) =
-          λ i. front_then (heard_on next i) (heard_on q i) (heard i) (path_heard clients terms next q es path.2 i) (grows i) in
+      λ i. front_then (heard_on next i) (heard_on q i) (heard i) (path_heard clients terms next q es path.2 i) (grows i) in
       let from_here : (i : ℕ) → IsFront (heard_on p i) (heard i) =
-          λ i. front_then (heard_on p i) (heard_on next i) (heard i) (run_step_heard clients terms p next e path.1 i) (from_next i) in
+      λ i. front_then (heard_on p i) (heard_on next i) (heard i) (run_step_heard clients terms p next e path.1 i) (from_next i) in
       let rest : FitsIn next.facts es =
-          path_suits next q es path.2 grows (step_sound go_on join clients terms sessions p next e path.1 s) in
+      path_suits next q es path.2 grows (step_sound go_on join clients terms sessions p next e path.1 s) in
       subst (AllSuit clients terms.first sessions heard p.facts) (sym (batches_of-append (e ∷ []) es))
       (all_suit_then fronts clients terms.first sessions heard p.facts (batches_of (e ∷ [])) (batches_of es)
       (stage_suits p.stage e p next refl path.1 from_here s)

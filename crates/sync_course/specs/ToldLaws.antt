@@ -1,19 +1,19 @@
 -- What is told of events one behind the other, and of the events of single calls.
-use Rattle.std.proofs.Common.{◌≡◌, ℕ, ◌+◌, ◌-◌, ◌^◌, ◌≤◌, min, le_of_eq, le_refl, Bool, true, false, ◌||◌, nat_eq, eqb-true, List, [], ◌∷◌, ◌++◌, length, take, append-nil, append_assoc, refl, sym, ◌∙◌, ap, subst, inl, inr, arith, Option, None, Some, Result, Ok, Err, OnErr}
+use Rattle.std.proofs.Common.{◌≡◌, ℕ, ◌≤◌, le_of_eq, le_refl, Bool, true, false, ◌||◌, nat_eq, eqb-true, List, [], ◌∷◌, ◌++◌, length, take, append-nil, append_assoc, refl, sym, ◌∙◌, ap, subst, inl, inr, arith, Option, None, Some, Ok, Err}
 use Rattle.std.specs.Option.{option_map}
 use Rattle.std.proofs.lemmas.Bool.{cases_eq}
 use Rattle.outside.specs.declared.failed.Failed.{Failed}
 use Rattle.outside.specs.declared.host.Heard.{Heard}
 use Rattle.outside.specs.declared.host.Heard.TheVariants as answer
 use Rattle.outside.specs.Faults.{Rose, one_more}
-use Rattle.outside.specs.Host.{Grows, hear, Hears, IsCaused, LinkCause, ReadsClock, Sends}
-use Rattle.outside.specs.Links.{HeardOn, Links, changed_at, got, idle, ended, hear_failure, hear_reply}
+use Rattle.outside.specs.Host.{Grows, Hears, IsCaused, ReadsClock, Sends}
+use Rattle.outside.specs.Links.{HeardOn, Links, changed_at, got, idle, ended, hear_reply}
 use Rattle.outside.specs.Outside.{Outside}
 use Rattle.sync_rules.specs.declared.entries.Entry.{Entry}
 use Rattle.sync_course.specs.declared.TheConstants.{PIECE_LEN}
 use Rattle.sync_course.specs.Events.{Event, Commit, Hear, Miss, Read, Break, Pass, asked_event, batches_of, readings_of, heard_by, heard_after, is_failure, has_failure, GrowsBy, RoseIf, Told}
-use Rattle.sync_course.specs.Paths.{Path, Runs, Breaks}
-use Rattle.sync_course.specs.PathLaws.{path_none, path_then}
+use Rattle.sync_course.specs.Paths.{Runs, Breaks}
+use Rattle.sync_course.specs.PathLaws.{path_then}
 
 -- ---- lists of events
 

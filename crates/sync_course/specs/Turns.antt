@@ -1,7 +1,6 @@
 -- The turns of a run over its links, from the first place to the end.
-use Rattle.std.specs.Prelude.{◌≡◌, ◌⊎◌, ℕ, zero, suc, ◌+◌, Bool, true, false, not, cond, ◌&&◌, ◌||◌, nat_eq, nat_lt, nat_le, List, [], ◌∷◌, ◌++◌, length, Option, None, Some, slice_get, slice_set}
+use Rattle.std.specs.Prelude.{◌≡◌, ◌⊎◌, ℕ, suc, ◌+◌, Bool, false, not, cond, ◌&&◌, ◌||◌, nat_lt, nat_le, List, [], ◌∷◌, ◌++◌, length, Option, None, Some, slice_get, slice_set}
 use Rattle.std.specs.List.{list_any}
-use Rattle.sync_rules.specs.declared.entries.Entry.{Entry}
 use Rattle.sync_rules.specs.declared.entries.Entry.TheVariants as entry
 use Rattle.sync_rules.specs.declared.entries.Session.{Session}
 use Rattle.sync_rules.specs.Clients.{Meaning}
@@ -51,8 +50,11 @@ abbrev pub some_going : List Link → Bool
 some_going links = list_any (λ (link : Link). is_going link.stands) links
 
 -- A run is over after a still turn where no link is asked any more, or the last `quiet` turns were all still.
+abbrev pub over_by : ℕ → ℕ → Bool → Bool
+over_by quiet still asked = nat_lt 0 still && (not asked || nat_le quiet still)
+
 abbrev pub is_over : ℕ → Place → Bool
-is_over quiet p = nat_lt 0 p.still && (not (some_going p.links) || nat_le quiet p.still)
+is_over quiet p = over_by quiet p.still (some_going p.links)
 
 -- it ends where it is over or has made its turns
 abbrev pub is_at_end : Terms → Place → Bool

@@ -1,6 +1,7 @@
 //! How a link stands, and the line that a run closes it with.
 ghost use Rattle.std.specs.Prelude.{◌≡◌};
 ghost use Rattle.sync_course.specs.Closing.{line_for};
+ghost use Rattle.sync_course.specs.Turns.{over_by};
 
 use record_grammar::Reason;
 
@@ -59,4 +60,12 @@ pub fn line_of(over: bool, end: LinkEnd) -> LinkLine
         LinkEnd::NoVersion(place) => LinkLine::NoVersion(place),
         LinkEnd::Failed => LinkLine::Failed,
     }
+}
+
+/// Whether a run is over, of whose last turns so many were all still, while some links are asked or
+/// none: it is asked to end behind so many quiet turns.
+pub fn is_over(quiet: u64, still: u64, some_asked: bool) -> bool
+    ensures { result ≡ over_by quiet still some_asked }
+{
+    still > 0 && (!some_asked || quiet <= still)
 }

@@ -1,16 +1,28 @@
 //! The laws of paths and courses. Each is the contract of a function that does nothing, over every
 //! meaning of the clients. The lemmas of `specs/` that prove them may be cited as well.
-ghost use Rattle.std.specs.Prelude.{◌≡◌, ◌≢◌, ℕ, ◌+◌, ◌<◌, List, [], ◌∷◌, ◌++◌, length, slice_get};
+ghost use Rattle.std.specs.Prelude.{◌≡◌, ◌≢◌, ℕ, ◌+◌, ◌<◌, true, List, [], ◌∷◌, ◌++◌, length};
+ghost use Rattle.std.specs.Prelude.{slice_get, Some};
+ghost use Rattle.record_grammar.specs.Stream.{items};
 ghost use Rattle.sync_rules.specs.Clients.{Meaning};
 ghost use Rattle.sync_rules.specs.Facts.{Facts, after_batches, facts};
+ghost use Rattle.sync_rules.specs.Growth.{output_of};
 ghost use Rattle.sync_rules.specs.Legal.{GoesOn, Legal};
+ghost use Rattle.sync_rules.specs.Output.{sent};
 ghost use Rattle.sync_rules.specs.declared.entries.Entry.{Entry};
+ghost use Rattle.sync_rules.specs.declared.entries.Out.{Out};
 ghost use Rattle.sync_rules.specs.declared.entries.Session.{Session};
-ghost use Rattle.sync_course.specs.Events.{batches_of, Event};
-ghost use Rattle.sync_course.specs.Links.{Link};
-ghost use Rattle.sync_course.specs.LinkTurns.{LinkStep, Spot};
+ghost use Rattle.sync_course.specs.Events.{batches_of, Commit, Event};
+ghost use Rattle.sync_course.specs.Links.{Link, new_items};
+ghost use Rattle.sync_course.specs.LinkTurns.{LinkStep, out_batch, Spot};
+ghost use Rattle.sync_course.specs.OutLaws.{OutIsDue};
 ghost use Rattle.sync_course.specs.Paths.{Path};
-ghost use Rattle.sync_course.specs.Turns.{Place, RunStep, Terms, with_spot};
+ghost use Rattle.sync_course.specs.Quiet.{EndsQuiet};
+ghost use Rattle.sync_course.specs.RunLaws.{pending_at};
+ghost use Rattle.sync_course.specs.Suits.{AllSuit, heard_on, IsCounted};
+ghost use Rattle.sync_course.specs.Turns.{Course, first_place, is_over, Place, RunStep, Terms};
+ghost use Rattle.sync_course.specs.Turns.{with_spot};
+
+use record_grammar::{fronts_have_fronts, records_join, streams_go_on};
 
 /// Paths: what leads from one place to another and on to a third leads from the first to the third,
 /// one step more at the end too; and a path of two parts leads through a place between them.
@@ -40,6 +52,15 @@ pub fn links_lift()
         → slice_get (with_spot n spot place).links i ≡ slice_get place.links i }
 {}
 
+/// Items: the items of all that was heard are those of what was heard before, and then the new
+/// ones.
+pub fn new_items_are_behind()
+    ensures { (heard bytes : List ℕ)
+        → items 0 (heard ++ bytes) ≡ items 0 heard ++ new_items heard bytes }
+{
+    streams_go_on();
+}
+
 /// Journal: the batches of a path may follow one behind the other, and the facts at its end are
 /// those behind them.
 pub fn batches_are_allowed()
@@ -49,3 +70,66 @@ pub fn batches_are_allowed()
         → Path (RunStep clients terms) p es q
         → q.facts ≡ after_batches p.facts (batches_of es) }
 {}
+
+/// Suits: a run over a legal journal, wherever it was broken off, added settling batches, the
+/// sessions that it was given, outputs of the sessions of its links, and batches that take: the
+/// k-th one on a session takes the k-th record that was heard on its link.
+pub fn batches_suit()
+    ensures { (clients : Meaning) (terms : Terms) (sessions : List Session)
+        (j : List (List Entry)) (events : List Event) (last : Place) → Legal clients j
+        → terms.first ≡ (facts j).begun
+        → Path (RunStep clients terms) (first_place sessions (facts j)) events last
+        → AllSuit clients terms.first sessions (heard_on last) (facts j) (batches_of events) }
+{
+    streams_go_on();
+    records_join();
+    fronts_have_fronts();
+}
+
+/// Takes: at every place of a run over a legal journal the records taken on a session are a front
+/// of those heard on its link; what is between is to be taken, unless the link was closed by a
+/// VERSIONS or a call of it failed.
+pub fn takes_are_fronts()
+    ensures { (clients : Meaning) (terms : Terms) (sessions : List Session)
+        (j : List (List Entry)) (events : List Event) (last : Place) → Legal clients j
+        → terms.first ≡ (facts j).begun
+        → Path (RunStep clients terms) (first_place sessions (facts j)) events last
+        → (i : ℕ) (link : Link) → slice_get last.links i ≡ Some link
+        → IsCounted last.facts (terms.first + i) (pending_at last.stage i) link }
+{
+    streams_go_on();
+    records_join();
+}
+
+/// Due: each output of a run is one of the session of a link, and due by the facts at its place at
+/// the last reading that was made for that link.
+pub fn outputs_are_due()
+    ensures { (clients : Meaning) (terms : Terms) (sessions : List Session) (f : Facts)
+        (before behind : List Event) (session now : ℕ) (what : Out) (last : Place)
+        → Path (RunStep clients terms) (first_place sessions f)
+        (before ++ Commit (out_batch session now what) ∷ behind) last
+        → OutIsDue clients terms (first_place sessions f) before session now what }
+{}
+
+/// Sent: what a session sends grows by exactly the records of the path's outputs of the session,
+/// behind those that it begins with.
+pub fn outputs_are_sent()
+    ensures { (clients : Meaning) (terms : Terms) (p q : Place) (es : List Event)
+        (j : List (List Entry)) (session : ℕ) → Legal clients j → facts j ≡ p.facts
+        → Path (RunStep clients terms) p es q
+        → sent (j ++ batches_of es) session
+        ≡ sent j session ++ output_of (facts j) session (batches_of es) }
+{}
+
+/// Over: where a run is over the journal is settled, nothing is due on a link that is not closed at
+/// the last reading made for it, each link that is still asked was Idle in as many last turns as
+/// the run was asked for, and what was heard was taken.
+pub fn runs_end_quiet()
+    ensures { (clients : Meaning) (terms : Terms) (sessions : List Session)
+        (j : List (List Entry)) (events : List Event) (last : Place) → Legal clients j
+        → terms.first ≡ (facts j).begun → Course clients terms sessions (facts j) events last
+        → is_over terms.quiet last ≡ true → EndsQuiet clients terms events last }
+{
+    streams_go_on();
+    records_join();
+}

@@ -4,15 +4,14 @@
 //! in its turn (`LinkTurns`), the turns of a run (`Turns`), how its links end (`Closing`), and what
 //! is told of a path (`Events`, `Paths`). Nothing here calls a disk, a link or a clock.
 //!
-//! - `ends`: how a link stands, and the line that a run closes it with.
-//! - `rivals`: which links are closed since another one to the same contact is kept.
+//! - `ends`: how a link stands, the line that a run closes it with, and when a run is over.
 //! - `laws`: the laws of paths, each the contract of a function that does nothing.
 #![tactic(auto)]
 
 mod ends;
 pub mod laws;
 
-pub use ends::{LinkEnd, LinkLine, line_of};
+pub use ends::{LinkEnd, LinkLine, is_over, line_of};
 
 /// How many bytes of a link are asked for at once.
 pub const PIECE_LEN: usize = 65_536;
