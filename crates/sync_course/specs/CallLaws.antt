@@ -16,8 +16,8 @@ use Rattle.sync_rules.specs.Legal.{Allowed, AllSettling, IsDue}
 use Rattle.sync_rules.specs.Steps.{IsSettled}
 use Rattle.sync_course.specs.declared.TheConstants.{MAX_OUTPUTS, PIECE_LEN}
 use Rattle.sync_course.specs.Events.{Event, Commit, Read, Break, Pass, asked_event, batches_of, Told}
-use Rattle.sync_course.specs.Paths.{Path, Runs}
-use Rattle.sync_course.specs.PathLaws.{path_one}
+use Rattle.sync_course.specs.Paths.{Path, Runs, Breaks}
+use Rattle.sync_course.specs.PathLaws.{path_one, path_parts}
 use Rattle.sync_course.specs.Links.{is_going, is_sent_to}
 use Rattle.sync_course.specs.LinkTurns.{Asks, Takes, Waits, Sends as Sending, Puts, Done, Spot, LinkStep, StepOf, IsEnough, PassesItem, answered_spot, failed_spot, next_take, out_batch, out_spot, taken_spot}
 use Rattle.sync_course.specs.ToldLaws.{batches_of_commits, commits, told_asked, told_broken, told_commits, told_none, told_pass, told_read, told_sent}
@@ -53,6 +53,21 @@ module _ {P : Type 0} (step : P → Event → P → Type 0) (Before After : List
     journal = λ j before. subst After (ap (λ (l : List (List Entry)). j ++ l) (sym (batches_of_commits bs))) (grows j before);
   }
 
+-- the batches of a front are a front of the events
+commits-append : (bs cs : List (List Entry)) → commits (bs ++ cs) ≡ commits bs ++ commits cs
+commits-append [] cs = refl
+commits-append (b ∷ bs) cs = ap (λ (l : List Event). Commit b ∷ l) (commits-append bs cs)
+
+-- calls that were to commit some batches were broken off: a front of them stands, perhaps with the last one that was begun
+module _ {P : Type 0} (step : P → Event → P → Type 0) (Before After : List (List Entry) → Type 0) (bs front others : List (List Entry))
+    (parts : bs ≡ front ++ others) (grows : (j : List (List Entry)) → Before j → After (j ++ front)) where
+  pub breaks_commits : (p q : P) (o o' : Outside) → o'.links ≡ o.links → Path step p (commits bs) q → Breaks step Before After p o o'
+  breaks_commits p q o o' same path =
+      let events : commits bs ≡ commits front ++ commits others = ap commits parts ∙ commits-append front others in
+      let whole : Path step p (commits front ++ commits others) q = subst (λ (es : List Event). Path step p es q) events path in
+      let cut = path_parts step p q (commits front) (commits others) whole in
+      record { to = cut.0; runs = runs_commits step Before After front grows p cut.0 o o' same cut.1 }
+
 module _ (clients : Meaning) (n session : ℕ) where
   -- a step at a place where this is done
   step_at : (p q : Spot) (e : Event) (doing : _) → p.doing ≡ doing → StepOf clients n session doing e p q → LinkStep clients n session p e q
@@ -82,6 +97,26 @@ module _ (clients : Meaning) (n session : ℕ) where
       let q : Spot = record p { facts = after_all p.facts b } in
       (q, step_at p q (Commit b) (Takes its) is (inl (settling.0, refl)), settles_path q its bs is settling.1)
 
+  takes_path : (place : ℕ) (r : Record) (its : List Item) (p : Spot) → p.doing ≡ Takes (item.One place r ∷ its)
+      → Allowed clients p.facts (next_take p.facts session r)
+      → Path (LinkStep clients n session) p (commits (next_take p.facts session r ∷ []))
+      (taken_spot place r its (next_take p.facts session r) p)
+  takes_path place r its p takes allowed =
+      let b : List Entry = next_take p.facts session r in
+      let q : Spot = taken_spot place r its b p in
+      path_one (LinkStep clients n session) p q (Commit b)
+      (step_at p q (Commit b) (Takes (item.One place r ∷ its)) takes (inr (refl, allowed, refl)))
+
+  out_path : (now room : ℕ) (what : Out) (p : Spot) → p.doing ≡ Sending now (suc room)
+      → IsDue clients p.facts (session_at p.facts.sessions session) now what → Allowed clients p.facts (out_batch session now what)
+      → Path (LinkStep clients n session) p (commits (out_batch session now what ∷ [])) (out_spot now room (out_batch session now what) p)
+  out_path now room what p sends due allowed =
+      let b : List Entry = out_batch session now what in
+      let q : Spot = out_spot now room b p in
+      path_one (LinkStep clients n session) p q (Commit b)
+      (step_at p q (Commit b) (Sending now (suc room)) sends
+      (record { what = what; is = refl; is_due = due; allowed = allowed; leads = refl }))
+
   module _ (Before After : List (List Entry) → Type 0) where
     abbrev pub Goes : Spot → Spot → Outside → Outside → Type 0
     Goes p q o o' = Runs (LinkStep clients n session) Before After p q o o'
@@ -108,11 +143,8 @@ module _ (clients : Meaning) (n session : ℕ) where
         → ((j : List (List Entry)) → Before j → After (j ++ next_take p.facts session r ∷ []))
         → Goes p (taken_spot place r its (next_take p.facts session r) p) o o'
     runs_taken place r its p o o' takes allowed same grows =
-        let b : List Entry = next_take p.facts session r in
-        let q : Spot = taken_spot place r its b p in
-        runs_commits (LinkStep clients n session) Before After (b ∷ []) grows p q o o' same
-        (path_one (LinkStep clients n session) p q (Commit b)
-        (step_at p q (Commit b) (Takes (item.One place r ∷ its)) takes (inr (refl, allowed, refl))))
+        runs_commits (LinkStep clients n session) Before After (next_take p.facts session r ∷ []) grows p
+        (taken_spot place r its (next_take p.facts session r) p) o o' same (takes_path place r its p takes allowed)
 
     -- behind a skipped record, or behind the last item; no call is made
     pub runs_passed : (its : List Item) (p q : Spot) (o : Outside) → p.doing ≡ Takes its → IsSettled clients p.facts → PassesItem its p q
@@ -150,12 +182,8 @@ module _ (clients : Meaning) (n session : ℕ) where
         → o'.links ≡ o.links → ((j : List (List Entry)) → Before j → After (j ++ out_batch session now what ∷ []))
         → Goes p (out_spot now room (out_batch session now what) p) o o'
     runs_out now room what p o o' sends due allowed same grows =
-        let b : List Entry = out_batch session now what in
-        let q : Spot = out_spot now room b p in
-        runs_commits (LinkStep clients n session) Before After (b ∷ []) grows p q o o' same
-        (path_one (LinkStep clients n session) p q (Commit b)
-        (step_at p q (Commit b) (Sending now (suc room)) sends
-        (record { what = what; is = refl; is_due = due; allowed = allowed; leads = refl })))
+        runs_commits (LinkStep clients n session) Before After (out_batch session now what ∷ []) grows p
+        (out_spot now room (out_batch session now what) p) o o' same (out_path now room what p sends due allowed)
 
     pub runs_put : (now room : ℕ) (bytes : List ℕ) (p : Spot) (o o' : Outside) → p.doing ≡ Puts now room
         → Sends n bytes (Ok tt) o.links o'.links → ((j : List (List Entry)) → Before j → After j)
@@ -178,3 +206,29 @@ module _ (clients : Meaning) (n session : ℕ) where
     runs_sent now room p o sends enough stays =
         runs_quiet (LinkStep clients n session) Before After stays p (record p { doing = Done }) Pass o o refl
         (step_at p (record p { doing = Done }) Pass (Sending now room) sends (enough, refl)) (told_pass o o refl)
+
+    -- ---- broken off: a front of the batches stands
+
+    abbrev pub Stops : Spot → Outside → Outside → Type 0
+    Stops p o o' = Breaks (LinkStep clients n session) Before After p o o'
+
+    module _ (front others : List (List Entry)) (grows : (j : List (List Entry)) → Before j → After (j ++ front)) where
+      pub breaks_settled : (its : List Item) (bs : List (List Entry)) (p : Spot) (o o' : Outside) → p.doing ≡ Takes its
+          → AllSettling clients p.facts bs → o'.links ≡ o.links → bs ≡ front ++ others → Stops p o o'
+      breaks_settled its bs p o o' takes settling same parts =
+          breaks_commits (LinkStep clients n session) Before After bs front others parts grows p (record p { facts = after_batches p.facts bs }) o o'
+          same (settles_path p its bs takes settling)
+
+      pub breaks_taken : (place : ℕ) (r : Record) (its : List Item) (p : Spot) (o o' : Outside) → p.doing ≡ Takes (item.One place r ∷ its)
+          → Allowed clients p.facts (next_take p.facts session r) → o'.links ≡ o.links → next_take p.facts session r ∷ [] ≡ front ++ others
+          → Stops p o o'
+      breaks_taken place r its p o o' takes allowed same parts =
+          breaks_commits (LinkStep clients n session) Before After (next_take p.facts session r ∷ []) front others parts grows p
+          (taken_spot place r its (next_take p.facts session r) p) o o' same (takes_path place r its p takes allowed)
+
+      pub breaks_out : (now room : ℕ) (what : Out) (p : Spot) (o o' : Outside) → p.doing ≡ Sending now (suc room)
+          → IsDue clients p.facts (session_at p.facts.sessions session) now what → Allowed clients p.facts (out_batch session now what)
+          → o'.links ≡ o.links → out_batch session now what ∷ [] ≡ front ++ others → Stops p o o'
+      breaks_out now room what p o o' sends due allowed same parts =
+          breaks_commits (LinkStep clients n session) Before After (out_batch session now what ∷ []) front others parts grows p
+          (out_spot now room (out_batch session now what) p) o o' same (out_path now room what p sends due allowed)

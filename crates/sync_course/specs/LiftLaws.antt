@@ -13,7 +13,7 @@ use Rattle.sync_course.specs.Events.{Event, Commit, Break, Pass, Told}
 use Rattle.sync_course.specs.Paths.{Path, Runs, Breaks}
 use Rattle.sync_course.specs.PathLaws.{path_maps, path_one}
 use Rattle.sync_course.specs.ToldLaws.{commits, told_pass}
-use Rattle.sync_course.specs.CallLaws.{runs_commits, runs_quiet}
+use Rattle.sync_course.specs.CallLaws.{breaks_commits, runs_commits, runs_quiet}
 use Rattle.sync_course.specs.Links.{Link}
 use Rattle.sync_course.specs.LinkTurns.{Asks, Doing, Done, LinkStep, Spot}
 use Rattle.sync_course.specs.Turns.{Attaches, Between, Ended, Greets, Place, RunStep, Settles, StageStep, Terms, TurnStep, Works, attached, is_at_end, spot_of, turn_ended, unattached, with_spot}
@@ -175,6 +175,23 @@ module _ (clients : Meaning) (terms : Terms) where
         let q : Place = record p { stage = Greets s left; facts = after_all p.facts b } in
         runs_commits (RunStep clients terms) Before After (b ∷ []) grows p q o o' same
         (path_one (RunStep clients terms) p q (Commit b) (stage_at p q (Commit b) (Attaches (s ∷ left)) attaches (refl, allowed, refl)))
+
+    -- broken off there: a front of the batches stands
+    module _ (front others : List (List Entry)) (grows : (j : List (List Entry)) → Before j → After (j ++ front)) where
+      pub breaks_begun : (sessions : List Session) (bs : List (List Entry)) (p : Place) (o o' : Outside) → p.stage ≡ Settles sessions
+          → AllSettling clients p.facts bs → o'.links ≡ o.links → bs ≡ front ++ others → Breaks (RunStep clients terms) Before After p o o'
+      breaks_begun sessions bs p o o' settles settling same parts =
+          breaks_commits (RunStep clients terms) Before After bs front others parts grows p (record p { facts = after_batches p.facts bs }) o o' same
+          (settling_path sessions p bs settles settling)
+
+      pub breaks_attached : (s : Session) (left : List Session) (p : Place) (o o' : Outside) → p.stage ≡ Attaches (s ∷ left)
+          → Allowed clients p.facts (entry.Session s ∷ []) → o'.links ≡ o.links → (entry.Session s ∷ []) ∷ [] ≡ front ++ others
+          → Breaks (RunStep clients terms) Before After p o o'
+      breaks_attached s left p o o' attaches allowed same parts =
+          let b : List Entry = entry.Session s ∷ [] in
+          let q : Place = record p { stage = Greets s left; facts = after_all p.facts b } in
+          breaks_commits (RunStep clients terms) Before After (b ∷ []) front others parts grows p q o o' same
+          (path_one (RunStep clients terms) p q (Commit b) (stage_at p q (Commit b) (Attaches (s ∷ left)) attaches (refl, allowed, refl)))
 
     module _ (stays : (j : List (List Entry)) → Before j → After j) where
       passes : (p q : Place) (o o' : Outside) → RunStep clients terms p Pass q → Told (Pass ∷ []) o o' → Leads p q o o'

@@ -233,3 +233,19 @@ told_broken link bytes why o o' sends = record {
   readings = subst (λ (r : Option (List ℕ)). GrowsBy [] o.links.readings r) (sym sends.same_readings) (grows_none o.links.readings);
   faults = λ i. failed_faults link i o.links.faults o'.links.faults sends.faults.failed sends.faults.later sends.faults.others;
 }
+
+-- nothing that is told of, before what is told
+pub told_behind_pass : (es : List Event) (o o' : Outside) → Told (Pass ∷ es) o o' → Told es o o'
+told_behind_pass es o o' told = record { heard = told.heard; readings = told.readings; faults = told.faults }
+
+-- two sends of a greeting, told as one event: both went out, or the second one failed
+pub told_greeted : (link : ℕ) (first second : List ℕ) (o mid o' : Outside) → Sends link first (Ok tt) o.links mid.links
+    → Sends link second (Ok tt) mid.links o'.links → Told (Pass ∷ []) o o'
+told_greeted link first second o mid o' one two =
+    told_behind_pass (Pass ∷ []) o o' (told_then (Pass ∷ []) (Pass ∷ []) o mid o' (told_sent link first o mid one) (told_sent link second mid o' two))
+
+pub told_ungreeted : (link : ℕ) (first second : List ℕ) (why : Failed) (o mid o' : Outside) → Sends link first (Ok tt) o.links mid.links
+    → Sends link second (Err why) mid.links o'.links → Told (Break link ∷ []) o o'
+told_ungreeted link first second why o mid o' one two =
+    told_behind_pass (Break link ∷ []) o o'
+    (told_then (Pass ∷ []) (Break link ∷ []) o mid o' (told_sent link first o mid one) (told_broken link second why mid o' two))
