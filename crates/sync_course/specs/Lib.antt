@@ -17,3 +17,4 @@ pub mod QuietLaws
 pub mod EndLaws
 pub mod SuitLaws
 pub mod OutLaws
+pub mod KeptLaws
