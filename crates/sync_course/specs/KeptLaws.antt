@@ -1,15 +1,14 @@
 -- Redundant links: behind each that is closed stands one that is kept, and closing them one after the other, each by the links as they
 -- then stand, closes the same ones.
-use Rattle.std.proofs.Common.{◌≡◌, ◌⊎◌, ℕ, zero, suc, ◌+◌, ◌<◌, ◌≤◌, Bool, true, false, cond, ◌&&◌, ◌||◌, nat_eq, eq-eqb, eqb-true, List, [], ◌∷◌, length, refl, sym, ◌∙◌, ap, subst, inl, inr, arith, Option, None, Some}
+use Rattle.std.proofs.Common.{◌≡◌, ◌⊎◌, ℕ, zero, suc, ◌+◌, ◌<◌, Bool, true, false, cond, ◌&&◌, ◌||◌, nat_eq, eq-eqb, eqb-true, List, [], ◌∷◌, length, refl, sym, ◌∙◌, ap, subst, inl, inr, arith, Option, None, Some}
 use Rattle.std.specs.Cmp.Lexicographic.{nat_list_cmp_total, slice_cmp}
 use Rattle.std.specs.Ordering.{nat_cmp, ordering_reverse}
 use Rattle.std.specs.Prelude.{nat_lt, slice_get, slice_set}
 use Rattle.std.specs.declared.cmp.Ordering.{Ordering}
 use Rattle.std.specs.declared.cmp.Ordering.TheVariants as ordering
-use Rattle.std.proofs.lemmas.Bool.{and_from, and_parts, cases_Bool, false≢true, lt-ltb, ltb-true, or_cases, or_left, or_right}
-use Rattle.sync_course.specs.declared.ends.LinkEnd.{LinkEnd}
+use Rattle.std.proofs.lemmas.Bool.{and_from, and_parts, false≢true, lt-ltb, ltb-true, or_cases, or_left, or_right}
 use Rattle.sync_course.specs.declared.ends.LinkEnd.TheVariants as end
-use Rattle.sync_course.specs.Links.{Link, beats, closed_from, is_beaten, is_before, is_going, is_kept, without_redundant}
+use Rattle.sync_course.specs.Links.{Link, beats, closed_from, is_beaten, is_before, is_going, is_kept}
 
 -- ---- the order
 
@@ -25,11 +24,11 @@ before_then x y z first second whole both ordering.Equal ordering.Less e f a b =
 before_then x y z first second whole both ordering.Greater ordering.Less e f a b = cc
 before_then x y z first second whole both ordering.Greater ordering.Greater e f a b =
     let low : slice_cmp nat_cmp z x ≡ ordering.Less =
-        nat_list_cmp_total.trans z y x (turned y z ordering.Greater f) (turned x y ordering.Greater e) in
+    nat_list_cmp_total.trans z y x (turned y z ordering.Greater f) (turned x y ordering.Greater e) in
     ap (λ (o : Ordering). is_before o whole) (turned z x ordering.Less low)
 before_then x y z first second whole both ordering.Greater ordering.Equal e f a b =
     let low : slice_cmp nat_cmp z x ≡ ordering.Less =
-        sym (nat_list_cmp_total.congr y z x f) ∙ turned x y ordering.Greater e in
+    sym (nat_list_cmp_total.congr y z x f) ∙ turned x y ordering.Greater e in
     ap (λ (o : Ordering). is_before o whole) (turned z x ordering.Less low)
 before_then x y z first second whole both ordering.Equal ordering.Greater e f a b =
     ap (λ (o : Ordering). is_before o whole) (nat_list_cmp_total.congr x y z e ∙ f)
@@ -198,8 +197,8 @@ kept_rather links k b beaten =
     elim r.is [
       | inl here ↦
           let never : is_beaten 0 links k b ≡ false =
-              subst (λ (m : ℕ). is_beaten 0 links m b ≡ false) here.0
-              (subst (λ (l : Link). is_beaten 0 links r.number l ≡ false) here.1 r.unbeaten) in
+          subst (λ (m : ℕ). is_beaten 0 links m b ≡ false) here.0
+          (subst (λ (l : Link). is_beaten 0 links r.number l ≡ false) here.1 r.unbeaten) in
           absurd (false≢true (sym never ∙ beaten))
       | inr there ↦
           let same : r.number ≡ there.0.0 = let e : r.number ≡ 0 + there.0.0 = there.0.1 in omega (arith, e) in
@@ -307,8 +306,8 @@ unbeaten_stays all j (suc m) (x ∷ links) zero a at free =
     let same : x ≡ a = cc in
     let here : j + 0 ≡ j = omega arith in
     let free_here : is_beaten 0 all j x ≡ false =
-        subst (λ (n : ℕ). is_beaten 0 all n x ≡ false) here
-        (subst (λ (y : Link). is_beaten 0 all (j + 0) y ≡ false) (sym same) free) in
+    subst (λ (n : ℕ). is_beaten 0 all n x ≡ false) here
+    (subst (λ (y : Link). is_beaten 0 all (j + 0) y ≡ false) (sym same) free) in
     ap (λ (b : Bool). Some (record x { stands = cond b end.Redundant x.stands })) free_here ∙ ap (λ (y : Link). Some y) same
 unbeaten_stays all j (suc m) (x ∷ links) (suc place) a at free =
     let later : j + suc place ≡ suc j + place = omega arith in

@@ -18,3 +18,4 @@ pub mod EndLaws
 pub mod SuitLaws
 pub mod OutLaws
 pub mod KeptLaws
+pub mod IdleLaws

@@ -1,19 +1,24 @@
 //! The laws of paths and courses. Each is the contract of a function that does nothing, over every
 //! meaning of the clients. The lemmas of `specs/` that prove them may be cited as well.
-ghost use Rattle.std.specs.Prelude.{◌≡◌, ◌≢◌, ℕ, ◌+◌, ◌<◌, true, List, [], ◌∷◌, ◌++◌, length};
-ghost use Rattle.std.specs.Prelude.{slice_get, Some};
+ghost use Rattle.std.specs.Prelude.{◌≡◌, ◌≢◌, ℕ, suc, ◌+◌, ◌<◌, ◌≤◌, cond, true, List, [], ◌∷◌};
+ghost use Rattle.std.specs.Prelude.{◌++◌, length, slice_get, slice_set, Some};
 ghost use Rattle.record_grammar.specs.Stream.{items};
 ghost use Rattle.sync_rules.specs.Clients.{Meaning};
-ghost use Rattle.sync_rules.specs.Facts.{Facts, after_batches, facts};
+ghost use Rattle.sync_rules.specs.Facts.{after_all, after_batches, Facts, facts, session_at};
 ghost use Rattle.sync_rules.specs.Growth.{output_of};
-ghost use Rattle.sync_rules.specs.Legal.{GoesOn, Legal};
+ghost use Rattle.sync_rules.specs.Legal.{Allowed, GoesOn, Legal};
 ghost use Rattle.sync_rules.specs.Output.{sent};
+ghost use Rattle.sync_rules.specs.Steps.{IsSettled};
 ghost use Rattle.sync_rules.specs.declared.entries.Entry.{Entry};
+ghost use Rattle.sync_rules.specs.declared.entries.Entry.TheVariants as entry;
 ghost use Rattle.sync_rules.specs.declared.entries.Out.{Out};
 ghost use Rattle.sync_rules.specs.declared.entries.Session.{Session};
 ghost use Rattle.sync_course.specs.Events.{batches_of, Commit, Event};
-ghost use Rattle.sync_course.specs.Links.{Link, new_items};
-ghost use Rattle.sync_course.specs.LinkTurns.{LinkStep, out_batch, Spot};
+ghost use Rattle.sync_course.specs.Closing.{closing};
+ghost use Rattle.sync_course.specs.IdleLaws.{idle_end, idle_run};
+ghost use Rattle.sync_course.specs.KeptLaws.{closed_upto, KeptRather};
+ghost use Rattle.sync_course.specs.Links.{is_beaten, Link, new_items, without_redundant};
+ghost use Rattle.sync_course.specs.LinkTurns.{IsNothingDue, LinkStep, out_batch, Spot};
 ghost use Rattle.sync_course.specs.OutLaws.{OutIsDue};
 ghost use Rattle.sync_course.specs.Paths.{Path};
 ghost use Rattle.sync_course.specs.Quiet.{EndsQuiet};
@@ -22,6 +27,7 @@ ghost use Rattle.sync_course.specs.Suits.{AllSuit, heard_on, IsCounted};
 ghost use Rattle.sync_course.specs.Turns.{Course, first_place, is_over, Place, RunStep, Terms};
 ghost use Rattle.sync_course.specs.Turns.{with_spot};
 
+use crate::ends::{LinkEnd, LinkLine};
 use record_grammar::{fronts_have_fronts, records_join, streams_go_on};
 
 /// Paths: what leads from one place to another and on to a third leads from the first to the third,
@@ -133,3 +139,44 @@ pub fn runs_end_quiet()
     streams_go_on();
     records_join();
 }
+
+/// Kept: behind each link that is closed as redundant stands one with the same contact that is kept
+/// rather than it and is not closed so; and where links are closed one after the other, each by the
+/// links as they then stand, the same ones are closed.
+pub fn redundant_links_have_better()
+    ensures better { (links : List Link) (k : ℕ) (b : Link) → is_beaten 0 links k b ≡ true
+        → KeptRather links k b }
+    ensures next { (links : List Link) (m : ℕ) (b : Link) → slice_get links m ≡ Some b
+        → closed_upto links 0 (suc m) links
+        ≡ slice_set (closed_upto links 0 m links) m (record b {
+          stands
+              = cond (is_beaten 0 (closed_upto links 0 m links) m b) LinkEnd.Redundant b.stands;
+        }) }
+    ensures whole { (links : List Link)
+        → closed_upto links 0 (length links) links ≡ without_redundant links }
+{}
+
+/// Idle: over a settled journal, where a session with one link may begin and nothing is then due on
+/// it at a reading, the run whose link is always Idle at that reading is a course. It ends after as
+/// many turns as were to be quiet, and the link is quiet; or, where fewer turns may be made, after
+/// these, and the link is unfinished.
+pub fn idle_links_end_quiet()
+    ensures quiet { (clients : Meaning) (terms : Terms) (s : Session) (now : ℕ) (f : Facts)
+        → IsSettled clients f → Allowed clients f (entry.Session s ∷ [])
+        → IsNothingDue clients (after_all f (entry.Session s ∷ []))
+        (session_at (after_all f (entry.Session s ∷ [])).sessions (terms.first + 0)) now
+        → 0 < terms.quiet → terms.quiet ≤ terms.turns
+        → Course clients terms (s ∷ []) f (idle_run s now terms.quiet)
+        (idle_end s terms.quiet (after_all f (entry.Session s ∷ [])))
+        × (closing terms.quiet (idle_end s terms.quiet (after_all f (entry.Session s ∷ [])))
+        ≡ LinkLine.Quiet ∷ []) }
+    ensures unfinished { (clients : Meaning) (terms : Terms) (s : Session) (now : ℕ) (f : Facts)
+        → IsSettled clients f → Allowed clients f (entry.Session s ∷ [])
+        → IsNothingDue clients (after_all f (entry.Session s ∷ []))
+        (session_at (after_all f (entry.Session s ∷ [])).sessions (terms.first + 0)) now
+        → 0 < terms.turns → terms.turns < terms.quiet
+        → Course clients terms (s ∷ []) f (idle_run s now terms.turns)
+        (idle_end s terms.turns (after_all f (entry.Session s ∷ [])))
+        × (closing terms.quiet (idle_end s terms.turns (after_all f (entry.Session s ∷ [])))
+        ≡ LinkLine.Unfinished ∷ []) }
+{}
