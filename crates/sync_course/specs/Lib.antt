@@ -19,3 +19,4 @@ pub mod SuitLaws
 pub mod OutLaws
 pub mod KeptLaws
 pub mod IdleLaws
+pub mod ReadingLaws
