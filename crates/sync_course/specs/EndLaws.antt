@@ -163,9 +163,9 @@ all_counted f session link keeps c =
     c.count ∙ ap length (sym whole)
 
 pub course_ends_quiet : StreamsGoOn → RecordsJoin → (clients : Meaning) (terms : Terms) (sessions : List Session) (j : List (List Entry)) (events : List Event) (last : Place)
-    → Legal clients j → terms.first ≡ (facts j).begun → Course clients terms sessions (facts j) events last
+    → Legal clients j → Course clients terms sessions (facts j) events last
     → is_over terms.quiet last ≡ true → EndsQuiet clients terms events last
-course_ends_quiet go_on join clients terms sessions j events last legal begun course over =
+course_ends_quiet go_on join clients terms sessions j events last legal course over =
     let start : Place = first_place sessions (facts j) in
     let settled : IsSettled clients last.facts =
     subst (λ (st : Stage). SettledAt clients st last.facts) course.at_end
@@ -174,7 +174,7 @@ course_ends_quiet go_on join clients terms sessions j events last legal begun co
     subst (λ (st : Stage). IsStillAt clients terms (λ i. idle_answers i events) (λ i. last_reading i events) st last) course.at_end
     (path_still clients terms (λ i. 0) (λ i. None) start last events course.path refl) in
     let sound : IsSound clients terms.first sessions last =
-    path_sound go_on join clients terms sessions start last events course.path (first_sound clients terms.first sessions j legal begun) in
+    path_sound go_on join clients terms sessions start last events course.path (first_sound clients terms.first sessions j legal course.numbered) in
     let parts = and_parts (nat_lt 0 last.still) (not (some_going last.links) || nat_le terms.quiet last.still) over in
     let some : 0 < last.still = ltb-true 0 last.still parts.0 in
     record {

@@ -112,7 +112,7 @@ module _ (clients : Meaning) (terms : Terms) (s : Session) (now : ℕ) (f : Fact
       ap (λ (b : Bool). cond b (idle_end s n f) (record (idle_place s n f) { stage = Works 0 Asks; moved = false })) (sym over) in
       (idle_end s n f, ends, refl)
 
-module _ (clients : Meaning) (terms : Terms) (s : Session) (now : ℕ) (f : Facts) (settled : IsSettled clients f)
+module _ (clients : Meaning) (terms : Terms) (s : Session) (now : ℕ) (f : Facts) (numbered : terms.first ≡ f.begun) (settled : IsSettled clients f)
     (allowed : Allowed clients f (entry.Session s ∷ []))
     (nothing_due : IsNothingDue clients (after_all f (entry.Session s ∷ []))
     (session_at (after_all f (entry.Session s ∷ [])).sessions (terms.first + 0)) now) where
@@ -131,6 +131,7 @@ module _ (clients : Meaning) (terms : Terms) (s : Session) (now : ℕ) (f : Fact
   idle_course : (n : ℕ) → ((k : ℕ) → k < n → is_at_end terms (idle_place s k began) ≡ false) → is_at_end terms (idle_place s n began) ≡ true
       → Course clients terms (s ∷ []) f (idle_run s now n) (idle_end s n began)
   idle_course n on over = record {
+    numbered = numbered;
     path =
         path_then (RunStep clients terms) (first_place (s ∷ []) f) (idle_place s 0 began) (idle_end s n began) (greeting s)
         (idle_turns now n ++ Pass ∷ []) greeting_path

@@ -131,7 +131,18 @@ RunStep clients terms p e q = StageStep clients terms p.stage e p q
 
 -- ---- courses
 
--- the whole course of a run
+-- the whole course of a run over a journal of these facts: a path from the first place to the end. The first link has the next session
 pub record Course (clients : Meaning) (terms : Terms) (sessions : List Session) (f : Facts) (events : List Event) (last : Place) : Type 0 where
+  pub numbered : terms.first ≡ f.begun
   pub path : Path (RunStep clients terms) (first_place sessions f) events last
   pub at_end : last.stage ≡ Ended
+
+-- one that was broken off: a path to any place
+pub record Broken (clients : Meaning) (terms : Terms) (sessions : List Session) (f : Facts) (events : List Event) (last : Place) : Type 0 where
+  pub numbered : terms.first ≡ f.begun
+  pub path : Path (RunStep clients terms) (first_place sessions f) events last
+
+-- a whole course is one that was broken off at its end
+pub whole_is_broken : (clients : Meaning) (terms : Terms) (sessions : List Session) (f : Facts) (events : List Event) (last : Place)
+    → Course clients terms sessions f events last → Broken clients terms sessions f events last
+whole_is_broken clients terms sessions f events last c = record { numbered = c.numbered; path = c.path }

@@ -24,7 +24,7 @@ ghost use Rattle.sync_course.specs.Paths.{Path};
 ghost use Rattle.sync_course.specs.Quiet.{EndsQuiet};
 ghost use Rattle.sync_course.specs.RunLaws.{pending_at};
 ghost use Rattle.sync_course.specs.Suits.{AllSuit, heard_on, IsCounted};
-ghost use Rattle.sync_course.specs.Turns.{Course, first_place, is_over, Place, RunStep, Terms};
+ghost use Rattle.sync_course.specs.Turns.{Broken, Course, first_place, is_over, Place, RunStep, Terms};
 ghost use Rattle.sync_course.specs.Turns.{with_spot};
 
 use crate::ends::{LinkEnd, LinkLine};
@@ -83,8 +83,7 @@ pub fn batches_are_allowed()
 pub fn batches_suit()
     ensures { (clients : Meaning) (terms : Terms) (sessions : List Session)
         (j : List (List Entry)) (events : List Event) (last : Place) → Legal clients j
-        → terms.first ≡ (facts j).begun
-        → Path (RunStep clients terms) (first_place sessions (facts j)) events last
+        → Broken clients terms sessions (facts j) events last
         → AllSuit clients terms.first sessions (heard_on last) (facts j) (batches_of events) }
 {
     streams_go_on();
@@ -98,8 +97,7 @@ pub fn batches_suit()
 pub fn takes_are_fronts()
     ensures { (clients : Meaning) (terms : Terms) (sessions : List Session)
         (j : List (List Entry)) (events : List Event) (last : Place) → Legal clients j
-        → terms.first ≡ (facts j).begun
-        → Path (RunStep clients terms) (first_place sessions (facts j)) events last
+        → Broken clients terms sessions (facts j) events last
         → (i : ℕ) (link : Link) → slice_get last.links i ≡ Some link
         → IsCounted last.facts (terms.first + i) (pending_at last.stage i) link }
 {
@@ -133,7 +131,7 @@ pub fn outputs_are_sent()
 pub fn runs_end_quiet()
     ensures { (clients : Meaning) (terms : Terms) (sessions : List Session)
         (j : List (List Entry)) (events : List Event) (last : Place) → Legal clients j
-        → terms.first ≡ (facts j).begun → Course clients terms sessions (facts j) events last
+        → Course clients terms sessions (facts j) events last
         → is_over terms.quiet last ≡ true → EndsQuiet clients terms events last }
 {
     streams_go_on();
@@ -162,7 +160,8 @@ pub fn redundant_links_have_better()
 /// these, and the link is unfinished.
 pub fn idle_links_end_quiet()
     ensures quiet { (clients : Meaning) (terms : Terms) (s : Session) (now : ℕ) (f : Facts)
-        → IsSettled clients f → Allowed clients f (entry.Session s ∷ [])
+        → terms.first ≡ f.begun → IsSettled clients f
+        → Allowed clients f (entry.Session s ∷ [])
         → IsNothingDue clients (after_all f (entry.Session s ∷ []))
         (session_at (after_all f (entry.Session s ∷ [])).sessions (terms.first + 0)) now
         → 0 < terms.quiet → terms.quiet ≤ terms.turns
@@ -171,7 +170,8 @@ pub fn idle_links_end_quiet()
         × (closing terms.quiet (idle_end s terms.quiet (after_all f (entry.Session s ∷ [])))
         ≡ LinkLine.Quiet ∷ []) }
     ensures unfinished { (clients : Meaning) (terms : Terms) (s : Session) (now : ℕ) (f : Facts)
-        → IsSettled clients f → Allowed clients f (entry.Session s ∷ [])
+        → terms.first ≡ f.begun → IsSettled clients f
+        → Allowed clients f (entry.Session s ∷ [])
         → IsNothingDue clients (after_all f (entry.Session s ∷ []))
         (session_at (after_all f (entry.Session s ∷ [])).sessions (terms.first + 0)) now
         → 0 < terms.turns → terms.turns < terms.quiet

@@ -4,6 +4,6 @@ use Rattle.sync_course.specs.Turns.{first_place}
 use Rattle.sync_course.proofs.laws.takes_are_fronts.Goals as goal
 
 pub returns : goal.returns
-returns c = λ clients terms sessions j events last legal begun path.
-    (path_sound c.streams_go_on.ensures c.records_join.ensures clients terms sessions (first_place sessions (facts j)) last events path
-    (first_sound clients terms.first sessions j legal begun)).counted
+returns c = λ clients terms sessions j events last legal broken.
+    (path_sound c.streams_go_on.ensures c.records_join.ensures clients terms sessions (first_place sessions (facts j)) last events broken.path
+    (first_sound clients terms.first sessions j legal broken.numbered)).counted
