@@ -20,3 +20,4 @@ pub mod OutLaws
 pub mod KeptLaws
 pub mod IdleLaws
 pub mod ReadingLaws
+pub mod LinkLaws
