@@ -97,7 +97,7 @@ fn a_folder_that_may_only_be_read(rt: HostRuntime) -> Result<(), Fail> {
 #[test]
 fn calls_that_fail(rt: HostRuntime) -> Result<(), Fail> {
     let mut nowhere = FileHost::new(rt, "no_folder")?;
-    assert_eq!(rt; nowhere.dial("std"), Err(Failed));
+    assert_eq!(rt; nowhere.dial("nothing"), Err(Failed));
     assert_eq!(rt;
         (nowhere.len(0), nowhere.write_at(0, 0, b"a")),
         (Ok(0), Err(Failed))
