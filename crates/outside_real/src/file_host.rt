@@ -1,43 +1,52 @@
 //! The disk, the links and the clock of this machine.
-ghost use Rattle.std.specs.Prelude.{◌≡◌, ◌≤◌, IfOk, Ok, MatchResult};
+ghost use Rattle.std.specs.Prelude.{◌≡◌, ◌+◌, ◌<◌, ◌≤◌, IfOk, Ok, MatchResult, OnOk, OnErr};
+ghost use Rattle.std.specs.Prelude.{vec_len};
 ghost use Rattle.outside.specs.declared.limits.TheConstants.{LINKS};
 ghost use Rattle.outside.specs.Faults.{HasCause};
 
+use crate::link::Link;
+use crate::random::random_bytes;
 use crate::real_file::RealFile;
 use outside::{Disk, Failed, Heard, Host, LINKS, raise_at};
-use std::alloc::AllocError;
+use std::alloc::{AllocError, Global};
 use std::io;
 use std::net::Net;
 use std::rt::Runtime;
 use std::time::Clock;
 
 /// A disk of the files `bsp.0` and `bsp.1` in a folder, the links and the clock of this machine. It
-/// tells its counts alone: of its links, and of the failures of the disk and of each link. No link
-/// is made yet. After a sync of a file that failed each call on that file fails.
+/// tells its counts alone: of its links, and of the failures of the disk and of each link. After a
+/// sync of a file that failed each call on that file fails. A read on a socket waits for 100 ms and
+/// then answers `Idle`, one on the standard input never does; a send whose peer does not read fails
+/// within a minute.
 #[derive(Drop)]
 pub struct FileHost<R: Runtime + Net> {
     rt: R,
+    alloc: Global,
     first: RealFile<R>,
     second: RealFile<R>,
     disk_faults: u64,
-    dialled: u8,
+    links: Vec<Link<R>>,
     link_faults: [u64; LINKS],
-    ghost few: { dialled ≤ LINKS },
+    ghost few: { vec_len links ≤ LINKS },
 }
 
 impl<R: Runtime + AllocGlobal + Net> FileHost<R> {
     /// A host without links over the files in this folder, which need not be there.
     pub fn new(rt: R, folder: &str) -> Result<FileHost<R>, AllocError>
-        ensures no_links { IfOk result (λ h. h.dialled ≡ 0) }
+        ensures no_links { IfOk result (λ h. vec_len h.links ≡ 0) }
     {
-        let first = RealFile::new(rt.alloc(), folder, "bsp.0")?;
-        let second = RealFile::new(rt.alloc(), folder, "bsp.1")?;
+        let alloc = rt.alloc();
+        let first = RealFile::new(alloc, folder, "bsp.0")?;
+        let second = RealFile::new(alloc, folder, "bsp.1")?;
+        let links = Vec::new(alloc);
         Ok(FileHost {
             rt,
+            alloc,
             first,
             second,
             disk_faults: 0,
-            dialled: 0,
+            links,
             link_faults: [0; LINKS],
         })
     }
@@ -48,8 +57,8 @@ impl<R: Runtime + Net> FileHost<R> {
     fn answer<T>(&mut self, answer: io::Result<T>) -> Result<T, Failed>
         ensures value { MatchResult result (λ x. answer ≡ Ok x) (λ _. Unit {0}) }
         ensures cause { HasCause self.old.disk_faults self.new.disk_faults result }
-        ensures dialled { self.new.dialled ≡ self.old.dialled }
-        ensures links { self.new.link_faults ≡ self.old.link_faults }
+        ensures links { self.new.links ≡ self.old.links }
+        ensures faults { self.new.link_faults ≡ self.old.link_faults }
     {
         match answer {
             Ok(x) => Ok(x),
@@ -59,12 +68,26 @@ impl<R: Runtime + Net> FileHost<R> {
             }
         }
     }
+
+    // Makes the next link, or none.
+    fn make_link(&mut self, spec: &str) -> io::Result<()>
+        requires { vec_len self.old.links < LINKS }
+        ensures ok { OnOk result (vec_len self.new.links ≡ vec_len self.old.links + 1) }
+        ensures err { OnErr result (vec_len self.new.links ≡ vec_len self.old.links) }
+        ensures faults { self.new.link_faults ≡ self.old.link_faults }
+        ensures disk_faults { self.new.disk_faults ≡ self.old.disk_faults }
+    {
+        let link = Link::dial(&self.rt, self.alloc, spec)?;
+        self.links.push(link)?;
+        Ok(())
+    }
 }
 
 impl<R: Runtime + Net> Disk for FileHost<R> {
+    ghost use Rattle.std.specs.Prelude.{vec_len};
     ghost use Rattle.outside.specs.Silent.{silent};
 
-    ghost tells = { λ h. silent h.disk_faults h.dialled h.link_faults };
+    ghost tells = { λ h. silent h.disk_faults (vec_len h.links) h.link_faults };
 
     fn len(&mut self, file: u8) -> Result<u64, Failed> {
         let answer = match file {
@@ -108,27 +131,52 @@ impl<R: Runtime + Net> Disk for FileHost<R> {
 }
 
 impl<R: Runtime + Net> Host for FileHost<R> {
-    fn dial(&mut self, _spec: &str) -> Result<u8, Failed> {
-        raise_at(&mut self.link_faults, self.dialled as usize);
-        Err(Failed)
+    fn dial(&mut self, spec: &str) -> Result<u8, Failed> {
+        let number = self.links.len();
+        match self.make_link(spec) {
+            Ok(()) => Ok(number as u8),
+            Err(_) => {
+                raise_at(&mut self.link_faults, self.links.len());
+                Err(Failed)
+            }
+        }
     }
 
     fn nonce(&mut self, link: u8) -> Result<[u8; 16], Failed> {
-        raise_at(&mut self.link_faults, link as usize);
-        Err(Failed)
+        match random_bytes(&self.rt) {
+            Ok(bytes) => Ok(bytes),
+            Err(_) => {
+                raise_at(&mut self.link_faults, link as usize);
+                Err(Failed)
+            }
+        }
     }
 
-    fn recv(&mut self, link: u8, _buf: &mut [u8]) -> Heard {
-        raise_at(&mut self.link_faults, link as usize);
-        Heard::Failed
+    fn recv(&mut self, link: u8, buf: &mut [u8]) -> Heard {
+        let number = link as usize;
+        match self.links[number].hear(buf) {
+            Heard::Failed => {
+                raise_at(&mut self.link_faults, number);
+                Heard::Failed
+            }
+            heard => heard,
+        }
     }
 
-    fn send(&mut self, link: u8, _bytes: &[u8]) -> Result<(), Failed> {
-        raise_at(&mut self.link_faults, link as usize);
-        Err(Failed)
+    fn send(&mut self, link: u8, bytes: &[u8]) -> Result<(), Failed> {
+        let number = link as usize;
+        match self.links[number].send(&self.rt, bytes) {
+            Ok(()) => Ok(()),
+            Err(fault) => {
+                raise_at(&mut self.link_faults, number);
+                Err(fault)
+            }
+        }
     }
 
-    fn hang_up(&mut self, _link: u8) {}
+    fn hang_up(&mut self, link: u8) {
+        self.links[link as usize] = Link::Over;
+    }
 
     fn now(&mut self) -> u64 {
         milliseconds(&self.rt)

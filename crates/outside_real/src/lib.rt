@@ -6,8 +6,17 @@
 
 mod ahead;
 mod file_host;
+mod inbox;
+mod link;
+mod random;
 mod real_file;
+mod socket;
+mod spec;
+mod std_link;
+mod stream;
 mod streams;
+mod tcp_link;
+mod unix_link;
 
 pub use file_host::FileHost;
 pub use streams::{StdSink, StdSource};

@@ -193,10 +193,10 @@ fn calls_that_fail(rt: HostRuntime) -> Result<(), Fail> {
     Ok(())
 }
 
-// Whether a host dials no one, and has a clock of milliseconds.
+// Whether a host dials nobody by a spec of no kind, and has a clock of milliseconds.
 fn dials_nothing(rt: HostRuntime, folder: &str) -> Result<bool, AllocError> {
     let mut host = FileHost::new(rt, folder)?;
-    let dialled = host.dial("std");
+    let dialled = host.dial("nothing");
     Ok(dialled.is_err() && host.now() > 1_700_000_000_000)
 }
 

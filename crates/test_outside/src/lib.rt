@@ -10,6 +10,8 @@ mod frames;
 #[cfg(test)]
 mod hosts;
 #[cfg(test)]
+mod links;
+#[cfg(test)]
 mod silent;
 #[cfg(test)]
 mod streams;

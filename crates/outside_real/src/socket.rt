@@ -1,0 +1,106 @@
+//! A link over a socket.
+ghost use Rattle.std.specs.Prelude.{◌<◌, length};
+ghost use Rattle.std.specs.Io.{WritesAtMost};
+ghost use Rattle.outside_real.specs.Heard.{FitsIn};
+
+use crate::inbox::Inbox;
+use crate::stream::Stream;
+use outside::{Failed, Heard};
+use std::alloc::Global;
+use std::io;
+use std::io::ErrorKind;
+use std::net::Net;
+use std::time::Duration;
+
+// How long one read waits for the peer, and one write.
+const READ_MILLISECONDS: u64 = 100;
+
+const WRITE_MILLISECONDS: u64 = 10;
+
+// How many writes one send makes at most: half a minute of waits.
+const MOST_WRITES: u32 = 3_000;
+
+/// A socket, and what was heard on it while it could not send.
+#[derive(Drop)]
+pub struct Socket<R: Net> {
+    stream: Stream<R>,
+    inbox: Inbox,
+}
+
+impl<R: Net> Socket<R> {
+    /// A link over this stream.
+    pub fn new(alloc: Global, stream: Stream<R>) -> io::Result<Socket<R>> {
+        stream.set_waits(
+            Duration::from_millis(READ_MILLISECONDS),
+            Duration::from_millis(WRITE_MILLISECONDS),
+        )?;
+        Ok(Socket {
+            stream,
+            inbox: Inbox::new(alloc),
+        })
+    }
+
+    /// Hears on the link, into the front of `buf`; `Idle` where nothing came for 100 ms.
+    pub fn hear(&mut self, buf: &mut [u8]) -> Heard
+        requires { 0 < length buf.old }
+        ensures { FitsIn (length buf.new) result }
+    {
+        if !self.inbox.is_empty() {
+            return Heard::Got(self.inbox.take(buf));
+        }
+        match self.stream.read(buf) {
+            Ok(0) => Heard::End,
+            Ok(n) => Heard::Got(n),
+            Err(e) if is_pause(&e) => Heard::Idle,
+            Err(_) => Heard::Failed,
+        }
+    }
+
+    /// Sends all bytes. Fails where the peer does not take them within half a minute.
+    pub fn send(&mut self, bytes: &[u8]) -> Result<(), Failed> {
+        let mut left = bytes;
+        for _ in 0..MOST_WRITES {
+            match self.write(left) {
+                Ok(n) => left = &left[n..],
+                Err(_) => return Err(Failed),
+            }
+            if left.is_empty() {
+                return Ok(());
+            }
+        }
+        Err(Failed)
+    }
+
+    // Writes a front of the bytes. Where none could be written, what the peer sends is read ahead,
+    // since it may be waiting for that itself.
+    fn write(&mut self, bytes: &[u8]) -> io::Result<usize>
+        ensures { WritesAtMost result bytes.now }
+    {
+        match self.stream.write(bytes) {
+            Err(e) if is_pause(&e) => {
+                self.read_ahead()?;
+                Ok(0)
+            }
+            answer => answer,
+        }
+    }
+
+    // Reads ahead what is there, without a wait.
+    fn read_ahead(&mut self) -> io::Result<()> {
+        if self.inbox.is_full() {
+            return Ok(());
+        }
+        self.stream.set_nonblocking(true)?;
+        let answer = self.inbox.fill(&mut self.stream);
+        self.stream.set_nonblocking(false)?;
+        match answer {
+            Err(e) if is_pause(&e) => Ok(()),
+            answer => answer,
+        }
+    }
+}
+
+// The wait was over, or a signal came. `TimedOut` is another thing: a connection that was lost.
+fn is_pause(e: &io::Error) -> bool {
+    matches!(e.kind(), ErrorKind::WouldBlock | ErrorKind::Interrupted)
+}
