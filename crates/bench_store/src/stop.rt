@@ -7,7 +7,7 @@ use thiserror::Error;
 pub(crate) enum Stop {
     #[error("out of memory")]
     Memory(#[from(alloc)] AllocError),
-    #[error("no such message or group")]
+    #[error("no such message, group or list of ids")]
     NoValue,
     #[error("no store was begun")]
     NotBegun,
