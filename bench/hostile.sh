@@ -88,7 +88,7 @@ for kind, name_of in KINDS.items():
     print(f"{few} {kind} names have {hashes} hashes under the fixed seed")
 loads = {}
 for count in (few, many):
-    loads[count] = both(count, f"{count} held, 0 delivered, {{}} bytes\n", "files")
+    loads[count] = both(count, f"{count} held, 0 delivered, {{}} bytes\n", "file")
     print("load, {} messages of {} names: random {:.3f} s, chosen {:.3f} s".format(count, NAMES, *loads[count]), flush=True)
 print(f"under the fixed seed the chosen names of {many} messages would be compared {(many * NAMES) ** 2 / 2:.0e} times in a load")
 offer = both(0, "1001 entries\n", "offer", str(ROUNDS))

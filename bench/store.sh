@@ -1,9 +1,8 @@
 #!/bin/sh
 # A store of notes on a disk in memory: commits with their settling, loads, and the memory of held messages. Each time is the least
 # processor time of RUNS (5) runs, which the program takes of that step alone. A load is compared with `b2sum -l 256` of the same
-# journal's file in a folder in memory, with computing the ids of its messages alone, and with a load of the same bytes from real
-# files in that folder; growth is over linear. The group is shared with no contact, and once more with CONTACTS (1). The last lines
-# are `ratio NAME VALUE`.
+# journal's file in a folder in memory, and with computing the ids of its messages alone; growth is over linear. The group is shared
+# with no contact, and once more with CONTACTS (1). The last lines are `ratio NAME VALUE`.
 set -eu
 cd "$(dirname "$0")/.."
 (cd crates/bench_store && rt run -- load 50 200 1 >/dev/null)
@@ -14,7 +13,6 @@ from digests import block_hash, group_id, id_over
 from measure import least, run, run_silent
 from store_file import CLOSED, HEADER, OPEN, frame
 
-PROGRAM = os.path.abspath("crates/bench_store/out/bench_store")
 runs, some = int(sys.argv[1]), int(sys.argv[2])
 GROUP = group_id(b"note", 0, b"")
 
@@ -46,15 +44,10 @@ def write_journal(path, count, length, contacts):
         return file.tell(), f"{total:064x}\n"
 
 
-def timed_run(want, *words, folder=None):
-    """One run, which must print what is wanted; its seconds are those of the step alone, as the program tells them."""
-    told = run(PROGRAM, *words, folder=folder, want=want)
-    return told._replace(seconds=int(told.err) / 1e6)
-
-
 def step(name, count, length, contacts, want):
-    """One run over a plan's messages."""
-    return timed_run(want, name, str(count), str(length), str(contacts))
+    """One run, which must print what is wanted; its seconds are those of the step alone, as the program tells them."""
+    told = run("crates/bench_store/out/bench_store", name, str(count), str(length), str(contacts), want=want)
+    return told._replace(seconds=int(told.err) / 1e6)
 
 
 def told(count, end):
@@ -80,17 +73,11 @@ with tempfile.TemporaryDirectory(dir="/dev/shm") as folder:
         return long, growth, [seconds for seconds, _ in rest]
 
     def compare_load(contacts, name):
-        end, names = write_journal(path, 200_000, 200, contacts)
-        others = (
-            lambda: step("ids", 200_000, 200, contacts, names),
-            lambda: timed_run(told(200_000, end), "files", folder=folder),
-        )
-        long, growth, (ids, files) = compare_sizes("load", 50_000, 200_000, contacts, *others)
+        _, names = write_journal(path, 200_000, 200, contacts)
+        long, growth, (ids,) = compare_sizes("load", 50_000, 200_000, contacts, lambda: step("ids", 200_000, 200, contacts, names))
         print(f"ids of 200000 messages alone {ids:.3f} s, {ids / 200_000 * 1e6:.2f} us a message")
-        print(f"load of their real files {files:.3f} s, {files / 200_000 * 1e6:.2f} us a message")
         lines.append(f"ratio load_small{name} {long / ids:.2f}")
         lines.append(f"ratio load_growth{name} {growth:.3f}")
-        lines.append(f"ratio load_files{name} {files / long:.2f}")
 
     def compare_memory(contacts):
         peaks = []

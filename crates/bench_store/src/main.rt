@@ -1,6 +1,6 @@
 //! Commits messages to a store on a disk in memory, loads a store that has them, or computes their
-//! ids alone; loads the store of the folder that it runs in, or takes an OFFER of ids over it: for
-//! the speed and memory of a store. The error output has the microseconds of processor time that
+//! ids alone; loads the store whose file lies in the folder that it runs in, or takes an OFFER of
+//! ids over it: for the speed and memory of a store. The error output has the microseconds of processor time that
 //! this alone took.
 #![tactic(auto)]
 
@@ -11,61 +11,68 @@ mod stop;
 
 use crate::journal_file::make_file;
 use crate::messages::{Entries, Plan};
-use crate::offers::{take_often, whole_ids};
+use crate::offers::{ID_LEN, take_often, whole_ids};
 use crate::stop::Stop;
 use anyhow::{Context, Result, bail};
 use client_basic::Bundle;
-use outside::{Disk, MAX_JOURNAL, MemDisk};
-use outside_real::FileHost;
+use outside::{MAX_JOURNAL, MemDisk};
 use std::alloc::Global;
 use std::time::{CpuClock, Duration};
 use std::{env, fs};
 use sync_store::Store;
 use test_device::{Device, batch_of};
 
-/// What is measured: a step over a plan's messages, or over the store of this folder.
+/// What is measured: a step over a plan's messages, or over the store of this folder's file.
 #[derive(Clone, Copy)]
 enum Step {
     Ids(Plan),
     Make(Plan),
     Load(Plan),
     Commit(Plan),
-    Files,
+    File,
     Offer(u32),
 }
 
-// The plan that the words name.
-fn read_plan(words: &mut impl Iterator<Item = String>) -> Result<Plan> {
-    let messages = words.next().context("a count")?.parse::<u32>()?;
-    let length = words.next().context("a length")?.parse::<usize>()?;
-    let contacts = words.next().context("contacts")?.parse::<u8>()?;
-    Ok(Plan {
-        messages,
-        length,
-        contacts,
-    })
+// The number that a word says, and 0 where there is none.
+fn read_number(word: Option<String>) -> Result<u32> {
+    match word {
+        Some(word) => Ok(word.parse::<u32>()?),
+        None => Ok(0),
+    }
 }
 
-// The rounds that the words name.
-fn read_rounds(words: &mut impl Iterator<Item = String>) -> Result<u32> {
-    let rounds = words.next().context("rounds")?.parse::<u32>()?;
-    Ok(rounds)
-}
-
-// The step that the words name.
+// The step that the words name, with its numbers.
 fn read_step(rt: &HostRuntime) -> Result<Step> {
     let mut words = env::args(rt)?.skip(1);
     let name = words.next().context("a step")?;
-    let step = match name.as_str() {
-        "ids" => Step::Ids(read_plan(&mut words)?),
-        "make" => Step::Make(read_plan(&mut words)?),
-        "load" => Step::Load(read_plan(&mut words)?),
-        "commit" => Step::Commit(read_plan(&mut words)?),
-        "files" => Step::Files,
-        "offer" => Step::Offer(read_rounds(&mut words)?),
-        other => bail!("no step: {other}"),
+    let first = read_number(words.next())?;
+    let length = read_number(words.next())?;
+    let contacts = read_number(words.next())?;
+    step_of(
+        name.as_str(),
+        first,
+        length as usize,
+        u8::try_from(contacts)?,
+    )
+}
+
+// The step of this name over so many messages, of such a length, for so many contacts, or of so
+// many rounds.
+fn step_of(name: &str, first: u32, length: usize, contacts: u8) -> Result<Step> {
+    let plan = Plan {
+        messages: first,
+        length,
+        contacts,
     };
-    Ok(step)
+    match name {
+        "ids" => Ok(Step::Ids(plan)),
+        "make" => Ok(Step::Make(plan)),
+        "load" => Ok(Step::Load(plan)),
+        "commit" => Ok(Step::Commit(plan)),
+        "file" => Ok(Step::File),
+        "offer" => Ok(Step::Offer(first)),
+        other => bail!("no step: {other}"),
+    }
 }
 
 // Prints the processor time since this one.
@@ -112,29 +119,35 @@ fn measure_make(rt: &HostRuntime, plan: Plan) -> Result<()> {
 }
 
 // Loads the store of a disk.
-fn measure_load<D: Disk + Drop>(rt: &HostRuntime, disk: D) -> Result<()> {
+fn measure_load(rt: &HostRuntime, disk: MemDisk) -> Result<()> {
     let start = rt.process_cpu_time()?;
     let device = Device::load(rt.alloc(), disk, Bundle::new(), MAX_JOURNAL)?;
     print_time(rt, start)?;
     print_store(rt, device.store())
 }
 
-// The disk of the folder that the program runs in.
-fn open_folder(rt: &HostRuntime) -> Result<FileHost<HostRuntime>> {
-    let disk = FileHost::new(rt.clone()?, ".")?;
+// A disk in memory with the file of the folder that the program runs in.
+fn read_disk(rt: &HostRuntime) -> Result<MemDisk> {
+    let file = fs::read(rt, "bsp.0")?;
+    let disk = MemDisk::new(rt.alloc(), file, Vec::new(rt.alloc()))?;
     Ok(disk)
 }
 
-// Takes an OFFER of the ids in the file `ids` so many times, over the store of the folder.
-fn measure_offer(rt: &HostRuntime, rounds: u32) -> Result<()> {
-    let bytes = fs::read(rt, "ids")?;
-    let ids = whole_ids(bytes.as_slice());
-    let device = Device::load(rt.alloc(), open_folder(rt)?, Bundle::new(), MAX_JOURNAL)?;
+// Takes an OFFER of ids over a store so many times.
+fn time_offers(rt: &HostRuntime, store: &Store, ids: &[[u8; ID_LEN]], rounds: u32) -> Result<()> {
     let start = rt.process_cpu_time()?;
-    let entries = take_often(rt.alloc(), device.store(), ids, rounds)?;
+    let entries = take_often(rt.alloc(), store, ids, rounds)?;
     print_time(rt, start)?;
     println!(rt; "{entries} entries")?;
     Ok(())
+}
+
+// Takes an OFFER of the ids in the file `ids`, over the store of the folder's file.
+fn measure_offer(rt: &HostRuntime, rounds: u32) -> Result<()> {
+    let bytes = fs::read(rt, "ids")?;
+    let disk = read_disk(rt)?;
+    let device = Device::load(rt.alloc(), disk, Bundle::new(), MAX_JOURNAL)?;
+    time_offers(rt, device.store(), whole_ids(bytes.as_slice()), rounds)
 }
 
 // A store with the messages, each of which is settled behind its commit.
@@ -163,7 +176,7 @@ fn main(rt: HostRuntime) -> Result<()> {
         Step::Make(plan) => measure_make(&rt, plan),
         Step::Load(plan) => measure_load(&rt, make_disk(rt.alloc(), plan)?),
         Step::Commit(plan) => measure_commit(&rt, plan),
-        Step::Files => measure_load(&rt, open_folder(&rt)?),
+        Step::File => measure_load(&rt, read_disk(&rt)?),
         Step::Offer(rounds) => measure_offer(&rt, rounds),
     }
 }

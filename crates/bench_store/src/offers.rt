@@ -8,7 +8,7 @@ use sync_rules::{Mode, Session};
 use sync_store::Store;
 
 /// The bytes of an id.
-const ID_LEN: usize = 32;
+pub(crate) const ID_LEN: usize = 32;
 
 /// The session on which the ids are offered.
 const SESSION: Session = Session {
