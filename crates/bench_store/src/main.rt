@@ -150,15 +150,41 @@ fn measure_offer(rt: &HostRuntime, rounds: u32) -> Result<()> {
     time_offers(rt, device.store(), whole_ids(bytes.as_slice()), rounds)
 }
 
-// A store with the messages, each of which is settled behind its commit.
+// Commits the entry of a number, and settles the store.
+fn add_next(
+    alloc: Global,
+    entries: &Entries,
+    k: u64,
+    device: &mut Device<MemDisk, Bundle>,
+) -> Result<(), Stop> {
+    let batch = batch_of(alloc, entries.get(k)?)?;
+    device.add_settled(batch)?;
+    Ok(())
+}
+
+// Commits all entries, and settles the store behind each.
+fn add_all(
+    alloc: Global,
+    entries: &Entries,
+    device: &mut Device<MemDisk, Bundle>,
+) -> Result<(), Stop> {
+    for k in 0..entries.len() {
+        add_next(alloc, entries, k, device)?;
+    }
+    Ok(())
+}
+
+// A new store.
+fn begin_store(alloc: Global) -> Result<Device<MemDisk, Bundle>> {
+    let disk = MemDisk::new(alloc, Vec::new(alloc), Vec::new(alloc))?;
+    Device::begin(alloc, disk, Bundle::new())
+}
+
+// A store with the messages of a plan.
 fn fill_store(alloc: Global, plan: Plan) -> Result<Device<MemDisk, Bundle>> {
     let entries = Entries::new(alloc, plan)?;
-    let disk = MemDisk::new(alloc, Vec::new(alloc), Vec::new(alloc))?;
-    let mut device = Device::begin(alloc, disk, Bundle::new())?;
-    for k in 0..entries.len() {
-        let batch = batch_of(alloc, entries.get(k)?)?;
-        device.add_settled(batch)?;
-    }
+    let mut device = begin_store(alloc)?;
+    add_all(alloc, &entries, &mut device)?;
     Ok(device)
 }
 

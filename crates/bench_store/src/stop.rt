@@ -1,5 +1,6 @@
 //! Why a step came to no end.
 use std::alloc::AllocError;
+use test_device::AddFault;
 use thiserror::Error;
 
 /// Why a step came to no end.
@@ -11,4 +12,6 @@ pub(crate) enum Stop {
     NoValue,
     #[error("no store was begun")]
     NotBegun,
+    #[error("no message was added: {0}")]
+    NotAdded(#[from] AddFault),
 }
