@@ -1,7 +1,7 @@
 //! Commits messages to a store on a disk in memory, loads a store that has them, or computes their
 //! ids alone; loads the store whose file lies in the folder that it runs in, or takes an OFFER of
-//! ids over it: for the speed and memory of a store. The error output has the microseconds of processor time that
-//! this alone took.
+//! ids over it: for the speed and memory of a store. The error output has the microseconds of
+//! processor time that this alone took.
 #![tactic(auto)]
 
 mod journal_file;
@@ -19,8 +19,9 @@ use outside::{MAX_JOURNAL, MemDisk};
 use std::alloc::Global;
 use std::time::{CpuClock, Duration};
 use std::{env, fs};
+use sync_rules::Batch;
 use sync_store::Store;
-use test_device::{Device, batch_of};
+use test_device::Device;
 
 /// What is measured: a step over a plan's messages, or over the store of this folder's file.
 #[derive(Clone, Copy)]
@@ -157,7 +158,7 @@ fn add_next(
     k: u64,
     device: &mut Device<MemDisk, Bundle>,
 ) -> Result<(), Stop> {
-    let batch = batch_of(alloc, entries.get(k)?)?;
+    let batch = Batch::single(alloc, entries.get(k)?)?;
     device.add_settled(batch)?;
     Ok(())
 }
