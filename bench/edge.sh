@@ -4,19 +4,24 @@
 # - each command syncs the folder at its first sync of a file, whether it made the file or not;
 # - `show`, `inbox` and `body` of 20,000 messages make at most one read in 32 KiB of the file and ten calls beside, and open the
 #   files for reading alone; they work in a folder that may only be read (as another user, where this is root).
-# The last lines are `ratio NAME VALUE`: the reads of a look over the 32 KiB of the file.
+# Then it times a whole `body` behind 200,000 messages against a load of the same file's bytes from memory alone: the least processor
+# time of RUNS (5) runs of each.
+# The last lines are `ratio NAME VALUE`: the reads of a look over the 32 KiB of the file, and real files over memory.
 cd "$(dirname "$0")/.." || exit 1
 bsp=$PWD/crates/bsp/out/bsp
 if [ ! -x "$bsp" ]; then (cd crates/bsp && rt run -- try note d <stdin >/dev/null) || exit 1; fi
+(cd crates/bench_store && rt run -- load 50 200 1 >/dev/null) || exit 1
 command -v strace >/dev/null || { echo 'strace is missing: apt-get install strace' && exit 1; }
 folder=$(mktemp -d) || exit 1
 trap 'chmod -R u+rwx "$folder"; rm -rf "$folder"' EXIT
-PYTHONDONTWRITEBYTECODE=1 PYTHONPATH=bench python3 - "$bsp" "$folder" <<'PY'
+PYTHONDONTWRITEBYTECODE=1 PYTHONPATH=bench python3 - "$bsp" "$folder" "${RUNS:-5}" <<'PY'
 import math, os, re, subprocess, sys, tempfile
 
+from measure import least, run
 from store_file import GROUP, Note, file_bytes, inbox_text, show_text
 
-bsp, folder = sys.argv[1], os.path.realpath(sys.argv[2])
+bsp, folder, runs = sys.argv[1], os.path.realpath(sys.argv[2]), int(sys.argv[3])
+bench = os.path.abspath('crates/bench_store/out/bench_store')
 NOTES = [Note(time, 200) for time in range(20_000)]
 STORE = os.path.join(folder, 'bsp.0')
 PIECE, OTHERS = 32 << 10, 10
@@ -90,11 +95,27 @@ def check_read_only():
     print('a folder that may only be read: the same texts')
 
 
+def compare_files():
+    """A whole `body` behind 200,000 notes, over the load of the same bytes from memory."""
+    notes = [Note(time, 200) for time in range(200_000)]
+    with open(STORE, 'wb') as file:
+        file.write(file_bytes(notes))
+
+    def load():
+        told = run(bench, 'file', folder=folder)
+        return told._replace(seconds=int(told.err) / 1e6)
+
+    (real, _), (memory, _) = least(runs, lambda: run(bsp, 'body', notes[7].id.hex(), folder=folder, want=notes[7].body.decode()), load)
+    print(f'200000 messages: a body from real files {real:.3f} s, a load from memory {memory:.3f} s')
+    return f'ratio files_over_memory {real / memory:.2f}'
+
+
 LOOKS = ((('show',), show_text(NOTES).encode()), (('inbox',), inbox_text(NOTES).encode()), (('body', NOTES[7].id.hex()), NOTES[7].body))
 check_names()
 with open(STORE, 'wb') as file:
     file.write(file_bytes(NOTES))
 lines = [check_look(words, text) for words, text in LOOKS]
 check_read_only()
+lines.append(compare_files())
 print('\n'.join(lines))
 PY

@@ -8,9 +8,9 @@ from collections import namedtuple
 Run = namedtuple('Run', 'seconds memory out err')
 
 
-def run(*words, source=subprocess.DEVNULL, sink=subprocess.PIPE, want=None):
-    """One run, which must end with status 0 and, where a text is wanted, write that."""
-    child = subprocess.Popen(words, stdin=source, stdout=sink, stderr=subprocess.PIPE)
+def run(*words, source=subprocess.DEVNULL, sink=subprocess.PIPE, folder=None, want=None):
+    """One run, in a folder if one is given, which must end with status 0 and, where a text is wanted, write that."""
+    child = subprocess.Popen(words, stdin=source, stdout=sink, stderr=subprocess.PIPE, cwd=folder)
     out = child.stdout.read().decode() if child.stdout else ''
     err = child.stderr.read().decode()
     _, status, usage = os.wait4(child.pid, 0)

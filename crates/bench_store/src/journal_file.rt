@@ -12,7 +12,6 @@ use std::alloc::{AllocError, Global};
 use sync_ids::MessageId;
 use sync_rules::{Batch, Entry, id_of};
 use sync_store::Store;
-use test_device::batch_of;
 
 /// The bytes of a message's two frames beside its body.
 const BESIDE: usize = 121;
@@ -65,7 +64,7 @@ fn settling_of(alloc: Global, id: MessageId) -> Result<Batch, AllocError>
 fn add_entry(alloc: Global, file: &mut Vec<u8>, entry: Entry) -> Result<(), AllocError>
     requires { HasLatency entry }
 {
-    let batch = batch_of(alloc, entry)?;
+    let batch = Batch::single(alloc, entry)?;
     add_frame(file, &batch)
 }
 

@@ -1,52 +1,79 @@
 //! Commits messages to a store on a disk in memory, loads a store that has them, or computes their
-//! ids alone, for the speed and memory of a store. The error output has the microseconds of
+//! ids alone; loads the store whose file lies in the folder that it runs in, or takes an OFFER of
+//! ids over it: for the speed and memory of a store. The error output has the microseconds of
 //! processor time that this alone took.
 #![tactic(auto)]
 
 mod journal_file;
 mod messages;
+mod offers;
 mod stop;
 
 use crate::journal_file::make_file;
 use crate::messages::{Entries, Plan};
+use crate::offers::{ID_LEN, take_often, whole_ids};
 use crate::stop::Stop;
 use anyhow::{Context, Result, bail};
 use client_basic::Bundle;
 use outside::{MAX_JOURNAL, MemDisk};
 use std::alloc::Global;
-use std::env;
 use std::time::{CpuClock, Duration};
+use std::{env, fs};
+use sync_rules::Batch;
 use sync_store::Store;
-use test_device::{Device, batch_of};
+use test_device::Device;
 
-/// What is measured.
+/// What is measured: a step over a plan's messages, or over the store of this folder's file.
 #[derive(Clone, Copy)]
 enum Step {
-    Ids,
-    Make,
-    Load,
-    Commit,
+    Ids(Plan),
+    Make(Plan),
+    Load(Plan),
+    Commit(Plan),
+    File,
+    Offer(u32),
 }
 
-// The step and the plan that the words name.
-fn read_words(rt: &HostRuntime) -> Result<(Step, Plan)> {
+// The number that a word says, and 0 where there is none.
+fn read_number(word: Option<String>) -> Result<u32> {
+    match word {
+        Some(word) => Ok(word.parse::<u32>()?),
+        None => Ok(0),
+    }
+}
+
+// The step that the words name, with its numbers.
+fn read_step(rt: &HostRuntime) -> Result<Step> {
     let mut words = env::args(rt)?.skip(1);
-    let step = match words.next().context("a step")?.as_str() {
-        "ids" => Step::Ids,
-        "make" => Step::Make,
-        "load" => Step::Load,
-        "commit" => Step::Commit,
-        other => bail!("no step: {other}"),
-    };
-    let messages = words.next().context("a count")?.parse::<u32>()?;
-    let length = words.next().context("a length")?.parse::<usize>()?;
-    let contacts = words.next().context("contacts")?.parse::<u8>()?;
+    let name = words.next().context("a step")?;
+    let first = read_number(words.next())?;
+    let length = read_number(words.next())?;
+    let contacts = read_number(words.next())?;
+    step_of(
+        name.as_str(),
+        first,
+        length as usize,
+        u8::try_from(contacts)?,
+    )
+}
+
+// The step of this name over so many messages, of such a length, for so many contacts, or of so
+// many rounds.
+fn step_of(name: &str, first: u32, length: usize, contacts: u8) -> Result<Step> {
     let plan = Plan {
-        messages,
+        messages: first,
         length,
         contacts,
     };
-    Ok((step, plan))
+    match name {
+        "ids" => Ok(Step::Ids(plan)),
+        "make" => Ok(Step::Make(plan)),
+        "load" => Ok(Step::Load(plan)),
+        "commit" => Ok(Step::Commit(plan)),
+        "file" => Ok(Step::File),
+        "offer" => Ok(Step::Offer(first)),
+        other => bail!("no step: {other}"),
+    }
 }
 
 // Prints the processor time since this one.
@@ -92,24 +119,73 @@ fn measure_make(rt: &HostRuntime, plan: Plan) -> Result<()> {
     Ok(())
 }
 
-// Loads a store of the file.
-fn measure_load(rt: &HostRuntime, plan: Plan) -> Result<()> {
-    let disk = make_disk(rt.alloc(), plan)?;
+// Loads the store of a disk.
+fn measure_load(rt: &HostRuntime, disk: MemDisk) -> Result<()> {
     let start = rt.process_cpu_time()?;
     let device = Device::load(rt.alloc(), disk, Bundle::new(), MAX_JOURNAL)?;
     print_time(rt, start)?;
     print_store(rt, device.store())
 }
 
-// A store with the messages, each of which is settled behind its commit.
+// A disk in memory with the file of the folder that the program runs in.
+fn read_disk(rt: &HostRuntime) -> Result<MemDisk> {
+    let file = fs::read(rt, "bsp.0")?;
+    let disk = MemDisk::new(rt.alloc(), file, Vec::new(rt.alloc()))?;
+    Ok(disk)
+}
+
+// Takes an OFFER of ids over a store so many times.
+fn time_offers(rt: &HostRuntime, store: &Store, ids: &[[u8; ID_LEN]], rounds: u32) -> Result<()> {
+    let start = rt.process_cpu_time()?;
+    let entries = take_often(rt.alloc(), store, ids, rounds)?;
+    print_time(rt, start)?;
+    println!(rt; "{entries} entries")?;
+    Ok(())
+}
+
+// Takes an OFFER of the ids in the file `ids`, over the store of the folder's file.
+fn measure_offer(rt: &HostRuntime, rounds: u32) -> Result<()> {
+    let bytes = fs::read(rt, "ids")?;
+    let disk = read_disk(rt)?;
+    let device = Device::load(rt.alloc(), disk, Bundle::new(), MAX_JOURNAL)?;
+    time_offers(rt, device.store(), whole_ids(bytes.as_slice()), rounds)
+}
+
+// Commits the entry of a number, and settles the store.
+fn add_next(
+    alloc: Global,
+    entries: &Entries,
+    k: u64,
+    device: &mut Device<MemDisk, Bundle>,
+) -> Result<(), Stop> {
+    let batch = Batch::single(alloc, entries.get(k)?)?;
+    device.add_settled(batch)?;
+    Ok(())
+}
+
+// Commits all entries, and settles the store behind each.
+fn add_all(
+    alloc: Global,
+    entries: &Entries,
+    device: &mut Device<MemDisk, Bundle>,
+) -> Result<(), Stop> {
+    for k in 0..entries.len() {
+        add_next(alloc, entries, k, device)?;
+    }
+    Ok(())
+}
+
+// A new store.
+fn begin_store(alloc: Global) -> Result<Device<MemDisk, Bundle>> {
+    let disk = MemDisk::new(alloc, Vec::new(alloc), Vec::new(alloc))?;
+    Device::begin(alloc, disk, Bundle::new())
+}
+
+// A store with the messages of a plan.
 fn fill_store(alloc: Global, plan: Plan) -> Result<Device<MemDisk, Bundle>> {
     let entries = Entries::new(alloc, plan)?;
-    let disk = MemDisk::new(alloc, Vec::new(alloc), Vec::new(alloc))?;
-    let mut device = Device::begin(alloc, disk, Bundle::new())?;
-    for k in 0..entries.len() {
-        let batch = batch_of(alloc, entries.get(k)?)?;
-        device.add_settled(batch)?;
-    }
+    let mut device = begin_store(alloc)?;
+    add_all(alloc, &entries, &mut device)?;
     Ok(device)
 }
 
@@ -122,11 +198,12 @@ fn measure_commit(rt: &HostRuntime, plan: Plan) -> Result<()> {
 }
 
 fn main(rt: HostRuntime) -> Result<()> {
-    let (step, plan) = read_words(&rt)?;
-    match step {
-        Step::Ids => measure_ids(&rt, plan),
-        Step::Make => measure_make(&rt, plan),
-        Step::Load => measure_load(&rt, plan),
-        Step::Commit => measure_commit(&rt, plan),
+    match read_step(&rt)? {
+        Step::Ids(plan) => measure_ids(&rt, plan),
+        Step::Make(plan) => measure_make(&rt, plan),
+        Step::Load(plan) => measure_load(&rt, make_disk(rt.alloc(), plan)?),
+        Step::Commit(plan) => measure_commit(&rt, plan),
+        Step::File => measure_load(&rt, read_disk(&rt)?),
+        Step::Offer(rounds) => measure_offer(&rt, rounds),
     }
 }

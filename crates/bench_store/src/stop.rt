@@ -1,5 +1,6 @@
 //! Why a step came to no end.
 use std::alloc::AllocError;
+use test_device::AddFault;
 use thiserror::Error;
 
 /// Why a step came to no end.
@@ -7,8 +8,10 @@ use thiserror::Error;
 pub(crate) enum Stop {
     #[error("out of memory")]
     Memory(#[from(alloc)] AllocError),
-    #[error("no such message or group")]
+    #[error("no such message, group or list of ids")]
     NoValue,
     #[error("no store was begun")]
     NotBegun,
+    #[error("no message was added: {0}")]
+    NotAdded(#[from] AddFault),
 }

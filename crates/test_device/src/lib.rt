@@ -7,7 +7,7 @@ mod device;
 mod fault;
 mod payloads;
 
-pub use batches::{batch_of, begins_with_step};
+pub use batches::begins_with_step;
 pub use device::{Device, end_of};
 pub use fault::AddFault;
 pub use payloads::Payloads;

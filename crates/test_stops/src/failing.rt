@@ -8,9 +8,9 @@ use anyhow::Result;
 use client_basic::Bundle;
 use outside::MemDisk;
 use std::alloc::Global;
-use sync_rules::Entry;
+use sync_rules::{Batch, Entry};
 use sync_store::{InitFault, LoadFault, StoreFault};
-use test_device::{AddFault, batch_of, end_of};
+use test_device::{AddFault, end_of};
 
 const CLOSED: Result<(), AddFault> = Err(AddFault::Store(StoreFault::Closed));
 
@@ -140,7 +140,7 @@ fn look_settled(rt: &impl Print, posted: &Posted, stop: u64) -> Result<()> {
 /// A store that is closed answers so, and makes no call of the disk.
 fn stay_closed(rt: &impl Print, alloc: Global, posted: &mut Posted, stop: u64) -> Result<()> {
     let calls = posted.device.disk().calls();
-    let batch = batch_of(alloc, Entry::Author(note(alloc, 1)?))?;
+    let batch = Batch::single(alloc, Entry::Author(note(alloc, 1)?))?;
     let added = posted.device.add(batch);
     compare(rt, &("closed to commit", stop), &added, &CLOSED)?;
     let settled = posted.device.settle();

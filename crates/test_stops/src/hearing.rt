@@ -6,7 +6,7 @@ use session_core::take;
 use std::alloc::Global;
 use sync_ids::{GroupDef, Message, Record, group_id};
 use sync_rules::{Batch, Clients, Entry, Level, Mode, Session};
-use test_device::{Device, batch_of};
+use test_device::Device;
 
 /// The session on which messages arrive.
 const SESSION: Session = Session {
@@ -55,7 +55,7 @@ fn add_one<C: Clients + Drop>(
     device: &mut Device<MemDisk, C>,
     entry: Entry,
 ) -> Result<()> {
-    let batch = batch_of(alloc, entry)?;
+    let batch = Batch::single(alloc, entry)?;
     device.add(batch)?;
     Ok(())
 }

@@ -6,9 +6,9 @@ use anyhow::Result;
 use client_basic::Bundle;
 use outside::MemDisk;
 use std::alloc::Global;
-use sync_rules::Entry;
+use sync_rules::{Batch, Entry};
 use sync_store::StoreFault;
-use test_device::{AddFault, Device, Payloads, batch_of};
+use test_device::{AddFault, Device, Payloads};
 
 /// The end, the frame of 44 bytes, and twice 38 bytes for its settling come to 165.
 const ENOUGH: u64 = 40 + 5 + 44 + 76;
@@ -23,7 +23,7 @@ type Limited = (Device<MemDisk, Bundle>, Result<(), AddFault>);
 
 fn post_within(alloc: Global, limit: u64) -> Result<Limited> {
     let disk = disk_with(alloc, &GROUP, &[])?;
-    let batch = batch_of(alloc, Entry::Author(note(alloc, 0)?))?;
+    let batch = Batch::single(alloc, Entry::Author(note(alloc, 0)?))?;
     let mut device = Device::load(alloc, disk, Bundle::new(), limit.min(ENOUGH))?;
     let added = device.add(batch);
     Ok((device, added))

@@ -7,9 +7,9 @@ use client_basic::Bundle;
 use outside::{MAX_JOURNAL, MemDisk, Pick};
 use std::alloc::Global;
 use sync_ids::{Message, group_id};
-use sync_rules::{Entry, id_of};
+use sync_rules::{Batch, Entry, id_of};
 use sync_store::StoreFault;
-use test_device::{AddFault, Device, batch_of, end_of};
+use test_device::{AddFault, Device, end_of};
 
 /// How many calls a load of the file `GROUP` makes: two syncs, two headers, the length, two for
 /// each of two frames, and the closed gate.
@@ -42,7 +42,7 @@ pub(crate) fn note(alloc: Global, time: u64) -> Result<Message> {
 pub(crate) fn post(alloc: Global, stop: u64) -> Result<Posted> {
     let mut disk = disk_with(alloc, &GROUP, &[])?;
     disk.fail_at(LOAD_CALLS.saturating_add(stop))?;
-    let batch = batch_of(alloc, Entry::Author(note(alloc, 0)?))?;
+    let batch = Batch::single(alloc, Entry::Author(note(alloc, 0)?))?;
     let mut device = Device::load(alloc, disk, Bundle::new(), MAX_JOURNAL)?;
     let added = device.add(batch);
     let settled = device.settle();

@@ -1,0 +1,101 @@
+#!/bin/sh
+# Names that someone chose: a store of messages that arrived, each of which depends on 100 names of its own that nobody holds. The
+# chosen names meet under std's hasher of a fixed seed, as `fixed` below computes it; the others are random. Prints the least processor
+# time of RUNS (3) loads for FEW (5000) and MANY (20000) messages, and that of an OFFER of 1,536 such ids; the program takes it of
+# that step alone. The last lines are `ratio NAME VALUE`: chosen over random at FEW and at MANY messages, how much faster than
+# n log n the load of chosen names grows, and chosen over random for the OFFER.
+set -eu
+cd "$(dirname "$0")/.."
+(cd crates/bench_store && rt run -- load 50 200 1 >/dev/null)
+exec env PYTHONPATH=bench PYTHONDONTWRITEBYTECODE=1 python3 - "${RUNS:-3}" "${FEW:-5000}" "${MANY:-20000}" <<'PY'
+import hashlib, math, os, struct, sys, tempfile
+
+from digests import group_id, message_id
+from measure import least, run
+from store_file import CLOSED, HEADER, OPEN, frame
+
+PROGRAM = os.path.abspath("crates/bench_store/out/bench_store")
+runs, few, many = map(int, sys.argv[1:])
+NAMES, IDS, ROUNDS = 100, 1536, 200
+THREAD = group_id(b"thread", 0, b"")
+WORD, START, MULTIPLIER = (1 << 64) - 1, 0x243F6A8885A308D3, 0x9E3779B97F4A7C15
+
+
+def folded(a, b):
+    return a * b & WORD ^ a * b >> 64
+
+
+def fixed(name):
+    """What std's hasher of a fixed seed makes of 32 bytes."""
+    a, b, c, d = struct.unpack("<4Q", name)
+    return folded(c ^ folded(a ^ START + 32, b ^ MULTIPLIER), d ^ MULTIPLIER)
+
+
+def random_name(n):
+    return hashlib.blake2b(struct.pack(">Q", n), digest_size=32).digest()
+
+
+def chosen_name(n):
+    return random_name(n)[:24] + struct.pack("<Q", MULTIPLIER)
+
+
+KINDS = {"random": random_name, "chosen": chosen_name}
+
+
+def payloads(count, name_of):
+    """Contact 0, the group, its level, a session, and the messages, each with the step that follows it."""
+    yield b"\1\0"
+    yield struct.pack(">BB6sIH", 2, 6, b"thread", 0, 0)
+    yield struct.pack(">BB32sB", 3, 0, THREAD, 2)
+    yield struct.pack(">BIBBIB", 4, 0, 0, 0, 1, 0)
+    for n in range(count):
+        body = bytes([NAMES]) + b"".join(name_of(n * NAMES + k) for k in range(NAMES))
+        take = struct.pack(">BIQ", 5, 0, n)
+        yield take + struct.pack(">BI32sQH", 7, 0, THREAD, n, len(body)) + body
+        yield b"\x08" + message_id(THREAD, n, body)
+
+
+def write_store(folder, count, name_of):
+    """Writes the store's file into a new folder, and the ids of an OFFER beside it; answers the file's length."""
+    os.mkdir(folder)
+    with open(os.path.join(folder, "ids"), "wb") as file:
+        file.write(b"".join(map(name_of, range(IDS))))
+    with open(os.path.join(folder, "bsp.0"), "wb") as file:
+        file.write(HEADER)
+        for payload in payloads(count, name_of):
+            file.write(OPEN + frame(payload)[:-1])
+        file.write(CLOSED)
+        return file.tell()
+
+
+def step(folder, want, *words):
+    """One run, which must print what is wanted; its seconds are those of the step alone, as the program tells them."""
+    told = run(PROGRAM, *words, folder=folder, want=want)
+    return told._replace(seconds=int(told.err) / 1e6)
+
+
+def both(count, want, *words):
+    """The least time of a step over a store of so many messages with random names, and over one with chosen ones."""
+    with tempfile.TemporaryDirectory(dir="/dev/shm") as top:
+        folders = [os.path.join(top, kind) for kind in KINDS]
+        ends = [write_store(folder, count, name_of) for folder, name_of in zip(folders, KINDS.values())]
+        asked = [lambda folder=folder, end=end: step(folder, want.format(end), *words) for folder, end in zip(folders, ends)]
+        return [seconds for seconds, _ in least(runs, *asked)]
+
+
+for kind, name_of in KINDS.items():
+    hashes = len({fixed(name_of(n)) for n in range(few)})
+    print(f"{few} {kind} names have {hashes} hashes under the fixed seed")
+loads = {}
+for count in (few, many):
+    loads[count] = both(count, f"{count} held, 0 delivered, {{}} bytes\n", "file")
+    print("load, {} messages of {} names: random {:.3f} s, chosen {:.3f} s".format(count, NAMES, *loads[count]), flush=True)
+print(f"under the fixed seed the chosen names of {many} messages would be compared {(many * NAMES) ** 2 / 2:.0e} times in a load")
+offer = both(0, "1001 entries\n", "offer", str(ROUNDS))
+print("an OFFER of {} ids: random {:.0f} us, chosen {:.0f} us".format(IDS, *(time / ROUNDS * 1e6 for time in offer)))
+growth = loads[many][1] / loads[few][1] / (many * math.log2(many) / (few * math.log2(few)))
+for count, (random, chosen) in loads.items():
+    print(f"ratio hostile_load_{count} {chosen / random:.2f}")
+print(f"ratio hostile_growth {growth:.2f}")
+print(f"ratio hostile_offer {offer[1] / offer[0]:.2f}")
+PY
