@@ -1,0 +1,8 @@
+mod Fronts
+mod SuitLaws
+mod SafeLaws
+mod CommitLaws
+mod WorkLaws
+mod OutLaws
+mod TakeLaws
+mod NodeLaws

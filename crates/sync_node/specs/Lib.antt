@@ -1,0 +1,12 @@
+pub mod Faults
+pub mod Output
+pub mod Suits
+pub mod Safe
+pub mod Going
+pub mod Joined
+pub mod Working
+pub mod Sending
+pub mod Hearing
+pub mod Taking
+pub mod Node
+pub mod Cited

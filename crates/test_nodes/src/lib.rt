@@ -1,0 +1,5 @@
+//! Two nodes over hosts in memory.
+#![tactic(auto)]
+
+#[cfg(test)]
+mod pairs;
