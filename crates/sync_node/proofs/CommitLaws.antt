@@ -8,7 +8,7 @@ use Rattle.sync_rules.specs.declared.entries.Entry.{Entry}
 use Rattle.sync_rules.specs.declared.entries.Session.{Session}
 use Rattle.sync_rules.specs.Clients.{Meaning}
 use Rattle.sync_rules.specs.Continuing.{legal-append, legal-front, legal-push}
-use Rattle.sync_rules.specs.Facts.{Facts, after_batches, facts}
+use Rattle.sync_rules.specs.Facts.{Facts, after_all, after_batches, facts}
 use Rattle.sync_rules.specs.Legal.{Allowed, AllSettling, GoesOn, Legal}
 use Rattle.sync_rules.specs.Settling.{goes_on_front}
 use Rattle.sync_rules.specs.WorkLaws.{settling_goes_on}
@@ -39,10 +39,10 @@ pub goes_on_by : (clients : Meaning) (more : Journal) (s s' : StoreValue) (o o' 
     → s'.closed ≡ false
     → ((two : Two File) → o.files ≡ Some two → (j : Journal) → Fits clients s j two → Leads clients (P j) (λ whole. whole ≡ j ++ more) s' o o')
     → GoesOnBy clients more s s' o o'
-goes_on_by clients more s s' o o' P run fits open leads told' whole fits' =
+goes_on_by clients more s s' o o' P run fits opened leads told' whole fits' =
     let told = told_before o o' (goes_disk o o' run) told' in
     let before = fits told.two told.files_are in
-    let end = (leads told.two told.files_are before.0 before.1).ends open told'.two told'.files_are in
+    let end = (leads told.two told.files_are before.0 before.1).ends opened told'.two told'.files_are in
     record {
       told = told;
       before = before.0;
@@ -81,11 +81,11 @@ pub safe_commit : FrontsHaveFronts → (clients : Meaning) (b : Begin) (plans la
     → ((two : Two File) → o.files ≡ Some two → (j : Journal) → Fits clients s j two → Adds clients batch result s' o o' j)
     → (Told o → IsOfRun b.first later (heard_on o.links) s.state.facts batch)
     → Safe clients b plans s o → Safe clients b later s' o'
-safe_commit fronts clients b plans later s s' o o' batch result more open run allowed adds of_run =
-    safe_store fronts clients b plans later s s' o o' (λ j whole. WithAtMost j batch whole) (λ j whole. whole ≡ journal_with j batch result) more open run adds
+safe_commit fronts clients b plans later s s' o o' batch result more opened run allowed adds of_run =
+    safe_store fronts clients b plans later s s' o o' (λ j whole. WithAtMost j batch whole) (λ j whole. whole ≡ journal_with j batch result) more opened run adds
     (λ told j whole legal is at_most. one_grown clients b.first later (heard_on o.links) s.state.facts batch allowed (of_run told) j whole legal is at_most)
     (λ told j whole legal is end.
-        one_grown clients b.first later (heard_on o.links) s.state.facts batch allowed (of_run told) j whole legal is (at_most_by j batch result whole end))
+    one_grown clients b.first later (heard_on o.links) s.state.facts batch allowed (of_run told) j whole legal is (at_most_by j batch result whole end))
 
 pub committed : (clients : Meaning) (s s' : StoreValue) (o o' : Outside) (batch : List Entry) (u : Unit {0}) → IsReady clients s o.files → DiskRun o o' → store_commits.Commits s s' batch (Ok u)
     → (s'.closed ≡ false → IsReady clients s' o'.files)
@@ -98,6 +98,11 @@ committed clients s s' o o' batch u ready run answer ready' adds = record {
   ready = ready' answer.2.closed;
   goes_on = goes_on_by clients (batch ∷ []) s s' o o' (λ j whole. WithAtMost j batch whole) run ready.fits answer.2.closed adds;
 }
+
+-- a batch leaves a run safe, where it is one of the run
+abbrev pub CommitsSafe : Meaning → List Entry → StoreValue → StoreValue → Outside → Outside → Type 0
+CommitsSafe clients batch s s' o o' =
+    (b : Begin) (plans later : List Session) → IsFront plans later → (Told o → IsOfRun b.first later (heard_on o.links) s.state.facts batch) → Safe clients b plans s o → Safe clients b later s' o'
 
 -- ---- settling
 
@@ -115,7 +120,7 @@ settling_grown clients first plans heard f more settling j whole legal is end =
 -- the front of settling batches
 settling_front : (clients : Meaning) (f : Facts) (bs cs : Journal) → AllSettling clients f (bs ++ cs) → AllSettling clients f bs
 settling_front clients f [] cs settling = tt
-settling_front clients f (b ∷ bs) cs settling = (settling.0, settling_front clients _ bs cs settling.1)
+settling_front clients f (b ∷ bs) cs settling = (settling.0, settling_front clients (after_all f b) bs cs settling.1)
 
 between_grown : (clients : Meaning) (first : ℕ) (plans : List Session) (heard : ℕ → List ℕ) (f : Facts) (more : Journal) → AllSettling clients f more
     → (j whole : Journal) → Legal clients j → facts j ≡ f → IsBetween j more whole → Grows clients first plans heard j whole
@@ -125,8 +130,8 @@ between_grown clients first plans heard f more settling j whole legal is between
 
 pub safe_settle : FrontsHaveFronts → (clients : Meaning) (b : Begin) (plans : List Session) (s s' : StoreValue) (o o' : Outside) (result : Result (Unit {0}) StoreFault)
     → s.closed ≡ false → DiskRun o o' → HasSettled clients s s' result o o' → Safe clients b plans s o → Safe clients b plans s' o'
-safe_settle fronts clients b plans s s' o o' result open run has =
-    safe_store fronts clients b plans plans s s' o o' (λ j whole. IsBetween j has.more whole) (λ j whole. whole ≡ j ++ has.more) (front_same plans plans refl) open run has.comes.leads
+safe_settle fronts clients b plans s s' o o' result opened run has =
+    safe_store fronts clients b plans plans s s' o o' (λ j whole. IsBetween j has.more whole) (λ j whole. whole ≡ j ++ has.more) (front_same plans plans refl) opened run has.comes.leads
     (λ told j whole legal is between. between_grown clients b.first plans (heard_on o.links) s.state.facts has.more has.comes.settling j whole legal is between)
     (λ told j whole legal is end. settling_grown clients b.first plans (heard_on o.links) s.state.facts has.more has.comes.settling j whole legal is end)
 

@@ -5,4 +5,4 @@ mod CommitLaws
 mod WorkLaws
 mod OutLaws
 mod TakeLaws
-mod NodeLaws
+mod StartLaws

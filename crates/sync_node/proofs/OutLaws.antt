@@ -10,7 +10,7 @@ use Rattle.outside.specs.Outside.{Outside, LinkCall}
 use Rattle.outside.specs.Runs.{IsFront, OthersKeep, Told, answers_at, front_same, grow_send, heard_bytes, others_same, others_send, others_then, sent_here}
 use Rattle.record_grammar.specs.Laws.{FrontsHaveFronts}
 use Rattle.record_grammar.specs.Spelling.{spelled}
-use Rattle.record_stream.specs.Reading.{ReadsOn, fresh}
+use Rattle.record_stream.specs.Reading.{AwaitsBytes, ReadsOn, fresh}
 use Rattle.sync_ids.specs.declared.records.Record.{Record}
 use Rattle.sync_rules.specs.declared.entries.Entry.{Entry}
 use Rattle.sync_rules.specs.declared.entries.Entry.TheVariants as entry
@@ -30,14 +30,16 @@ use Rattle.sync_store.specs.Ready.{IsReady}
 use Rattle.sync_node.specs.declared.link.Link.{Link}
 use Rattle.sync_node.specs.declared.link.LinkEnd.{LinkEnd}
 use Rattle.sync_node.specs.declared.link.LinkEnd.TheVariants as link_end
+use Rattle.sync_node.specs.Ends.{MaySend}
 use Rattle.sync_node.specs.Going.{Commits, Elsewhere, Goes, HasOthers}
 use Rattle.sync_node.specs.Joined.{HasTaken, IsAllSent, IsJoined}
 use Rattle.sync_node.specs.Output.{Journal, heard_on, output, sent_on}
 use Rattle.sync_node.specs.Safe.{Begin, Safe}
 use Rattle.sync_node.specs.Sending.{EndsBy, SendsOn}
 use Rattle.sync_node.specs.Suits.{IsOfRun}
-use Rattle.sync_node.specs.Working.{IsAble, StaysSafe, Works}
-use Rattle.sync_node.proofs.SafeLaws.{HasOutput, goes_link, safe_send, told_before}
+use Rattle.sync_node.specs.Working.{IsAble, StaysSafe, Waits, Works}
+use Rattle.sync_node.proofs.CommitLaws.{CommitsSafe}
+use Rattle.sync_node.proofs.SafeLaws.{goes_link, safe_send, told_before}
 use Rattle.sync_node.proofs.SuitLaws.{output_append}
 use Rattle.sync_node.proofs.WorkLaws.{goes_then}
 
@@ -179,8 +181,8 @@ out_works fronts stand clients link now what l l' s s1 o o1 o2 bytes commits saf
         safe = λ joined b plans number was.
             safe_send fronts stand clients b plans s1 o1 o2 link bytes sends.result commits.ready.still_open roomy inside sends.call sends.sends
             (λ told1 whole fits.
-                front_same _ _ (subst (λ (k : ℕ). output whole k ≡ sent_on o1.links link ++ bytes) number
-                (output_behind clients l.session.number link now what s s1 o o1 bytes commits is_bytes (joined.sent unfailed) told1 whole fits)))
+            front_same _ _ (subst (λ (k : ℕ). output whole k ≡ sent_on o1.links link ++ bytes) number
+            (output_behind clients l.session.number link now what s s1 o o1 bytes commits is_bytes (joined.sent unfailed) told1 whole fits)))
             (safe b plans plans (front_same plans plans refl) (λ told. omega (arith, number)) was);
       };
     }
@@ -196,3 +198,43 @@ out_able clients link now what l l' s s1 o o1 o2 bytes able commits sends =
       known = subst (λ (x : Session). session_at s1.state.facts.sessions x.number ≡ Some x) (sym (same_session sends.result l l' sends.ends)) known;
       dialled = omega (arith, able.dialled, commits.goes.links.dialled, (goes_send o1 o2 link bytes l l' sends).links.dialled);
     }
+
+-- ---- the same of the batch that was made
+
+pub put_works : FrontsHaveFronts → ImagesStand → (clients : Meaning) (link now : ℕ) (what : Out) (l l' : Link) (s s1 : StoreValue) (o o1 o2 : Outside) (bytes : List ℕ) (batch : List Entry)
+    → batch ≡ out_batch l.session.number now what → Commits clients (batch ∷ []) s s1 o o1 → CommitsSafe clients batch s s1 o o1
+    → bytes ≡ spelled (records_of s.state.facts.held what) → s1.end + room_of s1.state.facts ≤ most_bytes → link < o.links.dialled → l.end ≢ link_end.Failed
+    → SendsOn link bytes l l' o1 o2 → Works clients link [] [] l l' s s1 o o2
+put_works fronts stand clients link now what l l' s s1 o o1 o2 bytes batch is commits safe =
+    out_works fronts stand clients link now what l l' s s1 o o1 o2 bytes (subst (λ (b : List Entry). Commits clients (b ∷ []) s s1 o o1) is commits)
+    (subst (λ (b : List Entry). CommitsSafe clients b s s1 o o1) is safe)
+
+pub put_able : (clients : Meaning) (link now : ℕ) (what : Out) (l l' : Link) (s s1 : StoreValue) (o o1 o2 : Outside) (bytes : List ℕ) (batch : List Entry)
+    → batch ≡ out_batch l.session.number now what → IsAble clients link l.session s o → Commits clients (batch ∷ []) s s1 o o1 → SendsOn link bytes l l' o1 o2 → IsAble clients link l'.session s1 o2
+put_able clients link now what l l' s s1 o o1 o2 bytes batch is able commits =
+    out_able clients link now what l l' s s1 o o1 o2 bytes able (subst (λ (b : List Entry). Commits clients (b ∷ []) s s1 o o1) is commits)
+
+pub put_stays : (clients : Meaning) (link now : ℕ) (what : Out) (l : Link) (s s1 : StoreValue) (o o1 : Outside) (batch : List Entry) → batch ≡ out_batch l.session.number now what
+    → CommitsSafe clients batch s s1 o o1 → StaysSafe clients link [] l s s1 o o1
+put_stays clients link now what l s s1 o o1 batch is safe =
+    let safely : CommitsSafe clients (out_batch l.session.number now what) s s1 o o1 = subst (λ (b : List Entry). CommitsSafe clients b s s1 o o1) is safe in
+    record { safe = λ joined b plans number was. safely b plans plans (front_same plans plans refl) (λ told. omega (arith, number)) was }
+
+pub put_waits : (link : ℕ) (bytes : List ℕ) (l l' : Link) (o o' : Outside) → SendsOn link bytes l l' o o' → Waits l → Waits l'
+put_waits link bytes l l' o o' sends waits going = elim (kept_by sends.result l l' sends.ends) [
+  | inl same ↦ subst (λ (x : Link). AwaitsBytes x.reader) (sym same) (waits (ap (λ (x : Link). x.end) (sym same) ∙ going))
+  | inr failed ↦ absurd (let e : link_end.Failed ≡ link_end.Going = sym (ap (λ (x : Link). x.end) failed) ∙ going in cc)
+]
+
+-- ---- a link that may be sent on
+
+pub may_unfailed : (e : LinkEnd) → MaySend e → e ≢ link_end.Failed
+may_unfailed link_end.Going may = λ failed. cc
+may_unfailed link_end.Clean may = λ failed. cc
+may_unfailed _ may = absurd may
+
+pub failed_then : (link : ℕ) (bytes : List ℕ) (l l' : Link) (o o' : Outside) → SendsOn link bytes l l' o o' → l.end ≡ link_end.Going → (MaySend l'.end → ⊥) → l'.end ≡ link_end.Failed
+failed_then link bytes l l' o o' sends going closed = elim (kept_by sends.result l l' sends.ends) [
+  | inl same ↦ absurd (closed (subst MaySend (sym (ap (λ (x : Link). x.end) same ∙ going)) tt))
+  | inr failed ↦ ap (λ (x : Link). x.end) failed
+]

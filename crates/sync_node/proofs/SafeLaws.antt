@@ -1,6 +1,6 @@
 -- The three kinds of step that keep a run safe: batches of the run that a store commits; calls that send nothing; and a send of
 -- what the journal has as output.
-use Rattle.std.proofs.Common.{◌≡◌, ◌⊎◌, ℕ, ◌+◌, ◌<◌, ◌≤◌, false, List, [], ◌∷◌, ◌++◌, take, length, refl, sym, ap, ◌∙◌, subst, inl, inr, arith, Some, Result, is_some, slice_index_or}
+use Rattle.std.proofs.Common.{◌≡◌, ◌⊎◌, ℕ, ◌+◌, ◌<◌, ◌≤◌, false, List, [], ◌∷◌, ◌++◌, take, length, refl, sym, ap, ◌∙◌, subst, inl, inr, arith, true, Option, Some, None, Result, is_some, slice_index_or}
 use Rattle.std.proofs.lemmas.Bool.{cases_eq}
 use Rattle.outside.specs.declared.failed.Failed.{Failed}
 use Rattle.outside.specs.Files.{Two, File}
@@ -9,7 +9,6 @@ use Rattle.outside.specs.Host.{Sends, SendsPart}
 use Rattle.outside.specs.Links.{Links, sent_of}
 use Rattle.outside.specs.Outside.{Outside, Moment, DiskRun, LinkCall, QuietCall}
 use Rattle.outside.specs.Runs.{IsFront, LinksGrow, SendMoment, Told, front_bytes, front_same, front_then, grow_same, grow_send, others_send, quiet_moments, send_moments, sent_at, went_out, sent_at-with_sent, answers_at}
-use Rattle.outside.specs.Steps.{told_both}
 use Rattle.record_grammar.specs.Laws.{FrontsHaveFronts}
 use Rattle.sync_rules.specs.declared.entries.Session.{Session}
 use Rattle.sync_rules.specs.Clients.{Meaning}
@@ -22,6 +21,7 @@ use Rattle.sync_store.specs.Moments.{JournalMoment, Leads}
 use Rattle.sync_node.specs.Going.{Goes}
 use Rattle.sync_node.specs.Output.{AreOutput, Journal, heard_on, output, sent_on}
 use Rattle.sync_node.specs.Safe.{Begin, IsCovered, IsCoveredNow, IsEarly, Safe}
+use Rattle.sync_node.specs.Starting.{HasOutput}
 use Rattle.sync_node.specs.Suits.{SuitsRun}
 use Rattle.sync_node.proofs.Fronts.{front_taken}
 use Rattle.sync_node.proofs.SuitLaws.{Grows, HearsMore, outputs_grown, suits_grown, suits_more}
@@ -36,6 +36,10 @@ goes_disk o o' run = record { same_files = run.same_told; later = run.later; lin
 
 pub goes_link : (during : Moment → Type 0) (o o' : Outside) → LinkCall during o o' → LinksGrow o.links o'.links → Goes o o'
 goes_link during o o' call grows = record { same_files = ap is_some call.same_files; later = omega (arith, call.same_faults); links = grows }
+
+told_both : {A : Type 0} (o : Option A) → is_some o ≡ true → (a : A) × (o ≡ Some a)
+told_both None is = cc
+told_both (Some a) is = (a, refl)
 
 pub told_before : (o o' : Outside) → Goes o o' → Told o' → Told o
 told_before o o' goes told =
@@ -86,7 +90,7 @@ pub safe_store : FrontsHaveFronts → (clients : Meaning) (b : Begin) (plans pla
     → (Told o → AllGrow clients b.first plans' (heard_on o.links) s P)
     → (Told o → AllGrow clients b.first plans' (heard_on o.links) s Q)
     → Safe clients b plans s o → Safe clients b plans' s' o'
-safe_store fronts clients b plans plans' s s' o o' P Q more open run leads grow_moments grow_end safe =
+safe_store fronts clients b plans plans' s s' o o' P Q more opened run leads grow_moments grow_end safe =
     let back : Told o' → Told o = told_before o o' (goes_disk o o' run) in
     let hears : HearsMore (heard_on o.links) (heard_on o'.links) = heard_more o.links o'.links (grow_same o.links o'.links run.same_links) in
     let same : HearsMore (heard_on o.links) (heard_on o.links) = λ link. front_same _ _ refl in
@@ -94,12 +98,12 @@ safe_store fronts clients b plans plans' s s' o o' P Q more open run leads grow_
     record {
       later = λ told'.
           let told = back told' in
-          let now = safe.now open told in
+          let now = safe.now opened told in
           let led = leads told.two told.files_are now.whole now.fits in
           omega (arith, safe.later told, led.moments.later);
       moments = λ told' m w.
           let told = back told' in
-          let now = safe.now open told in
+          let now = safe.now opened told in
           let led = leads told.two told.files_are now.whole now.fits in
           let suits = suits_more fronts clients b.journal b.first plans plans' _ _ more same now.whole now.suits in
           elim (led.moments.before b.clock m (safe.later told) w) [
@@ -109,11 +113,11 @@ safe_store fronts clients b plans plans' s s' o o' P Q more open run leads grow_
                 (inr (moment_covered clients b plans' (heard_on o.links) now.whole o.links (P now.whole) m
                 (λ whole has. grow_moments told now.whole whole now.fits.legal now.fits.facts_are has) suits now.has_sent during))
           ];
-      now = λ open' told'.
+      now = λ opened' told'.
           let told = back told' in
-          let now = safe.now open told in
+          let now = safe.now opened told in
           let led = leads told.two told.files_are now.whole now.fits in
-          let end = led.ends open' told'.two told'.files_are in
+          let end = led.ends opened' told'.two told'.files_are in
           let grows = grow_end told now.whole end.0 now.fits.legal now.fits.facts_are end.1 in
           let suits = suits_more fronts clients b.journal b.first plans plans' _ _ more same now.whole now.suits in
           let has = outputs_grown clients b.first plans' (heard_on o.links) now.whole end.0 (sent_on o.links) grows now.has_sent in
@@ -144,9 +148,9 @@ safe_calm fronts clients b plans s o o' call grows same_told safe =
                 safe.moments told m
                 (o.since b.clock m (safe.later told) (o.is_now told.two m told.files_are (quiet_moments o o' told.two call same_told told.files_are m during)))
           ]);
-      now = λ open told'.
+      now = λ opened told'.
           let told = back told' in
-          let now = safe.now open told in
+          let now = safe.now opened told in
           let two : told'.two ≡ told.two = cc (told'.files_are, told.files_are, call.same_files) in
           record {
             whole = now.whole;
@@ -158,16 +162,11 @@ safe_calm fronts clients b plans s o o' call grows same_told safe =
 
 -- ---- a send
 
--- bytes go on a link behind those sent, as output of its session, in whatever journal the disk fits the store with
-abbrev pub HasOutput : Meaning → ℕ → ℕ → List ℕ → StoreValue → Outside → Type 0
-HasOutput clients session link bytes s o =
-    (told : Told o) (whole : Journal) → Fits clients s whole told.two → IsFront (sent_on o.links link ++ bytes) (output whole session)
-
 pub safe_send : FrontsHaveFronts → ImagesStand → (clients : Meaning) (b : Begin) (plans : List Session) (s : StoreValue) (o o' : Outside) (link : ℕ) (bytes : List ℕ) (result : Result (Unit {0}) Failed)
     → s.closed ≡ false → s.end + room_of s.state.facts ≤ most_bytes → link < o.links.dialled
     → LinkCall (SendsPart o link bytes) o o' → Sends link bytes result o.links o'.links → HasOutput clients (b.first + link) link bytes s o
     → Safe clients b plans s o → Safe clients b plans s o'
-safe_send fronts stand clients b plans s o o' link bytes result open roomy within call sends output_has safe =
+safe_send fronts stand clients b plans s o o' link bytes result opened roomy within call sends output_has safe =
     let back : Told o' → Told o = told_before o o' (goes_link _ o o' call (grow_send link bytes result o.links o'.links sends)) in
     let hears : HearsMore (heard_on o.links) (heard_on o'.links) = heard_more o.links o'.links (grow_send link bytes result o.links o'.links sends) in
     let none : IsFront plans plans = front_same plans plans refl in
@@ -177,7 +176,7 @@ safe_send fronts stand clients b plans s o o' link bytes result open roomy withi
       later = λ told'. omega (arith, safe.later (back told'), call.time.later);
       moments = λ told' m w.
           let told = back told' in
-          let now = safe.now open told in
+          let now = safe.now opened told in
           covered_more fronts clients b plans plans _ _ none hears m (elim (call.time.nothing_else b.clock m (safe.later told) w) [
             | inl old ↦ safe.moments told m old
             | inr during ↦
@@ -194,9 +193,9 @@ safe_send fronts stand clients b plans s o o' link bytes result open roomy withi
                   ];
                 })
           ]);
-      now = λ open' told'.
+      now = λ opened' told'.
           let told = back told' in
-          let now = safe.now open told in
+          let now = safe.now opened told in
           let two : told'.two ≡ told.two = cc (told'.files_are, told.files_are, call.same_files) in
           let out = went_out link bytes result o.links o'.links sends in
           let inside : link < length told.links = omega (arith, within, o.all_told told.links told.links_are) in

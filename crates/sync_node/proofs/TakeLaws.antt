@@ -1,11 +1,11 @@
 -- A record that is taken.
-use Rattle.std.proofs.Common.{◌≡◌, ◌≢◌, ◌⊎◌, ℕ, suc, zero, ◌+◌, ◌<◌, ◌≤◌, false, true, nat_eq, cond, List, [], ◌∷◌, ◌++◌, length, refl, sym, ap, ◌∙◌, subst, inl, inr, arith, Some, None, append-nil, append_assoc, eq-eqb}
+use Rattle.std.proofs.Common.{◌≡◌, ◌≢◌, ◌⊎◌, ℕ, suc, zero, ◌+◌, ◌<◌, ◌≤◌, Bool, false, true, nat_eq, cond, List, [], ◌∷◌, ◌++◌, length, refl, sym, ap, ◌∙◌, subst, inl, inr, arith, Option, Some, None, is_some, append-nil, append_assoc, eq-eqb}
 use Rattle.std.specs.List.{slice_get}
 use Rattle.std.proofs.lemmas.Bool.{ne_eqb}
 use Rattle.std.proofs.lemmas.List.{length-append}
 use Rattle.outside.specs.Links.{Links}
 use Rattle.outside.specs.Outside.{Outside}
-use Rattle.outside.specs.Runs.{Told, others_same}
+use Rattle.outside.specs.Runs.{Told, front_same, others_same}
 use Rattle.record_grammar.specs.Laws.{RecordsJoin}
 use Rattle.record_grammar.specs.Spelling.{spelled}
 use Rattle.record_grammar.specs.Stream.{items, records, records_of}
@@ -13,13 +13,15 @@ use Rattle.record_grammar.specs.declared.stream.Item.{Item}
 use Rattle.record_grammar.specs.declared.stream.Item.TheVariants as item
 use Rattle.record_stream.specs.Pieces.{ReadingsFollow}
 use Rattle.record_stream.specs.Reading.{ReadsOn, ReaderState, fresh}
+use Rattle.sync_ids.specs.Records.{IsRecord}
 use Rattle.sync_ids.specs.declared.records.Record.{Record}
 use Rattle.sync_ids.specs.declared.records.Record.TheVariants as record_kind
 use Rattle.session_core.specs.Taking.{take_of}
 use Rattle.sync_rules.specs.declared.entries.Entry.{Entry}
 use Rattle.sync_rules.specs.declared.entries.Session.{Session}
+use Rattle.sync_rules.specs.Allows.{is_settling_kind}
 use Rattle.sync_rules.specs.Clients.{Meaning}
-use Rattle.sync_rules.specs.Facts.{Facts, after_all, after_batches, facts, takes_of}
+use Rattle.sync_rules.specs.Facts.{Facts, after_all, after_batches, contact_in, contact_of, facts, session_at, takes_of}
 use Rattle.sync_rules.specs.Growth.{OnlySettles, TakesOne, output_in, output_of}
 use Rattle.sync_rules.specs.Legal.{Allowed, AllSettling, Legal}
 use Rattle.sync_rules.specs.OutputLaws.{settling_silent, silent_adds_nothing, take_silent}
@@ -30,16 +32,18 @@ use Rattle.sync_store.specs.Fitting.{Fits}
 use Rattle.sync_node.specs.declared.link.Link.{Link}
 use Rattle.sync_node.specs.declared.link.LinkEnd.{LinkEnd}
 use Rattle.sync_node.specs.declared.link.LinkEnd.TheVariants as link_end
-use Rattle.sync_node.specs.Going.{Commits, Elsewhere, HasOthers}
+use Rattle.sync_node.specs.Going.{Commits, Elsewhere, HasOthers, Settles}
 use Rattle.sync_node.specs.Hearing.{Learns, nonce_with}
 use Rattle.sync_node.specs.Joined.{HasTaken, IsAllSent, IsJoined, first_nonce, known_nonce}
 use Rattle.sync_node.specs.Output.{Journal, heard_on, output, sent_on}
 use Rattle.sync_node.specs.Safe.{Begin, Safe}
-use Rattle.sync_node.specs.Taking.{TakesOn, TakesSafe, next_take}
-use Rattle.sync_node.specs.Working.{StaysSafe, Works}
+use Rattle.sync_node.specs.Suits.{IsOfRun}
+use Rattle.sync_node.specs.Taking.{IsOpenFor, LeavesLess, TakesOn, TakesSafe, next_take}
+use Rattle.sync_node.specs.Working.{IsAble, StaysSafe, Works}
+use Rattle.sync_node.proofs.CommitLaws.{CommitsSafe}
 use Rattle.sync_node.proofs.OutLaws.{output_with}
 use Rattle.sync_node.proofs.SafeLaws.{told_before}
-use Rattle.sync_node.proofs.WorkLaws.{works_link}
+use Rattle.sync_node.proofs.WorkLaws.{goes_then, works_link}
 
 -- ---- a record sends nothing
 
@@ -156,7 +160,101 @@ known_behind : (own : Option (List ℕ)) (rs : List Record) (r : Record) → kno
 known_behind None rs r = nonce_behind rs r
 known_behind (Some nonce) rs r = refl
 
+-- ---- a record that is committed and settled
+
+-- the batch of a session's next record may follow
+pub take_allowed : (clients : Meaning) (session : Session) (k : ℕ) (r : Record) (s : StoreValue) (o : Outside) (batch : List Entry) → IsOpenFor clients session s o → IsRecord r
+    → k ≡ takes_of s.state.facts.takes session.number → batch ≡ take_of s.state.facts session k r → Allowed clients s.state.facts batch
+take_allowed clients session k r s o batch may within numbered is =
+    let contact : contact_of s.state.facts.sessions session.number ≡ session.contact = ap contact_in may.known in
+    subst (λ (b : List Entry). Allowed clients s.state.facts b) (sym is) (
+      may.settled,
+      record {
+        known_session = ap is_some may.known;
+        numbered = numbered;
+        read = r;
+        within = within;
+        taken_so = ap (λ c. taken_from s.state.facts session.number c r) (sym contact);
+      },
+    )
+
+pub take_kind : (f : Facts) (session : Session) (k : ℕ) (r : Record) (batch : List Entry) → batch ≡ take_of f session k r → is_settling_kind batch ≡ false
+take_kind f session k r batch is = ap is_settling_kind is
+
+pub take_is : (f : Facts) (session : Session) (k : ℕ) (r : Record) (batch : List Entry) → k ≡ takes_of f.takes session.number → batch ≡ take_of f session k r → batch ≡ next_take f session r
+take_is f session k r batch numbered is = is ∙ ap (λ n. take_of f session n r) numbered
+
+commits_then : (clients : Meaning) (batch : List Entry) (more : Journal) (s s1 s2 : StoreValue) (o o1 o2 : Outside) → Commits clients (batch ∷ []) s s1 o o1 → Commits clients more s1 s2 o1 o2
+    → Commits clients (batch ∷ more) s s2 o o2
+commits_then clients batch more s s1 s2 o o1 o2 first second = record {
+  goes = goes_then o o1 o2 first.goes second.goes;
+  same_links = second.same_links ∙ first.same_links;
+  facts = second.facts ∙ ap (λ (f : Facts). after_batches f more) first.facts;
+  ready = second.ready;
+  goes_on = λ told2 whole fits.
+      let two = second.goes_on told2 whole fits in
+      let one = first.goes_on two.told two.before two.fits in
+      record { told = one.told; before = one.before; fits = one.fits; is = two.is ∙ (ap (λ (l : Journal). l ++ more) one.is ∙ append_assoc one.before (batch ∷ []) more) };
+}
+
+pub taken_on : (clients : Meaning) (session : Session) (r : Record) (s s1 s2 : StoreValue) (o o1 o2 : Outside) (batch : List Entry) → batch ≡ next_take s.state.facts session r
+    → Allowed clients s.state.facts batch → Commits clients (batch ∷ []) s s1 o o1 → Settles clients s1 s2 o1 o2 → TakesOn clients session r s s2 o o2
+taken_on clients session r s s1 s2 o o1 o2 batch is allowed commits settles =
+    let first : Commits clients (next_take s.state.facts session r ∷ []) s s1 o o1 = subst (λ (b : List Entry). Commits clients (b ∷ []) s s1 o o1) is commits in
+    record {
+      allowed = subst (λ (b : List Entry). Allowed clients s.state.facts b) is allowed;
+      more = settles.more;
+      settling = subst (λ (f : Facts). AllSettling clients f settles.more) first.facts settles.settling;
+      commits = commits_then clients (next_take s.state.facts session r) settles.more s s1 s2 o o1 o2 first settles.commits;
+      settled = settles.settled;
+    }
+
+-- the batch is one of the run, where the record is the next that was heard
+take_of_run : (first : ℕ) (heard : ℕ → List ℕ) (plans : List Session) (f : Facts) (session : Session) (r : Record) (link : ℕ) (batch : List Entry) → contact_of f.sessions session.number ≡ session.contact
+    → batch ≡ next_take f session r → session.number ≡ first + link → slice_get (records (heard link)) (takes_of f.takes session.number) ≡ Some r → IsOfRun first plans heard f batch
+take_of_run first heard plans f session r link batch contact is number next =
+    subst (λ (b : List Entry). IsOfRun first plans heard f b) (sym is)
+    (record { link = link; on = number; read = r; next = next; taken_so = ap (λ c. taken_from f session.number c r) (sym contact) })
+
+pub take_safe : (clients : Meaning) (session : Session) (r : Record) (s s1 : StoreValue) (o o1 : Outside) (batch : List Entry) → IsOpenFor clients session s o
+    → batch ≡ next_take s.state.facts session r → CommitsSafe clients batch s s1 o o1 → TakesSafe clients session r s s1 o o1
+take_safe clients session r s s1 o o1 batch may is safe = record {
+  safe = λ b plans link number next was.
+      safe b plans plans (front_same plans plans refl)
+      (λ told. take_of_run b.first (heard_on o.links) plans s.state.facts session r link batch (ap contact_in may.known) is number (next told)) was;
+}
+
+pub take_safe_then : (clients : Meaning) (session : Session) (r : Record) (s s1 s2 : StoreValue) (o o1 o2 : Outside) → TakesSafe clients session r s s1 o o1
+    → ((b : Begin) (plans : List Session) → Safe clients b plans s1 o1 → Safe clients b plans s2 o2) → TakesSafe clients session r s s2 o o2
+take_safe_then clients session r s s1 s2 o o1 o2 first second = record { safe = λ b plans link number next was. second b plans (first.safe b plans link number next was) }
+
+pub take_safe_none : (clients : Meaning) (session : Session) (r : Record) (s : StoreValue) (o : Outside) → TakesSafe clients session r s s o o
+take_safe_none clients session r s o = record { safe = λ b plans link number next was. was }
+
+-- behind it the session may go on
+pub take_able : (clients : Meaning) (link : ℕ) (session session' : Session) (r : Record) (s s' : StoreValue) (o o' : Outside) → session' ≡ session → IsAble clients link session s o → TakesOn clients session r s s' o o'
+    → IsAble clients link session' s' o'
+take_able clients link session session' r s s' o o' same able takes =
+    let sessions : s'.state.facts.sessions ≡ s.state.facts.sessions = (settled_only clients session r s s' o o' takes).sessions ∙ (one_more clients session r s s' o o' takes).sessions in
+    record {
+      ready = takes.commits.ready;
+      settled = takes.settled;
+      known = subst (λ (x : Session). session_at s'.state.facts.sessions x.number ≡ Some x) (sym same) (ap (λ t. session_at t session.number) sessions ∙ able.known);
+      dialled = omega (arith, able.dialled, takes.commits.goes.links.dialled);
+    }
+
 -- ---- work
+
+take_stays : RecordsJoin → ReadingsFollow → (clients : Meaning) (link : ℕ) (left left' : List ℕ) (l l1 : Link) (place : ℕ) (r : Record) (s s' : StoreValue) (o o' : Outside)
+    → l.end ≡ link_end.Going → ReadsOn left l.reader (item.One place r ∷ []) left' l1.reader → TakesSafe clients l.session r s s' o o'
+    → IsJoined clients link left l s o → (b : Begin) (plans : List Session) → l.session.number ≡ b.first + link → Safe clients b plans s o → Safe clients b plans s' o'
+take_stays join follow clients link left left' l l1 place r s s' o o' asked reads safe joined b plans number was =
+    safe.safe b plans link number
+    (λ told.
+        let had = joined.taken asked told in
+        let read = follow (heard_on o.links link) left left' fresh l.reader l1.reader had.has (item.One place r ∷ []) had.reads reads in
+        ap (λ k. slice_get (records (heard_on o.links link)) k) had.count ∙ is_next join (heard_on o.links link) left' l1.reader had.has place r read)
+    was
 
 pub take_works : RecordsJoin → ReadingsFollow → (clients : Meaning) (link : ℕ) (left left' : List ℕ) (l l1 l2 : Link) (place : ℕ) (r : Record) (s s' : StoreValue) (o o' : Outside)
     → l.end ≡ link_end.Going → l1.session ≡ l.session → l1.nonce ≡ l.nonce → ReadsOn left l.reader (item.One place r ∷ []) left' l1.reader → Learns place r l1 l2
@@ -206,14 +304,68 @@ take_works join follow clients link left left' l l1 l2 place r s s' o o' asked s
       };
       stays = record { safe = take_stays join follow clients link left left' l l1 place r s s' o o' asked reads safe };
     }
-  where
-    take_stays : RecordsJoin → ReadingsFollow → (clients : Meaning) (link : ℕ) (left left' : List ℕ) (l l1 : Link) (place : ℕ) (r : Record) (s s' : StoreValue) (o o' : Outside)
-        → l.end ≡ link_end.Going → ReadsOn left l.reader (item.One place r ∷ []) left' l1.reader → TakesSafe clients l.session r s s' o o'
-        → IsJoined clients link left l s o → (b : Begin) (plans : List Session) → l.session.number ≡ b.first + link → Safe clients b plans s o → Safe clients b plans s' o'
-    take_stays join follow clients link left left' l l1 place r s s' o o' asked reads safe joined b plans number was =
-        safe.safe b plans link number
-        (λ told.
-            let had = joined.taken asked told in
-            let read = follow (heard_on o.links link) left left' fresh l.reader l1.reader had.has (item.One place r ∷ []) had.reads reads in
-            ap (λ k. slice_get (records (heard_on o.links link)) k) had.count ∙ is_next join (heard_on o.links link) left' l1.reader had.has place r read)
-        was
+
+-- a skipped record is passed over
+pub skip_works : RecordsJoin → ReadingsFollow → (clients : Meaning) (link : ℕ) (left left' : List ℕ) (l l' : Link) (place type_byte len : ℕ) (s : StoreValue) (o : Outside) → l'.session ≡ l.session
+    → l'.nonce ≡ l.nonce → l'.end ≡ l.end → ReadsOn left l.reader (item.Skipped place type_byte len ∷ []) left' l'.reader → Works clients link left left' l l' s s o o
+skip_works join follow clients link left left' l l' place type_byte len s o session nonce end reads =
+    works_link clients link left left' l l' s o session (λ joined. record {
+      sent = λ unfailed. subst (λ (x : Session). IsAllSent clients x.number link s o) (sym session) (joined.sent (λ failed. unfailed (end ∙ failed)));
+      taken = λ going told.
+          let was = joined.taken (sym end ∙ going) told in
+          let past = records_past join was.has place type_byte len in
+          record {
+            has = was.has ++ item.Skipped place type_byte len ∷ [];
+            reads = follow (heard_on o.links link) left left' fresh l.reader l'.reader was.has (item.Skipped place type_byte len ∷ []) was.reads reads;
+            count = ap (λ (x : Session). takes_of s.state.facts.takes x.number) session ∙ (was.count ∙ ap (λ (rs : List Record). length rs) (sym past));
+            nonce = nonce ∙ (was.nonce ∙ (ap (λ (x : Session). known_nonce x.nonce (records_of was.has)) (sym session) ∙ ap (λ (rs : List Record). known_nonce l'.session.nonce rs) (sym past)));
+          };
+    })
+
+-- no item was given
+pub more_works : ReadingsFollow → (clients : Meaning) (link : ℕ) (left left' : List ℕ) (l l' : Link) (s : StoreValue) (o : Outside) → l'.session ≡ l.session
+    → l'.nonce ≡ l.nonce → l'.end ≡ l.end → ReadsOn left l.reader [] left' l'.reader → Works clients link left left' l l' s s o o
+more_works follow clients link left left' l l' s o session nonce end reads =
+    works_link clients link left left' l l' s o session (λ joined. record {
+      sent = λ unfailed. subst (λ (x : Session). IsAllSent clients x.number link s o) (sym session) (joined.sent (λ failed. unfailed (end ∙ failed)));
+      taken = λ going told.
+          let was = joined.taken (sym end ∙ going) told in
+          record {
+            has = was.has ++ [];
+            reads = follow (heard_on o.links link) left left' fresh l.reader l'.reader was.has [] was.reads reads;
+            count = ap (λ (x : Session). takes_of s.state.facts.takes x.number) session ∙ (was.count ∙ ap (λ (i : List Item). length (records_of i)) (sym (append-nil was.has)));
+            nonce = nonce ∙ (was.nonce ∙ (ap (λ (x : Session). known_nonce x.nonce (records_of was.has)) (sym session) ∙ ap (λ (i : List Item). known_nonce l'.session.nonce (records_of i)) (sym (append-nil was.has))));
+          };
+    })
+
+-- ---- the same of the session that the link has then
+
+pub open_for : (clients : Meaning) (link : ℕ) (session session' : Session) (s : StoreValue) (o : Outside) → session' ≡ session → IsAble clients link session s o → IsOpenFor clients session' s o
+open_for clients link session session' s o same able =
+    subst (λ (x : Session). IsOpenFor clients x s o) (sym same) (record { ready = able.ready; settled = able.settled; known = able.known })
+
+pub taken_able : (clients : Meaning) (link : ℕ) (session session' : Session) (r : Record) (s s' : StoreValue) (o o' : Outside) → session' ≡ session → IsAble clients link session s o → TakesOn clients session' r s s' o o'
+    → IsAble clients link session' s' o'
+taken_able clients link session session' r s s' o o' same able takes =
+    take_able clients link session session' r s s' o o' same able (subst (λ (x : Session). TakesOn clients x r s s' o o') same takes)
+
+pub taken_works : RecordsJoin → ReadingsFollow → (clients : Meaning) (link : ℕ) (left left' : List ℕ) (l l1 l2 : Link) (place : ℕ) (r : Record) (s s' : StoreValue) (o o' : Outside)
+    → l.end ≡ link_end.Going → l1.session ≡ l.session → l1.nonce ≡ l.nonce → ReadsOn left l.reader (item.One place r ∷ []) left' l1.reader → Learns place r l1 l2
+    → TakesOn clients l2.session r s s' o o' → TakesSafe clients l2.session r s s' o o' → Works clients link left left' l l2 s s' o o'
+taken_works join follow clients link left left' l l1 l2 place r s s' o o' asked session nonce reads learns takes safe =
+    let same : l2.session ≡ l.session = learns.same_session ∙ session in
+    take_works join follow clients link left left' l l1 l2 place r s s' o o' asked session nonce reads learns (subst (λ (x : Session). TakesOn clients x r s s' o o') same takes)
+    (subst (λ (x : Session). TakesSafe clients x r s s' o o') same safe)
+
+pub taken_stays : RecordsJoin → ReadingsFollow → (clients : Meaning) (link : ℕ) (left left' : List ℕ) (l l1 l2 : Link) (place : ℕ) (r : Record) (s s' : StoreValue) (o o' : Outside)
+    → l.end ≡ link_end.Going → l1.session ≡ l.session → ReadsOn left l.reader (item.One place r ∷ []) left' l1.reader → Learns place r l1 l2
+    → TakesSafe clients l2.session r s s' o o' → StaysSafe clients link left l s s' o o'
+taken_stays join follow clients link left left' l l1 l2 place r s s' o o' asked session reads learns safe =
+    let same : l2.session ≡ l.session = learns.same_session ∙ session in
+    record { safe = take_stays join follow clients link left left' l l1 place r s s' o o' asked reads (subst (λ (x : Session). TakesSafe clients x r s s' o o') same safe) }
+
+-- ---- what is left of a piece
+
+pub none_left : (old : Link) (piece : List ℕ) (new : Link) (left : List ℕ) (more : Bool) → more ≡ false → LeavesLess old piece new left more → left ≡ []
+none_left old piece new left true none leaves = cc
+none_left old piece new left false none leaves = leaves.0

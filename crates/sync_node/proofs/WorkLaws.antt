@@ -1,5 +1,5 @@
 -- Work on a link: one piece of it after another, and what each call and batch does.
-use Rattle.std.proofs.Common.{◌≡◌, ◌≢◌, ◌⊎◌, ℕ, ◌+◌, ◌<◌, ◌≤◌, Bool, true, false, nat_eq, cond, List, [], ◌∷◌, ◌++◌, take, length, refl, sym, ap, ◌∙◌, subst, inl, inr, arith, Some, None, Option, Result, Ok, Err, append_assoc, append-nil}
+use Rattle.std.proofs.Common.{◌≡◌, ◌≢◌, ◌⊎◌, ℕ, ◌+◌, ◌<◌, ◌≤◌, Bool, true, false, nat_eq, cond, List, [], ◌∷◌, ◌++◌, take, length, refl, sym, ap, ◌∙◌, subst, inl, inr, arith, Some, None, Option, Result, Ok, Err, OnErr, OnOk, append_assoc, append-nil}
 use Rattle.std.specs.List.{slice_get}
 use Rattle.std.proofs.lemmas.Grind.{flat_map-append}
 use Rattle.outside.specs.declared.failed.Failed.{Failed}
@@ -39,8 +39,26 @@ use Rattle.sync_node.specs.Going.{Commits, ComesFrom, Elsewhere, Goes, GoesOnBy,
 use Rattle.sync_node.specs.Joined.{HasTaken, IsAllSent, IsJoined, first_nonce, known_nonce}
 use Rattle.sync_node.specs.Output.{Journal, heard_on, output, sent_on}
 use Rattle.sync_node.specs.Safe.{Begin, Safe}
-use Rattle.sync_node.specs.Working.{StaysSafe, Works}
+use Rattle.sync_node.specs.Working.{IsAble, StaysSafe, Works}
+use Rattle.sync_node.specs.Ends.{ended_by}
+use Rattle.sync_store.specs.Ready.{IsReady}
+use Rattle.record_grammar.specs.declared.stream.Ending.{Ending}
+use Rattle.record_grammar.specs.declared.stream.Ending.TheVariants as ending_kind
 use Rattle.sync_node.proofs.SafeLaws.{goes_link, goes_none, safe_calm, told_before}
+
+-- ---- answers
+
+pub on_err : {T E : Type 0} (r : Result T E) (P : Type 0) → P → OnErr r P
+on_err (Ok _) P p = tt
+on_err (Err _) P p = p
+
+pub on_ok : {T E : Type 0} (r : Result T E) (P Q : Type 0) → (P → Q) → OnOk r P → OnOk r Q
+on_ok (Ok _) P Q then p = then p
+on_ok (Err _) P Q then p = tt
+
+pub on_err_then : {T E : Type 0} (r : Result T E) (P Q : Type 0) → (P → Q) → OnErr r P → OnErr r Q
+on_err_then (Ok _) P Q then p = tt
+on_err_then (Err _) P Q then p = then p
 
 -- ---- one piece of work after another
 
@@ -69,9 +87,9 @@ elsewhere_none clients session link s o = record {
   outputs = λ told whole fits. record { told = told; before = whole; fits = fits; same = λ other d. refl };
 }
 
-pub stays_then : (clients : Meaning) (link : ℕ) (left mid : List ℕ) (l l1 : Link) (s s1 s2 : StoreValue) (o o1 o2 : Outside) (left' : List ℕ) → Works clients link left mid l l1 s s1 o o1
+pub stays_then : (clients : Meaning) (link : ℕ) (left mid : List ℕ) (l l1 : Link) (s s1 s2 : StoreValue) (o o1 o2 : Outside) → Works clients link left mid l l1 s s1 o o1
     → StaysSafe clients link mid l1 s1 s2 o1 o2 → StaysSafe clients link left l s s2 o o2
-stays_then clients link left mid l l1 s s1 s2 o o1 o2 left' first second = record {
+stays_then clients link left mid l l1 s s1 s2 o o1 o2 first second = record {
   safe = λ joined b plans number safe.
       second.safe (first.joined joined) b plans (ap (λ (x : Session). x.number) first.same_session ∙ number) (first.stays.safe joined b plans number safe);
 }
@@ -86,7 +104,7 @@ works_then clients link left mid left' l l1 l2 s s1 s2 o o1 o2 first second = re
   joined = λ joined. second.joined (first.joined joined);
   elsewhere = elsewhere_then clients l.session.number link s s1 s2 o o1 o2 first.elsewhere
       (subst (λ (x : Session). Elsewhere clients x.number link s1 s2 o1 o2) first.same_session second.elsewhere);
-  stays = stays_then clients link left mid l l1 s s1 s2 o o1 o2 left' first second.stays;
+  stays = stays_then clients link left mid l l1 s s1 s2 o o1 o2 first second.stays;
 }
 
 pub stays_none : (clients : Meaning) (link : ℕ) (left : List ℕ) (l : Link) (s : StoreValue) (o : Outside) → StaysSafe clients link left l s s o o
@@ -208,3 +226,19 @@ works_clock fronts clients link left reading l s o o' call reads =
       count = has.count;
       nonce = has.nonce;
     })
+
+-- a session may go on behind a call that leaves the files
+pub able_calm : (clients : Meaning) (link : ℕ) (session : Session) (s : StoreValue) (o o' : Outside) (during : Moment → Type 0) → LinkCall during o o' → o'.links.dialled ≡ o.links.dialled
+    → IsAble clients link session s o → IsAble clients link session s o'
+able_calm clients link session s o o' during call dialled able = record {
+  ready = subst (λ (f : Option (Two File)). IsReady clients s f) (sym call.same_files) able.ready;
+  settled = able.settled;
+  known = able.known;
+  dialled = omega (arith, able.dialled, dialled);
+}
+
+-- how a link ends whose other side has ended: it is not asked any more, and no call on it failed
+pub ended_not_going : (e : Ending) → ended_by e ≢ link_end.Going
+ended_not_going ending_kind.Clean is = cc
+ended_not_going (ending_kind.Inside place) is = cc
+ended_not_going (ending_kind.Bad place why) is = cc

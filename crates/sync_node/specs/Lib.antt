@@ -1,4 +1,5 @@
 pub mod Faults
+pub mod Ends
 pub mod Output
 pub mod Suits
 pub mod Safe
@@ -8,5 +9,6 @@ pub mod Working
 pub mod Sending
 pub mod Hearing
 pub mod Taking
-pub mod Node
+pub mod Redundant
+pub mod Starting
 pub mod Cited

@@ -113,9 +113,9 @@ fn take_next<H: Host, C: Clients>(
 {
     cite_laws();
     match link.reader.next_in(piece)? {
-        Next::One(place, record) => {
-            learn(link, place, &record);
-            take_one(alloc, store, host, clients, &link.session, record)?;
+        Next::One(place, rec) => {
+            learn(link, place, &rec);
+            take_one(alloc, store, host, clients, &link.session, rec)?;
             Ok(true)
         }
         Next::Skipped(_, _, _) => Ok(true),
@@ -129,10 +129,10 @@ fn take_next<H: Host, C: Clients>(
 
 // What a record says of the link that it was heard on: a nonce, or that the other end does not
 // speak our version.
-fn learn(link: &mut Link, place: u64, record: &Record)
-    ensures { Learns place record.now link.old link.new }
+fn learn(link: &mut Link, place: u64, rec: &Record)
+    ensures { Learns place rec.now link.old link.new }
 {
-    match record {
+    match rec {
         Record::Versions(versions) => {
             if !versions_ok(versions) {
                 link.end = LinkEnd::NoVersion(place);
@@ -154,17 +154,17 @@ fn take_one<H: Host, C: Clients>(
     host: &mut H,
     clients: &C,
     session: &Session,
-    record: Record,
+    rec: Record,
 ) -> Result<(), NodeFault>
     requires able { IsOpenFor (C.meaning clients.now) session.now store.old (H.tells host.old) }
-    ensures takes { OnOk result (TakesOn (C.meaning clients.now) session.now record store.old
+    ensures takes { OnOk result (TakesOn (C.meaning clients.now) session.now rec store.old
         store.new (H.tells host.old) (H.tells host.new)) }
-    ensures safe { TakesSafe (C.meaning clients.now) session.now record store.old store.new
+    ensures safe { TakesSafe (C.meaning clients.now) session.now rec store.old store.new
         (H.tells host.old) (H.tells host.new) }
 {
-    records_are_within(&record);
+    records_are_within(&rec);
     let taken = store.takes(session.number);
-    let batch = take(alloc, store, session, taken, record)?;
+    let batch = take(alloc, store, session, taken, rec)?;
     commit(store, host, clients, batch)?;
     settle(store, host, clients)
 }

@@ -11,16 +11,18 @@
 //! - `told`: each call on the store or the host, with what it leaves.
 #![tactic(auto)]
 
+mod attaching;
 mod fault;
 mod hearing;
 mod link;
-mod node;
+#[tactic(none)]
 mod redundant;
 mod sending;
 mod spelling;
 mod told;
+#[tactic(none)]
 mod turning;
 
 pub use fault::NodeFault;
 pub use link::LinkEnd;
-pub use node::{MOST_OUTS, Node, Plan, RECEIVE_LEN, Turned};
+pub use sending::MOST_OUTS;

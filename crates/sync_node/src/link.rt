@@ -1,4 +1,7 @@
 //! A link with its session.
+ghost use Rattle.std.specs.Prelude.{◌≡◌, ◌↔◌, IsTrue};
+ghost use Rattle.sync_node.specs.Ends.{MaySend, ended_by};
+
 use record_grammar::{Ending, Reason};
 use record_stream::Reader;
 use sync_ids::Nonce;
@@ -26,18 +29,24 @@ pub enum LinkEnd {
 
 impl LinkEnd {
     /// Whether the link is still asked.
-    pub(crate) fn is_asked(self) -> bool {
+    pub(crate) fn is_asked(self) -> bool
+        ensures { IsTrue result ↔ (self ≡ LinkEnd.Going) }
+    {
         self == LinkEnd::Going
     }
 
-    /// Whether the link still sends.
-    pub(crate) fn may_send(self) -> bool {
+    /// Whether something may be sent on the link.
+    pub(crate) fn may_send(self) -> bool
+        ensures { IsTrue result ↔ MaySend self }
+    {
         matches!(self, LinkEnd::Going | LinkEnd::Clean)
     }
 }
 
 /// How a link stands whose other side has ended.
-pub(crate) fn ended(ending: Ending) -> LinkEnd {
+pub(crate) fn ended(ending: Ending) -> LinkEnd
+    ensures { result ≡ ended_by ending }
+{
     match ending {
         Ending::Clean => LinkEnd::Clean,
         Ending::Inside(place) => LinkEnd::Inside(place),

@@ -7,13 +7,15 @@ ghost use Rattle.sync_node.specs.Working.{IsAble, StaysSafe, Waits, Works};
 
 use crate::fault::NodeFault;
 use crate::link::{Link, LinkEnd};
-use crate::node::MOST_OUTS;
 use crate::spelling::{batch_of, spell_out};
 use crate::told::{cite_laws, commit};
 use outside::Host;
 use std::alloc::Global;
 use sync_rules::{Clients, Entry, Out};
 use sync_store::Store;
+
+/// How many outputs a link commits and sends in one turn at most.
+pub const MOST_OUTS: u32 = 64;
 
 /// Commits and sends what is due on the link at this time, at most `MOST_OUTS` outputs, and answers
 /// how many. A failed send closes the link.

@@ -5,8 +5,9 @@ ghost use Rattle.sync_ids.specs.declared.records.Record.TheVariants as record_ki
 ghost use Rattle.sync_rules.specs.Facts.{held_at};
 ghost use Rattle.sync_rules.specs.Output.{message_record, nonce_record, records_of};
 
-use record_grammar::{encode_ack, encode_message, encode_offer, encode_priority};
-use record_grammar::{encode_request, encode_versions};
+use record_grammar::{
+    encode_ack, encode_message, encode_offer, encode_priority, encode_request, encode_versions,
+};
 use std::alloc::{AllocError, Global};
 use sync_ids::{MessageId, Nonce, VersionList};
 use sync_rules::{Batch, Entry, Out, View};
