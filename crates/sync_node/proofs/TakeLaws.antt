@@ -251,9 +251,9 @@ take_stays : RecordsJoin → ReadingsFollow → (clients : Meaning) (link : ℕ)
 take_stays join follow clients link left left' l l1 place r s s' o o' asked reads safe joined b plans number was =
     safe.safe b plans link number
     (λ told.
-        let had = joined.taken asked told in
-        let read = follow (heard_on o.links link) left left' fresh l.reader l1.reader had.has (item.One place r ∷ []) had.reads reads in
-        ap (λ k. slice_get (records (heard_on o.links link)) k) had.count ∙ is_next join (heard_on o.links link) left' l1.reader had.has place r read)
+    let had = joined.taken asked told in
+    let read = follow (heard_on o.links link) left left' fresh l.reader l1.reader had.has (item.One place r ∷ []) had.reads reads in
+    ap (λ k. slice_get (records (heard_on o.links link)) k) had.count ∙ is_next join (heard_on o.links link) left' l1.reader had.has place r read)
     was
 
 pub take_works : RecordsJoin → ReadingsFollow → (clients : Meaning) (link : ℕ) (left left' : List ℕ) (l l1 l2 : Link) (place : ℕ) (r : Record) (s s' : StoreValue) (o o' : Outside)

@@ -20,7 +20,6 @@ mod redundant;
 mod sending;
 mod spelling;
 mod told;
-#[tactic(none)]
 mod turning;
 
 pub use fault::NodeFault;
