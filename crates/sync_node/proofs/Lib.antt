@@ -6,3 +6,4 @@ mod WorkLaws
 mod OutLaws
 mod TakeLaws
 mod StartLaws
+mod NodeLaws

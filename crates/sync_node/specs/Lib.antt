@@ -11,4 +11,6 @@ pub mod Hearing
 pub mod Taking
 pub mod Redundant
 pub mod Starting
+pub mod Node
+pub mod Plans
 pub mod Cited

@@ -15,7 +15,7 @@ mod attaching;
 mod fault;
 mod hearing;
 mod link;
-#[tactic(none)]
+mod node;
 mod redundant;
 mod sending;
 mod spelling;
@@ -24,4 +24,5 @@ mod turning;
 
 pub use fault::NodeFault;
 pub use link::LinkEnd;
+pub use node::{Node, Plan, RECEIVE_LEN, Turned};
 pub use sending::MOST_OUTS;

@@ -1,10 +1,13 @@
-//! The turn of one link.
-ghost use Rattle.std.specs.Prelude.{◌≡◌, ◌<◌, [], length, OnErr, OnOk};
+//! A turn: of one link, and of all links in order.
+ghost use Rattle.std.specs.Prelude.{◌≡◌, ℕ, ◌<◌, ◌≤◌, [], length, OnErr, OnOk};
+ghost use Rattle.outside.specs.declared.limits.TheConstants.{LINKS};
+ghost use Rattle.sync_node.specs.Node.{AreAttached, AreSome, LinksSafe, LinksWork, MayGoOn};
 ghost use Rattle.sync_node.specs.Working.{IsAble, StaysSafe, Waits, Works};
 
 use crate::fault::NodeFault;
 use crate::hearing::receive_on;
 use crate::link::Link;
+use crate::redundant::close_redundant;
 use crate::sending::send_all;
 use crate::told::cite_laws;
 use outside::Host;
@@ -12,9 +15,70 @@ use std::alloc::Global;
 use sync_rules::Clients;
 use sync_store::Store;
 
-/// Hears on a link that is still asked, and then sends what is due on one that is not closed.
-/// Answers whether the link was still: nothing came for now, and no output was committed.
-pub(crate) fn turn_link<H: Host, C: Clients>(
+/// Makes the turn of each link in order, and then closes the redundant ones. Answers whether all
+/// links were still.
+
+pub(crate) fn turn_all<H: Host, C: Clients>(
+    alloc: Global,
+    store: &mut Store,
+    host: &mut H,
+    clients: &C,
+    links: &mut [Link],
+    buffer: &mut [u8],
+) -> Result<bool, NodeFault>
+    requires may { MayGoOn (C.meaning clients.now) links.old store.old (H.tells host.old) }
+    requires few { length links.old ≤ LINKS }
+    requires attached { AreSome links.old store.old.state.facts }
+    requires room { 0 < length buffer.old }
+    ensures may { OnOk result (MayGoOn (C.meaning clients.now) links.new store.new
+        (H.tells host.new)) }
+    ensures works { (first : ℕ) → AreAttached first links.old store.old.state.facts
+        → OnOk result (LinksWork (C.meaning clients.now) first links.old links.new store.old
+        store.new (H.tells host.old) (H.tells host.new)) }
+    ensures safe { (first : ℕ) → AreAttached first links.old store.old.state.facts
+        → OnErr result (LinksSafe (C.meaning clients.now) first links.old store.old store.new
+        (H.tells host.old) (H.tells host.new)) }
+{
+    let still = turn_each(alloc, store, host, clients, links, buffer)?;
+    close_redundant(links);
+    Ok(still)
+}
+
+// Makes the turn of each link in order. Answers whether all were still.
+
+fn turn_each<H: Host, C: Clients>(
+    alloc: Global,
+    store: &mut Store,
+    host: &mut H,
+    clients: &C,
+    links: &mut [Link],
+    buffer: &mut [u8],
+) -> Result<bool, NodeFault>
+    requires may { MayGoOn (C.meaning clients.now) links.old store.old (H.tells host.old) }
+    requires few { length links.old ≤ LINKS }
+    requires attached { AreSome links.old store.old.state.facts }
+    requires room { 0 < length buffer.old }
+    ensures may { OnOk result (MayGoOn (C.meaning clients.now) links.new store.new
+        (H.tells host.new)) }
+    ensures works { (first : ℕ) → AreAttached first links.old store.old.state.facts
+        → OnOk result (LinksWork (C.meaning clients.now) first links.old links.new store.old
+        store.new (H.tells host.old) (H.tells host.new)) }
+    ensures safe { (first : ℕ) → AreAttached first links.old store.old.state.facts
+        → OnErr result (LinksSafe (C.meaning clients.now) first links.old store.old store.new
+        (H.tells host.old) (H.tells host.new)) }
+{
+    let mut still = true;
+    'links: for place in 0..links.len() {
+        let link = &mut links[place];
+        let quiet = turn_link(alloc, store, host, clients, place as u8, link, buffer)?;
+        still = still && quiet;
+    }
+    Ok(still)
+}
+
+// Hears on a link that is still asked, and then sends what is due on one that is not closed.
+// Answers whether the link was still: nothing came for now, and no output was committed.
+fn turn_link<H: Host, C: Clients>(
     alloc: Global,
     store: &mut Store,
     host: &mut H,
