@@ -1,7 +1,9 @@
 -- The links of a node: what work on one of them leaves of the others.
-use Rattle.std.proofs.Common.{◌≡◌, ◌≢◌, ◌⊎◌, ℕ, zero, suc, ◌+◌, ◌<◌, ◌≤◌, List, [], ◌∷◌, length, set, refl, sym, ap, ◌∙◌, subst, inl, inr, arith, Some, None}
+use Rattle.std.proofs.Common.{◌≡◌, ◌≢◌, ◌⊎◌, ℕ, zero, suc, ◌+◌, ◌-◌, ◌<◌, ◌≤◌, Bool, true, false, List, [], ◌∷◌, ◌++◌, length, take, drop, set, Err, append-nil, refl, sym, ap, ◌∙◌, subst, inl, inr, arith, Some, None}
 use Rattle.std.specs.List.{slice_get}
 use Rattle.std.proofs.lemmas.Bool.{cases_eq}
+use Rattle.std.proofs.lemmas.List.{length-append, length-drop, length-take, take_all}
+use Rattle.std.proofs.Math.ListN.{drop_of_length-le}
 use Rattle.std.proofs.lemmas.Option.{slice_get_within}
 use Rattle.outside.specs.Files.{Two, File}
 use Rattle.outside.specs.Outside.{Outside}
@@ -16,7 +18,9 @@ use Rattle.sync_node.specs.declared.link.Link.{Link}
 use Rattle.sync_node.specs.declared.link.LinkEnd.TheVariants as link_end
 use Rattle.sync_node.specs.Going.{Elsewhere, Goes}
 use Rattle.sync_node.specs.Joined.{HasTaken, IsAllSent, IsJoined, IsUnused, Joined}
-use Rattle.sync_node.specs.Node.{AreAttached, IsAttached, LinksSafe, LinksWork, MayGoOn}
+use Rattle.outside.specs.declared.limits.TheConstants.{LINKS}
+use Rattle.sync_node.specs.declared.fault.NodeFault.TheVariants as fault
+use Rattle.sync_node.specs.Node.{AreAttached, AreSome, IsAttached, IsNode, KeepsJoined, KeepsSafe, LinksSafe, LinksWork, MayGoOn, MayRun, NodeValue, StaysClosed}
 use Rattle.sync_node.specs.Output.{Journal, heard_on, output, sent_on}
 use Rattle.sync_node.specs.Safe.{Begin, Safe}
 use Rattle.sync_node.specs.Redundant.{ClosesSome, StaysOrCloses}
@@ -252,3 +256,70 @@ links_may clients links links' s o same may = record {
   settled = λ some. may.settled (omega (arith, some, same));
   dialled = omega (arith, same, may.dialled);
 }
+
+-- ---- a node
+
+abbrev pub node_of : StoreValue → ℕ → List Link → Bool → NodeValue
+node_of s first links closed = record { store = s; first = first; links = links; closed = closed }
+
+pub node_may : (clients : Meaning) (s : StoreValue) (first : ℕ) (links : List Link) (closed : Bool) (n : NodeValue) (o : Outside) → node_of s first links closed ≡ n → MayRun clients n o → closed ≡ false
+    → MayGoOn clients links s o
+node_may clients s first links closed n o is may =
+    subst (λ (x : NodeValue). MayRun clients x o → closed ≡ false → MayGoOn clients links s o) is (λ might opened. might opened) may
+
+pub node_keeps : (clients : Meaning) (s s' : StoreValue) (first : ℕ) (links links' : List Link) (closed closed' : Bool) (n : NodeValue) (o o' : Outside) → node_of s first links closed ≡ n
+    → LinksWork clients first links links' s s' o o' → KeepsJoined clients n (node_of s' first links' closed') o o'
+node_keeps clients s s' first links links' closed closed' n o o' is works =
+    subst (λ (x : NodeValue). KeepsJoined clients x (node_of s' first links' closed') o o') is
+    (record { goes = works.goes; same_first = refl; same_number = works.same_number; joined = works.joined })
+
+pub node_safe : (clients : Meaning) (s s' : StoreValue) (first : ℕ) (links links' : List Link) (closed closed' : Bool) (n : NodeValue) (o o' : Outside) → node_of s first links closed ≡ n
+    → LinksSafe clients first links s s' o o' → KeepsSafe clients n (node_of s' first links' closed') o o'
+node_safe clients s s' first links links' closed closed' n o o' is safe =
+    subst (λ (x : NodeValue). KeepsSafe clients x (node_of s' first links' closed') o o') is (record { safe = safe.safe })
+
+pub works_safe : (clients : Meaning) (first : ℕ) (links links' : List Link) (s s' : StoreValue) (o o' : Outside) → LinksWork clients first links links' s s' o o' → LinksSafe clients first links s s' o o'
+works_safe clients first links links' s s' o o' works = record { safe = works.safe }
+
+pub node_same : (clients : Meaning) (n : NodeValue) (o : Outside) → KeepsSafe clients n n o o
+node_same clients n o = record { safe = λ joined b plans begins safe. safe }
+
+pub stays_closed : {T H : Type 0} (n : NodeValue) (host : H) → StaysClosed {T = T} {H = H} n n host host (Err fault.Closed)
+stays_closed n host = record { answer = refl; same = refl; same_host = refl }
+
+-- a node that is not closed has its links attached, and still is a node
+pub is_node : (s : StoreValue) (first : ℕ) (links : List Link) (closed : Bool) → length links ≤ LINKS → AreAttached first links s.state.facts → IsNode (node_of s first links closed)
+is_node s first links closed few attached = record { few = few; attached = λ _. attached }
+
+pub is_closed_node : (s : StoreValue) (first : ℕ) (links : List Link) → length links ≤ LINKS → IsNode (node_of s first links true)
+is_closed_node s first links few = record { few = few; attached = λ opened. absurd (let e : true ≡ false = opened in cc) }
+
+-- a buffer that was lent is as long as before
+pub kept_long : (len n : ℕ) (old new : List ℕ) → length old ≡ n → len ≡ length old → length new ≡ length old → length (take len (new ++ drop (length new) old)) ≡ n
+kept_long len n old new long is same =
+    let rest : length (new ++ drop (length new) old) ≡ length old + (length old - length new) = omega (arith, length-append new (drop (length new) old), length-drop (length new) old, same) in
+    omega (arith, length-take len (new ++ drop (length new) old), rest, long, is, same)
+
+pub kept_same : {A : Type 0} (len : ℕ) (old new : List A) → len ≡ length old → length new ≡ length old → take len (new ++ drop (length new) old) ≡ new
+kept_same len old new long same =
+    let none : drop (length new) old ≡ [] = drop_of_length-le old (omega (arith, same)) in
+    ap (λ l. take len (new ++ l)) none ∙ (ap (λ l. take len l) (append-nil new) ∙ take_all len new (omega (arith, long, same)))
+
+-- ---- links that were lent
+
+pub links_as : (clients : Meaning) (first : ℕ) (links lent new kept : List Link) (s s' : StoreValue) (o o' : Outside) → lent ≡ links → kept ≡ new → LinksWork clients first lent new s s' o o'
+    → LinksWork clients first links kept s s' o o'
+links_as clients first links lent new kept s s' o o' is is_kept works =
+    subst (λ (ls : List Link). LinksWork clients first ls kept s s' o o') is (subst (λ (ls : List Link). LinksWork clients first lent ls s s' o o') (sym is_kept) works)
+
+pub safe_as : (clients : Meaning) (first : ℕ) (links lent : List Link) (s s' : StoreValue) (o o' : Outside) → lent ≡ links → LinksSafe clients first lent s s' o o' → LinksSafe clients first links s s' o o'
+safe_as clients first links lent s s' o o' is safe = subst (λ (ls : List Link). LinksSafe clients first ls s s' o o') is safe
+
+pub attached_as : (first : ℕ) (links lent : List Link) (f : Facts) → lent ≡ links → AreAttached first links f → AreAttached first lent f
+attached_as first links lent f is attached = subst (λ (ls : List Link). AreAttached first ls f) (sym is) attached
+
+pub may_as : (clients : Meaning) (links lent : List Link) (s : StoreValue) (o : Outside) → lent ≡ links → MayGoOn clients links s o → MayGoOn clients lent s o
+may_as clients links lent s o is may = subst (λ (ls : List Link). MayGoOn clients ls s o) (sym is) may
+
+pub some_as : (first : ℕ) (links lent : List Link) (f : Facts) → lent ≡ links → AreAttached first links f → AreSome lent f
+some_as first links lent f is attached = record { first = first; attached = attached_as first links lent f is attached }

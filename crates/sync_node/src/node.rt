@@ -136,6 +136,7 @@ impl Node {
 
     /// Asks a link once that is attached and still asked, and takes what came: the batch of each
     /// record, and settling behind it. Answers whether nothing came for now.
+    #[tactic(none)]
     pub fn receive<H: Host, C: Clients>(
         &mut self,
         host: &mut H,
@@ -177,6 +178,7 @@ impl Node {
 
     /// Commits and sends what is due at this time in milliseconds on a link that is attached and
     /// not closed, at most `MOST_OUTS` outputs, and answers how many that were.
+    #[tactic(none)]
     pub fn send_due<H: Host, C: Clients>(
         &mut self,
         host: &mut H,
@@ -219,6 +221,7 @@ impl Node {
 
     /// Goes through the links in order: asks each that is still asked, and sends what is due on
     /// each that is not closed. Then the redundant ones are closed.
+    #[tactic(none)]
     pub fn turn<H: Host, C: Clients>(
         &mut self,
         host: &mut H,
