@@ -126,9 +126,9 @@ not_failed place b true refused e = let bad : found_in b ≡ found.Bad (refused 
 not_failed place b false refused e = refl
 
 pub more_leaves : (s : ReaderState) → found.More ≡ found_in s.bytes → GoesOn s.bytes found.More → length s.bytes < 49156 → s.failed ≡ false
-    → (s ≡ s) × AwaitsBytes s × (s.failed ≡ false)
+    → (s ≡ s) × AwaitsBytes s × (s.failed ≡ false) × (found_in s.bytes ≡ found.More)
 more_leaves s e goes room going =
-    (refl, record { rest = rw (← e) refl; nothing = goes.unfinished s.place refl; room = λ _. room }, going)
+    (refl, record { rest = rw (← e) refl; nothing = goes.unfinished s.place refl; room = λ _. room }, going, sym e)
 
 pub bad_leaves : (place : ℕ) (b : List ℕ) (why : Reason) (f : Found) → f ≡ found_in b → f ≡ found.Bad why → GoesOn b f
     → AwaitsBytes (record { place = place; bytes = b; failed = true }) × EndsBad (record { place = place; bytes = b; failed = true }) place why

@@ -1,0 +1,81 @@
+-- The events of a run, and what is told of them where the outside tells it.
+use Rattle.std.specs.Prelude.{◌≡◌, ℕ, ◌≤◌, Bool, true, false, ◌||◌, nat_eq, List, [], ◌∷◌, ◌++◌, take, Option, None, Some}
+use Rattle.std.specs.Option.{option_map}
+use Rattle.outside.specs.declared.host.Heard.{Heard}
+use Rattle.outside.specs.declared.host.Heard.TheVariants as answer
+use Rattle.outside.specs.Faults.{Rose}
+use Rattle.outside.specs.Links.{Reply, got, idle, ended, HeardOn, hear_reply, hear_failure, changed_at}
+use Rattle.outside.specs.Outside.{Outside}
+use Rattle.sync_rules.specs.declared.entries.Entry.{Entry}
+use Rattle.sync_course.specs.declared.TheConstants.{PIECE_LEN}
+
+-- A batch was committed; a link gave an answer to a call with a buffer of PIECE_LEN bytes, or that call failed; the clock was read
+-- for a link; bytes were sent on a link and the call failed; or nothing happened that is told of
+pub data Event : Type 0 where
+  Commit : List Entry → Event
+  Hear : ℕ → Reply → Event
+  Miss : ℕ → Event
+  Read : ℕ → ℕ → Event
+  Break : ℕ → Event
+  Pass : Event
+
+-- the event of a call that asked a link, with the buffer after it
+abbrev pub asked_event : ℕ → Heard → List ℕ → Event
+asked_event link (answer.Got n) buf = Hear link (got (take n buf))
+asked_event link answer.Idle buf = Hear link idle
+asked_event link answer.End buf = Hear link ended
+asked_event link answer.Failed buf = Miss link
+
+-- ---- what events add
+
+-- the batches that were committed, in order
+abbrev pub batches_of : List Event → List (List Entry)
+batches_of [] = []
+batches_of (Commit b ∷ es) = b ∷ batches_of es
+batches_of (_ ∷ es) = batches_of es
+
+-- the readings of the clock, in order
+abbrev pub readings_of : List Event → List ℕ
+readings_of [] = []
+readings_of (Read link now ∷ es) = now ∷ readings_of es
+readings_of (_ ∷ es) = readings_of es
+
+-- what an event adds to what was heard
+abbrev pub heard_by : Event → List HeardOn → List HeardOn
+heard_by (Hear link reply) heard = changed_at link (hear_reply PIECE_LEN reply) heard
+heard_by (Miss link) heard = changed_at link hear_failure heard
+heard_by _ heard = heard
+
+abbrev pub heard_after : List Event → List HeardOn → List HeardOn
+heard_after [] heard = heard
+heard_after (e ∷ es) heard = heard_after es (heard_by e heard)
+
+-- a call of this link failed
+abbrev pub is_failure : ℕ → Event → Bool
+is_failure link (Miss n) = nat_eq n link
+is_failure link (Break n) = nat_eq n link
+is_failure link _ = false
+
+abbrev pub has_failure : ℕ → List Event → Bool
+has_failure link [] = false
+has_failure link (e ∷ es) = is_failure link e || has_failure link es
+
+-- ---- what is told
+
+-- readings that are told afterwards were told before, and these came behind them
+abbrev pub GrowsBy : List ℕ → Option (List ℕ) → Option (List ℕ) → Type 0
+GrowsBy more old None = Unit {0}
+GrowsBy more None (Some new) = ⊥
+GrowsBy more (Some old) (Some new) = new ≡ old ++ more
+
+-- a count of failures did not fall, and it rose where a call failed
+abbrev pub RoseIf : Bool → ℕ → ℕ → Type 0
+RoseIf true before after = Rose before after
+RoseIf false before after = before ≤ after
+
+-- What an object tells after these events: what was heard and the readings grew by what the events say, wherever they are told,
+-- and the count of a link's failures rose where an event says that a call of it failed.
+pub record Told (events : List Event) (old new : Outside) : Type 0 where
+  pub heard : new.links.heard ≡ option_map (heard_after events) old.links.heard
+  pub readings : GrowsBy (readings_of events) old.links.readings new.links.readings
+  pub faults : (link : ℕ) → RoseIf (has_failure link events) (old.links.faults link) (new.links.faults link)
