@@ -1,5 +1,5 @@
 -- The laws of the crates below that the proofs of this one rest on.
-use Rattle.record_grammar.specs.Laws.{FrontsHaveFronts, RecordsJoin}
+use Rattle.record_grammar.specs.Laws.{EndingsAreOfRests, FrontsHaveFronts, RecordsJoin, RestsGiveNothing}
 use Rattle.record_stream.specs.Pieces.{ReadingsFollow, ReadingsWiden}
 use Rattle.sync_store.specs.Fitting.{ImagesStand}
 
@@ -9,3 +9,5 @@ pub record CitedLaws : Type 0 where
   pub widen : ReadingsWiden
   pub follow : ReadingsFollow
   pub images : ImagesStand
+  pub ends : EndingsAreOfRests
+  pub rests_give : RestsGiveNothing

@@ -14,3 +14,7 @@ pub mod Starting
 pub mod Node
 pub mod Plans
 pub mod Cited
+pub mod Courses
+pub mod CourseLaws
+pub mod CourseTurns
+pub mod CourseRuns

@@ -1,6 +1,10 @@
 //! What is heard on a link is taken.
 ghost use Rattle.std.specs.Prelude.{◌≡◌, ◌+◌, ◌<◌, ◌++◌, ◌∷◌, [], false, true, length, IfOk, OnErr};
 ghost use Rattle.std.specs.Prelude.{OnOk};
+ghost use Rattle.sync_course.specs.declared.TheConstants.{PIECE_LEN};
+ghost use Rattle.sync_node.specs.Courses.{HearsAsCourse, HearsStops};
+ghost use Rattle.sync_node.specs.Courses.{NextAsCourse, NextStops, PieceTaken, StopsAsCourse};
+ghost use Rattle.sync_node.specs.Courses.{TakesAsCourse};
 ghost use Rattle.sync_node.specs.Hearing.{Learns};
 ghost use Rattle.sync_node.specs.Taking.{IsOpenFor, LeavesLess, TakesOn, TakesSafe};
 ghost use Rattle.sync_node.specs.Working.{IsAble, StaysSafe, Waits, Works};
@@ -35,6 +39,12 @@ pub(crate) fn receive_on<H: Host, C: Clients>(
     ensures able { OnOk result (IsAble (C.meaning clients.now) number link.new.session store.new
         (H.tells host.new)) }
     ensures waits { OnOk result (Waits link.new) }
+    ensures course { length buffer.old ≡ PIECE_LEN → IfOk result (HearsAsCourse
+        (C.meaning clients.now) number link.old link.new store.old store.new (H.tells host.old)
+        (H.tells host.new)) }
+    ensures stops { length buffer.old ≡ PIECE_LEN → OnErr result (HearsStops
+        (C.meaning clients.now) number link.old store.old (H.tells host.old)
+        (H.tells host.new)) }
     ensures works { OnOk result (Works (C.meaning clients.now) number [] [] link.old link.new
         store.old store.new (H.tells host.old) (H.tells host.new)) }
     ensures stays { OnErr result (StaysSafe (C.meaning clients.now) number [] link.old store.old
@@ -76,6 +86,10 @@ fn take_piece<H: Host, C: Clients>(
     ensures able { OnOk result (IsAble (C.meaning clients.now) number link.new.session store.new
         (H.tells host.new)) }
     ensures waits { OnOk result (Waits link.new) }
+    ensures course { OnOk result (PieceTaken (C.meaning clients.now) number piece.old link.old
+        link.new store.old store.new (H.tells host.old) (H.tells host.new)) }
+    ensures stops { OnErr result (NextStops (C.meaning clients.now) number piece.old link.old
+        store.old (H.tells host.old) (H.tells host.new)) }
     ensures works { OnOk result (Works (C.meaning clients.now) number piece.old [] link.old link.new
         store.old store.new (H.tells host.old) (H.tells host.new)) }
     ensures stays { OnErr result (StaysSafe (C.meaning clients.now) number piece.old link.old
@@ -105,6 +119,10 @@ fn take_next<H: Host, C: Clients>(
     requires asked { link.old.end ≡ LinkEnd.Going }
     ensures able { OnOk result (IsAble (C.meaning clients.now) number link.new.session store.new
         (H.tells host.new)) }
+    ensures course { IfOk result (NextAsCourse (C.meaning clients.now) number piece.old piece.new
+        link.old link.new store.old store.new (H.tells host.old) (H.tells host.new)) }
+    ensures stops { OnErr result (NextStops (C.meaning clients.now) number piece.old link.old
+        store.old (H.tells host.old) (H.tells host.new)) }
     ensures left { IfOk result (LeavesLess link.old piece.old link.new piece.new) }
     ensures works { OnOk result (Works (C.meaning clients.now) number piece.old piece.new link.old
         link.new store.old store.new (H.tells host.old) (H.tells host.new)) }
@@ -157,6 +175,10 @@ fn take_one<H: Host, C: Clients>(
     rec: Record,
 ) -> Result<(), NodeFault>
     requires able { IsOpenFor (C.meaning clients.now) session.now store.old (H.tells host.old) }
+    ensures course { OnOk result (TakesAsCourse (C.meaning clients.now) session.now.number rec
+        store.old store.new (H.tells host.old) (H.tells host.new)) }
+    ensures stops { OnErr result (StopsAsCourse (C.meaning clients.now) session.now.number rec
+        store.old (H.tells host.old) (H.tells host.new)) }
     ensures takes { OnOk result (TakesOn (C.meaning clients.now) session.now rec store.old
         store.new (H.tells host.old) (H.tells host.new)) }
     ensures safe { TakesSafe (C.meaning clients.now) session.now rec store.old store.new

@@ -2,6 +2,8 @@
 ghost use Rattle.std.specs.Prelude.{◌≡◌, ◌≢◌, ◌∷◌, ◌<◌, [], IfOk, OnErr, OnOk};
 ghost use Rattle.sync_rules.specs.Legal.{Allowed};
 ghost use Rattle.sync_rules.specs.declared.entries.Entry.TheVariants as entry;
+ghost use Rattle.sync_node.specs.Courses.{PutsAsCourse, PutsStop, SentAsCourse, SentStops};
+ghost use Rattle.sync_node.specs.Ends.{MaySend};
 ghost use Rattle.sync_node.specs.Sending.{SendsOn};
 ghost use Rattle.sync_node.specs.Working.{IsAble, StaysSafe, Waits, Works};
 
@@ -34,6 +36,10 @@ pub(crate) fn send_all<H: Host, C: Clients>(
     ensures able { OnOk result (IsAble (C.meaning clients.now) number link.new.session store.new
         (H.tells host.new)) }
     ensures waits { OnOk result (Waits link.new) }
+    ensures course { MaySend link.old.end → IfOk result (SentAsCourse (C.meaning clients.now) number
+        now link.old link.new store.old store.new (H.tells host.old) (H.tells host.new)) }
+    ensures stops { MaySend link.old.end → OnErr result (SentStops (C.meaning clients.now) number
+        now link.old store.old (H.tells host.old) (H.tells host.new)) }
     ensures works { OnOk result (Works (C.meaning clients.now) number [] [] link.old link.new
         store.old store.new (H.tells host.old) (H.tells host.new)) }
     ensures stays { OnErr result (StaysSafe (C.meaning clients.now) number [] link.old store.old
@@ -71,6 +77,10 @@ fn put_out<H: Host, C: Clients>(
     ensures able { OnOk result (IsAble (C.meaning clients.now) number link.new.session store.new
         (H.tells host.new)) }
     ensures waits { OnOk result (Waits link.new) }
+    ensures course { OnOk result (PutsAsCourse (C.meaning clients.now) number now link.old link.new
+        store.old store.new (H.tells host.old) (H.tells host.new)) }
+    ensures stops { OnErr result (PutsStop (C.meaning clients.now) number now link.old store.old
+        (H.tells host.old) (H.tells host.new)) }
     ensures works { OnOk result (Works (C.meaning clients.now) number [] [] link.old link.new
         store.old store.new (H.tells host.old) (H.tells host.new)) }
     ensures stays { OnErr result (StaysSafe (C.meaning clients.now) number [] link.old store.old

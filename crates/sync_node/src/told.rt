@@ -1,11 +1,12 @@
 //! Batches of a session, committed and settled.
-ghost use Rattle.std.specs.Prelude.{◌≡◌, ◌∷◌, [], false, List, OnOk};
+ghost use Rattle.std.specs.Prelude.{◌≡◌, ◌∷◌, [], false, List, OnErr, OnOk};
 ghost use Rattle.outside.specs.Runs.{IsFront, Told};
 ghost use Rattle.sync_rules.specs.Allows.{is_settling_kind};
 ghost use Rattle.sync_rules.specs.Legal.{Allowed};
 ghost use Rattle.sync_rules.specs.declared.entries.Session.{Session};
 ghost use Rattle.sync_store.specs.Ready.{IsReady};
 ghost use Rattle.sync_node.specs.Cited.{CitedLaws};
+ghost use Rattle.sync_node.specs.Courses.{Adds, AddsSettling, AddsSome, AddsSomeSettling};
 ghost use Rattle.sync_node.specs.Going.{Commits, Settles};
 ghost use Rattle.sync_node.specs.Output.{heard_on};
 ghost use Rattle.sync_node.specs.Safe.{Begin, Safe};
@@ -13,7 +14,9 @@ ghost use Rattle.sync_node.specs.Suits.{IsOfRun};
 
 use crate::fault::NodeFault;
 use outside::Host;
-use record_grammar::{fronts_have_fronts, records_join};
+use record_grammar::{
+    endings_are_of_rests, fronts_have_fronts, records_join, rests_give_nothing,
+};
 use record_stream::{readings_follow, readings_widen};
 use sync_rules::{Batch, Clients};
 use sync_store::Store;
@@ -28,6 +31,8 @@ pub(crate) fn cite_laws()
     readings_widen();
     readings_follow();
     images_stand();
+    endings_are_of_rests();
+    rests_give_nothing();
 }
 
 /// Commits a batch, one of a run.
@@ -41,6 +46,10 @@ pub(crate) fn commit<H: Host, C: Clients>(
     requires allowed { Allowed (C.meaning clients.now) store.old.state.facts batch }
     requires kind { is_settling_kind batch ≡ false }
     ensures commits { OnOk result (Commits (C.meaning clients.now) (batch ∷ []) store.old store.new
+        (H.tells host.old) (H.tells host.new)) }
+    ensures adds { OnOk result (Adds (C.meaning clients.now) (batch ∷ []) store.old store.new
+        (H.tells host.old) (H.tells host.new)) }
+    ensures adds_some { OnErr result (AddsSome (C.meaning clients.now) (batch ∷ []) store.old
         (H.tells host.old) (H.tells host.new)) }
     ensures safe { (b : Begin) (plans later : List Session) → IsFront plans later
         → (Told (H.tells host.old) → IsOfRun b.first later (heard_on (H.tells host.old).links)
@@ -61,6 +70,10 @@ pub(crate) fn settle<H: Host, C: Clients>(
 ) -> Result<(), NodeFault>
     requires ready { IsReady (C.meaning clients.now) store.old (H.tells host.old).files }
     ensures settles { OnOk result (Settles (C.meaning clients.now) store.old store.new
+        (H.tells host.old) (H.tells host.new)) }
+    ensures adds { OnOk result (AddsSettling (C.meaning clients.now) store.old store.new
+        (H.tells host.old) (H.tells host.new)) }
+    ensures adds_some { OnErr result (AddsSomeSettling (C.meaning clients.now) store.old
         (H.tells host.old) (H.tells host.new)) }
     ensures safe { (b : Begin) (plans : List Session)
         → Safe (C.meaning clients.now) b plans store.old (H.tells host.old)

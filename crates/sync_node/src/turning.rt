@@ -1,5 +1,8 @@
 //! A turn: of one link, and of all links in order.
-ghost use Rattle.std.specs.Prelude.{◌≡◌, ℕ, ◌<◌, ◌≤◌, [], length, OnErr, OnOk};
+ghost use Rattle.std.specs.Prelude.{◌≡◌, ℕ, ◌<◌, ◌≤◌, [], length, IfOk, OnErr, OnOk};
+ghost use Rattle.sync_course.specs.declared.TheConstants.{PIECE_LEN};
+ghost use Rattle.sync_node.specs.Courses.{HearsAsCourse, HearsStops, SendsAsCourse, SendsStop};
+ghost use Rattle.sync_node.specs.Courses.{TurnAsCourse, TurnsAsCourse, TurnsStop};
 ghost use Rattle.outside.specs.declared.limits.TheConstants.{LINKS};
 ghost use Rattle.sync_node.specs.Node.{AreAttached, AreSome, LinksSafe, LinksWork, MayGoOn};
 ghost use Rattle.sync_node.specs.Working.{IsAble, StaysSafe, Waits, Works};
@@ -60,6 +63,13 @@ fn turn_each<H: Host, C: Clients>(
     requires room { 0 < length buffer.old }
     ensures may { OnOk result (MayGoOn (C.meaning clients.now) links.new store.new
         (H.tells host.new)) }
+    ensures course { (first : ℕ) → AreAttached first links.old store.old.state.facts
+        → length buffer.old ≡ PIECE_LEN → IfOk result (TurnsAsCourse (C.meaning clients.now) first
+        (length links.old) links.old links.new store.old store.new (H.tells host.old)
+        (H.tells host.new)) }
+    ensures halts { (first : ℕ) → AreAttached first links.old store.old.state.facts
+        → length buffer.old ≡ PIECE_LEN → OnErr result (TurnsStop (C.meaning clients.now) first
+        links.old store.old (H.tells host.old) (H.tells host.new)) }
     ensures works { (first : ℕ) → AreAttached first links.old store.old.state.facts
         → OnOk result (LinksWork (C.meaning clients.now) first links.old links.new store.old
         store.new (H.tells host.old) (H.tells host.new)) }
@@ -94,6 +104,12 @@ fn turn_link<H: Host, C: Clients>(
     ensures able { OnOk result (IsAble (C.meaning clients.now) number link.new.session store.new
         (H.tells host.new)) }
     ensures waits { OnOk result (Waits link.new) }
+    ensures course { length buffer.old ≡ PIECE_LEN → IfOk result (TurnAsCourse
+        (C.meaning clients.now) number link.old link.new store.old store.new (H.tells host.old)
+        (H.tells host.new)) }
+    ensures halts { length buffer.old ≡ PIECE_LEN → OnErr result (HearsStops
+        (C.meaning clients.now) number link.old store.old (H.tells host.old)
+        (H.tells host.new)) }
     ensures works { OnOk result (Works (C.meaning clients.now) number [] [] link.old link.new
         store.old store.new (H.tells host.old) (H.tells host.new)) }
     ensures stays { OnErr result (StaysSafe (C.meaning clients.now) number [] link.old store.old
@@ -121,6 +137,12 @@ fn hear_now<H: Host, C: Clients>(
     ensures able { OnOk result (IsAble (C.meaning clients.now) number link.new.session store.new
         (H.tells host.new)) }
     ensures waits { OnOk result (Waits link.new) }
+    ensures course { length buffer.old ≡ PIECE_LEN → IfOk result (HearsAsCourse
+        (C.meaning clients.now) number link.old link.new store.old store.new (H.tells host.old)
+        (H.tells host.new)) }
+    ensures stops { length buffer.old ≡ PIECE_LEN → OnErr result (HearsStops
+        (C.meaning clients.now) number link.old store.old (H.tells host.old)
+        (H.tells host.new)) }
     ensures works { OnOk result (Works (C.meaning clients.now) number [] [] link.old link.new
         store.old store.new (H.tells host.old) (H.tells host.new)) }
     ensures stays { OnErr result (StaysSafe (C.meaning clients.now) number [] link.old store.old
@@ -148,6 +170,10 @@ fn send_now<H: Host, C: Clients>(
     ensures able { OnOk result (IsAble (C.meaning clients.now) number link.new.session store.new
         (H.tells host.new)) }
     ensures waits { OnOk result (Waits link.new) }
+    ensures course { IfOk result (SendsAsCourse (C.meaning clients.now) number link.old link.new
+        store.old store.new (H.tells host.old) (H.tells host.new)) }
+    ensures halts { OnErr result (SendsStop (C.meaning clients.now) number link.old store.old
+        (H.tells host.old) (H.tells host.new)) }
     ensures works { OnOk result (Works (C.meaning clients.now) number [] [] link.old link.new
         store.old store.new (H.tells host.old) (H.tells host.new)) }
     ensures stays { OnErr result (StaysSafe (C.meaning clients.now) number [] link.old store.old

@@ -1,6 +1,9 @@
 use Rattle.std.proofs.Common.{refl, sym, ◌∙◌}
 use Rattle.outside.specs.declared.host.Heard.TheVariants as heard
 use Rattle.sync_node.proofs.WorkLaws.{able_calm, ended_not_going, on_err, stays_then, works_ended, works_heard, works_then}
+use Rattle.std.proofs.Common.{ap}
+use Rattle.sync_node.specs.CourseTurns.{hears_ended, hears_failed, hears_idle, hears_piece, hears_stops}
+use Rattle.sync_node.specs.Ends.{ended_by}
 use Rattle.sync_node.proofs.hearing.receive_on.Goals as goal
 
 pub recv-requires-clause-link : goal.recv-requires-clause-link
@@ -69,3 +72,27 @@ returns-in-Failed-clause-works g c =
     works_then _ _ _ _ _ _ _ _ _ _ _ _ _ _
     (works_heard c.cite_laws.ensures.fronts c.cite_laws.ensures.widen (g.C.Clients.meaning c.args.clients.now) c.args.number heard.Failed c.recv.new.buf c.args.link.now c.args.store.now _ _ c.requires.able.dialled c.in-Failed.ensures.call c.in-Failed.ensures.links)
     (works_ended _ _ _ _ _ _ _ _ refl (λ going. cc) c.requires.asked)
+
+pub returns-in_err-take_piece-in-Got-clause-stops : goal.returns-in_err-take_piece-in-Got-clause-stops
+returns-in_err-take_piece-in-Got-clause-stops g c = λ whole.
+    on_err _ _
+    (hears_stops _ _ _ _ _ _ c.recv.new.buf (c.recv.auto.buf ∙ whole) c.requires.asked c.in-Got.ensures.call.same_files c.cite_laws.ensures.widen c.in-Got.count _
+    c.in-Got.ensures.links c.in-Got.ensures.answer (rw c.new-piece.ensures at c.in_err-take_piece-in-Got.ensures.stops))
+
+pub returns-in_ok-take_piece-in-Got-clause-course : goal.returns-in_ok-take_piece-in-Got-clause-course
+returns-in_ok-take_piece-in-Got-clause-course g c = λ whole.
+    hears_piece _ _ _ _ _ _ c.recv.new.buf (c.recv.auto.buf ∙ whole) c.requires.asked c.in-Got.ensures.call.same_files c.cite_laws.ensures.widen c.in-Got.count _ _ _
+    c.in-Got.ensures.links c.in-Got.ensures.answer (rw c.new-piece.ensures at c.in_ok-take_piece-in-Got.ensures.course)
+
+pub returns-in-Idle-clause-course : goal.returns-in-Idle-clause-course
+returns-in-Idle-clause-course g c = λ whole.
+    hears_idle _ _ _ _ _ _ c.recv.new.buf (c.recv.auto.buf ∙ whole) c.requires.asked c.in-Idle.ensures.call.same_files c.in-Idle.ensures.links c.in-Idle.ensures.answer
+
+pub returns-in-End-clause-course : goal.returns-in-End-clause-course
+returns-in-End-clause-course g c = λ whole.
+    hears_ended _ _ _ _ _ _ c.recv.new.buf (c.recv.auto.buf ∙ whole) c.requires.asked c.in-End.ensures.call.same_files _
+    (c.ended-link.ensures ∙ ap ended_by c.end.ensures.ending) c.in-End.ensures.links c.in-End.ensures.answer
+
+pub returns-in-Failed-clause-course : goal.returns-in-Failed-clause-course
+returns-in-Failed-clause-course g c = λ whole.
+    hears_failed _ _ _ _ _ _ c.recv.new.buf (c.recv.auto.buf ∙ whole) c.requires.asked c.in-Failed.ensures.call.same_files c.in-Failed.ensures.links c.in-Failed.ensures.answer

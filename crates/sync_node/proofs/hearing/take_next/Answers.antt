@@ -2,6 +2,7 @@ use Rattle.std.proofs.Common.{refl, ap, length, arith}
 use Rattle.record_stream.specs.Reading.{ReaderState}
 use Rattle.sync_node.proofs.TakeLaws.{more_works, open_for, skip_works, taken_able, taken_stays, taken_works}
 use Rattle.sync_node.proofs.WorkLaws.{on_err, stays_none, works_ended}
+use Rattle.sync_node.specs.CourseLaws.{next_bad, next_more, next_one, next_skipped, next_stops, next_stops_at_none}
 use Rattle.sync_node.proofs.hearing.take_next.Goals as goal
 
 pub take_one-requires : goal.take_one-requires
@@ -62,3 +63,34 @@ returns-in-Bad-clause-left g c =
 
 pub returns-in-Bad-clause-works : goal.returns-in-Bad-clause-works
 returns-in-Bad-clause-works g c = works_ended _ _ _ _ _ _ _ _ refl (λ going. cc) c.requires.asked
+
+pub returns-in_err-place-clause-stops : goal.returns-in_err-place-clause-stops
+returns-in_err-place-clause-stops g c = on_err _ _ (next_stops_at_none _ _ _ _ _ _)
+
+pub returns-in_err-take_one-in-One-clause-stops : goal.returns-in_err-take_one-in-One-clause-stops
+returns-in_err-take_one-in-One-clause-stops g c =
+    on_err _ _
+    (next_stops c.cite_laws.ensures.follow _ _ c.in-One.place c.in-One.rec _ _ _ _ c.learn.new.link _ _ _ refl
+    (rw c.in-One.is at c.in_ok-place.ensures.stream) c.learn.ensures c.in_err-take_one-in-One.ensures.stops)
+
+pub returns-in_ok-take_one-in-One-clause-course : goal.returns-in_ok-take_one-in-One-clause-course
+returns-in_ok-take_one-in-One-clause-course g c =
+    next_one c.cite_laws.ensures.follow _ _ c.in-One.place c.in-One.rec _ _ _ _ c.learn.new.link _ _ _ _ c.requires.asked refl refl refl
+    (rw c.in-One.is at c.in_ok-place.ensures.stream) c.learn.ensures c.in_ok-take_one-in-One.ensures.course
+
+pub returns-in-Skipped-clause-course : goal.returns-in-Skipped-clause-course
+returns-in-Skipped-clause-course g c =
+    next_skipped c.cite_laws.ensures.follow _ _ c.in-Skipped.field-0 c.in-Skipped.field-1 c.in-Skipped.field-2 _ _ _ _ _ _ c.requires.asked refl refl refl
+    c.requires.able.settled (rw c.in-Skipped.is at c.in_ok-place.ensures.stream)
+
+pub returns-in-More-clause-course : goal.returns-in-More-clause-course
+returns-in-More-clause-course g c =
+    let left = rw c.in-More.is at c.in_ok-place.ensures.left in
+    next_more c.cite_laws.ensures.follow c.cite_laws.ensures.ends c.cite_laws.ensures.rests_give _ _ _ _ _ _ _ _ c.requires.asked refl refl refl
+    c.requires.able.settled (rw c.in-More.is at c.in_ok-place.ensures.stream) left.0 left.1 left.3
+
+pub returns-in-Bad-clause-course : goal.returns-in-Bad-clause-course
+returns-in-Bad-clause-course g c =
+    let left = rw c.in-Bad.is at c.in_ok-place.ensures.left in
+    next_bad c.cite_laws.ensures.follow _ _ c.in-Bad.place c.in-Bad.reason _ _ _ _ _ _ c.requires.asked refl refl refl c.requires.able.settled
+    (rw c.in-Bad.is at c.in_ok-place.ensures.stream) left.0 left.1 left.2

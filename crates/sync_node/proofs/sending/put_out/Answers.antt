@@ -1,6 +1,7 @@
 use Rattle.std.proofs.Common.{arith, ◌∙◌}
 use Rattle.sync_node.proofs.OutLaws.{put_able, put_stays, put_waits, put_works}
 use Rattle.sync_node.proofs.WorkLaws.{on_err, stays_none}
+use Rattle.sync_node.specs.CourseTurns.{puts_course, puts_stops, puts_stops_there}
 use Rattle.sync_node.proofs.sending.put_out.Goals as goal
 
 pub returns-in_err-bytes-clause-stays : goal.returns-in_err-bytes-clause-stays
@@ -28,3 +29,18 @@ returns-clause-works g c =
     c.in_ok-commit.ensures.commits c.in_ok-commit.ensures.safe
     (c.as_slice.ensures.value ∙ c.in_ok-bytes.ensures)
     c.end-room.ensures.numbers.roomy c.requires.able.dialled c.requires.unfailed c.send_on.ensures
+
+pub returns-in_err-bytes-clause-stops : goal.returns-in_err-bytes-clause-stops
+returns-in_err-bytes-clause-stops g c = on_err _ _ (puts_stops_there _ _ _ _ _ _)
+
+pub returns-in_err-batch-clause-stops : goal.returns-in_err-batch-clause-stops
+returns-in_err-batch-clause-stops g c = on_err _ _ (puts_stops_there _ _ _ _ _ _)
+
+pub returns-in_err-commit-clause-stops : goal.returns-in_err-commit-clause-stops
+returns-in_err-commit-clause-stops g c =
+    on_err _ _ (puts_stops _ _ c.args.now c.args.out _ _ _ c.in_ok-batch.batch c.in_ok-batch.ensures c.requires.allowed _ c.in_err-commit.ensures.adds_some)
+
+pub returns-clause-course : goal.returns-clause-course
+returns-clause-course g c =
+    puts_course _ _ c.args.now c.args.out _ _ _ c.in_ok-batch.batch c.in_ok-batch.ensures c.requires.allowed _ _ _ _ _ c.in_ok-commit.ensures.commits.facts
+    c.in_ok-commit.ensures.adds c.send_on.ensures

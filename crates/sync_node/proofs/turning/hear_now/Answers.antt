@@ -1,4 +1,5 @@
 use Rattle.sync_node.proofs.WorkLaws.{works_none}
+use Rattle.sync_node.specs.CourseTurns.{hears_nothing}
 use Rattle.sync_node.proofs.turning.hear_now.Goals as goal
 
 pub returns-then-not-is_asked-clause-able : goal.returns-then-not-is_asked-clause-able
@@ -21,3 +22,13 @@ returns-clause-works g c = c.receive_on.ensures.works
 
 pub returns-clause-stays : goal.returns-clause-stays
 returns-clause-stays g c = c.receive_on.ensures.stays
+
+pub returns-then-not-is_asked-clause-course : goal.returns-then-not-is_asked-clause-course
+returns-then-not-is_asked-clause-course g c = λ whole.
+    hears_nothing _ _ _ _ _ (λ going. let yes = c.is_asked.ensures.1 going in let no = c.if-not-is_asked.true in cc)
+
+pub returns-clause-course : goal.returns-clause-course
+returns-clause-course g c = c.receive_on.ensures.course
+
+pub returns-clause-stops : goal.returns-clause-stops
+returns-clause-stops g c = c.receive_on.ensures.stops

@@ -1,4 +1,5 @@
 use Rattle.sync_node.proofs.WorkLaws.{able_calm, on_err_then, on_ok, stays_then, works_clock, works_none, works_then}
+use Rattle.sync_node.specs.CourseTurns.{if_ok_then, sends_closed, sends_read, sends_stop}
 use Rattle.sync_node.proofs.turning.send_now.Goals as goal
 
 pub returns-then-not-may_send-clause-able : goal.returns-then-not-may_send-clause-able
@@ -33,3 +34,19 @@ returns-clause-stays g c =
     on_err_then c.send_all.result _ _
     (stays_then _ _ _ _ _ _ _ _ _ _ _ _ (works_clock c.cite_laws.ensures.fronts _ _ _ _ _ _ _ _ c.now-now.ensures.call c.now-now.ensures.links))
     c.send_all.ensures.stays
+
+pub returns-then-not-may_send-clause-course : goal.returns-then-not-may_send-clause-course
+returns-then-not-may_send-clause-course g c =
+    sends_closed _ _ _ _ _ (λ may. let yes = c.may_send.ensures.1 may in let no = c.if-not-may_send.true in cc)
+
+pub returns-clause-course : goal.returns-clause-course
+returns-clause-course g c =
+    let may = c.may_send.ensures.0 c.if-not-may_send.false in
+    if_ok_then c.send_all.result _ _
+    (λ made sent. sends_read _ _ _ _ _ _ _ may c.now-now.ensures.links c.now-now.ensures.call.same_files _ _ _ made sent) (c.send_all.ensures.course may)
+
+pub returns-clause-halts : goal.returns-clause-halts
+returns-clause-halts g c =
+    let may = c.may_send.ensures.0 c.if-not-may_send.false in
+    on_err_then c.send_all.result _ _
+    (sends_stop _ _ _ _ _ _ _ may c.now-now.ensures.links c.now-now.ensures.call.same_files _) (c.send_all.ensures.stops may)

@@ -1,4 +1,5 @@
 use Rattle.sync_node.proofs.WorkLaws.{on_err, stays_then, works_then}
+use Rattle.sync_node.specs.CourseTurns.{turn_loud, turn_quiet, turn_stops}
 use Rattle.sync_node.proofs.turning.turn_link.Goals as goal
 
 pub returns-in_err-quiet-clause-stays : goal.returns-in_err-quiet-clause-stays
@@ -30,3 +31,18 @@ returns-else-quiet-clause-waits g c = c.in_ok-made.ensures.waits
 
 pub returns-else-quiet-clause-works : goal.returns-else-quiet-clause-works
 returns-else-quiet-clause-works g c = works_then _ _ _ _ _ _ _ _ _ _ _ _ _ _ c.in_ok-quiet.ensures.works c.in_ok-made.ensures.works
+
+pub returns-in_err-quiet-clause-halts : goal.returns-in_err-quiet-clause-halts
+returns-in_err-quiet-clause-halts g c = λ whole. on_err _ _ (c.in_err-quiet.ensures.stops whole)
+
+pub returns-in_err-made-clause-halts : goal.returns-in_err-made-clause-halts
+returns-in_err-made-clause-halts g c = λ whole.
+    on_err _ _ (turn_stops _ _ _ _ _ _ _ _ _ c.in_ok-quiet.ensures.works.same_session (c.in_ok-quiet.ensures.course whole) _ c.in_err-made.ensures.halts)
+
+pub returns-then-quiet-clause-course : goal.returns-then-quiet-clause-course
+returns-then-quiet-clause-course g c = λ whole.
+    turn_quiet _ _ _ _ _ _ _ _ _ c.in_ok-quiet.ensures.works.same_session (c.in_ok-quiet.ensures.course whole) _ _ _ _ c.if-quiet.true c.in_ok-made.ensures.course
+
+pub returns-else-quiet-clause-course : goal.returns-else-quiet-clause-course
+returns-else-quiet-clause-course g c = λ whole.
+    turn_loud _ _ _ _ _ _ _ _ _ c.in_ok-quiet.ensures.works.same_session (c.in_ok-quiet.ensures.course whole) _ _ _ _ c.if-quiet.false c.in_ok-made.ensures.course
