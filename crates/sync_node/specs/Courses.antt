@@ -1,6 +1,6 @@
 -- What a run does to a store and its disk, as a course: where the disk fits the store with a journal, and what the files stand for
 -- where a call was broken off.
-use Rattle.std.specs.Prelude.{◌≡◌, ◌⊎◌, ℕ, suc, ◌+◌, Bool, true, false, cond, nat_lt, slice_get, List, [], ◌∷◌, ◌++◌, Option, Some}
+use Rattle.std.specs.Prelude.{◌≡◌, ◌⊎◌, ℕ, suc, ◌+◌, Bool, true, false, cond, ◌&&◌, nat_eq, nat_lt, slice_get, List, [], ◌∷◌, ◌++◌, Option, Some}
 use Rattle.outside.specs.Files.{Two, File, read_files}
 use Rattle.outside.specs.Outside.{Outside}
 use Rattle.sync_rules.specs.declared.entries.Entry.{Entry}
@@ -18,7 +18,7 @@ use Rattle.sync_rules.specs.Facts.{Facts, after_batches}
 use Rattle.sync_course.specs.declared.ends.LinkEnd as course_end
 use Rattle.sync_course.specs.declared.ends.LinkEnd.TheVariants as stands
 use Rattle.sync_course.specs.Links as course_links
-use Rattle.sync_course.specs.Links.{is_sent_to, items_after, link_after}
+use Rattle.sync_course.specs.Links.{is_going, is_kept, is_sent_to, items_after, link_after}
 use Rattle.sync_course.specs.declared.TheConstants.{MAX_OUTPUTS}
 use Rattle.sync_course.specs.ReadingLaws.{HasRead, IsReading}
 use Rattle.sync_node.specs.declared.link.Link.{Link}
@@ -287,3 +287,11 @@ pub record TurnsAsCourse (clients : Meaning) (first n : ℕ) (links links' : Lis
 pub record TurnsStop (clients : Meaning) (first : ℕ) (links : List Link) (s : StoreValue) (o o' : Outside) : Type 0 where
   pub stops : (terms : Terms) (heard : ℕ → List ℕ) (moved : Bool) (still made : ℕ) → terms.first ≡ first → AllRead heard links
       → RunBreaks clients terms (place_at (Works 0 Asks) links heard moved still made s.state.facts) s o o'
+
+-- ---- redundant links
+
+-- a link is kept rather than another one, where it stands before it or not
+abbrev pub outdoes_of : Link → Link → Bool → Bool
+outdoes_of a b before =
+    is_going (end_of a.end)
+    && (is_going (end_of b.end) && (nat_eq a.session.contact b.session.contact && is_kept a.nonce b.nonce before))

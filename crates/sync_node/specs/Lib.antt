@@ -18,3 +18,4 @@ pub mod Courses
 pub mod CourseLaws
 pub mod CourseTurns
 pub mod CourseRuns
+pub mod CourseRedundant

@@ -1,5 +1,6 @@
 //! Which of several links with one contact is kept (this project's profile).
 ghost use Rattle.std.specs.Prelude.{◌≡◌, ◌<◌, length, slice_get, IsTrue, Some};
+ghost use Rattle.sync_node.specs.Courses.{outdoes_of};
 ghost use Rattle.sync_node.specs.Redundant.{ClosesSome};
 
 use crate::link::{Link, LinkEnd};
@@ -33,7 +34,8 @@ fn is_redundant(links: &[Link], place: usize) -> bool
 // Whether of two links with one contact the first one is kept: its nonce is greater, or the same,
 // and it stands before the other.
 fn outdoes(rival: &Link, link: &Link, before: bool) -> bool
-    ensures { IsTrue result → link.now.end ≡ LinkEnd.Going }
+    ensures going { IsTrue result → link.now.end ≡ LinkEnd.Going }
+    ensures exact { result ≡ outdoes_of rival.now link.now before }
 {
     let same = rival.session.contact == link.session.contact;
     if !same || !rival.end.is_asked() || !link.end.is_asked() {
