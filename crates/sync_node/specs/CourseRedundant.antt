@@ -4,11 +4,14 @@ use Rattle.std.specs.Cmp.Lexicographic.{lists_agrees, pointwise, slice_cmp, slic
 use Rattle.std.specs.Ordering.{eq_by_cmp, is_eq, is_gt, is_some_and, nat_cmp, partial_gt}
 use Rattle.std.specs.declared.cmp.Ordering.{Ordering}
 use Rattle.std.specs.declared.cmp.Ordering.TheVariants as ordering
-use Rattle.sync_course.specs.Links.{is_before, is_going, is_kept}
+use Rattle.std.specs.Prelude.{nat_lt, slice_get}
+use Rattle.sync_course.specs.Links as course_links
+use Rattle.sync_course.specs.Links.{beats, is_beaten, is_before, is_going, is_kept}
 use Rattle.sync_node.specs.declared.link.Link.{Link}
 use Rattle.sync_node.specs.declared.link.LinkEnd.{LinkEnd}
 use Rattle.sync_node.specs.declared.link.LinkEnd.TheVariants as link_end
-use Rattle.sync_node.specs.Courses.{end_of, outdoes_of}
+use Rattle.sync_node.specs.Courses.{end_of, link_at, links_from, outdoes_of}
+use Rattle.sync_node.specs.CourseRuns.{get_at, length_from}
 
 gt_is : (a b : List ℕ) → partial_gt (slice_partial_cmp (λ x y. Some (nat_cmp x y))) a b ≡ is_gt (slice_cmp nat_cmp a b)
 gt_is a b = ap (is_some_and is_gt) (lists_agrees (λ x y. refl) a b)
@@ -61,3 +64,78 @@ module _ (a b : Link) (before g : Bool) (theirs own : List ℕ) (first : a.end �
   outdoes_not no_gt later =
       before_not (slice_cmp nat_cmp theirs own) before g (gt ∙ gt_is theirs own) no_gt later
       ∙ sym (outdoes_when a b before theirs own first second same one two)
+
+-- ---- some link of a list is kept rather than one
+
+module _ (k : ℕ) (b : course_links.Link) where
+  pub beaten_step : (j i : ℕ) (links : List course_links.Link) (a : course_links.Link) → slice_get links i ≡ Some a
+      → is_beaten (j + i) (drop i links) k b ≡ (beats (j + i) a k b || is_beaten (suc (j + i)) (drop (suc i) links) k b)
+  beaten_step j i [] a at = cc
+  beaten_step j zero (x ∷ links) a at =
+      let same : x ≡ a = cc in
+      ap (λ y. beats (j + 0) y k b || is_beaten (suc (j + 0)) links k b) same
+  beaten_step j (suc i) (x ∷ links) a at =
+      let later : suc j + i ≡ j + suc i = omega arith in
+      subst (λ (n : ℕ). is_beaten n (drop i links) k b ≡ (beats n a k b || is_beaten (suc n) (drop (suc i) links) k b)) later
+      (beaten_step (suc j) i links a at)
+
+  pub beaten_end : (j i : ℕ) (links : List course_links.Link) → length links ≤ i → is_beaten j (drop i links) k b ≡ false
+  beaten_end j zero [] past = refl
+  beaten_end j (suc i) [] past = refl
+  beaten_end j zero (x ∷ links) past = absurd (omega (arith, past))
+  beaten_end j (suc i) (x ∷ links) past = beaten_end j i links (omega (arith, past))
+
+-- so far none of the links was
+pub record NoneSoFar (links : List Link) (place i : ℕ) : Type 0 where
+  pub rest : (heard : ℕ → List ℕ) (l : Link) → slice_get links place ≡ Some l
+      → is_beaten 0 (links_from 0 links heard) place (link_at l (heard place))
+      ≡ is_beaten i (drop i (links_from 0 links heard)) place (link_at l (heard place))
+
+pub none_yet : (links : List Link) (place : ℕ) → NoneSoFar links place 0
+none_yet links place = record { rest = λ heard l at. refl }
+
+one_more_of : (links : List Link) (place i : ℕ) (a : Link) → slice_get links i ≡ Some a → NoneSoFar links place i → (heard : ℕ → List ℕ) (l : Link)
+    → slice_get links place ≡ Some l
+    → is_beaten 0 (links_from 0 links heard) place (link_at l (heard place))
+    ≡ (outdoes_of a l (nat_lt i place) || is_beaten (suc i) (drop (suc i) (links_from 0 links heard)) place (link_at l (heard place)))
+one_more_of links place i a at so heard l here =
+    let plain : 0 + i ≡ i = omega arith in
+    let found : slice_get (links_from 0 links heard) i ≡ Some (link_at a (heard i)) =
+        get_at 0 i links heard a at ∙ ap (λ (j : ℕ). Some (link_at a (heard j))) plain in
+    so.rest heard l here
+    ∙ subst (λ (n : ℕ). is_beaten n (drop i (links_from 0 links heard)) place (link_at l (heard place))
+    ≡ (beats n (link_at a (heard i)) place (link_at l (heard place))
+    || is_beaten (suc n) (drop (suc i) (links_from 0 links heard)) place (link_at l (heard place)))) plain
+    (beaten_step place (link_at l (heard place)) 0 i (links_from 0 links heard) (link_at a (heard i)) found)
+
+-- this one was
+pub some_beats : (links : List Link) (place i : ℕ) (a l0 : Link) (r : Bool) → slice_get links i ≡ Some a → slice_get links place ≡ Some l0
+    → r ≡ outdoes_of a l0 (nat_lt i place) → r ≡ true → NoneSoFar links place i → (heard : ℕ → List ℕ) (l : Link) → slice_get links place ≡ Some l
+    → true ≡ is_beaten 0 (links_from 0 links heard) place (link_at l (heard place))
+some_beats links place i a l0 r at here is so before heard l at_l =
+    let both : Some l0 ≡ Some l = sym here ∙ at_l in
+    let same : l0 ≡ l = cc in
+    let first : outdoes_of a l (nat_lt i place) ≡ true = ap (λ x. outdoes_of a x (nat_lt i place)) (sym same) ∙ sym is ∙ so in
+    sym (one_more_of links place i a at before heard l at_l
+    ∙ ap (λ (t : Bool). t || is_beaten (suc i) (drop (suc i) (links_from 0 links heard)) place (link_at l (heard place))) first)
+
+-- this one was not
+pub one_more : (links : List Link) (place i k : ℕ) (a l0 : Link) (r : Bool) → slice_get links i ≡ Some a → slice_get links place ≡ Some l0
+    → r ≡ outdoes_of a l0 (nat_lt i place) → r ≡ false → k ≡ i + 1 → NoneSoFar links place i → NoneSoFar links place k
+one_more links place i k a l0 r at here is so next before =
+    let suc_is : suc i ≡ k = omega (arith, next) in
+    subst (NoneSoFar links place) suc_is (record {
+      rest = λ heard l at_l.
+          let both : Some l0 ≡ Some l = sym here ∙ at_l in
+          let same : l0 ≡ l = cc in
+          let first : outdoes_of a l (nat_lt i place) ≡ false = ap (λ x. outdoes_of a x (nat_lt i place)) (sym same) ∙ sym is ∙ so in
+          one_more_of links place i a at before heard l at_l
+          ∙ ap (λ (t : Bool). t || is_beaten (suc i) (drop (suc i) (links_from 0 links heard)) place (link_at l (heard place))) first;
+    })
+
+-- none was
+pub none_at_all : (links : List Link) (place i : ℕ) → length links ≤ i → NoneSoFar links place i → (heard : ℕ → List ℕ) (l : Link) → slice_get links place ≡ Some l
+    → false ≡ is_beaten 0 (links_from 0 links heard) place (link_at l (heard place))
+none_at_all links place i past so heard l at =
+    let len : length (links_from 0 links heard) ≡ length links = length_from 0 links heard in
+    sym (so.rest heard l at ∙ beaten_end place (link_at l (heard place)) i i (links_from 0 links heard) (omega (arith, len, past)))

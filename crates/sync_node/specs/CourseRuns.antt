@@ -23,7 +23,7 @@ use Rattle.sync_node.specs.Courses.{AllRead, FitsWith, HearsStops, IsRead, LinkB
 abbrev pub heard_with : ℕ → List ℕ → (ℕ → List ℕ) → ℕ → List ℕ
 heard_with n bytes heard k = cond (nat_eq k n) bytes (heard k)
 
-get_at : (k n : ℕ) (links : List Link) (heard : ℕ → List ℕ) (l : Link) → slice_get links n ≡ Some l
+pub get_at : (k n : ℕ) (links : List Link) (heard : ℕ → List ℕ) (l : Link) → slice_get links n ≡ Some l
     → slice_get (links_from k links heard) n ≡ Some (link_at l (heard (k + n)))
 get_at k n [] heard l at = cc
 get_at k zero (x ∷ links) heard l at =
@@ -42,7 +42,7 @@ same_from k n (x ∷ links) heard bytes less =
     ap (λ (b : Bool). link_at x (cond b bytes (heard k)) ∷ links_from (suc k) links (heard_with n bytes heard)) other
     ∙ ap (λ (ls : List course_links.Link). link_at x (heard k) ∷ ls) (same_from (suc k) n links heard bytes (omega (arith, less)))
 
-set_at : (k n : ℕ) (links : List Link) (heard : ℕ → List ℕ) (l' : Link) (bytes : List ℕ)
+pub set_at : (k n : ℕ) (links : List Link) (heard : ℕ → List ℕ) (l' : Link) (bytes : List ℕ)
     → slice_set (links_from k links heard) n (link_at l' bytes) ≡ links_from k (slice_set links n l') (heard_with (k + n) bytes heard)
 set_at k n [] heard l' bytes = refl
 set_at k zero (x ∷ links) heard l' bytes =
@@ -57,7 +57,7 @@ set_at k (suc n) (x ∷ links) heard l' bytes =
     ∙ ap (λ (ls : List course_links.Link). link_at x (heard_with (k + suc n) bytes heard k) ∷ ls)
     (set_at (suc k) n links heard l' bytes ∙ ap (λ (j : ℕ). links_from (suc k) (slice_set links n l') (heard_with j bytes heard)) later)
 
-length_from : (k : ℕ) (links : List Link) (heard : ℕ → List ℕ) → length (links_from k links heard) ≡ length links
+pub length_from : (k : ℕ) (links : List Link) (heard : ℕ → List ℕ) → length (links_from k links heard) ≡ length links
 length_from k [] heard = refl
 length_from k (x ∷ links) heard = ap suc (length_from (suc k) links heard)
 

@@ -1,6 +1,7 @@
 //! Which of several links with one contact is kept (this project's profile).
-ghost use Rattle.std.specs.Prelude.{◌≡◌, ◌<◌, length, slice_get, IsTrue, Some};
-ghost use Rattle.sync_node.specs.Courses.{outdoes_of};
+ghost use Rattle.std.specs.Prelude.{◌≡◌, ℕ, ◌<◌, List, length, slice_get, IsTrue, Some};
+ghost use Rattle.sync_course.specs.Links.{is_beaten};
+ghost use Rattle.sync_node.specs.Courses.{link_at, links_from, outdoes_of};
 ghost use Rattle.sync_node.specs.Redundant.{ClosesSome};
 
 use crate::link::{Link, LinkEnd};
@@ -20,8 +21,10 @@ pub(crate) fn close_redundant(links: &mut [Link])
 // Whether another link is kept in place of this one.
 fn is_redundant(links: &[Link], place: usize) -> bool
     requires { place < length links.now }
-    ensures { IsTrue result → (l : Link) → slice_get links.now place ≡ Some l
+    ensures going { IsTrue result → (l : Link) → slice_get links.now place ≡ Some l
         → l.end ≡ LinkEnd.Going }
+    ensures exact { (heard : ℕ → List ℕ) (l : Link) → slice_get links.now place ≡ Some l
+        → result ≡ is_beaten 0 (links_from 0 links.now heard) place (link_at l (heard place)) }
 {
     'rivals: for (other, rival) in links.iter().enumerate() {
         if outdoes(rival, &links[place], other < place) {
