@@ -4,9 +4,12 @@ use Rattle.std.specs.Cmp.Lexicographic.{lists_agrees, pointwise, slice_cmp, slic
 use Rattle.std.specs.Ordering.{eq_by_cmp, is_eq, is_gt, is_some_and, nat_cmp, partial_gt}
 use Rattle.std.specs.declared.cmp.Ordering.{Ordering}
 use Rattle.std.specs.declared.cmp.Ordering.TheVariants as ordering
-use Rattle.std.specs.Prelude.{nat_lt, slice_get}
+use Rattle.std.specs.Prelude.{nat_lt, slice_get, slice_set}
 use Rattle.sync_course.specs.Links as course_links
-use Rattle.sync_course.specs.Links.{beats, is_beaten, is_before, is_going, is_kept}
+use Rattle.sync_course.specs.Links.{beats, is_beaten, is_before, is_going, is_kept, without_redundant}
+use Rattle.sync_course.specs.KeptLaws.{closed_upto, closed_whole, closes_next}
+use Rattle.sync_course.specs.LiftLaws.{set_same}
+use Rattle.sync_course.specs.declared.ends.LinkEnd.TheVariants as stands
 use Rattle.sync_node.specs.declared.link.Link.{Link}
 use Rattle.sync_node.specs.declared.link.LinkEnd.{LinkEnd}
 use Rattle.sync_node.specs.declared.link.LinkEnd.TheVariants as link_end
@@ -139,3 +142,83 @@ pub none_at_all : (links : List Link) (place i : ℕ) → length links ≤ i →
 none_at_all links place i past so heard l at =
     let len : length (links_from 0 links heard) ≡ length links = length_from 0 links heard in
     sym (so.rest heard l at ∙ beaten_end place (link_at l (heard place)) i i (links_from 0 links heard) (omega (arith, len, past)))
+
+-- ---- closing one after the other
+
+rest_of : (all : List course_links.Link) (k m : ℕ) (links : List course_links.Link) → slice_get (closed_upto all k m links) m ≡ slice_get links m
+rest_of all k zero links = refl
+rest_of all k (suc m) [] = refl
+rest_of all k (suc m) (x ∷ links) = rest_of all (suc k) m links
+
+set_there : (k n : ℕ) (links : List Link) (heard : ℕ → List ℕ) (l' : Link)
+    → slice_set (links_from k links heard) n (link_at l' (heard (k + n))) ≡ links_from k (slice_set links n l') heard
+set_there k n [] heard l' = refl
+set_there k zero (x ∷ links) heard l' =
+    let here : k + 0 ≡ k = omega arith in
+    ap (λ (j : ℕ). link_at l' (heard j) ∷ links_from (suc k) links heard) here
+set_there k (suc n) (x ∷ links) heard l' =
+    let later : k + suc n ≡ suc k + n = omega arith in
+    ap (λ (ls : List course_links.Link). link_at x (heard k) ∷ ls)
+    (ap (λ (j : ℕ). slice_set (links_from (suc k) links heard) n (link_at l' (heard j))) later ∙ set_there (suc k) n links heard l')
+
+-- the first links, so many, are closed as a course has it
+pub record ClosedSo (old links : List Link) (m : ℕ) : Type 0 where
+  pub closed : (heard : ℕ → List ℕ) → links_from 0 links heard ≡ closed_upto (links_from 0 old heard) 0 m (links_from 0 old heard)
+
+pub closed_none : (old : List Link) → ClosedSo old old 0
+closed_none old = record { closed = λ heard. refl }
+
+module _ (old links : List Link) (m : ℕ) (l : Link) (at : slice_get links m ≡ Some l) (r : Bool)
+    (exact : (heard : ℕ → List ℕ) (x : Link) → slice_get links m ≡ Some x → r ≡ is_beaten 0 (links_from 0 links heard) m (link_at x (heard m)))
+    (before : ClosedSo old links m) where
+  next_closed : (heard : ℕ → List ℕ)
+      → closed_upto (links_from 0 old heard) 0 (suc m) (links_from 0 old heard)
+      ≡ slice_set (links_from 0 links heard) m (record (link_at l (heard m)) { stands = cond r stands.Redundant (end_of l.end) })
+  next_closed heard =
+      let whole : List course_links.Link = links_from 0 old heard in
+      let now : List course_links.Link = links_from 0 links heard in
+      let b : course_links.Link = link_at l (heard m) in
+      let plain : 0 + m ≡ m = omega arith in
+      let found : slice_get now m ≡ Some b = get_at 0 m links heard l at ∙ ap (λ (j : ℕ). Some (link_at l (heard j))) plain in
+      let in_old : slice_get whole m ≡ Some b =
+          sym (rest_of whole 0 m whole) ∙ ap (λ (ls : List course_links.Link). slice_get ls m) (sym (before.closed heard)) ∙ found in
+      closes_next whole m b in_old
+      ∙ ap (λ (ls : List course_links.Link). slice_set ls m (record b { stands = cond (is_beaten 0 ls m b) stands.Redundant b.stands })) (sym (before.closed heard))
+      ∙ ap (λ (t : Bool). slice_set now m (record b { stands = cond t stands.Redundant b.stands })) (sym (exact heard l at))
+
+  pub closes_it : r ≡ true → (k : ℕ) → k ≡ m + 1 → ClosedSo old (slice_set links m (record l { end = link_end.Redundant })) k
+  closes_it so k next =
+      let more : suc m ≡ k = omega (arith, next) in
+      subst (ClosedSo old (slice_set links m (record l { end = link_end.Redundant }))) more (record {
+        closed = λ heard.
+            let plain : m ≡ 0 + m = omega arith in
+            sym (next_closed heard
+            ∙ ap (λ (t : Bool). slice_set (links_from 0 links heard) m (record (link_at l (heard m)) { stands = cond t stands.Redundant (end_of l.end) })) so
+            ∙ ap (λ (j : ℕ). slice_set (links_from 0 links heard) m (link_at (record l { end = link_end.Redundant }) (heard j))) plain
+            ∙ set_there 0 m links heard (record l { end = link_end.Redundant }));
+      })
+
+  pub leaves_it : r ≡ false → (k : ℕ) → k ≡ m + 1 → ClosedSo old links k
+  leaves_it so k next =
+      let more : suc m ≡ k = omega (arith, next) in
+      subst (ClosedSo old links) more (record {
+        closed = λ heard.
+            let plain : 0 + m ≡ m = omega arith in
+            let found : slice_get (links_from 0 links heard) m ≡ Some (link_at l (heard m)) =
+                get_at 0 m links heard l at ∙ ap (λ (j : ℕ). Some (link_at l (heard j))) plain in
+            sym (next_closed heard
+            ∙ ap (λ (t : Bool). slice_set (links_from 0 links heard) m (record (link_at l (heard m)) { stands = cond t stands.Redundant (end_of l.end) })) so
+            ∙ set_same (links_from 0 links heard) m (link_at l (heard m)) found);
+      })
+
+pub get_there : (links : List Link) (i : ℕ) → i < length links → (l : Link) × (slice_get links i ≡ Some l)
+get_there [] i less = absurd (omega (arith, less))
+get_there (x ∷ links) zero less = (x, refl)
+get_there (x ∷ links) (suc i) less = get_there links i (omega (arith, less))
+
+pub closed_all : (old links : List Link) (m : ℕ) → m ≡ length old → ClosedSo old links m → (heard : ℕ → List ℕ)
+    → links_from 0 links heard ≡ without_redundant (links_from 0 old heard)
+closed_all old links m all so heard =
+    let whole : List course_links.Link = links_from 0 old heard in
+    let count : m ≡ length whole = all ∙ sym (length_from 0 old heard) in
+    so.closed heard ∙ ap (λ (k : ℕ). closed_upto whole 0 k whole) count ∙ closed_whole whole 0 whole

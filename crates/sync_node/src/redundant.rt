@@ -1,6 +1,6 @@
 //! Which of several links with one contact is kept (this project's profile).
 ghost use Rattle.std.specs.Prelude.{◌≡◌, ℕ, ◌<◌, List, length, slice_get, IsTrue, Some};
-ghost use Rattle.sync_course.specs.Links.{is_beaten};
+ghost use Rattle.sync_course.specs.Links.{is_beaten, without_redundant};
 ghost use Rattle.sync_node.specs.Courses.{link_at, links_from, outdoes_of};
 ghost use Rattle.sync_node.specs.Redundant.{ClosesSome};
 
@@ -9,7 +9,9 @@ use crate::link::{Link, LinkEnd};
 /// Of the links with one contact that are still asked and have a known nonce keeps the one with the
 /// greatest nonce, of several the first, and closes the others.
 pub(crate) fn close_redundant(links: &mut [Link])
-    ensures { ClosesSome links.old links.new }
+    ensures some { ClosesSome links.old links.new }
+    ensures exact { (heard : ℕ → List ℕ)
+        → links_from 0 links.new heard ≡ without_redundant (links_from 0 links.old heard) }
 {
     'links: for place in 0..links.len() {
         if is_redundant(links, place) {

@@ -8,7 +8,7 @@ returns-in_err-still-clause-safe g c = λ first attached. on_err _ _ (c.in_err-s
 pub returns-clause-works : goal.returns-clause-works
 returns-clause-works g c = λ first attached.
     let works = c.in_ok-still.ensures.works first attached in
-    links_then _ first _ _ _ _ _ _ _ _ _ works (links_closed _ first _ _ _ _ works.attached c.close_redundant.ensures)
+    links_then _ first _ _ _ _ _ _ _ _ _ works (links_closed _ first _ _ _ _ works.attached c.close_redundant.ensures.some)
 
 pub returns-clause-may : goal.returns-clause-may
-returns-clause-may g c = links_may _ _ _ _ _ c.close_redundant.ensures.same_number c.in_ok-still.ensures.may
+returns-clause-may g c = links_may _ _ _ _ _ c.close_redundant.ensures.some.same_number c.in_ok-still.ensures.may
