@@ -8,7 +8,7 @@ use Rattle.sync_rules.specs.declared.entries.Entry.TheVariants as entry
 use Rattle.sync_rules.specs.declared.entries.Level.{Level}
 use Rattle.sync_rules.specs.declared.entries.Out.{Out}
 use Rattle.entry_codec.specs.Spelling.{IsDef, IsEntry, IsOut, IsSession, def_bytes, entry_bytes, level_byte, message_bytes, out_bytes, session_bytes, spelling, whole}
-use Rattle.entry_codec.specs.Reading.{beside, both, byte_in, def_in, entry_in, entry_of, heard_of, id_in, is_between, known_of, level_in, made, meant, message_in, moved_of, number_in, out_in, pair_in, session_in, step_of}
+use Rattle.entry_codec.specs.Reading.{beside, both, byte_in, def_in, entry_in, entry_of, heard_of, id_in, is_between, known_of, level_in, made, meant, message_in, moved_of, be_number_in, out_in, pair_in, session_in, step_of}
 use Rattle.entry_codec.proofs.Readers.{IsBytes, IsReader, both_reads, byte_reads, part, part_is}
 use Rattle.entry_codec.proofs.Parts.{behind_byte, def_reads, id_reads, level_reads, message_reads, number32, number64, out_reads, session_reads, tested, told}
 
@@ -25,16 +25,16 @@ level_entry_reads =
     both_reads (λ n. n ∷ []) (λ n. n < 256) byte_in (λ (a : List ℕ × Level). a.0 ++ (level_byte a.1 ∷ [])) (λ a. IsWhole a.0 × Unit {0}) (both id_in level_in) byte_reads
     (both_reads id_bytes IsWhole id_in (λ l. level_byte l ∷ []) (λ l. Unit {0}) level_in id_reads level_reads)
 
-take_reads : IsReader (λ (a : ℕ × ℕ). to_be_bytes w32 a.0 ++ to_be_bytes w64 a.1) (λ a. (a.0 < 2 ^ 32) × (a.1 < 2 ^ 64)) (both (number_in w32) (number_in w64))
-take_reads = both_reads (to_be_bytes w32) (λ n. n < 2 ^ 32) (number_in w32) (to_be_bytes w64) (λ n. n < 2 ^ 64) (number_in w64) number32 number64
+take_reads : IsReader (λ (a : ℕ × ℕ). to_be_bytes w32 a.0 ++ to_be_bytes w64 a.1) (λ a. (a.0 < 2 ^ 32) × (a.1 < 2 ^ 64)) (both (be_number_in w32) (be_number_in w64))
+take_reads = both_reads (to_be_bytes w32) (λ n. n < 2 ^ 32) (be_number_in w32) (to_be_bytes w64) (λ n. n < 2 ^ 64) (be_number_in w64) number32 number64
 
-arrive_reads : IsReader (λ (a : ℕ × MessageValue). to_be_bytes w32 a.0 ++ message_bytes a.1) (λ a. (a.0 < 2 ^ 32) × IsMessage a.1) (both (number_in w32) message_in)
-arrive_reads = both_reads (to_be_bytes w32) (λ n. n < 2 ^ 32) (number_in w32) message_bytes IsMessage message_in number32 message_reads
+arrive_reads : IsReader (λ (a : ℕ × MessageValue). to_be_bytes w32 a.0 ++ message_bytes a.1) (λ a. (a.0 < 2 ^ 32) × IsMessage a.1) (both (be_number_in w32) message_in)
+arrive_reads = both_reads (to_be_bytes w32) (λ n. n < 2 ^ 32) (be_number_in w32) message_bytes IsMessage message_in number32 message_reads
 
-out_entry_reads : IsReader (λ (a : ℕ × (ℕ × Out)). to_be_bytes w32 a.0 ++ (to_be_bytes w64 a.1.0 ++ out_bytes whole a.1.1)) (λ a. (a.0 < 2 ^ 32) × ((a.1.0 < 2 ^ 64) × IsOut a.1.1)) (both (number_in w32) (both (number_in w64) (out_in id_in)))
+out_entry_reads : IsReader (λ (a : ℕ × (ℕ × Out)). to_be_bytes w32 a.0 ++ (to_be_bytes w64 a.1.0 ++ out_bytes whole a.1.1)) (λ a. (a.0 < 2 ^ 32) × ((a.1.0 < 2 ^ 64) × IsOut a.1.1)) (both (be_number_in w32) (both (be_number_in w64) (out_in id_in)))
 out_entry_reads =
-    both_reads (to_be_bytes w32) (λ n. n < 2 ^ 32) (number_in w32) (λ (a : ℕ × Out). to_be_bytes w64 a.0 ++ out_bytes whole a.1) (λ a. (a.0 < 2 ^ 64) × IsOut a.1) (both (number_in w64) (out_in id_in)) number32
-    (both_reads (to_be_bytes w64) (λ n. n < 2 ^ 64) (number_in w64) (out_bytes whole) IsOut (out_in id_in) number64 out_reads)
+    both_reads (to_be_bytes w32) (λ n. n < 2 ^ 32) (be_number_in w32) (λ (a : ℕ × Out). to_be_bytes w64 a.0 ++ out_bytes whole a.1) (λ a. (a.0 < 2 ^ 64) × IsOut a.1) (both (be_number_in w64) (out_in id_in)) number32
+    (both_reads (to_be_bytes w64) (λ n. n < 2 ^ 64) (be_number_in w64) (out_bytes whole) IsOut (out_in id_in) number64 out_reads)
 
 abbrev pair_bytes : ℕ × List ℕ → List ℕ
 pair_bytes a = to_be_bytes w32 a.0 ++ a.1
@@ -44,7 +44,7 @@ IsPair a = (a.0 < 2 ^ 32) × IsWhole a.1
 
 pair_reads : IsReader pair_bytes IsPair (pair_in id_in)
 unfolding pair_in
-pair_reads = both_reads (to_be_bytes w32) (λ n. n < 2 ^ 32) (number_in w32) id_bytes IsWhole id_in number32 id_reads
+pair_reads = both_reads (to_be_bytes w32) (λ n. n < 2 ^ 32) (be_number_in w32) id_bytes IsWhole id_in number32 id_reads
 
 -- ---- what is written is read
 
@@ -96,16 +96,16 @@ moved_found : (bytes mid rest : List ℕ) (n : ℕ) (e : Entry) → IsBytes mid 
 moved_found bytes mid rest n e fits first h =
     tested (IsFound bytes rest e) n 4 (made entry.Session (session_in mid)) _ (Some (e, rest))
     (λ k h. found_by session_bytes IsSession session_in session_reads entry.Session 4 (λ a l. l) (λ a. refl) bytes mid rest n e fits first k h)
-    (tested (IsFound bytes rest e) n 5 (made (λ (a : ℕ × ℕ). entry.Take a.0 a.1) (both (number_in w32) (number_in w64) mid)) _ (Some (e, rest))
-    (λ k h. found_by (λ (a : ℕ × ℕ). to_be_bytes w32 a.0 ++ to_be_bytes w64 a.1) (λ a. (a.0 < 2 ^ 32) × (a.1 < 2 ^ 64)) (both (number_in w32) (number_in w64)) take_reads
+    (tested (IsFound bytes rest e) n 5 (made (λ (a : ℕ × ℕ). entry.Take a.0 a.1) (both (be_number_in w32) (be_number_in w64) mid)) _ (Some (e, rest))
+    (λ k h. found_by (λ (a : ℕ × ℕ). to_be_bytes w32 a.0 ++ to_be_bytes w64 a.1) (λ a. (a.0 < 2 ^ 32) × (a.1 < 2 ^ 64)) (both (be_number_in w32) (be_number_in w64)) take_reads
     (λ a. entry.Take a.0 a.1) 5 (λ a l. l) (λ a. refl) bytes mid rest n e fits first k h)
     (tested (IsFound bytes rest e) n 6 (made entry.Author (message_in mid)) _ (Some (e, rest))
     (λ k h. found_by message_bytes IsMessage message_in message_reads entry.Author 6 (λ a l. l) (λ a. refl) bytes mid rest n e fits first k h)
-    (tested (IsFound bytes rest e) n 7 (made (λ (a : ℕ × MessageValue). entry.Arrive a.0 a.1) (both (number_in w32) message_in mid)) _ (Some (e, rest))
-    (λ k h. found_by (λ (a : ℕ × MessageValue). to_be_bytes w32 a.0 ++ message_bytes a.1) (λ a. (a.0 < 2 ^ 32) × IsMessage a.1) (both (number_in w32) message_in) arrive_reads
+    (tested (IsFound bytes rest e) n 7 (made (λ (a : ℕ × MessageValue). entry.Arrive a.0 a.1) (both (be_number_in w32) message_in mid)) _ (Some (e, rest))
+    (λ k h. found_by (λ (a : ℕ × MessageValue). to_be_bytes w32 a.0 ++ message_bytes a.1) (λ a. (a.0 < 2 ^ 32) × IsMessage a.1) (both (be_number_in w32) message_in) arrive_reads
     (λ a. entry.Arrive a.0 a.1) 7 (λ a l. l) (λ a. refl) bytes mid rest n e fits first k h)
-    (tested (IsFound bytes rest e) n 15 (made (λ (a : ℕ × (ℕ × Out)). entry.Out a.0 a.1.0 a.1.1) (both (number_in w32) (both (number_in w64) (out_in id_in)) mid)) None (Some (e, rest))
-    (λ k h. found_by (λ (a : ℕ × (ℕ × Out)). to_be_bytes w32 a.0 ++ (to_be_bytes w64 a.1.0 ++ out_bytes whole a.1.1)) (λ a. (a.0 < 2 ^ 32) × ((a.1.0 < 2 ^ 64) × IsOut a.1.1)) (both (number_in w32) (both (number_in w64) (out_in id_in))) out_entry_reads
+    (tested (IsFound bytes rest e) n 15 (made (λ (a : ℕ × (ℕ × Out)). entry.Out a.0 a.1.0 a.1.1) (both (be_number_in w32) (both (be_number_in w64) (out_in id_in)) mid)) None (Some (e, rest))
+    (λ k h. found_by (λ (a : ℕ × (ℕ × Out)). to_be_bytes w32 a.0 ++ (to_be_bytes w64 a.1.0 ++ out_bytes whole a.1.1)) (λ a. (a.0 < 2 ^ 32) × ((a.1.0 < 2 ^ 64) × IsOut a.1.1)) (both (be_number_in w32) (both (be_number_in w64) (out_in id_in))) out_entry_reads
     (λ a. entry.Out a.0 a.1.0 a.1.1) 15 (λ a l. (l.0, l.1.0, l.1.1)) (λ a. refl) bytes mid rest n e fits first k h)
     (λ h. absurd cc)))))
     h

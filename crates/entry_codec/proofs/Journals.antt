@@ -19,7 +19,8 @@ use Rattle.entry_codec.specs.Spelling.{IsEntry}
 use Rattle.entry_codec.specs.Payloads.{batch_of, payload, payloads}
 use Rattle.entry_codec.specs.StandingLaws.{HoldsJournal}
 use Rattle.entry_codec.specs.Standing.{Standing, damaged, frames_from, journal, read_on, rest_from, room_of, stands, stands_in, taken_on}
-use Rattle.entry_codec.specs.Growing.{facts_push, legal_push, length_frame}
+use Rattle.sync_rules.specs.Continuing.{legal-push}
+use Rattle.entry_codec.specs.Growing.{facts_push, length_frame}
 use Rattle.entry_codec.specs.Fronts.{rest_once}
 use Rattle.entry_codec.proofs.BatchLaws.{batch_back}
 
@@ -182,7 +183,7 @@ taken_legal clients means file further place done j later None legal e = absurd 
 taken_legal clients means file further place done j later (Some b) legal e =
     let granted = true_cond (allows clients (facts done) b) (further (done ++ b ∷ [])) (damaged file place) (journal j) (λ h. cc) e in
     let same = same_cond (allows clients (facts done) b) (further (done ++ b ∷ [])) (damaged file place) (journal j) (λ h. cc) e in
-    later (done ++ b ∷ []) (legal_push clients done b legal (means (facts done) b granted)) same
+    later (done ++ b ∷ []) (legal-push clients done b legal (means (facts done) b granted)) same
 
 on_legal : (clients : Meaning) → Means clients → (file : ℕ) (further : ℕ → List (List Entry) → Standing) (place : ℕ) (done j : List (List Entry))
     → ((next : ℕ) (d : List (List Entry)) → Legal clients d → further next d ≡ journal j → Legal clients j)

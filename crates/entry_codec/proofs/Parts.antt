@@ -18,18 +18,18 @@ use Rattle.sync_rules.specs.declared.entries.Mode.TheVariants as mode_kind
 use Rattle.sync_rules.specs.declared.entries.Out.{Out}
 use Rattle.sync_rules.specs.declared.entries.Out.TheVariants as out
 use Rattle.entry_codec.specs.Spelling.{IsDef, IsNonce, IsOut, IsSession, counted, def_bytes, ids_bytes, level_byte, message_bytes, mode_byte, nonce_bytes, out_bytes, session_bytes, whole}
-use Rattle.entry_codec.specs.Reading.{both, byte_in, chained, counted_in, def_in, def_of, flagged, front_in, id_in, ids_in, is_between, latency_in, level_in, level_of, list_in, made, message_in, message_of, mode_in, mode_of, name_in, nonce_in, number_in, out_in, out_of, passed, session_in, session_of, time_in}
+use Rattle.entry_codec.specs.Reading.{both, byte_in, chained, counted_in, def_in, def_of, flagged, front_in, id_in, ids_in, is_between, latency_in, level_in, level_of, list_in, made, message_in, message_of, mode_in, mode_of, name_in, nonce_in, be_number_in, out_in, out_of, passed, session_in, session_of, time_in}
 use Rattle.entry_codec.proofs.Readers.{IsBytes, IsReader, both_reads, byte_reads, chained_reads, chained_some, front_reads, list_reads, made_reads, made_some, meant_reads, number_reads, part, part_is, passed_reads, seen_as, wide16, wide32, wide64}
 
 -- ---- numbers and ids
 
-pub number16 : IsReader (to_be_bytes w16) (λ n. n < 2 ^ 16) (number_in w16)
+pub number16 : IsReader (to_be_bytes w16) (λ n. n < 2 ^ 16) (be_number_in w16)
 number16 = number_reads w16 (2 ^ 16) wide16
 
-pub number32 : IsReader (to_be_bytes w32) (λ n. n < 2 ^ 32) (number_in w32)
+pub number32 : IsReader (to_be_bytes w32) (λ n. n < 2 ^ 32) (be_number_in w32)
 number32 = number_reads w32 (2 ^ 32) wide32
 
-pub number64 : IsReader (to_be_bytes w64) (λ n. n < 2 ^ 64) (number_in w64)
+pub number64 : IsReader (to_be_bytes w64) (λ n. n < 2 ^ 64) (be_number_in w64)
 number64 = number_reads w64 (2 ^ 64) wide64
 
 pub id_reads : IsReader (λ (id : List ℕ). id) (λ id. length id ≡ 32) id_in
@@ -42,16 +42,16 @@ between_told : (least most n : ℕ) → is_between least most n ≡ true → (le
 between_told least most n e = (grind (arith, nat_tests), grind (arith, nat_tests))
 
 -- a number of two bytes within limits
-count_reads : (least most : ℕ) → most < 2 ^ 16 → IsReader (to_be_bytes w16) (λ n. (least ≤ n) × (n ≤ most)) (λ bytes. passed (is_between least most) (number_in w16 bytes))
+count_reads : (least most : ℕ) → most < 2 ^ 16 → IsReader (to_be_bytes w16) (λ n. (least ≤ n) × (n ≤ most)) (λ bytes. passed (is_between least most) (be_number_in w16 bytes))
 count_reads least most fits =
-    passed_reads (to_be_bytes w16) (λ n. n < 2 ^ 16) (λ n. (least ≤ n) × (n ≤ most)) (number_in w16) (is_between least most) number16
+    passed_reads (to_be_bytes w16) (λ n. n < 2 ^ 16) (λ n. (least ≤ n) × (n ≤ most)) (be_number_in w16) (is_between least most) number16
     (λ n m. (omega (arith, m.1), between_is least most n m.0 m.1)) (λ n l e. between_told least most n e)
 
 pub counted_reads : (least most : ℕ) → most < 2 ^ 16 → IsReader counted (λ b. (least ≤ length b) × (length b ≤ most)) (counted_in least most)
 unfolding counted_in
 counted_reads least most fits =
     seen_as counted counted (λ b. ((least ≤ length b) × (length b ≤ most)) × (length b ≡ length b)) (λ b. (least ≤ length b) × (length b ≤ most)) (counted_in least most)
-    (chained_reads (to_be_bytes w16) (λ n. (least ≤ n) × (n ≤ most)) (λ bytes. passed (is_between least most) (number_in w16 bytes)) (λ b. b) (λ n b. length b ≡ n) front_in length
+    (chained_reads (to_be_bytes w16) (λ n. (least ≤ n) × (n ≤ most)) (λ bytes. passed (is_between least most) (be_number_in w16 bytes)) (λ b. b) (λ n b. length b ≡ n) front_in length
     (count_reads least most fits) front_reads (λ n b e. e))
     (λ b m. (m, refl)) (λ b l. l.0) (λ b. refl)
 
@@ -82,10 +82,10 @@ unfolding def_in
 def_reads =
     made_reads (λ (a : List ℕ × (ℕ × List ℕ)). (length a.0 ∷ a.0) ++ (to_be_bytes w32 a.1.0 ++ counted a.1.1))
     (λ a. IsName a.0 × ((a.1.0 < 2 ^ 32) × ((0 ≤ length a.1.1) × (length a.1.1 ≤ MAX_DESCRIPTOR))))
-    (both name_in (both (number_in w32) (counted_in 0 MAX_DESCRIPTOR))) def_bytes IsDef def_of (λ d. (d.name, (d.major, d.descriptor)))
-    (both_reads (λ b. length b ∷ b) IsName name_in (λ (a : ℕ × List ℕ). to_be_bytes w32 a.0 ++ counted a.1) (λ a. (a.0 < 2 ^ 32) × ((0 ≤ length a.1) × (length a.1 ≤ MAX_DESCRIPTOR))) (both (number_in w32) (counted_in 0 MAX_DESCRIPTOR))
+    (both name_in (both (be_number_in w32) (counted_in 0 MAX_DESCRIPTOR))) def_bytes IsDef def_of (λ d. (d.name, (d.major, d.descriptor)))
+    (both_reads (λ b. length b ∷ b) IsName name_in (λ (a : ℕ × List ℕ). to_be_bytes w32 a.0 ++ counted a.1) (λ a. (a.0 < 2 ^ 32) × ((0 ≤ length a.1) × (length a.1 ≤ MAX_DESCRIPTOR))) (both (be_number_in w32) (counted_in 0 MAX_DESCRIPTOR))
     name_reads
-    (both_reads (to_be_bytes w32) (λ n. n < 2 ^ 32) (number_in w32) counted (λ b. (0 ≤ length b) × (length b ≤ MAX_DESCRIPTOR)) (counted_in 0 MAX_DESCRIPTOR) number32 (counted_reads 0 MAX_DESCRIPTOR (omega arith))))
+    (both_reads (to_be_bytes w32) (λ n. n < 2 ^ 32) (be_number_in w32) counted (λ b. (0 ≤ length b) × (length b ≤ MAX_DESCRIPTOR)) (counted_in 0 MAX_DESCRIPTOR) number32 (counted_reads 0 MAX_DESCRIPTOR (omega arith))))
     (λ d m. (((m.within.some_name, m.within.short_name, m.utf8_name), (m.within.major_fits, (omega arith, m.within.short_descriptor))), refl, refl))
     (λ a l. (record { within = record { some_name = l.0.0; short_name = l.0.1; major_fits = l.1.0; short_descriptor = l.1.1.1 }; utf8_name = l.0.2 }, refl))
 
@@ -94,7 +94,7 @@ def_reads =
 time_reads : IsReader (to_be_bytes w64) (λ t. t ≤ MAX_TIMESTAMP) time_in
 unfolding time_in
 time_reads =
-    passed_reads (to_be_bytes w64) (λ t. t < 2 ^ 64) (λ t. t ≤ MAX_TIMESTAMP) (number_in w64) (λ t. nat_le t MAX_TIMESTAMP) number64
+    passed_reads (to_be_bytes w64) (λ t. t < 2 ^ 64) (λ t. t ≤ MAX_TIMESTAMP) (be_number_in w64) (λ t. nat_le t MAX_TIMESTAMP) number64
     (λ t m. (omega (arith, m), le-leb t MAX_TIMESTAMP m)) (λ t l e. leb-true t MAX_TIMESTAMP e)
 
 pub message_reads : IsReader message_bytes IsMessage message_in
@@ -219,7 +219,7 @@ nonce_reads = record { back = nonce_back; sound = nonce_sound }
 latency_reads : IsReader (to_be_bytes w32) (λ n. (0 < n) × (n < 2 ^ 32)) latency_in
 unfolding latency_in
 latency_reads =
-    passed_reads (to_be_bytes w32) (λ n. n < 2 ^ 32) (λ n. (0 < n) × (n < 2 ^ 32)) (number_in w32) (nat_lt 0) number32
+    passed_reads (to_be_bytes w32) (λ n. n < 2 ^ 32) (λ n. (0 < n) × (n < 2 ^ 32)) (be_number_in w32) (nat_lt 0) number32
     (λ n m. (m.1, lt-ltb 0 n m.0)) (λ n l e. (ltb-true 0 n e, l))
 
 abbrev Tail2 : Type 0
@@ -249,8 +249,8 @@ unfolding session_in
 session_reads =
     made_reads (λ (a : ℕ × Tail4). to_be_bytes w32 a.0 ++ ((a.1.0 ∷ []) ++ ((mode_byte a.1.1.0 ∷ []) ++ (to_be_bytes w32 a.1.1.1.0 ++ nonce_bytes a.1.1.1.1))))
     (λ a. (a.0 < 2 ^ 32) × ((a.1.0 < 256) × (Unit {0} × (((0 < a.1.1.1.0) × (a.1.1.1.0 < 2 ^ 32)) × IsNonce a.1.1.1.1))))
-    (both (number_in w32) (both byte_in (both mode_in (both latency_in nonce_in)))) session_bytes IsSession session_of (λ s. (s.number, (s.contact, (s.mode, (s.latency, s.nonce)))))
-    (both_reads (to_be_bytes w32) (λ n. n < 2 ^ 32) (number_in w32)
+    (both (be_number_in w32) (both byte_in (both mode_in (both latency_in nonce_in)))) session_bytes IsSession session_of (λ s. (s.number, (s.contact, (s.mode, (s.latency, s.nonce)))))
+    (both_reads (to_be_bytes w32) (λ n. n < 2 ^ 32) (be_number_in w32)
     (λ (a : Tail4). (a.0 ∷ []) ++ ((mode_byte a.1.0 ∷ []) ++ (to_be_bytes w32 a.1.1.0 ++ nonce_bytes a.1.1.1)))
     (λ a. (a.0 < 256) × (Unit {0} × (((0 < a.1.1.0) × (a.1.1.0 < 2 ^ 32)) × IsNonce a.1.1.1))) (both byte_in (both mode_in (both latency_in nonce_in))) number32 tail4_reads)
     (λ s m. ((m.number_fits, (m.contact_fits, (tt, ((m.some_latency, m.latency_fits), m.whole_nonce)))), refl, refl))
@@ -263,7 +263,7 @@ unfolding ids_in
 ids_reads =
     seen_as (ids_bytes whole) (ids_bytes whole)
     (λ ids. ((1 ≤ length ids) × (length ids ≤ MAX_IDS)) × ((length ids ≡ length ids) × AreIds ids)) (IsIdList MAX_IDS) (ids_in id_in)
-    (chained_reads (to_be_bytes w16) (λ n. (1 ≤ n) × (n ≤ MAX_IDS)) (λ bytes. passed (is_between 1 MAX_IDS) (number_in w16 bytes))
+    (chained_reads (to_be_bytes w16) (λ n. (1 ≤ n) × (n ≤ MAX_IDS)) (λ bytes. passed (is_between 1 MAX_IDS) (be_number_in w16 bytes))
     (flat_map (λ (id : List ℕ). id)) (λ n ids. (length ids ≡ n) × AreIds ids) (list_in id_in) length
     (count_reads 1 MAX_IDS (omega arith)) (list_reads (λ (id : List ℕ). id) (λ id. length id ≡ 32) id_in id_reads) (λ n ids e. e.0))
     (λ ids m. ((m.some, m.few), (refl, m.whole))) (λ ids l. record { some = l.0.0; few = l.0.1; whole = l.1.1 }) (λ ids. refl)

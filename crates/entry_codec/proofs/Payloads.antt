@@ -15,7 +15,8 @@ use Rattle.sync_rules.specs.Clients.{Meaning}
 use Rattle.sync_rules.specs.Lists.{firsts, firsts_after, is_among, unless_among}
 use Rattle.sync_rules.specs.Facts.{Facts, Held, after, contact_of, held_at, is_invisible, level_at, row_at, wanted_from}
 use Rattle.sync_rules.specs.Steps.{answer_of, first_or_next, first_step, is_ended, is_failing, is_served, step, step_accepted, step_by, step_open}
-use Rattle.sync_rules.specs.Sessions.{is_remembered, is_shown, is_shown_held, is_welcome, one_if, room_after, taken_acks, taken_from, taken_message, taken_message_of, taken_offers, taken_requests, wants_limit}
+use Rattle.sync_rules.specs.declared.limits.TheConstants.{MAX_WANTED}
+use Rattle.sync_rules.specs.Sessions.{is_remembered, is_shown, is_shown_held, is_welcome, one_if, room_after, taken_acks, taken_from, taken_message, taken_message_of, taken_offers, taken_requests}
 use Rattle.sync_rules.specs.Legal.{Allowed, IsSettling}
 use Rattle.entry_codec.specs.declared.lengths.TheConstants.{MAX_BATCH_LEN}
 use Rattle.entry_codec.specs.Spelling.{IsEntry, spelling}
@@ -86,7 +87,7 @@ message_short f s c m all = go (is_welcome f c m.group) all where
 taken_short : (f : Facts) (s c : ℕ) (r : Record) → IsRecord r → AreEntries (taken_from f s c r) → length (spellings (taken_from f s c r)) ≤ 56832
 taken_short f s c (record_kind.Ack ids) is all = omega (arith, acks_short f s c (firsts ids) all, firsts_few [] ids, is.few)
 taken_short f s c (record_kind.Message m) is all = omega (arith, message_short f s c m all)
-taken_short f s c (record_kind.Offer ids) is all = omega (arith, offers_short f s c (wants_limit - length (wanted_from f.wanted c)) (firsts ids) all, firsts_few [] ids, is.few)
+taken_short f s c (record_kind.Offer ids) is all = omega (arith, offers_short f s c (MAX_WANTED - length (wanted_from f.wanted c)) (firsts ids) all, firsts_few [] ids, is.few)
 taken_short f s c (record_kind.Request ids) is all = omega (arith, requests_short f s c (firsts ids) all, firsts_few [] ids, is.few)
 taken_short f s c (record_kind.Versions versions) is all = omega arith
 taken_short f s c (record_kind.Priority nonce) is all = omega arith

@@ -6,7 +6,7 @@ use Rattle.std.specs.List.{AllByRecursion, flat_map}
 use Rattle.std.proofs.lemmas.Bool.{cases_lt, ltb-false, le-ltb}
 use Rattle.std.proofs.lemmas.List.{take_at, drop_at, take-append-drop, length-take, length-take-le, get_or-append-add, get_or-take, get_or_past}
 use Rattle.std.proofs.lemmas.Nat.{be_bytes_2, be_bytes_4, be_bytes_8, from_be_bytes-to_be_bytes_2, from_be_bytes-to_be_bytes_4, from_be_bytes-to_be_bytes_8}
-use Rattle.entry_codec.specs.Reading.{beside, both, byte_in, chained, front_in, list_in, made, meant, number_in, passed}
+use Rattle.entry_codec.specs.Reading.{beside, both, byte_in, chained, front_in, list_in, made, meant, be_number_in, passed}
 
 abbrev pub IsBytes : List ℕ → Type 0
 IsBytes bytes = (i : ℕ) → get_or bytes i 0 < 256
@@ -118,13 +118,13 @@ byte_sound (x ∷ bytes) rest a fits e =
 pub byte_reads : IsReader (λ (a : ℕ). a ∷ []) (λ a. a < 256) byte_in
 byte_reads = record { back = λ a more fits. byte_back a more; sound = byte_sound }
 
-number_back : (w : Width) (limit : ℕ) → IsWide w limit → (n : ℕ) (more : List ℕ) → n < limit → number_in w (to_be_bytes w n ++ more) ≡ Some (n, more)
-unfolding number_in
+number_back : (w : Width) (limit : ℕ) → IsWide w limit → (n : ℕ) (more : List ℕ) → n < limit → be_number_in w (to_be_bytes w n ++ more) ≡ Some (n, more)
+unfolding be_number_in
 number_back w limit wide n more lt =
     ap (made (from_be_bytes w)) (front_back (byte_len w) (to_be_bytes w n) more (wide.len n)) ∙ ap (λ (k : ℕ). Some (k, more)) (wide.again n lt)
 
-number_sound : (w : Width) (limit : ℕ) → IsWide w limit → (bytes rest : List ℕ) (n : ℕ) → IsBytes bytes → number_in w bytes ≡ Some (n, rest) → (n < limit) × (bytes ≡ to_be_bytes w n ++ rest)
-unfolding number_in
+number_sound : (w : Width) (limit : ℕ) → IsWide w limit → (bytes rest : List ℕ) (n : ℕ) → IsBytes bytes → be_number_in w bytes ≡ Some (n, rest) → (n < limit) × (bytes ≡ to_be_bytes w n ++ rest)
+unfolding be_number_in
 number_sound w limit wide bytes rest n fits e =
     let m = made_some (from_be_bytes w) (front_in (byte_len w) bytes) n rest e in
     let f = front_sound (byte_len w) bytes m.0 rest m.1 in
@@ -135,7 +135,7 @@ number_sound w limit wide bytes rest n fits e =
     let P : ℕ → Type 0 = λ k. k < limit in
     (subst P m.2 (wide.below m.0 few), f.1 ∙ ap (λ (b : List ℕ). b ++ rest) (sym again))
 
-pub number_reads : (w : Width) (limit : ℕ) → IsWide w limit → IsReader (to_be_bytes w) (λ n. n < limit) (number_in w)
+pub number_reads : (w : Width) (limit : ℕ) → IsWide w limit → IsReader (to_be_bytes w) (λ n. n < limit) (be_number_in w)
 number_reads w limit wide = record { back = number_back w limit wide; sound = number_sound w limit wide }
 
 -- ---- how parts are put together

@@ -15,7 +15,8 @@ use Rattle.outside.specs.Files.{Two, file_of}
 use Rattle.outside.specs.Frames.{Frame, HasFrames, IsPayload, broken, closed, format_in, frame_at, frame_of, framed, is_broken, is_open, journal_file, most_bytes, size_at}
 use Rattle.entry_codec.specs.Spelling.{IsEntry}
 use Rattle.entry_codec.specs.Payloads.{batch_of, journal_end, payload, payloads}
-use Rattle.entry_codec.specs.Growing.{all_push, frames_push, legal_push, length_frame, payloads_push}
+use Rattle.sync_rules.specs.Continuing.{legal-push}
+use Rattle.entry_codec.specs.Growing.{all_push, frames_push, length_frame, payloads_push}
 use Rattle.entry_codec.specs.Standing.{Standing, damaged, frames_from, journal, no_store, read_on, rest_from, room_of, stands, stands_in, taken_on}
 
 -- ---- frames
@@ -260,7 +261,7 @@ front_more clients files file done end to behind batch front e spelled some is w
           ∙ ap (taken_on clients file (rest_from clients file bytes (end - 1 + 5 + length to)) (end - 1) done) some
           ∙ cond-true (allows clients (facts done) batch) _ _ granted
           ∙ ap (λ (n : ℕ). rest_from clients file bytes n (done ++ batch ∷ [])) (omega arith);
-      legal = legal_push clients done batch front.legal allowed;
+      legal = legal-push clients done batch front.legal allowed;
       within = all_push (AllByRecursion IsEntry) done batch front.within within;
       long = front.long;
       whole =

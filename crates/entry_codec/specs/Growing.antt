@@ -7,8 +7,9 @@ use Rattle.std.proofs.lemmas.List.{append-nil}
 use Rattle.std.proofs.lemmas.List.Concat.{flat_map-append}
 use Rattle.sync_rules.specs.declared.entries.Entry.{Entry}
 use Rattle.sync_rules.specs.Clients.{Meaning}
+use Rattle.sync_rules.specs.Continuing.{facts-append}
 use Rattle.sync_rules.specs.Facts.{Facts, after_all, after_batches, facts, nothing}
-use Rattle.sync_rules.specs.Legal.{Allowed, AllSettling, GoesOn, Legal}
+use Rattle.sync_rules.specs.Legal.{AllSettling}
 use Rattle.outside.specs.Frames.{frame_of}
 use Rattle.entry_codec.specs.Payloads.{journal_end, payload, payload_len, payloads}
 
@@ -18,26 +19,10 @@ all_push P (y ∷ ys) x all p = (all.0, all_push P ys x all.1 p)
 
 -- ---- facts
 
-pub after_batches-append : (f : Facts) (first more : List (List Entry)) → after_batches f (first ++ more) ≡ after_batches (after_batches f first) more
-after_batches-append f [] more = refl
-after_batches-append f (b ∷ bs) more = after_batches-append (after_all f b) bs more
-
-pub facts-append : (first more : List (List Entry)) → facts (first ++ more) ≡ after_batches (facts first) more
-facts-append first more = after_batches-append nothing first more
-
 pub facts_push : (done : List (List Entry)) (batch : List Entry) → facts (done ++ batch ∷ []) ≡ after_all (facts done) batch
 facts_push done batch = facts-append done (batch ∷ [])
 
--- ---- legal journals
-
-pub goes_on_push : (clients : Meaning) (f : Facts) (done : List (List Entry)) (batch : List Entry) → GoesOn clients f done
-    → Allowed clients (after_batches f done) batch → GoesOn clients f (done ++ batch ∷ [])
-goes_on_push clients f [] batch so_far allowed = (allowed, tt)
-goes_on_push clients f (b ∷ bs) batch so_far allowed = (so_far.0, goes_on_push clients (after_all f b) bs batch so_far.1 allowed)
-
-pub legal_push : (clients : Meaning) (done : List (List Entry)) (batch : List Entry) → Legal clients done → Allowed clients (facts done) batch
-    → Legal clients (done ++ batch ∷ [])
-legal_push clients done batch so_far allowed = goes_on_push clients nothing done batch so_far allowed
+-- ---- settling
 
 -- settling, and then settling further
 pub settling-append : (clients : Meaning) (f : Facts) (first more : List (List Entry)) → AllSettling clients f first

@@ -57,8 +57,8 @@ unfoldable pub byte_in : List ℕ → Option (ℕ × List ℕ)
 byte_in [] = None
 byte_in (x ∷ rest) = Some (x, rest)
 
-unfoldable pub number_in : Width → List ℕ → Option (ℕ × List ℕ)
-number_in w bytes = made (from_be_bytes w) (front_in (byte_len w) bytes)
+unfoldable pub be_number_in : Width → List ℕ → Option (ℕ × List ℕ)
+be_number_in w bytes = made (from_be_bytes w) (front_in (byte_len w) bytes)
 
 abbrev pub id_in : List ℕ → Option (List ℕ × List ℕ)
 id_in bytes = front_in 32 bytes
@@ -68,7 +68,7 @@ is_between least most n = nat_le least n && nat_le n most
 
 -- bytes behind their number, which has two bytes and these limits
 unfoldable pub counted_in : ℕ → ℕ → List ℕ → Option (List ℕ × List ℕ)
-counted_in least most bytes = chained front_in (passed (is_between least most) (number_in w16 bytes))
+counted_in least most bytes = chained front_in (passed (is_between least most) (be_number_in w16 bytes))
 
 -- a name behind its length, which has one byte
 unfoldable pub name_in : List ℕ → Option (List ℕ × List ℕ)
@@ -79,11 +79,11 @@ abbrev pub def_of : List ℕ × (ℕ × List ℕ) → GroupValue
 def_of a = record { name = a.0; major = a.1.0; descriptor = a.1.1 }
 
 unfoldable pub def_in : List ℕ → Option (GroupValue × List ℕ)
-def_in bytes = made def_of (both name_in (both (number_in w32) (counted_in 0 MAX_DESCRIPTOR)) bytes)
+def_in bytes = made def_of (both name_in (both (be_number_in w32) (counted_in 0 MAX_DESCRIPTOR)) bytes)
 
 -- a time, whose top bit is clear
 unfoldable pub time_in : List ℕ → Option (ℕ × List ℕ)
-time_in bytes = passed (λ t. nat_le t MAX_TIMESTAMP) (number_in w64 bytes)
+time_in bytes = passed (λ t. nat_le t MAX_TIMESTAMP) (be_number_in w64 bytes)
 
 -- a message
 abbrev pub message_of : List ℕ × (ℕ × List ℕ) → MessageValue
@@ -105,7 +105,7 @@ unfoldable pub mode_in : List ℕ → Option (Mode × List ℕ)
 mode_in bytes = meant mode_of (byte_in bytes)
 
 unfoldable pub latency_in : List ℕ → Option (ℕ × List ℕ)
-latency_in bytes = passed (nat_lt 0) (number_in w32 bytes)
+latency_in bytes = passed (nat_lt 0) (be_number_in w32 bytes)
 
 -- what follows the flag of a nonce
 abbrev pub flagged : ℕ → List ℕ → Option (Option (List ℕ) × List ℕ)
@@ -119,7 +119,7 @@ abbrev pub session_of : ℕ × (ℕ × (Mode × (ℕ × Option (List ℕ)))) →
 session_of a = record { number = a.0; contact = a.1.0; mode = a.1.1.0; latency = a.1.1.1.0; nonce = a.1.1.1.1 }
 
 unfoldable pub session_in : List ℕ → Option (Session × List ℕ)
-session_in bytes = made session_of (both (number_in w32) (both byte_in (both mode_in (both latency_in nonce_in))) bytes)
+session_in bytes = made session_of (both (be_number_in w32) (both byte_in (both mode_in (both latency_in nonce_in))) bytes)
 
 -- so many parts, one behind the other
 unfoldable pub list_in : {A : Type 0} → (List ℕ → Option (A × List ℕ)) → ℕ → List ℕ → Option (List A × List ℕ)
@@ -132,7 +132,7 @@ IdReader = List ℕ → Option (List ℕ × List ℕ)
 
 -- at least one id, each read in this way, behind their number, which has two bytes
 unfoldable pub ids_in : IdReader → List ℕ → Option (List (List ℕ) × List ℕ)
-ids_in read bytes = chained (list_in read) (passed (is_between 1 MAX_IDS) (number_in w16 bytes))
+ids_in read bytes = chained (list_in read) (passed (is_between 1 MAX_IDS) (be_number_in w16 bytes))
 
 -- what follows the kind of an output. The ids that are requested are those of messages that are not held
 abbrev pub out_of : IdReader → ℕ → List ℕ → Option (Out × List ℕ)
@@ -150,7 +150,7 @@ out_in held bytes = chained (out_of held) (byte_in bytes)
 
 -- a session's number, and an id
 unfoldable pub pair_in : IdReader → List ℕ → Option ((ℕ × List ℕ) × List ℕ)
-pair_in read bytes = both (number_in w32) read bytes
+pair_in read bytes = both (be_number_in w32) read bytes
 
 -- what follows the tags 11, 13 and 14, which name messages that are held
 abbrev pub heard_of : ℕ → ℕ × List ℕ → Option Entry
@@ -180,10 +180,10 @@ known_of tag rest =
 abbrev pub moved_of : IdReader → ℕ → List ℕ → Option (Entry × List ℕ)
 moved_of held tag rest =
     if tag == 4 then made entry.Session (session_in rest)
-    else if tag == 5 then made (λ a. entry.Take a.0 a.1) (both (number_in w32) (number_in w64) rest)
+    else if tag == 5 then made (λ a. entry.Take a.0 a.1) (both (be_number_in w32) (be_number_in w64) rest)
     else if tag == 6 then made entry.Author (message_in rest)
-    else if tag == 7 then made (λ a. entry.Arrive a.0 a.1) (both (number_in w32) message_in rest)
-    else if tag == 15 then made (λ a. entry.Out a.0 a.1.0 a.1.1) (both (number_in w32) (both (number_in w64) (out_in held)) rest)
+    else if tag == 7 then made (λ a. entry.Arrive a.0 a.1) (both (be_number_in w32) message_in rest)
+    else if tag == 15 then made (λ a. entry.Out a.0 a.1.0 a.1.1) (both (be_number_in w32) (both (be_number_in w64) (out_in held)) rest)
     else None
 
 -- what follows a tag. The message of the tag 12 is not held

@@ -5,7 +5,7 @@ ghost use Rattle.std.specs.Int.{w16, w32, w64};
 ghost use Rattle.std.specs.Str.{IsUtf8};
 ghost use Rattle.entry_codec.specs.Answers.{Reads, ReadsSlice};
 ghost use Rattle.entry_codec.specs.Reading.{byte_in, counted_in, front_in, id_in, is_between};
-ghost use Rattle.entry_codec.specs.Reading.{name_in, number_in, passed, time_in, latency_in};
+ghost use Rattle.entry_codec.specs.Reading.{name_in, be_number_in, passed, time_in, latency_in};
 
 use crate::stop::Stop;
 use sync_ids::{Fixed, MAX_TIMESTAMP, MessageId, Nonce};
@@ -41,27 +41,27 @@ impl<'a> Front<'a> {
         Ok(front)
     }
 
-    #[tactic(auto, unfolding(crate::specs::Reading::number_in))]
+    #[tactic(auto, unfolding(crate::specs::Reading::be_number_in))]
     pub(crate) fn read_u16(&mut self) -> Result<u16, Stop>
-        ensures { Reads (number_in w16) self.old.rest.now result self.new.rest.now }
+        ensures { Reads (be_number_in w16) self.old.rest.now result self.new.rest.now }
     {
         let mut bytes = [0; 2];
         bytes.copy_from_slice(self.read_front(2)?);
         Ok(u16::from_be_bytes(bytes))
     }
 
-    #[tactic(auto, unfolding(crate::specs::Reading::number_in))]
+    #[tactic(auto, unfolding(crate::specs::Reading::be_number_in))]
     pub(crate) fn read_u32(&mut self) -> Result<u32, Stop>
-        ensures { Reads (number_in w32) self.old.rest.now result self.new.rest.now }
+        ensures { Reads (be_number_in w32) self.old.rest.now result self.new.rest.now }
     {
         let mut bytes = [0; 4];
         bytes.copy_from_slice(self.read_front(4)?);
         Ok(u32::from_be_bytes(bytes))
     }
 
-    #[tactic(auto, unfolding(crate::specs::Reading::number_in))]
+    #[tactic(auto, unfolding(crate::specs::Reading::be_number_in))]
     pub(crate) fn read_u64(&mut self) -> Result<u64, Stop>
-        ensures { Reads (number_in w64) self.old.rest.now result self.new.rest.now }
+        ensures { Reads (be_number_in w64) self.old.rest.now result self.new.rest.now }
     {
         let mut bytes = [0; 8];
         bytes.copy_from_slice(self.read_front(8)?);
@@ -109,7 +109,7 @@ impl<'a> Front<'a> {
 
     // A number of two bytes within these limits.
     pub(crate) fn read_count(&mut self, least: usize, most: usize) -> Result<usize, Stop>
-        ensures read { Reads (λ bytes. passed (is_between least most) (number_in w16 bytes))
+        ensures read { Reads (λ bytes. passed (is_between least most) (be_number_in w16 bytes))
             self.old.rest.now result self.new.rest.now }
         ensures least { IfOk result (λ count. least ≤ count) }
         ensures most { IfOk result (λ count. count ≤ most) }

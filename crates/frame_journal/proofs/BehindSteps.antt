@@ -1,8 +1,8 @@
 -- Bytes written behind a gate, call by call.
-use Rattle.std.proofs.Common.{◌≡◌, ℕ, ◌+◌, ◌≤◌, List, [], ◌∷◌, ◌++◌, length, take, drop, Some, Ok, Err, refl, sym, ap, ◌∙◌, subst, arith, append_assoc, length-take}
+use Rattle.std.proofs.Common.{◌≡◌, ℕ, ◌+◌, ◌≤◌, List, ◌++◌, length, take, drop, Some, Ok, Err, sym, ap, ◌∙◌, subst, arith, append_assoc, length-take}
 use Rattle.std.proofs.Math.Seq.{take-append_seam, drop-append_seam}
 use Rattle.outside.specs.declared.failed.Failed.{Failed}
-use Rattle.outside.specs.Files.{Two, File, IsFileImage, NothingPending, file_of, with_file, settled}
+use Rattle.outside.specs.Files.{Two, File, IsFileImage, NothingPending, file_of, settled}
 use Rattle.outside.specs.Disk.{Becomes, Writes, Syncs, after_write, overwritten}
 use Rattle.outside.specs.Images.{length-overwritten}
 use Rattle.outside.specs.Outside.{Outside, DiskCall}

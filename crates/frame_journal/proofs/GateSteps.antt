@@ -1,12 +1,12 @@
 -- A gate opened, call by call.
-use Rattle.std.proofs.Common.{◌≡◌, ℕ, ◌+◌, ◌-◌, ◌<◌, ◌≤◌, List, [], ◌∷◌, ◌++◌, length, take, drop, get_or, Some, Ok, Err, refl, sym, ap, ◌∙◌, subst, arith, append_assoc, take-append-drop}
+use Rattle.std.proofs.Common.{◌≡◌, ℕ, ◌+◌, ◌-◌, ◌<◌, ◌≤◌, List, [], ◌∷◌, ◌++◌, length, take, drop, get_or, Some, Ok, Err, sym, ap, ◌∙◌, subst, arith, append_assoc, take-append-drop}
 use Rattle.std.proofs.lemmas.List.{drop_more}
 use Rattle.outside.specs.declared.failed.Failed.{Failed}
 use Rattle.outside.specs.Files.{Two, File, IsFileImage, NothingPending, file_of, with_file, settled}
 use Rattle.outside.specs.Disk.{Becomes, Writes, Syncs, after_write, overwritten}
 use Rattle.outside.specs.Outside.{Outside, DiskCall}
 use Rattle.outside.specs.Steps.{Reached, Passed, begun, wrote_ok, wrote_err, synced_ok, synced_err}
-use Rattle.frame_journal.specs.Gates.{OpensGate, KeepsAllBut}
+use Rattle.frame_journal.specs.Gates.{KeepsAllBut}
 use Rattle.frame_journal.proofs.Torn.{settled_only, torn_byte}
 
 passes_settled : (bytes c : List ℕ) (place : ℕ) → place < length bytes → IsFileImage (settled bytes) c → KeepsAllBut bytes place c

@@ -12,8 +12,8 @@ use Rattle.sync_rules.specs.Elements.{same_id_itself, same_id_swap, among-push}
 use Rattle.sync_rules.specs.Sound.{contains-more}
 use Rattle.message_graph.specs.declared.nodes.Node.{Node}
 use Rattle.message_graph.specs.declared.nodes.Ending.TheVariants as ending
-use Rattle.message_graph.specs.Nodes.{change, with_answer, with_ending}
-use Rattle.journal_play.specs.Playing.{node_of, judged_of, answer_shown, ending_of, ending_by}
+use Rattle.message_graph.specs.Nodes.{change, with_answer, with_ending, ending_by}
+use Rattle.journal_play.specs.Playing.{node_of, judged_of, answer_shown, ending_of}
 
 abbrev pub ids_of : List Held → List Id
 ids_of hs = map (λ h. h.id) hs

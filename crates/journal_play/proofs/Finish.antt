@@ -14,9 +14,9 @@ use Rattle.sync_rules.specs.Elements.{In}
 use Rattle.sync_rules.specs.Sound.{SoundFacts}
 use Rattle.sync_rules.specs.Runs.{legal_sound}
 use Rattle.message_graph.specs.declared.nodes.Judged.{Judged}
-use Rattle.message_graph.specs.Nodes.{fate_by}
+use Rattle.message_graph.specs.Nodes.{fate_by, ending_by}
 use Rattle.journal_play.specs.Texts.{Line, told, unended, line_at, text_of}
-use Rattle.journal_play.specs.Playing.{Story, IsStoryOf, IsTextOf, node_of, ending_by, answer_shown}
+use Rattle.journal_play.specs.Playing.{Story, IsStoryOf, IsTextOf, node_of, answer_shown}
 use Rattle.journal_play.specs.Keeping.{pending_line, pending_text}
 use Rattle.journal_play.proofs.Texts.{text-append}
 

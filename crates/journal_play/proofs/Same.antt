@@ -18,7 +18,8 @@ use Rattle.message_graph.specs.declared.nodes.Node.{Node}
 use Rattle.message_graph.specs.declared.nodes.Step.{Step}
 use Rattle.message_graph.specs.declared.nodes.Step.TheVariants as graph_step
 use Rattle.message_graph.specs.Nodes as nodes
-use Rattle.journal_play.specs.Playing.{node_of, judged_of, answer_shown, ending_by}
+use Rattle.journal_play.specs.Playing.{node_of, judged_of, answer_shown}
+use Rattle.message_graph.specs.Nodes.{ending_by}
 
 -- ---- look-ups
 

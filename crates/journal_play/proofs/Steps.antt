@@ -27,11 +27,11 @@ use Rattle.message_graph.specs.declared.nodes.Ending.TheVariants as ending
 use Rattle.message_graph.specs.declared.nodes.Step.{Step}
 use Rattle.message_graph.specs.declared.nodes.Step.TheVariants as graph_step
 use Rattle.message_graph.specs.Nodes as nodes
-use Rattle.message_graph.proofs.Steps.{next_judge, next_end}
-use Rattle.message_graph.proofs.Changes.{there_within}
+use Rattle.message_graph.specs.NodeLaws.{next_judge, next_end, there_within}
 use Rattle.journal_play.specs.Texts.{Line, told, line_of, line_at, text_of}
 use Rattle.journal_play.specs.Playing.{Story, node_of, judged_of, Mirrors, StandsFor}
-use Rattle.journal_play.specs.Keeping.{stepping, number_in, Reaches, IsStepped}
+use Rattle.journal_play.specs.Keeping.{stepping, Reaches, IsStepped}
+use Rattle.message_graph.specs.Nodes.{step_number}
 use Rattle.journal_play.proofs.Same.{IsOneGroup, entry_of, id_at, next_same}
 use Rattle.journal_play.proofs.Changes.{judged_node, invalid_node, delivered_node}
 use Rattle.journal_play.proofs.Texts.{told-push, text-append, all-push}
@@ -60,13 +60,13 @@ In_there (x ∷ hs) zero h at = let is : h ≡ x = cc in inl is
 In_there (x ∷ hs) (suc n) h at = inr (In_there hs n h at)
 
 -- the node of the next step is there
-pub next_there : (ns : List Node) (s : Step) → nodes.next ns ≡ Some s → (node : Node) × (slice_get ns (number_in s) ≡ Some node)
+pub next_there : (ns : List Node) (s : Step) → nodes.next ns ≡ Some s → (node : Node) × (slice_get ns (step_number s) ≡ Some node)
 next_there ns (graph_step.Judge n) e = let t = next_judge ns n e in (t.0, t.1)
 next_there ns (graph_step.Invalid n) e = let t = next_end ns n ending.Invalid e in (t.0, t.1)
 next_there ns (graph_step.Deliver n) e = let t = next_end ns n ending.Delivered e in (t.0, t.1)
 
-pub next_within : (ns : List Node) (s : Step) → nodes.next ns ≡ Some s → number_in s < length ns
-next_within ns s e = let t = next_there ns s e in there_within ns (number_in s) t.0 t.1
+pub next_within : (ns : List Node) (s : Step) → nodes.next ns ≡ Some s → step_number s < length ns
+next_within ns s e = let t = next_there ns s e in there_within ns (step_number s) t.0 t.1
 
 -- ---- what a legal journal of one group keeps
 
@@ -248,7 +248,7 @@ pub record IsBatch (clients : Meaning) (def : GroupValue) (k : ℕ) (f : Facts) 
 
 pub step_mirrors : (clients : Meaning) (def : GroupValue) (k : ℕ) (f : Facts) (es : List Entry) (play : Story)
     → Mirrors clients def k f es play → SoundFacts clients f → (s : Step) → nodes.next play.nodes ≡ Some s
-    → (msg : MessageValue) → slice_get play.messages (number_in s) ≡ Some msg → IsBatch clients def k f es (stepping clients s msg play)
+    → (msg : MessageValue) → slice_get play.messages (step_number s) ≡ Some msg → IsBatch clients def k f es (stepping clients s msg play)
 step_mirrors clients def k f es play m sound (graph_step.Judge n) e msg at = record {
   made = entry.Judged (message_id_of msg);
   is_next = is_next clients def k f es play m sound n msg at (graph_step.Judge n) e ∙ ap (λ (x : Id). Some (entry.Judged x)) (named clients def k f es play m sound n msg at);
@@ -276,13 +276,13 @@ entries-push (x ∷ j) b = ap (λ (es : List Entry). x ++ es) (entries-push j b)
 
 -- a message at the number of the next step
 pub message_there : (clients : Meaning) (def : GroupValue) (k : ℕ) (f : Facts) (es : List Entry) (play : Story) → Mirrors clients def k f es play
-    → (s : Step) → nodes.next play.nodes ≡ Some s → (msg : MessageValue) × (slice_get play.messages (number_in s) ≡ Some msg)
+    → (s : Step) → nodes.next play.nodes ≡ Some s → (msg : MessageValue) × (slice_get play.messages (step_number s) ≡ Some msg)
 message_there clients def k f es play m s e =
     let t = next_there play.nodes s e in
-    let node : slice_get (map (node_of clients f) (map (arrived 0) play.messages)) (number_in s) ≡ Some t.0 =
-    (λ i. slice_get (map (node_of clients f) (sym m.held i)) (number_in s)) ∙ (ap (λ (ns : List Node). slice_get ns (number_in s)) (sym m.nodes) ∙ t.1) in
-    let held = of_map (node_of clients f) (map (arrived 0) play.messages) (number_in s) t.0 node in
-    of_map (arrived 0) play.messages (number_in s) held.0 held.1
+    let node : slice_get (map (node_of clients f) (map (arrived 0) play.messages)) (step_number s) ≡ Some t.0 =
+    (λ i. slice_get (map (node_of clients f) (sym m.held i)) (step_number s)) ∙ (ap (λ (ns : List Node). slice_get ns (step_number s)) (sym m.nodes) ∙ t.1) in
+    let held = of_map (node_of clients f) (map (arrived 0) play.messages) (step_number s) t.0 node in
+    of_map (arrived 0) play.messages (step_number s) held.0 held.1
 
 pub reaches_step : (clients : Meaning) (def : GroupValue) (k : ℕ) (old : List (List Entry)) (play now : Story) → Reaches clients def k old play
     → (s : Step) → nodes.next play.nodes ≡ Some s → IsStepped clients s play now → Reaches clients def k old now

@@ -1,5 +1,5 @@
 -- A record is taken, and what is kept goes on to stand for the journal.
-use Rattle.std.proofs.Common.{◌≡◌, ℕ, zero, suc, ◌+◌, ◌-◌, ◌<◌, Bool, true, false, cond, not, ◌&&◌, ◌||◌, List, [], ◌∷◌, ◌++◌, length, map, refl, sym, ◌∙◌, ap, subst, arith, Option, Some, None, is_some, slice_get, append-nil, append_assoc, length-append}
+use Rattle.std.proofs.Common.{◌≡◌, ℕ, zero, ◌+◌, ◌-◌, Bool, true, false, cond, not, ◌&&◌, ◌||◌, List, [], ◌∷◌, ◌++◌, length, map, refl, sym, ◌∙◌, ap, subst, arith, Option, Some, None, is_some, append-nil, append_assoc, length-append}
 use Rattle.std.specs.List.{list_all}
 use Rattle.std.specs.Option.{option_map}
 use Rattle.std.specs.FinMap as fin_map
@@ -32,9 +32,10 @@ use Rattle.sync_rules.specs.HearLaws.{one_session_hears}
 use Rattle.sync_rules.specs.Facts.{nothing}
 use Rattle.message_graph.specs.declared.nodes.Node.{Node}
 use Rattle.message_graph.specs.Nodes as nodes
-use Rattle.message_graph.proofs.Named.{node_at, node_named-number, number_within}
+use Rattle.message_graph.specs.NodeLaws.{number_of-node_named}
 use Rattle.journal_play.specs.Texts.{Line, told_by, told, text_of}
-use Rattle.journal_play.specs.Playing.{Plays, Story, node_of, answer_shown, ending_by, Mirrors, StandsFor, IsStoryOf}
+use Rattle.journal_play.specs.Playing.{Plays, Story, node_of, answer_shown, Mirrors, StandsFor, IsStoryOf}
+use Rattle.message_graph.specs.Nodes.{ending_by}
 use Rattle.journal_play.specs.Keeping.{holding, taking, taking_message, Reaches}
 use Rattle.journal_play.proofs.Same.{node_named-held, next_same, entry_of, id_at}
 use Rattle.journal_play.proofs.Changes.{ids_of}
@@ -213,23 +214,14 @@ arrive_mirrors clients def k f es play m sound msg none =
 
 -- ---- a name is held where it has a number
 
-some_there : {A : Type 0} (xs : List A) (n : ℕ) → n < length xs → is_some (slice_get xs n) ≡ true
-some_there [] n h = absurd (omega arith)
-some_there (x ∷ xs) zero h = refl
-some_there (x ∷ xs) (suc n) h = some_there xs n (omega arith)
-
 some_map : {A B : Type 0} (F : A → B) (o : Option A) → is_some (option_map F o) ≡ is_some o
 some_map F None = refl
 some_map F (Some x) = refl
 
-numbered : (ns : List Node) (name : Id) (o : Option ℕ) → nodes.number_of ns name ≡ o → is_some (nodes.node_named ns name) ≡ is_some o
-numbered ns name None e = ap is_some (node_named-number ns name ∙ ap (node_at ns) e)
-numbered ns name (Some n) e = ap is_some (node_named-number ns name ∙ ap (node_at ns) e) ∙ some_there ns n (number_within ns name n e)
-
 number_held : (clients : Meaning) (f : Facts) (ns : List Node) (id : Id) → ns ≡ map (node_of clients f) f.held
     → is_some (nodes.number_of ns id) ≡ is_some (held_at f.held id)
 number_held clients f ns id e =
-    sym (numbered ns id (nodes.number_of ns id) refl)
+    number_of-node_named ns id
     ∙ ap (λ l. is_some (nodes.node_named l id)) e
     ∙ ap is_some (node_named-held clients f f.held id)
     ∙ some_map (node_of clients f) (held_at f.held id)

@@ -18,7 +18,7 @@ use Rattle.message_graph.specs.declared.nodes.Fate.TheVariants as fate
 use Rattle.message_graph.specs.declared.nodes.Step.{Step}
 use Rattle.message_graph.specs.declared.nodes.Step.TheVariants as step
 use Rattle.message_graph.specs.declared.nodes.Judged.{Judged}
-use Rattle.message_graph.specs.Nodes.{number_of, fresh, with_answer, with_ending, after_step, fate_of}
+use Rattle.message_graph.specs.Nodes.{number_of, fresh, with_answer, with_ending, after_step, step_number, fate_of}
 use Rattle.sync_words.specs.StreamTexts.{try_text}
 use Rattle.journal_play.specs.declared.kept.Head.{Head}
 use Rattle.journal_play.specs.declared.kept.Fresh.{Fresh}
@@ -61,14 +61,9 @@ stepping clients (step.Judge n) m play = judging clients n m play
 stepping clients (step.Invalid n) m play = ending_as ending.Invalid fate_kind.Invalid n m play
 stepping clients (step.Deliver n) m play = ending_as ending.Delivered fate_kind.Delivered n m play
 
-abbrev pub number_in : Step → ℕ
-number_in (step.Judge n) = n
-number_in (step.Invalid n) = n
-number_in (step.Deliver n) = n
-
 -- the story after a step
 abbrev pub IsStepped : Meaning → Step → Story → Story → Type 0
-IsStepped clients s old new = (m : MessageValue) → slice_get old.messages (number_in s) ≡ Some m → new ≡ stepping clients s m old
+IsStepped clients s old new = (m : MessageValue) → slice_get old.messages (step_number s) ≡ Some m → new ≡ stepping clients s m old
 
 -- settling alone leads from this journal to one that has this story
 pub record Reaches (clients : Meaning) (def : GroupValue) (k : ℕ) (old : List (List Entry)) (play : Story) : Type 0 where
@@ -147,7 +142,7 @@ pub record IsJudged (clients : Meaning) (just : Option Fresh) (n : ℕ) (old new
 -- what is kept after a step of a story that it shows
 abbrev pub ShowsStep : Meaning → Option Fresh → Step → Played → Played → Type 0
 ShowsStep clients just s old new =
-    (story : Story) (m : MessageValue) → shown_of story ≡ old → IsFresh just story → slice_get story.messages (number_in s) ≡ Some m
+    (story : Story) (m : MessageValue) → shown_of story ≡ old → IsFresh just story → slice_get story.messages (step_number s) ≡ Some m
     → shown_of (stepping clients s m story) ≡ new
 
 -- the nodes after a step

@@ -19,7 +19,7 @@ use Rattle.message_graph.specs.declared.nodes.Node.{Node}
 use Rattle.message_graph.specs.declared.nodes.Judged.{Judged}
 use Rattle.message_graph.specs.declared.nodes.Judged.TheVariants as judged
 use Rattle.message_graph.specs.declared.nodes.Ending.{Ending}
-use Rattle.message_graph.specs.declared.nodes.Ending.TheVariants as ending
+use Rattle.message_graph.specs.Nodes.{ending_by}
 use Rattle.journal_play.specs.declared.kept.Head.{Head}
 use Rattle.journal_play.specs.Texts.{told, text_of, play_text}
 
@@ -53,11 +53,6 @@ judged_of (judgement.Accept deps share) = judged.Accepted deps
 abbrev pub answer_shown : Option Judgement → Option Judged
 answer_shown None = None
 answer_shown (Some answer) = Some (judged_of answer)
-
-abbrev pub ending_by : Bool → Bool → Option Ending
-ending_by true delivered = Some ending.Invalid
-ending_by false true = Some ending.Delivered
-ending_by false false = None
 
 -- how the message of an id ended
 abbrev pub ending_of : Facts → Id → Option Ending

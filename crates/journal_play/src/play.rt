@@ -8,10 +8,10 @@ ghost use Rattle.sync_rules.specs.Clients.{Meaning};
 ghost use Rattle.sync_rules.specs.Steps.{kind_of_def};
 ghost use Rattle.sync_rules.specs.declared.entries.Entry.{Entry};
 ghost use Rattle.sync_rules.specs.declared.states.Fate.TheVariants as fate_kind;
-ghost use Rattle.message_graph.specs.Nodes.{after_step, Ends, next, number_of};
+ghost use Rattle.message_graph.specs.Nodes.{after_step, Ends, next, number_of, step_number};
 ghost use Rattle.journal_play.specs.declared.kept.Head.{Head};
 ghost use Rattle.journal_play.specs.Keeping.{ended_as, fresh_in, fresh_one, IsDone, IsFresh};
-ghost use Rattle.journal_play.specs.Keeping.{IsJudged, number_in, open_line, open_text};
+ghost use Rattle.journal_play.specs.Keeping.{IsJudged, open_line, open_text};
 ghost use Rattle.journal_play.specs.Keeping.{ReachesShown, ShowsStep, taking_in, taking_one};
 ghost use Rattle.journal_play.specs.Keeping.{with_head};
 ghost use Rattle.journal_play.specs.Playing.{HasPlayed, IsTextOf, judged_of, shown_of, StandsFor};
@@ -250,7 +250,7 @@ impl Play {
     ) -> Result<(), AllocError>
         requires next { next self.old.nodes ≡ Some step }
         requires ends { Ends step }
-        requires number { number_in step ≡ n }
+        requires number { step_number step ≡ n }
         requires state { state ≢ fate_kind.Unknown }
         ensures ended { OnOk result ((h : Head) → slice_get self.old.heads n ≡ Some h
             → self.new ≡ ended_as step state h self.old) }

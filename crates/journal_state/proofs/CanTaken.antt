@@ -14,7 +14,8 @@ use Rattle.sync_rules.specs.Clients.{Meaning}
 use Rattle.sync_rules.specs.Lists.{firsts, is_among}
 use Rattle.sync_rules.specs.Facts.{Facts, Held, Id, Known, after, contact_in, contact_of, group_at, held_at, is_held, is_invisible, level_at, row_at, session_at, wanted_from, with_want}
 use Rattle.sync_rules.specs.Legal.{Allowed, IsDue}
-use Rattle.sync_rules.specs.Sessions.{is_remembered, is_shown, is_shown_held, is_welcome, one_if, room_after, taken, taken_acks, taken_message, taken_message_of, taken_offers, taken_requests, wants_limit}
+use Rattle.sync_rules.specs.declared.limits.TheConstants.{MAX_WANTED}
+use Rattle.sync_rules.specs.Sessions.{is_remembered, is_shown, is_shown_held, is_welcome, one_if, room_after, taken, taken_acks, taken_message, taken_message_of, taken_offers, taken_requests}
 use Rattle.sync_rules.specs.Allows.{is_settling_kind}
 use Rattle.journal_state.specs.Room.{rows_room, wants_room}
 use Rattle.journal_state.specs.Taking.{CanMark, CanSend, CanTakeAll, CanTakeKind, HasContactRoom, HasNextNumbers, HasRoom, HasRows, Takes}
@@ -245,7 +246,7 @@ module _ (f : Facts) (session : ℕ) (known : is_some (session_at f.sessions ses
   can_taken (record_kind.Ack ids) t few a = can_acks (firsts ids) t _ a
   can_taken (record_kind.Message m) t few a = can_message t _ m few a
   can_taken (record_kind.Offer ids) t few a =
-      can_offers (firsts ids) (wants_limit - length (wanted_from f.wanted (contact_of f.sessions session))) t (length (wanted_from f.wanted (contact_of f.sessions session))) (λ some. omega (arith, some)) a
+      can_offers (firsts ids) (MAX_WANTED - length (wanted_from f.wanted (contact_of f.sessions session))) t (length (wanted_from f.wanted (contact_of f.sessions session))) (λ some. omega (arith, some)) a
   can_taken (record_kind.Request ids) t few a = can_requests (firsts ids) t _ a
   can_taken (record_kind.Versions versions) t few a = tt
   can_taken (record_kind.Priority nonce) t few a = tt

@@ -19,7 +19,8 @@ use Rattle.message_graph.specs.declared.nodes.Fate as graph_fate
 use Rattle.message_graph.specs.Nodes as nodes
 use Rattle.journal_state.specs.Fates.{fate_as}
 use Rattle.journal_state.specs.Left.{left_in, left_at, one_if_delivered, one_if_none, sum_of}
-use Rattle.journal_state.specs.Lent.{StandsForNodes, ending_by, judged_of}
+use Rattle.message_graph.specs.Nodes.{ending_by}
+use Rattle.journal_state.specs.Lent.{StandsForNodes, judged_of}
 use Rattle.journal_state.specs.Parts.{Parts, answer_of_node, answers_of, facts_of, is_invalid, is_judged, name_at}
 use Rattle.sync_rules.specs.Left.{left_among, left_for, left_of}
 use Rattle.journal_state.specs.Whole.{IsState, is_delivered_in, value_of}

@@ -16,7 +16,8 @@ use Rattle.message_graph.specs.declared.nodes.Step.TheVariants as step
 use Rattle.message_graph.specs.Nodes as nodes
 use Rattle.journal_state.specs.Parts.{Parts, facts_of}
 use Rattle.journal_state.specs.Whole.{IsState, Knows, id_at, value_of}
-use Rattle.journal_state.specs.Stepping.{entry_of, number_in}
+use Rattle.message_graph.specs.Nodes.{step_number}
+use Rattle.journal_state.specs.Stepping.{entry_of}
 use Rattle.journal_state.proofs.Listed.{id_there}
 use Rattle.journal_state.proofs.Seen.{there}
 use Rattle.journal_state.proofs.Next.{next_within, many_nodes, found_next}
@@ -73,10 +74,10 @@ told held number group s (Some (judged.Accepted names)) None node g p q e =
 -- the node of the next step
 pub record IsNextNode (ns : List Node) (s : Step) : Type 0 where
   pub node : Node
-  pub at : slice_get ns (number_in s) ≡ Some node
-  pub tells : Tells s (number_in s) node.answer node.ending
+  pub at : slice_get ns (step_number s) ≡ Some node
+  pub tells : Tells s (step_number s) node.answer node.ending
 
-number_told : (s : Step) (number : ℕ) (a : Option Judged) (end : Option Ending) → Tells s number a end → number ≡ number_in s
+number_told : (s : Step) (number : ℕ) (a : Option Judged) (end : Option Ending) → Tells s number a end → number ≡ step_number s
 number_told (step.Judge n) number a end t = sym t.0
 number_told (step.Invalid n) number a end t = sym t.0
 number_told (step.Deliver n) number a end t = sym t.0
@@ -86,7 +87,7 @@ node_found ns s e =
     let f = first_of ns 0 ns s e in
     let t = told (nodes.node_named ns) (0 + f.place) f.node.group s f.node.answer f.node.ending f.node refl refl refl f.is in
     let zero_place : 0 + f.place ≡ f.place = omega arith in
-    let number : f.place ≡ number_in s = sym zero_place ∙ number_told s (0 + f.place) f.node.answer f.node.ending t in
+    let number : f.place ≡ step_number s = sym zero_place ∙ number_told s (0 + f.place) f.node.answer f.node.ending t in
     record {
       node = f.node;
       at = ap (slice_get ns) (sym number) ∙ f.at;
@@ -97,15 +98,15 @@ node_found ns s e =
 pub record IsNext (p : Parts) (s : Step) : Type 0 where
   pub node : Node
   pub message : Held
-  pub at : slice_get p.nodes (number_in s) ≡ Some node
-  pub there : slice_get p.held (number_in s) ≡ Some message
-  pub tells : Tells s (number_in s) node.answer node.ending
+  pub at : slice_get p.nodes (step_number s) ≡ Some node
+  pub there : slice_get p.held (step_number s) ≡ Some message
+  pub tells : Tells s (step_number s) node.answer node.ending
 
 pub next_found : (p : Parts) → IsState p → (s : Step) → nodes.next p.nodes ≡ Some s → IsNext p s
 next_found p st s e =
     let f : IsNextNode p.nodes s = node_found p.nodes s e in
-    let within : number_in s < length p.held = (let below : number_in s < length p.nodes = next_within p.nodes s e in omega (arith, below, many_nodes p st)) in
-    let h = there p.held (number_in s) within in
+    let within : step_number s < length p.held = (let below : step_number s < length p.nodes = next_within p.nodes s e in omega (arith, below, many_nodes p st)) in
+    let h = there p.held (step_number s) within in
     record { node = f.node; message = h.0; at = f.at; there = h.1; tells = f.tells }
 
 -- ---- a step by its entry

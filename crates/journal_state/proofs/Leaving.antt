@@ -12,7 +12,8 @@ use Rattle.sync_rules.specs.Clients.{Meaning}
 use Rattle.sync_rules.specs.Lists.{same_id, is_among, firsts}
 use Rattle.sync_rules.specs.Facts.{Facts, Held, Id, Ids, after, after_all, arrived, authored, contact_of, held_at, is_invisible, level_at, row_at, wanted_from}
 use Rattle.sync_rules.specs.Legal.{Allowed}
-use Rattle.sync_rules.specs.Sessions.{is_shown, is_welcome, one_if, is_remembered, room_after, taken, taken_acks, taken_message_of, taken_offers, taken_requests, wants_limit}
+use Rattle.sync_rules.specs.declared.limits.TheConstants.{MAX_WANTED}
+use Rattle.sync_rules.specs.Sessions.{is_shown, is_welcome, one_if, is_remembered, room_after, taken, taken_acks, taken_message_of, taken_offers, taken_requests}
 use Rattle.sync_rules.specs.Allows.{is_settling_kind}
 use Rattle.sync_rules.specs.Left.{left_among, left_of}
 use Rattle.message_graph.specs.declared.nodes.Node.{Node}
@@ -151,7 +152,7 @@ taken_left f s k (record_kind.Ack ids) j = quiet_is f (entry.Take s k ∷ taken 
 taken_left f s k (record_kind.Request ids) j = quiet_is f (entry.Take s k ∷ taken f s (record_kind.Request ids)) (refl, quiet_requests f s (contact_of f.sessions s) (firsts ids))
 taken_left f s k (record_kind.Offer ids) j =
     quiet_is f (entry.Take s k ∷ taken f s (record_kind.Offer ids))
-    (refl, quiet_offers f s (contact_of f.sessions s) (wants_limit - length (wanted_from f.wanted (contact_of f.sessions s))) (firsts ids))
+    (refl, quiet_offers f s (contact_of f.sessions s) (MAX_WANTED - length (wanted_from f.wanted (contact_of f.sessions s))) (firsts ids))
 taken_left f s k (record_kind.Versions versions) j = quiet_is f (entry.Take s k ∷ []) (refl, tt)
 taken_left f s k (record_kind.Priority nonce) j = quiet_is f (entry.Take s k ∷ []) (refl, tt)
 taken_left f s k (record_kind.Message m) j = by_welcome (is_welcome f c m.group) where

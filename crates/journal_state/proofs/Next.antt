@@ -24,7 +24,8 @@ use Rattle.message_graph.specs.Nodes as nodes
 use Rattle.visibility_table.specs.Table as levels
 use Rattle.journal_state.specs.Parts.{Parts, answer_of_node, facts_of, is_invalid}
 use Rattle.journal_state.specs.Whole.{IsState, Knows, id_at, is_delivered_in, value_of}
-use Rattle.journal_state.specs.Stepping.{entry_of, number_in}
+use Rattle.message_graph.specs.Nodes.{step_number}
+use Rattle.journal_state.specs.Stepping.{entry_of}
 use Rattle.journal_state.specs.Sound.{AreApart}
 use Rattle.journal_state.proofs.Apart.{first_apart, passes, set_named}
 use Rattle.journal_state.proofs.Listed.{id_there}
@@ -145,33 +146,33 @@ module _ (clients : Meaning) (p : Parts) (s : IsState p) (k : Knows clients (val
 
 -- ---- the number of a step
 
-tested_number : (number : ℕ) (s : Step) (a b : Bool) → cond a (Some (graph_step.Invalid number)) (cond b (Some (graph_step.Deliver number)) None) ≡ Some s → number_in s ≡ number
-tested_number number s true b e = let same : graph_step.Invalid number ≡ s = cc in ap number_in (sym same)
-tested_number number s false true e = let same : graph_step.Deliver number ≡ s = cc in ap number_in (sym same)
+tested_number : (number : ℕ) (s : Step) (a b : Bool) → cond a (Some (graph_step.Invalid number)) (cond b (Some (graph_step.Deliver number)) None) ≡ Some s → step_number s ≡ number
+tested_number number s true b e = let same : graph_step.Invalid number ≡ s = cc in ap step_number (sym same)
+tested_number number s false true e = let same : graph_step.Deliver number ≡ s = cc in ap step_number (sym same)
 tested_number number s false false e = absurd (let none : None ≡ Some s = e in cc)
 
-step_number : (held : List ℕ → Option Node) (number : ℕ) (node : Node) (s : Step) (a : Option Judged) (end : Option Ending)
-    → nodes.step_by held number (record node { ending = end }) a ≡ Some s → number_in s ≡ number
-step_number held number node s None end e = let same : graph_step.Judge number ≡ s = cc in ap number_in (sym same)
-step_number held number node s (Some j) (Some x) e = absurd (let none : None ≡ Some s = e in cc)
-step_number held number node s (Some judged.Refused) None e = let same : graph_step.Invalid number ≡ s = cc in ap number_in (sym same)
-step_number held number node s (Some (judged.Accepted names)) None e =
+numbered_step : (held : List ℕ → Option Node) (number : ℕ) (node : Node) (s : Step) (a : Option Judged) (end : Option Ending)
+    → nodes.step_by held number (record node { ending = end }) a ≡ Some s → step_number s ≡ number
+numbered_step held number node s None end e = let same : graph_step.Judge number ≡ s = cc in ap step_number (sym same)
+numbered_step held number node s (Some j) (Some x) e = absurd (let none : None ≡ Some s = e in cc)
+numbered_step held number node s (Some judged.Refused) None e = let same : graph_step.Invalid number ≡ s = cc in ap step_number (sym same)
+numbered_step held number node s (Some (judged.Accepted names)) None e =
     tested_number number s (list_any (λ name. nodes.fails node.group (held name)) names) (list_all (λ name. nodes.serves node.group (held name)) names) e
 
-first_number : (all : List Node) (number : ℕ) (xs : List Node) (s : Step) → nodes.first_step all number xs ≡ Some s → number_in s < number + length xs
+first_number : (all : List Node) (number : ℕ) (xs : List Node) (s : Step) → nodes.first_step all number xs ≡ Some s → step_number s < number + length xs
 first_number all number [] s e = absurd (let none : None ≡ Some s = e in cc)
 first_number all number (x ∷ xs) s e =
-    elim (nodes.step_of all number x) as (λ o. nodes.step_of all number x ≡ o → nodes.or_else o (nodes.first_step all (number + 1) xs) ≡ Some s → number_in s < number + length (x ∷ xs)) [
+    elim (nodes.step_of all number x) as (λ o. nodes.step_of all number x ≡ o → nodes.or_else o (nodes.first_step all (number + 1) xs) ≡ Some s → step_number s < number + length (x ∷ xs)) [
       | None ↦ λ own e. let later = first_number all (number + 1) xs s e in omega (arith, later)
       | Some y ↦ λ own e.
           let same : y ≡ s = cc in
-          let here : number_in y ≡ number = step_number (nodes.node_named all) number x y x.answer x.ending own in
-          let there : number_in s ≡ number = ap number_in (sym same) ∙ here in
+          let here : step_number y ≡ number = numbered_step (nodes.node_named all) number x y x.answer x.ending own in
+          let there : step_number s ≡ number = ap step_number (sym same) ∙ here in
           omega (arith, there)
     ] refl e
 
 -- the next step is that of a node
-pub next_within : (ns : List Node) (s : Step) → nodes.next ns ≡ Some s → number_in s < length ns
+pub next_within : (ns : List Node) (s : Step) → nodes.next ns ≡ Some s → step_number s < length ns
 next_within ns s e = let within = first_number ns 0 ns s e in omega (arith, within)
 
 -- ---- what the graph answers

@@ -6,7 +6,8 @@ use Rattle.std.proofs.lemmas.List.{take-map}
 use Rattle.sync_rules.specs.declared.entries.Mode.{Mode}
 use Rattle.sync_rules.specs.Lists.{is_among}
 use Rattle.sync_rules.specs.Facts.{Held, Id, Row, row_at, level_at, is_level_shared}
-use Rattle.sync_rules.specs.Sessions.{ids_limit, is_author, is_sendable, is_ripe, owed_to, send_of, offers_of}
+use Rattle.sync_ids.specs.declared.lists.TheConstants.{MAX_IDS}
+use Rattle.sync_rules.specs.Sessions.{is_author, is_sendable, is_ripe, owed_to, send_of, offers_of}
 use Rattle.sync_rules.specs.Views.{is_seen_in}
 use Rattle.retry_table.specs.Table as retry
 use Rattle.retry_table.specs.Due.{numbers_where, is_open, is_sent_at, is_offered_at, owed_in, message_in, offers_in}
@@ -53,14 +54,14 @@ module _ (p : Parts) (s : IsState p) where
   pub owed_found : (contact : ℕ) → map (id_at p.held) (owed_in (retry.rows_of p.retry contact)) ≡ owed_to (facts_of p) contact
   owed_found contact =
       let t : retry.Kept → Bool = λ kept. kept.row.owed in
-      sym (take-map (id_at p.held) ids_limit (numbers_where t 0 (retry.rows_of p.retry contact)))
-      ∙ ap (take ids_limit) (listed (λ kept. kept.row.owed) (λ h. (row_at (facts_of p).rows contact h.id).owed) (id_at p.held) refl 0 (retry.rows_of p.retry contact) p.held
+      sym (take-map (id_at p.held) MAX_IDS (numbers_where t 0 (retry.rows_of p.retry contact)))
+      ∙ ap (take MAX_IDS) (listed (λ kept. kept.row.owed) (λ h. (row_at (facts_of p).rows contact h.id).owed) (id_at p.held) refl 0 (retry.rows_of p.retry contact) p.held
       (λ n h at. (ap (λ (r : Row). r.owed) (row_there contact n h at), id_named n h at)) (free contact))
 
   pub owed_below : (contact : ℕ) → list_all (λ n. nat_lt n (length p.held)) (owed_in (retry.rows_of p.retry contact)) ≡ true
   owed_below contact =
       let t : retry.Kept → Bool = λ kept. kept.row.owed in
-      all_taken (λ n. nat_lt n (length p.held)) ids_limit (numbers_where t 0 (retry.rows_of p.retry contact))
+      all_taken (λ n. nat_lt n (length p.held)) MAX_IDS (numbers_where t 0 (retry.rows_of p.retry contact))
       (all_below t refl (length p.held) 0 (retry.rows_of p.retry contact) (bounded contact))
 
   -- ---- what may be sent
@@ -89,8 +90,8 @@ module _ (p : Parts) (s : IsState p) where
   pub offers_found : (contact now : ℕ) → contact < 256
       → map (id_at p.held) (offers_in now (retry.rows_of p.retry contact)) ≡ offers_of (facts_of p) (shared_among p.held (answers_of p.nodes p.shares)) contact now
   offers_found contact now known =
-      sym (take-map (id_at p.held) ids_limit (numbers_where (is_offered_at now) 0 (retry.rows_of p.retry contact)))
-      ∙ ap (take ids_limit) (listed (is_offered_at now)
+      sym (take-map (id_at p.held) MAX_IDS (numbers_where (is_offered_at now) 0 (retry.rows_of p.retry contact)))
+      ∙ ap (take MAX_IDS) (listed (is_offered_at now)
       (λ h. is_sendable (facts_of p) (shared_among p.held (answers_of p.nodes p.shares)) contact h
       && (not (row_at (facts_of p).rows contact h.id).asked && nat_le (row_at (facts_of p).rows contact h.id).expiry now))
       (id_at p.held) refl 0 (retry.rows_of p.retry contact) p.held
@@ -98,5 +99,5 @@ module _ (p : Parts) (s : IsState p) where
 
   pub offers_below : (contact now : ℕ) → list_all (λ n. nat_lt n (length p.held)) (offers_in now (retry.rows_of p.retry contact)) ≡ true
   offers_below contact now =
-      all_taken (λ n. nat_lt n (length p.held)) ids_limit (numbers_where (is_offered_at now) 0 (retry.rows_of p.retry contact))
+      all_taken (λ n. nat_lt n (length p.held)) MAX_IDS (numbers_where (is_offered_at now) 0 (retry.rows_of p.retry contact))
       (all_below (is_offered_at now) refl (length p.held) 0 (retry.rows_of p.retry contact) (bounded contact))

@@ -9,7 +9,8 @@ use Rattle.sync_rules.specs.declared.entries.Out.TheVariants as out
 use Rattle.sync_rules.specs.declared.entries.Session.{Session}
 use Rattle.sync_rules.specs.Lists.{same_id, is_among, unless_among, firsts, firsts_after}
 use Rattle.sync_rules.specs.Facts.{Facts, Held, Id, held_at, is_held}
-use Rattle.sync_rules.specs.Sessions.{acks_due, due_by, first_id, ids_limit, ids_where, offers_due, offers_of, out_or, owed_to, requests_due, send_due, send_of, wanted_of}
+use Rattle.sync_ids.specs.declared.lists.TheConstants.{MAX_IDS}
+use Rattle.sync_rules.specs.Sessions.{acks_due, due_by, first_id, ids_where, offers_due, offers_of, out_or, owed_to, requests_due, send_due, send_of, wanted_of}
 use Rattle.journal_state.specs.Taking.{CanSend}
 use Rattle.journal_state.proofs.Places.{id_itself, id_swap}
 use Rattle.journal_state.specs.Sound.{AreApart}
@@ -143,8 +144,8 @@ module _ (f : Facts) (what : Out) where
 -- what is due can be sent
 pub due_can : (f : Facts) (shared : List Id) (x : Session) (now : ℕ) (what : Out) → AreApart (map (λ (h : Held). h.id) f.held) → due_by f shared x now ≡ Some what → CanSend f what
 due_can f shared x now what apart e =
-    acks_can f what (owed_to f x.contact) _ (sendable f.held _ ids_limit apart)
+    acks_can f what (owed_to f x.contact) _ (sendable f.held _ MAX_IDS apart)
     (λ e. requests_can f what x.mode (wanted_of f x.contact) _
     (λ e. send_can f what (send_of f shared x.contact x.mode now) _
     (λ id q. first_held f.held _ id (held_where f.held _ f.held (all_held f.held)) q)
-    (λ e. offers_can f what x.mode (offers_of f shared x.contact now) (sendable f.held _ ids_limit apart) e) e) e) e
+    (λ e. offers_can f what x.mode (offers_of f shared x.contact now) (sendable f.held _ MAX_IDS apart) e) e) e) e

@@ -2,6 +2,7 @@
 use Rattle.std.specs.Prelude.{◌≡◌, ℕ, ◌+◌, ◌≤◌, Bool, true, List, length, nat_lt, vec_capacity, slice_get, Some}
 use Rattle.std.specs.List.{list_all}
 use Rattle.journal_state.specs.declared.state.State.TheInside.{Inside}
+use Rattle.sync_rules.specs.declared.limits.TheConstants.{MAX_CONTACTS}
 use Rattle.sync_rules.specs.Sessions.{may_share}
 use Rattle.message_graph.specs.declared.nodes.Node.{Node}
 use Rattle.journal_state.specs.Parts.{Parts, answer_of_node}
@@ -35,7 +36,7 @@ IsHonest ns shares = (n : ℕ) (node : Node) → slice_get ns n ≡ Some node �
 pub record IsWhole (s : Inside) : Type 0 where
   pub state : IsState (parts s)
   pub roomy : IsRoomy s
-  -- there are at most 256 contacts, and each session is with one of them
-  pub few : s.table.contacts ≤ 256
+  -- there are at most MAX_CONTACTS contacts, and each session is with one of them
+  pub few : s.table.contacts ≤ MAX_CONTACTS
   pub met : list_all (λ x. nat_lt x.contact s.table.contacts) s.sessions.sessions ≡ true
   pub honest : IsHonest s.graph.nodes s.shares.items

@@ -14,12 +14,6 @@ entry_of name (step.Judge n) = entry.Judged (name n)
 entry_of name (step.Invalid n) = entry.Invalid (name n)
 entry_of name (step.Deliver n) = entry.Deliver (name n)
 
--- the number of a step's node
-abbrev pub number_in : Step → ℕ
-number_in (step.Judge n) = n
-number_in (step.Invalid n) = n
-number_in (step.Deliver n) = n
-
 -- the facts after a step, by its entry
 abbrev pub stepped : Facts → Option Entry → Facts
 stepped f None = f

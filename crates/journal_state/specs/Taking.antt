@@ -9,6 +9,7 @@ use Rattle.sync_rules.specs.declared.entries.Entry.TheVariants as entry
 use Rattle.sync_rules.specs.declared.entries.Out.{Out}
 use Rattle.sync_rules.specs.declared.entries.Out.TheVariants as out
 use Rattle.sync_rules.specs.declared.entries.Session.{Session}
+use Rattle.sync_rules.specs.declared.limits.TheConstants.{MAX_CONTACTS}
 use Rattle.sync_rules.specs.Clients.{Meaning}
 use Rattle.sync_rules.specs.Lists.{firsts}
 use Rattle.sync_rules.specs.Facts.{Facts, Id, after, after_all, contact_of, group_at, held_at, is_held, session_at, takes_of, wanted_from}
@@ -71,7 +72,7 @@ CanSend f (out.Send id) = is_held f.held id ≡ true
 
 -- what a state needs of an entry beside room for one
 abbrev pub CanTakeKind : StateValue → Entry → Type 0
-CanTakeKind s (entry.Contact c) = (c ≡ s.facts.contacts) × (c < 256)
+CanTakeKind s (entry.Contact c) = (c ≡ s.facts.contacts) × (c < MAX_CONTACTS)
 CanTakeKind s (entry.Group def) = (group_at s.facts.groups (group_id_of def) ≡ None) × (length s.facts.groups < 2 ^ 32 - 1)
 CanTakeKind s (entry.Level c g l) = (is_some (group_at s.facts.groups g) ≡ true) × (length s.facts.held ≤ rows_room s.room c) × (c < s.facts.contacts)
 CanTakeKind s (entry.Session x) = (x.number ≡ s.facts.begun) × (x.contact < s.facts.contacts) × (s.facts.begun < 2 ^ 32 - 1)

@@ -4,6 +4,7 @@ use Rattle.std.specs.Coded.{Coded, code_by, coded×}
 use Rattle.std.specs.List.{list_all}
 use Rattle.sync_rules.specs.declared.answers.Judgement.{Judgement}
 use Rattle.sync_rules.specs.declared.entries.Level.TheVariants as level
+use Rattle.sync_rules.specs.declared.limits.TheConstants.{MAX_CONTACTS}
 use Rattle.sync_rules.specs.Clients.{Meaning}
 use Rattle.sync_rules.specs.Lists.{is_among}
 use Rattle.sync_rules.specs.Facts.{Facts, Held, Id, Levels, group_at, level_at, is_invisible, is_level_shared}
@@ -78,6 +79,6 @@ pub record IsState (p : Parts) : Type 0 where
   -- a group that is not Invisible to some contact is known
   pub shown : (contact : ℕ) (group : Id) → is_invisible (level_at p.table.levels contact group) ≡ false → is_some (group_at p.table.groups group) ≡ true
   -- a row says that its message may go to its contact where it may
-  pub ready : (contact n : ℕ) (h : Held) → contact < 256 → slice_get p.held n ≡ Some h
+  pub ready : (contact n : ℕ) (h : Held) → contact < MAX_CONTACTS → slice_get p.held n ≡ Some h
       → (retry.kept_at p.retry contact n).ready
       ≡ may_go p.table.levels (map (name_at p.nodes) p.delivered) (shared_among p.held (answers_of p.nodes p.shares)) contact h

@@ -1,5 +1,6 @@
 //! A held message is delivered.
 ghost use Rattle.std.specs.Prelude.{◌≡◌, ◌+◌, ◌<◌, ◌≤◌, ◌||◌, true, Some, length, OnOk, OnErr};
+ghost use Rattle.sync_rules.specs.declared.limits.TheConstants.{MAX_CONTACTS};
 ghost use Rattle.sync_rules.specs.Clients.{Meaning};
 ghost use Rattle.sync_rules.specs.Facts.{after};
 ghost use Rattle.sync_rules.specs.Sessions.{is_author};
@@ -57,7 +58,7 @@ fn reserve_rows(
     outgoing: bool,
     numbers: u32,
 ) -> Result<(), AllocError>
-    requires few { table.now.contacts ≤ 256 }
+    requires few { table.now.contacts ≤ MAX_CONTACTS }
     ensures same { Grows retry.old retry.new }
     ensures room { OnOk result (HasRows retry.new (goes_to table.now.levels group.now outgoing)
         table.now.contacts numbers) }
@@ -83,7 +84,7 @@ fn ready_one(retry: &mut Retry, contact: u8, n: u32, goes: bool)
 
 /// Makes a message ready for each contact that is known and that it goes to.
 fn make_ready(retry: &mut Retry, table: &Levels, group: &GroupId, outgoing: bool, n: u32)
-    requires few { table.now.contacts ≤ 256 }
+    requires few { table.now.contacts ≤ MAX_CONTACTS }
     requires rows { HasRows retry.old (goes_to table.now.levels group.now outgoing)
         table.now.contacts (n + 1) }
     ensures { Readies retry.old retry.new (goes_to table.now.levels group.now outgoing)

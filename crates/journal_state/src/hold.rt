@@ -2,6 +2,7 @@
 ghost use Rattle.std.specs.Prelude.{◌≡◌, ◌+◌, ◌-◌, ◌^◌, ◌<◌, ◌≤◌, ◌++◌, ◌∷◌, [], true, length};
 ghost use Rattle.std.specs.Prelude.{None, is_some};
 ghost use Rattle.sync_ids.specs.Ids.{message_id_of};
+ghost use Rattle.sync_rules.specs.declared.limits.TheConstants.{MAX_CONTACTS};
 ghost use Rattle.sync_rules.specs.Clients.{Meaning};
 ghost use Rattle.sync_rules.specs.Facts.{group_at, held_at, wanted_by_none};
 ghost use Rattle.journal_state.specs.Unwanted.{UnwantsBelow};
@@ -15,7 +16,7 @@ use sync_rules::Origin;
 
 /// Takes an id out of what is wanted from each of that many contacts.
 fn unwant_from_all(retry: &mut Retry, contacts: u32, id: &MessageId)
-    requires { contacts ≤ 256 }
+    requires { contacts ≤ MAX_CONTACTS }
     ensures { UnwantsBelow contacts retry.old retry.new id.now }
 {
     for contact in 0..contacts {

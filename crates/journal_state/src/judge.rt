@@ -36,7 +36,7 @@ pub(crate) fn judgement_of<C: Clients>(
 }
 
 /// The names by which the graph knows messages of these ids.
-fn names_of(alloc: Global, ids: &[MessageId]) -> Result<Vec<[u8; 32]>, AllocError>
+fn graph_names(alloc: Global, ids: &[MessageId]) -> Result<Vec<[u8; 32]>, AllocError>
     ensures { IfOk result (λ names. names.items ≡ ids.now) }
 {
     let mut names = Vec::new(alloc);
@@ -47,7 +47,7 @@ fn names_of(alloc: Global, ids: &[MessageId]) -> Result<Vec<[u8; 32]>, AllocErro
 }
 
 /// A judgement as the graph takes it, and whether the message may be sent on.
-fn answer_of(alloc: Global, judgement: &Judgement) -> Result<(Judged, bool), AllocError>
+fn graph_answer(alloc: Global, judgement: &Judgement) -> Result<(Judged, bool), AllocError>
     ensures answer { IfOk result (λ answer. answer_of_node (Some answer.0) answer.1 ≡ Some
         judgement.now) }
     ensures share { IfOk result (λ answer. answer.1 ≡ may_share (Some judgement.now)) }
@@ -55,7 +55,7 @@ fn answer_of(alloc: Global, judgement: &Judgement) -> Result<(Judged, bool), All
     match judgement {
         Judgement::Refuse => Ok((Judged::Refused, false)),
         Judgement::Accept { deps, share } => {
-            let names = names_of(alloc, deps.as_slice())?;
+            let names = graph_names(alloc, deps.as_slice())?;
             Ok((Judged::Accepted(Names::new(names)), *share))
         }
     }
@@ -80,7 +80,7 @@ impl State {
             × (self.new.answers ≡ self.old.answers)) }
     {
         let judgement = judgement_of(alloc, clients, &self.table, self.messages.message(n))?;
-        let (answer, share) = answer_of(alloc, &judgement)?;
+        let (answer, share) = graph_answer(alloc, &judgement)?;
         self.graph.judged(n, answer)?;
         self.shares[n as usize] = share;
         Ok(())

@@ -1,6 +1,7 @@
 //! `State`.
-ghost use Rattle.std.specs.Prelude.{◌≡◌, ◌<◌, [], length, IfOk, Some, slice_get};
+ghost use Rattle.std.specs.Prelude.{◌≡◌, ◌<◌, ◌≤◌, [], length, IfOk, Some, slice_get};
 ghost use Rattle.std.specs.Option.{option_map};
+ghost use Rattle.sync_rules.specs.declared.limits.TheConstants.{MAX_CONTACTS};
 ghost use Rattle.sync_rules.specs.Facts.{nothing, takes_of};
 ghost use Rattle.journal_state.specs.Lent.{StandsForRows};
 ghost use Rattle.journal_state.specs.Sound.{IsSound};
@@ -19,7 +20,6 @@ use visibility_table::Levels;
 /// The state of a journal without a disk: all that is asked of a journal, kept so that no answer
 /// needs a walk over its entries. Contracts see the facts of the journal, the judgements of its
 /// messages, and for how much more there is room.
-#[derive(Drop)]
 pub struct State {
     pub(crate) table: Levels,
     pub(crate) messages: Messages,
@@ -29,6 +29,23 @@ pub struct State {
     pub(crate) delivered: Vec<u32>,
     pub(crate) retry: Retry,
     pub(crate) space: usize,
+}
+
+// Written out: whoever drops a state then proves one call, where a derived drop is proved part by
+// part at each place.
+impl Drop for State {
+    fn drop(self) {
+        let State {
+            table: _,
+            messages: _,
+            sessions: _,
+            graph: _,
+            shares: _,
+            delivered: _,
+            retry: _,
+            space: _,
+        } = self;
+    }
 }
 
 impl Model for State {
@@ -81,9 +98,10 @@ impl State {
         self.messages.len()
     }
 
-    /// The number of contacts.
+    /// The number of contacts, at most `MAX_CONTACTS`.
     pub fn contacts(&self) -> u32
-        ensures { result ≡ self.now.facts.contacts }
+        ensures value { result ≡ self.now.facts.contacts }
+        ensures few { result ≤ MAX_CONTACTS }
     {
         self.table.contacts()
     }

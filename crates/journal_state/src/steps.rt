@@ -4,7 +4,8 @@ ghost use Rattle.sync_rules.specs.Left.{left_of};
 ghost use Rattle.sync_rules.specs.Clients.{Meaning};
 ghost use Rattle.sync_rules.specs.Steps.{next, IsSettled};
 ghost use Rattle.journal_state.specs.Whole.{id_at, Knows};
-ghost use Rattle.journal_state.specs.Stepping.{entry_of, number_in, stepped};
+ghost use Rattle.message_graph.specs.Nodes.{step_number};
+ghost use Rattle.journal_state.specs.Stepping.{entry_of, stepped};
 
 use crate::state::State;
 use message_graph::Step;
@@ -53,7 +54,7 @@ impl State {
 
     /// The entry of a step.
     fn entry_of(&self, step: Step) -> Entry
-        requires { number_in step < length self.now.facts.held }
+        requires { step_number step < length self.now.facts.held }
         ensures { result ≡ entry_of (id_at self.now.facts.held) step }
     {
         match step {

@@ -12,16 +12,11 @@ use Rattle.message_graph.proofs.Linked.{same_refl, same_equal}
 use Rattle.message_graph.proofs.Named.{node_at, node_named-number, number_within}
 use Rattle.message_graph.proofs.Missing.{Differs}
 
--- there is a node at each number below the length, and only there
+-- there is a node at each number below the length
 pub node_there : (nodes : List Node) (k : ℕ) → k < length nodes → (node : Node) × (slice_get nodes k ≡ Some node)
 node_there [] k h = absurd (omega arith)
 node_there (node ∷ nodes) zero h = (node, refl)
 node_there (node ∷ nodes) (suc k) h = node_there nodes k (omega arith)
-
-pub there_within : (nodes : List Node) (k : ℕ) (node : Node) → slice_get nodes k ≡ Some node → k < length nodes
-there_within [] k node h = absurd (let n : None ≡ Some node = h in cc)
-there_within (m ∷ nodes) zero node h = omega arith
-there_within (m ∷ nodes) (suc k) node h = omega (arith, there_within nodes k node h)
 
 -- what a node that is there says at its number
 pub wait_there : (f : Node → Waiting) (nodes : List Node) (k : ℕ) (node : Node) → slice_get nodes k ≡ Some node → wait_at (map f nodes) k ≡ f node
@@ -46,11 +41,6 @@ dependent_within (m ∷ nodes) zero name h = omega arith
 dependent_within (m ∷ nodes) (suc k) name h = omega (arith, dependent_within nodes k name h)
 
 module _ (f : Node → Node) where
-  pub length-change : (n : ℕ) (nodes : List Node) → length (change f n nodes) ≡ length nodes
-  length-change n [] = refl
-  length-change zero (node ∷ nodes) = refl
-  length-change (suc n) (node ∷ nodes) = ap suc (length-change n nodes)
-
   pub set-change : (nodes : List Node) (n : ℕ) (node : Node) → node ≡ get_or nodes n node → set nodes n (f node) ≡ change f n nodes
   set-change [] n node h = refl
   set-change (m ∷ nodes) zero node h = ap (λ x. f x ∷ nodes) h

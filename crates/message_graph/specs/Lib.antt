@@ -2,3 +2,4 @@ pub mod Nodes
 pub mod Waits
 pub mod Links
 pub mod Whole
+pub mod NodeLaws

@@ -41,6 +41,12 @@ is_delivered None = false
 is_delivered (Some ending.Invalid) = false
 is_delivered (Some ending.Delivered) = true
 
+-- the ending of what is invalid or not, and delivered or not
+abbrev pub ending_by : Bool → Bool → Option Ending
+ending_by true delivered = Some ending.Invalid
+ending_by false true = Some ending.Delivered
+ending_by false false = None
+
 -- whether a dependency can never be delivered to a node of the group: it is held in another group, or invalid
 abbrev pub fails : ℕ → Option Node → Bool
 fails group None = false
@@ -126,6 +132,12 @@ abbrev pub after_step : Step → List Node → List Node
 after_step (step.Judge number) nodes = nodes
 after_step (step.Invalid number) nodes = with_ending number ending.Invalid nodes
 after_step (step.Deliver number) nodes = with_ending number ending.Delivered nodes
+
+-- the number of a step's node
+abbrev pub step_number : Step → ℕ
+step_number (step.Judge number) = number
+step_number (step.Invalid number) = number
+step_number (step.Deliver number) = number
 
 -- whether a step ends its node
 abbrev pub Ends : Step → Type 0

@@ -1,7 +1,7 @@
 -- The readings to come of a clock in memory, after one reading and where one was put in their place.
-use Rattle.std.proofs.Common.{◌≡◌, ℕ, ◌+◌, ◌-◌, ◌<◌, ◌≤◌, min, Bool, true, false, List, [], ◌∷◌, ◌++◌, length, take, drop, replicate, refl, sym, ap, ◌∙◌, subst, arith, length-append, length-take, length-drop}
+use Rattle.std.proofs.Common.{◌≡◌, ℕ, ◌+◌, ◌-◌, ◌<◌, ◌≤◌, Bool, true, false, List, [], ◌∷◌, ◌++◌, length, take, drop, replicate, refl, sym, ap, ◌∙◌, subst, arith, length-append, length-take, length-drop}
 use Rattle.std.specs.Prelude.{if◌then◌else◌, nat_lt, slice_index, ◌^◌}
-use Rattle.std.proofs.lemmas.List.{take_all, drop_all, drop_more, drop-append-le, length-replicate}
+use Rattle.std.proofs.lemmas.List.{drop_all, drop_more, drop-append-le, length-replicate}
 use Rattle.std.proofs.lemmas.Bool.{lt-ltb, le-ltb, ltb-true, ltb-false}
 use Rattle.outside.specs.Faults.{one_more}
 use Rattle.outside.specs.Planned.{first_reading, later_readings, UsesReading}

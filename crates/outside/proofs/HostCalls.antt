@@ -1,5 +1,5 @@
 -- From what a call did to a host in memory to the files, the time and the wiring of its links.
-use Rattle.std.proofs.Common.{◌≡◌, ◌⊎◌, ℕ, zero, suc, ◌+◌, ◌/◌, ◌<◌, ◌≤◌, Bool, true, false, List, [], ◌∷◌, ◌++◌, length, take, map, get_or, set, Vec, Option, None, Some, Result, Ok, Err, OnOk, OnErr, is_err, refl, sym, ap, ◌∙◌, subst, inl, inr, arith, length-append, append-nil}
+use Rattle.std.proofs.Common.{◌≡◌, ℕ, zero, suc, ◌/◌, ◌<◌, true, false, List, [], ◌∷◌, ◌++◌, length, take, map, get_or, set, Vec, Option, None, Some, Result, Ok, Err, OnOk, OnErr, is_err, refl, sym, ap, ◌∙◌, subst, inl, inr, arith, length-append, append-nil}
 use Rattle.std.proofs.lemmas.List.{map-append, map-set, length-set, length-map, get_or-map, set-get_or, take_all}
 use Rattle.std.specs.Option.{option_to_list}
 use Rattle.std.specs.declared.alloc.Global.{Global}
@@ -7,14 +7,14 @@ use Rattle.outside.specs.declared.failed.Failed.{Failed}
 use Rattle.outside.specs.declared.host.Heard.{Heard}
 use Rattle.outside.specs.declared.host.Heard.TheVariants as heard
 use Rattle.outside.specs.Files.{Two, File, IsImage}
-use Rattle.outside.specs.Links.{Links, Planned, Link, Reply, Answered, changed_at, with_sent, sent_of}
-use Rattle.outside.specs.Outside.{Moment, DiskCall, LinkCall, QuietCall, Elapses}
+use Rattle.outside.specs.Links.{Planned, Link, Reply, Answered, with_sent}
+use Rattle.outside.specs.Outside.{Moment, DiskCall, LinkCall, QuietCall}
 use Rattle.outside.specs.Host.{SendsPart}
-use Rattle.outside.specs.MemDisk.{Change, wrote, wrote_not, cut, cut_not, synced, dialled, sent, answered, hosted, MemDiskValue, Makes, Kept, kept_after, both_kept, changed, files_of, links_after, link_changed, answers_after, answers_changed, with_call, bytes_each}
+use Rattle.outside.specs.MemDisk.{Change, dialled, sent, answered, hosted, MemDiskValue, Makes, Kept, kept_after, both_kept, changed, files_of, links_after, link_changed, answers_after, answers_changed, with_call, bytes_each}
 use Rattle.outside.specs.MemTold.{WasAt, was_now, files_at, kept_after-push, links_after-push}
 use Rattle.outside.specs.MemHost.{MemHostValue, Readings, links_of, IsWired, OnDisk, MakesDial, MakesSend, MakesAnswer, Replies}
 use Rattle.outside.specs.HostTold.{sent_by, links_told, each_told, each_heard, host_told}
-use Rattle.outside.proofs.MemCalls.{Passes, passes, makes_told}
+use Rattle.outside.proofs.MemCalls.{passes, makes_told}
 
 -- a clause on a call's result at a test of it
 pub on_ok : {T E P : Type 0} (r : Result T E) → is_err r ≡ false → OnOk r P → P

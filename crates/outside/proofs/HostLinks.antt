@@ -1,5 +1,5 @@
 -- From what a call did to a host in memory to what it tells of its links.
-use Rattle.std.proofs.Common.{◌≡◌, ◌≢◌, ℕ, zero, suc, ◌+◌, ◌-◌, ◌<◌, ◌≤◌, min, Bool, true, false, ltb, List, [], ◌∷◌, ◌++◌, length, take, get_or, replicate, Option, None, Some, Result, Ok, Err, refl, sym, ap, ◌∙◌, subst, inl, inr, arith, length-append, length-take, append-nil, append_assoc}
+use Rattle.std.proofs.Common.{◌≡◌, ◌≢◌, ℕ, zero, suc, ◌+◌, ◌-◌, ◌<◌, ◌≤◌, true, false, List, [], ◌∷◌, ◌++◌, length, take, replicate, None, Some, Result, Ok, Err, refl, sym, ap, ◌∙◌, subst, inl, inr, arith, length-append, append-nil, append_assoc}
 use Rattle.std.specs.Prelude.{if◌then◌else◌, nat_lt, slice_index, ◌^◌, ◌/◌}
 use Rattle.std.proofs.lemmas.List.{take_all, take_more, replicate-append-replicate}
 use Rattle.std.proofs.lemmas.Bool.{lt-ltb, ltb-true, ltb-false}
@@ -7,10 +7,10 @@ use Rattle.std.specs.Option.{option_map}
 use Rattle.outside.specs.declared.failed.Failed.{Failed}
 use Rattle.outside.specs.declared.host.Heard.{Heard}
 use Rattle.outside.specs.declared.host.Heard.TheVariants as heard
-use Rattle.outside.specs.Faults.{one_more, Rose}
-use Rattle.outside.specs.Links.{Links, Link, Reply, got, idle, ended, Answered, HeardOn, nothing_heard, hear_reply, hear_failure, changed_at, with_sent}
-use Rattle.outside.specs.Host.{LinkCause, Dials, MakesLink, Hears, hear, Sends, GoOut, ReadsClock, Grows}
-use Rattle.outside.specs.MemDisk.{Change, dialled, sent, answered, MemDiskValue, links_after, answers_after, with_call}
+use Rattle.outside.specs.Faults.{one_more}
+use Rattle.outside.specs.Links.{Links, Link, Reply, got, idle, ended, Answered, nothing_heard, hear_reply, hear_failure, changed_at, with_sent}
+use Rattle.outside.specs.Host.{LinkCause, Dials, MakesLink, Hears, hear, Sends, ReadsClock, Grows}
+use Rattle.outside.specs.MemDisk.{dialled, sent, answered, MemDiskValue, answers_after, with_call}
 use Rattle.outside.specs.MemTold.{links_after-push}
 use Rattle.outside.specs.MemHost.{MemHostValue, Readings, last_of, first_readings, readings_told, next_reading, upcoming_of, plans_of, links_of, Raises, BeginsAgain, MakesDial, MakesAnswer, Replies, MakesSend, MakesReading}
 use Rattle.outside.specs.HostTold.{heard_on, links_told, as_many, length-changed_at}

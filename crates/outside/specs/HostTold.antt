@@ -1,8 +1,7 @@
 -- What a host in memory tells, and the laws of it.
-use Rattle.std.specs.Prelude.{◌≡◌, ℕ, zero, suc, ◌+◌, List, [], ◌∷◌, ◌++◌, length, map, Some, slice_index}
+use Rattle.std.specs.Prelude.{◌≡◌, ℕ, zero, suc, List, [], ◌∷◌, ◌++◌, length, map, Some, slice_index}
 use Rattle.std.proofs.Common.{refl, sym, ap, ◌∙◌, arith, length-append}
-use Rattle.outside.specs.Files.{Two}
-use Rattle.outside.specs.Links.{Links, Link, Answered, HeardOn, Planned, changed_at, with_sent, sent_of}
+use Rattle.outside.specs.Links.{Links, Link, Answered, HeardOn, Planned, changed_at}
 use Rattle.outside.specs.Outside.{Outside}
 use Rattle.outside.specs.MemDisk.{Change, wrote, wrote_not, cut, cut_not, synced, dialled, sent, answered, hosted, links_after, link_changed, answers_after, answers_changed}
 use Rattle.outside.specs.MemTold.{mem_told}

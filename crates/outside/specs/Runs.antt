@@ -1,5 +1,5 @@
 -- Laws for callers: runs of any calls of a host, on its disk, its links and its clock, one call more at a time.
-use Rattle.std.specs.Prelude.{◌≡◌, ◌≢◌, ℕ, zero, suc, ◌+◌, ◌<◌, ◌≤◌, List, [], ◌∷◌, ◌++◌, map, length, take, Option, None, Some, Result, Ok, Err, is_some, slice_index_or}
+use Rattle.std.specs.Prelude.{◌≡◌, ◌≢◌, ℕ, zero, suc, ◌<◌, ◌≤◌, List, [], ◌∷◌, ◌++◌, map, length, take, Option, None, Some, Result, Ok, Err, is_some, slice_index_or}
 use Rattle.std.specs.List.{flat_map}
 use Rattle.std.specs.Option.{option_map}
 use Rattle.std.proofs.Common.{refl, sym, ap, ◌∙◌, subst, inl, inr, arith, append-nil, append_assoc}
@@ -10,7 +10,7 @@ use Rattle.outside.specs.declared.failed.Failed.{Failed}
 use Rattle.outside.specs.declared.host.Heard.{Heard}
 use Rattle.outside.specs.declared.host.Heard.TheVariants as heard
 use Rattle.outside.specs.Files.{Two, File, IsImage}
-use Rattle.outside.specs.Links.{Link, Links, Reply, got, idle, ended, Answered, HeardOn, nothing_heard, hear_reply, hear_failure, changed_at, with_sent, sent_of, Planned}
+use Rattle.outside.specs.Links.{Link, Links, Reply, got, idle, ended, Answered, HeardOn, nothing_heard, changed_at, with_sent, sent_of, Planned}
 use Rattle.outside.specs.Outside.{Outside, Moment, IsNow, DiskCall, LinkCall, QuietCall, DiskRun}
 use Rattle.outside.specs.Disk.{Becomes}
 use Rattle.outside.specs.Planned.{AnswersAsPlanned, UsesReading}

@@ -21,7 +21,6 @@ use std::alloc::{AllocError, Global};
 use std::marker::Model;
 
 /// A disk in memory that keeps all calls that changed it, and fails at the calls of a list.
-#[derive(Drop)]
 pub struct MemDisk {
     alloc: Global,
     start0: Vec<u8>,
@@ -33,6 +32,24 @@ pub struct MemDisk {
     stop: Option<u64>,
     faults: u64,
     starved: u64,
+}
+
+// Written out, so that whoever drops a disk proves one call.
+impl Drop for MemDisk {
+    fn drop(self) {
+        let MemDisk {
+            alloc: _,
+            start0: _,
+            start1: _,
+            file0: _,
+            file1: _,
+            calls: _,
+            failing: _,
+            stop: _,
+            faults: _,
+            starved: _,
+        } = self;
+    }
 }
 
 impl Model for MemDisk {

@@ -31,7 +31,6 @@ use std::marker::Model;
 /// A disk in memory with links that answer by scripts, a clock with given readings, and given
 /// nonces. Its dials and sends fail at the calls of two lists. It tells all that it is asked, and
 /// what it heard.
-#[derive(Drop)]
 pub struct MemHost {
     alloc: Global,
     disk: MemDisk,
@@ -44,6 +43,25 @@ pub struct MemHost {
     dials: Failing,
     sends: Failing,
     starved: u64,
+}
+
+// Written out, so that whoever drops a host proves one call.
+impl Drop for MemHost {
+    fn drop(self) {
+        let MemHost {
+            alloc: _,
+            disk: _,
+            sent: _,
+            scripts: _,
+            silences: _,
+            faults: _,
+            clock: _,
+            nonces: _,
+            dials: _,
+            sends: _,
+            starved: _,
+        } = self;
+    }
 }
 
 impl Model for MemHost {
@@ -242,7 +260,20 @@ impl MemHost {
     pub fn into_disk(self) -> MemDisk
         ensures { result ≡ self.disk }
     {
-        self.disk
+        let MemHost {
+            disk,
+            alloc: _,
+            sent: _,
+            scripts: _,
+            silences: _,
+            faults: _,
+            clock: _,
+            nonces: _,
+            dials: _,
+            sends: _,
+            starved: _,
+        } = self;
+        disk
     }
 
     /// How many of its calls but those of its disk found no memory; it stands still at 2^64 - 1.

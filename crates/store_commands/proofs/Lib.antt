@@ -1,5 +1,4 @@
 pub mod Lines
-pub mod Groups
 pub mod Passing
 pub mod Looks
 pub mod Adds

@@ -1,5 +1,5 @@
 -- What the commands of a store print, by the facts of its journal.
-use Rattle.std.specs.Prelude.{ℕ, zero, suc, min, List, [], ◌++◌, length, Option, Some, None}
+use Rattle.std.specs.Prelude.{ℕ, zero, suc, List, [], ◌++◌, length, Option, Some, None}
 use Rattle.std.specs.List.{flat_map}
 use Rattle.sync_ids.specs.Ids.{group_id_of, message_id_of}
 use Rattle.sync_rules.specs.declared.entries.Entry.{Entry}
@@ -8,7 +8,6 @@ use Rattle.sync_rules.specs.declared.entries.Level.{Level}
 use Rattle.sync_rules.specs.declared.entries.Level.TheVariants as level
 use Rattle.sync_rules.specs.declared.states.Refused.{Refused}
 use Rattle.sync_rules.specs.declared.states.Refused.TheVariants as refused
-use Rattle.sync_rules.specs.declared.limits.TheConstants.{MAX_CONTACTS}
 use Rattle.sync_rules.specs.Facts.{Facts, Held, Id, Known, held_at, level_at}
 use Rattle.sync_rules.specs.Steps.{fate_held}
 use Rattle.store_commands.specs.declared.listing.Listing.{Listing}
@@ -53,12 +52,12 @@ abbrev pub message_line : Facts → Held → List ℕ
 message_line f h = message_state_text h.id h.message.group (fate_held f h.id)
 
 -- All that `show` prints: the contacts, the groups, the levels, the messages in order of arrival, the number of sessions
--- begun. A legal journal has no more than MAX_CONTACTS contacts.
+-- begun
 abbrev pub show_text : Facts → List ℕ
 show_text f =
     contacts_text f.contacts
     ++ (flat_map group_line f.groups
-    ++ (levels_below f (min MAX_CONTACTS f.contacts) ++ (flat_map (message_line f) f.held ++ sessions_text (f.begun))))
+    ++ (levels_below f f.contacts ++ (flat_map (message_line f) f.held ++ sessions_text (f.begun))))
 
 -- ---- `inbox`
 

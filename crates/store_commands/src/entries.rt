@@ -94,7 +94,7 @@ pub fn add_entry<D: Disk, W: Sink, C: Clients>(
 {
     let mut store = store;
     let line = line_of(alloc, &entry)?;
-    let batch = batch_of(alloc, entry)?;
+    let batch = Batch::single(alloc, entry)?;
     extend(&mut store, batch, settling, disk, clients)?;
     print_bytes(line.as_bytes(), out)
 }
@@ -117,17 +117,5 @@ fn add_line(alloc: Global, entry: &Entry, to: &mut String) -> Result<(), AllocEr
         Entry::Level(contact, group, level) => level_line(alloc, *contact, group, *level, to),
         Entry::Author(message) => posted_line(alloc, &id_of(message), to),
         _ => Ok(()),
-    }
-}
-
-// The batch of one entry.
-fn batch_of(alloc: Global, entry: Entry) -> Result<Batch, AllocError>
-    ensures { IfOk result (λ batch. batch ≡ entry ∷ []) }
-{
-    let mut entries = Vec::new(alloc);
-    entries.push(entry)?;
-    match Batch::new(entries) {
-        Ok(batch) => Ok(batch),
-        Err(_) => unreachable!(),
     }
 }

@@ -1,6 +1,6 @@
 // What the commands print of a store. Each call appends its lines; it fails only for want of
 // memory.
-ghost use Rattle.std.specs.Prelude.{◌≡◌, ◌+◌, ◌<◌, ◌≤◌, ◌++◌, min, length, OnOk, Some, slice_get};
+ghost use Rattle.std.specs.Prelude.{◌≡◌, ◌+◌, ◌<◌, ◌≤◌, ◌++◌, length, OnOk, Some, slice_get};
 ghost use Rattle.std.specs.List.{flat_map};
 ghost use Rattle.std.specs.String.{string_bytes};
 ghost use Rattle.sync_rules.specs.Facts.{Held, Id, Known, held_at};
@@ -9,7 +9,7 @@ ghost use Rattle.store_commands.specs.Shown.{group_line, inbox_of, level_line, l
 ghost use Rattle.store_commands.specs.Shown.{listing_text, message_line, show_text};
 
 use std::alloc::{AllocError, Global};
-use sync_rules::{Level, MAX_CONTACTS, View};
+use sync_rules::{Level, View};
 use sync_store::Store;
 use sync_words::{
     contacts_line, inbox_line, known_group_line, level_line, sessions_line, state_line,
@@ -75,9 +75,9 @@ fn add_group(alloc: Global, store: &Store, n: u32, to: &mut String) -> Result<()
 // The levels that are not Invisible.
 fn add_levels(alloc: Global, store: &Store, to: &mut String) -> Result<(), AllocError>
     ensures { OnOk result (string_bytes to.new ≡ string_bytes to.old ++ levels_below
-        store.now.state.facts (min MAX_CONTACTS store.now.state.facts.contacts)) }
+        store.now.state.facts store.now.state.facts.contacts) }
 {
-    'contacts: for contact in 0..store.contacts().min(MAX_CONTACTS as u32) {
+    'contacts: for contact in 0..store.contacts() {
         add_contact_levels(alloc, store, contact as u8, to)?;
     }
     Ok(())

@@ -39,18 +39,6 @@ pub fn plan_level(
     Ok(Entry::Level(contact, *group, level))
 }
 
-/// Whether a group is known.
-pub fn knows_group(store: &Store, group: &GroupId) -> bool
-    ensures { result ≡ is_some (group_at store.now.state.facts.groups group.now) }
-{
-    'groups: for n in 0..store.groups() {
-        if store.group_id_at(n) == *group {
-            return true;
-        }
-    }
-    false
-}
-
 /// The message of this body in a known group.
 pub fn plan_post<C: Clients>(
     store: &Store,

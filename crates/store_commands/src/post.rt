@@ -6,7 +6,7 @@ ghost use Rattle.store_commands.specs.Post.{HasPosted, IsRead};
 use crate::commit::Settling;
 use crate::entries::add_entry;
 use crate::load::load_store;
-use crate::plans::{knows_group, plan_post};
+use crate::plans::plan_post;
 use outside::{Disk, InputFault, Sink, Source, read_input};
 use std::alloc::Global;
 use std::hash::RandomState;
@@ -31,7 +31,7 @@ pub fn post_message<D: Disk, S: Source, W: Sink, C: Clients>(
         (W.tells out.new) (came_to result) }
 {
     let store = load_store(alloc, hasher, disk, clients)?;
-    if !knows_group(&store, &group) {
+    if !store.knows_group(&group) {
         return Err(Outcome::Refused(Refused::UnknownGroup));
     }
     let body = read_body(alloc, input)?;

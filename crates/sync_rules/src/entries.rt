@@ -1,7 +1,7 @@
 //! The entries of a journal, and its batches.
 ghost use Rattle.std.specs.Prelude.{◌≡◌, ◌≤◌, ◌↔◌, [], ◌∷◌, ◌++◌, length, IfOk, IsErr, OnErr, OnOk};
 
-use std::alloc::AllocError;
+use std::alloc::{AllocError, Global};
 use std::marker::Model;
 use sync_ids::{GroupDef, GroupId, IdList, MAX_IDS, Message, MessageId, Nonce};
 
@@ -119,6 +119,15 @@ impl Batch {
         if entries.is_empty() {
             return Err(EmptyBatch);
         }
+        Ok(Batch { entries })
+    }
+
+    /// A batch of this one entry. It fails only for want of memory.
+    pub fn single(alloc: Global, entry: Entry) -> Result<Batch, AllocError>
+        ensures { IfOk result (λ b. b ≡ entry ∷ []) }
+    {
+        let mut entries = Vec::new(alloc);
+        entries.push(entry)?;
         Ok(Batch { entries })
     }
 

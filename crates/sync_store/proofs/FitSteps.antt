@@ -15,7 +15,8 @@ use Rattle.sync_rules.specs.Clients.{Meaning}
 use Rattle.sync_rules.specs.Facts.{Facts, after_all, facts, nothing}
 use Rattle.sync_rules.specs.Legal.{Allowed, Legal}
 use Rattle.entry_codec.specs.Payloads.{journal_end, payload, payload_len, payloads}
-use Rattle.entry_codec.specs.Growing.{all_push, facts_push, legal_push, payloads_push}
+use Rattle.sync_rules.specs.Continuing.{legal-push}
+use Rattle.entry_codec.specs.Growing.{all_push, facts_push, payloads_push}
 use Rattle.entry_codec.specs.Spelling.{IsEntry}
 use Rattle.entry_codec.specs.Standing.{stands, journal, room_of}
 use Rattle.entry_codec.specs.StandingLaws.{JournalsStand}
@@ -144,7 +145,7 @@ adds_moment stand clients s j two batch framed sent fits may m moment =
         stands_for =
             stands_at stand clients s j two fits m.files (j ++ batch ∷ [])
             (more_frames (file_of m.files s.file) fits.header j batch framed (payload_here clients s j two batch framed fits may) with_it) other
-            (legal_push clients j batch fits.legal (allowed_here clients s j two batch framed fits may))
+            (legal-push clients j batch fits.legal (allowed_here clients s j two batch framed fits may))
             (all_push (λ b. AllByRecursion IsEntry b) j batch fits.within may.within) (bounded_then clients s j two batch framed fits may);
         nothing_sent = moment.nothing_sent;
       }
@@ -167,7 +168,7 @@ adds_fits stand clients s new j two two' batch framed fits may appends is_with =
     subst (λ (bytes : List ℕ). HasFrames bytes fits.header more) (sym (this_reads two' s.file)) frames in
     let before : HasFrames (file_of (read_files two) s.file) fits.header (payloads nothing j) =
     subst (λ (bytes : List ℕ). HasFrames bytes fits.header (payloads nothing j)) (sym (this_reads two s.file)) fits.frames in
-    let legal = legal_push clients j batch fits.legal (allowed_here clients s j two batch framed fits may) in
+    let legal = legal-push clients j batch fits.legal (allowed_here clients s j two batch framed fits may) in
     let within = all_push (λ b. AllByRecursion IsEntry b) j batch fits.within may.within in
     record {
       first_settled = first_of two' s.file appends.at_rest.settled other;

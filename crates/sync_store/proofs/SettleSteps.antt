@@ -12,7 +12,8 @@ use Rattle.sync_rules.specs.Left.{left_of}
 use Rattle.sync_rules.specs.LeftLaws.{left_few}
 use Rattle.sync_rules.specs.Legal.{AllSettling}
 use Rattle.sync_rules.specs.Steps.{IsSettled}
-use Rattle.entry_codec.specs.Growing.{after_batches-append, settling-append}
+use Rattle.sync_rules.specs.Settling.{after_batches-append}
+use Rattle.entry_codec.specs.Growing.{settling-append}
 use Rattle.entry_codec.specs.StandingLaws.{JournalsStand}
 use Rattle.sync_store.specs.declared.fault.StoreFault.{StoreFault}
 use Rattle.sync_store.specs.declared.fault.StoreFault.TheVariants as fault

@@ -1,14 +1,15 @@
 //! `Store`.
 ghost use Rattle.std.specs.Prelude.{◌≡◌, ◌+◌, ◌<◌, ◌≤◌, ◌↔◌, ◌∷◌, [], IsTrue, length, Some};
-ghost use Rattle.std.specs.Prelude.{slice_get, IfOk, IfSome};
+ghost use Rattle.std.specs.Prelude.{slice_get, is_some, IfOk, IfSome};
 ghost use Rattle.std.specs.Option.{option_map};
 ghost use Rattle.entry_codec.specs.Standing.{room_of};
 ghost use Rattle.outside.specs.declared.limits.TheConstants.{MAX_JOURNAL};
 ghost use Rattle.journal_state.specs.Allowing.{due_of};
 ghost use Rattle.journal_state.specs.Lent.{StandsForNodes, StandsForRows};
 ghost use Rattle.journal_state.specs.Whole.{Knows};
+ghost use Rattle.sync_rules.specs.declared.limits.TheConstants.{MAX_CONTACTS};
 ghost use Rattle.sync_rules.specs.Clients.{Meaning};
-ghost use Rattle.sync_rules.specs.Facts.{Id, session_at, takes_of};
+ghost use Rattle.sync_rules.specs.Facts.{Id, group_at, session_at, takes_of};
 ghost use Rattle.sync_rules.specs.Legal.{Allowed};
 ghost use Rattle.sync_rules.specs.Steps.{IsSettled, fate_held};
 ghost use Rattle.sync_rules.specs.Views.{IsPlace};
@@ -60,9 +61,10 @@ impl Store {
         self.state.held()
     }
 
-    /// The number of contacts.
+    /// The number of contacts, at most `MAX_CONTACTS`.
     pub fn contacts(&self) -> u32
-        ensures { result ≡ self.now.state.facts.contacts }
+        ensures value { result ≡ self.now.state.facts.contacts }
+        ensures few { result ≤ MAX_CONTACTS }
     {
         self.state.contacts()
     }
@@ -72,6 +74,13 @@ impl Store {
         ensures { result ≡ length self.now.state.facts.groups }
     {
         self.state.groups()
+    }
+
+    /// Whether the group is known.
+    pub fn knows_group(&self, group: &GroupId) -> bool
+        ensures { result ≡ is_some (group_at self.now.state.facts.groups group.now) }
+    {
+        self.state.knows_group(group)
     }
 
     /// The number of sessions that have begun.

@@ -3,7 +3,7 @@ ghost use Rattle.outside.specs.MemHost.{links_of};
 
 use crate::disks::use_disk;
 use outside::{Answer, Disk, Failed, Heard, Host, MemDisk, MemHost, Pick};
-use std::alloc::Global;
+use std::alloc::{AllocError, Global};
 use std::process::Abort;
 use std::test::Fail;
 
@@ -57,31 +57,45 @@ fn hear_all<H: Host>(rt: &impl Abort, host: &mut H, expected: &[Hearing])
     }
 }
 
-// Adds an answer to the script of link 0.
-fn plan(host: &mut MemHost, answer: Answer) -> Result<(), Fail>
-    ensures { OnOk result (links_of host.new.disk ≡ links_of host.old.disk) }
+// An answer that is planned.
+#[derive(Clone, Copy)]
+enum Planned {
+    Bytes(&'static [u8]),
+    Idle,
+    End,
+    Fail,
+}
+
+impl Planned {
+    fn answer(self, alloc: Global) -> Result<Answer, AllocError> {
+        Ok(match self {
+            Planned::Bytes(bytes) => Answer::Bytes(bytes.to_vec(alloc)?),
+            Planned::Idle => Answer::Idle,
+            Planned::End => Answer::End,
+            Planned::Fail => Answer::Fail,
+        })
+    }
+}
+
+// Adds answers to the script of link 0.
+fn plan(host: &mut MemHost, alloc: Global, script: &[Planned]) -> Result<(), AllocError>
+    ensures { links_of host.new.disk ≡ links_of host.old.disk }
 {
-    host.script(0, answer)?;
+    for planned in script {
+        host.script(0, planned.answer(alloc)?)?;
+    }
     Ok(())
 }
 
-fn bytes(alloc: Global, text: &[u8]) -> Result<Answer, Fail> {
-    Ok(Answer::Bytes(Vec::from_slice(alloc, text)?))
-}
-
-// A host with a script of answers of each kind.
-fn scripted_host(alloc: Global) -> Result<MemHost, Fail>
-    ensures { IfOk result (λ h. length (links_of h.disk) ≡ 2) }
-{
-    let mut host = linked_host(alloc)?;
-    plan(&mut host, bytes(alloc, b"abcde")?)?;
-    plan(&mut host, bytes(alloc, b"")?)?;
-    plan(&mut host, Answer::Idle)?;
-    plan(&mut host, Answer::End)?;
-    plan(&mut host, Answer::Fail)?;
-    plan(&mut host, bytes(alloc, b"fghi")?)?;
-    Ok(host)
-}
+// An answer of each kind.
+const SCRIPT: [Planned; 6] = [
+    Planned::Bytes(b"abcde"),
+    Planned::Bytes(b""),
+    Planned::Idle,
+    Planned::End,
+    Planned::Fail,
+    Planned::Bytes(b"fghi"),
+];
 
 const HEARINGS: [Hearing; 9] = [
     (2, Heard::Got(2), *b"ab\0\0"),
@@ -97,7 +111,8 @@ const HEARINGS: [Hearing; 9] = [
 
 #[test]
 fn scripts(rt: HostRuntime) -> Result<(), Fail> {
-    let mut host = scripted_host(rt.alloc())?;
+    let mut host = linked_host(rt.alloc())?;
+    plan(&mut host, rt.alloc(), &SCRIPT)?;
     hear_all(&rt, &mut host, HEARINGS.as_slice());
     assert_eq!(rt; host.starved(), 0);
     Ok(())
@@ -110,15 +125,20 @@ fn read<H: Host>(rt: &impl Abort, host: &mut H, expected: &[u64]) {
     }
 }
 
+fn give_readings(host: &mut MemHost, readings: &[u64]) -> Result<(), AllocError> {
+    for reading in readings {
+        host.reading(*reading)?;
+    }
+    Ok(())
+}
+
 #[test]
 fn readings(rt: HostRuntime) -> Result<(), Fail> {
     let mut host = new_host(rt.alloc())?;
     read(&rt, &mut host, &[0]);
-    host.reading(5)?;
-    host.reading(4)?;
+    give_readings(&mut host, &[5, 4])?;
     read(&rt, &mut host, &[5, 4, 4]);
-    host.reading(9)?;
-    host.reading(10)?;
+    give_readings(&mut host, &[9, 10])?;
     read(&rt, &mut host, &[9]);
     host.set_clock(3)?;
     read(&rt, &mut host, &[3, 3]);
@@ -191,7 +211,7 @@ fn the_disk_of_a_host(rt: HostRuntime) -> Result<(), Fail> {
 // A host that planned an answer, a reading and a nonce, and was stopped behind its first call.
 fn stopped_host(rt: &impl Abort, alloc: Global) -> Result<MemHost, Fail> {
     let mut host = linked_host(alloc)?;
-    plan(&mut host, Answer::Idle)?;
+    plan(&mut host, alloc, &[Planned::Idle])?;
     host.set_clock(7)?;
     host.give_nonce([1; 16])?;
     host.stop_at(1);

@@ -1,4 +1,4 @@
-use Rattle.std.proofs.Common.{◌≡◌, ◌-◌}
+use Rattle.std.proofs.Common.{◌-◌}
 use Rattle.outside.specs.Files.{file_of}
 use Rattle.outside.specs.Steps.{becomes_told}
 use Rattle.frame_journal.specs.Append.{Opens, Gated}

@@ -1,9 +1,8 @@
 -- The number of the next step is that of a held message.
 use Rattle.std.proofs.Common.{◌≡◌, ◌<◌, Some, length, ap, ◌∙◌, arith, rules}
 use Rattle.std.specs.String.{string_bytes}
-use Rattle.message_graph.specs.Nodes.{Shown, next, after_step}
+use Rattle.message_graph.specs.Nodes.{Shown, next, after_step, step_number}
 use Rattle.journal_play.specs.Playing.{Played}
-use Rattle.journal_play.specs.Keeping.{number_in}
 use Rattle.journal_play.proofs.Steps.{next_within}
 use Rattle.journal_play.proofs.Work.{length_after}
 use Rattle.journal_play.proofs.Calls.{end_is}
@@ -13,9 +12,9 @@ pub index-head-requires : goal.index-head-requires
 index-head-requires c =
     let inside = c.self.inside in
     let step : next inside.graph.nodes ≡ Some c.args.step = ap (λ (p : Played). next p.nodes) c.self.view_is ∙ c.requires.next in
-    let within : number_in c.args.step < length inside.graph.nodes = next_within inside.graph.nodes c.args.step step in
+    let within : step_number c.args.step < length inside.graph.nodes = next_within inside.graph.nodes c.args.step step in
     let each : length inside.graph.nodes ≡ length inside.held.items = c.self.invariant.0 in
-    let number : number_in c.args.step ≡ c.args.n = c.requires.number in
+    let number : step_number c.args.step ≡ c.args.n = c.requires.number in
     let there : c.args.n < length inside.held.items = omega (arith, within, each, number) in
     search rules
 

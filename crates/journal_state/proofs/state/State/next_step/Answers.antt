@@ -1,7 +1,8 @@
 use Rattle.std.proofs.Common.{◌≡◌, ◌<◌, None, Some, length, sym, ap, subst, ◌∙◌, arith}
 use Rattle.sync_rules.specs.Clients.{Meaning}
 use Rattle.sync_rules.specs.Steps.{next}
-use Rattle.journal_state.specs.Stepping.{entry_of, number_in}
+use Rattle.message_graph.specs.Nodes.{step_number}
+use Rattle.journal_state.specs.Stepping.{entry_of}
 use Rattle.journal_state.specs.Whole.{StateValue, Knows, id_at}
 use Rattle.journal_state.specs.Inside.{parts}
 use Rattle.journal_state.proofs.Next.{found_next, many_nodes, next_within}
@@ -14,9 +15,9 @@ returns-in_err-step c =
 
 pub entry_of-requires : goal.entry_of-requires
 entry_of-requires c =
-    let within : number_in c.in_ok-step.step < length c.self.inside.graph.nodes = next_within c.self.inside.graph.nodes c.in_ok-step.step (sym c.in_ok-step.ensures) in
-    let held : number_in c.in_ok-step.step < length c.self.inside.messages.held = omega (arith, within, many_nodes (parts c.self.inside) c.self.invariant.state) in
-    subst (λ (v : StateValue). number_in c.in_ok-step.step < length v.facts.held) c.self.view_is held
+    let within : step_number c.in_ok-step.step < length c.self.inside.graph.nodes = next_within c.self.inside.graph.nodes c.in_ok-step.step (sym c.in_ok-step.ensures) in
+    let held : step_number c.in_ok-step.step < length c.self.inside.messages.held = omega (arith, within, many_nodes (parts c.self.inside) c.self.invariant.state) in
+    subst (λ (v : StateValue). step_number c.in_ok-step.step < length v.facts.held) c.self.view_is held
 
 pub returns : goal.returns
 returns c =

@@ -7,7 +7,8 @@ use Rattle.sync_rules.specs.Steps.{next}
 use Rattle.message_graph.specs.declared.nodes.Step.{Step}
 use Rattle.message_graph.specs.Nodes as nodes
 use Rattle.journal_state.specs.Parts.{Parts}
-use Rattle.journal_state.specs.Stepping.{entry_of, number_in}
+use Rattle.message_graph.specs.Nodes.{step_number}
+use Rattle.journal_state.specs.Stepping.{entry_of}
 use Rattle.journal_state.specs.Whole.{StateValue, IsState, Knows, id_at, value_of}
 use Rattle.journal_state.specs.Inside.{parts}
 use Rattle.journal_state.proofs.Next.{found_next, many_nodes, next_within}
@@ -31,9 +32,9 @@ returns-in_default-clause-step g c =
 
 pub entry_of-entry-requires : goal.entry_of-entry-requires
 entry_of-entry-requires g c =
-    let within : number_in c.in-Some.step < length c.self.inside.graph.nodes = next_within c.self.inside.graph.nodes c.in-Some.step (sym c.in-Some.ensures) in
-    let held : number_in c.in-Some.step < length c.self.inside.messages.held = omega (arith, within, many_nodes (parts c.self.inside) c.self.invariant.state) in
-    subst (λ (v : StateValue). number_in c.in-Some.step < length v.facts.held) c.self.view_is held
+    let within : step_number c.in-Some.step < length c.self.inside.graph.nodes = next_within c.self.inside.graph.nodes c.in-Some.step (sym c.in-Some.ensures) in
+    let held : step_number c.in-Some.step < length c.self.inside.messages.held = omega (arith, within, many_nodes (parts c.self.inside) c.self.invariant.state) in
+    subst (λ (v : StateValue). step_number c.in-Some.step < length v.facts.held) c.self.view_is held
 
 pub judge-requires-clause-next : goal.judge-requires-clause-next
 judge-requires-clause-next g c =

@@ -1,6 +1,6 @@
 use Rattle.std.proofs.Common.{◌≡◌, List, IfOk, take, sym, ap, subst, ◌∙◌}
 use Rattle.sync_rules.specs.Facts.{Id, wanted_from}
-use Rattle.sync_rules.specs.Sessions.{ids_limit}
+use Rattle.sync_ids.specs.declared.lists.TheConstants.{MAX_IDS}
 use Rattle.retry_table.specs.Table as retry
 use Rattle.journal_state.specs.Whole.{StateValue}
 use Rattle.journal_state.proofs.Wants.{wants_found}
@@ -11,4 +11,4 @@ returns c =
     let same : (retry.wants_of c.self.inside.retry c.args.contact).ids ≡ wanted_from c.args.self.now.facts.wanted c.args.contact =
     sym (wants_found c.self.inside.retry c.self.inside.table.contacts c.args.contact c.self.invariant.state.free_wants)
     ∙ ap (λ (v : StateValue). wanted_from v.facts.wanted c.args.contact) c.self.view_is in
-    subst (λ (ids : List Id). IfOk c.wanted.result (λ v. v.items ≡ take ids_limit ids)) same c.wanted.ensures
+    subst (λ (ids : List Id). IfOk c.wanted.result (λ v. v.items ≡ take MAX_IDS ids)) same c.wanted.ensures

@@ -1,5 +1,5 @@
 use Rattle.std.proofs.Common.{◌≡◌, take}
-use Rattle.journal_state.proofs.judge.names_of.Given as goal
+use Rattle.journal_state.proofs.judge.graph_names.Given as goal
 
 abbrev pub invariant-loop-id : goal.invariant-loop-id
 invariant-loop-id l = l.names.items ≡ take l.id-index l.ids
