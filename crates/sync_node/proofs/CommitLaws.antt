@@ -118,7 +118,7 @@ settling_grown clients first plans heard f more settling j whole legal is end =
     }
 
 -- the front of settling batches
-settling_front : (clients : Meaning) (f : Facts) (bs cs : Journal) → AllSettling clients f (bs ++ cs) → AllSettling clients f bs
+pub settling_front : (clients : Meaning) (f : Facts) (bs cs : Journal) → AllSettling clients f (bs ++ cs) → AllSettling clients f bs
 settling_front clients f [] cs settling = tt
 settling_front clients f (b ∷ bs) cs settling = (settling.0, settling_front clients (after_all f b) bs cs settling.1)
 

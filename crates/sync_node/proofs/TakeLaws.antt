@@ -47,7 +47,7 @@ use Rattle.sync_node.proofs.WorkLaws.{goes_then, works_link}
 
 -- ---- a record sends nothing
 
-settling_adds : (clients : Meaning) (f : Facts) (n : ℕ) (bs : Journal) → AllSettling clients f bs → output_of f n bs ≡ []
+pub settling_adds : (clients : Meaning) (f : Facts) (n : ℕ) (bs : Journal) → AllSettling clients f bs → output_of f n bs ≡ []
 settling_adds clients f n [] settling = refl
 settling_adds clients f n (b ∷ bs) settling =
     ap (λ (rs : List Record). rs ++ output_of (after_all f b) n bs) (silent_adds_nothing f n b (settling_silent clients f b settling.0.2)) ∙ settling_adds clients (after_all f b) n bs settling.1
@@ -184,7 +184,7 @@ take_kind f session k r batch is = ap is_settling_kind is
 pub take_is : (f : Facts) (session : Session) (k : ℕ) (r : Record) (batch : List Entry) → k ≡ takes_of f.takes session.number → batch ≡ take_of f session k r → batch ≡ next_take f session r
 take_is f session k r batch numbered is = is ∙ ap (λ n. take_of f session n r) numbered
 
-commits_then : (clients : Meaning) (batch : List Entry) (more : Journal) (s s1 s2 : StoreValue) (o o1 o2 : Outside) → Commits clients (batch ∷ []) s s1 o o1 → Commits clients more s1 s2 o1 o2
+pub commits_then : (clients : Meaning) (batch : List Entry) (more : Journal) (s s1 s2 : StoreValue) (o o1 o2 : Outside) → Commits clients (batch ∷ []) s s1 o o1 → Commits clients more s1 s2 o1 o2
     → Commits clients (batch ∷ more) s s2 o o2
 commits_then clients batch more s s1 s2 o o1 o2 first second = record {
   goes = goes_then o o1 o2 first.goes second.goes;
