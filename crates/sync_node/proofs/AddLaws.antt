@@ -17,7 +17,7 @@ use Rattle.sync_rules.specs.Clients.{Meaning}
 use Rattle.sync_rules.specs.Continuing.{facts-append}
 use Rattle.sync_rules.specs.Facts.{Facts, after_all, after_batches, facts, session_at, takes_of}
 use Rattle.sync_rules.specs.Growth.{is_silent, output_of}
-use Rattle.sync_rules.specs.Legal.{AllSettling}
+use Rattle.sync_rules.specs.Legal.{Allowed, AllSettling}
 use Rattle.sync_rules.specs.OutputLaws.{silent_adds_nothing}
 use Rattle.sync_rules.specs.StepKinds.{all_settling_only}
 use Rattle.sync_rules.specs.Steps.{IsSettled}
@@ -209,3 +209,14 @@ add_leads clients batch s s1 s2 o o1 o2 two j files commits first second =
           (λ m jm. record { whole = jm.whole; has = settles_behind clients j batch jm.whole jm.has; stands_for = jm.stands_for; nothing_sent = jm.nothing_sent ∙ sent }) then.moments);
       ends = λ opened two2 files2. let last = then.ends opened two2 files2 in (last.0, settles_behind clients j batch last.0 last.1, last.2);
     }
+
+-- ---- a node
+
+pub node_allowed : (clients : Meaning) (s : StoreValue) (first : ℕ) (links : List Link) (closed : Bool) (n : NodeValue) (batch : List Entry) → node_of s first links closed ≡ n
+    → (n.closed ≡ false → Allowed clients n.store.state.facts batch) → closed ≡ false → Allowed clients s.state.facts batch
+node_allowed clients s first links closed n batch is allowed =
+    subst (λ (m : NodeValue). (m.closed ≡ false → Allowed clients m.store.state.facts batch) → closed ≡ false → Allowed clients s.state.facts batch) is (λ then opened. then opened) allowed
+
+-- the store of a node before
+pub node_fits : (clients : Meaning) (s : StoreValue) (first : ℕ) (links : List Link) (closed : Bool) (n : NodeValue) (j : Journal) (two : Two File) → node_of s first links closed ≡ n → Fits clients n.store j two → Fits clients s j two
+node_fits clients s first links closed n j two is fits = subst (λ (m : NodeValue). Fits clients m.store j two) (sym is) fits

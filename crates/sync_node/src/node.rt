@@ -8,13 +8,13 @@ use crate::fault::NodeFault;
 use crate::hearing::receive_on;
 use crate::link::{Link, LinkEnd};
 use crate::sending::send_all;
-use crate::told::cite_laws;
+use crate::told::{add_settled, cite_laws};
 use crate::turning::turn_all;
 use outside::Host;
 use std::alloc::{AllocError, Global};
 use std::marker::Model;
 use sync_ids::Nonce;
-use sync_rules::{Clients, Mode, Session};
+use sync_rules::{Batch, Clients, Mode, Session};
 use sync_store::Store;
 
 /// The length of the buffer that a link is asked with, in bytes.
@@ -89,7 +89,12 @@ impl Node {
     ghost use Rattle.std.specs.Prelude.{[], true, slice_get, OnOk, Some};
     ghost use Rattle.std.specs.Option.{option_map};
     ghost use Rattle.sync_node.specs.declared.link.Link.{Link};
-    ghost use Rattle.sync_rules.specs.Legal.{suits_nonce};
+    ghost use Rattle.outside.specs.Files.{Two, File};
+    ghost use Rattle.sync_rules.specs.Legal.{Allowed, suits_nonce};
+    ghost use Rattle.sync_store.specs.Fitting.{Fits};
+    ghost use Rattle.sync_store.specs.Moments.{Leads};
+    ghost use Rattle.sync_node.specs.Adding.{AddsAtMost, IsPlain};
+    ghost use Rattle.sync_node.specs.Output.{Journal};
     ghost use Rattle.sync_rules.specs.Steps.{IsSettled};
     ghost use Rattle.sync_node.specs.Node.{Answers, Attaches, KeepsJoined, KeepsSafe};
     ghost use Rattle.sync_node.specs.Node.{MayRun, PlansSafe, StaysClosed};
@@ -138,6 +143,44 @@ impl Node {
         ensures { option_map (λ l. l.end) (slice_get self.now.links link) ≡ Some result }
     {
         self.links[link as usize].end
+    }
+
+    /// Commits a batch of one entry that adds a contact, a group or a message, or sets a level, and
+    /// may follow the journal; and settles. Nothing is sent: at each moment the files stand for the
+    /// journal, or for it with the batch and settling behind it.
+    pub fn add<H: Host, C: Clients>(
+        &mut self,
+        host: &mut H,
+        clients: &C,
+        batch: Batch,
+    ) -> Result<(), NodeFault>
+        requires may { MayRun (C.meaning clients.now) self.old (H.tells host.old) }
+        requires allowed { self.old.closed ≡ false
+            → Allowed (C.meaning clients.now) self.old.store.state.facts batch }
+        requires plain { IsPlain batch }
+        ensures closed { self.old.closed ≡ true
+            → StaysClosed self.old self.new host.old host.new result }
+        ensures answer { self.old.closed ≡ false → Answers result self.new }
+        ensures may { MayRun (C.meaning clients.now) self.new (H.tells host.new) }
+        ensures joined { OnOk result (KeepsJoined (C.meaning clients.now) self.old self.new
+            (H.tells host.old) (H.tells host.new)) }
+        ensures leads { self.old.closed ≡ false → (two : Two File)
+            → (H.tells host.old).files ≡ Some two → (j : Journal)
+            → Fits (C.meaning clients.now) self.old.store j two → Leads (C.meaning clients.now)
+            (AddsAtMost (C.meaning clients.now) j batch)
+            (AddsAtMost (C.meaning clients.now) j batch) self.new.store (H.tells host.old)
+            (H.tells host.new) }
+    {
+        if self.closed {
+            return Err(NodeFault::Closed);
+        }
+        match add_settled(&mut self.store, host, clients, batch) {
+            Ok(()) => Ok(()),
+            Err(fault) => {
+                self.closed = true;
+                Err(NodeFault::from(fault))
+            }
+        }
     }
 
     /// Begins a session on a link that was dialled, the next number: commits it, and sends VERSIONS
