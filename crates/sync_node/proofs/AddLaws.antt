@@ -1,9 +1,9 @@
 -- A batch that is added beside the sessions.
-use Rattle.std.proofs.Common.{◌≡◌, ◌≢◌, ◌⊎◌, ℕ, ◌+◌, ◌<◌, ◌≤◌, Bool, true, false, List, [], ◌∷◌, ◌++◌, length, refl, sym, ap, ◌∙◌, subst, inl, inr, arith, Some, None, Result, Ok, Err, append-nil, append_assoc, is_some}
-use Rattle.std.specs.List.{list_all, slice_get}
+use Rattle.std.proofs.Common.{◌≡◌, ℕ, Bool, true, false, List, [], ◌∷◌, ◌++◌, refl, sym, ap, ◌∙◌, subst, inl, inr, arith, Some, Result, append-nil, append_assoc}
+use Rattle.std.specs.List.{list_all}
 use Rattle.outside.specs.Files.{Two, File}
 use Rattle.outside.specs.Links.{Links, sent_of}
-use Rattle.outside.specs.Outside.{Outside, Moment, MomentsAre}
+use Rattle.outside.specs.Outside.{Outside, Moment}
 use Rattle.outside.specs.Runs.{Told, answers_at}
 use Rattle.outside.specs.Steps.{moments_map, moments_then, told_on}
 use Rattle.record_grammar.specs.Spelling.{spelled}
@@ -11,31 +11,26 @@ use Rattle.record_stream.specs.Reading.{ReadsOn, fresh}
 use Rattle.sync_ids.specs.declared.records.Record.{Record}
 use Rattle.sync_rules.specs.declared.entries.Entry.{Entry}
 use Rattle.sync_rules.specs.declared.entries.Entry.TheVariants as entry
-use Rattle.sync_rules.specs.declared.entries.Session.{Session}
 use Rattle.sync_rules.specs.Allows.{is_settling_kind}
 use Rattle.sync_rules.specs.Clients.{Meaning}
-use Rattle.sync_rules.specs.Continuing.{facts-append}
-use Rattle.sync_rules.specs.Facts.{Facts, after_all, after_batches, facts, session_at, takes_of}
+use Rattle.sync_rules.specs.Facts.{Facts, after_all, facts, session_at, takes_of}
 use Rattle.sync_rules.specs.Growth.{is_silent, output_of}
 use Rattle.sync_rules.specs.Legal.{Allowed, AllSettling}
 use Rattle.sync_rules.specs.OutputLaws.{silent_adds_nothing}
 use Rattle.sync_rules.specs.StepKinds.{all_settling_only}
-use Rattle.sync_rules.specs.Steps.{IsSettled}
 use Rattle.sync_rules.specs.WorkLaws.{facts-push}
 use Rattle.sync_store.specs.Store.{StoreValue}
 use Rattle.sync_store.specs.Fitting.{Fits}
-use Rattle.sync_store.specs.Moments.{Adds, IsBetween, JournalMoment, Leads, WithAtMost}
+use Rattle.sync_store.specs.Moments.{IsBetween, JournalMoment, Leads, WithAtMost}
 use Rattle.sync_store.specs.Settling.{HasSettled}
 use Rattle.sync_store.specs.declared.fault.StoreFault.{StoreFault}
-use Rattle.sync_node.specs.declared.fault.Fault.{Fault}
 use Rattle.sync_node.specs.declared.link.Link.{Link}
-use Rattle.sync_node.specs.declared.link.LinkEnd.TheVariants as link_end
-use Rattle.sync_node.specs.Adding.{AddsAtMost, AddsOne, AddsSettled, GoesOnSettling, IsCommitted, IsPlain}
-use Rattle.sync_node.specs.Going.{Commits, Goes, Settles}
-use Rattle.sync_node.specs.Joined.{IsJoined, IsUnused, Joined}
+use Rattle.sync_node.specs.Adding.{AddsAtMost, AddsSettled, GoesOnSettling, IsPlain}
+use Rattle.sync_node.specs.Going.{Commits, Settles}
+use Rattle.sync_node.specs.Joined.{IsJoined, Joined}
 use Rattle.sync_node.specs.Node.{AreAttached, KeepsJoined, MayGoOn, NodeValue}
 use Rattle.sync_node.specs.Output.{Journal, heard_on, output, sent_on}
-use Rattle.sync_node.proofs.CommitLaws.{one_journal, settling_front}
+use Rattle.sync_node.proofs.CommitLaws.{settling_front}
 use Rattle.sync_node.proofs.NodeLaws.{node_of}
 use Rattle.sync_node.proofs.OutLaws.{output_with}
 use Rattle.sync_node.proofs.SafeLaws.{told_before}

@@ -1,15 +1,13 @@
 -- The links of a node with one more.
-use Rattle.std.proofs.Common.{◌≡◌, ◌≢◌, ◌⊎◌, ℕ, zero, suc, ◌+◌, ◌<◌, ◌≤◌, Bool, true, false, List, [], ◌∷◌, ◌++◌, length, refl, sym, ap, ◌∙◌, subst, inl, inr, arith, Some, None}
+use Rattle.std.proofs.Common.{◌≡◌, ◌≢◌, ◌⊎◌, ℕ, zero, suc, ◌+◌, ◌<◌, ◌≤◌, Bool, true, false, List, [], ◌∷◌, ◌++◌, length, refl, sym, ap, ◌∙◌, subst, inl, inr, arith, Some}
 use Rattle.std.specs.List.{slice_get}
-use Rattle.std.proofs.lemmas.Bool.{cases_eq}
 use Rattle.std.proofs.lemmas.List.{length-append}
 use Rattle.std.proofs.lemmas.Option.{slice_get_within}
 use Rattle.outside.specs.Outside.{Outside}
-use Rattle.sync_rules.specs.declared.entries.Entry.TheVariants as entry
 use Rattle.sync_rules.specs.declared.entries.Session.{Session}
 use Rattle.sync_rules.specs.Clients.{Meaning}
 use Rattle.sync_rules.specs.Continuing.{continues_all}
-use Rattle.sync_rules.specs.Facts.{Facts, after_all, session_at}
+use Rattle.sync_rules.specs.Facts.{Facts, session_at}
 use Rattle.sync_rules.specs.Legal.{Allowed, suits_nonce}
 use Rattle.sync_rules.specs.Steps.{IsSettled}
 use Rattle.record_grammar.specs.Laws.{FrontsHaveFronts}
@@ -17,7 +15,6 @@ use Rattle.sync_store.specs.Store.{StoreValue}
 use Rattle.sync_node.specs.declared.link.Link.{Link}
 use Rattle.sync_node.specs.Joined.{IsJoined, Joined}
 use Rattle.sync_node.specs.Node.{AreAttached, Attaches, IsAttached, MayGoOn, NodeValue, PlansSafe}
-use Rattle.sync_node.specs.Safe.{Begin, Safe}
 use Rattle.sync_node.specs.Starting.{Starts, StartsLast, StartsSafe}
 use Rattle.sync_node.proofs.Fronts.{front_of_append}
 use Rattle.sync_node.proofs.NodeLaws.{node_of, other_joined, other_unused}

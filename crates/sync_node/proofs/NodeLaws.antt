@@ -1,23 +1,21 @@
 -- The links of a node: what work on one of them leaves of the others.
-use Rattle.std.proofs.Common.{◌≡◌, ◌≢◌, ◌⊎◌, ℕ, zero, suc, ◌+◌, ◌-◌, ◌<◌, ◌≤◌, Bool, true, false, List, [], ◌∷◌, ◌++◌, length, take, drop, set, Err, append-nil, refl, sym, ap, ◌∙◌, subst, inl, inr, arith, Some, None}
+use Rattle.std.proofs.Common.{◌≡◌, ◌≢◌, ◌⊎◌, ℕ, zero, suc, ◌+◌, ◌-◌, ◌≤◌, Bool, true, false, List, [], ◌∷◌, ◌++◌, length, take, drop, set, Err, append-nil, refl, sym, ap, ◌∙◌, subst, inl, inr, arith, Some}
 use Rattle.std.specs.List.{slice_get}
 use Rattle.std.proofs.lemmas.Bool.{cases_eq}
 use Rattle.std.proofs.lemmas.List.{length-append, length-drop, length-take, take_all}
 use Rattle.std.proofs.Math.ListN.{drop_of_length-le}
 use Rattle.std.proofs.lemmas.Option.{slice_get_within}
-use Rattle.outside.specs.Files.{Two, File}
 use Rattle.outside.specs.Outside.{Outside}
-use Rattle.outside.specs.Runs.{Told, answers_at, heard_bytes}
+use Rattle.outside.specs.Runs.{heard_bytes}
 use Rattle.record_stream.specs.Reading.{ReadsOn, fresh}
 use Rattle.sync_rules.specs.declared.entries.Session.{Session}
 use Rattle.sync_rules.specs.Clients.{Meaning}
-use Rattle.sync_rules.specs.Facts.{Facts, session_at, takes_of}
+use Rattle.sync_rules.specs.Facts.{Facts, session_at}
 use Rattle.sync_store.specs.Store.{StoreValue}
-use Rattle.sync_store.specs.Fitting.{Fits}
 use Rattle.sync_node.specs.declared.link.Link.{Link}
 use Rattle.sync_node.specs.declared.link.LinkEnd.TheVariants as link_end
 use Rattle.sync_node.specs.Going.{Elsewhere, Goes}
-use Rattle.sync_node.specs.Joined.{HasTaken, IsAllSent, IsJoined, IsUnused, Joined}
+use Rattle.sync_node.specs.Joined.{IsJoined, IsUnused, Joined}
 use Rattle.outside.specs.declared.limits.TheConstants.{LINKS}
 use Rattle.sync_node.specs.declared.fault.Fault.{Fault}
 use Rattle.sync_node.specs.declared.fault.Fault.TheVariants as node_fault
@@ -25,7 +23,6 @@ use Rattle.sync_node.specs.declared.fault.NodeFault.{NodeFault}
 use Rattle.sync_node.specs.declared.fault.NodeFault.TheVariants as fault
 use Rattle.sync_node.specs.Faults.{fault_of}
 use Rattle.sync_node.specs.Node.{Answers, AreAttached, AreSome, IsAttached, IsNode, KeepsJoined, KeepsSafe, LinksSafe, LinksWork, MayGoOn, MayRun, NodeValue, StaysClosed}
-use Rattle.sync_node.specs.Output.{Journal, heard_on, output, sent_on}
 use Rattle.sync_node.specs.Safe.{Begin, Safe}
 use Rattle.sync_node.specs.Redundant.{ClosesSome, StaysOrCloses}
 use Rattle.sync_node.specs.Working.{IsAble, StaysSafe, Waits, Works}

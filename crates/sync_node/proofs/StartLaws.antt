@@ -8,7 +8,7 @@ use Rattle.outside.specs.Frames.{most_bytes}
 use Rattle.outside.specs.Host.{Sends}
 use Rattle.outside.specs.Links.{Links}
 use Rattle.outside.specs.Outside.{Outside}
-use Rattle.outside.specs.Runs.{IsFront, Told, answers_at, front_same, front_then, heard_bytes, others_same, others_send, others_then, sent_at, sent_here}
+use Rattle.outside.specs.Runs.{IsFront, Told, answers_at, front_same, front_then, heard_bytes, others_same, others_send, others_then, sent_here}
 use Rattle.record_grammar.specs.Laws.{FrontsHaveFronts}
 use Rattle.record_grammar.specs.Spelling.{spelled, spelling}
 use Rattle.record_grammar.specs.Stream.{records_of}
@@ -33,16 +33,14 @@ use Rattle.sync_store.specs.Store.{StoreValue}
 use Rattle.sync_store.specs.Fitting.{Fits, ImagesStand}
 use Rattle.sync_store.specs.Ready.{IsReady}
 use Rattle.sync_node.specs.declared.link.Link.{Link}
-use Rattle.sync_node.specs.declared.link.LinkEnd.{LinkEnd}
 use Rattle.sync_node.specs.declared.link.LinkEnd.TheVariants as link_end
-use Rattle.sync_node.specs.Going.{Commits, Elsewhere, Goes, HasOthers}
-use Rattle.sync_node.specs.Joined.{HasTaken, IsAllSent, IsJoined, IsUnused, known_nonce}
+use Rattle.sync_node.specs.Going.{Commits, Goes}
+use Rattle.sync_node.specs.Joined.{known_nonce}
 use Rattle.sync_node.specs.Output.{Journal, heard_on, output, sent_on}
 use Rattle.sync_node.specs.Safe.{Begin, Safe}
 use Rattle.sync_node.specs.Sending.{EndsBy, SendsOn}
 use Rattle.sync_node.specs.Starting.{Greets, HasOutput, Starts, StartsSafe}
 use Rattle.sync_node.specs.Suits.{IsOfRun}
-use Rattle.sync_node.specs.Working.{Waits}
 use Rattle.sync_node.proofs.CommitLaws.{CommitsSafe}
 use Rattle.sync_node.proofs.Fronts.{front_of_append}
 use Rattle.sync_node.proofs.OutLaws.{goes_send, kept_by, output_with, same_session}

@@ -1,5 +1,5 @@
 -- A record that is taken.
-use Rattle.std.proofs.Common.{◌≡◌, ◌≢◌, ◌⊎◌, ℕ, suc, zero, ◌+◌, ◌<◌, ◌≤◌, Bool, false, true, nat_eq, cond, List, [], ◌∷◌, ◌++◌, length, refl, sym, ap, ◌∙◌, subst, inl, inr, arith, Option, Some, None, is_some, append-nil, append_assoc, eq-eqb}
+use Rattle.std.proofs.Common.{◌≡◌, ◌≢◌, ℕ, ◌+◌, Bool, false, true, cond, List, [], ◌∷◌, ◌++◌, length, refl, sym, ap, ◌∙◌, subst, arith, Option, Some, None, is_some, append-nil, append_assoc, eq-eqb}
 use Rattle.std.specs.List.{slice_get}
 use Rattle.std.proofs.lemmas.Bool.{ne_eqb}
 use Rattle.std.proofs.lemmas.List.{length-append}
@@ -22,19 +22,18 @@ use Rattle.sync_rules.specs.declared.entries.Session.{Session}
 use Rattle.sync_rules.specs.Allows.{is_settling_kind}
 use Rattle.sync_rules.specs.Clients.{Meaning}
 use Rattle.sync_rules.specs.Facts.{Facts, after_all, after_batches, contact_in, contact_of, facts, session_at, takes_of}
-use Rattle.sync_rules.specs.Growth.{OnlySettles, TakesOne, output_in, output_of}
-use Rattle.sync_rules.specs.Legal.{Allowed, AllSettling, Legal}
+use Rattle.sync_rules.specs.Growth.{OnlySettles, TakesOne, output_of}
+use Rattle.sync_rules.specs.Legal.{Allowed, AllSettling}
 use Rattle.sync_rules.specs.OutputLaws.{settling_silent, silent_adds_nothing, take_silent}
 use Rattle.sync_rules.specs.StepKinds.{all_settling_only, takes_one}
 use Rattle.sync_rules.specs.Sessions.{taken_from}
 use Rattle.sync_store.specs.Store.{StoreValue}
 use Rattle.sync_store.specs.Fitting.{Fits}
 use Rattle.sync_node.specs.declared.link.Link.{Link}
-use Rattle.sync_node.specs.declared.link.LinkEnd.{LinkEnd}
 use Rattle.sync_node.specs.declared.link.LinkEnd.TheVariants as link_end
-use Rattle.sync_node.specs.Going.{Commits, Elsewhere, HasOthers, Settles}
+use Rattle.sync_node.specs.Going.{Commits, Settles}
 use Rattle.sync_node.specs.Hearing.{Learns, nonce_with}
-use Rattle.sync_node.specs.Joined.{HasTaken, IsAllSent, IsJoined, first_nonce, known_nonce}
+use Rattle.sync_node.specs.Joined.{IsAllSent, IsJoined, first_nonce, known_nonce}
 use Rattle.sync_node.specs.Output.{Journal, heard_on, output, sent_on}
 use Rattle.sync_node.specs.Safe.{Begin, Safe}
 use Rattle.sync_node.specs.Suits.{IsOfRun}

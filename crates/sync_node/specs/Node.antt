@@ -18,7 +18,7 @@ use Rattle.record_stream.specs.Reading.{ReaderState}
 use Rattle.sync_node.specs.declared.link.LinkEnd.{LinkEnd}
 use Rattle.sync_node.specs.declared.link.LinkEnd.TheVariants as link_end
 use Rattle.sync_node.specs.Going.{Goes}
-use Rattle.sync_node.specs.Joined.{IsUnused, Joined}
+use Rattle.sync_node.specs.Joined.{Joined}
 use Rattle.sync_node.specs.Safe.{Begin, Safe}
 use Rattle.sync_node.specs.Working.{Waits}
 

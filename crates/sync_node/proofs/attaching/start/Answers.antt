@@ -1,4 +1,4 @@
-use Rattle.std.proofs.Common.{arith, refl, sym, ◌∙◌, ap, subst}
+use Rattle.std.proofs.Common.{arith, refl, sym, ◌∙◌, subst}
 use Rattle.record_stream.specs.Reading.{AwaitsBytes, ReaderState}
 use Rattle.sync_node.proofs.StartLaws.{allowed_as, commits_as, commits_safe_as, first_bytes, kind_as, session_found, starts, starts_as_before, starts_failed, starts_safe}
 use Rattle.sync_node.proofs.attaching.start.Goals as goal

@@ -1,4 +1,4 @@
-use Rattle.std.proofs.Common.{◌≡◌, ◌<◌, List, ℕ, arith, refl, ap, sym, ◌∙◌, subst, length}
+use Rattle.std.proofs.Common.{List, ℕ, arith, refl, ap, ◌∙◌, length}
 use Rattle.sync_node.specs.declared.link.Link.{Link}
 use Rattle.sync_node.specs.Node.{NodeValue}
 use Rattle.sync_node.proofs.AttachLaws.{attached_last, attached_may, node_attaches, node_plans, node_settled, one_longer, plan_allowed, plans_as, plans_same}

@@ -1,8 +1,7 @@
-use Rattle.std.proofs.Common.{◌≡◌, ◌<◌, List, ℕ, arith, refl, ap, sym, ◌∙◌, subst, length, Some}
+use Rattle.std.proofs.Common.{◌<◌, ℕ, arith, refl, ap, sym, ◌∙◌, length, Some}
 use Rattle.std.proofs.lemmas.Option.{slice_get-get_or}
-use Rattle.sync_node.specs.declared.link.Link.{Link}
 use Rattle.sync_node.specs.Node.{NodeValue}
-use Rattle.sync_node.proofs.NodeLaws.{fault_answers, all_safe, is_closed_node, is_node, kept_long, length_set, link_able, links_go_on, links_one, node_keeps, node_may, node_safe, node_same, stays_closed, works_safe}
+use Rattle.sync_node.proofs.NodeLaws.{fault_answers, all_safe, is_closed_node, is_node, length_set, link_able, links_go_on, links_one, node_keeps, node_may, node_safe, node_same, stays_closed}
 use Rattle.sync_node.proofs.node.Node.send_due.Goals as goal
 
 pub same-self : goal.same-self

@@ -1,4 +1,4 @@
-use Rattle.std.proofs.Common.{◌≡◌, List, ℕ, arith, refl, ap, sym, ◌∙◌, subst, length}
+use Rattle.std.proofs.Common.{List, ℕ, arith, refl, ap, length}
 use Rattle.sync_node.specs.declared.link.Link.{Link}
 use Rattle.sync_node.specs.declared.node.Turned.{Turned}
 use Rattle.sync_node.specs.Node.{NodeValue}
