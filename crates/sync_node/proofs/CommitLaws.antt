@@ -1,5 +1,5 @@
 -- What the calls of a store come to: the journal goes on, and a run stays safe.
-use Rattle.std.proofs.Common.{◌≡◌, ◌⊎◌, ℕ, ◌++◌, false, List, [], ◌∷◌, refl, sym, ap, ◌∙◌, subst, inl, inr, Some, Result, Ok, Err, append_assoc, append-nil}
+use Rattle.std.proofs.Common.{◌≡◌, ℕ, ◌++◌, false, List, [], ◌∷◌, refl, sym, ◌∙◌, subst, inl, inr, Some, Result, Ok, Err, append-nil}
 use Rattle.outside.specs.Files.{Two, File}
 use Rattle.outside.specs.Outside.{Outside, DiskRun}
 use Rattle.outside.specs.Runs.{IsFront, Told, front_same}
@@ -7,24 +7,23 @@ use Rattle.record_grammar.specs.Laws.{FrontsHaveFronts}
 use Rattle.sync_rules.specs.declared.entries.Entry.{Entry}
 use Rattle.sync_rules.specs.declared.entries.Session.{Session}
 use Rattle.sync_rules.specs.Clients.{Meaning}
-use Rattle.sync_rules.specs.Continuing.{legal-append, legal-front, legal-push}
-use Rattle.sync_rules.specs.Facts.{Facts, after_all, after_batches, facts}
-use Rattle.sync_rules.specs.Legal.{Allowed, AllSettling, GoesOn, Legal}
-use Rattle.sync_rules.specs.Settling.{goes_on_front}
+use Rattle.sync_rules.specs.Continuing.{legal-append, legal-push}
+use Rattle.sync_rules.specs.Facts.{Facts, after_all, facts}
+use Rattle.sync_rules.specs.Legal.{Allowed, AllSettling, Legal}
 use Rattle.sync_rules.specs.WorkLaws.{settling_goes_on}
-use Rattle.entry_codec.specs.Standing.{stands, journal}
+use Rattle.entry_codec.specs.Standing.{journal}
 use Rattle.sync_store.specs.Store.{StoreValue}
 use Rattle.sync_store.specs.Commits as store_commits
 use Rattle.sync_store.specs.Fitting.{Fits, FitsSome}
 use Rattle.sync_store.specs.Moments.{Adds, IsBetween, Leads, WithAtMost, journal_with}
 use Rattle.sync_store.specs.Ready.{IsReady}
-use Rattle.sync_store.specs.Settling.{ComesBy, HasSettled}
+use Rattle.sync_store.specs.Settling.{HasSettled}
 use Rattle.sync_store.specs.declared.fault.StoreFault.{StoreFault}
-use Rattle.sync_node.specs.Going.{Commits, ComesFrom, GoesOnBy, Settles}
+use Rattle.sync_node.specs.Going.{Commits, GoesOnBy, Settles}
 use Rattle.sync_node.specs.Output.{Journal, heard_on}
 use Rattle.sync_node.specs.Safe.{Begin, Safe}
-use Rattle.sync_node.specs.Suits.{AllSuit, IsOfRun}
-use Rattle.sync_node.proofs.SafeLaws.{AllGrow, goes_disk, safe_store, told_before}
+use Rattle.sync_node.specs.Suits.{IsOfRun}
+use Rattle.sync_node.proofs.SafeLaws.{goes_disk, safe_store, told_before}
 use Rattle.sync_node.proofs.SuitLaws.{Grows, settling_suits}
 
 -- ---- the journal that files stand for is one
@@ -118,7 +117,7 @@ settling_grown clients first plans heard f more settling j whole legal is end =
     }
 
 -- the front of settling batches
-settling_front : (clients : Meaning) (f : Facts) (bs cs : Journal) → AllSettling clients f (bs ++ cs) → AllSettling clients f bs
+pub settling_front : (clients : Meaning) (f : Facts) (bs cs : Journal) → AllSettling clients f (bs ++ cs) → AllSettling clients f bs
 settling_front clients f [] cs settling = tt
 settling_front clients f (b ∷ bs) cs settling = (settling.0, settling_front clients (after_all f b) bs cs settling.1)
 

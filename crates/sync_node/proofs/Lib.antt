@@ -7,3 +7,5 @@ mod OutLaws
 mod TakeLaws
 mod StartLaws
 mod NodeLaws
+mod AttachLaws
+mod AddLaws

@@ -1,27 +1,28 @@
 -- The links of a node: what work on one of them leaves of the others.
-use Rattle.std.proofs.Common.{◌≡◌, ◌≢◌, ◌⊎◌, ℕ, zero, suc, ◌+◌, ◌-◌, ◌<◌, ◌≤◌, Bool, true, false, List, [], ◌∷◌, ◌++◌, length, take, drop, set, Err, append-nil, refl, sym, ap, ◌∙◌, subst, inl, inr, arith, Some, None}
+use Rattle.std.proofs.Common.{◌≡◌, ◌≢◌, ◌⊎◌, ℕ, zero, suc, ◌+◌, ◌-◌, ◌≤◌, Bool, true, false, List, [], ◌∷◌, ◌++◌, length, take, drop, set, Err, append-nil, refl, sym, ap, ◌∙◌, subst, inl, inr, arith, Some}
 use Rattle.std.specs.List.{slice_get}
 use Rattle.std.proofs.lemmas.Bool.{cases_eq}
 use Rattle.std.proofs.lemmas.List.{length-append, length-drop, length-take, take_all}
 use Rattle.std.proofs.Math.ListN.{drop_of_length-le}
 use Rattle.std.proofs.lemmas.Option.{slice_get_within}
-use Rattle.outside.specs.Files.{Two, File}
 use Rattle.outside.specs.Outside.{Outside}
-use Rattle.outside.specs.Runs.{Told, answers_at, heard_bytes}
+use Rattle.outside.specs.Runs.{heard_bytes}
 use Rattle.record_stream.specs.Reading.{ReadsOn, fresh}
 use Rattle.sync_rules.specs.declared.entries.Session.{Session}
 use Rattle.sync_rules.specs.Clients.{Meaning}
-use Rattle.sync_rules.specs.Facts.{Facts, session_at, takes_of}
+use Rattle.sync_rules.specs.Facts.{Facts, session_at}
 use Rattle.sync_store.specs.Store.{StoreValue}
-use Rattle.sync_store.specs.Fitting.{Fits}
 use Rattle.sync_node.specs.declared.link.Link.{Link}
 use Rattle.sync_node.specs.declared.link.LinkEnd.TheVariants as link_end
 use Rattle.sync_node.specs.Going.{Elsewhere, Goes}
-use Rattle.sync_node.specs.Joined.{HasTaken, IsAllSent, IsJoined, IsUnused, Joined}
+use Rattle.sync_node.specs.Joined.{IsJoined, IsUnused, Joined}
 use Rattle.outside.specs.declared.limits.TheConstants.{LINKS}
+use Rattle.sync_node.specs.declared.fault.Fault.{Fault}
+use Rattle.sync_node.specs.declared.fault.Fault.TheVariants as node_fault
+use Rattle.sync_node.specs.declared.fault.NodeFault.{NodeFault}
 use Rattle.sync_node.specs.declared.fault.NodeFault.TheVariants as fault
-use Rattle.sync_node.specs.Node.{AreAttached, AreSome, IsAttached, IsNode, KeepsJoined, KeepsSafe, LinksSafe, LinksWork, MayGoOn, MayRun, NodeValue, StaysClosed}
-use Rattle.sync_node.specs.Output.{Journal, heard_on, output, sent_on}
+use Rattle.sync_node.specs.Faults.{fault_of}
+use Rattle.sync_node.specs.Node.{Answers, AreAttached, AreSome, IsAttached, IsNode, KeepsJoined, KeepsSafe, LinksSafe, LinksWork, MayGoOn, MayRun, NodeValue, StaysClosed}
 use Rattle.sync_node.specs.Safe.{Begin, Safe}
 use Rattle.sync_node.specs.Redundant.{ClosesSome, StaysOrCloses}
 use Rattle.sync_node.specs.Working.{IsAble, StaysSafe, Waits, Works}
@@ -49,7 +50,7 @@ length_set (y ∷ ys) (suc i) a = ap suc (length_set ys i a)
 
 -- ---- another link
 
-other_joined : (clients : Meaning) (number link other : ℕ) (l : Link) (s s' : StoreValue) (o o' : Outside) → Goes o o' → Elsewhere clients number link s s' o o' → other ≢ link → l.session.number ≢ number
+pub other_joined : (clients : Meaning) (number link other : ℕ) (l : Link) (s s' : StoreValue) (o o' : Outside) → Goes o o' → Elsewhere clients number link s s' o o' → other ≢ link → l.session.number ≢ number
     → IsJoined clients other [] l s o → IsJoined clients other [] l s' o'
 other_joined clients number link other l s s' o o' goes elsewhere apart numbered joined = record {
   sent = λ unfailed told' whole fits.
@@ -65,7 +66,7 @@ other_joined clients number link other l s s' o o' goes elsewhere apart numbered
       };
 }
 
-other_unused : (clients : Meaning) (number link other : ℕ) (s s' : StoreValue) (o o' : Outside) → Goes o o' → Elsewhere clients number link s s' o o' → other ≢ link → IsUnused other o → IsUnused other o'
+pub other_unused : (clients : Meaning) (number link other : ℕ) (s s' : StoreValue) (o o' : Outside) → Goes o o' → Elsewhere clients number link s s' o o' → other ≢ link → IsUnused other o → IsUnused other o'
 other_unused clients number link other s s' o o' goes elsewhere apart unused = record {
   nothing_sent = λ told'. elsewhere.links.sent other apart ∙ unused.nothing_sent (told_before o o' goes told');
   nothing_heard = λ told'. elsewhere.links.answers other apart ∙ unused.nothing_heard (told_before o o' goes told');
@@ -323,3 +324,12 @@ may_as clients links lent s o is may = subst (λ (ls : List Link). MayGoOn clien
 
 pub some_as : (first : ℕ) (links lent : List Link) (f : Facts) → lent ≡ links → AreAttached first links f → AreSome lent f
 some_as first links lent f is attached = record { first = first; attached = attached_as first links lent f is attached }
+
+-- a fault is an answer of a node that was not closed
+pub fault_answers : (T : Type 0) (f : Fault) (e : NodeFault) (n' : NodeValue) → e ≡ fault_of f → n'.closed ≡ true → Answers {T = T} (Err e) n'
+fault_answers T f e n' is closed = subst (λ (x : NodeFault). Answers {T = T} (Err x) n') (sym is) (by_kind f)
+  where
+    by_kind : (f : Fault) → Answers {T = T} (Err (fault_of f)) n'
+    by_kind node_fault.Memory = closed
+    by_kind node_fault.DiskFault = closed
+    by_kind node_fault.Full = closed

@@ -1,5 +1,5 @@
 -- An output that is committed and sent, and a session that begins with what is sent first.
-use Rattle.std.proofs.Common.{◌≡◌, ◌≢◌, ◌⊎◌, ℕ, ◌+◌, ◌<◌, ◌≤◌, false, true, nat_eq, cond, List, [], ◌∷◌, ◌++◌, refl, sym, ap, ◌∙◌, subst, inl, inr, arith, Some, None, Option, Result, Ok, Err, append-nil, eq-eqb}
+use Rattle.std.proofs.Common.{◌≡◌, ◌≢◌, ◌⊎◌, ℕ, ◌+◌, ◌<◌, ◌≤◌, cond, List, [], ◌∷◌, ◌++◌, refl, sym, ap, ◌∙◌, subst, inl, inr, arith, Some, Option, Result, Ok, Err, append-nil, eq-eqb}
 use Rattle.std.proofs.lemmas.Bool.{ne_eqb}
 use Rattle.outside.specs.declared.failed.Failed.{Failed}
 use Rattle.outside.specs.Files.{Two, File}
@@ -7,7 +7,7 @@ use Rattle.outside.specs.Frames.{most_bytes}
 use Rattle.outside.specs.Host.{Sends, SendsPart}
 use Rattle.outside.specs.Links.{Links}
 use Rattle.outside.specs.Outside.{Outside, LinkCall}
-use Rattle.outside.specs.Runs.{IsFront, OthersKeep, Told, answers_at, front_same, grow_send, heard_bytes, others_same, others_send, others_then, sent_here}
+use Rattle.outside.specs.Runs.{IsFront, Told, answers_at, front_same, grow_send, heard_bytes, others_same, others_send, others_then, sent_here}
 use Rattle.record_grammar.specs.Laws.{FrontsHaveFronts}
 use Rattle.record_grammar.specs.Spelling.{spelled}
 use Rattle.record_stream.specs.Reading.{AwaitsBytes, ReadsOn, fresh}
@@ -17,7 +17,7 @@ use Rattle.sync_rules.specs.declared.entries.Entry.TheVariants as entry
 use Rattle.sync_rules.specs.declared.entries.Out.{Out}
 use Rattle.sync_rules.specs.declared.entries.Session.{Session}
 use Rattle.sync_rules.specs.Clients.{Meaning}
-use Rattle.sync_rules.specs.Facts.{Facts, after_batches, facts, session_at, takes_of}
+use Rattle.sync_rules.specs.Facts.{Facts, facts, session_at, takes_of}
 use Rattle.sync_rules.specs.Growth.{output_of}
 use Rattle.sync_rules.specs.Legal.{Legal}
 use Rattle.sync_rules.specs.Output.{records_of}
@@ -31,8 +31,8 @@ use Rattle.sync_node.specs.declared.link.Link.{Link}
 use Rattle.sync_node.specs.declared.link.LinkEnd.{LinkEnd}
 use Rattle.sync_node.specs.declared.link.LinkEnd.TheVariants as link_end
 use Rattle.sync_node.specs.Ends.{MaySend}
-use Rattle.sync_node.specs.Going.{Commits, Elsewhere, Goes, HasOthers}
-use Rattle.sync_node.specs.Joined.{HasTaken, IsAllSent, IsJoined}
+use Rattle.sync_node.specs.Going.{Commits, Goes, HasOthers}
+use Rattle.sync_node.specs.Joined.{HasTaken, IsAllSent}
 use Rattle.sync_node.specs.Output.{Journal, heard_on, output, sent_on}
 use Rattle.sync_node.specs.Safe.{Begin, Safe}
 use Rattle.sync_node.specs.Sending.{EndsBy, SendsOn}

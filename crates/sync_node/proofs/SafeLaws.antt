@@ -1,6 +1,6 @@
 -- The three kinds of step that keep a run safe: batches of the run that a store commits; calls that send nothing; and a send of
 -- what the journal has as output.
-use Rattle.std.proofs.Common.{◌≡◌, ◌⊎◌, ℕ, ◌+◌, ◌<◌, ◌≤◌, false, List, [], ◌∷◌, ◌++◌, take, length, refl, sym, ap, ◌∙◌, subst, inl, inr, arith, true, Option, Some, None, Result, is_some, slice_index_or}
+use Rattle.std.proofs.Common.{◌≡◌, ◌⊎◌, ℕ, ◌+◌, ◌<◌, ◌≤◌, false, List, [], ◌++◌, take, length, refl, sym, ap, ◌∙◌, subst, inl, inr, arith, true, Option, Some, None, Result, is_some, slice_index_or}
 use Rattle.std.proofs.lemmas.Bool.{cases_eq}
 use Rattle.outside.specs.declared.failed.Failed.{Failed}
 use Rattle.outside.specs.Files.{Two, File}
@@ -8,7 +8,7 @@ use Rattle.outside.specs.Frames.{most_bytes}
 use Rattle.outside.specs.Host.{Sends, SendsPart}
 use Rattle.outside.specs.Links.{Links, sent_of}
 use Rattle.outside.specs.Outside.{Outside, Moment, DiskRun, LinkCall, QuietCall}
-use Rattle.outside.specs.Runs.{IsFront, LinksGrow, SendMoment, Told, front_bytes, front_same, front_then, grow_same, grow_send, others_send, quiet_moments, send_moments, sent_at, went_out, sent_at-with_sent, answers_at}
+use Rattle.outside.specs.Runs.{IsFront, LinksGrow, Told, front_bytes, front_same, front_then, grow_same, grow_send, others_send, quiet_moments, send_moments, sent_at, went_out, sent_at-with_sent}
 use Rattle.record_grammar.specs.Laws.{FrontsHaveFronts}
 use Rattle.sync_rules.specs.declared.entries.Session.{Session}
 use Rattle.sync_rules.specs.Clients.{Meaning}
@@ -20,7 +20,7 @@ use Rattle.sync_store.specs.Fitting.{Fits, ImagesStand}
 use Rattle.sync_store.specs.Moments.{JournalMoment, Leads}
 use Rattle.sync_node.specs.Going.{Goes}
 use Rattle.sync_node.specs.Output.{AreOutput, Journal, heard_on, output, sent_on}
-use Rattle.sync_node.specs.Safe.{Begin, IsCovered, IsCoveredNow, IsEarly, Safe}
+use Rattle.sync_node.specs.Safe.{Begin, IsCovered, IsEarly, Safe}
 use Rattle.sync_node.specs.Starting.{HasOutput}
 use Rattle.sync_node.specs.Suits.{SuitsRun}
 use Rattle.sync_node.proofs.Fronts.{front_taken}

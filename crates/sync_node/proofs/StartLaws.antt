@@ -1,5 +1,5 @@
 -- A session that begins on a link, and what it sends first.
-use Rattle.std.proofs.Common.{◌≡◌, ◌≢◌, ℕ, ◌+◌, ◌<◌, ◌≤◌, false, true, nat_eq, cond, List, [], ◌∷◌, ◌++◌, length, refl, sym, ap, ◌∙◌, subst, inl, inr, arith, Some, None, Option, Result, Ok, Err, append-nil, append_assoc}
+use Rattle.std.proofs.Common.{◌≡◌, ◌≢◌, ℕ, ◌+◌, ◌<◌, ◌≤◌, false, true, nat_eq, cond, List, [], ◌∷◌, ◌++◌, length, refl, sym, ap, ◌∙◌, subst, inl, inr, arith, Some, None, Option, Result, Ok, Err, eq-eqb, append-nil, append_assoc}
 use Rattle.std.specs.List.{AllByRecursion, slice_get}
 use Rattle.std.proofs.lemmas.Bool.{ne_eqb}
 use Rattle.outside.specs.declared.failed.Failed.{Failed}
@@ -8,7 +8,7 @@ use Rattle.outside.specs.Frames.{most_bytes}
 use Rattle.outside.specs.Host.{Sends}
 use Rattle.outside.specs.Links.{Links}
 use Rattle.outside.specs.Outside.{Outside}
-use Rattle.outside.specs.Runs.{IsFront, Told, answers_at, front_same, front_then, heard_bytes, others_same, others_send, others_then, sent_at, sent_here}
+use Rattle.outside.specs.Runs.{IsFront, Told, answers_at, front_same, front_then, heard_bytes, others_same, others_send, others_then, sent_here}
 use Rattle.record_grammar.specs.Laws.{FrontsHaveFronts}
 use Rattle.record_grammar.specs.Spelling.{spelled, spelling}
 use Rattle.record_grammar.specs.Stream.{records_of}
@@ -18,6 +18,7 @@ use Rattle.sync_ids.specs.declared.records.Record.TheVariants as record_kind
 use Rattle.sync_rules.specs.declared.entries.Entry.{Entry}
 use Rattle.sync_rules.specs.declared.entries.Entry.TheVariants as entry
 use Rattle.sync_rules.specs.declared.entries.Session.{Session}
+use Rattle.sync_rules.specs.Allows.{is_settling_kind}
 use Rattle.sync_rules.specs.Clients.{Meaning}
 use Rattle.sync_rules.specs.Facts.{Facts, facts, session_at, takes_of}
 use Rattle.sync_rules.specs.Growth.{output_of}
@@ -32,16 +33,15 @@ use Rattle.sync_store.specs.Store.{StoreValue}
 use Rattle.sync_store.specs.Fitting.{Fits, ImagesStand}
 use Rattle.sync_store.specs.Ready.{IsReady}
 use Rattle.sync_node.specs.declared.link.Link.{Link}
-use Rattle.sync_node.specs.declared.link.LinkEnd.{LinkEnd}
 use Rattle.sync_node.specs.declared.link.LinkEnd.TheVariants as link_end
-use Rattle.sync_node.specs.Going.{Commits, Elsewhere, Goes, HasOthers}
-use Rattle.sync_node.specs.Joined.{HasTaken, IsAllSent, IsJoined, IsUnused, known_nonce}
+use Rattle.sync_node.specs.Going.{Commits, Goes}
+use Rattle.sync_node.specs.Joined.{known_nonce}
 use Rattle.sync_node.specs.Output.{Journal, heard_on, output, sent_on}
 use Rattle.sync_node.specs.Safe.{Begin, Safe}
 use Rattle.sync_node.specs.Sending.{EndsBy, SendsOn}
 use Rattle.sync_node.specs.Starting.{Greets, HasOutput, Starts, StartsSafe}
 use Rattle.sync_node.specs.Suits.{IsOfRun}
-use Rattle.sync_node.specs.Working.{Waits}
+use Rattle.sync_node.proofs.CommitLaws.{CommitsSafe}
 use Rattle.sync_node.proofs.Fronts.{front_of_append}
 use Rattle.sync_node.proofs.OutLaws.{goes_send, kept_by, output_with, same_session}
 use Rattle.sync_node.proofs.SafeLaws.{covered_more, safe_send, told_before}
@@ -294,3 +294,40 @@ starts_failed clients link x s s1 o o1 allowed safe = record {
   safe = λ unused b plans number long was.
       safe b plans (plans ++ x ∷ []) (front_of_append plans (x ∷ [])) (λ told. planned_next clients s.state.facts b plans (heard_on o.links) x link allowed number long) was;
 }
+
+-- ---- the same of the batch that was made
+
+pub commits_as : (clients : Meaning) (batch batch' : List Entry) (s s1 : StoreValue) (o o1 : Outside) → batch ≡ batch' → Commits clients (batch ∷ []) s s1 o o1 → Commits clients (batch' ∷ []) s s1 o o1
+commits_as clients batch batch' s s1 o o1 is commits = subst (λ (b : List Entry). Commits clients (b ∷ []) s s1 o o1) is commits
+
+pub commits_safe_as : (clients : Meaning) (batch batch' : List Entry) (s s1 : StoreValue) (o o1 : Outside) → batch ≡ batch' → CommitsSafe clients batch s s1 o o1 → CommitsSafe clients batch' s s1 o o1
+commits_safe_as clients batch batch' s s1 o o1 is safe = subst (λ (b : List Entry). CommitsSafe clients b s s1 o o1) is safe
+
+pub allowed_as : (clients : Meaning) (f : Facts) (batch batch' : List Entry) → batch ≡ batch' → Allowed clients f batch' → Allowed clients f batch
+allowed_as clients f batch batch' is allowed = subst (λ (b : List Entry). Allowed clients f b) (sym is) allowed
+
+pub kind_as : (x : Session) (batch : List Entry) → batch ≡ session_batch x → is_settling_kind batch ≡ false
+kind_as x batch is = ap is_settling_kind is
+
+-- a session that was committed is there
+session_there : (ss : List Session) (x : Session) → session_at (ss ++ x ∷ []) x.number ≡ None → ⊥
+session_there [] x none =
+    let found : session_at ([] ++ x ∷ []) x.number ≡ Some x = ap (λ b. cond b (Some x) None) (eq-eqb x.number x.number refl) in
+    let e : Some x ≡ None = sym found ∙ none in
+    cc
+session_there (y ∷ ss) x none =
+    elim (nat_eq y.number x.number) as (λ b. cond b (Some y) (session_at (ss ++ x ∷ []) x.number) ≡ None → ⊥) [
+      | true ↦ λ is. cc
+      | false ↦ λ is. session_there ss x is
+    ] none
+
+pub session_found : (clients : Meaning) (x : Session) (batch : List Entry) (s s1 : StoreValue) (o o1 : Outside) → batch ≡ session_batch x → Commits clients (batch ∷ []) s s1 o o1
+    → None ≡ session_at s1.state.facts.sessions x.number → ⊥
+session_found clients x batch s s1 o o1 is commits none =
+    let first = commits_as clients batch (session_batch x) s s1 o o1 is commits in
+    session_there s.state.facts.sessions x (sym (none ∙ ap (λ (f : Facts). session_at f.sessions x.number) first.facts))
+
+-- what is spelled is what the session begins with
+pub first_bytes : (x : Session) (versions priority : List ℕ) → versions ≡ spelling (record_kind.Versions (0 ∷ [])) → priority ≡ spelled (nonce_record x.nonce)
+    → versions ++ priority ≡ spelled (first_records x)
+first_bytes x versions priority is also = ap (λ (v : List ℕ). v ++ priority) is ∙ ap (λ (p : List ℕ). spelling (record_kind.Versions (0 ∷ [])) ++ p) also

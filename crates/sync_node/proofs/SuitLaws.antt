@@ -1,6 +1,6 @@
 -- A journal that suits a run goes on suiting it: where it goes on by batches of the run, where more is heard, and where more
 -- sessions are planned.
-use Rattle.std.proofs.Common.{◌≡◌, ℕ, ◌+◌, List, [], ◌∷◌, ◌++◌, refl, sym, ap, ◌∙◌, subst, inl, inr, append_assoc, append-nil}
+use Rattle.std.proofs.Common.{◌≡◌, ℕ, ◌+◌, List, [], ◌∷◌, ◌++◌, ap, ◌∙◌, subst, inl, inr, append_assoc}
 use Rattle.std.proofs.lemmas.Grind.{flat_map-append}
 use Rattle.outside.specs.Runs.{IsFront, front_then}
 use Rattle.sync_ids.specs.declared.records.Record.{Record}
@@ -18,7 +18,7 @@ use Rattle.sync_rules.specs.Legal.{AllSettling, Legal}
 use Rattle.sync_rules.specs.Output.{sent}
 use Rattle.sync_rules.specs.OutputLaws.{sent_append}
 use Rattle.sync_node.specs.Output.{AreOutput, Journal, output}
-use Rattle.sync_node.specs.Suits.{AllSuit, BeginsPlanned, IsOfRun, Suits, SuitsRun, TakesHeard}
+use Rattle.sync_node.specs.Suits.{AllSuit, IsOfRun, Suits, SuitsRun}
 use Rattle.sync_node.proofs.Fronts.{front_get}
 
 -- ---- more is heard and planned

@@ -1,5 +1,5 @@
 -- A record that is taken.
-use Rattle.std.proofs.Common.{◌≡◌, ◌≢◌, ◌⊎◌, ℕ, suc, zero, ◌+◌, ◌<◌, ◌≤◌, Bool, false, true, nat_eq, cond, List, [], ◌∷◌, ◌++◌, length, refl, sym, ap, ◌∙◌, subst, inl, inr, arith, Option, Some, None, is_some, append-nil, append_assoc, eq-eqb}
+use Rattle.std.proofs.Common.{◌≡◌, ◌≢◌, ℕ, ◌+◌, Bool, false, true, cond, List, [], ◌∷◌, ◌++◌, length, refl, sym, ap, ◌∙◌, subst, arith, Option, Some, None, is_some, append-nil, append_assoc, eq-eqb}
 use Rattle.std.specs.List.{slice_get}
 use Rattle.std.proofs.lemmas.Bool.{ne_eqb}
 use Rattle.std.proofs.lemmas.List.{length-append}
@@ -22,19 +22,18 @@ use Rattle.sync_rules.specs.declared.entries.Session.{Session}
 use Rattle.sync_rules.specs.Allows.{is_settling_kind}
 use Rattle.sync_rules.specs.Clients.{Meaning}
 use Rattle.sync_rules.specs.Facts.{Facts, after_all, after_batches, contact_in, contact_of, facts, session_at, takes_of}
-use Rattle.sync_rules.specs.Growth.{OnlySettles, TakesOne, output_in, output_of}
-use Rattle.sync_rules.specs.Legal.{Allowed, AllSettling, Legal}
+use Rattle.sync_rules.specs.Growth.{OnlySettles, TakesOne, output_of}
+use Rattle.sync_rules.specs.Legal.{Allowed, AllSettling}
 use Rattle.sync_rules.specs.OutputLaws.{settling_silent, silent_adds_nothing, take_silent}
 use Rattle.sync_rules.specs.StepKinds.{all_settling_only, takes_one}
 use Rattle.sync_rules.specs.Sessions.{taken_from}
 use Rattle.sync_store.specs.Store.{StoreValue}
 use Rattle.sync_store.specs.Fitting.{Fits}
 use Rattle.sync_node.specs.declared.link.Link.{Link}
-use Rattle.sync_node.specs.declared.link.LinkEnd.{LinkEnd}
 use Rattle.sync_node.specs.declared.link.LinkEnd.TheVariants as link_end
-use Rattle.sync_node.specs.Going.{Commits, Elsewhere, HasOthers, Settles}
+use Rattle.sync_node.specs.Going.{Commits, Settles}
 use Rattle.sync_node.specs.Hearing.{Learns, nonce_with}
-use Rattle.sync_node.specs.Joined.{HasTaken, IsAllSent, IsJoined, first_nonce, known_nonce}
+use Rattle.sync_node.specs.Joined.{IsAllSent, IsJoined, first_nonce, known_nonce}
 use Rattle.sync_node.specs.Output.{Journal, heard_on, output, sent_on}
 use Rattle.sync_node.specs.Safe.{Begin, Safe}
 use Rattle.sync_node.specs.Suits.{IsOfRun}
@@ -47,7 +46,7 @@ use Rattle.sync_node.proofs.WorkLaws.{goes_then, works_link}
 
 -- ---- a record sends nothing
 
-settling_adds : (clients : Meaning) (f : Facts) (n : ℕ) (bs : Journal) → AllSettling clients f bs → output_of f n bs ≡ []
+pub settling_adds : (clients : Meaning) (f : Facts) (n : ℕ) (bs : Journal) → AllSettling clients f bs → output_of f n bs ≡ []
 settling_adds clients f n [] settling = refl
 settling_adds clients f n (b ∷ bs) settling =
     ap (λ (rs : List Record). rs ++ output_of (after_all f b) n bs) (silent_adds_nothing f n b (settling_silent clients f b settling.0.2)) ∙ settling_adds clients (after_all f b) n bs settling.1
@@ -184,7 +183,7 @@ take_kind f session k r batch is = ap is_settling_kind is
 pub take_is : (f : Facts) (session : Session) (k : ℕ) (r : Record) (batch : List Entry) → k ≡ takes_of f.takes session.number → batch ≡ take_of f session k r → batch ≡ next_take f session r
 take_is f session k r batch numbered is = is ∙ ap (λ n. take_of f session n r) numbered
 
-commits_then : (clients : Meaning) (batch : List Entry) (more : Journal) (s s1 s2 : StoreValue) (o o1 o2 : Outside) → Commits clients (batch ∷ []) s s1 o o1 → Commits clients more s1 s2 o1 o2
+pub commits_then : (clients : Meaning) (batch : List Entry) (more : Journal) (s s1 s2 : StoreValue) (o o1 o2 : Outside) → Commits clients (batch ∷ []) s s1 o o1 → Commits clients more s1 s2 o1 o2
     → Commits clients (batch ∷ more) s s2 o o2
 commits_then clients batch more s s1 s2 o o1 o2 first second = record {
   goes = goes_then o o1 o2 first.goes second.goes;

@@ -1,44 +1,25 @@
 -- Work on a link: one piece of it after another, and what each call and batch does.
-use Rattle.std.proofs.Common.{◌≡◌, ◌≢◌, ◌⊎◌, ℕ, ◌+◌, ◌<◌, ◌≤◌, Bool, true, false, nat_eq, cond, List, [], ◌∷◌, ◌++◌, take, length, refl, sym, ap, ◌∙◌, subst, inl, inr, arith, Some, None, Option, Result, Ok, Err, OnErr, OnOk, append_assoc, append-nil}
-use Rattle.std.specs.List.{slice_get}
+use Rattle.std.proofs.Common.{◌≡◌, ◌≢◌, ℕ, ◌<◌, List, [], ◌++◌, take, refl, sym, ap, ◌∙◌, subst, arith, Option, Result, Ok, Err, OnErr, OnOk, append-nil}
 use Rattle.std.proofs.lemmas.Grind.{flat_map-append}
-use Rattle.outside.specs.declared.failed.Failed.{Failed}
 use Rattle.outside.specs.declared.host.Heard.{Heard}
 use Rattle.outside.specs.declared.host.Heard.TheVariants as heard
 use Rattle.outside.specs.Files.{Two, File}
-use Rattle.outside.specs.Frames.{most_bytes}
-use Rattle.outside.specs.Host.{Hears, ReadsClock, Sends, SendsPart}
-use Rattle.outside.specs.Links.{Answered, HeardOn, Links}
+use Rattle.outside.specs.Host.{Hears, ReadsClock}
+use Rattle.outside.specs.Links.{Answered, HeardOn}
 use Rattle.outside.specs.Outside.{Outside, Moment, LinkCall, QuietCall}
-use Rattle.outside.specs.Runs.{IsFront, LinksGrow, OthersKeep, Told, answered_by, answers_at, front_same, grow_hear, grow_read, grow_send, grow_then, heard_at, heard_bytes, heard_here, others_hear, others_read, others_same, others_send, others_then, reply_bytes, sent_at, sent_here}
-use Rattle.record_grammar.specs.Laws.{FrontsHaveFronts, RecordsJoin}
-use Rattle.record_grammar.specs.Spelling.{spelled}
-use Rattle.record_grammar.specs.Stream.{items, records, records_of}
-use Rattle.record_grammar.specs.declared.stream.Item.{Item}
-use Rattle.record_grammar.specs.declared.stream.Item.TheVariants as item
-use Rattle.record_stream.specs.Pieces.{ReadingsFollow, ReadingsWiden}
-use Rattle.record_stream.specs.Reading.{ReadsOn, ReaderState, fresh}
-use Rattle.sync_ids.specs.declared.records.Record.{Record}
-use Rattle.sync_ids.specs.declared.records.Record.TheVariants as record_kind
-use Rattle.sync_rules.specs.declared.entries.Entry.{Entry}
-use Rattle.sync_rules.specs.declared.entries.Entry.TheVariants as entry
-use Rattle.sync_rules.specs.declared.entries.Out.{Out}
+use Rattle.outside.specs.Runs.{LinksGrow, OthersKeep, Told, answered_by, answers_at, grow_hear, grow_read, grow_then, heard_at, heard_bytes, heard_here, others_hear, others_read, others_same, others_then, reply_bytes, sent_at}
+use Rattle.record_grammar.specs.Laws.{FrontsHaveFronts}
+use Rattle.record_stream.specs.Pieces.{ReadingsWiden}
+use Rattle.record_stream.specs.Reading.{ReadsOn, fresh}
 use Rattle.sync_rules.specs.declared.entries.Session.{Session}
 use Rattle.sync_rules.specs.Clients.{Meaning}
-use Rattle.sync_rules.specs.Facts.{Facts, after_batches, facts, takes_of}
-use Rattle.sync_rules.specs.Growth.{output_of}
-use Rattle.sync_rules.specs.Legal.{Legal}
-use Rattle.sync_rules.specs.Output.{records_of as records_of_out}
-use Rattle.entry_codec.specs.Standing.{room_of}
 use Rattle.sync_store.specs.Store.{StoreValue}
-use Rattle.sync_store.specs.Fitting.{Fits, ImagesStand}
+use Rattle.sync_store.specs.Fitting.{Fits}
 use Rattle.sync_node.specs.declared.link.Link.{Link}
-use Rattle.sync_node.specs.declared.link.LinkEnd.{LinkEnd}
 use Rattle.sync_node.specs.declared.link.LinkEnd.TheVariants as link_end
-use Rattle.sync_node.specs.Going.{Commits, ComesFrom, Elsewhere, Goes, GoesOnBy, HasOthers}
-use Rattle.sync_node.specs.Joined.{HasTaken, IsAllSent, IsJoined, first_nonce, known_nonce}
-use Rattle.sync_node.specs.Output.{Journal, heard_on, output, sent_on}
-use Rattle.sync_node.specs.Safe.{Begin, Safe}
+use Rattle.sync_node.specs.Going.{Elsewhere, Goes, HasOthers}
+use Rattle.sync_node.specs.Joined.{HasTaken, IsAllSent, IsJoined}
+use Rattle.sync_node.specs.Output.{Journal, heard_on}
 use Rattle.sync_node.specs.Working.{IsAble, StaysSafe, Works}
 use Rattle.sync_node.specs.Ends.{ended_by}
 use Rattle.sync_store.specs.Ready.{IsReady}

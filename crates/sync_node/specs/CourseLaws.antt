@@ -105,7 +105,7 @@ reads_front clients s s' may o o' P Q fits told between leads = by_files o.files
               let files : Some two ≡ Some fit.0 = sym is ∙ fit.1 in
               let same_two : two ≡ fit.0 = cc in
               let same : j0 ≡ j =
-                  one_fit clients s j0 j two fit0 (subst (λ (t : Two File). Fits clients s j t) (sym same_two) fit.2) in
+              one_fit clients s j0 j two fit0 (subst (λ (t : Two File). Fits clients s j t) (sym same_two) fit.2) in
               (two'.0, two'.1, at.stands_for ∙ ap journal (cut.is ∙ ap (λ (k : List (List Entry)). k ++ cut.front) same));
         }
 
@@ -216,14 +216,14 @@ takes_course clients session r s mid s' o m o' batch is allowed facts_are adds s
       let q : Spot = taken_spot place r its b p in
       let q_facts : q.facts ≡ mid.state.facts = ap (λ f. after_all f b) same ∙ ap (after_all s.state.facts) (sym is_b) ∙ sym facts_are in
       let first : LinkRuns clients n session p q s mid o m =
-          runs_taken clients n session (FitsWith clients s o.files) (FitsWith clients mid m.files) place r its p o m takes
-          (subst (λ f. Allowed clients f b) (sym same) (subst (Allowed clients s.state.facts) is_b allowed)) adds.same_links
-          (λ j fit. subst (λ (x : List Entry). FitsWith clients mid m.files (j ++ x ∷ [])) is_b (adds.grows j fit)) in
+      runs_taken clients n session (FitsWith clients s o.files) (FitsWith clients mid m.files) place r its p o m takes
+      (subst (λ f. Allowed clients f b) (sym same) (subst (Allowed clients s.state.facts) is_b allowed)) adds.same_links
+      (λ j fit. subst (λ (x : List Entry). FitsWith clients mid m.files (j ++ x ∷ [])) is_b (adds.grows j fit)) in
       let second : LinkRuns clients n session q (record q { facts = after_batches q.facts settles.more }) mid s' m o' =
-          runs_settled clients n session (FitsWith clients mid m.files) (FitsWith clients s' o'.files) (items_after r its) settles.more q m o' refl
-          (subst (λ f. AllSettling clients f settles.more) (sym q_facts) settles.settling) settles.adds.same_links settles.adds.grows in
+      runs_settled clients n session (FitsWith clients mid m.files) (FitsWith clients s' o'.files) (items_after r its) settles.more q m o' refl
+      (subst (λ f. AllSettling clients f settles.more) (sym q_facts) settles.settling) settles.adds.same_links settles.adds.grows in
       let end : after_batches q.facts settles.more ≡ s'.state.facts =
-          ap (λ f. after_batches f settles.more) q_facts ∙ sym settles.facts in
+      ap (λ f. after_batches f settles.more) q_facts ∙ sym settles.facts in
       subst (λ (f : Facts). LinkRuns clients n session p (record q { facts = f }) s s' o o') end
       (runs_then (LinkStep clients n session) (FitsWith clients s o.files) (FitsWith clients mid m.files) (FitsWith clients s' o'.files) p q
       (record q { facts = after_batches q.facts settles.more }) o m o' first second);
@@ -251,9 +251,9 @@ stops_at_settle clients session r s mid o m o' batch is allowed facts_are adds s
       let q : Spot = taken_spot place r its b p in
       let q_facts : q.facts ≡ mid.state.facts = ap (λ f. after_all f b) same ∙ ap (after_all s.state.facts) (sym is_b) ∙ sym facts_are in
       let first : LinkRuns clients n session p q s mid o m =
-          runs_taken clients n session (FitsWith clients s o.files) (FitsWith clients mid m.files) place r its p o m takes
-          (subst (λ f. Allowed clients f b) (sym same) (subst (Allowed clients s.state.facts) is_b allowed)) adds.same_links
-          (λ j fit. subst (λ (x : List Entry). FitsWith clients mid m.files (j ++ x ∷ [])) is_b (adds.grows j fit)) in
+      runs_taken clients n session (FitsWith clients s o.files) (FitsWith clients mid m.files) place r its p o m takes
+      (subst (λ f. Allowed clients f b) (sym same) (subst (Allowed clients s.state.facts) is_b allowed)) adds.same_links
+      (λ j fit. subst (λ (x : List Entry). FitsWith clients mid m.files (j ++ x ∷ [])) is_b (adds.grows j fit)) in
       breaks_then (LinkStep clients n session) (FitsWith clients s o.files) (FitsWith clients mid m.files) (ReadsAs clients o'.files) p q o m o' first
       (breaks_settled clients n session (FitsWith clients mid m.files) (ReadsAs clients o'.files) settles.adds.stood.front settles.adds.stood.others
       settles.adds.stood.reads (items_after r its) settles.more q m o' refl
@@ -335,16 +335,17 @@ next_one follow clients n place r piece left l mid l' s s' o o' going same_sessi
       } in
       let same_number : l'.session.number ≡ l.session.number = ap (λ x. x.number) (learns.same_session ∙ same_session) in
       let runs : LinkRuns clients n l'.session.number p
-          (record { doing = Takes (items_after r others); link = link_after place r (link_at l heard); moved = moved; facts = s'.state.facts }) s s' o o' =
-          takes.runs n place others p (ap (λ (x : List Item). Takes x) come.1) refl in
+      (record { doing = Takes (items_after r others); link = link_after place r (link_at l heard); moved = moved; facts = s'.state.facts }) s s' o o' =
+      takes.runs n place others p (ap (λ (x : List Item). Takes x) come.1) refl in
       let whole : link_after place r (link_at l heard) ≡ link_at l' heard =
-          ap (link_after place r) same_link ∙ learned place r mid l' heard learns in
-      (items_after r others,
-      to_come place r others heard left mid l' (same_end ∙ going) learns.end
-      (subst (λ x. IsReading heard left x others) (sym learns.same_reader) come.2),
-      subst (λ (k : ℕ). LinkRuns clients n k p (spot_at (Takes (items_after r others)) l' heard moved s'.state.facts) s s' o o') same_number
-      (subst (λ x. LinkRuns clients n l'.session.number p
-      (record { doing = Takes (items_after r others); link = x; moved = moved; facts = s'.state.facts }) s s' o o') whole runs));
+      ap (link_after place r) same_link ∙ learned place r mid l' heard learns in (
+        items_after r others,
+        to_come place r others heard left mid l' (same_end ∙ going) learns.end
+            (subst (λ x. IsReading heard left x others) (sym learns.same_reader) come.2),
+        subst (λ (k : ℕ). LinkRuns clients n k p (spot_at (Takes (items_after r others)) l' heard moved s'.state.facts) s s' o o') same_number
+            (subst (λ x. LinkRuns clients n l'.session.number p
+            (record { doing = Takes (items_after r others); link = x; moved = moved; facts = s'.state.facts }) s s' o o') whole runs),
+      );
 }
 
 pub next_skipped : ReadingsFollow → (clients : Meaning) (n place type_byte len : ℕ) (piece left : List ℕ) (l l' : Link) (s : StoreValue) (o : Outside)
@@ -363,11 +364,12 @@ next_skipped follow clients n place type_byte len piece left l l' s o going same
         stands = ap end_of same_end i;
       } in
       let passes : q ≡ record p { doing = Takes others } =
-          ap (λ x. record { doing = Takes others; link = x; moved = moved; facts = s.state.facts }) same_link in
-      (others,
-      subst (IsTaking heard left l' others) (sym (same_end ∙ going)) come.2,
-      runs_passed clients n l.session.number (FitsWith clients s o.files) (FitsWith clients s o.files)
-      (item.Skipped place type_byte len ∷ others) p q o (ap (λ (x : List Item). Takes x) come.1) settled passes (λ j fit. fit));
+      ap (λ x. record { doing = Takes others; link = x; moved = moved; facts = s.state.facts }) same_link in (
+        others,
+        subst (IsTaking heard left l' others) (sym (same_end ∙ going)) come.2,
+        runs_passed clients n l.session.number (FitsWith clients s o.files) (FitsWith clients s o.files)
+            (item.Skipped place type_byte len ∷ others) p q o (ap (λ (x : List Item). Takes x) come.1) settled passes (λ j fit. fit),
+      );
 }
 
 -- behind the last item the link stands by all that was heard
@@ -388,10 +390,11 @@ next_none follow clients n piece left l l' s o going same_session same_nonce set
         heard = heard;
         stands = (sym (ends heard over.1) ∙ ap (λ x. stands_behind (end_of x) (ending 0 heard)) (sym going)) i;
       } in
-      let passes : q ≡ all_taken_spot p = ap (λ x. record { doing = Waits; link = x; moved = moved; facts = s.state.facts }) same_link in
-      (over.1,
-      runs_passed clients n l.session.number (FitsWith clients s o.files) (FitsWith clients s o.files) [] p q o
-      (ap (λ (x : List Item). Takes x) (come.1 ∙ over.0)) settled passes (λ j fit. fit));
+      let passes : q ≡ all_taken_spot p = ap (λ x. record { doing = Waits; link = x; moved = moved; facts = s.state.facts }) same_link in (
+        over.1,
+        runs_passed clients n l.session.number (FitsWith clients s o.files) (FitsWith clients s o.files) [] p q o
+            (ap (λ (x : List Item). Takes x) (come.1 ∙ over.0)) settled passes (λ j fit. fit),
+      );
 }
 
 pub next_more : ReadingsFollow → EndingsAreOfRests → RestsGiveNothing → (clients : Meaning) (n : ℕ) (piece left : List ℕ) (l l' : Link) (s : StoreValue) (o : Outside)
@@ -448,11 +451,12 @@ closed_behind link_end.Failed x closed = refl
 pub piece_none : (clients : Meaning) (n : ℕ) (piece : List ℕ) (l : Link) (s : StoreValue) (o : Outside) → l.end ≡ link_end.Going
     → PieceAsCourse clients n piece piece l l s s o o
 piece_none clients n piece l s o going = record {
-  leads = λ heard its moved reading.
-      (its,
-      subst (IsTaking heard piece l its) (sym going) reading,
-      runs_none (LinkStep clients n l.session.number) (FitsWith clients s o.files) (FitsWith clients s o.files) (λ j fit. fit)
-      (spot_at (Takes its) l heard moved s.state.facts) o);
+  leads = λ heard its moved reading. (
+    its,
+    subst (IsTaking heard piece l its) (sym going) reading,
+    runs_none (LinkStep clients n l.session.number) (FitsWith clients s o.files) (FitsWith clients s o.files) (λ j fit. fit)
+        (spot_at (Takes its) l heard moved s.state.facts) o,
+  );
 }
 
 module _ (clients : Meaning) (n : ℕ) (piece mid : List ℕ) (l m : Link) (s s1 : StoreValue) (o o1 : Outside) (same_session : m.session ≡ l.session)
@@ -475,10 +479,12 @@ module _ (clients : Meaning) (n : ℕ) (piece mid : List ℕ) (l m : Link) (s s1
   piece_then left l' s' o' b = record {
     leads = λ heard its moved reading.
         let first = came_to heard its moved reading in
-        let second = b.leads heard first.0 moved first.1 in
-        (second.0, second.1,
-        joins s' o' (spot_at (Takes its) l heard moved s.state.facts) (spot_at (Takes first.0) m heard moved s1.state.facts)
-        (spot_at (Takes second.0) l' heard moved s'.state.facts) first.2 second.2);
+        let second = b.leads heard first.0 moved first.1 in (
+          second.0,
+          second.1,
+          joins s' o' (spot_at (Takes its) l heard moved s.state.facts) (spot_at (Takes first.0) m heard moved s1.state.facts)
+              (spot_at (Takes second.0) l' heard moved s'.state.facts) first.2 second.2,
+        );
   }
 
   pub piece_taken : (left : List ℕ) (l' : Link) (s' : StoreValue) (o' : Outside) → NextAsCourse clients n mid left m l' s1 s' o1 o' false
@@ -516,8 +522,8 @@ piece_closed clients n piece left l l' s s' o o' closed settled a = record {
       let p : Spot = spot_at (Takes first.0) l' heard moved s'.state.facts in
       let q : Spot = spot_at Waits l' heard moved s'.state.facts in
       let passes : q ≡ all_taken_spot p =
-          ap (λ x. record { doing = Waits; link = record (link_at l' heard) { stands = x }; moved = moved; facts = s'.state.facts })
-          (sym (closed_behind l'.end (ending 0 heard) closed)) in
+      ap (λ x. record { doing = Waits; link = record (link_at l' heard) { stands = x }; moved = moved; facts = s'.state.facts })
+      (sym (closed_behind l'.end (ending 0 heard) closed)) in
       runs_then (LinkStep clients n l.session.number) (FitsWith clients s o.files) (FitsWith clients s' o'.files) (FitsWith clients s' o'.files)
       (spot_at (Takes its) l heard moved s.state.facts) p q o o' o' first.2
       (runs_passed clients n l.session.number (FitsWith clients s' o'.files) (FitsWith clients s' o'.files) [] p q o'

@@ -104,7 +104,7 @@ one_more_of : (links : List Link) (place i : ℕ) (a : Link) → slice_get links
 one_more_of links place i a at so heard l here =
     let plain : 0 + i ≡ i = omega arith in
     let found : slice_get (links_from 0 links heard) i ≡ Some (link_at a (heard i)) =
-        get_at 0 i links heard a at ∙ ap (λ (j : ℕ). Some (link_at a (heard j))) plain in
+    get_at 0 i links heard a at ∙ ap (λ (j : ℕ). Some (link_at a (heard j))) plain in
     so.rest heard l here
     ∙ subst (λ (n : ℕ). is_beaten n (drop i (links_from 0 links heard)) place (link_at l (heard place))
     ≡ (beats n (link_at a (heard i)) place (link_at l (heard place))
@@ -181,7 +181,7 @@ module _ (old links : List Link) (m : ℕ) (l : Link) (at : slice_get links m �
       let plain : 0 + m ≡ m = omega arith in
       let found : slice_get now m ≡ Some b = get_at 0 m links heard l at ∙ ap (λ (j : ℕ). Some (link_at l (heard j))) plain in
       let in_old : slice_get whole m ≡ Some b =
-          sym (rest_of whole 0 m whole) ∙ ap (λ (ls : List course_links.Link). slice_get ls m) (sym (before.closed heard)) ∙ found in
+      sym (rest_of whole 0 m whole) ∙ ap (λ (ls : List course_links.Link). slice_get ls m) (sym (before.closed heard)) ∙ found in
       closes_next whole m b in_old
       ∙ ap (λ (ls : List course_links.Link). slice_set ls m (record b { stands = cond (is_beaten 0 ls m b) stands.Redundant b.stands })) (sym (before.closed heard))
       ∙ ap (λ (t : Bool). slice_set now m (record b { stands = cond t stands.Redundant b.stands })) (sym (exact heard l at))
@@ -205,7 +205,7 @@ module _ (old links : List Link) (m : ℕ) (l : Link) (at : slice_get links m �
         closed = λ heard.
             let plain : 0 + m ≡ m = omega arith in
             let found : slice_get (links_from 0 links heard) m ≡ Some (link_at l (heard m)) =
-                get_at 0 m links heard l at ∙ ap (λ (j : ℕ). Some (link_at l (heard j))) plain in
+            get_at 0 m links heard l at ∙ ap (λ (j : ℕ). Some (link_at l (heard j))) plain in
             sym (next_closed heard
             ∙ ap (λ (t : Bool). slice_set (links_from 0 links heard) m (record (link_at l (heard m)) { stands = cond t stands.Redundant (end_of l.end) })) so
             ∙ set_same (links_from 0 links heard) m (link_at l (heard m)) found);

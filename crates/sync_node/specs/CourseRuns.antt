@@ -158,13 +158,13 @@ module _ (clients : Meaning) (first n : ℕ) (links0 links : List Link) (l : Lin
         let p : Spot = spot_at Asks l (heard n) moved s.state.facts in
         let q : Spot = spot_at Done l' bytes moved' s'.state.facts in
         let lifted : RunRuns clients terms (with_spot n p place) (with_spot n q place) s s' o o' =
-            runs_lifted clients terms n place within (FitsWith clients s o.files) (FitsWith clients s' o'.files) p q o o' (in_run s' o' p q runs) in
+        runs_lifted clients terms n place within (FitsWith clients s o.files) (FitsWith clients s' o'.files) p q o o' (in_run s' o' p q runs) in
         let next : RunRuns clients terms (with_spot n q place) (record (with_spot n q place) { stage = Works (suc n) Asks }) s' s' o' o' =
-            runs_next clients terms (FitsWith clients s' o'.files) (FitsWith clients s' o'.files) (λ j fit. fit) n q.link (with_spot n q place) o' refl
-            (get_set (links_from 0 links heard) n q.link within) in
+        runs_next clients terms (FitsWith clients s' o'.files) (FitsWith clients s' o'.files) (λ j fit. fit) n q.link (with_spot n q place) o' refl
+        (get_set (links_from 0 links heard) n q.link within) in
         let both : RunRuns clients terms (with_spot n p place) (record (with_spot n q place) { stage = Works (suc n) Asks }) s s' o o' =
-            runs_then (RunStep clients terms) (FitsWith clients s o.files) (FitsWith clients s' o'.files) (FitsWith clients s' o'.files) (with_spot n p place)
-            (with_spot n q place) (record (with_spot n q place) { stage = Works (suc n) Asks }) o o' o' lifted next in
+        runs_then (RunStep clients terms) (FitsWith clients s o.files) (FitsWith clients s' o'.files) (FitsWith clients s' o'.files) (with_spot n p place)
+        (with_spot n q place) (record (with_spot n q place) { stage = Works (suc n) Asks }) o o' o' lifted next in
         subst (λ (x : Place). RunRuns clients terms x (place_at (Works (suc n) Asks) (slice_set links n l') (heard_with n bytes heard) moved' still made s'.state.facts) s s' o o')
         start_here
         (subst (λ (x : Place). RunRuns clients terms (with_spot n p place) x s s' o o') (end_there l' s' bytes moved') both)

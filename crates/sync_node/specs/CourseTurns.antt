@@ -119,9 +119,9 @@ module _ (clients : Meaning) (n : ℕ) (l : Link) (s : StoreValue) (o o1 : Outsi
   hears_ended end is hears caused = record {
     leads = λ heard moved read.
         let stood : stands_ended (ending 0 heard) ≡ end_of end =
-            ap stands_ended (ends_as heard l.reader (read going))
-            ∙ ended_same (ending l.reader.place l.reader.bytes)
-            ∙ ap end_of (sym is) in
+        ap stands_ended (ends_as heard l.reader (read going))
+        ∙ ended_same (ending l.reader.place l.reader.bytes)
+        ∙ ap end_of (sym is) in
         record {
           heard' = heard;
           doing = Waits;
@@ -229,7 +229,7 @@ module _ (clients : Meaning) (n now : ℕ) (what : Out) (l : Link) (s : StoreVal
       (spot_at (Puts now room) l heard true s1.state.facts) s s1 o o1
   committed_out s1 o1 facts_are adds heard moved room =
       let same : after_all s.state.facts (out_batch l.session.number now what) ≡ s1.state.facts =
-          ap (after_all s.state.facts) (sym is) ∙ sym facts_are in
+      ap (after_all s.state.facts) (sym is) ∙ sym facts_are in
       subst (λ f. LinkRuns clients n l.session.number (spot_at (Sends now (suc room)) l heard moved s.state.facts) (spot_at (Puts now room) l heard true f) s s1 o o1) same
       (runs_out clients n l.session.number (FitsWith clients s o.files) (FitsWith clients s1 o1.files) now room what
       (spot_at (Sends now (suc room)) l heard moved s.state.facts) o o1 refl allowed.2 allowed adds.same_links
@@ -239,18 +239,20 @@ module _ (clients : Meaning) (n now : ℕ) (what : Out) (l : Link) (s : StoreVal
       → SendsBytes n bytes result o1.links o'.links → EndsBy result l l' → is_sent_to (end_of l.end) ≡ true → (heard : List ℕ) (room : ℕ)
       → (doing : Doing) × GoesOnSending now room doing l'
       × LinkRuns clients n l.session.number (spot_at (Puts now room) l heard true s1.state.facts) (spot_at doing l' heard true s1.state.facts) s1 s1 o1 o'
-  sent_on_link s1 o1 o' l' bytes (Ok u) same_files sends ends open_is heard room =
-      (Sends now room,
-      inl (refl, ap (λ x. is_sent_to (end_of x.end)) ends ∙ open_is),
-      subst (λ x. LinkRuns clients n l.session.number (spot_at (Puts now room) l heard true s1.state.facts) (spot_at (Sends now room) x heard true s1.state.facts) s1 s1 o1 o') (sym ends)
-      (runs_put clients n l.session.number (FitsWith clients s1 o1.files) (FitsWith clients s1 o'.files) now room bytes
-      (spot_at (Puts now room) l heard true s1.state.facts) o1 o' refl sends (fits_on clients s1 o1 o' same_files)))
-  sent_on_link s1 o1 o' l' bytes (Err why) same_files sends ends open_is heard room =
-      (Done,
-      inr (refl, ap (λ x. is_sent_to (end_of x.end)) ends),
-      subst (λ x. LinkRuns clients n l.session.number (spot_at (Puts now room) l heard true s1.state.facts) (spot_at Done x heard true s1.state.facts) s1 s1 o1 o') (sym ends)
-      (runs_broken clients n l.session.number (FitsWith clients s1 o1.files) (FitsWith clients s1 o'.files) now room bytes why
-      (spot_at (Puts now room) l heard true s1.state.facts) o1 o' refl sends (fits_on clients s1 o1 o' same_files)))
+  sent_on_link s1 o1 o' l' bytes (Ok u) same_files sends ends open_is heard room = (
+    Sends now room,
+    inl (refl, ap (λ x. is_sent_to (end_of x.end)) ends ∙ open_is),
+    subst (λ x. LinkRuns clients n l.session.number (spot_at (Puts now room) l heard true s1.state.facts) (spot_at (Sends now room) x heard true s1.state.facts) s1 s1 o1 o') (sym ends)
+        (runs_put clients n l.session.number (FitsWith clients s1 o1.files) (FitsWith clients s1 o'.files) now room bytes
+        (spot_at (Puts now room) l heard true s1.state.facts) o1 o' refl sends (fits_on clients s1 o1 o' same_files)),
+  )
+  sent_on_link s1 o1 o' l' bytes (Err why) same_files sends ends open_is heard room = (
+    Done,
+    inr (refl, ap (λ x. is_sent_to (end_of x.end)) ends),
+    subst (λ x. LinkRuns clients n l.session.number (spot_at (Puts now room) l heard true s1.state.facts) (spot_at Done x heard true s1.state.facts) s1 s1 o1 o') (sym ends)
+        (runs_broken clients n l.session.number (FitsWith clients s1 o1.files) (FitsWith clients s1 o'.files) now room bytes why
+        (spot_at (Puts now room) l heard true s1.state.facts) o1 o' refl sends (fits_on clients s1 o1 o' same_files)),
+  )
 
   same_of : (l' : Link) (result : Result (Unit {0}) Failed) → EndsBy result l l'
       → (l'.reader ≡ l.reader) × (l'.session ≡ l.session) × ((l'.end ≡ l.end) ⊎ (l'.end ≡ link_end.Failed))
@@ -510,8 +512,8 @@ module _ (clients : Meaning) (n : ℕ) (l m : Link) (s s1 : StoreValue) (o o1 : 
     leads = λ heard moved read.
         let first = hears.leads heard moved read in
         let second = subst (λ (k : ℕ). LinkRuns clients n k (spot_at first.doing m first.heard' (cond idle moved true) s1.state.facts)
-            (spot_at Done l' first.heard' (cond (nat_lt 0 made) true (cond idle moved true)) s'.state.facts) s1 s' o1 o') (ap (λ x. x.number) same_session)
-            (sends.runs first.heard' (cond idle moved true) first.doing first.ready) in
+        (spot_at Done l' first.heard' (cond (nat_lt 0 made) true (cond idle moved true)) s'.state.facts) s1 s' o1 o') (ap (λ x. x.number) same_session)
+        (sends.runs first.heard' (cond idle moved true) first.doing first.ready) in
         record {
           heard' = first.heard';
           has_read = read_on first.heard' m l' sends.same_reader sends.end first.has_read;

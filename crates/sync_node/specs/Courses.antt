@@ -98,6 +98,7 @@ pub record TakesAsCourse (clients : Meaning) (session : ℕ) (r : Record) (s s' 
 pub record StopsAsCourse (clients : Meaning) (session : ℕ) (r : Record) (s : StoreValue) (o o' : Outside) : Type 0 where
   pub stops : (n place : ℕ) (its : List Item) (p : Spot) → p.doing ≡ Takes (item.One place r ∷ its) → p.facts ≡ s.state.facts
       → LinkBreaks clients n session p s o o'
+
 -- ---- a link of the node as one of a course
 
 abbrev pub end_of : LinkEnd → course_end.LinkEnd

@@ -1,5 +1,4 @@
 -- How a link stands.
-use Rattle.std.specs.Prelude.{◌≡◌, ℕ}
 use Rattle.record_grammar.specs.declared.stream.Ending.{Ending}
 use Rattle.record_grammar.specs.declared.stream.Ending.TheVariants as ending_kind
 use Rattle.sync_node.specs.declared.link.LinkEnd.{LinkEnd}

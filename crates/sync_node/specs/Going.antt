@@ -1,12 +1,9 @@
 -- What calls on a host and a store leave as it was, and how the journal goes on.
-use Rattle.std.specs.Prelude.{◌≡◌, ◌≢◌, ℕ, ◌≤◌, false, List, ◌++◌, is_some}
-use Rattle.outside.specs.Files.{Two, File}
+use Rattle.std.specs.Prelude.{◌≡◌, ◌≢◌, ℕ, ◌≤◌, ◌++◌, is_some}
 use Rattle.outside.specs.Outside.{Outside}
 use Rattle.outside.specs.Runs.{LinksGrow, OthersKeep, Told}
-use Rattle.sync_rules.specs.declared.entries.Entry.{Entry}
-use Rattle.sync_rules.specs.declared.entries.Session.{Session}
 use Rattle.sync_rules.specs.Clients.{Meaning}
-use Rattle.sync_rules.specs.Facts.{after_all, after_batches, takes_of}
+use Rattle.sync_rules.specs.Facts.{after_batches, takes_of}
 use Rattle.sync_rules.specs.Legal.{AllSettling}
 use Rattle.sync_rules.specs.Steps.{IsSettled}
 use Rattle.sync_store.specs.Store.{StoreValue}

@@ -2,7 +2,6 @@
 use Rattle.std.specs.Prelude.{◌≡◌, ℕ, List, Option, Some, None, Contains}
 use Rattle.sync_ids.specs.declared.records.Record.{Record}
 use Rattle.sync_ids.specs.declared.records.Record.TheVariants as record_kind
-use Rattle.record_stream.specs.Reading.{ReaderState}
 use Rattle.sync_node.specs.declared.link.Link.{Link}
 use Rattle.sync_node.specs.declared.link.LinkEnd.{LinkEnd}
 use Rattle.sync_node.specs.declared.link.LinkEnd.TheVariants as link_end

@@ -1,5 +1,5 @@
 -- A link and its session are joined: what was sent is all that the journal has as output, and what was heard was taken.
-use Rattle.std.specs.Prelude.{◌≡◌, ◌≢◌, ℕ, ◌+◌, ◌≤◌, List, [], ◌∷◌, length, Option, Some, None, slice_get}
+use Rattle.std.specs.Prelude.{◌≡◌, ◌≢◌, ℕ, ◌≤◌, List, [], ◌∷◌, length, Option, Some, None, slice_get}
 use Rattle.outside.specs.Outside.{Outside}
 use Rattle.outside.specs.Runs.{Told, answers_at}
 use Rattle.sync_ids.specs.declared.records.Record.{Record}

@@ -11,6 +11,7 @@ pub mod Hearing
 pub mod Taking
 pub mod Redundant
 pub mod Starting
+pub mod Adding
 pub mod Node
 pub mod Plans
 pub mod Cited

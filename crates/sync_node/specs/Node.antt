@@ -18,7 +18,7 @@ use Rattle.record_stream.specs.Reading.{ReaderState}
 use Rattle.sync_node.specs.declared.link.LinkEnd.{LinkEnd}
 use Rattle.sync_node.specs.declared.link.LinkEnd.TheVariants as link_end
 use Rattle.sync_node.specs.Going.{Goes}
-use Rattle.sync_node.specs.Joined.{IsUnused, Joined}
+use Rattle.sync_node.specs.Joined.{Joined}
 use Rattle.sync_node.specs.Safe.{Begin, Safe}
 use Rattle.sync_node.specs.Working.{Waits}
 
@@ -138,7 +138,10 @@ pub record StaysClosed {T H : Type 0} (n n' : NodeValue) (host host' : H) (resul
   pub same : n' ≡ n
   pub same_host : host' ≡ host
 
--- after any fault the node is closed, and else it is not
+-- Closed is no answer of a node that was not closed; after any fault the node is closed, and else it is not.
 abbrev pub Answers : {T : Type 0} → Result T NodeFault → NodeValue → Type 0
 Answers (Ok _) n' = n'.closed ≡ false
-Answers (Err _) n' = n'.closed ≡ true
+Answers (Err fault.Memory) n' = n'.closed ≡ true
+Answers (Err fault.DiskFault) n' = n'.closed ≡ true
+Answers (Err fault.Full) n' = n'.closed ≡ true
+Answers (Err fault.Closed) n' = ⊥

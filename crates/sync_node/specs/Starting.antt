@@ -1,5 +1,5 @@
 -- A session that begins on a link.
-use Rattle.std.specs.Prelude.{◌≡◌, ◌≢◌, ℕ, ◌+◌, ◌≤◌, false, List, [], ◌∷◌, ◌++◌, length, Some, Option}
+use Rattle.std.specs.Prelude.{◌≡◌, ◌≢◌, ℕ, ◌+◌, ◌≤◌, false, List, [], ◌∷◌, ◌++◌, length, Some}
 use Rattle.outside.specs.Frames.{most_bytes}
 use Rattle.outside.specs.Outside.{Outside}
 use Rattle.outside.specs.Runs.{IsFront, OthersKeep, Told, answers_at}
@@ -55,3 +55,9 @@ pub record Starts (clients : Meaning) (link : ℕ) (session : Session) (l : Link
 pub record StartsSafe (clients : Meaning) (link : ℕ) (session : Session) (s s' : StoreValue) (o o' : Outside) : Type 0 where
   pub safe : IsUnused link o → (b : Begin) (plans : List Session) → session.number ≡ b.first + link → length plans ≡ link
       → Safe clients b plans s o → Safe clients b (plans ++ session ∷ []) s' o'
+
+-- a link on which a session has begun stands behind the others
+pub record StartsLast (clients : Meaning) (number : ℕ) (session : Session) (links links' : List Link) (s s' : StoreValue) (o o' : Outside) : Type 0 where
+  pub link : Link
+  pub starts : Starts clients number session link s s' o o'
+  pub pushed : links' ≡ links ++ link ∷ []

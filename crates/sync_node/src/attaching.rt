@@ -1,12 +1,12 @@
 //! A session that begins on a link.
-ghost use Rattle.std.specs.Prelude.{◌≡◌, ◌<◌, ◌++◌, ◌∷◌, [], IfOk};
+ghost use Rattle.std.specs.Prelude.{◌≡◌, ◌<◌, ◌++◌, ◌∷◌, [], IfOk, OnErr, OnOk};
 ghost use Rattle.record_stream.specs.Reading.{AwaitsBytes, fresh};
 ghost use Rattle.sync_rules.specs.Legal.{Allowed};
 ghost use Rattle.sync_rules.specs.declared.entries.Entry.TheVariants as entry;
 ghost use Rattle.sync_store.specs.Ready.{IsReady};
-ghost use Rattle.sync_node.specs.Starting.{Greets, Starts, StartsSafe};
+ghost use Rattle.sync_node.specs.Starting.{Greets, Starts, StartsLast, StartsSafe};
 
-use crate::fault::NodeFault;
+use crate::fault::Fault;
 use crate::link::{Link, LinkEnd};
 use crate::sending::send_on;
 use crate::spelling::{batch_of, spell_nonce, spell_versions};
@@ -17,9 +17,39 @@ use std::alloc::Global;
 use sync_rules::{Clients, Entry, Session};
 use sync_store::Store;
 
-/// Commits a session, and then sends what it begins with. All is spelled first, so that nothing may
-/// fail between the two but a send, which closes the link.
-pub(crate) fn start<H: Host, C: Clients>(
+/// Begins a session on the next link, and puts the link behind the others. It takes the buffer of
+/// the link's reader, and room for the link, before anything else.
+pub(crate) fn attach_on<H: Host, C: Clients>(
+    alloc: Global,
+    store: &mut Store,
+    host: &mut H,
+    clients: &C,
+    links: &mut Vec<Link>,
+    number: u8,
+    session: Session,
+) -> Result<(), Fault>
+    requires ready { IsReady (C.meaning clients.now) store.old (H.tells host.old).files }
+    requires allowed { Allowed (C.meaning clients.now) store.old.state.facts
+        (entry.Session session ∷ []) }
+    requires dialled { number < (H.tells host.old).links.dialled }
+    ensures starts { OnOk result (StartsLast (C.meaning clients.now) number session
+        links.old.items links.new.items store.old store.new (H.tells host.old)
+        (H.tells host.new)) }
+    ensures same { OnErr result (links.new.items ≡ links.old.items) }
+    ensures safe { StartsSafe (C.meaning clients.now) number session store.old store.new
+        (H.tells host.old) (H.tells host.new) }
+{
+    cite_laws();
+    let reader = Reader::new(alloc)?;
+    links.reserve(1)?;
+    let link = start(alloc, store, host, clients, number, session, reader)?;
+    links.push(link).unwrap();
+    Ok(())
+}
+
+// Commits a session, and then sends what it begins with. All is spelled first, so that nothing may
+// fail between the two but a send, which closes the link.
+fn start<H: Host, C: Clients>(
     alloc: Global,
     store: &mut Store,
     host: &mut H,
@@ -27,7 +57,7 @@ pub(crate) fn start<H: Host, C: Clients>(
     number: u8,
     session: Session,
     reader: Reader,
-) -> Result<Link, NodeFault>
+) -> Result<Link, Fault>
     requires ready { IsReady (C.meaning clients.now) store.old (H.tells host.old).files }
     requires allowed { Allowed (C.meaning clients.now) store.old.state.facts
         (entry.Session session ∷ []) }

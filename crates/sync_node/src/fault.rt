@@ -1,10 +1,9 @@
 //! Why a call of a node failed.
 ghost use Rattle.std.specs.Prelude.{◌≡◌};
 ghost use Rattle.sync_node.specs.Faults.{fault_of};
-ghost use Rattle.sync_node.specs.declared.fault.NodeFault.TheVariants as node;
+ghost use Rattle.sync_node.specs.declared.fault.Fault.TheVariants as fault_kind;
 
 use std::alloc::{AllocError, AllocFailed};
-use sync_store::StoreFault;
 
 /// Why a call of a node failed. After any of them the node is closed.
 #[derive(Clone, Copy, Debug, PartialEq, Eq)]
@@ -19,31 +18,41 @@ pub enum NodeFault {
     Closed,
 }
 
-impl From<AllocError> for NodeFault {
-    ghost from_gives = { λ _ e. e ≡ node.Memory };
+/// Why the work of a node that is not closed failed.
+#[derive(Clone, Copy, Debug, PartialEq, Eq)]
+pub(crate) enum Fault {
+    /// No memory was found.
+    Memory,
+    /// A call on the disk failed.
+    DiskFault,
+    /// The journal would pass its limit.
+    Full,
+}
 
-    fn from(_: AllocError) -> NodeFault {
-        NodeFault::Memory
+impl From<AllocError> for Fault {
+    ghost from_gives = { λ _ e. e ≡ fault_kind.Memory };
+
+    fn from(_: AllocError) -> Fault {
+        Fault::Memory
     }
 }
 
-impl<T: Drop> From<AllocFailed<T>> for NodeFault {
-    ghost from_gives = { λ _ e. e ≡ node.Memory };
+impl<T: Drop> From<AllocFailed<T>> for Fault {
+    ghost from_gives = { λ _ e. e ≡ fault_kind.Memory };
 
-    fn from(_: AllocFailed<T>) -> NodeFault {
-        NodeFault::Memory
+    fn from(_: AllocFailed<T>) -> Fault {
+        Fault::Memory
     }
 }
 
-impl From<StoreFault> for NodeFault {
+impl From<Fault> for NodeFault {
     ghost from_gives = { λ fault e. e ≡ fault_of fault };
 
-    fn from(fault: StoreFault) -> NodeFault {
+    fn from(fault: Fault) -> NodeFault {
         match fault {
-            StoreFault::Memory => NodeFault::Memory,
-            StoreFault::DiskFault => NodeFault::DiskFault,
-            StoreFault::Full => NodeFault::Full,
-            StoreFault::Closed => NodeFault::Closed,
+            Fault::Memory => NodeFault::Memory,
+            Fault::DiskFault => NodeFault::DiskFault,
+            Fault::Full => NodeFault::Full,
         }
     }
 }

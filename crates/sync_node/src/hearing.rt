@@ -9,7 +9,7 @@ ghost use Rattle.sync_node.specs.Hearing.{Learns};
 ghost use Rattle.sync_node.specs.Taking.{IsOpenFor, LeavesLess, TakesOn, TakesSafe};
 ghost use Rattle.sync_node.specs.Working.{IsAble, StaysSafe, Waits, Works};
 
-use crate::fault::NodeFault;
+use crate::fault::Fault;
 use crate::link::{Link, LinkEnd, ended};
 use crate::told::{cite_laws, commit, settle};
 use outside::{Heard, Host};
@@ -30,7 +30,7 @@ pub(crate) fn receive_on<H: Host, C: Clients>(
     number: u8,
     link: &mut Link,
     buffer: &mut [u8],
-) -> Result<bool, NodeFault>
+) -> Result<bool, Fault>
     requires able { IsAble (C.meaning clients.now) number link.old.session store.old
         (H.tells host.old) }
     requires asked { link.old.end ≡ LinkEnd.Going }
@@ -79,7 +79,7 @@ fn take_piece<H: Host, C: Clients>(
     number: u8,
     link: &mut Link,
     piece: &mut Piece,
-) -> Result<(), NodeFault>
+) -> Result<(), Fault>
     requires able { IsAble (C.meaning clients.now) number link.old.session store.old
         (H.tells host.old) }
     requires asked { link.old.end ≡ LinkEnd.Going }
@@ -113,7 +113,7 @@ fn take_next<H: Host, C: Clients>(
     number: u8,
     link: &mut Link,
     piece: &mut Piece,
-) -> Result<bool, NodeFault>
+) -> Result<bool, Fault>
     requires able { IsAble (C.meaning clients.now) number link.old.session store.old
         (H.tells host.old) }
     requires asked { link.old.end ≡ LinkEnd.Going }
@@ -173,7 +173,7 @@ fn take_one<H: Host, C: Clients>(
     clients: &C,
     session: &Session,
     rec: Record,
-) -> Result<(), NodeFault>
+) -> Result<(), Fault>
     requires able { IsOpenFor (C.meaning clients.now) session.now store.old (H.tells host.old) }
     ensures course { OnOk result (TakesAsCourse (C.meaning clients.now) session.now.number rec
         store.old store.new (H.tells host.old) (H.tells host.new)) }

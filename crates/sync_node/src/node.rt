@@ -3,15 +3,18 @@ ghost use Rattle.std.specs.Prelude.{◌≡◌, ◌<◌, ◌≤◌, false, length
 ghost use Rattle.outside.specs.declared.limits.TheConstants.{LINKS};
 ghost use Rattle.sync_node.specs.Node.{asked_among};
 
+use crate::attaching::attach_on;
 use crate::fault::NodeFault;
 use crate::hearing::receive_on;
 use crate::link::{Link, LinkEnd};
 use crate::sending::send_all;
+use crate::told::{add_settled, cite_laws};
 use crate::turning::turn_all;
 use outside::Host;
 use std::alloc::{AllocError, Global};
 use std::marker::Model;
-use sync_rules::{Clients, Mode};
+use sync_ids::Nonce;
+use sync_rules::{Batch, Clients, Mode, Session};
 use sync_store::Store;
 
 /// The length of the buffer that a link is asked with, in bytes.
@@ -86,8 +89,16 @@ impl Node {
     ghost use Rattle.std.specs.Prelude.{[], true, slice_get, OnOk, Some};
     ghost use Rattle.std.specs.Option.{option_map};
     ghost use Rattle.sync_node.specs.declared.link.Link.{Link};
-    ghost use Rattle.sync_node.specs.Node.{Answers, KeepsJoined, KeepsSafe};
-    ghost use Rattle.sync_node.specs.Node.{MayRun, StaysClosed};
+    ghost use Rattle.outside.specs.Files.{Two, File};
+    ghost use Rattle.sync_rules.specs.Legal.{Allowed, suits_nonce};
+    ghost use Rattle.sync_store.specs.Fitting.{Fits};
+    ghost use Rattle.sync_store.specs.Moments.{Leads};
+    ghost use Rattle.sync_node.specs.Adding.{AddsAtMost, IsPlain};
+    ghost use Rattle.sync_node.specs.Output.{Journal};
+    ghost use Rattle.sync_rules.specs.Steps.{IsSettled};
+    ghost use Rattle.sync_node.specs.Node.{Answers, Attaches, KeepsJoined, KeepsSafe};
+    ghost use Rattle.sync_node.specs.Node.{MayRun, PlansSafe, StaysClosed};
+    ghost use Rattle.sync_node.specs.Plans.{session_of};
     ghost use Rattle.sync_node.specs.Ends.{MaySend};
 
     /// A node over a store, which no failed call has closed. It takes the buffer here that links
@@ -134,9 +145,105 @@ impl Node {
         self.links[link as usize].end
     }
 
+    /// Commits a batch of one entry that adds a contact, a group or a message, or sets a level, and
+    /// may follow the journal; and settles. Nothing is sent: at each moment the files stand for the
+    /// journal, or for it with the batch and settling behind it.
+    pub fn add<H: Host, C: Clients>(
+        &mut self,
+        host: &mut H,
+        clients: &C,
+        batch: Batch,
+    ) -> Result<(), NodeFault>
+        requires may { MayRun (C.meaning clients.now) self.old (H.tells host.old) }
+        requires allowed { self.old.closed ≡ false
+            → Allowed (C.meaning clients.now) self.old.store.state.facts batch }
+        requires plain { IsPlain batch }
+        ensures closed { self.old.closed ≡ true
+            → StaysClosed self.old self.new host.old host.new result }
+        ensures answer { self.old.closed ≡ false → Answers result self.new }
+        ensures may { MayRun (C.meaning clients.now) self.new (H.tells host.new) }
+        ensures joined { OnOk result (KeepsJoined (C.meaning clients.now) self.old self.new
+            (H.tells host.old) (H.tells host.new)) }
+        ensures leads { self.old.closed ≡ false → (two : Two File)
+            → (H.tells host.old).files ≡ Some two → (j : Journal)
+            → Fits (C.meaning clients.now) self.old.store j two → Leads (C.meaning clients.now)
+            (AddsAtMost (C.meaning clients.now) j batch)
+            (AddsAtMost (C.meaning clients.now) j batch) self.new.store (H.tells host.old)
+            (H.tells host.new) }
+    {
+        if self.closed {
+            return Err(NodeFault::Closed);
+        }
+        match add_settled(&mut self.store, host, clients, batch) {
+            Ok(()) => Ok(()),
+            Err(fault) => {
+                self.closed = true;
+                Err(NodeFault::from(fault))
+            }
+        }
+    }
+
+    /// Begins a session on a link that was dialled, the next number: commits it, and sends VERSIONS
+    /// and, where it has a nonce, PRIORITY. The journal is settled, the contact is known, the
+    /// latency is at least 1, and a nonce is given in interactive mode alone. A failed send closes
+    /// the link, and the answer is Ok.
+    pub fn attach<H: Host, C: Clients>(
+        &mut self,
+        host: &mut H,
+        clients: &C,
+        link: u8,
+        plan: &Plan,
+        nonce: Option<Nonce>,
+    ) -> Result<(), NodeFault>
+        requires may { MayRun (C.meaning clients.now) self.old (H.tells host.old) }
+        requires settled { self.old.closed ≡ false
+            → IsSettled (C.meaning clients.now) self.old.store.state.facts }
+        requires contact { plan.now.contact < self.old.store.state.facts.contacts }
+        requires latency { 1 ≤ plan.now.latency }
+        requires nonce { suits_nonce plan.now.mode nonce ≡ true }
+        requires next { link ≡ length self.old.links }
+        requires few { link < LINKS }
+        requires dialled { link < (H.tells host.old).links.dialled }
+        ensures closed { self.old.closed ≡ true
+            → StaysClosed self.old self.new host.old host.new result }
+        ensures answer { self.old.closed ≡ false → Answers result self.new }
+        ensures may { MayRun (C.meaning clients.now) self.new (H.tells host.new) }
+        ensures joined { OnOk result (Attaches (C.meaning clients.now) self.old self.new
+            (H.tells host.old) (H.tells host.new)) }
+        ensures safe { PlansSafe (C.meaning clients.now)
+            (session_of self.old.store.state.facts.begun plan.now nonce) self.old self.new
+            (H.tells host.old) (H.tells host.new) }
+    {
+        cite_laws();
+        if self.closed {
+            return Err(NodeFault::Closed);
+        }
+        let session = Session {
+            number: self.store.sessions(),
+            contact: plan.contact,
+            mode: plan.mode,
+            latency: plan.latency,
+            nonce,
+        };
+        match attach_on(
+            self.alloc,
+            &mut self.store,
+            host,
+            clients,
+            &mut self.links,
+            link,
+            session,
+        ) {
+            Ok(()) => Ok(()),
+            Err(fault) => {
+                self.closed = true;
+                Err(NodeFault::from(fault))
+            }
+        }
+    }
+
     /// Asks a link once that is attached and still asked, and takes what came: the batch of each
     /// record, and settling behind it. Answers whether nothing came for now.
-    #[tactic(none)]
     pub fn receive<H: Host, C: Clients>(
         &mut self,
         host: &mut H,
@@ -171,14 +278,13 @@ impl Node {
             Ok(idle) => Ok(idle),
             Err(fault) => {
                 self.closed = true;
-                Err(fault)
+                Err(NodeFault::from(fault))
             }
         }
     }
 
     /// Commits and sends what is due at this time in milliseconds on a link that is attached and
     /// not closed, at most `MOST_OUTS` outputs, and answers how many that were.
-    #[tactic(none)]
     pub fn send_due<H: Host, C: Clients>(
         &mut self,
         host: &mut H,
@@ -214,14 +320,13 @@ impl Node {
             Ok(made) => Ok(made),
             Err(fault) => {
                 self.closed = true;
-                Err(fault)
+                Err(NodeFault::from(fault))
             }
         }
     }
 
     /// Goes through the links in order: asks each that is still asked, and sends what is due on
     /// each that is not closed. Then the redundant ones are closed.
-    #[tactic(none)]
     pub fn turn<H: Host, C: Clients>(
         &mut self,
         host: &mut H,
@@ -252,7 +357,7 @@ impl Node {
             Ok(false) => Ok(Turned::Moving),
             Err(fault) => {
                 self.closed = true;
-                Err(fault)
+                Err(NodeFault::from(fault))
             }
         }
     }

@@ -1,5 +1,5 @@
 //! What is due on a link is committed and sent.
-ghost use Rattle.std.specs.Prelude.{◌≡◌, ◌≢◌, ◌∷◌, ◌<◌, [], IfOk, OnErr, OnOk};
+ghost use Rattle.std.specs.Prelude.{◌≢◌, ◌∷◌, ◌<◌, [], OnErr, OnOk};
 ghost use Rattle.sync_rules.specs.Legal.{Allowed};
 ghost use Rattle.sync_rules.specs.declared.entries.Entry.TheVariants as entry;
 ghost use Rattle.sync_node.specs.Courses.{PutsAsCourse, PutsStop, SentAsCourse, SentStops};
@@ -7,7 +7,7 @@ ghost use Rattle.sync_node.specs.Ends.{MaySend};
 ghost use Rattle.sync_node.specs.Sending.{SendsOn};
 ghost use Rattle.sync_node.specs.Working.{IsAble, StaysSafe, Waits, Works};
 
-use crate::fault::NodeFault;
+use crate::fault::Fault;
 use crate::link::{Link, LinkEnd};
 use crate::spelling::{batch_of, spell_out};
 use crate::told::{cite_laws, commit};
@@ -29,7 +29,7 @@ pub(crate) fn send_all<H: Host, C: Clients>(
     number: u8,
     link: &mut Link,
     now: u64,
-) -> Result<u32, NodeFault>
+) -> Result<u32, Fault>
     requires able { IsAble (C.meaning clients.now) number link.old.session store.old
         (H.tells host.old) }
     requires waits { Waits link.old }
@@ -67,7 +67,7 @@ fn put_out<H: Host, C: Clients>(
     link: &mut Link,
     now: u64,
     out: Out,
-) -> Result<(), NodeFault>
+) -> Result<(), Fault>
     requires able { IsAble (C.meaning clients.now) number link.old.session store.old
         (H.tells host.old) }
     requires waits { Waits link.old }

@@ -7,7 +7,7 @@ ghost use Rattle.outside.specs.declared.limits.TheConstants.{LINKS};
 ghost use Rattle.sync_node.specs.Node.{AreAttached, AreSome, LinksSafe, LinksWork, MayGoOn};
 ghost use Rattle.sync_node.specs.Working.{IsAble, StaysSafe, Waits, Works};
 
-use crate::fault::NodeFault;
+use crate::fault::Fault;
 use crate::hearing::receive_on;
 use crate::link::Link;
 use crate::redundant::close_redundant;
@@ -28,7 +28,7 @@ pub(crate) fn turn_all<H: Host, C: Clients>(
     clients: &C,
     links: &mut [Link],
     buffer: &mut [u8],
-) -> Result<bool, NodeFault>
+) -> Result<bool, Fault>
     requires may { MayGoOn (C.meaning clients.now) links.old store.old (H.tells host.old) }
     requires few { length links.old ≤ LINKS }
     requires attached { AreSome links.old store.old.state.facts }
@@ -56,7 +56,7 @@ fn turn_each<H: Host, C: Clients>(
     clients: &C,
     links: &mut [Link],
     buffer: &mut [u8],
-) -> Result<bool, NodeFault>
+) -> Result<bool, Fault>
     requires may { MayGoOn (C.meaning clients.now) links.old store.old (H.tells host.old) }
     requires few { length links.old ≤ LINKS }
     requires attached { AreSome links.old store.old.state.facts }
@@ -96,7 +96,7 @@ fn turn_link<H: Host, C: Clients>(
     number: u8,
     link: &mut Link,
     buffer: &mut [u8],
-) -> Result<bool, NodeFault>
+) -> Result<bool, Fault>
     requires able { IsAble (C.meaning clients.now) number link.old.session store.old
         (H.tells host.old) }
     requires waits { Waits link.old }
@@ -129,7 +129,7 @@ fn hear_now<H: Host, C: Clients>(
     number: u8,
     link: &mut Link,
     buffer: &mut [u8],
-) -> Result<bool, NodeFault>
+) -> Result<bool, Fault>
     requires able { IsAble (C.meaning clients.now) number link.old.session store.old
         (H.tells host.old) }
     requires waits { Waits link.old }
@@ -163,7 +163,7 @@ fn send_now<H: Host, C: Clients>(
     clients: &C,
     number: u8,
     link: &mut Link,
-) -> Result<u32, NodeFault>
+) -> Result<u32, Fault>
     requires able { IsAble (C.meaning clients.now) number link.old.session store.old
         (H.tells host.old) }
     requires waits { Waits link.old }

@@ -1,5 +1,3 @@
-use Rattle.std.proofs.Common.{subst, List, ℕ}
-use Rattle.sync_node.specs.Working.{Works}
 use Rattle.sync_node.proofs.TakeLaws.{none_left}
 use Rattle.sync_node.proofs.WorkLaws.{on_err, stays_then, works_closed, works_none, works_then}
 use Rattle.sync_node.specs.CourseLaws.{piece_closed, piece_none, piece_stops, piece_taken, piece_then}

@@ -10,18 +10,18 @@ rivals-init c = none_yet _ _
 pub rivals-preserved : goal.rivals-preserved
 rivals-preserved c =
     let rival = slice_get-get_or c.args.links.now c.rivals.other c.index-links-other.result (omega (arith, c.rivals-test.true))
-        ∙ ap (λ (x : Link). Some x) (sym c.index-links-other.is) in
+    ∙ ap (λ (x : Link). Some x) (sym c.index-links-other.is) in
     let here = slice_get-get_or c.args.links.now c.args.place c.index-links-place.result (omega (arith, c.requires))
-        ∙ ap (λ (x : Link). Some x) (sym c.index-links-place.is) in
+    ∙ ap (λ (x : Link). Some x) (sym c.index-links-place.is) in
     one_more c.args.links.now c.args.place c.rivals.other _ c.index-links-other.result c.index-links-place.result c.outdoes.result rival here c.outdoes.ensures.exact
     c.if-outdoes.false refl c.rivals.invariant
 
 pub returns-then-outdoes-clause-exact : goal.returns-then-outdoes-clause-exact
 returns-then-outdoes-clause-exact c = λ heard l at.
     let rival = slice_get-get_or c.args.links.now c.rivals.other c.index-links-other.result (omega (arith, c.rivals-test.true))
-        ∙ ap (λ (x : Link). Some x) (sym c.index-links-other.is) in
+    ∙ ap (λ (x : Link). Some x) (sym c.index-links-other.is) in
     let here = slice_get-get_or c.args.links.now c.args.place c.index-links-place.result (omega (arith, c.requires))
-        ∙ ap (λ (x : Link). Some x) (sym c.index-links-place.is) in
+    ∙ ap (λ (x : Link). Some x) (sym c.index-links-place.is) in
     some_beats c.args.links.now c.args.place c.rivals.other c.index-links-other.result c.index-links-place.result c.outdoes.result rival here c.outdoes.ensures.exact
     c.if-outdoes.true c.rivals.invariant heard l at
 

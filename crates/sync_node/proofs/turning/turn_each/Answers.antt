@@ -41,10 +41,10 @@ links-preserved g c =
       course = λ first attached whole.
           let works = c.links.invariant.works first attached in
           let is : c.if-still.still ≡ (c.links.still && c.in_ok-quiet.quiet) =
-              elim c.if-still.branch [
-                | then-still w ↦ still_then c.links.still c.in_ok-quiet.quiet c.if-still.still w.if-still.true w.still-is
-                | else-still w ↦ still_else c.links.still c.in_ok-quiet.quiet c.if-still.still w.if-still.false w.still-is
-              ] in
+          elim c.if-still.branch [
+            | then-still w ↦ still_then c.links.still c.in_ok-quiet.quiet c.if-still.still w.if-still.true w.still-is
+            | else-still w ↦ still_else c.links.still c.in_ok-quiet.quiet c.if-still.still w.if-still.false w.still-is
+          ] in
           turns_next _ first c.links.place _ c.links.links _ _ _ _ _ c.links.still here (works.attached.each c.links.place _ here).numbered
           (c.links.invariant.course first attached whole) c.turn_link.new.link _ _ c.in_ok-quiet.quiet
           (c.in_ok-quiet.ensures.course (c.links.invariant.whole ∙ whole)) (c.links.place + 1) c.if-still.still refl is;

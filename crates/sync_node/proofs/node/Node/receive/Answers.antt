@@ -1,9 +1,8 @@
-use Rattle.std.proofs.Common.{◌≡◌, ◌<◌, List, ℕ, arith, refl, ap, sym, ◌∙◌, subst, length, Some}
+use Rattle.std.proofs.Common.{Bool, ◌<◌, List, ℕ, arith, refl, ap, sym, ◌∙◌, length, Some}
 use Rattle.std.specs.List.{slice_get}
 use Rattle.std.proofs.lemmas.Option.{slice_get-get_or}
-use Rattle.sync_node.specs.declared.link.Link.{Link}
 use Rattle.sync_node.specs.Node.{NodeValue}
-use Rattle.sync_node.proofs.NodeLaws.{all_safe, is_closed_node, is_node, kept_long, length_set, link_able, links_go_on, links_one, node_keeps, node_may, node_safe, node_same, stays_closed, works_safe}
+use Rattle.sync_node.proofs.NodeLaws.{fault_answers, all_safe, is_closed_node, is_node, kept_long, length_set, link_able, links_go_on, links_one, node_keeps, node_may, node_safe, node_same, stays_closed}
 use Rattle.sync_node.proofs.node.Node.receive.Goals as goal
 
 pub same-self : goal.same-self
@@ -50,14 +49,18 @@ pub invariant_of-self : goal.invariant_of-self
 invariant_of-self g c =
     let within : c.args.link < length c.self.inside.links.items = omega (arith, c.requires.attached, ap (λ (n : NodeValue). length n.links) c.self.view_is) in
     let here = slice_get-get_or c.self.inside.links.items c.args.link c.index_mut.result.now within ∙ ap Some (sym c.index_mut.ensures.value) in
-    let works = links_one _ c.self.inside.first c.args.link c.self.inside.links.items _ c.receive_on.new.link _ _ _ _ (c.self.invariant.1.attached c.if-self.false) here c.in-Ok.ensures.works c.in-Ok.ensures.waits in
-    (kept_long c.self.inside.buffer.len _ c.self.inside.buffer.items c.receive_on.new.buffer c.self.invariant.0 (omega (arith, c.as_mut_slice.ensures.len, ap (λ (b : List ℕ). length b) c.as_mut_slice.ensures.value))
-    (omega (arith, c.receive_on.auto.buffer, ap (λ (b : List ℕ). length b) c.as_mut_slice.ensures.value)), is_node _ _ _ _ (omega (arith, c.self.invariant.1.few, works.same_number)) works.attached)
+    let works = links_one _ c.self.inside.first c.args.link c.self.inside.links.items _ c.receive_on.new.link _ _ _ _ (c.self.invariant.1.attached c.if-self.false) here c.in-Ok.ensures.works c.in-Ok.ensures.waits in (
+      kept_long c.self.inside.buffer.len _ c.self.inside.buffer.items c.receive_on.new.buffer c.self.invariant.0 (omega (arith, c.as_mut_slice.ensures.len, ap (λ (b : List ℕ). length b) c.as_mut_slice.ensures.value))
+          (omega (arith, c.receive_on.auto.buffer, ap (λ (b : List ℕ). length b) c.as_mut_slice.ensures.value)),
+      is_node _ _ _ _ (omega (arith, c.self.invariant.1.few, works.same_number)) works.attached,
+    )
 
 pub invariant_of-self-in-Err : goal.invariant_of-self-in-Err
-invariant_of-self-in-Err g c =
-    (kept_long c.self.inside.buffer.len _ c.self.inside.buffer.items c.receive_on.new.buffer c.self.invariant.0 (omega (arith, c.as_mut_slice.ensures.len, ap (λ (b : List ℕ). length b) c.as_mut_slice.ensures.value))
-    (omega (arith, c.receive_on.auto.buffer, ap (λ (b : List ℕ). length b) c.as_mut_slice.ensures.value)), is_closed_node _ _ _ (omega (arith, c.self.invariant.1.few, length_set c.self.inside.links.items c.args.link c.receive_on.new.link)))
+invariant_of-self-in-Err g c = (
+  kept_long c.self.inside.buffer.len _ c.self.inside.buffer.items c.receive_on.new.buffer c.self.invariant.0 (omega (arith, c.as_mut_slice.ensures.len, ap (λ (b : List ℕ). length b) c.as_mut_slice.ensures.value))
+      (omega (arith, c.receive_on.auto.buffer, ap (λ (b : List ℕ). length b) c.as_mut_slice.ensures.value)),
+  is_closed_node _ _ _ (omega (arith, c.self.invariant.1.few, length_set c.self.inside.links.items c.args.link c.receive_on.new.link)),
+)
 
 pub returns-in-Ok-clause-closed : goal.returns-in-Ok-clause-closed
 returns-in-Ok-clause-closed g c = λ closed. absurd (let is = ap (λ (n : NodeValue). n.closed) c.self.view_is in let no = c.if-self.false in cc)
@@ -88,7 +91,7 @@ pub returns-in-Err-clause-closed : goal.returns-in-Err-clause-closed
 returns-in-Err-clause-closed g c = λ closed. absurd (let is = ap (λ (n : NodeValue). n.closed) c.self.view_is in let no = c.if-self.false in cc)
 
 pub returns-in-Err-clause-answer : goal.returns-in-Err-clause-answer
-returns-in-Err-clause-answer g c = λ _. refl
+returns-in-Err-clause-answer g c = λ _. fault_answers Bool c.in-Err.fault _ _ c.from.ensures refl
 
 pub returns-in-Err-clause-may : goal.returns-in-Err-clause-may
 returns-in-Err-clause-may g c = λ opened. cc

@@ -1,8 +1,7 @@
-use Rattle.std.proofs.Common.{◌≡◌, ◌<◌, List, ℕ, arith, refl, ap, sym, ◌∙◌, subst, length, Some}
+use Rattle.std.proofs.Common.{◌<◌, ℕ, arith, refl, ap, sym, ◌∙◌, length, Some}
 use Rattle.std.proofs.lemmas.Option.{slice_get-get_or}
-use Rattle.sync_node.specs.declared.link.Link.{Link}
 use Rattle.sync_node.specs.Node.{NodeValue}
-use Rattle.sync_node.proofs.NodeLaws.{all_safe, is_closed_node, is_node, kept_long, length_set, link_able, links_go_on, links_one, node_keeps, node_may, node_safe, node_same, stays_closed, works_safe}
+use Rattle.sync_node.proofs.NodeLaws.{fault_answers, all_safe, is_closed_node, is_node, length_set, link_able, links_go_on, links_one, node_keeps, node_may, node_safe, node_same, stays_closed}
 use Rattle.sync_node.proofs.node.Node.send_due.Goals as goal
 
 pub same-self : goal.same-self
@@ -76,7 +75,7 @@ pub returns-in-Err-clause-closed : goal.returns-in-Err-clause-closed
 returns-in-Err-clause-closed g c = λ closed. absurd (let is = ap (λ (n : NodeValue). n.closed) c.self.view_is in let no = c.if-self.false in cc)
 
 pub returns-in-Err-clause-answer : goal.returns-in-Err-clause-answer
-returns-in-Err-clause-answer g c = λ _. refl
+returns-in-Err-clause-answer g c = λ _. fault_answers ℕ c.in-Err.fault _ _ c.from.ensures refl
 
 pub returns-in-Err-clause-may : goal.returns-in-Err-clause-may
 returns-in-Err-clause-may g c = λ opened. cc

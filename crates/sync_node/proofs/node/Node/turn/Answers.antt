@@ -1,7 +1,8 @@
-use Rattle.std.proofs.Common.{◌≡◌, List, ℕ, arith, refl, ap, sym, ◌∙◌, subst, length}
+use Rattle.std.proofs.Common.{List, ℕ, arith, refl, ap, length}
 use Rattle.sync_node.specs.declared.link.Link.{Link}
+use Rattle.sync_node.specs.declared.node.Turned.{Turned}
 use Rattle.sync_node.specs.Node.{NodeValue}
-use Rattle.sync_node.proofs.NodeLaws.{attached_as, is_closed_node, is_node, kept_long, kept_same, links_as, may_as, node_keeps, node_may, node_safe, node_same, safe_as, some_as, stays_closed, works_safe}
+use Rattle.sync_node.proofs.NodeLaws.{fault_answers, attached_as, is_closed_node, is_node, kept_long, kept_same, links_as, may_as, node_keeps, node_may, node_safe, node_same, safe_as, some_as, stays_closed, works_safe}
 use Rattle.sync_node.proofs.node.Node.turn.Goals as goal
 
 pub same-self : goal.same-self
@@ -38,11 +39,12 @@ invariant_of-self g c =
     (kept_same c.self.inside.links.len c.self.inside.links.items c.turn_all.new.links
     (omega (arith, c.as_mut_slice.ensures.len, ap (λ (ls : List Link). length ls) c.as_mut_slice.ensures.value))
     (omega (arith, c.turn_all.auto.links, ap (λ (ls : List Link). length ls) c.as_mut_slice.ensures.value)))
-    (c.in-Ok-true.ensures.works c.self.inside.first (attached_as c.self.inside.first _ _ _ c.as_mut_slice.ensures.value (c.self.invariant.1.attached c.if-self.false)))) in
-    (kept_long c.self.inside.buffer.len _ c.self.inside.buffer.items c.turn_all.new.buffer c.self.invariant.0
-    (omega (arith, c.as_mut_slice-2.ensures.len, ap (λ (b : List ℕ). length b) c.as_mut_slice-2.ensures.value))
-    (omega (arith, c.turn_all.auto.buffer, ap (λ (b : List ℕ). length b) c.as_mut_slice-2.ensures.value)),
-    is_node _ _ _ _ (omega (arith, c.self.invariant.1.few, works.same_number)) works.attached)
+    (c.in-Ok-true.ensures.works c.self.inside.first (attached_as c.self.inside.first _ _ _ c.as_mut_slice.ensures.value (c.self.invariant.1.attached c.if-self.false)))) in (
+      kept_long c.self.inside.buffer.len _ c.self.inside.buffer.items c.turn_all.new.buffer c.self.invariant.0
+          (omega (arith, c.as_mut_slice-2.ensures.len, ap (λ (b : List ℕ). length b) c.as_mut_slice-2.ensures.value))
+          (omega (arith, c.turn_all.auto.buffer, ap (λ (b : List ℕ). length b) c.as_mut_slice-2.ensures.value)),
+      is_node _ _ _ _ (omega (arith, c.self.invariant.1.few, works.same_number)) works.attached,
+    )
 
 pub returns-in-Ok-true-clause-closed : goal.returns-in-Ok-true-clause-closed
 returns-in-Ok-true-clause-closed g c = λ closed. absurd (let is = ap (λ (n : NodeValue). n.closed) c.self.view_is in let no = c.if-self.false in cc)
@@ -83,11 +85,12 @@ invariant_of-self-in-Ok-false g c =
     (kept_same c.self.inside.links.len c.self.inside.links.items c.turn_all.new.links
     (omega (arith, c.as_mut_slice.ensures.len, ap (λ (ls : List Link). length ls) c.as_mut_slice.ensures.value))
     (omega (arith, c.turn_all.auto.links, ap (λ (ls : List Link). length ls) c.as_mut_slice.ensures.value)))
-    (c.in-Ok-false.ensures.works c.self.inside.first (attached_as c.self.inside.first _ _ _ c.as_mut_slice.ensures.value (c.self.invariant.1.attached c.if-self.false)))) in
-    (kept_long c.self.inside.buffer.len _ c.self.inside.buffer.items c.turn_all.new.buffer c.self.invariant.0
-    (omega (arith, c.as_mut_slice-2.ensures.len, ap (λ (b : List ℕ). length b) c.as_mut_slice-2.ensures.value))
-    (omega (arith, c.turn_all.auto.buffer, ap (λ (b : List ℕ). length b) c.as_mut_slice-2.ensures.value)),
-    is_node _ _ _ _ (omega (arith, c.self.invariant.1.few, works.same_number)) works.attached)
+    (c.in-Ok-false.ensures.works c.self.inside.first (attached_as c.self.inside.first _ _ _ c.as_mut_slice.ensures.value (c.self.invariant.1.attached c.if-self.false)))) in (
+      kept_long c.self.inside.buffer.len _ c.self.inside.buffer.items c.turn_all.new.buffer c.self.invariant.0
+          (omega (arith, c.as_mut_slice-2.ensures.len, ap (λ (b : List ℕ). length b) c.as_mut_slice-2.ensures.value))
+          (omega (arith, c.turn_all.auto.buffer, ap (λ (b : List ℕ). length b) c.as_mut_slice-2.ensures.value)),
+      is_node _ _ _ _ (omega (arith, c.self.invariant.1.few, works.same_number)) works.attached,
+    )
 
 pub returns-in-Ok-false-clause-closed : goal.returns-in-Ok-false-clause-closed
 returns-in-Ok-false-clause-closed g c = λ closed. absurd (let is = ap (λ (n : NodeValue). n.closed) c.self.view_is in let no = c.if-self.false in cc)
@@ -123,20 +126,27 @@ returns-in-Ok-false-clause-safe g c =
     (c.in-Ok-false.ensures.works c.self.inside.first (attached_as c.self.inside.first _ _ _ c.as_mut_slice.ensures.value (c.self.invariant.1.attached c.if-self.false)))))
 
 pub invariant_of-self-in-Err : goal.invariant_of-self-in-Err
-invariant_of-self-in-Err g c =
-    (kept_long c.self.inside.buffer.len _ c.self.inside.buffer.items c.turn_all.new.buffer c.self.invariant.0
-    (omega (arith, c.as_mut_slice-2.ensures.len, ap (λ (b : List ℕ). length b) c.as_mut_slice-2.ensures.value))
-    (omega (arith, c.turn_all.auto.buffer, ap (λ (b : List ℕ). length b) c.as_mut_slice-2.ensures.value)),
-    is_closed_node _ _ _ (omega (arith, c.self.invariant.1.few, ap (λ (ls : List Link). length ls)
-    (kept_same c.self.inside.links.len c.self.inside.links.items c.turn_all.new.links
-    (omega (arith, c.as_mut_slice.ensures.len, ap (λ (ls : List Link). length ls) c.as_mut_slice.ensures.value))
-    (omega (arith, c.turn_all.auto.links, ap (λ (ls : List Link). length ls) c.as_mut_slice.ensures.value))), c.turn_all.auto.links, ap (λ (ls : List Link). length ls) c.as_mut_slice.ensures.value)))
+invariant_of-self-in-Err g c = (
+  kept_long c.self.inside.buffer.len _ c.self.inside.buffer.items c.turn_all.new.buffer c.self.invariant.0
+      (omega (arith, c.as_mut_slice-2.ensures.len, ap (λ (b : List ℕ). length b) c.as_mut_slice-2.ensures.value))
+      (omega (arith, c.turn_all.auto.buffer, ap (λ (b : List ℕ). length b) c.as_mut_slice-2.ensures.value)),
+  is_closed_node _ _ _ (omega (
+    arith,
+    c.self.invariant.1.few,
+    ap (λ (ls : List Link). length ls)
+        (kept_same c.self.inside.links.len c.self.inside.links.items c.turn_all.new.links
+        (omega (arith, c.as_mut_slice.ensures.len, ap (λ (ls : List Link). length ls) c.as_mut_slice.ensures.value))
+        (omega (arith, c.turn_all.auto.links, ap (λ (ls : List Link). length ls) c.as_mut_slice.ensures.value))),
+    c.turn_all.auto.links,
+    ap (λ (ls : List Link). length ls) c.as_mut_slice.ensures.value,
+  )),
+)
 
 pub returns-in-Err-clause-closed : goal.returns-in-Err-clause-closed
 returns-in-Err-clause-closed g c = λ closed. absurd (let is = ap (λ (n : NodeValue). n.closed) c.self.view_is in let no = c.if-self.false in cc)
 
 pub returns-in-Err-clause-answer : goal.returns-in-Err-clause-answer
-returns-in-Err-clause-answer g c = λ _. refl
+returns-in-Err-clause-answer g c = λ _. fault_answers Turned c.in-Err.fault _ _ c.from.ensures refl
 
 pub returns-in-Err-clause-may : goal.returns-in-Err-clause-may
 returns-in-Err-clause-may g c = λ opened. cc
