@@ -1,0 +1,5 @@
+use Rattle.sync_node.specs.Redundant.{ClosesSome}
+use Rattle.sync_node.proofs.redundant.close_redundant.Given as goal
+
+abbrev pub invariant-links : goal.invariant-links
+invariant-links l = ClosesSome l.initial.links l.links

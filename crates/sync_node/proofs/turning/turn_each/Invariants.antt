@@ -1,0 +1,11 @@
+use Rattle.std.proofs.Common.{ℕ, ◌<◌, length}
+use Rattle.sync_node.specs.Node.{AreAttached, LinksWork, MayGoOn}
+use Rattle.sync_node.proofs.turning.turn_each.Given as goal
+
+abbrev pub invariant-links : goal.invariant-links
+invariant-links g l = record {
+  may : MayGoOn (g.C.Clients.meaning l.clients) l.links l.store (g.H.Disk.tells l.host);
+  works : (first : ℕ) → AreAttached first l.initial.links l.initial.store.state.facts
+      → LinksWork (g.C.Clients.meaning l.clients) first l.initial.links l.links l.initial.store l.store (g.H.Disk.tells l.initial.host) (g.H.Disk.tells l.host);
+  room : 0 < length l.buffer;
+}

@@ -1,0 +1,17 @@
+pub mod Faults
+pub mod Ends
+pub mod Output
+pub mod Suits
+pub mod Safe
+pub mod Going
+pub mod Joined
+pub mod Working
+pub mod Sending
+pub mod Hearing
+pub mod Taking
+pub mod Redundant
+pub mod Starting
+pub mod Adding
+pub mod Node
+pub mod Plans
+pub mod Cited

@@ -1,0 +1,97 @@
+//! What is due on a link is committed and sent.
+ghost use Rattle.std.specs.Prelude.{◌≡◌, ◌≢◌, ◌∷◌, ◌<◌, [], IfOk, OnErr, OnOk};
+ghost use Rattle.sync_rules.specs.Legal.{Allowed};
+ghost use Rattle.sync_rules.specs.declared.entries.Entry.TheVariants as entry;
+ghost use Rattle.sync_node.specs.Sending.{SendsOn};
+ghost use Rattle.sync_node.specs.Working.{IsAble, StaysSafe, Waits, Works};
+
+use crate::fault::Fault;
+use crate::link::{Link, LinkEnd};
+use crate::spelling::{batch_of, spell_out};
+use crate::told::{cite_laws, commit};
+use outside::Host;
+use std::alloc::Global;
+use sync_rules::{Clients, Entry, Out};
+use sync_store::Store;
+
+/// How many outputs a link commits and sends in one turn at most.
+pub const MOST_OUTS: u32 = 64;
+
+/// Commits and sends what is due on the link at this time, at most `MOST_OUTS` outputs, and answers
+/// how many. A failed send closes the link.
+pub(crate) fn send_all<H: Host, C: Clients>(
+    alloc: Global,
+    store: &mut Store,
+    host: &mut H,
+    clients: &C,
+    number: u8,
+    link: &mut Link,
+    now: u64,
+) -> Result<u32, Fault>
+    requires able { IsAble (C.meaning clients.now) number link.old.session store.old
+        (H.tells host.old) }
+    requires waits { Waits link.old }
+    ensures able { OnOk result (IsAble (C.meaning clients.now) number link.new.session store.new
+        (H.tells host.new)) }
+    ensures waits { OnOk result (Waits link.new) }
+    ensures works { OnOk result (Works (C.meaning clients.now) number [] [] link.old link.new
+        store.old store.new (H.tells host.old) (H.tells host.new)) }
+    ensures stays { OnErr result (StaysSafe (C.meaning clients.now) number [] link.old store.old
+        store.new (H.tells host.old) (H.tells host.new)) }
+{
+    let mut made = 0;
+    'outs: while made < MOST_OUTS && link.end.may_send() {
+        let Some(out) = store.due_on(link.session.number, now)? else {
+            return Ok(made);
+        };
+        put_out(alloc, store, host, clients, number, link, now, out)?;
+        made += 1;
+    }
+    Ok(made)
+}
+
+// Commits an output, and then sends it. It is spelled first, so that nothing may fail between the
+// two.
+fn put_out<H: Host, C: Clients>(
+    alloc: Global,
+    store: &mut Store,
+    host: &mut H,
+    clients: &C,
+    number: u8,
+    link: &mut Link,
+    now: u64,
+    out: Out,
+) -> Result<(), Fault>
+    requires able { IsAble (C.meaning clients.now) number link.old.session store.old
+        (H.tells host.old) }
+    requires waits { Waits link.old }
+    requires unfailed { link.old.end ≢ LinkEnd.Failed }
+    requires allowed { Allowed (C.meaning clients.now) store.old.state.facts
+        (entry.Out link.old.session.number now out ∷ []) }
+    ensures able { OnOk result (IsAble (C.meaning clients.now) number link.new.session store.new
+        (H.tells host.new)) }
+    ensures waits { OnOk result (Waits link.new) }
+    ensures works { OnOk result (Works (C.meaning clients.now) number [] [] link.old link.new
+        store.old store.new (H.tells host.old) (H.tells host.new)) }
+    ensures stays { OnErr result (StaysSafe (C.meaning clients.now) number [] link.old store.old
+        store.new (H.tells host.old) (H.tells host.new)) }
+{
+    cite_laws();
+    let bytes = spell_out(alloc, store, &out)?;
+    let batch = batch_of(alloc, Entry::Out(link.session.number, now, out))?;
+    commit(store, host, clients, batch)?;
+    let _room = store.end();
+    send_on(host, number, link, bytes.as_slice());
+    Ok(())
+}
+
+/// Sends on a link; a failed send closes it.
+pub(crate) fn send_on<H: Host>(host: &mut H, number: u8, link: &mut Link, bytes: &[u8])
+    requires { number < (H.tells host.old).links.dialled }
+    ensures { SendsOn number bytes.now link.old link.new (H.tells host.old) (H.tells host.new) }
+{
+    match host.send(number, bytes) {
+        Ok(()) => {}
+        Err(_) => link.end = LinkEnd::Failed,
+    }
+}
