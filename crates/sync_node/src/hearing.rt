@@ -1,6 +1,5 @@
 //! What is heard on a link is taken.
-ghost use Rattle.std.specs.Prelude.{◌≡◌, ◌+◌, ◌<◌, ◌++◌, ◌∷◌, [], false, true, length, IfOk, OnErr};
-ghost use Rattle.std.specs.Prelude.{OnOk};
+ghost use Rattle.std.specs.Prelude.{◌≡◌, ◌<◌, [], length, IfOk, OnErr, OnOk};
 ghost use Rattle.sync_node.specs.Hearing.{Learns};
 ghost use Rattle.sync_node.specs.Taking.{IsOpenFor, LeavesLess, TakesOn, TakesSafe};
 ghost use Rattle.sync_node.specs.Working.{IsAble, StaysSafe, Waits, Works};
