@@ -1,5 +1,0 @@
-//! Two nodes over hosts in memory.
-#![tactic(auto)]
-
-#[cfg(test)]
-mod pairs;
