@@ -9,3 +9,4 @@ mod StartLaws
 mod NodeLaws
 mod AttachLaws
 mod AddLaws
+mod CourseNode

@@ -61,7 +61,7 @@ pub length_from : (k : ℕ) (links : List Link) (heard : ℕ → List ℕ) → l
 length_from k [] heard = refl
 length_from k (x ∷ links) heard = ap suc (length_from (suc k) links heard)
 
-all_read : (n : ℕ) (links : List Link) (heard : ℕ → List ℕ) (l l' : Link) (bytes : List ℕ) → slice_get links n ≡ Some l → AllRead heard links → IsRead bytes l'
+pub all_read : (n : ℕ) (links : List Link) (heard : ℕ → List ℕ) (l l' : Link) (bytes : List ℕ) → slice_get links n ≡ Some l → AllRead heard links → IsRead bytes l'
     → AllRead (heard_with n bytes heard) (slice_set links n l')
 all_read n links heard l l' bytes at all read i x at_i =
     elim (cases_eq i n) [

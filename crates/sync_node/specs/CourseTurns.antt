@@ -496,7 +496,7 @@ module _ (clients : Meaning) (n now : ℕ) (l : Link) (s : StoreValue) (o o1 : O
 
 -- ---- a turn
 
-read_on : (heard : List ℕ) (m l' : Link) → l'.reader ≡ m.reader → (l'.end ≡ m.end) ⊎ (l'.end ≡ link_end.Failed) → IsRead heard m → IsRead heard l'
+pub read_on : (heard : List ℕ) (m l' : Link) → l'.reader ≡ m.reader → (l'.end ≡ m.end) ⊎ (l'.end ≡ link_end.Failed) → IsRead heard m → IsRead heard l'
 read_on heard m l' same end read going =
     elim end [
       | inl as_before ↦ subst (HasRead heard) (sym same) (read (sym as_before ∙ going))

@@ -1,6 +1,6 @@
 -- What a run does to a store and its disk, as a course: where the disk fits the store with a journal, and what the files stand for
 -- where a call was broken off.
-use Rattle.std.specs.Prelude.{◌≡◌, ◌⊎◌, ℕ, suc, ◌+◌, Bool, true, false, cond, ◌&&◌, nat_eq, nat_lt, slice_get, List, [], ◌∷◌, ◌++◌, Option, Some}
+use Rattle.std.specs.Prelude.{◌≡◌, ◌⊎◌, ℕ, suc, ◌+◌, Bool, true, false, cond, not, ◌&&◌, nat_eq, nat_lt, slice_get, List, [], ◌∷◌, ◌++◌, Option, Some}
 use Rattle.outside.specs.Files.{Two, File, read_files}
 use Rattle.outside.specs.Outside.{Outside}
 use Rattle.sync_rules.specs.declared.entries.Entry.{Entry}
@@ -24,9 +24,11 @@ use Rattle.sync_course.specs.ReadingLaws.{HasRead, IsReading}
 use Rattle.sync_node.specs.declared.link.Link.{Link}
 use Rattle.sync_node.specs.declared.link.LinkEnd.{LinkEnd}
 use Rattle.sync_node.specs.declared.link.LinkEnd.TheVariants as link_end
+use Rattle.sync_node.specs.declared.node.Turned.{Turned}
+use Rattle.sync_node.specs.declared.node.Turned.TheVariants as turned
 use Rattle.sync_course.specs.LinkTurns.{Asks, Doing, Done, LinkStep, Sends, Spot, Takes, Waits}
 use Rattle.sync_course.specs.Paths.{Breaks, Runs}
-use Rattle.sync_course.specs.Turns.{Place, RunStep, Stage, Terms, Works}
+use Rattle.sync_course.specs.Turns.{Between, Place, RunStep, Stage, Terms, Works, is_at_end}
 
 -- the files are told, and fit the store with this journal
 abbrev pub FitsWith : Meaning → StoreValue → Option (Two File) → List (List Entry) → Type 0
@@ -288,6 +290,61 @@ pub record TurnsAsCourse (clients : Meaning) (first n : ℕ) (links links' : Lis
 pub record TurnsStop (clients : Meaning) (first : ℕ) (links : List Link) (s : StoreValue) (o o' : Outside) : Type 0 where
   pub stops : (terms : Terms) (heard : ℕ → List ℕ) (moved : Bool) (still made : ℕ) → terms.first ≡ first → AllRead heard links
       → RunBreaks clients terms (place_at (Works 0 Asks) links heard moved still made s.state.facts) s o o'
+
+-- ---- a whole turn
+
+abbrev pub is_still : Turned → Bool
+is_still turned.Still = true
+is_still turned.Moving = false
+
+-- every link had its turn, and the redundant ones were closed
+pub record TurnMade (clients : Meaning) (terms : Terms) (links links' : List Link) (s s' : StoreValue) (o o' : Outside) (heard : ℕ → List ℕ) (moved : Bool) (still made : ℕ) (quiet : Bool) : Type 0 where
+  pub heard' : ℕ → List ℕ
+  pub has_read : AllRead heard' links'
+  pub runs : RunRuns clients terms (place_at Between links heard moved still made s.state.facts)
+      (place_at Between links' heard' (not quiet) (cond quiet (suc still) 0) (suc made) s'.state.facts) s s' o o'
+
+-- from a place between two turns that is not the end, a turn leads to the next one; it was still where nothing moved
+pub record MakesTurn (clients : Meaning) (first : ℕ) (links links' : List Link) (s s' : StoreValue) (o o' : Outside) (quiet : Bool) : Type 0 where
+  pub leads : (terms : Terms) (heard : ℕ → List ℕ) (moved : Bool) (still made : ℕ) → terms.first ≡ first → AllRead heard links
+      → is_at_end terms (place_at Between links heard moved still made s.state.facts) ≡ false
+      → TurnMade clients terms links links' s s' o o' heard moved still made quiet
+
+-- the turn was broken off
+pub record BreaksTurn (clients : Meaning) (first : ℕ) (links : List Link) (s : StoreValue) (o o' : Outside) : Type 0 where
+  pub stops : (terms : Terms) (heard : ℕ → List ℕ) (moved : Bool) (still made : ℕ) → terms.first ≡ first → AllRead heard links
+      → is_at_end terms (place_at Between links heard moved still made s.state.facts) ≡ false
+      → RunBreaks clients terms (place_at Between links heard moved still made s.state.facts) s o o'
+
+-- ---- one call on the link of this number, in its turn
+
+-- it was asked once; then it waits for the clock, or it is closed and its turn is done
+pub record Received (clients : Meaning) (terms : Terms) (n : ℕ) (links links' : List Link) (s s' : StoreValue) (o o' : Outside) (heard : ℕ → List ℕ) (moved : Bool) (still made : ℕ) (idle : Bool) : Type 0 where
+  pub heard' : ℕ → List ℕ
+  pub doing : Doing
+  pub has_read : AllRead heard' links'
+  pub ready : (l : Link) → slice_get links' n ≡ Some l → IsReadyToSend doing l
+  pub runs : RunRuns clients terms (place_at (Works n Asks) links heard moved still made s.state.facts)
+      (place_at (Works n doing) links' heard' (cond idle moved true) still made s'.state.facts) s s' o o'
+
+pub record Receives (clients : Meaning) (first n : ℕ) (links links' : List Link) (s s' : StoreValue) (o o' : Outside) (idle : Bool) : Type 0 where
+  pub leads : (terms : Terms) (heard : ℕ → List ℕ) (moved : Bool) (still made : ℕ) → terms.first ≡ first → AllRead heard links
+      → Received clients terms n links links' s s' o o' heard moved still made idle
+
+pub record BreaksReceiving (clients : Meaning) (first n : ℕ) (links : List Link) (s : StoreValue) (o o' : Outside) : Type 0 where
+  pub stops : (terms : Terms) (heard : ℕ → List ℕ) (moved : Bool) (still made : ℕ) → terms.first ≡ first → AllRead heard links
+      → RunBreaks clients terms (place_at (Works n Asks) links heard moved still made s.state.facts) s o o'
+
+-- all that is due on it at this reading was sent, so many outputs, and its turn is done
+pub record SendsDue (clients : Meaning) (first n now : ℕ) (links links' : List Link) (s s' : StoreValue) (o o' : Outside) (outs : ℕ) : Type 0 where
+  pub has_read : (heard : ℕ → List ℕ) → AllRead heard links → AllRead heard links'
+  pub runs : (terms : Terms) (heard : ℕ → List ℕ) (moved : Bool) (still made : ℕ) → terms.first ≡ first
+      → RunRuns clients terms (place_at (Works n (Sends now MAX_OUTPUTS)) links heard moved still made s.state.facts)
+      (place_at (Works n Done) links' heard (cond (nat_lt 0 outs) true moved) still made s'.state.facts) s s' o o'
+
+pub record BreaksSending (clients : Meaning) (first n now : ℕ) (links : List Link) (s : StoreValue) (o o' : Outside) : Type 0 where
+  pub stops : (terms : Terms) (heard : ℕ → List ℕ) (moved : Bool) (still made : ℕ) → terms.first ≡ first
+      → RunBreaks clients terms (place_at (Works n (Sends now MAX_OUTPUTS)) links heard moved still made s.state.facts) s o o'
 
 -- ---- redundant links
 

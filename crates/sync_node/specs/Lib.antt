@@ -20,3 +20,4 @@ pub mod CourseLaws
 pub mod CourseTurns
 pub mod CourseRuns
 pub mod CourseRedundant
+pub mod CourseCalls

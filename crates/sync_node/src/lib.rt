@@ -24,5 +24,4 @@ mod turning;
 
 pub use fault::NodeFault;
 pub use link::LinkEnd;
-pub use node::{Node, Plan, RECEIVE_LEN, Turned};
-pub use sending::MOST_OUTS;
+pub use node::{Node, Plan, Turned};

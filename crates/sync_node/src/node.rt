@@ -13,12 +13,10 @@ use crate::turning::turn_all;
 use outside::Host;
 use std::alloc::{AllocError, Global};
 use std::marker::Model;
+use sync_course::PIECE_LEN;
 use sync_ids::Nonce;
 use sync_rules::{Batch, Clients, Mode, Session};
 use sync_store::Store;
-
-/// The length of the buffer that a link is asked with, in bytes.
-pub const RECEIVE_LEN: usize = 65_536;
 
 /// What runs on a link.
 #[derive(Clone, Copy, Debug, PartialEq, Eq)]
@@ -61,7 +59,7 @@ impl Model for Node {
     ghost coded = { node_code };
 
     ghost use Rattle.sync_node.specs.Node.{IsNode};
-    ghost use Rattle.sync_node.specs.declared.node.TheConstants.{RECEIVE_LEN};
+    ghost use Rattle.sync_course.specs.declared.TheConstants.{PIECE_LEN};
 
     ghost view = { λ n. record {
       store = n.store;
@@ -70,7 +68,7 @@ impl Model for Node {
       closed = n.closed;
     } };
 
-    ghost invariant = { λ n. (length n.buffer.items ≡ RECEIVE_LEN) × IsNode (record {
+    ghost invariant = { λ n. (length n.buffer.items ≡ PIECE_LEN) × IsNode (record {
       store = n.store;
       first = n.first;
       links = n.links.items;
@@ -86,7 +84,7 @@ fn zeros(alloc: Global, len: usize) -> Result<Vec<u8>, AllocError>
 }
 
 impl Node {
-    ghost use Rattle.std.specs.Prelude.{[], true, slice_get, OnOk, Some};
+    ghost use Rattle.std.specs.Prelude.{[], true, slice_get, OnErr, OnOk, Some};
     ghost use Rattle.std.specs.Option.{option_map};
     ghost use Rattle.sync_node.specs.declared.link.Link.{Link};
     ghost use Rattle.outside.specs.Files.{Two, File};
@@ -98,6 +96,8 @@ impl Node {
     ghost use Rattle.sync_rules.specs.Steps.{IsSettled};
     ghost use Rattle.sync_node.specs.Node.{Answers, Attaches, KeepsJoined, KeepsSafe};
     ghost use Rattle.sync_node.specs.Node.{MayRun, PlansSafe, StaysClosed};
+    ghost use Rattle.sync_node.specs.Courses.{BreaksReceiving, BreaksSending, BreaksTurn};
+    ghost use Rattle.sync_node.specs.Courses.{MakesTurn, Receives, SendsDue, is_still};
     ghost use Rattle.sync_node.specs.Plans.{session_of};
     ghost use Rattle.sync_node.specs.Ends.{MaySend};
 
@@ -112,7 +112,7 @@ impl Node {
           closed = false;
         }) }
     {
-        let buffer = zeros(alloc, RECEIVE_LEN)?;
+        let buffer = zeros(alloc, PIECE_LEN)?;
         Ok(Node {
             alloc,
             first: store.sessions(),
@@ -258,6 +258,12 @@ impl Node {
             → StaysClosed self.old self.new host.old host.new result }
         ensures answer { self.old.closed ≡ false → Answers result self.new }
         ensures may { MayRun (C.meaning clients.now) self.new (H.tells host.new) }
+        ensures course { self.old.closed ≡ false → IfOk result (Receives (C.meaning clients.now)
+            self.old.first link self.old.links self.new.links self.old.store self.new.store
+            (H.tells host.old) (H.tells host.new)) }
+        ensures halts { self.old.closed ≡ false → OnErr result (BreaksReceiving
+            (C.meaning clients.now) self.old.first link self.old.links self.old.store
+            (H.tells host.old) (H.tells host.new)) }
         ensures joined { OnOk result (KeepsJoined (C.meaning clients.now) self.old self.new
             (H.tells host.old) (H.tells host.new)) }
         ensures safe { KeepsSafe (C.meaning clients.now) self.old self.new (H.tells host.old)
@@ -284,7 +290,7 @@ impl Node {
     }
 
     /// Commits and sends what is due at this time in milliseconds on a link that is attached and
-    /// not closed, at most `MOST_OUTS` outputs, and answers how many that were.
+    /// not closed, at most `MAX_OUTPUTS` outputs, and answers how many that were.
     pub fn send_due<H: Host, C: Clients>(
         &mut self,
         host: &mut H,
@@ -300,6 +306,12 @@ impl Node {
             → StaysClosed self.old self.new host.old host.new result }
         ensures answer { self.old.closed ≡ false → Answers result self.new }
         ensures may { MayRun (C.meaning clients.now) self.new (H.tells host.new) }
+        ensures course { self.old.closed ≡ false → IfOk result (SendsDue (C.meaning clients.now)
+            self.old.first link now self.old.links self.new.links self.old.store self.new.store
+            (H.tells host.old) (H.tells host.new)) }
+        ensures halts { self.old.closed ≡ false → OnErr result (BreaksSending
+            (C.meaning clients.now) self.old.first link now self.old.links self.old.store
+            (H.tells host.old) (H.tells host.new)) }
         ensures joined { OnOk result (KeepsJoined (C.meaning clients.now) self.old self.new
             (H.tells host.old) (H.tells host.new)) }
         ensures safe { KeepsSafe (C.meaning clients.now) self.old self.new (H.tells host.old)
@@ -337,6 +349,12 @@ impl Node {
             → StaysClosed self.old self.new host.old host.new result }
         ensures answer { self.old.closed ≡ false → Answers result self.new }
         ensures may { MayRun (C.meaning clients.now) self.new (H.tells host.new) }
+        ensures course { self.old.closed ≡ false → IfOk result (λ turned. MakesTurn
+            (C.meaning clients.now) self.old.first self.old.links self.new.links self.old.store
+            self.new.store (H.tells host.old) (H.tells host.new) (is_still turned)) }
+        ensures halts { self.old.closed ≡ false → OnErr result (BreaksTurn (C.meaning clients.now)
+            self.old.first self.old.links self.old.store (H.tells host.old)
+            (H.tells host.new)) }
         ensures joined { OnOk result (KeepsJoined (C.meaning clients.now) self.old self.new
             (H.tells host.old) (H.tells host.new)) }
         ensures safe { KeepsSafe (C.meaning clients.now) self.old self.new (H.tells host.old)

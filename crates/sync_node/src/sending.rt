@@ -1,5 +1,5 @@
 //! What is due on a link is committed and sent.
-ghost use Rattle.std.specs.Prelude.{◌≢◌, ◌∷◌, ◌<◌, [], OnErr, OnOk};
+ghost use Rattle.std.specs.Prelude.{◌≢◌, ◌∷◌, ◌<◌, [], IfOk, OnErr, OnOk};
 ghost use Rattle.sync_rules.specs.Legal.{Allowed};
 ghost use Rattle.sync_rules.specs.declared.entries.Entry.TheVariants as entry;
 ghost use Rattle.sync_node.specs.Courses.{PutsAsCourse, PutsStop, SentAsCourse, SentStops};
@@ -13,13 +13,11 @@ use crate::spelling::{batch_of, spell_out};
 use crate::told::{cite_laws, commit};
 use outside::Host;
 use std::alloc::Global;
+use sync_course::MAX_OUTPUTS;
 use sync_rules::{Clients, Entry, Out};
 use sync_store::Store;
 
-/// How many outputs a link commits and sends in one turn at most.
-pub const MOST_OUTS: u32 = 64;
-
-/// Commits and sends what is due on the link at this time, at most `MOST_OUTS` outputs, and answers
+/// Commits and sends what is due on the link at this time, at most `MAX_OUTPUTS` outputs, and answers
 /// how many. A failed send closes the link.
 pub(crate) fn send_all<H: Host, C: Clients>(
     alloc: Global,
@@ -46,7 +44,7 @@ pub(crate) fn send_all<H: Host, C: Clients>(
         store.new (H.tells host.old) (H.tells host.new)) }
 {
     let mut made = 0;
-    'outs: while made < MOST_OUTS && link.end.may_send() {
+    'outs: while made < MAX_OUTPUTS && link.end.may_send() {
         let Some(out) = store.due_on(link.session.number, now)? else {
             return Ok(made);
         };

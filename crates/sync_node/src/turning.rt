@@ -1,6 +1,7 @@
 //! A turn: of one link, and of all links in order.
 ghost use Rattle.std.specs.Prelude.{◌≡◌, ℕ, ◌<◌, ◌≤◌, [], length, IfOk, OnErr, OnOk};
 ghost use Rattle.sync_course.specs.declared.TheConstants.{PIECE_LEN};
+ghost use Rattle.sync_node.specs.Courses.{BreaksTurn, MakesTurn};
 ghost use Rattle.sync_node.specs.Courses.{HearsAsCourse, HearsStops, SendsAsCourse, SendsStop};
 ghost use Rattle.sync_node.specs.Courses.{TurnAsCourse, TurnsAsCourse, TurnsStop};
 ghost use Rattle.outside.specs.declared.limits.TheConstants.{LINKS};
@@ -20,7 +21,6 @@ use sync_store::Store;
 
 /// Makes the turn of each link in order, and then closes the redundant ones. Answers whether all
 /// links were still.
-
 pub(crate) fn turn_all<H: Host, C: Clients>(
     alloc: Global,
     store: &mut Store,
@@ -35,6 +35,12 @@ pub(crate) fn turn_all<H: Host, C: Clients>(
     requires room { 0 < length buffer.old }
     ensures may { OnOk result (MayGoOn (C.meaning clients.now) links.new store.new
         (H.tells host.new)) }
+    ensures course { (first : ℕ) → AreAttached first links.old store.old.state.facts
+        → length buffer.old ≡ PIECE_LEN → IfOk result (MakesTurn (C.meaning clients.now) first
+        links.old links.new store.old store.new (H.tells host.old) (H.tells host.new)) }
+    ensures halts { (first : ℕ) → AreAttached first links.old store.old.state.facts
+        → length buffer.old ≡ PIECE_LEN → OnErr result (BreaksTurn (C.meaning clients.now) first
+        links.old store.old (H.tells host.old) (H.tells host.new)) }
     ensures works { (first : ℕ) → AreAttached first links.old store.old.state.facts
         → OnOk result (LinksWork (C.meaning clients.now) first links.old links.new store.old
         store.new (H.tells host.old) (H.tells host.new)) }
@@ -48,7 +54,6 @@ pub(crate) fn turn_all<H: Host, C: Clients>(
 }
 
 // Makes the turn of each link in order. Answers whether all were still.
-
 fn turn_each<H: Host, C: Clients>(
     alloc: Global,
     store: &mut Store,

@@ -1,5 +1,5 @@
 use Rattle.std.proofs.Common.{◌-◌, []}
-use Rattle.sync_node.specs.declared.sending.TheConstants.{MOST_OUTS}
+use Rattle.sync_course.specs.declared.TheConstants.{MAX_OUTPUTS}
 use Rattle.sync_node.specs.Courses.{OutsAsCourse}
 use Rattle.sync_node.specs.Working.{IsAble, Waits, Works}
 use Rattle.sync_node.proofs.sending.send_all.Given as goal
@@ -13,4 +13,4 @@ invariant-outs g l = record {
 }
 
 abbrev pub decreases-outs : goal.decreases-outs
-decreases-outs g l = MOST_OUTS - l.made
+decreases-outs g l = MAX_OUTPUTS - l.made

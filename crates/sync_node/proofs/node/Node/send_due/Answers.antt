@@ -1,7 +1,10 @@
 use Rattle.std.proofs.Common.{◌<◌, ℕ, arith, refl, ap, sym, ◌∙◌, length, Some}
+use Rattle.std.specs.List.{slice_get}
 use Rattle.std.proofs.lemmas.Option.{slice_get-get_or}
 use Rattle.sync_node.specs.Node.{NodeValue}
 use Rattle.sync_node.proofs.NodeLaws.{fault_answers, all_safe, is_closed_node, is_node, length_set, link_able, links_go_on, links_one, node_keeps, node_may, node_safe, node_same, stays_closed}
+use Rattle.sync_node.specs.CourseCalls.{sending_broken, sends_due}
+use Rattle.sync_node.proofs.CourseNode.{node_sending_broken, node_sends}
 use Rattle.sync_node.proofs.node.Node.send_due.Goals as goal
 
 pub same-self : goal.same-self
@@ -86,3 +89,24 @@ returns-in-Err-clause-safe g c =
     let here = slice_get-get_or c.self.inside.links.items c.args.link c.index_mut.result.now within ∙ ap Some (sym c.index_mut.ensures.value) in
     node_safe _ _ _ c.self.inside.first c.self.inside.links.items _ c.self.inside.closed _ _ _ _ c.self.view_is
     (record { safe = all_safe _ c.self.inside.first c.args.link c.self.inside.links.items _ _ _ _ _ (c.self.invariant.1.attached c.if-self.false) here c.in-Err.ensures.stays })
+
+pub returns-then-self-clause-halts : goal.returns-then-self-clause-halts
+returns-then-self-clause-halts g c = λ opened. absurd (let yes = ap (λ (n : NodeValue). n.closed) c.self.view_is in let is = c.if-self.true in cc)
+
+pub returns-in-Ok-clause-course : goal.returns-in-Ok-clause-course
+returns-in-Ok-clause-course g c = λ opened.
+    let within : c.args.link < length c.self.inside.links.items = omega (arith, c.requires.attached, ap (λ (n : NodeValue). length n.links) c.self.view_is) in
+    let here = slice_get-get_or c.self.inside.links.items c.args.link c.index_mut.result.now within ∙ ap Some (sym c.index_mut.ensures.value) in
+    let numbered = ((c.self.invariant.1.attached c.if-self.false).each c.args.link _ here).numbered in
+    let may = c.requires.unclosed _ (ap (λ (n : NodeValue). slice_get n.links c.args.link) (sym c.self.view_is) ∙ here) in
+    node_sends _ _ c.self.inside.first _ c.self.inside.closed _ _ _ c.self.view_is c.args.link c.args.now _ _ c.in-Ok.made
+    (sends_due _ c.self.inside.first c.args.link c.self.inside.links.items _ _ _ here numbered c.args.now may c.send_all.new.link _ _ c.in-Ok.made (c.in-Ok.ensures.course may))
+
+pub returns-in-Err-clause-halts : goal.returns-in-Err-clause-halts
+returns-in-Err-clause-halts g c = λ opened.
+    let within : c.args.link < length c.self.inside.links.items = omega (arith, c.requires.attached, ap (λ (n : NodeValue). length n.links) c.self.view_is) in
+    let here = slice_get-get_or c.self.inside.links.items c.args.link c.index_mut.result.now within ∙ ap Some (sym c.index_mut.ensures.value) in
+    let numbered = ((c.self.invariant.1.attached c.if-self.false).each c.args.link _ here).numbered in
+    let may = c.requires.unclosed _ (ap (λ (n : NodeValue). slice_get n.links c.args.link) (sym c.self.view_is) ∙ here) in
+    node_sending_broken _ _ c.self.inside.first _ c.self.inside.closed _ _ _ c.self.view_is c.args.link c.args.now
+    (sending_broken _ c.self.inside.first c.args.link c.self.inside.links.items _ _ _ here numbered c.args.now may _ (c.in-Err.ensures.stops may))

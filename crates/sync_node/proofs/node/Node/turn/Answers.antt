@@ -1,8 +1,9 @@
-use Rattle.std.proofs.Common.{List, ℕ, arith, refl, ap, length}
+use Rattle.std.proofs.Common.{List, ℕ, arith, refl, ap, ◌∙◌, length}
 use Rattle.sync_node.specs.declared.link.Link.{Link}
 use Rattle.sync_node.specs.declared.node.Turned.{Turned}
 use Rattle.sync_node.specs.Node.{NodeValue}
 use Rattle.sync_node.proofs.NodeLaws.{fault_answers, attached_as, is_closed_node, is_node, kept_long, kept_same, links_as, may_as, node_keeps, node_may, node_safe, node_same, safe_as, some_as, stays_closed, works_safe}
+use Rattle.sync_node.proofs.CourseNode.{node_turn_broken, node_turns}
 use Rattle.sync_node.proofs.node.Node.turn.Goals as goal
 
 pub same-self : goal.same-self
@@ -155,3 +156,30 @@ pub returns-in-Err-clause-safe : goal.returns-in-Err-clause-safe
 returns-in-Err-clause-safe g c =
     node_safe _ _ _ c.self.inside.first c.self.inside.links.items _ c.self.inside.closed _ _ _ _ c.self.view_is
     (safe_as _ _ _ _ _ _ _ _ c.as_mut_slice.ensures.value (c.in-Err.ensures.safe c.self.inside.first (attached_as c.self.inside.first _ _ _ c.as_mut_slice.ensures.value (c.self.invariant.1.attached c.if-self.false))))
+
+pub returns-then-self-clause-halts : goal.returns-then-self-clause-halts
+returns-then-self-clause-halts g c = λ opened. absurd (let yes = ap (λ (n : NodeValue). n.closed) c.self.view_is in let is = c.if-self.true in cc)
+
+pub returns-in-Ok-true-clause-course : goal.returns-in-Ok-true-clause-course
+returns-in-Ok-true-clause-course g c = λ opened.
+    node_turns _ _ c.self.inside.first _ c.self.inside.closed _ _ _ c.self.view_is _ _ _ _ _ _ c.as_mut_slice.ensures.value
+    (kept_same c.self.inside.links.len c.self.inside.links.items c.turn_all.new.links
+    (omega (arith, c.as_mut_slice.ensures.len, ap (λ (ls : List Link). length ls) c.as_mut_slice.ensures.value))
+    (omega (arith, c.turn_all.auto.links, ap (λ (ls : List Link). length ls) c.as_mut_slice.ensures.value)))
+    c.in-Ok-true.field-0-test (c.in-Ok-true.ensures.course c.self.inside.first (attached_as c.self.inside.first _ _ _ c.as_mut_slice.ensures.value (c.self.invariant.1.attached c.if-self.false))
+    (ap (λ (b : List ℕ). length b) c.as_mut_slice-2.ensures.value ∙ c.self.invariant.0))
+
+pub returns-in-Ok-false-clause-course : goal.returns-in-Ok-false-clause-course
+returns-in-Ok-false-clause-course g c = λ opened.
+    node_turns _ _ c.self.inside.first _ c.self.inside.closed _ _ _ c.self.view_is _ _ _ _ _ _ c.as_mut_slice.ensures.value
+    (kept_same c.self.inside.links.len c.self.inside.links.items c.turn_all.new.links
+    (omega (arith, c.as_mut_slice.ensures.len, ap (λ (ls : List Link). length ls) c.as_mut_slice.ensures.value))
+    (omega (arith, c.turn_all.auto.links, ap (λ (ls : List Link). length ls) c.as_mut_slice.ensures.value)))
+    c.in-Ok-false.field-0-test (c.in-Ok-false.ensures.course c.self.inside.first (attached_as c.self.inside.first _ _ _ c.as_mut_slice.ensures.value (c.self.invariant.1.attached c.if-self.false))
+    (ap (λ (b : List ℕ). length b) c.as_mut_slice-2.ensures.value ∙ c.self.invariant.0))
+
+pub returns-in-Err-clause-halts : goal.returns-in-Err-clause-halts
+returns-in-Err-clause-halts g c = λ opened.
+    node_turn_broken _ _ c.self.inside.first _ c.self.inside.closed _ _ _ c.self.view_is _ c.as_mut_slice.ensures.value
+    (c.in-Err.ensures.halts c.self.inside.first (attached_as c.self.inside.first _ _ _ c.as_mut_slice.ensures.value (c.self.invariant.1.attached c.if-self.false))
+    (ap (λ (b : List ℕ). length b) c.as_mut_slice-2.ensures.value ∙ c.self.invariant.0))
