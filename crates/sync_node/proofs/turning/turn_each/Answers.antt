@@ -5,7 +5,7 @@ use Rattle.sync_node.proofs.WorkLaws.{on_err}
 use Rattle.sync_node.proofs.turning.turn_each.Goals as goal
 
 pub links-init : goal.links-init
-links-init g c = record { may = c.requires.may; works = λ first attached. links_none _ _ _ _ _ attached; room = c.requires.room }
+links-init g c = record { may = c.requires.may; works = λ first attached. links_none _ _ _ _ _ attached; room = c.requires.room; later = omega arith }
 
 pub turn_link-requires-clause-able : goal.turn_link-requires-clause-able
 turn_link-requires-clause-able g c =
@@ -37,4 +37,5 @@ links-preserved g c =
           links_then _ first _ c.links.links _ _ _ _ _ _ _ works
           (links_one _ first c.links.place c.links.links _ c.turn_link.new.link _ _ _ _ works.attached here c.in_ok-quiet.ensures.works c.in_ok-quiet.ensures.waits);
       room = omega (arith, c.links.invariant.room, c.turn_link.auto.buffer);
+      later = omega (arith, c.links.invariant.later, c.in_ok-quiet.ensures.works.goes.later);
     }

@@ -1,4 +1,4 @@
-use Rattle.std.proofs.Common.{ℕ, ◌<◌, length}
+use Rattle.std.proofs.Common.{ℕ, ◌<◌, ◌≤◌, length}
 use Rattle.sync_node.specs.Node.{AreAttached, LinksWork, MayGoOn}
 use Rattle.sync_node.proofs.turning.turn_each.Given as goal
 
@@ -8,4 +8,5 @@ invariant-links g l = record {
   works : (first : ℕ) → AreAttached first l.initial.links l.initial.store.state.facts
       → LinksWork (g.C.Clients.meaning l.clients) first l.initial.links l.links l.initial.store l.store (g.H.Disk.tells l.initial.host) (g.H.Disk.tells l.host);
   room : 0 < length l.buffer;
+  later : (g.H.Disk.tells l.initial.host).disk_faults ≤ (g.H.Disk.tells l.host).disk_faults;
 }
