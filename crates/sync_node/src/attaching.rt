@@ -1,4 +1,6 @@
 //! A session that begins on a link.
+ghost use Rattle.std.specs.Prelude.{IsErrOf};
+ghost use Rattle.outside.specs.Faults.{Rose};
 ghost use Rattle.std.specs.Prelude.{◌≡◌, ◌<◌, ◌++◌, ◌∷◌, [], IfOk, OnErr, OnOk};
 ghost use Rattle.record_stream.specs.Reading.{AwaitsBytes, fresh};
 ghost use Rattle.sync_rules.specs.Legal.{Allowed};
@@ -38,6 +40,8 @@ pub(crate) fn attach_on<H: Host, C: Clients>(
     ensures same { OnErr result (links.new.items ≡ links.old.items) }
     ensures safe { StartsSafe (C.meaning clients.now) number session store.old store.new
         (H.tells host.old) (H.tells host.new) }
+    ensures fault { IsErrOf result Fault.DiskFault → Rose (H.tells host.old).disk_faults
+        (H.tells host.new).disk_faults }
 {
     cite_laws();
     let reader = Reader::new(alloc)?;
@@ -68,6 +72,8 @@ fn start<H: Host, C: Clients>(
         store.old store.new (H.tells host.old) (H.tells host.new)) }
     ensures safe { StartsSafe (C.meaning clients.now) number session store.old store.new
         (H.tells host.old) (H.tells host.new) }
+    ensures fault { IsErrOf result Fault.DiskFault → Rose (H.tells host.old).disk_faults
+        (H.tells host.new).disk_faults }
 {
     cite_laws();
     let versions = spell_versions(alloc)?;

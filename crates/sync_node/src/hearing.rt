@@ -1,6 +1,7 @@
 //! What is heard on a link is taken.
 ghost use Rattle.std.specs.Prelude.{◌≡◌, ◌+◌, ◌<◌, ◌++◌, ◌∷◌, [], false, true, length, IfOk, OnErr};
-ghost use Rattle.std.specs.Prelude.{OnOk};
+ghost use Rattle.std.specs.Prelude.{IsErrOf, OnOk};
+ghost use Rattle.outside.specs.Faults.{Rose};
 ghost use Rattle.sync_course.specs.declared.TheConstants.{PIECE_LEN};
 ghost use Rattle.sync_node.specs.Courses.{HearsAsCourse, HearsStops};
 ghost use Rattle.sync_node.specs.Courses.{NextAsCourse, NextStops, PieceTaken, StopsAsCourse};
@@ -49,6 +50,8 @@ pub(crate) fn receive_on<H: Host, C: Clients>(
         store.old store.new (H.tells host.old) (H.tells host.new)) }
     ensures stays { OnErr result (StaysSafe (C.meaning clients.now) number [] link.old store.old
         store.new (H.tells host.old) (H.tells host.new)) }
+    ensures fault { IsErrOf result Fault.DiskFault → Rose (H.tells host.old).disk_faults
+        (H.tells host.new).disk_faults }
 {
     cite_laws();
     match host.recv(number, buffer) {
@@ -94,6 +97,8 @@ fn take_piece<H: Host, C: Clients>(
         store.old store.new (H.tells host.old) (H.tells host.new)) }
     ensures stays { OnErr result (StaysSafe (C.meaning clients.now) number piece.old link.old
         store.old store.new (H.tells host.old) (H.tells host.new)) }
+    ensures fault { IsErrOf result Fault.DiskFault → Rose (H.tells host.old).disk_faults
+        (H.tells host.new).disk_faults }
 {
     'items: while link.end.is_asked() {
         if !take_next(alloc, store, host, clients, number, link, piece)? {
@@ -128,6 +133,8 @@ fn take_next<H: Host, C: Clients>(
         link.new store.old store.new (H.tells host.old) (H.tells host.new)) }
     ensures stays { OnErr result (StaysSafe (C.meaning clients.now) number piece.old link.old
         store.old store.new (H.tells host.old) (H.tells host.new)) }
+    ensures fault { IsErrOf result Fault.DiskFault → Rose (H.tells host.old).disk_faults
+        (H.tells host.new).disk_faults }
 {
     cite_laws();
     match link.reader.next_in(piece)? {
@@ -183,6 +190,8 @@ fn take_one<H: Host, C: Clients>(
         store.new (H.tells host.old) (H.tells host.new)) }
     ensures safe { TakesSafe (C.meaning clients.now) session.now rec store.old store.new
         (H.tells host.old) (H.tells host.new) }
+    ensures fault { IsErrOf result Fault.DiskFault → Rose (H.tells host.old).disk_faults
+        (H.tells host.new).disk_faults }
 {
     records_are_within(&rec);
     let taken = store.takes(session.number);

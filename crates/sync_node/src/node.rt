@@ -87,6 +87,8 @@ impl Node {
     ghost use Rattle.std.specs.Prelude.{[], true, slice_get, OnErr, OnOk, Some};
     ghost use Rattle.std.specs.Option.{option_map};
     ghost use Rattle.sync_node.specs.declared.link.Link.{Link};
+    ghost use Rattle.std.specs.Prelude.{IsErrOf};
+    ghost use Rattle.outside.specs.Faults.{Rose};
     ghost use Rattle.outside.specs.Files.{Two, File};
     ghost use Rattle.sync_rules.specs.Legal.{Allowed, suits_nonce};
     ghost use Rattle.sync_store.specs.Fitting.{Fits};
@@ -170,6 +172,8 @@ impl Node {
             (AddsAtMost (C.meaning clients.now) j batch)
             (AddsAtMost (C.meaning clients.now) j batch) self.new.store (H.tells host.old)
             (H.tells host.new) }
+        ensures fault { IsErrOf result NodeFault.DiskFault → Rose (H.tells host.old).disk_faults
+            (H.tells host.new).disk_faults }
     {
         if self.closed {
             return Err(NodeFault::Closed);
@@ -213,6 +217,8 @@ impl Node {
         ensures safe { PlansSafe (C.meaning clients.now)
             (session_of self.old.store.state.facts.begun plan.now nonce) self.old self.new
             (H.tells host.old) (H.tells host.new) }
+        ensures fault { IsErrOf result NodeFault.DiskFault → Rose (H.tells host.old).disk_faults
+            (H.tells host.new).disk_faults }
     {
         cite_laws();
         if self.closed {
@@ -268,6 +274,8 @@ impl Node {
             (H.tells host.old) (H.tells host.new)) }
         ensures safe { KeepsSafe (C.meaning clients.now) self.old self.new (H.tells host.old)
             (H.tells host.new) }
+        ensures fault { IsErrOf result NodeFault.DiskFault → Rose (H.tells host.old).disk_faults
+            (H.tells host.new).disk_faults }
     {
         if self.closed {
             return Err(NodeFault::Closed);
@@ -316,6 +324,8 @@ impl Node {
             (H.tells host.old) (H.tells host.new)) }
         ensures safe { KeepsSafe (C.meaning clients.now) self.old self.new (H.tells host.old)
             (H.tells host.new) }
+        ensures fault { IsErrOf result NodeFault.DiskFault → Rose (H.tells host.old).disk_faults
+            (H.tells host.new).disk_faults }
     {
         if self.closed {
             return Err(NodeFault::Closed);
@@ -359,6 +369,8 @@ impl Node {
             (H.tells host.old) (H.tells host.new)) }
         ensures safe { KeepsSafe (C.meaning clients.now) self.old self.new (H.tells host.old)
             (H.tells host.new) }
+        ensures fault { IsErrOf result NodeFault.DiskFault → Rose (H.tells host.old).disk_faults
+            (H.tells host.new).disk_faults }
     {
         if self.closed {
             return Err(NodeFault::Closed);

@@ -1,5 +1,6 @@
 //! What is due on a link is committed and sent.
-ghost use Rattle.std.specs.Prelude.{◌≢◌, ◌∷◌, ◌<◌, [], IfOk, OnErr, OnOk};
+ghost use Rattle.std.specs.Prelude.{◌≢◌, ◌∷◌, ◌<◌, [], IfOk, IsErrOf, OnErr, OnOk};
+ghost use Rattle.outside.specs.Faults.{Rose};
 ghost use Rattle.sync_rules.specs.Legal.{Allowed};
 ghost use Rattle.sync_rules.specs.declared.entries.Entry.TheVariants as entry;
 ghost use Rattle.sync_node.specs.Courses.{PutsAsCourse, PutsStop, SentAsCourse, SentStops};
@@ -42,6 +43,8 @@ pub(crate) fn send_all<H: Host, C: Clients>(
         store.old store.new (H.tells host.old) (H.tells host.new)) }
     ensures stays { OnErr result (StaysSafe (C.meaning clients.now) number [] link.old store.old
         store.new (H.tells host.old) (H.tells host.new)) }
+    ensures fault { IsErrOf result Fault.DiskFault → Rose (H.tells host.old).disk_faults
+        (H.tells host.new).disk_faults }
 {
     let mut made = 0;
     'outs: while made < MAX_OUTPUTS && link.end.may_send() {
@@ -83,6 +86,8 @@ fn put_out<H: Host, C: Clients>(
         store.old store.new (H.tells host.old) (H.tells host.new)) }
     ensures stays { OnErr result (StaysSafe (C.meaning clients.now) number [] link.old store.old
         store.new (H.tells host.old) (H.tells host.new)) }
+    ensures fault { IsErrOf result Fault.DiskFault → Rose (H.tells host.old).disk_faults
+        (H.tells host.new).disk_faults }
 {
     cite_laws();
     let bytes = spell_out(alloc, store, &out)?;

@@ -1,5 +1,6 @@
 //! Batches committed, and the journal settled: each call on the store, with what it leaves.
-ghost use Rattle.std.specs.Prelude.{◌≡◌, ◌∷◌, [], false, List, OnErr, OnOk, Some};
+ghost use Rattle.std.specs.Prelude.{◌≡◌, ◌∷◌, [], false, List, IsErrOf, OnErr, OnOk, Some};
+ghost use Rattle.outside.specs.Faults.{Rose};
 ghost use Rattle.outside.specs.Files.{Two, File};
 ghost use Rattle.outside.specs.Runs.{IsFront, Told};
 ghost use Rattle.sync_rules.specs.Allows.{is_settling_kind};
@@ -63,6 +64,8 @@ pub(crate) fn commit<H: Host, C: Clients>(
         → Fits (C.meaning clients.now) store.old j two → Leads (C.meaning clients.now)
         (WithAtMost j batch) (IsCommitted j batch result) store.new (H.tells host.old)
         (H.tells host.new) }
+    ensures fault { IsErrOf result Fault.DiskFault → Rose (H.tells host.old).disk_faults
+        (H.tells host.new).disk_faults }
 {
     cite_laws();
     match store.commit(host, clients, batch) {
@@ -94,6 +97,8 @@ pub(crate) fn settle<H: Host, C: Clients>(
         → Fits (C.meaning clients.now) store.old j two → Leads (C.meaning clients.now)
         (GoesOnSettling (C.meaning clients.now) j) (GoesOnSettling (C.meaning clients.now) j)
         store.new (H.tells host.old) (H.tells host.new) }
+    ensures fault { IsErrOf result Fault.DiskFault → Rose (H.tells host.old).disk_faults
+        (H.tells host.new).disk_faults }
 {
     cite_laws();
     match store.settle(host, clients) {
@@ -121,6 +126,8 @@ pub(crate) fn add_settled<H: Host, C: Clients>(
         → Fits (C.meaning clients.now) store.old j two → Leads (C.meaning clients.now)
         (AddsAtMost (C.meaning clients.now) j batch) (AddsAtMost (C.meaning clients.now) j batch)
         store.new (H.tells host.old) (H.tells host.new) }
+    ensures fault { IsErrOf result Fault.DiskFault → Rose (H.tells host.old).disk_faults
+        (H.tells host.new).disk_faults }
 {
     commit(store, host, clients, batch)?;
     settle(store, host, clients)

@@ -1,5 +1,6 @@
 //! A turn: of one link, and of all links in order.
-ghost use Rattle.std.specs.Prelude.{◌≡◌, ℕ, ◌<◌, ◌≤◌, [], length, IfOk, OnErr, OnOk};
+ghost use Rattle.std.specs.Prelude.{◌≡◌, ℕ, ◌<◌, ◌≤◌, [], length, IfOk, IsErrOf, OnErr, OnOk};
+ghost use Rattle.outside.specs.Faults.{Rose};
 ghost use Rattle.sync_course.specs.declared.TheConstants.{PIECE_LEN};
 ghost use Rattle.sync_node.specs.Courses.{BreaksTurn, MakesTurn};
 ghost use Rattle.sync_node.specs.Courses.{HearsAsCourse, HearsStops, SendsAsCourse, SendsStop};
@@ -47,6 +48,8 @@ pub(crate) fn turn_all<H: Host, C: Clients>(
     ensures safe { (first : ℕ) → AreAttached first links.old store.old.state.facts
         → OnErr result (LinksSafe (C.meaning clients.now) first links.old store.old store.new
         (H.tells host.old) (H.tells host.new)) }
+    ensures fault { IsErrOf result Fault.DiskFault → Rose (H.tells host.old).disk_faults
+        (H.tells host.new).disk_faults }
 {
     let still = turn_each(alloc, store, host, clients, links, buffer)?;
     close_redundant(links);
@@ -81,6 +84,8 @@ fn turn_each<H: Host, C: Clients>(
     ensures safe { (first : ℕ) → AreAttached first links.old store.old.state.facts
         → OnErr result (LinksSafe (C.meaning clients.now) first links.old store.old store.new
         (H.tells host.old) (H.tells host.new)) }
+    ensures fault { IsErrOf result Fault.DiskFault → Rose (H.tells host.old).disk_faults
+        (H.tells host.new).disk_faults }
 {
     let mut still = true;
     'links: for place in 0..links.len() {
@@ -119,6 +124,8 @@ fn turn_link<H: Host, C: Clients>(
         store.old store.new (H.tells host.old) (H.tells host.new)) }
     ensures stays { OnErr result (StaysSafe (C.meaning clients.now) number [] link.old store.old
         store.new (H.tells host.old) (H.tells host.new)) }
+    ensures fault { IsErrOf result Fault.DiskFault → Rose (H.tells host.old).disk_faults
+        (H.tells host.new).disk_faults }
 {
     let quiet = hear_now(alloc, store, host, clients, number, link, buffer)?;
     let made = send_now(alloc, store, host, clients, number, link)?;
@@ -152,6 +159,8 @@ fn hear_now<H: Host, C: Clients>(
         store.old store.new (H.tells host.old) (H.tells host.new)) }
     ensures stays { OnErr result (StaysSafe (C.meaning clients.now) number [] link.old store.old
         store.new (H.tells host.old) (H.tells host.new)) }
+    ensures fault { IsErrOf result Fault.DiskFault → Rose (H.tells host.old).disk_faults
+        (H.tells host.new).disk_faults }
 {
     if !link.end.is_asked() {
         return Ok(true);
@@ -183,6 +192,8 @@ fn send_now<H: Host, C: Clients>(
         store.old store.new (H.tells host.old) (H.tells host.new)) }
     ensures stays { OnErr result (StaysSafe (C.meaning clients.now) number [] link.old store.old
         store.new (H.tells host.old) (H.tells host.new)) }
+    ensures fault { IsErrOf result Fault.DiskFault → Rose (H.tells host.old).disk_faults
+        (H.tells host.new).disk_faults }
 {
     if !link.end.may_send() {
         return Ok(0);

@@ -7,7 +7,7 @@ use Rattle.sync_node.proofs.turning.turn_each.Goals as goal
 use Rattle.sync_node.proofs.turning.turn_each.Goals.{else-still, then-still}
 
 pub links-init : goal.links-init
-links-init g c = record { may = c.requires.may; works = λ first attached. links_none _ _ _ _ _ attached; course = λ first attached whole. turns_none _ first _ _ _; whole = refl; room = c.requires.room }
+links-init g c = record { may = c.requires.may; works = λ first attached. links_none _ _ _ _ _ attached; course = λ first attached whole. turns_none _ first _ _ _; whole = refl; room = c.requires.room; later = omega arith }
 
 pub turn_link-requires-clause-able : goal.turn_link-requires-clause-able
 turn_link-requires-clause-able g c =
@@ -50,6 +50,7 @@ links-preserved g c =
           (c.in_ok-quiet.ensures.course (c.links.invariant.whole ∙ whole)) (c.links.place + 1) c.if-still.still refl is;
       whole = c.turn_link.auto.buffer ∙ c.links.invariant.whole;
       room = omega (arith, c.links.invariant.room, c.turn_link.auto.buffer);
+      later = omega (arith, c.links.invariant.later, c.in_ok-quiet.ensures.works.goes.later);
     }
 
 pub returns-in_err-quiet-clause-halts : goal.returns-in_err-quiet-clause-halts

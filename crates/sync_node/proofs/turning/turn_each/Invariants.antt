@@ -1,4 +1,4 @@
-use Rattle.std.proofs.Common.{◌≡◌, ℕ, ◌<◌, length}
+use Rattle.std.proofs.Common.{◌≡◌, ℕ, ◌<◌, ◌≤◌, length}
 use Rattle.sync_course.specs.declared.TheConstants.{PIECE_LEN}
 use Rattle.sync_node.specs.Courses.{TurnsAsCourse}
 use Rattle.sync_node.specs.Node.{AreAttached, LinksWork, MayGoOn}
@@ -13,4 +13,5 @@ invariant-links g l = record {
       → TurnsAsCourse (g.C.Clients.meaning l.clients) first l.place l.initial.links l.links l.initial.store l.store (g.H.Disk.tells l.initial.host) (g.H.Disk.tells l.host) l.still;
   whole : length l.buffer ≡ length l.initial.buffer;
   room : 0 < length l.buffer;
+  later : (g.H.Disk.tells l.initial.host).disk_faults ≤ (g.H.Disk.tells l.host).disk_faults;
 }
