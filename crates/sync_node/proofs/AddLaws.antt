@@ -1,0 +1,217 @@
+-- A batch that is added beside the sessions.
+use Rattle.std.proofs.Common.{◌≡◌, ℕ, Bool, true, false, List, [], ◌∷◌, ◌++◌, refl, sym, ap, ◌∙◌, subst, inl, inr, arith, Some, Result, append-nil, append_assoc}
+use Rattle.std.specs.List.{list_all}
+use Rattle.outside.specs.Files.{Two, File}
+use Rattle.outside.specs.Links.{Links, sent_of}
+use Rattle.outside.specs.Outside.{Outside, Moment}
+use Rattle.outside.specs.Runs.{Told, answers_at}
+use Rattle.outside.specs.Steps.{moments_map, moments_then, told_on}
+use Rattle.record_grammar.specs.Spelling.{spelled}
+use Rattle.record_stream.specs.Reading.{ReadsOn, fresh}
+use Rattle.sync_ids.specs.declared.records.Record.{Record}
+use Rattle.sync_rules.specs.declared.entries.Entry.{Entry}
+use Rattle.sync_rules.specs.declared.entries.Entry.TheVariants as entry
+use Rattle.sync_rules.specs.Allows.{is_settling_kind}
+use Rattle.sync_rules.specs.Clients.{Meaning}
+use Rattle.sync_rules.specs.Facts.{Facts, after_all, facts, session_at, takes_of}
+use Rattle.sync_rules.specs.Growth.{is_silent, output_of}
+use Rattle.sync_rules.specs.Legal.{Allowed, AllSettling}
+use Rattle.sync_rules.specs.OutputLaws.{silent_adds_nothing}
+use Rattle.sync_rules.specs.StepKinds.{all_settling_only}
+use Rattle.sync_rules.specs.WorkLaws.{facts-push}
+use Rattle.sync_store.specs.Store.{StoreValue}
+use Rattle.sync_store.specs.Fitting.{Fits}
+use Rattle.sync_store.specs.Moments.{IsBetween, JournalMoment, Leads, WithAtMost}
+use Rattle.sync_store.specs.Settling.{HasSettled}
+use Rattle.sync_store.specs.declared.fault.StoreFault.{StoreFault}
+use Rattle.sync_node.specs.declared.link.Link.{Link}
+use Rattle.sync_node.specs.Adding.{AddsAtMost, AddsSettled, GoesOnSettling, IsPlain}
+use Rattle.sync_node.specs.Going.{Commits, Settles}
+use Rattle.sync_node.specs.Joined.{IsJoined, Joined}
+use Rattle.sync_node.specs.Node.{AreAttached, KeepsJoined, MayGoOn, NodeValue}
+use Rattle.sync_node.specs.Output.{Journal, heard_on, output, sent_on}
+use Rattle.sync_node.proofs.CommitLaws.{settling_front}
+use Rattle.sync_node.proofs.NodeLaws.{node_of}
+use Rattle.sync_node.proofs.OutLaws.{output_with}
+use Rattle.sync_node.proofs.SafeLaws.{told_before}
+use Rattle.sync_node.proofs.TakeLaws.{commits_then, settling_adds}
+
+-- ---- a plain batch
+
+pub plain_kind : (batch : List Entry) → IsPlain batch → is_settling_kind batch ≡ false
+plain_kind (entry.Contact c ∷ []) plain = refl
+plain_kind (entry.Group def ∷ []) plain = refl
+plain_kind (entry.Level c g l ∷ []) plain = refl
+plain_kind (entry.Author m ∷ []) plain = refl
+plain_kind _ plain = absurd plain
+
+plain_silent : (batch : List Entry) → IsPlain batch → list_all is_silent batch ≡ true
+plain_silent (entry.Contact c ∷ []) plain = refl
+plain_silent (entry.Group def ∷ []) plain = refl
+plain_silent (entry.Level c g l ∷ []) plain = refl
+plain_silent (entry.Author m ∷ []) plain = refl
+plain_silent _ plain = absurd plain
+
+-- it leaves the sessions, how many have begun, and what they took
+record LeavesSessions (f later : Facts) : Type 0 where
+  sessions : later.sessions ≡ f.sessions
+  begun : later.begun ≡ f.begun
+  takes : later.takes ≡ f.takes
+
+plain_leaves : (f : Facts) (batch : List Entry) → IsPlain batch → LeavesSessions f (after_all f batch)
+plain_leaves f (entry.Contact c ∷ []) plain = record { sessions = refl; begun = refl; takes = refl }
+plain_leaves f (entry.Group def ∷ []) plain = record { sessions = refl; begun = refl; takes = refl }
+plain_leaves f (entry.Level c g l ∷ []) plain = record { sessions = refl; begun = refl; takes = refl }
+plain_leaves f (entry.Author m ∷ []) plain = record { sessions = refl; begun = refl; takes = refl }
+plain_leaves f _ plain = absurd plain
+
+-- ---- the batch, and settling behind it
+
+pub added : (clients : Meaning) (batch : List Entry) (s s1 s2 : StoreValue) (o o1 o2 : Outside) → Commits clients (batch ∷ []) s s1 o o1 → Settles clients s1 s2 o1 o2 → AddsSettled clients batch s s2 o o2
+added clients batch s s1 s2 o o1 o2 first settles = record {
+  more = settles.more;
+  settling = subst (λ (f : Facts). AllSettling clients f settles.more) first.facts settles.settling;
+  commits = commits_then clients batch settles.more s s1 s2 o o1 o2 first settles.commits;
+  settled = settles.settled;
+}
+
+-- ---- joined
+
+same_output : (clients : Meaning) (batch : List Entry) (s s' : StoreValue) (o o' : Outside) (adds : AddsSettled clients batch s s' o o') → IsPlain batch → (told : Told o') (whole : Journal)
+    → (fits : Fits clients s' whole told.two) → (n : ℕ) → output whole n ≡ output (adds.commits.goes_on told whole fits).before n
+same_output clients batch s s' o o' adds plain told whole fits n =
+    let from = adds.commits.goes_on told whole fits in
+    let none : output_of (facts from.before) n (batch ∷ adds.more) ≡ [] =
+    ap (λ (f : Facts). output_of f n (batch ∷ adds.more)) from.fits.facts_are
+    ∙ (ap (λ (rs : List Record). rs ++ output_of (after_all s.state.facts batch) n adds.more) (silent_adds_nothing s.state.facts n batch (plain_silent batch plain))
+    ∙ settling_adds clients (after_all s.state.facts batch) n adds.more adds.settling) in
+    output_with clients from.before whole (batch ∷ adds.more) n fits.legal from.is
+    ∙ (ap (λ (rs : List Record). output from.before n ++ spelled rs) none ∙ append-nil (output from.before n))
+
+leaves : (clients : Meaning) (batch : List Entry) (s s' : StoreValue) (o o' : Outside) → AddsSettled clients batch s s' o o' → IsPlain batch → LeavesSessions s.state.facts s'.state.facts
+leaves clients batch s s' o o' adds plain =
+    let plainly = plain_leaves s.state.facts batch plain in
+    let only = all_settling_only clients (after_all s.state.facts batch) adds.more adds.settling in
+    record {
+      sessions = ap (λ (f : Facts). f.sessions) adds.commits.facts ∙ (only.sessions ∙ plainly.sessions);
+      begun = ap (λ (f : Facts). f.begun) adds.commits.facts ∙ (only.begun ∙ plainly.begun);
+      takes = ap (λ (f : Facts). f.takes) adds.commits.facts ∙ (only.takes ∙ plainly.takes);
+    }
+
+one_joined : (clients : Meaning) (batch : List Entry) (k : ℕ) (l : Link) (s s' : StoreValue) (o o' : Outside) → AddsSettled clients batch s s' o o' → IsPlain batch
+    → IsJoined clients k [] l s o → IsJoined clients k [] l s' o'
+one_joined clients batch k l s s' o o' adds plain joined = record {
+  sent = λ unfailed told' whole fits.
+      let from = adds.commits.goes_on told' whole fits in
+      ap (λ (x : Links). sent_on x k) adds.commits.same_links
+      ∙ (joined.sent unfailed from.told from.before from.fits ∙ sym (same_output clients batch s s' o o' adds plain told' whole fits l.session.number));
+  taken = λ going told'.
+      let was = joined.taken going (told_before o o' adds.commits.goes told') in
+      record {
+        has = was.has;
+        reads = subst (λ (h : List ℕ). ReadsOn h fresh was.has [] l.reader) (sym (ap (λ (x : Links). heard_on x k) adds.commits.same_links)) was.reads;
+        count = ap (λ t. takes_of t l.session.number) (leaves clients batch s s' o o' adds plain).takes ∙ was.count;
+        nonce = was.nonce;
+      };
+}
+
+pub add_joined : (clients : Meaning) (batch : List Entry) (links : List Link) (s s' : StoreValue) (o o' : Outside) → AddsSettled clients batch s s' o o' → IsPlain batch → Joined clients links s o → Joined clients links s' o'
+add_joined clients batch links s s' o o' adds plain joined = record {
+  each = λ k l there. one_joined clients batch k l s s' o o' adds plain (joined.each k l there);
+  others = λ k past.
+      let unused = joined.others k past in
+      record {
+        nothing_sent = λ told'. ap (λ (x : Links). sent_on x k) adds.commits.same_links ∙ unused.nothing_sent (told_before o o' adds.commits.goes told');
+        nothing_heard = λ told'. ap (λ (x : Links). answers_at x.heard k) adds.commits.same_links ∙ unused.nothing_heard (told_before o o' adds.commits.goes told');
+      };
+}
+
+pub add_attached : (clients : Meaning) (batch : List Entry) (first : ℕ) (links : List Link) (s s' : StoreValue) (o o' : Outside) → AddsSettled clients batch s s' o o' → IsPlain batch
+    → AreAttached first links s.state.facts → AreAttached first links s'.state.facts
+add_attached clients batch first links s s' o o' adds plain attached =
+    let left = leaves clients batch s s' o o' adds plain in
+    record {
+      begun = left.begun ∙ attached.begun;
+      each = λ k l there.
+          let was = attached.each k l there in
+          record { numbered = was.numbered; known = ap (λ t. session_at t l.session.number) left.sessions ∙ was.known; waits = was.waits };
+    }
+
+pub add_may : (clients : Meaning) (batch : List Entry) (links : List Link) (s s' : StoreValue) (o o' : Outside) → AddsSettled clients batch s s' o o' → MayGoOn clients links s o → MayGoOn clients links s' o'
+add_may clients batch links s s' o o' adds may = record {
+  ready = adds.commits.ready;
+  settled = λ _. adds.settled;
+  dialled = omega (arith, may.dialled, adds.commits.goes.links.dialled);
+}
+
+pub node_adds : (clients : Meaning) (batch : List Entry) (first : ℕ) (links : List Link) (s s' : StoreValue) (o o' : Outside) (closed closed' : Bool) (n : NodeValue) → node_of s first links closed ≡ n
+    → AddsSettled clients batch s s' o o' → IsPlain batch → KeepsJoined clients n (node_of s' first links closed') o o'
+node_adds clients batch first links s s' o o' closed closed' n is adds plain =
+    subst (λ (m : NodeValue). KeepsJoined clients m (node_of s' first links closed') o o') is
+    (record { goes = adds.commits.goes; same_first = refl; same_number = refl; joined = add_joined clients batch links s s' o o' adds plain })
+
+-- ---- each moment
+
+pub leads_ok : (clients : Meaning) (batch : List Entry) (s : StoreValue) (o o' : Outside) (j : Journal) (P Q R : Journal → Type 0) → ((k : Journal) → P k → R k) → ((k : Journal) → Q k → R k)
+    → Leads clients P Q s o o' → Leads clients R R s o o'
+leads_ok clients batch s o o' j P Q R up upq leads = record {
+  moments = moments_map o o' (JournalMoment clients P (sent_of o.links.told)) (JournalMoment clients R (sent_of o.links.told))
+      (λ m jm. record { whole = jm.whole; has = up jm.whole jm.has; stands_for = jm.stands_for; nothing_sent = jm.nothing_sent }) leads.moments;
+  ends = λ opened two files. let end = leads.ends opened two files in (end.0, upq end.0 end.1, end.2);
+}
+
+pub adds_at_most : (clients : Meaning) (j : Journal) (batch : List Entry) (whole : Journal) → WithAtMost j batch whole → AddsAtMost clients j batch whole
+adds_at_most clients j batch whole with_it = elim with_it [ inl same ↦ inl same | inr more ↦ inr (record { more = []; settling = tt; is = more }) ]
+
+pub settles_behind : (clients : Meaning) (j : Journal) (batch : List Entry) (whole : Journal) → GoesOnSettling clients (j ++ batch ∷ []) whole → AddsAtMost clients j batch whole
+settles_behind clients j batch whole goes =
+    inr (record {
+      more = goes.more;
+      settling = subst (λ (f : Facts). AllSettling clients f goes.more) (facts-push j batch) goes.settling;
+      is = goes.is ∙ append_assoc j (batch ∷ []) goes.more;
+    })
+
+-- settling goes on from the journal
+pub leads_settling : (clients : Meaning) (s s' : StoreValue) (o o' : Outside) (result : Result (Unit {0}) StoreFault) → HasSettled clients s s' result o o' → (two : Two File) → o.files ≡ Some two → (j : Journal)
+    → Fits clients s j two → Leads clients (GoesOnSettling clients j) (GoesOnSettling clients j) s' o o'
+leads_settling clients s s' o o' result has two files j fits =
+    let settles : AllSettling clients (facts j) has.more = subst (λ (f : Facts). AllSettling clients f has.more) (sym fits.facts_are) has.comes.settling in
+    leads_ok clients [] s' o o' j (IsBetween j has.more) (λ whole. whole ≡ j ++ has.more) (GoesOnSettling clients j)
+    (λ k between. record {
+      more = between.front;
+      settling = settling_front clients (facts j) between.front between.rest (subst (λ (l : Journal). AllSettling clients (facts j) l) between.parts settles);
+      is = between.is;
+    })
+    (λ k end. record { more = has.more; settling = settles; is = end })
+    (has.comes.leads two files j fits)
+
+pub add_leads : (clients : Meaning) (batch : List Entry) (s s1 s2 : StoreValue) (o o1 o2 : Outside) (two : Two File) (j : Journal) → o.files ≡ Some two → Commits clients (batch ∷ []) s s1 o o1
+    → Leads clients (WithAtMost j batch) (λ k. k ≡ j ++ batch ∷ []) s1 o o1
+    → ((two1 : Two File) → o1.files ≡ Some two1 → (k : Journal) → Fits clients s1 k two1 → Leads clients (GoesOnSettling clients k) (GoesOnSettling clients k) s2 o1 o2)
+    → Leads clients (AddsAtMost clients j batch) (AddsAtMost clients j batch) s2 o o2
+add_leads clients batch s s1 s2 o o1 o2 two j files commits first second =
+    let there = told_on o o1 two commits.goes.same_files files in
+    let end = first.ends commits.ready.still_open there.0 there.1 in
+    let fits : Fits clients s1 (j ++ batch ∷ []) there.0 = subst (λ (k : Journal). Fits clients s1 k there.0) end.1 end.2 in
+    let then = second there.0 there.1 (j ++ batch ∷ []) fits in
+    let sent : sent_of o1.links.told ≡ sent_of o.links.told = ap (λ (x : Links). sent_of x.told) commits.same_links in
+    let P : Moment → Type 0 = JournalMoment clients (AddsAtMost clients j batch) (sent_of o.links.told) in
+    record {
+      moments = moments_then o o1 o2 P
+          (moments_map o o1 (JournalMoment clients (WithAtMost j batch) (sent_of o.links.told)) P
+          (λ m jm. record { whole = jm.whole; has = adds_at_most clients j batch jm.whole jm.has; stands_for = jm.stands_for; nothing_sent = jm.nothing_sent }) first.moments)
+          (moments_map o1 o2 (JournalMoment clients (GoesOnSettling clients (j ++ batch ∷ [])) (sent_of o1.links.told)) P
+          (λ m jm. record { whole = jm.whole; has = settles_behind clients j batch jm.whole jm.has; stands_for = jm.stands_for; nothing_sent = jm.nothing_sent ∙ sent }) then.moments);
+      ends = λ opened two2 files2. let last = then.ends opened two2 files2 in (last.0, settles_behind clients j batch last.0 last.1, last.2);
+    }
+
+-- ---- a node
+
+pub node_allowed : (clients : Meaning) (s : StoreValue) (first : ℕ) (links : List Link) (closed : Bool) (n : NodeValue) (batch : List Entry) → node_of s first links closed ≡ n
+    → (n.closed ≡ false → Allowed clients n.store.state.facts batch) → closed ≡ false → Allowed clients s.state.facts batch
+node_allowed clients s first links closed n batch is allowed =
+    subst (λ (m : NodeValue). (m.closed ≡ false → Allowed clients m.store.state.facts batch) → closed ≡ false → Allowed clients s.state.facts batch) is (λ then opened. then opened) allowed
+
+-- the store of a node before
+pub node_fits : (clients : Meaning) (s : StoreValue) (first : ℕ) (links : List Link) (closed : Bool) (n : NodeValue) (j : Journal) (two : Two File) → node_of s first links closed ≡ n → Fits clients n.store j two → Fits clients s j two
+node_fits clients s first links closed n j two is fits = subst (λ (m : NodeValue). Fits clients m.store j two) (sym is) fits

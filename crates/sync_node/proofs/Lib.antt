@@ -1,0 +1,12 @@
+mod Fronts
+mod SuitLaws
+mod SafeLaws
+mod CommitLaws
+mod WorkLaws
+mod OutLaws
+mod TakeLaws
+mod StartLaws
+mod NodeLaws
+mod AttachLaws
+mod AddLaws
+mod CourseNode

@@ -1,0 +1,215 @@
+-- The three kinds of step that keep a run safe: batches of the run that a store commits; calls that send nothing; and a send of
+-- what the journal has as output.
+use Rattle.std.proofs.Common.{◌≡◌, ◌⊎◌, ℕ, ◌+◌, ◌<◌, ◌≤◌, false, List, [], ◌++◌, take, length, refl, sym, ap, ◌∙◌, subst, inl, inr, arith, true, Option, Some, None, Result, is_some, slice_index_or}
+use Rattle.std.proofs.lemmas.Bool.{cases_eq}
+use Rattle.outside.specs.declared.failed.Failed.{Failed}
+use Rattle.outside.specs.Files.{Two, File}
+use Rattle.outside.specs.Frames.{most_bytes}
+use Rattle.outside.specs.Host.{Sends, SendsPart}
+use Rattle.outside.specs.Links.{Links, sent_of}
+use Rattle.outside.specs.Outside.{Outside, Moment, DiskRun, LinkCall, QuietCall}
+use Rattle.outside.specs.Runs.{IsFront, LinksGrow, Told, front_bytes, front_same, front_then, grow_same, grow_send, others_send, quiet_moments, send_moments, sent_at, went_out, sent_at-with_sent}
+use Rattle.record_grammar.specs.Laws.{FrontsHaveFronts}
+use Rattle.sync_rules.specs.declared.entries.Session.{Session}
+use Rattle.sync_rules.specs.Clients.{Meaning}
+use Rattle.sync_rules.specs.Facts.{facts}
+use Rattle.sync_rules.specs.Legal.{Legal}
+use Rattle.entry_codec.specs.Standing.{room_of}
+use Rattle.sync_store.specs.Store.{StoreValue}
+use Rattle.sync_store.specs.Fitting.{Fits, ImagesStand}
+use Rattle.sync_store.specs.Moments.{JournalMoment, Leads}
+use Rattle.sync_node.specs.Going.{Goes}
+use Rattle.sync_node.specs.Output.{AreOutput, Journal, heard_on, output, sent_on}
+use Rattle.sync_node.specs.Safe.{Begin, IsCovered, IsEarly, Safe}
+use Rattle.sync_node.specs.Starting.{HasOutput}
+use Rattle.sync_node.specs.Suits.{SuitsRun}
+use Rattle.sync_node.proofs.Fronts.{front_taken}
+use Rattle.sync_node.proofs.SuitLaws.{Grows, HearsMore, outputs_grown, suits_grown, suits_more}
+
+-- ---- what is told before a run
+
+pub goes_none : (o : Outside) → Goes o o
+goes_none o = record { same_files = refl; later = omega arith; links = grow_same o.links o.links refl }
+
+pub goes_disk : (o o' : Outside) → DiskRun o o' → Goes o o'
+goes_disk o o' run = record { same_files = run.same_told; later = run.later; links = grow_same o.links o'.links run.same_links }
+
+pub goes_link : (during : Moment → Type 0) (o o' : Outside) → LinkCall during o o' → LinksGrow o.links o'.links → Goes o o'
+goes_link during o o' call grows = record { same_files = ap is_some call.same_files; later = omega (arith, call.same_faults); links = grows }
+
+told_both : {A : Type 0} (o : Option A) → is_some o ≡ true → (a : A) × (o ≡ Some a)
+told_both None is = cc
+told_both (Some a) is = (a, refl)
+
+pub told_before : (o o' : Outside) → Goes o o' → Told o' → Told o
+told_before o o' goes told =
+    let files = told_both o.files (sym goes.same_files ∙ ap is_some told.files_are) in
+    let links = told_both o.links.told (sym goes.links.same_told ∙ ap is_some told.links_are) in
+    let heard = told_both o.links.heard (sym goes.links.same_heard ∙ ap is_some told.heard_are) in
+    record { two = files.0; files_are = files.1; links = links.0; links_are = links.1; heard = heard.0; heard_are = heard.1 }
+
+pub heard_more : (old new : Links) → LinksGrow old new → HearsMore (heard_on old) (heard_on new)
+heard_more old new grows link = front_bytes _ _ (grows.answers link)
+
+-- ---- moments that are covered
+
+pub covered_more : FrontsHaveFronts → (clients : Meaning) (b : Begin) (plans plans' : List Session) (heard heard' : ℕ → List ℕ) → IsFront plans plans' → HearsMore heard heard' → (m : Moment)
+    → IsEarly b m ⊎ IsCovered clients b plans heard m → IsEarly b m ⊎ IsCovered clients b plans' heard' m
+covered_more fronts clients b plans plans' heard heard' more hears m kind = elim kind [
+  | inl early ↦ inl early
+  | inr covered ↦ inr (record {
+    whole = covered.whole;
+    stands_for = covered.stands_for;
+    suits = suits_more fronts clients b.journal b.first plans plans' heard heard' more hears covered.whole covered.suits;
+    has_sent = covered.has_sent;
+  })
+]
+
+-- ---- batches of the run
+
+-- each journal of these goes on from the one before by batches of the run
+abbrev pub AllGrow : Meaning → ℕ → List Session → (ℕ → List ℕ) → StoreValue → (Journal → Journal → Type 0) → Type 0
+AllGrow clients first plans heard s P = (j whole : Journal) → Legal clients j → facts j ≡ s.state.facts → P j whole → Grows clients first plans heard j whole
+
+moment_covered : (clients : Meaning) (b : Begin) (plans : List Session) (heard : ℕ → List ℕ) (j : Journal) (links : Links) (P : Journal → Type 0) (m : Moment)
+    → ((whole : Journal) → P whole → Grows clients b.first plans heard j whole) → SuitsRun clients b.journal b.first plans heard j → AreOutput j b.first (sent_on links)
+    → JournalMoment clients P (sent_of links.told) m → IsCovered clients b plans heard m
+moment_covered clients b plans heard j links P m grow suits sent jm =
+    let grows = grow jm.whole jm.has in
+    let has = outputs_grown clients b.first plans heard j jm.whole (sent_on links) grows sent in
+    record {
+      whole = jm.whole;
+      stands_for = jm.stands_for;
+      suits = suits_grown clients b.journal b.first plans heard j jm.whole suits grows;
+      has_sent = λ link. subst (λ (l : List ℕ). IsFront l (output jm.whole (b.first + link))) (sym (ap (λ (s : List (List ℕ)). slice_index_or s link []) jm.nothing_sent)) (has link);
+    }
+
+pub safe_store : FrontsHaveFronts → (clients : Meaning) (b : Begin) (plans plans' : List Session) (s s' : StoreValue) (o o' : Outside) (P Q : Journal → Journal → Type 0)
+    → IsFront plans plans' → s.closed ≡ false → DiskRun o o'
+    → ((two : Two File) → o.files ≡ Some two → (j : Journal) → Fits clients s j two → Leads clients (P j) (Q j) s' o o')
+    → (Told o → AllGrow clients b.first plans' (heard_on o.links) s P)
+    → (Told o → AllGrow clients b.first plans' (heard_on o.links) s Q)
+    → Safe clients b plans s o → Safe clients b plans' s' o'
+safe_store fronts clients b plans plans' s s' o o' P Q more opened run leads grow_moments grow_end safe =
+    let back : Told o' → Told o = told_before o o' (goes_disk o o' run) in
+    let hears : HearsMore (heard_on o.links) (heard_on o'.links) = heard_more o.links o'.links (grow_same o.links o'.links run.same_links) in
+    let same : HearsMore (heard_on o.links) (heard_on o.links) = λ link. front_same _ _ refl in
+    let none : IsFront plans' plans' = front_same plans' plans' refl in
+    record {
+      later = λ told'.
+          let told = back told' in
+          let now = safe.now opened told in
+          let led = leads told.two told.files_are now.whole now.fits in
+          omega (arith, safe.later told, led.moments.later);
+      moments = λ told' m w.
+          let told = back told' in
+          let now = safe.now opened told in
+          let led = leads told.two told.files_are now.whole now.fits in
+          let suits = suits_more fronts clients b.journal b.first plans plans' _ _ more same now.whole now.suits in
+          elim (led.moments.before b.clock m (safe.later told) w) [
+            | inl old ↦ covered_more fronts clients b plans plans' _ _ more hears m (safe.moments told m old)
+            | inr during ↦
+                covered_more fronts clients b plans' plans' _ _ none hears m
+                (inr (moment_covered clients b plans' (heard_on o.links) now.whole o.links (P now.whole) m
+                (λ whole has. grow_moments told now.whole whole now.fits.legal now.fits.facts_are has) suits now.has_sent during))
+          ];
+      now = λ opened' told'.
+          let told = back told' in
+          let now = safe.now opened told in
+          let led = leads told.two told.files_are now.whole now.fits in
+          let end = led.ends opened' told'.two told'.files_are in
+          let grows = grow_end told now.whole end.0 now.fits.legal now.fits.facts_are end.1 in
+          let suits = suits_more fronts clients b.journal b.first plans plans' _ _ more same now.whole now.suits in
+          let has = outputs_grown clients b.first plans' (heard_on o.links) now.whole end.0 (sent_on o.links) grows now.has_sent in
+          record {
+            whole = end.0;
+            fits = end.2;
+            suits = suits_more fronts clients b.journal b.first plans' plans' _ _ none hears end.0
+                (suits_grown clients b.journal b.first plans' (heard_on o.links) now.whole end.0 suits grows);
+            has_sent = λ link. subst (λ (l : Links). IsFront (sent_on l link) (output end.0 (b.first + link))) (sym run.same_links) (has link);
+          };
+    }
+
+-- ---- calls that send nothing
+
+pub safe_calm : FrontsHaveFronts → (clients : Meaning) (b : Begin) (plans : List Session) (s : StoreValue) (o o' : Outside) → QuietCall o o' → LinksGrow o.links o'.links
+    → o'.links.told ≡ o.links.told → Safe clients b plans s o → Safe clients b plans s o'
+safe_calm fronts clients b plans s o o' call grows same_told safe =
+    let back : Told o' → Told o = told_before o o' (goes_link _ o o' call grows) in
+    let hears : HearsMore (heard_on o.links) (heard_on o'.links) = heard_more o.links o'.links grows in
+    let none : IsFront plans plans = front_same plans plans refl in
+    record {
+      later = λ told'. omega (arith, safe.later (back told'), call.time.later);
+      moments = λ told' m w.
+          let told = back told' in
+          covered_more fronts clients b plans plans _ _ none hears m (elim (call.time.nothing_else b.clock m (safe.later told) w) [
+            | inl old ↦ safe.moments told m old
+            | inr during ↦
+                safe.moments told m
+                (o.since b.clock m (safe.later told) (o.is_now told.two m told.files_are (quiet_moments o o' told.two call same_told told.files_are m during)))
+          ]);
+      now = λ opened told'.
+          let told = back told' in
+          let now = safe.now opened told in
+          let two : told'.two ≡ told.two = cc (told'.files_are, told.files_are, call.same_files) in
+          record {
+            whole = now.whole;
+            fits = subst (λ (t : Two File). Fits clients s now.whole t) (sym two) now.fits;
+            suits = suits_more fronts clients b.journal b.first plans plans _ _ none hears now.whole now.suits;
+            has_sent = λ link. subst (λ (l : List ℕ). IsFront l (output now.whole (b.first + link))) (ap (λ t. sent_at t link) (sym same_told)) (now.has_sent link);
+          };
+    }
+
+-- ---- a send
+
+pub safe_send : FrontsHaveFronts → ImagesStand → (clients : Meaning) (b : Begin) (plans : List Session) (s : StoreValue) (o o' : Outside) (link : ℕ) (bytes : List ℕ) (result : Result (Unit {0}) Failed)
+    → s.closed ≡ false → s.end + room_of s.state.facts ≤ most_bytes → link < o.links.dialled
+    → LinkCall (SendsPart o link bytes) o o' → Sends link bytes result o.links o'.links → HasOutput clients (b.first + link) link bytes s o
+    → Safe clients b plans s o → Safe clients b plans s o'
+safe_send fronts stand clients b plans s o o' link bytes result opened roomy within call sends output_has safe =
+    let back : Told o' → Told o = told_before o o' (goes_link _ o o' call (grow_send link bytes result o.links o'.links sends)) in
+    let hears : HearsMore (heard_on o.links) (heard_on o'.links) = heard_more o.links o'.links (grow_send link bytes result o.links o'.links sends) in
+    let none : IsFront plans plans = front_same plans plans refl in
+    let here : (told : Told o) (n : ℕ) (whole : Journal) → Fits clients s whole told.two → IsFront (sent_on o.links link ++ take n bytes) (output whole (b.first + link)) =
+    λ told n whole fits. front_then _ _ _ (front_taken n (sent_on o.links link) bytes) (output_has told whole fits) in
+    record {
+      later = λ told'. omega (arith, safe.later (back told'), call.time.later);
+      moments = λ told' m w.
+          let told = back told' in
+          let now = safe.now opened told in
+          covered_more fronts clients b plans plans _ _ none hears m (elim (call.time.nothing_else b.clock m (safe.later told) w) [
+            | inl old ↦ safe.moments told m old
+            | inr during ↦
+                let part = send_moments o told link bytes within m during in
+                inr (record {
+                  whole = now.whole;
+                  stands_for = stand clients s now.whole told.two m.files now.fits roomy part.image;
+                  suits = now.suits;
+                  has_sent = λ i. elim (cases_eq i link) [
+                    | inl is ↦
+                        subst (λ (k : ℕ). IsFront (slice_index_or m.sent k []) (output now.whole (b.first + k))) (sym is)
+                        (subst (λ (l : List ℕ). IsFront l (output now.whole (b.first + link))) (sym part.here) (here told part.count now.whole now.fits))
+                    | inr other ↦ subst (λ (l : List ℕ). IsFront l (output now.whole (b.first + i))) (sym (part.others i other)) (now.has_sent i)
+                  ];
+                })
+          ]);
+      now = λ opened' told'.
+          let told = back told' in
+          let now = safe.now opened told in
+          let two : told'.two ≡ told.two = cc (told'.files_are, told.files_are, call.same_files) in
+          let out = went_out link bytes result o.links o'.links sends in
+          let inside : link < length told.links = omega (arith, within, o.all_told told.links told.links_are) in
+          let went : sent_on o'.links link ≡ sent_on o.links link ++ take out.0 bytes = ap (λ t. sent_at t link) out.1 ∙ sent_at-with_sent o.links.told told.links link (take out.0 bytes) told.links_are inside in
+          record {
+            whole = now.whole;
+            fits = subst (λ (t : Two File). Fits clients s now.whole t) (sym two) now.fits;
+            suits = suits_more fronts clients b.journal b.first plans plans _ _ none hears now.whole now.suits;
+            has_sent = λ i. elim (cases_eq i link) [
+              | inl is ↦
+                  subst (λ (k : ℕ). IsFront (sent_on o'.links k) (output now.whole (b.first + k))) (sym is)
+                  (subst (λ (l : List ℕ). IsFront l (output now.whole (b.first + link))) (sym went) (here told out.0 now.whole now.fits))
+              | inr other ↦
+                  subst (λ (l : List ℕ). IsFront l (output now.whole (b.first + i))) (sym ((others_send link bytes result o.links o'.links sends).sent i other)) (now.has_sent i)
+            ];
+          };
+    }

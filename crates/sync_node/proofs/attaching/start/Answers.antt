@@ -1,0 +1,53 @@
+use Rattle.std.proofs.Common.{arith, refl, sym, ◌∙◌, subst}
+use Rattle.record_stream.specs.Reading.{AwaitsBytes, ReaderState}
+use Rattle.sync_node.proofs.StartLaws.{allowed_as, commits_as, commits_safe_as, first_bytes, kind_as, session_found, starts, starts_as_before, starts_failed, starts_safe}
+use Rattle.sync_node.proofs.attaching.start.Goals as goal
+
+pub returns-in_err-versions-clause-safe : goal.returns-in_err-versions-clause-safe
+returns-in_err-versions-clause-safe g c = starts_as_before c.cite_laws.ensures.fronts _ _ _ _ _
+
+pub returns-in_err-priority-clause-safe : goal.returns-in_err-priority-clause-safe
+returns-in_err-priority-clause-safe g c = starts_as_before c.cite_laws.ensures.fronts _ _ _ _ _
+
+pub returns-in_err-batch-clause-safe : goal.returns-in_err-batch-clause-safe
+returns-in_err-batch-clause-safe g c = starts_as_before c.cite_laws.ensures.fronts _ _ _ _ _
+
+pub commit-requires-clause-ready : goal.commit-requires-clause-ready
+commit-requires-clause-ready g c = c.requires.ready
+
+pub commit-requires-clause-allowed : goal.commit-requires-clause-allowed
+commit-requires-clause-allowed g c = allowed_as (g.C.Clients.meaning c.args.clients.now) c.args.store.now.state.facts c.in_ok-batch.batch _ c.in_ok-batch.ensures c.requires.allowed
+
+pub commit-requires-clause-kind : goal.commit-requires-clause-kind
+commit-requires-clause-kind g c = kind_as c.args.session c.in_ok-batch.batch c.in_ok-batch.ensures
+
+pub returns-in_err-commit-clause-safe : goal.returns-in_err-commit-clause-safe
+returns-in_err-commit-clause-safe g c =
+    starts_failed _ _ _ _ _ _ _ c.requires.allowed (commits_safe_as _ c.in_ok-batch.batch _ _ _ _ _ c.in_ok-batch.ensures c.in_err-commit.ensures.safe)
+
+pub unreachable-requires : goal.unreachable-requires
+unreachable-requires g c =
+    session_found _ c.args.session c.in_ok-batch.batch _ _ _ _ c.in_ok-batch.ensures c.in_ok-commit.ensures.commits (sym c.in_default.is ∙ c.session.ensures.value)
+
+pub same-reader : goal.same-reader
+same-reader g c = refl
+
+pub greet-requires-clause-dialled : goal.greet-requires-clause-dialled
+greet-requires-clause-dialled g c = omega (arith, c.requires.dialled, c.in_ok-commit.ensures.commits.goes.links.dialled)
+
+pub greet-requires-clause-going : goal.greet-requires-clause-going
+greet-requires-clause-going g c = refl
+
+pub returns-clause-starts : goal.returns-clause-starts
+returns-clause-starts g c =
+    starts _ _ c.args.session c.in-Some.begun c.args.reader _ _ _ _ _ _ _ _ c.requires.allowed.1 c.requires.allowed
+    (commits_as _ c.in_ok-batch.batch _ _ _ _ _ c.in_ok-batch.ensures c.in_ok-commit.ensures.commits)
+    (first_bytes c.args.session _ _ (c.as_slice.ensures.value ∙ c.in_ok-versions.ensures) (c.as_slice-2.ensures.value ∙ c.in_ok-priority.ensures))
+    (sym c.in-Some.is ∙ c.session.ensures.value) c.in-Some.ensures.numbered refl c.requires.fresh refl (subst (λ (r : ReaderState). AwaitsBytes r) c.requires.fresh c.requires.waits) c.greet.ensures
+
+pub returns-clause-safe : goal.returns-clause-safe
+returns-clause-safe g c =
+    starts_safe _ _ c.args.session _ _ _ _ _ _ _ _ c.requires.allowed
+    (commits_as _ c.in_ok-batch.batch _ _ _ _ _ c.in_ok-batch.ensures c.in_ok-commit.ensures.commits)
+    (commits_safe_as _ c.in_ok-batch.batch _ _ _ _ _ c.in_ok-batch.ensures c.in_ok-commit.ensures.safe)
+    (first_bytes c.args.session _ _ (c.as_slice.ensures.value ∙ c.in_ok-versions.ensures) (c.as_slice-2.ensures.value ∙ c.in_ok-priority.ensures)) c.end-room.ensures.numbers.roomy c.greet.ensures

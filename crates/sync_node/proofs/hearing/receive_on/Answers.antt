@@ -1,0 +1,98 @@
+use Rattle.std.proofs.Common.{refl, sym, ◌∙◌}
+use Rattle.outside.specs.declared.host.Heard.TheVariants as heard
+use Rattle.sync_node.proofs.WorkLaws.{able_calm, ended_not_going, on_err, stays_then, works_ended, works_heard, works_then}
+use Rattle.std.proofs.Common.{ap}
+use Rattle.sync_node.specs.CourseTurns.{hears_ended, hears_failed, hears_idle, hears_piece, hears_stops}
+use Rattle.sync_node.specs.Ends.{ended_by}
+use Rattle.sync_node.proofs.hearing.receive_on.Goals as goal
+
+pub recv-requires-clause-link : goal.recv-requires-clause-link
+recv-requires-clause-link g c = c.requires.able.dialled
+
+pub recv-requires-clause-room : goal.recv-requires-clause-room
+recv-requires-clause-room g c = c.requires.room
+
+pub take_piece-requires-clause-able : goal.take_piece-requires-clause-able
+take_piece-requires-clause-able g c = able_calm _ _ _ _ _ _ _ c.recv.ensures.call c.recv.ensures.links.same_dialled c.requires.able
+
+pub take_piece-requires-clause-asked : goal.take_piece-requires-clause-asked
+take_piece-requires-clause-asked g c = c.requires.asked
+
+pub returns-in_err-take_piece-in-Got-clause-stays : goal.returns-in_err-take_piece-in-Got-clause-stays
+returns-in_err-take_piece-in-Got-clause-stays g c =
+    on_err _ _ (stays_then _ _ _ _ _ _ _ _ _ _ _ _
+    (works_heard c.cite_laws.ensures.fronts c.cite_laws.ensures.widen (g.C.Clients.meaning c.args.clients.now) c.args.number (heard.Got c.in-Got.count) c.recv.new.buf c.args.link.now c.args.store.now _ _ c.requires.able.dialled c.in-Got.ensures.call c.in-Got.ensures.links)
+    (rw c.new-piece.ensures at c.in_err-take_piece-in-Got.ensures.stays))
+
+pub end-requires : goal.end-requires
+end-requires g c = (c.requires.waits c.requires.asked).rest
+
+pub returns-in_ok-take_piece-in-Got-clause-able : goal.returns-in_ok-take_piece-in-Got-clause-able
+returns-in_ok-take_piece-in-Got-clause-able g c = c.in_ok-take_piece-in-Got.ensures.able
+
+pub returns-in_ok-take_piece-in-Got-clause-waits : goal.returns-in_ok-take_piece-in-Got-clause-waits
+returns-in_ok-take_piece-in-Got-clause-waits g c = c.in_ok-take_piece-in-Got.ensures.waits
+
+pub returns-in_ok-take_piece-in-Got-clause-works : goal.returns-in_ok-take_piece-in-Got-clause-works
+returns-in_ok-take_piece-in-Got-clause-works g c =
+    works_then _ _ _ _ _ _ _ _ _ _ _ _ _ _
+    (works_heard c.cite_laws.ensures.fronts c.cite_laws.ensures.widen (g.C.Clients.meaning c.args.clients.now) c.args.number (heard.Got c.in-Got.count) c.recv.new.buf c.args.link.now c.args.store.now _ _ c.requires.able.dialled c.in-Got.ensures.call c.in-Got.ensures.links)
+    (rw c.new-piece.ensures at c.in_ok-take_piece-in-Got.ensures.works)
+
+pub returns-in-Idle-clause-able : goal.returns-in-Idle-clause-able
+returns-in-Idle-clause-able g c = able_calm _ _ _ _ _ _ _ c.recv.ensures.call c.recv.ensures.links.same_dialled c.requires.able
+
+pub returns-in-Idle-clause-waits : goal.returns-in-Idle-clause-waits
+returns-in-Idle-clause-waits g c = c.requires.waits
+
+pub returns-in-Idle-clause-works : goal.returns-in-Idle-clause-works
+returns-in-Idle-clause-works g c =
+    (works_heard c.cite_laws.ensures.fronts c.cite_laws.ensures.widen (g.C.Clients.meaning c.args.clients.now) c.args.number heard.Idle c.recv.new.buf c.args.link.now c.args.store.now _ _ c.requires.able.dialled c.in-Idle.ensures.call c.in-Idle.ensures.links)
+
+pub returns-in-End-clause-able : goal.returns-in-End-clause-able
+returns-in-End-clause-able g c = able_calm _ _ _ _ _ _ _ c.recv.ensures.call c.recv.ensures.links.same_dialled c.requires.able
+
+pub returns-in-End-clause-waits : goal.returns-in-End-clause-waits
+returns-in-End-clause-waits g c = λ going. absurd (ended_not_going _ (sym c.ended-link.ensures ∙ going))
+
+pub returns-in-End-clause-works : goal.returns-in-End-clause-works
+returns-in-End-clause-works g c =
+    works_then _ _ _ _ _ _ _ _ _ _ _ _ _ _
+    (works_heard c.cite_laws.ensures.fronts c.cite_laws.ensures.widen (g.C.Clients.meaning c.args.clients.now) c.args.number heard.End c.recv.new.buf c.args.link.now c.args.store.now _ _ c.requires.able.dialled c.in-End.ensures.call c.in-End.ensures.links)
+    (works_ended _ _ _ _ _ _ _ _ refl (λ going. ended_not_going _ (sym c.ended-link.ensures ∙ going)) c.requires.asked)
+
+pub returns-in-Failed-clause-able : goal.returns-in-Failed-clause-able
+returns-in-Failed-clause-able g c = able_calm _ _ _ _ _ _ _ c.recv.ensures.call c.recv.ensures.links.same_dialled c.requires.able
+
+pub returns-in-Failed-clause-waits : goal.returns-in-Failed-clause-waits
+returns-in-Failed-clause-waits g c = λ going. cc
+
+pub returns-in-Failed-clause-works : goal.returns-in-Failed-clause-works
+returns-in-Failed-clause-works g c =
+    works_then _ _ _ _ _ _ _ _ _ _ _ _ _ _
+    (works_heard c.cite_laws.ensures.fronts c.cite_laws.ensures.widen (g.C.Clients.meaning c.args.clients.now) c.args.number heard.Failed c.recv.new.buf c.args.link.now c.args.store.now _ _ c.requires.able.dialled c.in-Failed.ensures.call c.in-Failed.ensures.links)
+    (works_ended _ _ _ _ _ _ _ _ refl (λ going. cc) c.requires.asked)
+
+pub returns-in_err-take_piece-in-Got-clause-stops : goal.returns-in_err-take_piece-in-Got-clause-stops
+returns-in_err-take_piece-in-Got-clause-stops g c = λ whole.
+    on_err _ _
+    (hears_stops _ _ _ _ _ _ c.recv.new.buf (c.recv.auto.buf ∙ whole) c.requires.asked c.in-Got.ensures.call.same_files c.cite_laws.ensures.widen c.in-Got.count _
+    c.in-Got.ensures.links c.in-Got.ensures.answer (rw c.new-piece.ensures at c.in_err-take_piece-in-Got.ensures.stops))
+
+pub returns-in_ok-take_piece-in-Got-clause-course : goal.returns-in_ok-take_piece-in-Got-clause-course
+returns-in_ok-take_piece-in-Got-clause-course g c = λ whole.
+    hears_piece _ _ _ _ _ _ c.recv.new.buf (c.recv.auto.buf ∙ whole) c.requires.asked c.in-Got.ensures.call.same_files c.cite_laws.ensures.widen c.in-Got.count _ _ _
+    c.in-Got.ensures.links c.in-Got.ensures.answer (rw c.new-piece.ensures at c.in_ok-take_piece-in-Got.ensures.course)
+
+pub returns-in-Idle-clause-course : goal.returns-in-Idle-clause-course
+returns-in-Idle-clause-course g c = λ whole.
+    hears_idle _ _ _ _ _ _ c.recv.new.buf (c.recv.auto.buf ∙ whole) c.requires.asked c.in-Idle.ensures.call.same_files c.in-Idle.ensures.links c.in-Idle.ensures.answer
+
+pub returns-in-End-clause-course : goal.returns-in-End-clause-course
+returns-in-End-clause-course g c = λ whole.
+    hears_ended _ _ _ _ _ _ c.recv.new.buf (c.recv.auto.buf ∙ whole) c.requires.asked c.in-End.ensures.call.same_files _
+    (c.ended-link.ensures ∙ ap ended_by c.end.ensures.ending) c.in-End.ensures.links c.in-End.ensures.answer
+
+pub returns-in-Failed-clause-course : goal.returns-in-Failed-clause-course
+returns-in-Failed-clause-course g c = λ whole.
+    hears_failed _ _ _ _ _ _ c.recv.new.buf (c.recv.auto.buf ∙ whole) c.requires.asked c.in-Failed.ensures.call.same_files c.in-Failed.ensures.links c.in-Failed.ensures.answer

@@ -1,0 +1,96 @@
+use Rattle.std.proofs.Common.{refl, ap, length, arith}
+use Rattle.record_stream.specs.Reading.{ReaderState}
+use Rattle.sync_node.proofs.TakeLaws.{more_works, open_for, skip_works, taken_able, taken_stays, taken_works}
+use Rattle.sync_node.proofs.WorkLaws.{on_err, stays_none, works_ended}
+use Rattle.sync_node.specs.CourseLaws.{next_bad, next_more, next_one, next_skipped, next_stops, next_stops_at_none}
+use Rattle.sync_node.proofs.hearing.take_next.Goals as goal
+
+pub take_one-requires : goal.take_one-requires
+take_one-requires g c = record { able = open_for _ c.args.number c.args.link.now.session _ _ _ c.learn.ensures.same_session c.requires.able }
+
+pub returns-in_err-place-clause-stays : goal.returns-in_err-place-clause-stays
+returns-in_err-place-clause-stays g c = on_err _ _ (stays_none _ _ _ _ _ _)
+
+pub returns-in_err-take_one-in-One-clause-stays : goal.returns-in_err-take_one-in-One-clause-stays
+returns-in_err-take_one-in-One-clause-stays g c =
+    on_err _ _
+    (taken_stays c.cite_laws.ensures.join c.cite_laws.ensures.follow _ _ _ _ _ _ c.learn.new.link c.in-One.place c.in-One.rec _ _ _ _ c.requires.asked refl
+    (rw c.in-One.is at c.in_ok-place.ensures.stream) c.learn.ensures c.in_err-take_one-in-One.ensures.safe)
+
+pub returns-in_ok-take_one-in-One-clause-able : goal.returns-in_ok-take_one-in-One-clause-able
+returns-in_ok-take_one-in-One-clause-able g c =
+    taken_able _ _ c.args.link.now.session _ c.in-One.rec _ _ _ _ c.learn.ensures.same_session c.requires.able c.in_ok-take_one-in-One.ensures.takes
+
+pub returns-in_ok-take_one-in-One-clause-left : goal.returns-in_ok-take_one-in-One-clause-left
+returns-in_ok-take_one-in-One-clause-left g c =
+    let left = rw c.in-One.is at c.in_ok-place.ensures.left in
+    omega (arith, left, ap (λ (r : ReaderState). length r.bytes) c.learn.ensures.same_reader)
+
+pub returns-in_ok-take_one-in-One-clause-works : goal.returns-in_ok-take_one-in-One-clause-works
+returns-in_ok-take_one-in-One-clause-works g c =
+    taken_works c.cite_laws.ensures.join c.cite_laws.ensures.follow _ _ _ _ _ _ c.learn.new.link c.in-One.place c.in-One.rec _ _ _ _ c.requires.asked refl refl
+    (rw c.in-One.is at c.in_ok-place.ensures.stream) c.learn.ensures c.in_ok-take_one-in-One.ensures.takes c.in_ok-take_one-in-One.ensures.safe
+
+pub returns-in-Skipped-clause-able : goal.returns-in-Skipped-clause-able
+returns-in-Skipped-clause-able g c = c.requires.able
+
+pub returns-in-Skipped-clause-left : goal.returns-in-Skipped-clause-left
+returns-in-Skipped-clause-left g c = rw c.in-Skipped.is at c.in_ok-place.ensures.left
+
+pub returns-in-Skipped-clause-works : goal.returns-in-Skipped-clause-works
+returns-in-Skipped-clause-works g c =
+    skip_works c.cite_laws.ensures.join c.cite_laws.ensures.follow _ _ _ _ _ _ c.in-Skipped.field-0 c.in-Skipped.field-1 c.in-Skipped.field-2 _ _ refl refl refl
+    (rw c.in-Skipped.is at c.in_ok-place.ensures.stream)
+
+pub returns-in-More-clause-able : goal.returns-in-More-clause-able
+returns-in-More-clause-able g c = c.requires.able
+
+pub returns-in-More-clause-left : goal.returns-in-More-clause-left
+returns-in-More-clause-left g c =
+    let left = rw c.in-More.is at c.in_ok-place.ensures.left in
+    (left.0, λ _. left.1)
+
+pub returns-in-More-clause-works : goal.returns-in-More-clause-works
+returns-in-More-clause-works g c = more_works c.cite_laws.ensures.follow _ _ _ _ _ _ _ _ refl refl refl (rw c.in-More.is at c.in_ok-place.ensures.stream)
+
+pub returns-in-Bad-clause-able : goal.returns-in-Bad-clause-able
+returns-in-Bad-clause-able g c = c.requires.able
+
+pub returns-in-Bad-clause-left : goal.returns-in-Bad-clause-left
+returns-in-Bad-clause-left g c =
+    let left = rw c.in-Bad.is at c.in_ok-place.ensures.left in
+    (left.0, λ _. left.1)
+
+pub returns-in-Bad-clause-works : goal.returns-in-Bad-clause-works
+returns-in-Bad-clause-works g c = works_ended _ _ _ _ _ _ _ _ refl (λ going. cc) c.requires.asked
+
+pub returns-in_err-place-clause-stops : goal.returns-in_err-place-clause-stops
+returns-in_err-place-clause-stops g c = on_err _ _ (next_stops_at_none _ _ _ _ _ _)
+
+pub returns-in_err-take_one-in-One-clause-stops : goal.returns-in_err-take_one-in-One-clause-stops
+returns-in_err-take_one-in-One-clause-stops g c =
+    on_err _ _
+    (next_stops c.cite_laws.ensures.follow _ _ c.in-One.place c.in-One.rec _ _ _ _ c.learn.new.link _ _ _ refl
+    (rw c.in-One.is at c.in_ok-place.ensures.stream) c.learn.ensures c.in_err-take_one-in-One.ensures.stops)
+
+pub returns-in_ok-take_one-in-One-clause-course : goal.returns-in_ok-take_one-in-One-clause-course
+returns-in_ok-take_one-in-One-clause-course g c =
+    next_one c.cite_laws.ensures.follow _ _ c.in-One.place c.in-One.rec _ _ _ _ c.learn.new.link _ _ _ _ c.requires.asked refl refl refl
+    (rw c.in-One.is at c.in_ok-place.ensures.stream) c.learn.ensures c.in_ok-take_one-in-One.ensures.course
+
+pub returns-in-Skipped-clause-course : goal.returns-in-Skipped-clause-course
+returns-in-Skipped-clause-course g c =
+    next_skipped c.cite_laws.ensures.follow _ _ c.in-Skipped.field-0 c.in-Skipped.field-1 c.in-Skipped.field-2 _ _ _ _ _ _ c.requires.asked refl refl refl
+    c.requires.able.settled (rw c.in-Skipped.is at c.in_ok-place.ensures.stream)
+
+pub returns-in-More-clause-course : goal.returns-in-More-clause-course
+returns-in-More-clause-course g c =
+    let left = rw c.in-More.is at c.in_ok-place.ensures.left in
+    next_more c.cite_laws.ensures.follow c.cite_laws.ensures.ends c.cite_laws.ensures.rests_give _ _ _ _ _ _ _ _ c.requires.asked refl refl refl
+    c.requires.able.settled (rw c.in-More.is at c.in_ok-place.ensures.stream) left.0 left.1 left.3
+
+pub returns-in-Bad-clause-course : goal.returns-in-Bad-clause-course
+returns-in-Bad-clause-course g c =
+    let left = rw c.in-Bad.is at c.in_ok-place.ensures.left in
+    next_bad c.cite_laws.ensures.follow _ _ c.in-Bad.place c.in-Bad.reason _ _ _ _ _ _ c.requires.asked refl refl refl c.requires.able.settled
+    (rw c.in-Bad.is at c.in_ok-place.ensures.stream) left.0 left.1 left.2

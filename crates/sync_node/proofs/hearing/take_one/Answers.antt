@@ -1,0 +1,69 @@
+use Rattle.sync_node.proofs.TakeLaws.{take_allowed, take_is, take_kind, take_safe, take_safe_none, take_safe_then, taken_on}
+use Rattle.sync_node.proofs.WorkLaws.{on_err, on_err_then, on_ok}
+use Rattle.sync_node.specs.CourseLaws.{stops_at_commit, stops_at_none, stops_at_settle, takes_course, take_named}
+use Rattle.sync_node.proofs.hearing.take_one.Goals as goal
+
+pub commit-requires-clause-ready : goal.commit-requires-clause-ready
+commit-requires-clause-ready g c = c.requires.able.ready
+
+pub commit-requires-clause-allowed : goal.commit-requires-clause-allowed
+commit-requires-clause-allowed g c = take_allowed _ _ c.takes-taken.result c.args.rec _ _ c.in_ok-batch.batch c.requires.able c.records_are_within.ensures c.takes-taken.ensures c.in_ok-batch.ensures
+
+pub commit-requires-clause-kind : goal.commit-requires-clause-kind
+commit-requires-clause-kind g c = take_kind c.args.store.now.state.facts c.args.session.now c.takes-taken.result c.args.rec c.in_ok-batch.batch c.in_ok-batch.ensures
+
+pub returns-in_err-batch-clause-safe : goal.returns-in_err-batch-clause-safe
+returns-in_err-batch-clause-safe g c = take_safe_none _ _ _ _ _
+
+pub returns-in_err-commit-clause-safe : goal.returns-in_err-commit-clause-safe
+returns-in_err-commit-clause-safe g c =
+    take_safe _ _ _ _ _ _ _ c.in_ok-batch.batch c.requires.able (take_is c.args.store.now.state.facts c.args.session.now c.takes-taken.result c.args.rec c.in_ok-batch.batch c.takes-taken.ensures c.in_ok-batch.ensures) c.in_err-commit.ensures.safe
+
+pub settle-requires : goal.settle-requires
+settle-requires g c = record { ready = c.in_ok-commit.ensures.commits.ready }
+
+pub returns-clause-takes : goal.returns-clause-takes
+returns-clause-takes g c =
+    let allowed = take_allowed _ _ c.takes-taken.result c.args.rec _ _ c.in_ok-batch.batch c.requires.able c.records_are_within.ensures c.takes-taken.ensures c.in_ok-batch.ensures in
+    on_ok c.settle.result _ _
+    (taken_on _ _ _ _ _ _ _ _ _ c.in_ok-batch.batch
+    (take_is c.args.store.now.state.facts c.args.session.now c.takes-taken.result c.args.rec c.in_ok-batch.batch c.takes-taken.ensures c.in_ok-batch.ensures) allowed c.in_ok-commit.ensures.commits)
+    c.settle.ensures.settles
+
+pub returns-clause-safe : goal.returns-clause-safe
+returns-clause-safe g c =
+    take_safe_then _ _ _ _ _ _ _ _ _
+    (take_safe _ _ _ _ _ _ _ c.in_ok-batch.batch c.requires.able (take_is c.args.store.now.state.facts c.args.session.now c.takes-taken.result c.args.rec c.in_ok-batch.batch c.takes-taken.ensures c.in_ok-batch.ensures) c.in_ok-commit.ensures.safe)
+    c.settle.ensures.safe
+
+pub returns-in_err-batch-clause-stops : goal.returns-in_err-batch-clause-stops
+returns-in_err-batch-clause-stops g c = on_err _ _ (stops_at_none _ _ _ _ _)
+
+pub returns-in_err-commit-clause-stops : goal.returns-in_err-commit-clause-stops
+returns-in_err-commit-clause-stops g c =
+    let allowed = take_allowed _ _ c.takes-taken.result c.args.rec _ _ c.in_ok-batch.batch c.requires.able c.records_are_within.ensures c.takes-taken.ensures c.in_ok-batch.ensures in
+    on_err _ _
+    (stops_at_commit _ _ c.args.rec _ _ _ c.in_ok-batch.batch
+    (take_named c.args.store.now.state.facts c.args.session.now c.args.rec c.in_ok-batch.batch c.requires.able.known
+    (take_is c.args.store.now.state.facts c.args.session.now c.takes-taken.result c.args.rec c.in_ok-batch.batch c.takes-taken.ensures c.in_ok-batch.ensures)) allowed
+    c.in_err-commit.ensures.adds_some)
+
+pub returns-clause-course : goal.returns-clause-course
+returns-clause-course g c =
+    let allowed = take_allowed _ _ c.takes-taken.result c.args.rec _ _ c.in_ok-batch.batch c.requires.able c.records_are_within.ensures c.takes-taken.ensures c.in_ok-batch.ensures in
+    on_ok c.settle.result _ _
+    (takes_course _ _ c.args.rec _ _ _ _ _ _ c.in_ok-batch.batch
+    (take_named c.args.store.now.state.facts c.args.session.now c.args.rec c.in_ok-batch.batch c.requires.able.known
+    (take_is c.args.store.now.state.facts c.args.session.now c.takes-taken.result c.args.rec c.in_ok-batch.batch c.takes-taken.ensures c.in_ok-batch.ensures)) allowed
+    c.in_ok-commit.ensures.commits.facts c.in_ok-commit.ensures.adds)
+    c.settle.ensures.adds
+
+pub returns-clause-stops : goal.returns-clause-stops
+returns-clause-stops g c =
+    let allowed = take_allowed _ _ c.takes-taken.result c.args.rec _ _ c.in_ok-batch.batch c.requires.able c.records_are_within.ensures c.takes-taken.ensures c.in_ok-batch.ensures in
+    on_err_then c.settle.result _ _
+    (stops_at_settle _ _ c.args.rec _ _ _ _ _ c.in_ok-batch.batch
+    (take_named c.args.store.now.state.facts c.args.session.now c.args.rec c.in_ok-batch.batch c.requires.able.known
+    (take_is c.args.store.now.state.facts c.args.session.now c.takes-taken.result c.args.rec c.in_ok-batch.batch c.takes-taken.ensures c.in_ok-batch.ensures)) allowed
+    c.in_ok-commit.ensures.commits.facts c.in_ok-commit.ensures.adds)
+    c.settle.ensures.adds_some

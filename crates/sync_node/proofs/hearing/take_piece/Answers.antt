@@ -1,0 +1,43 @@
+use Rattle.sync_node.proofs.TakeLaws.{none_left}
+use Rattle.sync_node.proofs.WorkLaws.{on_err, stays_then, works_closed, works_none, works_then}
+use Rattle.sync_node.specs.CourseLaws.{piece_closed, piece_none, piece_stops, piece_taken, piece_then}
+use Rattle.sync_node.proofs.hearing.take_piece.Goals as goal
+
+pub items-init : goal.items-init
+items-init g c = record { able = c.requires.able; course = piece_none _ _ _ _ _ _ c.requires.asked; works = works_none _ _ _ _ _ _ }
+
+pub returns-then-not-branch-clause-works : goal.returns-then-not-branch-clause-works
+returns-then-not-branch-clause-works g c =
+    let none = none_left c.items.link c.items.piece c.take_next.new.link c.take_next.new.piece c.in_ok-take_next.field-0 c.if-not-branch.true c.in_ok-take_next.ensures.left in
+    rw none at (works_then _ _ _ _ _ _ _ _ _ _ _ _ _ _ c.items.invariant.works c.in_ok-take_next.ensures.works)
+
+pub returns-in_err-take_next-clause-stays : goal.returns-in_err-take_next-clause-stays
+returns-in_err-take_next-clause-stays g c = on_err _ _ (stays_then _ _ _ _ _ _ _ _ _ _ _ _ c.items.invariant.works c.in_err-take_next.ensures.stays)
+
+pub items-preserved : goal.items-preserved
+items-preserved g c = record {
+  able = c.in_ok-take_next.ensures.able;
+  course = piece_then _ _ _ _ _ _ _ _ _ _ c.items.invariant.works.same_session (c.is_asked.ensures.0 c.items-test.true) c.items.invariant.course _ _ _ _
+      (rw c.if-not-branch.false at c.in_ok-take_next.ensures.course);
+  works = works_then _ _ _ _ _ _ _ _ _ _ _ _ _ _ c.items.invariant.works c.in_ok-take_next.ensures.works;
+}
+
+pub returns-clause-works : goal.returns-clause-works
+returns-clause-works g c =
+    works_closed _ _ _ _ _ _ _ _ _ _ _ (λ going. let yes = c.is_asked.ensures.1 going in let no = c.items-test.false in cc) c.items.invariant.works
+
+pub returns-then-not-branch-clause-course : goal.returns-then-not-branch-clause-course
+returns-then-not-branch-clause-course g c =
+    piece_taken _ _ _ _ _ _ _ _ _ _ c.items.invariant.works.same_session (c.is_asked.ensures.0 c.items-test.true) c.items.invariant.course _ _ _ _
+    (rw c.if-not-branch.true at c.in_ok-take_next.ensures.course)
+
+pub returns-in_err-take_next-clause-stops : goal.returns-in_err-take_next-clause-stops
+returns-in_err-take_next-clause-stops g c =
+    on_err _ _
+    (piece_stops _ _ _ _ _ _ _ _ _ _ c.items.invariant.works.same_session (c.is_asked.ensures.0 c.items-test.true) c.items.invariant.course _
+    c.in_err-take_next.ensures.stops)
+
+pub returns-clause-course : goal.returns-clause-course
+returns-clause-course g c =
+    piece_closed _ _ _ _ _ _ _ _ _ _ (λ going. let yes = c.is_asked.ensures.1 going in let no = c.items-test.false in cc) c.items.invariant.able.settled
+    c.items.invariant.course

@@ -1,0 +1,80 @@
+use Rattle.std.proofs.Common.{List, ℕ, arith, refl, ap, ◌∙◌, length}
+use Rattle.sync_node.specs.declared.link.Link.{Link}
+use Rattle.sync_node.specs.Node.{NodeValue}
+use Rattle.sync_node.proofs.AttachLaws.{attached_last, attached_may, node_attaches, node_plans, node_settled, one_longer, plan_allowed, plans_as, plans_same}
+use Rattle.sync_node.specs.Plans.{session_of}
+use Rattle.sync_node.proofs.NodeLaws.{fault_answers, is_closed_node, is_node, node_may, stays_closed}
+use Rattle.sync_node.proofs.node.Node.attach.Goals as goal
+
+pub same-self : goal.same-self
+same-self g c = refl
+
+pub returns-then-self-clause-closed : goal.returns-then-self-clause-closed
+returns-then-self-clause-closed g c = λ closed. stays_closed _ _
+
+pub returns-then-self-clause-answer : goal.returns-then-self-clause-answer
+returns-then-self-clause-answer g c = λ opened. absurd (let yes = ap (λ (n : NodeValue). n.closed) c.self.view_is in let is = c.if-self.true in cc)
+
+pub returns-then-self-clause-may : goal.returns-then-self-clause-may
+returns-then-self-clause-may g c = c.requires.may
+
+pub returns-then-self-clause-safe : goal.returns-then-self-clause-safe
+returns-then-self-clause-safe g c = plans_same c.cite_laws.ensures.fronts _ _ _ _
+
+pub attach_on-requires-clause-ready : goal.attach_on-requires-clause-ready
+attach_on-requires-clause-ready g c = (node_may _ _ c.self.inside.first _ c.self.inside.closed _ _ c.self.view_is c.requires.may c.if-self.false).ready
+
+pub attach_on-requires-clause-allowed : goal.attach_on-requires-clause-allowed
+attach_on-requires-clause-allowed g c =
+    plan_allowed (g.C.Clients.meaning c.args.clients.now) c.self.inside.store.state.facts (session_of c.sessions.result c.args.plan.now c.args.nonce)
+    (node_settled (g.C.Clients.meaning c.args.clients.now) c.self.inside.store c.self.inside.first c.self.inside.links.items c.self.inside.closed _ c.self.view_is c.requires.settled c.if-self.false) c.sessions.ensures
+    (omega (arith, c.requires.contact, ap (λ (n : NodeValue). n.store.state.facts.contacts) c.self.view_is)) c.requires.latency c.requires.nonce
+
+pub attach_on-requires-clause-dialled : goal.attach_on-requires-clause-dialled
+attach_on-requires-clause-dialled g c = c.requires.dialled
+
+pub invariant_of-self : goal.invariant_of-self
+invariant_of-self g c = (
+  c.self.invariant.0,
+  is_node _ _ _ _
+      (omega (arith, c.requires.few, c.requires.next, ap (λ (n : NodeValue). length n.links) c.self.view_is, one_longer _ c.args.link (session_of c.sessions.result c.args.plan.now c.args.nonce) _ _ _ _ _ _ c.in-Ok.ensures.starts))
+      (attached_last _ c.self.inside.first c.args.link (session_of c.sessions.result c.args.plan.now c.args.nonce) _ _ _ _ _ _ (c.self.invariant.1.attached c.if-self.false) c.sessions.ensures (omega (arith, c.requires.next, ap (λ (n : NodeValue). length n.links) c.self.view_is)) c.in-Ok.ensures.starts),
+)
+
+pub invariant_of-self-in-Err : goal.invariant_of-self-in-Err
+invariant_of-self-in-Err g c = (c.self.invariant.0, is_closed_node _ _ _ (omega (arith, c.self.invariant.1.few, ap (λ (ls : List Link). length ls) c.in-Err.ensures.same)))
+
+pub returns-in-Ok-clause-closed : goal.returns-in-Ok-clause-closed
+returns-in-Ok-clause-closed g c = λ closed. absurd (let is = ap (λ (n : NodeValue). n.closed) c.self.view_is in let no = c.if-self.false in cc)
+
+pub returns-in-Ok-clause-answer : goal.returns-in-Ok-clause-answer
+returns-in-Ok-clause-answer g c = λ _. c.if-self.false
+
+pub returns-in-Ok-clause-may : goal.returns-in-Ok-clause-may
+returns-in-Ok-clause-may g c = λ _. attached_may _ c.args.link (session_of c.sessions.result c.args.plan.now c.args.nonce) c.self.inside.links.items _ _ _ _ _ c.requires.dialled (omega (arith, c.requires.next, ap (λ (n : NodeValue). length n.links) c.self.view_is)) c.in-Ok.ensures.starts
+
+pub returns-in-Ok-clause-joined : goal.returns-in-Ok-clause-joined
+returns-in-Ok-clause-joined g c =
+    node_attaches _ c.self.inside.first c.args.link (session_of c.sessions.result c.args.plan.now c.args.nonce) c.self.inside.links.items _ _ _ _ _ c.self.inside.closed _ _ c.self.view_is (c.self.invariant.1.attached c.if-self.false) c.sessions.ensures
+    (omega (arith, c.requires.next, ap (λ (n : NodeValue). length n.links) c.self.view_is)) c.in-Ok.ensures.starts
+
+pub returns-in-Ok-clause-safe : goal.returns-in-Ok-clause-safe
+returns-in-Ok-clause-safe g c =
+    plans_as _ (session_of c.sessions.result c.args.plan.now c.args.nonce) _ _ _ _ _ (ap (λ (k : ℕ). session_of k c.args.plan.now c.args.nonce) (c.sessions.ensures ∙ ap (λ (n : NodeValue). n.store.state.facts.begun) c.self.view_is))
+    (node_plans _ c.self.inside.first c.args.link (session_of c.sessions.result c.args.plan.now c.args.nonce) c.self.inside.links.items _ _ _ _ _ c.self.inside.closed _ _ c.self.view_is (c.self.invariant.1.attached c.if-self.false) c.sessions.ensures
+    (omega (arith, c.requires.next, ap (λ (n : NodeValue). length n.links) c.self.view_is)) c.in-Ok.ensures.safe)
+
+pub returns-in-Err-clause-closed : goal.returns-in-Err-clause-closed
+returns-in-Err-clause-closed g c = λ closed. absurd (let is = ap (λ (n : NodeValue). n.closed) c.self.view_is in let no = c.if-self.false in cc)
+
+pub returns-in-Err-clause-answer : goal.returns-in-Err-clause-answer
+returns-in-Err-clause-answer g c = λ _. fault_answers (Unit {0}) c.in-Err.fault _ _ c.from.ensures refl
+
+pub returns-in-Err-clause-may : goal.returns-in-Err-clause-may
+returns-in-Err-clause-may g c = λ opened. cc
+
+pub returns-in-Err-clause-safe : goal.returns-in-Err-clause-safe
+returns-in-Err-clause-safe g c =
+    plans_as _ (session_of c.sessions.result c.args.plan.now c.args.nonce) _ _ _ _ _ (ap (λ (k : ℕ). session_of k c.args.plan.now c.args.nonce) (c.sessions.ensures ∙ ap (λ (n : NodeValue). n.store.state.facts.begun) c.self.view_is))
+    (node_plans _ c.self.inside.first c.args.link (session_of c.sessions.result c.args.plan.now c.args.nonce) c.self.inside.links.items _ _ _ _ _ c.self.inside.closed _ _ c.self.view_is (c.self.invariant.1.attached c.if-self.false) c.sessions.ensures
+    (omega (arith, c.requires.next, ap (λ (n : NodeValue). length n.links) c.self.view_is)) c.in-Err.ensures.safe)

@@ -1,0 +1,125 @@
+use Rattle.std.proofs.Common.{Bool, ◌<◌, List, ℕ, arith, refl, ap, sym, ◌∙◌, length, Some}
+use Rattle.std.specs.List.{slice_get}
+use Rattle.std.proofs.lemmas.Option.{slice_get-get_or}
+use Rattle.sync_node.specs.Node.{NodeValue}
+use Rattle.sync_node.proofs.NodeLaws.{fault_answers, all_safe, is_closed_node, is_node, kept_long, length_set, link_able, links_go_on, links_one, node_keeps, node_may, node_safe, node_same, stays_closed}
+use Rattle.sync_node.specs.CourseCalls.{receives, receiving_broken}
+use Rattle.sync_node.proofs.CourseNode.{node_receives, node_receiving_broken}
+use Rattle.sync_node.proofs.node.Node.receive.Goals as goal
+
+pub same-self : goal.same-self
+same-self g c = refl
+
+pub returns-then-self-clause-closed : goal.returns-then-self-clause-closed
+returns-then-self-clause-closed g c = λ closed. stays_closed _ _
+
+pub returns-then-self-clause-answer : goal.returns-then-self-clause-answer
+returns-then-self-clause-answer g c = λ opened. absurd (let yes = ap (λ (n : NodeValue). n.closed) c.self.view_is in let is = c.if-self.true in cc)
+
+pub returns-then-self-clause-may : goal.returns-then-self-clause-may
+returns-then-self-clause-may g c = c.requires.may
+
+pub returns-then-self-clause-safe : goal.returns-then-self-clause-safe
+returns-then-self-clause-safe g c = node_same _ _ _
+
+pub index_mut-requires : goal.index_mut-requires
+index_mut-requires g c = omega (arith, c.requires.attached, ap (λ (n : NodeValue). length n.links) c.self.view_is)
+
+pub receive_on-requires-clause-able : goal.receive_on-requires-clause-able
+receive_on-requires-clause-able g c =
+    let within : c.args.link < length c.self.inside.links.items = omega (arith, c.requires.attached, ap (λ (n : NodeValue). length n.links) c.self.view_is) in
+    let here = slice_get-get_or c.self.inside.links.items c.args.link c.index_mut.result.now within ∙ ap Some (sym c.index_mut.ensures.value) in
+    link_able _ c.self.inside.first c.args.link c.self.inside.links.items _ _ _ (node_may _ _ c.self.inside.first _ c.self.inside.closed _ _ c.self.view_is c.requires.may c.if-self.false)
+    (c.self.invariant.1.attached c.if-self.false) here
+
+pub receive_on-requires-clause-waits : goal.receive_on-requires-clause-waits
+receive_on-requires-clause-waits g c =
+    let within : c.args.link < length c.self.inside.links.items = omega (arith, c.requires.attached, ap (λ (n : NodeValue). length n.links) c.self.view_is) in
+    let here = slice_get-get_or c.self.inside.links.items c.args.link c.index_mut.result.now within ∙ ap Some (sym c.index_mut.ensures.value) in
+    ((c.self.invariant.1.attached c.if-self.false).each c.args.link _ here).waits
+
+pub receive_on-requires-clause-asked : goal.receive_on-requires-clause-asked
+receive_on-requires-clause-asked g c =
+    let within : c.args.link < length c.self.inside.links.items = omega (arith, c.requires.attached, ap (λ (n : NodeValue). length n.links) c.self.view_is) in
+    let here = slice_get-get_or c.self.inside.links.items c.args.link c.index_mut.result.now within ∙ ap Some (sym c.index_mut.ensures.value) in
+    c.requires.asked _ (ap (λ (n : NodeValue). slice_get n.links c.args.link) (sym c.self.view_is) ∙ here)
+
+pub receive_on-requires-clause-room : goal.receive_on-requires-clause-room
+receive_on-requires-clause-room g c = omega (arith, c.self.invariant.0, ap (λ (b : List ℕ). length b) c.as_mut_slice.ensures.value)
+
+pub invariant_of-self : goal.invariant_of-self
+invariant_of-self g c =
+    let within : c.args.link < length c.self.inside.links.items = omega (arith, c.requires.attached, ap (λ (n : NodeValue). length n.links) c.self.view_is) in
+    let here = slice_get-get_or c.self.inside.links.items c.args.link c.index_mut.result.now within ∙ ap Some (sym c.index_mut.ensures.value) in
+    let works = links_one _ c.self.inside.first c.args.link c.self.inside.links.items _ c.receive_on.new.link _ _ _ _ (c.self.invariant.1.attached c.if-self.false) here c.in-Ok.ensures.works c.in-Ok.ensures.waits in (
+      kept_long c.self.inside.buffer.len _ c.self.inside.buffer.items c.receive_on.new.buffer c.self.invariant.0 (omega (arith, c.as_mut_slice.ensures.len, ap (λ (b : List ℕ). length b) c.as_mut_slice.ensures.value))
+          (omega (arith, c.receive_on.auto.buffer, ap (λ (b : List ℕ). length b) c.as_mut_slice.ensures.value)),
+      is_node _ _ _ _ (omega (arith, c.self.invariant.1.few, works.same_number)) works.attached,
+    )
+
+pub invariant_of-self-in-Err : goal.invariant_of-self-in-Err
+invariant_of-self-in-Err g c = (
+  kept_long c.self.inside.buffer.len _ c.self.inside.buffer.items c.receive_on.new.buffer c.self.invariant.0 (omega (arith, c.as_mut_slice.ensures.len, ap (λ (b : List ℕ). length b) c.as_mut_slice.ensures.value))
+      (omega (arith, c.receive_on.auto.buffer, ap (λ (b : List ℕ). length b) c.as_mut_slice.ensures.value)),
+  is_closed_node _ _ _ (omega (arith, c.self.invariant.1.few, length_set c.self.inside.links.items c.args.link c.receive_on.new.link)),
+)
+
+pub returns-in-Ok-clause-closed : goal.returns-in-Ok-clause-closed
+returns-in-Ok-clause-closed g c = λ closed. absurd (let is = ap (λ (n : NodeValue). n.closed) c.self.view_is in let no = c.if-self.false in cc)
+
+pub returns-in-Ok-clause-answer : goal.returns-in-Ok-clause-answer
+returns-in-Ok-clause-answer g c = λ _. c.if-self.false
+
+pub returns-in-Ok-clause-may : goal.returns-in-Ok-clause-may
+returns-in-Ok-clause-may g c = λ opened.
+    links_go_on _ c.args.link c.self.inside.links.items _ _ _ _ _ _ (node_may _ _ c.self.inside.first _ c.self.inside.closed _ _ c.self.view_is c.requires.may c.if-self.false)
+    (length_set c.self.inside.links.items c.args.link c.receive_on.new.link) c.in-Ok.ensures.works.goes c.in-Ok.ensures.able
+
+pub returns-in-Ok-clause-joined : goal.returns-in-Ok-clause-joined
+returns-in-Ok-clause-joined g c =
+    let within : c.args.link < length c.self.inside.links.items = omega (arith, c.requires.attached, ap (λ (n : NodeValue). length n.links) c.self.view_is) in
+    let here = slice_get-get_or c.self.inside.links.items c.args.link c.index_mut.result.now within ∙ ap Some (sym c.index_mut.ensures.value) in
+    node_keeps _ _ _ c.self.inside.first _ _ c.self.inside.closed _ _ _ _ c.self.view_is
+    (links_one _ c.self.inside.first c.args.link c.self.inside.links.items _ c.receive_on.new.link _ _ _ _ (c.self.invariant.1.attached c.if-self.false) here c.in-Ok.ensures.works c.in-Ok.ensures.waits)
+
+pub returns-in-Ok-clause-safe : goal.returns-in-Ok-clause-safe
+returns-in-Ok-clause-safe g c =
+    let within : c.args.link < length c.self.inside.links.items = omega (arith, c.requires.attached, ap (λ (n : NodeValue). length n.links) c.self.view_is) in
+    let here = slice_get-get_or c.self.inside.links.items c.args.link c.index_mut.result.now within ∙ ap Some (sym c.index_mut.ensures.value) in
+    node_safe _ _ _ c.self.inside.first c.self.inside.links.items _ c.self.inside.closed _ _ _ _ c.self.view_is
+    (record { safe = all_safe _ c.self.inside.first c.args.link c.self.inside.links.items _ _ _ _ _ (c.self.invariant.1.attached c.if-self.false) here c.in-Ok.ensures.works.stays })
+
+pub returns-in-Err-clause-closed : goal.returns-in-Err-clause-closed
+returns-in-Err-clause-closed g c = λ closed. absurd (let is = ap (λ (n : NodeValue). n.closed) c.self.view_is in let no = c.if-self.false in cc)
+
+pub returns-in-Err-clause-answer : goal.returns-in-Err-clause-answer
+returns-in-Err-clause-answer g c = λ _. fault_answers Bool c.in-Err.fault _ _ c.from.ensures refl
+
+pub returns-in-Err-clause-may : goal.returns-in-Err-clause-may
+returns-in-Err-clause-may g c = λ opened. cc
+
+pub returns-in-Err-clause-safe : goal.returns-in-Err-clause-safe
+returns-in-Err-clause-safe g c =
+    let within : c.args.link < length c.self.inside.links.items = omega (arith, c.requires.attached, ap (λ (n : NodeValue). length n.links) c.self.view_is) in
+    let here = slice_get-get_or c.self.inside.links.items c.args.link c.index_mut.result.now within ∙ ap Some (sym c.index_mut.ensures.value) in
+    node_safe _ _ _ c.self.inside.first c.self.inside.links.items _ c.self.inside.closed _ _ _ _ c.self.view_is
+    (record { safe = all_safe _ c.self.inside.first c.args.link c.self.inside.links.items _ _ _ _ _ (c.self.invariant.1.attached c.if-self.false) here c.in-Err.ensures.stays })
+
+pub returns-then-self-clause-halts : goal.returns-then-self-clause-halts
+returns-then-self-clause-halts g c = λ opened. absurd (let yes = ap (λ (n : NodeValue). n.closed) c.self.view_is in let is = c.if-self.true in cc)
+
+pub returns-in-Ok-clause-course : goal.returns-in-Ok-clause-course
+returns-in-Ok-clause-course g c = λ opened.
+    let within : c.args.link < length c.self.inside.links.items = omega (arith, c.requires.attached, ap (λ (n : NodeValue). length n.links) c.self.view_is) in
+    let here = slice_get-get_or c.self.inside.links.items c.args.link c.index_mut.result.now within ∙ ap Some (sym c.index_mut.ensures.value) in
+    let numbered = ((c.self.invariant.1.attached c.if-self.false).each c.args.link _ here).numbered in
+    node_receives _ _ c.self.inside.first _ c.self.inside.closed _ _ _ c.self.view_is c.args.link _ _ c.in-Ok.idle
+    (receives _ c.self.inside.first c.args.link c.self.inside.links.items _ _ _ here numbered c.receive_on.new.link _ _ c.in-Ok.idle (c.in-Ok.ensures.course (ap (λ (b : List ℕ). length b) c.as_mut_slice.ensures.value ∙ c.self.invariant.0)))
+
+pub returns-in-Err-clause-halts : goal.returns-in-Err-clause-halts
+returns-in-Err-clause-halts g c = λ opened.
+    let within : c.args.link < length c.self.inside.links.items = omega (arith, c.requires.attached, ap (λ (n : NodeValue). length n.links) c.self.view_is) in
+    let here = slice_get-get_or c.self.inside.links.items c.args.link c.index_mut.result.now within ∙ ap Some (sym c.index_mut.ensures.value) in
+    let numbered = ((c.self.invariant.1.attached c.if-self.false).each c.args.link _ here).numbered in
+    node_receiving_broken _ _ c.self.inside.first _ c.self.inside.closed _ _ _ c.self.view_is c.args.link
+    (receiving_broken _ c.self.inside.first c.args.link c.self.inside.links.items _ _ _ here numbered _ (c.in-Err.ensures.stops (ap (λ (b : List ℕ). length b) c.as_mut_slice.ensures.value ∙ c.self.invariant.0)))

@@ -1,0 +1,185 @@
+use Rattle.std.proofs.Common.{List, ℕ, arith, refl, ap, ◌∙◌, length}
+use Rattle.sync_node.specs.declared.link.Link.{Link}
+use Rattle.sync_node.specs.declared.node.Turned.{Turned}
+use Rattle.sync_node.specs.Node.{NodeValue}
+use Rattle.sync_node.proofs.NodeLaws.{fault_answers, attached_as, is_closed_node, is_node, kept_long, kept_same, links_as, may_as, node_keeps, node_may, node_safe, node_same, safe_as, some_as, stays_closed, works_safe}
+use Rattle.sync_node.proofs.CourseNode.{node_turn_broken, node_turns}
+use Rattle.sync_node.proofs.node.Node.turn.Goals as goal
+
+pub same-self : goal.same-self
+same-self g c = refl
+
+pub returns-then-self-clause-closed : goal.returns-then-self-clause-closed
+returns-then-self-clause-closed g c = λ closed. stays_closed _ _
+
+pub returns-then-self-clause-answer : goal.returns-then-self-clause-answer
+returns-then-self-clause-answer g c = λ opened. absurd (let yes = ap (λ (n : NodeValue). n.closed) c.self.view_is in let is = c.if-self.true in cc)
+
+pub returns-then-self-clause-may : goal.returns-then-self-clause-may
+returns-then-self-clause-may g c = c.requires.may
+
+pub returns-then-self-clause-safe : goal.returns-then-self-clause-safe
+returns-then-self-clause-safe g c = node_same _ _ _
+
+pub turn_all-requires-clause-may : goal.turn_all-requires-clause-may
+turn_all-requires-clause-may g c =
+    may_as _ _ _ _ _ c.as_mut_slice.ensures.value (node_may _ _ c.self.inside.first _ c.self.inside.closed _ _ c.self.view_is c.requires.may c.if-self.false)
+
+pub turn_all-requires-clause-few : goal.turn_all-requires-clause-few
+turn_all-requires-clause-few g c = omega (arith, c.self.invariant.1.few, ap (λ (ls : List Link). length ls) c.as_mut_slice.ensures.value)
+
+pub turn_all-requires-clause-attached : goal.turn_all-requires-clause-attached
+turn_all-requires-clause-attached g c = some_as c.self.inside.first _ _ _ c.as_mut_slice.ensures.value (c.self.invariant.1.attached c.if-self.false)
+
+pub turn_all-requires-clause-room : goal.turn_all-requires-clause-room
+turn_all-requires-clause-room g c = omega (arith, c.self.invariant.0, ap (λ (b : List ℕ). length b) c.as_mut_slice-2.ensures.value)
+
+pub invariant_of-self : goal.invariant_of-self
+invariant_of-self g c =
+    let works = (links_as _ c.self.inside.first _ _ _ _ _ _ _ _ c.as_mut_slice.ensures.value
+    (kept_same c.self.inside.links.len c.self.inside.links.items c.turn_all.new.links
+    (omega (arith, c.as_mut_slice.ensures.len, ap (λ (ls : List Link). length ls) c.as_mut_slice.ensures.value))
+    (omega (arith, c.turn_all.auto.links, ap (λ (ls : List Link). length ls) c.as_mut_slice.ensures.value)))
+    (c.in-Ok-true.ensures.works c.self.inside.first (attached_as c.self.inside.first _ _ _ c.as_mut_slice.ensures.value (c.self.invariant.1.attached c.if-self.false)))) in (
+      kept_long c.self.inside.buffer.len _ c.self.inside.buffer.items c.turn_all.new.buffer c.self.invariant.0
+          (omega (arith, c.as_mut_slice-2.ensures.len, ap (λ (b : List ℕ). length b) c.as_mut_slice-2.ensures.value))
+          (omega (arith, c.turn_all.auto.buffer, ap (λ (b : List ℕ). length b) c.as_mut_slice-2.ensures.value)),
+      is_node _ _ _ _ (omega (arith, c.self.invariant.1.few, works.same_number)) works.attached,
+    )
+
+pub returns-in-Ok-true-clause-closed : goal.returns-in-Ok-true-clause-closed
+returns-in-Ok-true-clause-closed g c = λ closed. absurd (let is = ap (λ (n : NodeValue). n.closed) c.self.view_is in let no = c.if-self.false in cc)
+
+pub returns-in-Ok-true-clause-answer : goal.returns-in-Ok-true-clause-answer
+returns-in-Ok-true-clause-answer g c = λ _. c.if-self.false
+
+pub returns-in-Ok-true-clause-may : goal.returns-in-Ok-true-clause-may
+returns-in-Ok-true-clause-may g c = λ opened.
+    may_as _ _ _ _ _
+    (kept_same c.self.inside.links.len c.self.inside.links.items c.turn_all.new.links
+    (omega (arith, c.as_mut_slice.ensures.len, ap (λ (ls : List Link). length ls) c.as_mut_slice.ensures.value))
+    (omega (arith, c.turn_all.auto.links, ap (λ (ls : List Link). length ls) c.as_mut_slice.ensures.value)))
+    c.in-Ok-true.ensures.may
+
+pub returns-in-Ok-true-clause-joined : goal.returns-in-Ok-true-clause-joined
+returns-in-Ok-true-clause-joined g c =
+    node_keeps _ _ _ c.self.inside.first _ _ c.self.inside.closed _ _ _ _ c.self.view_is
+    (links_as _ c.self.inside.first _ _ _ _ _ _ _ _ c.as_mut_slice.ensures.value
+    (kept_same c.self.inside.links.len c.self.inside.links.items c.turn_all.new.links
+    (omega (arith, c.as_mut_slice.ensures.len, ap (λ (ls : List Link). length ls) c.as_mut_slice.ensures.value))
+    (omega (arith, c.turn_all.auto.links, ap (λ (ls : List Link). length ls) c.as_mut_slice.ensures.value)))
+    (c.in-Ok-true.ensures.works c.self.inside.first (attached_as c.self.inside.first _ _ _ c.as_mut_slice.ensures.value (c.self.invariant.1.attached c.if-self.false))))
+
+pub returns-in-Ok-true-clause-safe : goal.returns-in-Ok-true-clause-safe
+returns-in-Ok-true-clause-safe g c =
+    node_safe _ _ _ c.self.inside.first c.self.inside.links.items _ c.self.inside.closed _ _ _ _ c.self.view_is
+    (works_safe _ _ _ _ _ _ _ _
+    (links_as _ c.self.inside.first _ _ _ _ _ _ _ _ c.as_mut_slice.ensures.value
+    (kept_same c.self.inside.links.len c.self.inside.links.items c.turn_all.new.links
+    (omega (arith, c.as_mut_slice.ensures.len, ap (λ (ls : List Link). length ls) c.as_mut_slice.ensures.value))
+    (omega (arith, c.turn_all.auto.links, ap (λ (ls : List Link). length ls) c.as_mut_slice.ensures.value)))
+    (c.in-Ok-true.ensures.works c.self.inside.first (attached_as c.self.inside.first _ _ _ c.as_mut_slice.ensures.value (c.self.invariant.1.attached c.if-self.false)))))
+
+pub invariant_of-self-in-Ok-false : goal.invariant_of-self-in-Ok-false
+invariant_of-self-in-Ok-false g c =
+    let works = (links_as _ c.self.inside.first _ _ _ _ _ _ _ _ c.as_mut_slice.ensures.value
+    (kept_same c.self.inside.links.len c.self.inside.links.items c.turn_all.new.links
+    (omega (arith, c.as_mut_slice.ensures.len, ap (λ (ls : List Link). length ls) c.as_mut_slice.ensures.value))
+    (omega (arith, c.turn_all.auto.links, ap (λ (ls : List Link). length ls) c.as_mut_slice.ensures.value)))
+    (c.in-Ok-false.ensures.works c.self.inside.first (attached_as c.self.inside.first _ _ _ c.as_mut_slice.ensures.value (c.self.invariant.1.attached c.if-self.false)))) in (
+      kept_long c.self.inside.buffer.len _ c.self.inside.buffer.items c.turn_all.new.buffer c.self.invariant.0
+          (omega (arith, c.as_mut_slice-2.ensures.len, ap (λ (b : List ℕ). length b) c.as_mut_slice-2.ensures.value))
+          (omega (arith, c.turn_all.auto.buffer, ap (λ (b : List ℕ). length b) c.as_mut_slice-2.ensures.value)),
+      is_node _ _ _ _ (omega (arith, c.self.invariant.1.few, works.same_number)) works.attached,
+    )
+
+pub returns-in-Ok-false-clause-closed : goal.returns-in-Ok-false-clause-closed
+returns-in-Ok-false-clause-closed g c = λ closed. absurd (let is = ap (λ (n : NodeValue). n.closed) c.self.view_is in let no = c.if-self.false in cc)
+
+pub returns-in-Ok-false-clause-answer : goal.returns-in-Ok-false-clause-answer
+returns-in-Ok-false-clause-answer g c = λ _. c.if-self.false
+
+pub returns-in-Ok-false-clause-may : goal.returns-in-Ok-false-clause-may
+returns-in-Ok-false-clause-may g c = λ opened.
+    may_as _ _ _ _ _
+    (kept_same c.self.inside.links.len c.self.inside.links.items c.turn_all.new.links
+    (omega (arith, c.as_mut_slice.ensures.len, ap (λ (ls : List Link). length ls) c.as_mut_slice.ensures.value))
+    (omega (arith, c.turn_all.auto.links, ap (λ (ls : List Link). length ls) c.as_mut_slice.ensures.value)))
+    c.in-Ok-false.ensures.may
+
+pub returns-in-Ok-false-clause-joined : goal.returns-in-Ok-false-clause-joined
+returns-in-Ok-false-clause-joined g c =
+    node_keeps _ _ _ c.self.inside.first _ _ c.self.inside.closed _ _ _ _ c.self.view_is
+    (links_as _ c.self.inside.first _ _ _ _ _ _ _ _ c.as_mut_slice.ensures.value
+    (kept_same c.self.inside.links.len c.self.inside.links.items c.turn_all.new.links
+    (omega (arith, c.as_mut_slice.ensures.len, ap (λ (ls : List Link). length ls) c.as_mut_slice.ensures.value))
+    (omega (arith, c.turn_all.auto.links, ap (λ (ls : List Link). length ls) c.as_mut_slice.ensures.value)))
+    (c.in-Ok-false.ensures.works c.self.inside.first (attached_as c.self.inside.first _ _ _ c.as_mut_slice.ensures.value (c.self.invariant.1.attached c.if-self.false))))
+
+pub returns-in-Ok-false-clause-safe : goal.returns-in-Ok-false-clause-safe
+returns-in-Ok-false-clause-safe g c =
+    node_safe _ _ _ c.self.inside.first c.self.inside.links.items _ c.self.inside.closed _ _ _ _ c.self.view_is
+    (works_safe _ _ _ _ _ _ _ _
+    (links_as _ c.self.inside.first _ _ _ _ _ _ _ _ c.as_mut_slice.ensures.value
+    (kept_same c.self.inside.links.len c.self.inside.links.items c.turn_all.new.links
+    (omega (arith, c.as_mut_slice.ensures.len, ap (λ (ls : List Link). length ls) c.as_mut_slice.ensures.value))
+    (omega (arith, c.turn_all.auto.links, ap (λ (ls : List Link). length ls) c.as_mut_slice.ensures.value)))
+    (c.in-Ok-false.ensures.works c.self.inside.first (attached_as c.self.inside.first _ _ _ c.as_mut_slice.ensures.value (c.self.invariant.1.attached c.if-self.false)))))
+
+pub invariant_of-self-in-Err : goal.invariant_of-self-in-Err
+invariant_of-self-in-Err g c = (
+  kept_long c.self.inside.buffer.len _ c.self.inside.buffer.items c.turn_all.new.buffer c.self.invariant.0
+      (omega (arith, c.as_mut_slice-2.ensures.len, ap (λ (b : List ℕ). length b) c.as_mut_slice-2.ensures.value))
+      (omega (arith, c.turn_all.auto.buffer, ap (λ (b : List ℕ). length b) c.as_mut_slice-2.ensures.value)),
+  is_closed_node _ _ _ (omega (
+    arith,
+    c.self.invariant.1.few,
+    ap (λ (ls : List Link). length ls)
+        (kept_same c.self.inside.links.len c.self.inside.links.items c.turn_all.new.links
+        (omega (arith, c.as_mut_slice.ensures.len, ap (λ (ls : List Link). length ls) c.as_mut_slice.ensures.value))
+        (omega (arith, c.turn_all.auto.links, ap (λ (ls : List Link). length ls) c.as_mut_slice.ensures.value))),
+    c.turn_all.auto.links,
+    ap (λ (ls : List Link). length ls) c.as_mut_slice.ensures.value,
+  )),
+)
+
+pub returns-in-Err-clause-closed : goal.returns-in-Err-clause-closed
+returns-in-Err-clause-closed g c = λ closed. absurd (let is = ap (λ (n : NodeValue). n.closed) c.self.view_is in let no = c.if-self.false in cc)
+
+pub returns-in-Err-clause-answer : goal.returns-in-Err-clause-answer
+returns-in-Err-clause-answer g c = λ _. fault_answers Turned c.in-Err.fault _ _ c.from.ensures refl
+
+pub returns-in-Err-clause-may : goal.returns-in-Err-clause-may
+returns-in-Err-clause-may g c = λ opened. cc
+
+pub returns-in-Err-clause-safe : goal.returns-in-Err-clause-safe
+returns-in-Err-clause-safe g c =
+    node_safe _ _ _ c.self.inside.first c.self.inside.links.items _ c.self.inside.closed _ _ _ _ c.self.view_is
+    (safe_as _ _ _ _ _ _ _ _ c.as_mut_slice.ensures.value (c.in-Err.ensures.safe c.self.inside.first (attached_as c.self.inside.first _ _ _ c.as_mut_slice.ensures.value (c.self.invariant.1.attached c.if-self.false))))
+
+pub returns-then-self-clause-halts : goal.returns-then-self-clause-halts
+returns-then-self-clause-halts g c = λ opened. absurd (let yes = ap (λ (n : NodeValue). n.closed) c.self.view_is in let is = c.if-self.true in cc)
+
+pub returns-in-Ok-true-clause-course : goal.returns-in-Ok-true-clause-course
+returns-in-Ok-true-clause-course g c = λ opened.
+    node_turns _ _ c.self.inside.first _ c.self.inside.closed _ _ _ c.self.view_is _ _ _ _ _ _ c.as_mut_slice.ensures.value
+    (kept_same c.self.inside.links.len c.self.inside.links.items c.turn_all.new.links
+    (omega (arith, c.as_mut_slice.ensures.len, ap (λ (ls : List Link). length ls) c.as_mut_slice.ensures.value))
+    (omega (arith, c.turn_all.auto.links, ap (λ (ls : List Link). length ls) c.as_mut_slice.ensures.value)))
+    c.in-Ok-true.field-0-test (c.in-Ok-true.ensures.course c.self.inside.first (attached_as c.self.inside.first _ _ _ c.as_mut_slice.ensures.value (c.self.invariant.1.attached c.if-self.false))
+    (ap (λ (b : List ℕ). length b) c.as_mut_slice-2.ensures.value ∙ c.self.invariant.0))
+
+pub returns-in-Ok-false-clause-course : goal.returns-in-Ok-false-clause-course
+returns-in-Ok-false-clause-course g c = λ opened.
+    node_turns _ _ c.self.inside.first _ c.self.inside.closed _ _ _ c.self.view_is _ _ _ _ _ _ c.as_mut_slice.ensures.value
+    (kept_same c.self.inside.links.len c.self.inside.links.items c.turn_all.new.links
+    (omega (arith, c.as_mut_slice.ensures.len, ap (λ (ls : List Link). length ls) c.as_mut_slice.ensures.value))
+    (omega (arith, c.turn_all.auto.links, ap (λ (ls : List Link). length ls) c.as_mut_slice.ensures.value)))
+    c.in-Ok-false.field-0-test (c.in-Ok-false.ensures.course c.self.inside.first (attached_as c.self.inside.first _ _ _ c.as_mut_slice.ensures.value (c.self.invariant.1.attached c.if-self.false))
+    (ap (λ (b : List ℕ). length b) c.as_mut_slice-2.ensures.value ∙ c.self.invariant.0))
+
+pub returns-in-Err-clause-halts : goal.returns-in-Err-clause-halts
+returns-in-Err-clause-halts g c = λ opened.
+    node_turn_broken _ _ c.self.inside.first _ c.self.inside.closed _ _ _ c.self.view_is _ c.as_mut_slice.ensures.value
+    (c.in-Err.ensures.halts c.self.inside.first (attached_as c.self.inside.first _ _ _ c.as_mut_slice.ensures.value (c.self.invariant.1.attached c.if-self.false))
+    (ap (λ (b : List ℕ). length b) c.as_mut_slice-2.ensures.value ∙ c.self.invariant.0))

@@ -1,0 +1,6 @@
+use Rattle.sync_node.specs.Redundant.{ClosesSome}
+use Rattle.sync_node.specs.CourseRedundant.{ClosedSo}
+use Rattle.sync_node.proofs.redundant.close_redundant.Given as goal
+
+abbrev pub invariant-links : goal.invariant-links
+invariant-links l = record { some : ClosesSome l.initial.links l.links; exact : ClosedSo l.initial.links l.links l.place }

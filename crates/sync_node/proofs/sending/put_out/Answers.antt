@@ -1,0 +1,46 @@
+use Rattle.std.proofs.Common.{arith, ◌∙◌}
+use Rattle.sync_node.proofs.OutLaws.{put_able, put_stays, put_waits, put_works}
+use Rattle.sync_node.proofs.WorkLaws.{on_err, stays_none}
+use Rattle.sync_node.specs.CourseTurns.{puts_course, puts_stops, puts_stops_there}
+use Rattle.sync_node.proofs.sending.put_out.Goals as goal
+
+pub returns-in_err-bytes-clause-stays : goal.returns-in_err-bytes-clause-stays
+returns-in_err-bytes-clause-stays g c = on_err _ _ (stays_none _ _ _ _ _ _)
+
+pub returns-in_err-batch-clause-stays : goal.returns-in_err-batch-clause-stays
+returns-in_err-batch-clause-stays g c = on_err _ _ (stays_none _ _ _ _ _ _)
+
+pub returns-in_err-commit-clause-stays : goal.returns-in_err-commit-clause-stays
+returns-in_err-commit-clause-stays g c = on_err _ _ (put_stays _ _ c.args.now c.args.out _ _ _ _ _ c.in_ok-batch.batch c.in_ok-batch.ensures c.in_err-commit.ensures.safe)
+
+pub send_on-requires : goal.send_on-requires
+send_on-requires g c = omega (arith, c.requires.able.dialled, c.in_ok-commit.ensures.commits.goes.links.dialled)
+
+pub returns-clause-able : goal.returns-clause-able
+returns-clause-able g c =
+    put_able _ _ c.args.now c.args.out _ _ _ _ _ _ _ _ c.in_ok-batch.batch c.in_ok-batch.ensures c.requires.able c.in_ok-commit.ensures.commits c.send_on.ensures
+
+pub returns-clause-waits : goal.returns-clause-waits
+returns-clause-waits g c = put_waits _ _ _ _ _ _ c.send_on.ensures c.requires.waits
+
+pub returns-clause-works : goal.returns-clause-works
+returns-clause-works g c =
+    put_works c.cite_laws.ensures.fronts c.cite_laws.ensures.images _ _ c.args.now c.args.out _ _ _ _ _ _ _ c.as_slice.result.now c.in_ok-batch.batch c.in_ok-batch.ensures
+    c.in_ok-commit.ensures.commits c.in_ok-commit.ensures.safe
+    (c.as_slice.ensures.value ∙ c.in_ok-bytes.ensures)
+    c.end-room.ensures.numbers.roomy c.requires.able.dialled c.requires.unfailed c.send_on.ensures
+
+pub returns-in_err-bytes-clause-stops : goal.returns-in_err-bytes-clause-stops
+returns-in_err-bytes-clause-stops g c = on_err _ _ (puts_stops_there _ _ _ _ _ _)
+
+pub returns-in_err-batch-clause-stops : goal.returns-in_err-batch-clause-stops
+returns-in_err-batch-clause-stops g c = on_err _ _ (puts_stops_there _ _ _ _ _ _)
+
+pub returns-in_err-commit-clause-stops : goal.returns-in_err-commit-clause-stops
+returns-in_err-commit-clause-stops g c =
+    on_err _ _ (puts_stops _ _ c.args.now c.args.out _ _ _ c.in_ok-batch.batch c.in_ok-batch.ensures c.requires.allowed _ c.in_err-commit.ensures.adds_some)
+
+pub returns-clause-course : goal.returns-clause-course
+returns-clause-course g c =
+    puts_course _ _ c.args.now c.args.out _ _ _ c.in_ok-batch.batch c.in_ok-batch.ensures c.requires.allowed _ _ _ _ _ c.in_ok-commit.ensures.commits.facts
+    c.in_ok-commit.ensures.adds c.send_on.ensures

@@ -1,0 +1,87 @@
+use Rattle.sync_node.proofs.OutLaws.{may_unfailed}
+use Rattle.sync_node.proofs.WorkLaws.{on_err, stays_then, works_none, works_then}
+use Rattle.std.proofs.Common.{sym, ◌∙◌}
+use Rattle.sync_node.specs.CourseTurns.{full, may_end, may_not_end, none_due, option_none, outs_end, outs_none, outs_stop, outs_stop_there, outs_then}
+use Rattle.std.proofs.lemmas.Bool.{false≢true}
+use Rattle.sync_node.proofs.sending.send_all.Goals as goal
+
+pub outs-init : goal.outs-init
+outs-init g c = record { able = c.requires.able; waits = c.requires.waits; course = outs_none _ _ _ _ _ _; works = works_none _ _ _ _ _ _ }
+
+pub returns-in_err-out-clause-stays : goal.returns-in_err-out-clause-stays
+returns-in_err-out-clause-stays g c = on_err _ _ c.outs.invariant.works.stays
+
+pub returns-in_default-clause-able : goal.returns-in_default-clause-able
+returns-in_default-clause-able g c = c.outs.invariant.able
+
+pub returns-in_default-clause-waits : goal.returns-in_default-clause-waits
+returns-in_default-clause-waits g c = c.outs.invariant.waits
+
+pub returns-in_default-clause-works : goal.returns-in_default-clause-works
+returns-in_default-clause-works g c = c.outs.invariant.works
+
+pub put_out-requires-clause-able : goal.put_out-requires-clause-able
+put_out-requires-clause-able g c = c.outs.invariant.able
+
+pub put_out-requires-clause-waits : goal.put_out-requires-clause-waits
+put_out-requires-clause-waits g c = c.outs.invariant.waits
+
+pub put_out-requires-clause-unfailed : goal.put_out-requires-clause-unfailed
+put_out-requires-clause-unfailed g c = may_unfailed _ (c.may_send.ensures.0 c.if-may_send.true)
+
+pub put_out-requires-clause-allowed : goal.put_out-requires-clause-allowed
+put_out-requires-clause-allowed g c =
+    let allowed = c.in_ok-out.ensures.allowed (g.C.Clients.meaning c.args.clients.now) c.outs.invariant.able.ready.knows c.outs.invariant.able.settled in
+    rw c.in-Some.is at allowed
+
+pub returns-in_err-put_out-clause-stays : goal.returns-in_err-put_out-clause-stays
+returns-in_err-put_out-clause-stays g c = on_err _ _ (stays_then _ _ _ _ _ _ _ _ _ _ _ _ c.outs.invariant.works c.in_err-put_out.ensures.stays)
+
+pub outs-preserved : goal.outs-preserved
+outs-preserved g c = record {
+  able = c.in_ok-put_out.ensures.able;
+  waits = c.in_ok-put_out.ensures.waits;
+  course = outs_then _ _ _ _ _ _ _ _ _ _ c.outs.invariant.course (may_end _ (c.may_send.ensures.0 c.if-may_send.true)) _ _ _ c.outs-test.true c.in_ok-put_out.ensures.course;
+  works = works_then _ _ _ _ _ _ _ _ _ _ _ _ _ _ c.outs.invariant.works c.in_ok-put_out.ensures.works;
+}
+
+pub returns-else-may_send-clause-able : goal.returns-else-may_send-clause-able
+returns-else-may_send-clause-able g c = c.outs.invariant.able
+
+pub returns-else-may_send-clause-waits : goal.returns-else-may_send-clause-waits
+returns-else-may_send-clause-waits g c = c.outs.invariant.waits
+
+pub returns-else-may_send-clause-works : goal.returns-else-may_send-clause-works
+returns-else-may_send-clause-works g c = c.outs.invariant.works
+
+pub returns-after-outs-clause-able : goal.returns-after-outs-clause-able
+returns-after-outs-clause-able g c = c.outs.invariant.able
+
+pub returns-after-outs-clause-waits : goal.returns-after-outs-clause-waits
+returns-after-outs-clause-waits g c = c.outs.invariant.waits
+
+pub returns-after-outs-clause-works : goal.returns-after-outs-clause-works
+returns-after-outs-clause-works g c = c.outs.invariant.works
+
+pub returns-in_err-out-clause-stops : goal.returns-in_err-out-clause-stops
+returns-in_err-out-clause-stops g c = λ may. on_err _ _ (outs_stop_there _ _ _ _ _ _ _ _ _ _ c.outs.invariant.course)
+
+pub returns-in_default-clause-course : goal.returns-in_default-clause-course
+returns-in_default-clause-course g c = λ may.
+    let due = c.in_ok-out.ensures.due (g.C.Clients.meaning c.args.clients.now) c.outs.invariant.able.ready.knows in
+    outs_end _ _ _ _ _ _ _ _ _ _ c.outs.invariant.course
+    (λ open_is room rest. none_due (g.C.Clients.meaning c.args.clients.now) c.outs.store.state.facts c.outs.link.session.number c.args.now (sym due ∙ option_none _ c.in_default.not-Some) room)
+
+pub returns-in_err-put_out-clause-stops : goal.returns-in_err-put_out-clause-stops
+returns-in_err-put_out-clause-stops g c = λ may.
+    on_err _ _
+    (outs_stop _ _ _ _ _ _ _ _ _ _ c.outs.invariant.course (may_end _ (c.may_send.ensures.0 c.if-may_send.true)) _ c.outs-test.true c.in_err-put_out.ensures.stops)
+
+pub returns-else-may_send-clause-course : goal.returns-else-may_send-clause-course
+returns-else-may_send-clause-course g c = λ may.
+    outs_end _ _ _ _ _ _ _ _ _ _ c.outs.invariant.course
+    (λ open_is room rest. absurd (false≢true (sym (may_not_end _ (λ yes. let is = c.may_send.ensures.1 yes in let no = c.if-may_send.false in cc)) ∙ open_is)))
+
+pub returns-after-outs-clause-course : goal.returns-after-outs-clause-course
+returns-after-outs-clause-course g c = λ may.
+    outs_end _ _ _ _ _ _ _ _ _ _ c.outs.invariant.course (λ open_is room rest. full (g.C.Clients.meaning c.args.clients.now) c.outs.store.state.facts c.outs.link.session.number c.args.now c.outs.made c.outs-test.false room rest)

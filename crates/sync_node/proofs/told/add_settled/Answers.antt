@@ -1,0 +1,21 @@
+use Rattle.std.proofs.Common.{inl}
+use Rattle.sync_node.proofs.AddLaws.{add_leads, added, adds_at_most, leads_ok, plain_kind}
+use Rattle.sync_node.proofs.WorkLaws.{on_ok}
+use Rattle.sync_node.proofs.told.add_settled.Goals as goal
+
+pub commit-requires-clause-kind : goal.commit-requires-clause-kind
+commit-requires-clause-kind g c = plain_kind c.args.batch c.requires.plain
+
+pub returns-in_err-commit-clause-leads : goal.returns-in_err-commit-clause-leads
+returns-in_err-commit-clause-leads g c = λ two files j fits.
+    leads_ok _ c.args.batch _ _ _ j _ _ _ (adds_at_most _ j c.args.batch) (λ k same. inl same) (c.in_err-commit.ensures.leads two files j fits)
+
+pub settle-requires : goal.settle-requires
+settle-requires g c = record { ready = c.in_ok-commit.ensures.commits.ready }
+
+pub returns-clause-added : goal.returns-clause-added
+returns-clause-added g c = on_ok c.settle.result _ _ (added _ c.args.batch _ _ _ _ _ _ c.in_ok-commit.ensures.commits) c.settle.ensures.settles
+
+pub returns-clause-leads : goal.returns-clause-leads
+returns-clause-leads g c = λ two files j fits.
+    add_leads _ c.args.batch _ _ _ _ _ _ two j files c.in_ok-commit.ensures.commits (c.in_ok-commit.ensures.leads two files j fits) c.settle.ensures.leads

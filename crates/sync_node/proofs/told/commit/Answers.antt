@@ -1,0 +1,62 @@
+use Rattle.std.proofs.Common.{Ok, Err}
+use Rattle.sync_store.specs.declared.fault.StoreFault.TheVariants as store_fault
+use Rattle.sync_node.proofs.CommitLaws.{committed, safe_commit}
+use Rattle.sync_node.specs.CourseLaws.{commit_adds, commit_adds_some}
+use Rattle.sync_node.proofs.told.commit.Goals as goal
+
+pub returns-in-Ok-clause-commits : goal.returns-in-Ok-clause-commits
+returns-in-Ok-clause-commits g c =
+    committed _ _ _ _ _ c.args.batch _ c.requires.ready c.in-Ok.ensures.run c.in-Ok.ensures.answer c.in-Ok.ensures.ready
+    (c.in-Ok.ensures.extends c.requires.ready.still_open)
+
+pub returns-in-Ok-clause-safe : goal.returns-in-Ok-clause-safe
+returns-in-Ok-clause-safe g c = λ b plans later more of_run safe.
+    safe_commit c.cite_laws.ensures.fronts _ b plans later _ _ _ _ c.args.batch (Ok tt) more c.requires.ready.still_open c.in-Ok.ensures.run c.requires.allowed
+    (c.in-Ok.ensures.extends c.requires.ready.still_open) of_run safe
+
+pub returns-in-Err-Memory-clause-safe : goal.returns-in-Err-Memory-clause-safe
+returns-in-Err-Memory-clause-safe g c = λ b plans later more of_run safe.
+    safe_commit c.cite_laws.ensures.fronts _ b plans later _ _ _ _ c.args.batch (Err store_fault.Memory) more c.requires.ready.still_open c.in-Err-Memory.ensures.run c.requires.allowed
+    (c.in-Err-Memory.ensures.extends c.requires.ready.still_open) of_run safe
+
+pub returns-in-Err-DiskFault-clause-safe : goal.returns-in-Err-DiskFault-clause-safe
+returns-in-Err-DiskFault-clause-safe g c = λ b plans later more of_run safe.
+    safe_commit c.cite_laws.ensures.fronts _ b plans later _ _ _ _ c.args.batch (Err store_fault.DiskFault) more c.requires.ready.still_open c.in-Err-DiskFault.ensures.run c.requires.allowed
+    (c.in-Err-DiskFault.ensures.extends c.requires.ready.still_open) of_run safe
+
+pub returns-in-Err-Full-clause-safe : goal.returns-in-Err-Full-clause-safe
+returns-in-Err-Full-clause-safe g c = λ b plans later more of_run safe.
+    safe_commit c.cite_laws.ensures.fronts _ b plans later _ _ _ _ c.args.batch (Err store_fault.Full) more c.requires.ready.still_open c.in-Err-Full.ensures.run c.requires.allowed
+    (c.in-Err-Full.ensures.extends c.requires.ready.still_open) of_run safe
+
+pub returns-in-Ok-clause-leads : goal.returns-in-Ok-clause-leads
+returns-in-Ok-clause-leads g c = c.in-Ok.ensures.extends c.requires.ready.still_open
+
+pub returns-in-Err-Memory-clause-leads : goal.returns-in-Err-Memory-clause-leads
+returns-in-Err-Memory-clause-leads g c = c.in-Err-Memory.ensures.extends c.requires.ready.still_open
+
+pub returns-in-Err-DiskFault-clause-leads : goal.returns-in-Err-DiskFault-clause-leads
+returns-in-Err-DiskFault-clause-leads g c = c.in-Err-DiskFault.ensures.extends c.requires.ready.still_open
+
+pub returns-in-Err-Full-clause-leads : goal.returns-in-Err-Full-clause-leads
+returns-in-Err-Full-clause-leads g c = c.in-Err-Full.ensures.extends c.requires.ready.still_open
+
+pub returns-in-Ok-clause-adds : goal.returns-in-Ok-clause-adds
+returns-in-Ok-clause-adds g c =
+    commit_adds _ _ _ c.args.batch _ _ _ c.in-Ok.ensures.run c.in-Ok.ensures.answer.2.closed
+    (c.in-Ok.ensures.extends c.requires.ready.still_open)
+
+pub returns-in-Err-Memory-clause-adds_some : goal.returns-in-Err-Memory-clause-adds_some
+returns-in-Err-Memory-clause-adds_some g c =
+    commit_adds_some _ _ _ c.args.batch (Err store_fault.Memory) _ _ c.requires.ready.fits c.in-Err-Memory.ensures.run
+    (c.in-Err-Memory.ensures.extends c.requires.ready.still_open)
+
+pub returns-in-Err-DiskFault-clause-adds_some : goal.returns-in-Err-DiskFault-clause-adds_some
+returns-in-Err-DiskFault-clause-adds_some g c =
+    commit_adds_some _ _ _ c.args.batch (Err store_fault.DiskFault) _ _ c.requires.ready.fits c.in-Err-DiskFault.ensures.run
+    (c.in-Err-DiskFault.ensures.extends c.requires.ready.still_open)
+
+pub returns-in-Err-Full-clause-adds_some : goal.returns-in-Err-Full-clause-adds_some
+returns-in-Err-Full-clause-adds_some g c =
+    commit_adds_some _ _ _ c.args.batch (Err store_fault.Full) _ _ c.requires.ready.fits c.in-Err-Full.ensures.run
+    (c.in-Err-Full.ensures.extends c.requires.ready.still_open)

@@ -1,0 +1,25 @@
+use Rattle.std.proofs.Common.{arith}
+use Rattle.sync_node.proofs.NodeLaws.{links_closed, links_may, links_then}
+use Rattle.sync_node.specs.CourseCalls.{turn_broken, turn_made}
+use Rattle.sync_node.proofs.WorkLaws.{on_err}
+use Rattle.sync_node.proofs.turning.turn_all.Goals as goal
+
+pub returns-in_err-still-clause-safe : goal.returns-in_err-still-clause-safe
+returns-in_err-still-clause-safe g c = λ first attached. on_err _ _ (c.in_err-still.ensures.safe first attached)
+
+pub returns-clause-works : goal.returns-clause-works
+returns-clause-works g c = λ first attached.
+    let works = c.in_ok-still.ensures.works first attached in
+    links_then _ first _ _ _ _ _ _ _ _ _ works (links_closed _ first _ _ _ _ works.attached c.close_redundant.ensures.some)
+
+pub returns-clause-may : goal.returns-clause-may
+returns-clause-may g c = links_may _ _ _ _ _ c.close_redundant.ensures.some.same_number c.in_ok-still.ensures.may
+
+pub returns-in_err-still-clause-halts : goal.returns-in_err-still-clause-halts
+returns-in_err-still-clause-halts g c = λ first attached whole.
+    on_err _ _ (turn_broken _ first _ _ _ _ (c.in_err-still.ensures.halts first attached whole))
+
+pub returns-clause-course : goal.returns-clause-course
+returns-clause-course g c = λ first attached whole.
+    turn_made _ first _ _ c.turn_each.new.links _ _ _ _ _ c.in_ok-still.still (omega (arith, c.turn_each.auto.links))
+    (c.in_ok-still.ensures.course first attached whole) c.close_redundant.ensures.some c.close_redundant.ensures.exact

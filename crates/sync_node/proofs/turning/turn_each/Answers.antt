@@ -1,0 +1,67 @@
+use Rattle.std.proofs.Common.{◌≡◌, ◌+◌, ◌&&◌, refl, arith, ◌∙◌, length}
+use Rattle.sync_node.specs.CourseRuns.{still_else, still_then, turns_all, turns_next, turns_none, turns_stop}
+use Rattle.std.proofs.lemmas.Option.{slice_get-get_or}
+use Rattle.sync_node.proofs.NodeLaws.{length_set, link_able, links_fail, links_go_on, links_none, links_one, links_then}
+use Rattle.sync_node.proofs.WorkLaws.{on_err}
+use Rattle.sync_node.proofs.turning.turn_each.Goals as goal
+use Rattle.sync_node.proofs.turning.turn_each.Goals.{else-still, then-still}
+
+pub links-init : goal.links-init
+links-init g c = record { may = c.requires.may; works = λ first attached. links_none _ _ _ _ _ attached; course = λ first attached whole. turns_none _ first _ _ _; whole = refl; room = c.requires.room; later = omega arith }
+
+pub turn_link-requires-clause-able : goal.turn_link-requires-clause-able
+turn_link-requires-clause-able g c =
+    let works = c.links.invariant.works c.requires.attached.first c.requires.attached.attached in
+    link_able _ c.requires.attached.first c.links.place c.links.links _ _ _ c.links.invariant.may works.attached
+    (slice_get-get_or c.links.links c.links.place c.index-links-place.result (omega (arith, c.links-test.true, c.links.auto.links)))
+
+pub turn_link-requires-clause-waits : goal.turn_link-requires-clause-waits
+turn_link-requires-clause-waits g c =
+    let works = c.links.invariant.works c.requires.attached.first c.requires.attached.attached in
+    (works.attached.each c.links.place _ (slice_get-get_or c.links.links c.links.place c.index-links-place.result (omega (arith, c.links-test.true, c.links.auto.links)))).waits
+
+pub turn_link-requires-clause-room : goal.turn_link-requires-clause-room
+turn_link-requires-clause-room g c = c.links.invariant.room
+
+pub returns-in_err-quiet-clause-safe : goal.returns-in_err-quiet-clause-safe
+returns-in_err-quiet-clause-safe g c = λ first attached.
+    on_err _ _
+    (links_fail _ first c.links.place _ c.links.links _ _ _ _ _ _ _ (c.links.invariant.works first attached)
+    (slice_get-get_or c.links.links c.links.place c.index-links-place.result (omega (arith, c.links-test.true, c.links.auto.links))) c.in_err-quiet.ensures.stays)
+
+pub links-preserved : goal.links-preserved
+links-preserved g c =
+    let here = slice_get-get_or c.links.links c.links.place c.index-links-place.result (omega (arith, c.links-test.true, c.links.auto.links)) in
+    record {
+      may = links_go_on _ c.links.place c.links.links _ _ _ _ _ _ c.links.invariant.may (length_set c.links.links c.links.place c.turn_link.new.link) c.in_ok-quiet.ensures.works.goes c.in_ok-quiet.ensures.able;
+      works = λ first attached.
+          let works = c.links.invariant.works first attached in
+          links_then _ first _ c.links.links _ _ _ _ _ _ _ works
+          (links_one _ first c.links.place c.links.links _ c.turn_link.new.link _ _ _ _ works.attached here c.in_ok-quiet.ensures.works c.in_ok-quiet.ensures.waits);
+      course = λ first attached whole.
+          let works = c.links.invariant.works first attached in
+          let is : c.if-still.still ≡ (c.links.still && c.in_ok-quiet.quiet) =
+          elim c.if-still.branch [
+            | then-still w ↦ still_then c.links.still c.in_ok-quiet.quiet c.if-still.still w.if-still.true w.still-is
+            | else-still w ↦ still_else c.links.still c.in_ok-quiet.quiet c.if-still.still w.if-still.false w.still-is
+          ] in
+          turns_next _ first c.links.place _ c.links.links _ _ _ _ _ c.links.still here (works.attached.each c.links.place _ here).numbered
+          (c.links.invariant.course first attached whole) c.turn_link.new.link _ _ c.in_ok-quiet.quiet
+          (c.in_ok-quiet.ensures.course (c.links.invariant.whole ∙ whole)) (c.links.place + 1) c.if-still.still refl is;
+      whole = c.turn_link.auto.buffer ∙ c.links.invariant.whole;
+      room = omega (arith, c.links.invariant.room, c.turn_link.auto.buffer);
+      later = omega (arith, c.links.invariant.later, c.in_ok-quiet.ensures.works.goes.later);
+    }
+
+pub returns-in_err-quiet-clause-halts : goal.returns-in_err-quiet-clause-halts
+returns-in_err-quiet-clause-halts g c = λ first attached whole.
+    let works = c.links.invariant.works first attached in
+    let here = slice_get-get_or c.links.links c.links.place c.index-links-place.result (omega (arith, c.links-test.true, c.links.auto.links)) in
+    on_err _ _
+    (turns_stop _ first c.links.place _ c.links.links _ _ _ _ _ _ here (works.attached.each c.links.place _ here).numbered (c.links.invariant.course first attached whole) _
+    (c.in_err-quiet.ensures.halts (c.links.invariant.whole ∙ whole)))
+
+pub returns-clause-course : goal.returns-clause-course
+returns-clause-course g c = λ first attached whole.
+    let same : c.links.place ≡ length c.args.links.now = omega (arith, c.links-test.false, c.links.auto.place-end) in
+    turns_all _ first c.links.place _ _ _ _ _ _ _ _ same (c.links.invariant.course first attached whole)

@@ -1,0 +1,48 @@
+use Rattle.sync_node.proofs.WorkLaws.{on_err, stays_then, works_then}
+use Rattle.sync_node.specs.CourseTurns.{turn_loud, turn_quiet, turn_stops}
+use Rattle.sync_node.proofs.turning.turn_link.Goals as goal
+
+pub returns-in_err-quiet-clause-stays : goal.returns-in_err-quiet-clause-stays
+returns-in_err-quiet-clause-stays g c = on_err _ _ c.in_err-quiet.ensures.stays
+
+pub send_now-requires-clause-able : goal.send_now-requires-clause-able
+send_now-requires-clause-able g c = c.in_ok-quiet.ensures.able
+
+pub send_now-requires-clause-waits : goal.send_now-requires-clause-waits
+send_now-requires-clause-waits g c = c.in_ok-quiet.ensures.waits
+
+pub returns-in_err-made-clause-stays : goal.returns-in_err-made-clause-stays
+returns-in_err-made-clause-stays g c = on_err _ _ (stays_then _ _ _ _ _ _ _ _ _ _ _ _ c.in_ok-quiet.ensures.works c.in_err-made.ensures.stays)
+
+pub returns-then-quiet-clause-able : goal.returns-then-quiet-clause-able
+returns-then-quiet-clause-able g c = c.in_ok-made.ensures.able
+
+pub returns-then-quiet-clause-waits : goal.returns-then-quiet-clause-waits
+returns-then-quiet-clause-waits g c = c.in_ok-made.ensures.waits
+
+pub returns-then-quiet-clause-works : goal.returns-then-quiet-clause-works
+returns-then-quiet-clause-works g c = works_then _ _ _ _ _ _ _ _ _ _ _ _ _ _ c.in_ok-quiet.ensures.works c.in_ok-made.ensures.works
+
+pub returns-else-quiet-clause-able : goal.returns-else-quiet-clause-able
+returns-else-quiet-clause-able g c = c.in_ok-made.ensures.able
+
+pub returns-else-quiet-clause-waits : goal.returns-else-quiet-clause-waits
+returns-else-quiet-clause-waits g c = c.in_ok-made.ensures.waits
+
+pub returns-else-quiet-clause-works : goal.returns-else-quiet-clause-works
+returns-else-quiet-clause-works g c = works_then _ _ _ _ _ _ _ _ _ _ _ _ _ _ c.in_ok-quiet.ensures.works c.in_ok-made.ensures.works
+
+pub returns-in_err-quiet-clause-halts : goal.returns-in_err-quiet-clause-halts
+returns-in_err-quiet-clause-halts g c = λ whole. on_err _ _ (c.in_err-quiet.ensures.stops whole)
+
+pub returns-in_err-made-clause-halts : goal.returns-in_err-made-clause-halts
+returns-in_err-made-clause-halts g c = λ whole.
+    on_err _ _ (turn_stops _ _ _ _ _ _ _ _ _ c.in_ok-quiet.ensures.works.same_session (c.in_ok-quiet.ensures.course whole) _ c.in_err-made.ensures.halts)
+
+pub returns-then-quiet-clause-course : goal.returns-then-quiet-clause-course
+returns-then-quiet-clause-course g c = λ whole.
+    turn_quiet _ _ _ _ _ _ _ _ _ c.in_ok-quiet.ensures.works.same_session (c.in_ok-quiet.ensures.course whole) _ _ _ _ c.if-quiet.true c.in_ok-made.ensures.course
+
+pub returns-else-quiet-clause-course : goal.returns-else-quiet-clause-course
+returns-else-quiet-clause-course g c = λ whole.
+    turn_loud _ _ _ _ _ _ _ _ _ c.in_ok-quiet.ensures.works.same_session (c.in_ok-quiet.ensures.course whole) _ _ _ _ c.if-quiet.false c.in_ok-made.ensures.course

@@ -1,0 +1,48 @@
+-- A batch that is added to a journal beside the sessions, and settling behind it.
+use Rattle.std.specs.Prelude.{◌≡◌, ◌⊎◌, List, [], ◌∷◌, ◌++◌, Result, Ok, Err}
+use Rattle.sync_rules.specs.declared.entries.Entry.{Entry}
+use Rattle.sync_rules.specs.declared.entries.Entry.TheVariants as entry
+use Rattle.sync_rules.specs.Clients.{Meaning}
+use Rattle.sync_rules.specs.Facts.{after_all, facts}
+use Rattle.sync_rules.specs.Legal.{AllSettling}
+use Rattle.outside.specs.Outside.{Outside}
+use Rattle.sync_rules.specs.Steps.{IsSettled}
+use Rattle.sync_store.specs.Store.{StoreValue}
+use Rattle.sync_node.specs.Going.{Commits}
+use Rattle.sync_node.specs.Output.{Journal}
+use Rattle.sync_node.specs.declared.fault.Fault.{Fault}
+
+-- one entry that adds a contact, a group or a message, or sets a level
+abbrev pub IsPlain : List Entry → Type 0
+IsPlain (entry.Contact c ∷ []) = Unit {0}
+IsPlain (entry.Group def ∷ []) = Unit {0}
+IsPlain (entry.Level c g l ∷ []) = Unit {0}
+IsPlain (entry.Author m ∷ []) = Unit {0}
+IsPlain _ = ⊥
+
+-- the journal as the answer of a commit says
+abbrev pub IsCommitted : Journal → List Entry → Result (Unit {0}) Fault → Journal → Type 0
+IsCommitted j batch (Ok _) whole = whole ≡ j ++ batch ∷ []
+IsCommitted j batch (Err _) whole = whole ≡ j
+
+-- the journal with settling
+pub record GoesOnSettling (clients : Meaning) (j whole : Journal) : Type 0 where
+  pub more : Journal
+  pub settling : AllSettling clients (facts j) more
+  pub is : whole ≡ j ++ more
+
+-- the journal with the batch and settling behind it
+pub record AddsOne (clients : Meaning) (j : Journal) (batch : List Entry) (whole : Journal) : Type 0 where
+  pub more : Journal
+  pub settling : AllSettling clients (after_all (facts j) batch) more
+  pub is : whole ≡ j ++ (batch ∷ more)
+
+abbrev pub AddsAtMost : Meaning → Journal → List Entry → Journal → Type 0
+AddsAtMost clients j batch whole = (whole ≡ j) ⊎ AddsOne clients j batch whole
+
+-- the batch was committed, and the journal settled behind it
+pub record AddsSettled (clients : Meaning) (batch : List Entry) (s s' : StoreValue) (o o' : Outside) : Type 0 where
+  pub more : Journal
+  pub settling : AllSettling clients (after_all s.state.facts batch) more
+  pub commits : Commits clients (batch ∷ more) s s' o o'
+  pub settled : IsSettled clients s'.state.facts

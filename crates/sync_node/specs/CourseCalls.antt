@@ -1,0 +1,243 @@
+-- A whole turn, and single calls on one link in its turn, as parts of a run.
+use Rattle.std.proofs.Common.{◌≡◌, ℕ, suc, ◌+◌, ◌<◌, Bool, true, false, cond, nat_eq, nat_lt, eq-eqb, List, [], ◌∷◌, length, refl, sym, ◌∙◌, ap, subst, inl, inr, arith, Option, Some}
+use Rattle.std.specs.Prelude.{not, slice_get, slice_set}
+use Rattle.std.proofs.lemmas.Bool.{cases_eq, ne_eqb}
+use Rattle.outside.specs.Outside.{Outside}
+use Rattle.sync_rules.specs.Clients.{Meaning}
+use Rattle.sync_rules.specs.Facts.{Facts}
+use Rattle.sync_store.specs.Store.{StoreValue}
+use Rattle.sync_course.specs.LiftLaws.{breaks_lifted, get_set, get_within, runs_lifted, runs_turn, runs_turn_ended, set_same}
+use Rattle.sync_course.specs.Links as course_links
+use Rattle.sync_course.specs.Links.{without_redundant}
+use Rattle.sync_course.specs.LinkTurns.{Asks, Doing, Done, Sends, Spot}
+use Rattle.sync_course.specs.ToldLaws.{breaks_then, runs_then}
+use Rattle.sync_course.specs.Turns.{Between, Place, RunStep, Terms, Works, is_at_end, turn_ended, with_spot}
+use Rattle.sync_course.specs.declared.TheConstants.{MAX_OUTPUTS}
+use Rattle.sync_node.specs.declared.link.Link.{Link}
+use Rattle.sync_node.specs.declared.link.LinkEnd.{LinkEnd}
+use Rattle.sync_node.specs.declared.link.LinkEnd.TheVariants as link_end
+use Rattle.sync_node.specs.Ends.{MaySend}
+use Rattle.sync_node.specs.Redundant.{ClosesSome}
+use Rattle.sync_node.specs.Courses.{AllRead, BreaksReceiving, BreaksSending, BreaksTurn, FitsWith, HearsAsCourse, HearsStops, IsRead, IsReadyToSend, LinkBreaks, LinkRuns, MakesTurn, ReadsAs, Receives, RunBreaks, RunRuns, SendsDue, SentAsCourse, SentStops, TurnsAsCourse, TurnsStop, link_at, links_from, place_at, spot_at}
+use Rattle.sync_node.specs.CourseRuns.{all_read, get_at, heard_with, length_from, set_at}
+use Rattle.sync_node.specs.CourseTurns.{may_end, read_on}
+
+-- ---- a whole turn
+
+-- a turn begins
+turn_begun : (clients : Meaning) (terms : Terms) (links : List Link) (s : StoreValue) (o : Outside) (heard : ℕ → List ℕ) (moved : Bool) (still made : ℕ)
+    → is_at_end terms (place_at Between links heard moved still made s.state.facts) ≡ false
+    → RunRuns clients terms (place_at Between links heard moved still made s.state.facts) (place_at (Works 0 Asks) links heard false still made s.state.facts) s s o o
+turn_begun clients terms links s o heard moved still made on =
+    runs_turn clients terms (FitsWith clients s o.files) (FitsWith clients s o.files) (λ j fit. fit)
+    (place_at Between links heard moved still made s.state.facts) o refl on
+
+-- links that are closed have read what they are to have read
+closed_read : (mid links' : List Link) (heard : ℕ → List ℕ) → ClosesSome mid links' → AllRead heard mid → AllRead heard links'
+closed_read mid links' heard closes read i l at =
+    let one = closes.each i l at in
+    elim one.is [
+      | inl same ↦ subst (IsRead (heard i)) (sym same) (read i one.before one.was)
+      | inr closing ↦ subst (IsRead (heard i)) (sym closing.1) (λ going. absurd (let e : link_end.Redundant ≡ link_end.Going = going in cc))
+    ]
+
+module _ (clients : Meaning) (n : ℕ) (mid links' : List Link) (s : StoreValue) (o : Outside) (all : n ≡ length mid)
+    (exact : (heard : ℕ → List ℕ) → links_from 0 links' heard ≡ without_redundant (links_from 0 mid heard)) where
+  -- the place behind the last link, once the redundant ones are closed
+  ended_at : (heard : ℕ → List ℕ) (still made : ℕ) (quiet : Bool)
+      → turn_ended (place_at (Works n Asks) mid heard (cond quiet false true) still made s.state.facts)
+      ≡ place_at Between links' heard (not quiet) (cond quiet (suc still) 0) (suc made) s.state.facts
+  ended_at heard still made true =
+      ap (λ (ls : List course_links.Link). record {
+        stage = Between;
+        links = ls;
+        moved = false;
+        still = suc still;
+        made = suc made;
+        facts = s.state.facts;
+      }) (sym (exact heard))
+  ended_at heard still made false =
+      ap (λ (ls : List course_links.Link). record {
+        stage = Between;
+        links = ls;
+        moved = true;
+        still = 0;
+        made = suc made;
+        facts = s.state.facts;
+      }) (sym (exact heard))
+
+  turn_closed : (terms : Terms) (heard : ℕ → List ℕ) (still made : ℕ) (quiet : Bool)
+      → RunRuns clients terms (place_at (Works n Asks) mid heard (cond quiet false true) still made s.state.facts)
+      (place_at Between links' heard (not quiet) (cond quiet (suc still) 0) (suc made) s.state.facts) s s o o
+  turn_closed terms heard still made quiet =
+      let place : Place = place_at (Works n Asks) mid heard (cond quiet false true) still made s.state.facts in
+      subst (λ (q : Place). RunRuns clients terms place q s s o o) (ended_at heard still made quiet)
+      (runs_turn_ended clients terms (FitsWith clients s o.files) (FitsWith clients s o.files) (λ j fit. fit) place o
+      (ap (λ (k : ℕ). Works k Asks) (all ∙ sym (length_from 0 mid heard))))
+
+pub turn_made : (clients : Meaning) (first n : ℕ) (links mid links' : List Link) (s s' : StoreValue) (o o' : Outside) (quiet : Bool) → n ≡ length mid
+    → TurnsAsCourse clients first n links mid s s' o o' quiet → ClosesSome mid links'
+    → ((heard : ℕ → List ℕ) → links_from 0 links' heard ≡ without_redundant (links_from 0 mid heard))
+    → MakesTurn clients first links links' s s' o o' quiet
+turn_made clients first n links mid links' s s' o o' quiet all turns closes exact = record {
+  leads = λ terms heard moved still made same read on.
+      let so = turns.leads terms heard false still made same read in
+      let from : Place = place_at Between links heard moved still made s.state.facts in
+      let begun : Place = place_at (Works 0 Asks) links heard false still made s.state.facts in
+      let behind : Place = place_at (Works n Asks) mid so.heard' (cond quiet false true) still made s'.state.facts in
+      let to : Place = place_at Between links' so.heard' (not quiet) (cond quiet (suc still) 0) (suc made) s'.state.facts in
+      record {
+        heard' = so.heard';
+        has_read = closed_read mid links' so.heard' closes so.has_read;
+        runs =
+            runs_then (RunStep clients terms) (FitsWith clients s o.files) (FitsWith clients s o.files) (FitsWith clients s' o'.files) from begun to o o o'
+            (turn_begun clients terms links s o heard moved still made on)
+            (runs_then (RunStep clients terms) (FitsWith clients s o.files) (FitsWith clients s' o'.files) (FitsWith clients s' o'.files) begun behind to o o' o'
+            so.runs (turn_closed clients n mid links' s' o' all exact terms so.heard' still made quiet));
+      };
+}
+
+pub turn_broken : (clients : Meaning) (first : ℕ) (links : List Link) (s : StoreValue) (o o' : Outside) → TurnsStop clients first links s o o'
+    → BreaksTurn clients first links s o o'
+turn_broken clients first links s o o' stopped = record {
+  stops = λ terms heard moved still made same read on.
+      breaks_then (RunStep clients terms) (FitsWith clients s o.files) (FitsWith clients s o.files) (ReadsAs clients o'.files)
+      (place_at Between links heard moved still made s.state.facts) (place_at (Works 0 Asks) links heard false still made s.state.facts) o o o'
+      (turn_begun clients terms links s o heard moved still made on) (stopped.stops terms heard false still made same read);
+}
+
+-- ---- one call on a link
+
+-- what was heard, as it was
+same_cond : (k n : ℕ) (heard : ℕ → List ℕ) → cond (nat_eq k n) (heard n) (heard k) ≡ heard k
+same_cond k n heard =
+    elim (cases_eq k n) [
+      | inl same ↦ ap (λ (b : Bool). cond b (heard n) (heard k)) (eq-eqb k n same) ∙ ap heard (sym same)
+      | inr other ↦ ap (λ (b : Bool). cond b (heard n) (heard k)) (ne_eqb k n other)
+    ]
+
+same_heard : (k n : ℕ) (links : List Link) (heard : ℕ → List ℕ) → links_from k links (heard_with n (heard n) heard) ≡ links_from k links heard
+same_heard k n [] heard = refl
+same_heard k n (x ∷ links) heard =
+    ap (λ (bytes : List ℕ). link_at x bytes ∷ links_from (suc k) links (heard_with n (heard n) heard)) (same_cond k n heard)
+    ∙ ap (λ (ls : List course_links.Link). link_at x (heard k) ∷ ls) (same_heard (suc k) n links heard)
+
+module _ (clients : Meaning) (first n : ℕ) (links : List Link) (l : Link) (s : StoreValue) (o : Outside) (at : slice_get links n ≡ Some l)
+    (numbered : l.session.number ≡ first + n) where
+  module _ (terms : Terms) (same : terms.first ≡ first) (heard : ℕ → List ℕ) (moved : Bool) (still made : ℕ) where
+    at_course : slice_get (links_from 0 links heard) n ≡ Some (link_at l (heard n))
+    at_course =
+        let plain : 0 + n ≡ n = omega arith in
+        get_at 0 n links heard l at ∙ ap (λ (j : ℕ). Some (link_at l (heard j))) plain
+
+    in_terms : l.session.number ≡ terms.first + n
+    in_terms = numbered ∙ ap (λ (f : ℕ). f + n) (sym same)
+
+    start_here : (doing : Doing)
+        → with_spot n (spot_at doing l (heard n) moved s.state.facts) (place_at (Works n doing) links heard moved still made s.state.facts)
+        ≡ place_at (Works n doing) links heard moved still made s.state.facts
+    start_here doing =
+        ap (λ (ls : List course_links.Link). record {
+          stage = Works n doing;
+          links = ls;
+          moved = moved;
+          still = still;
+          made = made;
+          facts = s.state.facts;
+        }) (set_same (links_from 0 links heard) n (link_at l (heard n)) at_course)
+
+    end_there : (doing doing' : Doing) (l' : Link) (f : Facts) (bytes : List ℕ) (moved' : Bool)
+        → with_spot n (spot_at doing' l' bytes moved' f) (place_at (Works n doing) links heard moved still made s.state.facts)
+        ≡ place_at (Works n doing') (slice_set links n l') (heard_with n bytes heard) moved' still made f
+    end_there doing doing' l' f bytes moved' =
+        let plain : 0 + n ≡ n = omega arith in
+        ap (λ (ls : List course_links.Link). record {
+          stage = Works n doing';
+          links = ls;
+          moved = moved';
+          still = still;
+          made = made;
+          facts = f;
+        })
+        (set_at 0 n links heard l' bytes ∙ ap (λ (j : ℕ). links_from 0 (slice_set links n l') (heard_with j bytes heard)) plain)
+
+    link_in_run : (doing doing' : Doing) (l' : Link) (s' : StoreValue) (o' : Outside) (bytes : List ℕ) (moved' : Bool)
+        → LinkRuns clients n l.session.number (spot_at doing l (heard n) moved s.state.facts) (spot_at doing' l' bytes moved' s'.state.facts) s s' o o'
+        → RunRuns clients terms (place_at (Works n doing) links heard moved still made s.state.facts)
+        (place_at (Works n doing') (slice_set links n l') (heard_with n bytes heard) moved' still made s'.state.facts) s s' o o'
+    link_in_run doing doing' l' s' o' bytes moved' runs =
+        let place : Place = place_at (Works n doing) links heard moved still made s.state.facts in
+        let p : Spot = spot_at doing l (heard n) moved s.state.facts in
+        let q : Spot = spot_at doing' l' bytes moved' s'.state.facts in
+        let within : n < length place.links = get_within (links_from 0 links heard) n (link_at l (heard n)) at_course in
+        let lifted : RunRuns clients terms (with_spot n p place) (with_spot n q place) s s' o o' =
+        runs_lifted clients terms n place within (FitsWith clients s o.files) (FitsWith clients s' o'.files) p q o o'
+        (subst (λ (k : ℕ). LinkRuns clients n k p q s s' o o') in_terms runs) in
+        subst (λ (x : Place). RunRuns clients terms x (place_at (Works n doing') (slice_set links n l') (heard_with n bytes heard) moved' still made s'.state.facts) s s' o o')
+        (start_here doing)
+        (subst (λ (x : Place). RunRuns clients terms (with_spot n p place) x s s' o o') (end_there doing doing' l' s'.state.facts bytes moved') lifted)
+
+    link_broken : (doing : Doing) (o' : Outside) → LinkBreaks clients n l.session.number (spot_at doing l (heard n) moved s.state.facts) s o o'
+        → RunBreaks clients terms (place_at (Works n doing) links heard moved still made s.state.facts) s o o'
+    link_broken doing o' breaks =
+        let place : Place = place_at (Works n doing) links heard moved still made s.state.facts in
+        let p : Spot = spot_at doing l (heard n) moved s.state.facts in
+        let within : n < length place.links = get_within (links_from 0 links heard) n (link_at l (heard n)) at_course in
+        subst (λ (x : Place). RunBreaks clients terms x s o o') (start_here doing)
+        (breaks_lifted clients terms n place within (FitsWith clients s o.files) (ReadsAs clients o'.files) p o o'
+        (subst (λ (k : ℕ). LinkBreaks clients n k p s o o') in_terms breaks))
+
+  -- it was asked once
+  pub receives : (l' : Link) (s' : StoreValue) (o' : Outside) (idle : Bool) → HearsAsCourse clients n l l' s s' o o' idle
+      → Receives clients first n links (slice_set links n l') s s' o o' idle
+  receives l' s' o' idle hears = record {
+    leads = λ terms heard moved still made same read.
+        let to = hears.leads (heard n) moved (read n l at) in
+        record {
+          heard' = heard_with n to.heard' heard;
+          doing = to.doing;
+          has_read = all_read n links heard l l' to.heard' at read to.has_read;
+          ready = λ x there.
+              let both : Some l' ≡ Some x = sym (get_set links n l' (get_within links n l at)) ∙ there in
+              let is : l' ≡ x = cc in
+              subst (IsReadyToSend to.doing) is to.ready;
+          runs = link_in_run terms same heard moved still made Asks to.doing l' s' o' to.heard' (cond idle moved true) to.runs;
+        };
+  }
+
+  pub receiving_broken : (o' : Outside) → HearsStops clients n l s o o' → BreaksReceiving clients first n links s o o'
+  receiving_broken o' stopped = record {
+    stops = λ terms heard moved still made same read.
+        link_broken terms same heard moved still made Asks o' (stopped.stops (heard n) moved (read n l at));
+  }
+
+  -- what is due on it was sent
+  module _ (now : ℕ) (may : MaySend l.end) where
+    pub sends_due : (l' : Link) (s' : StoreValue) (o' : Outside) (outs : ℕ) → SentAsCourse clients n now l l' s s' o o' outs
+        → SendsDue clients first n now links (slice_set links n l') s s' o o' outs
+    sends_due l' s' o' outs sent = record {
+      has_read = λ heard read i x there.
+          subst (λ (bytes : List ℕ). IsRead bytes x) (same_cond i n heard)
+          (all_read n links heard l l' (heard n) at read (read_on (heard n) l l' sent.same_reader sent.end (read n l at)) i x there);
+      runs = λ terms heard moved still made same.
+          let to : (h : ℕ → List ℕ) → Place = λ h. place_at (Works n Done) (slice_set links n l') h (cond (nat_lt 0 outs) true moved) still made s'.state.facts in
+          let from : Place = place_at (Works n (Sends now MAX_OUTPUTS)) links heard moved still made s.state.facts in
+          let is : to (heard_with n (heard n) heard) ≡ to heard =
+          ap (λ (ls : List course_links.Link). record {
+            stage = Works n Done;
+            links = ls;
+            moved = cond (nat_lt 0 outs) true moved;
+            still = still;
+            made = made;
+            facts = s'.state.facts;
+          }) (same_heard 0 n (slice_set links n l') heard) in
+          subst (λ (q : Place). RunRuns clients terms from q s s' o o') is
+          (link_in_run terms same heard moved still made (Sends now MAX_OUTPUTS) Done l' s' o' (heard n) (cond (nat_lt 0 outs) true moved)
+          (sent.runs (heard n) moved (may_end l.end may)));
+    }
+
+    pub sending_broken : (o' : Outside) → SentStops clients n now l s o o' → BreaksSending clients first n now links s o o'
+    sending_broken o' stopped = record {
+      stops = λ terms heard moved still made same.
+          link_broken terms same heard moved still made (Sends now MAX_OUTPUTS) o' (stopped.stops (heard n) moved (may_end l.end may));
+    }

@@ -1,0 +1,56 @@
+-- What calls on a host and a store leave as it was, and how the journal goes on.
+use Rattle.std.specs.Prelude.{◌≡◌, ◌≢◌, ℕ, ◌≤◌, ◌++◌, is_some}
+use Rattle.outside.specs.Outside.{Outside}
+use Rattle.outside.specs.Runs.{LinksGrow, OthersKeep, Told}
+use Rattle.sync_rules.specs.Clients.{Meaning}
+use Rattle.sync_rules.specs.Facts.{after_batches, takes_of}
+use Rattle.sync_rules.specs.Legal.{AllSettling}
+use Rattle.sync_rules.specs.Steps.{IsSettled}
+use Rattle.sync_store.specs.Store.{StoreValue}
+use Rattle.sync_store.specs.Fitting.{Fits}
+use Rattle.sync_store.specs.Ready.{IsReady}
+use Rattle.sync_node.specs.Output.{Journal, output}
+
+-- what no run of calls changes or lets fall
+pub record Goes (old new : Outside) : Type 0 where
+  pub same_files : is_some new.files ≡ is_some old.files
+  pub later : old.disk_faults ≤ new.disk_faults
+  pub links : LinksGrow old.links new.links
+
+-- the journal before, where files are told behind a run: they were told before it, and this journal is that one and these batches
+pub record ComesFrom (clients : Meaning) (more : Journal) (s : StoreValue) (o : Outside) (whole : Journal) : Type 0 where
+  pub told : Told o
+  pub before : Journal
+  pub fits : Fits clients s before told.two
+  pub is : whole ≡ before ++ more
+
+abbrev pub GoesOnBy : Meaning → Journal → StoreValue → StoreValue → Outside → Outside → Type 0
+GoesOnBy clients more s s' o o' = (told : Told o') (whole : Journal) → Fits clients s' whole told.two → ComesFrom clients more s o whole
+
+-- these batches were committed and stand in the journal
+pub record Commits (clients : Meaning) (more : Journal) (s s' : StoreValue) (o o' : Outside) : Type 0 where
+  pub goes : Goes o o'
+  pub same_links : o'.links ≡ o.links
+  pub facts : s'.state.facts ≡ after_batches s.state.facts more
+  pub ready : IsReady clients s' o'.files
+  pub goes_on : GoesOnBy clients more s s' o o'
+
+-- the journal was settled
+pub record Settles (clients : Meaning) (s s' : StoreValue) (o o' : Outside) : Type 0 where
+  pub more : Journal
+  pub settling : AllSettling clients s.state.facts more
+  pub commits : Commits clients more s s' o o'
+  pub settled : IsSettled clients s'.state.facts
+
+-- each other session has sent the same before
+pub record HasOthers (clients : Meaning) (session : ℕ) (s : StoreValue) (o : Outside) (whole : Journal) : Type 0 where
+  pub told : Told o
+  pub before : Journal
+  pub fits : Fits clients s before told.two
+  pub same : (other : ℕ) → other ≢ session → output whole other ≡ output before other
+
+-- what a run of calls on one link leaves of the other links and their sessions
+pub record Elsewhere (clients : Meaning) (session link : ℕ) (s s' : StoreValue) (o o' : Outside) : Type 0 where
+  pub takes : (other : ℕ) → other ≢ session → takes_of s'.state.facts.takes other ≡ takes_of s.state.facts.takes other
+  pub links : OthersKeep link o.links o'.links
+  pub outputs : (told : Told o') (whole : Journal) → Fits clients s' whole told.two → HasOthers clients session s o whole

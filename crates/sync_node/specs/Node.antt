@@ -1,0 +1,147 @@
+-- What contracts see of a node, what its calls need, and what they do.
+use Rattle.std.specs.Prelude.{◌≡◌, ℕ, ◌+◌, ◌<◌, ◌≤◌, Bool, true, false, cond, List, [], ◌∷◌, ◌++◌, length, Option, Some, slice_get, Result, Ok, Err, refl}
+use Rattle.std.specs.Coded.{Coded, code_by, coded×, coded_bool, coded_list, coded_option, coded_ℕ}
+use Rattle.outside.specs.declared.limits.TheConstants.{LINKS}
+use Rattle.outside.specs.Outside.{Outside}
+use Rattle.sync_rules.specs.declared.entries.Session.{Session}
+use Rattle.sync_rules.specs.Clients.{Meaning}
+use Rattle.sync_rules.specs.Facts.{Facts, session_at}
+use Rattle.sync_rules.specs.Steps.{IsSettled}
+use Rattle.sync_store.specs.Store.{StoreValue, store_code}
+use Rattle.sync_store.specs.Ready.{IsReady}
+use Rattle.sync_node.specs.declared.fault.NodeFault.{NodeFault}
+use Rattle.sync_node.specs.declared.fault.NodeFault.TheVariants as fault
+use Rattle.sync_node.specs.declared.link.Link.{Link}
+use Rattle.sync_node.specs.contracts.link.LinkEnd as link_ending
+use Rattle.sync_rules.specs.contracts.entries.Session as session
+use Rattle.record_stream.specs.Reading.{ReaderState}
+use Rattle.sync_node.specs.declared.link.LinkEnd.{LinkEnd}
+use Rattle.sync_node.specs.declared.link.LinkEnd.TheVariants as link_end
+use Rattle.sync_node.specs.Going.{Goes}
+use Rattle.sync_node.specs.Joined.{Joined}
+use Rattle.sync_node.specs.Safe.{Begin, Safe}
+use Rattle.sync_node.specs.Working.{Waits}
+
+-- the store, the number of sessions when the node was made, the links that are attached, and whether a call failed
+pub record NodeValue : Type 0 where
+  pub store : StoreValue
+  pub first : ℕ
+  pub links : List Link
+  pub closed : Bool
+
+abbrev pub reader_code : Coded ReaderState
+reader_code =
+    code_by (ℕ × (List ℕ × Bool)) (coded× coded_ℕ (coded× (coded_list coded_ℕ) coded_bool)) (λ r. (r.place, (r.bytes, r.failed)))
+    (λ p. record { place = p.0; bytes = p.1.0; failed = p.1.1 })
+    (λ _. refl)
+
+abbrev pub link_code : Coded Link
+link_code =
+    code_by (Session × (ReaderState × (Option (List ℕ) × LinkEnd)))
+    (coded× session.the_row.coded (coded× reader_code (coded× (coded_option (coded_list coded_ℕ)) link_ending.the_row.coded)))
+    (λ l. (l.session, (l.reader, (l.nonce, l.end))))
+    (λ p. record { session = p.0; reader = p.1.0; nonce = p.1.1.0; end = p.1.1.1 })
+    (λ _. refl)
+
+abbrev pub node_code : Coded NodeValue
+node_code =
+    code_by (StoreValue × (ℕ × (List Link × Bool))) (coded× store_code (coded× coded_ℕ (coded× (coded_list link_code) coded_bool)))
+    (λ n. (n.store, (n.first, (n.links, n.closed))))
+    (λ p. record { store = p.0; first = p.1.0; links = p.1.1.0; closed = p.1.1.1 })
+    (λ _. refl)
+
+-- ---- links
+
+abbrev pub is_going : LinkEnd → Bool
+is_going link_end.Going = true
+is_going _ = false
+
+-- how many links are still asked
+abbrev pub asked_among : List Link → ℕ
+asked_among [] = 0
+asked_among (l ∷ ls) = cond (is_going l.end) 1 0 + asked_among ls
+
+-- a link of a node has its session in the journal, numbered by the link, and its reader waits for bytes
+pub record IsAttached (first : ℕ) (f : Facts) (number : ℕ) (l : Link) : Type 0 where
+  pub numbered : l.session.number ≡ first + number
+  pub known : session_at f.sessions l.session.number ≡ Some l.session
+  pub waits : Waits l
+
+-- the sessions that began since the node was made are those of its links
+pub record AreAttached (first : ℕ) (links : List Link) (f : Facts) : Type 0 where
+  pub begun : f.begun ≡ first + length links
+  pub each : (number : ℕ) (l : Link) → slice_get links number ≡ Some l → IsAttached first f number l
+
+-- the links are those of some node over this journal
+pub record AreSome (links : List Link) (f : Facts) : Type 0 where
+  pub first : ℕ
+  pub attached : AreAttached first links f
+
+-- links may go on with these clients and this host: the store is ready, the links were dialled on this host, and where there are
+-- any the journal is settled
+pub record MayGoOn (clients : Meaning) (links : List Link) (s : StoreValue) (o : Outside) : Type 0 where
+  pub ready : IsReady clients s o.files
+  pub settled : 0 < length links → IsSettled clients s.state.facts
+  pub dialled : length links ≤ o.links.dialled
+
+-- Work on links that were attached leaves them attached and joined; a run stays safe, at every moment and at the end, for whatever
+-- begin.
+pub record LinksWork (clients : Meaning) (first : ℕ) (links links' : List Link) (s s' : StoreValue) (o o' : Outside) : Type 0 where
+  pub goes : Goes o o'
+  pub same_number : length links' ≡ length links
+  pub attached : AreAttached first links' s'.state.facts
+  pub joined : Joined clients links s o → Joined clients links' s' o'
+  pub safe : Joined clients links s o → (b : Begin) (plans : List Session) → first ≡ b.first → Safe clients b plans s o → Safe clients b plans s' o'
+
+pub record LinksSafe (clients : Meaning) (first : ℕ) (links : List Link) (s s' : StoreValue) (o o' : Outside) : Type 0 where
+  pub safe : Joined clients links s o → (b : Begin) (plans : List Session) → first ≡ b.first → Safe clients b plans s o → Safe clients b plans s' o'
+
+-- ---- the node
+
+-- what every node keeps
+pub record IsNode (n : NodeValue) : Type 0 where
+  pub few : length n.links ≤ LINKS
+  pub attached : n.closed ≡ false → AreAttached n.first n.links n.store.state.facts
+
+-- where no call failed, the node may go on
+abbrev pub MayRun : Meaning → NodeValue → Outside → Type 0
+MayRun clients n o = n.closed ≡ false → MayGoOn clients n.links n.store o
+
+-- Calls on the links of a node, which was not closed, leave them joined.
+pub record KeepsJoined (clients : Meaning) (n n' : NodeValue) (o o' : Outside) : Type 0 where
+  pub goes : Goes o o'
+  pub same_first : n'.first ≡ n.first
+  pub same_number : length n'.links ≡ length n.links
+  pub joined : Joined clients n.links n.store o → Joined clients n'.links n'.store o'
+
+-- From a node whose links were joined, and from a safe run, a call leads to a safe run, whatever it answers: at every moment and
+-- at the end, for whatever begin of the run.
+pub record KeepsSafe (clients : Meaning) (n n' : NodeValue) (o o' : Outside) : Type 0 where
+  pub safe : Joined clients n.links n.store o → (b : Begin) (plans : List Session) → n.first ≡ b.first
+      → Safe clients b plans n.store o → Safe clients b plans n'.store o'
+
+-- the same of a call that begins a session on the next link
+pub record PlansSafe (clients : Meaning) (session : Session) (n n' : NodeValue) (o o' : Outside) : Type 0 where
+  pub safe : Joined clients n.links n.store o → (b : Begin) (plans : List Session) → n.first ≡ b.first → length plans ≡ length n.links
+      → Safe clients b plans n.store o → Safe clients b (plans ++ session ∷ []) n'.store o'
+
+-- a session was begun on the next link
+pub record Attaches (clients : Meaning) (n n' : NodeValue) (o o' : Outside) : Type 0 where
+  pub goes : Goes o o'
+  pub same_first : n'.first ≡ n.first
+  pub one_more : length n'.links ≡ length n.links + 1
+  pub joined : Joined clients n.links n.store o → Joined clients n'.links n'.store o'
+
+-- what a call answers where an earlier call of the node failed: it does nothing
+pub record StaysClosed {T H : Type 0} (n n' : NodeValue) (host host' : H) (result : Result T NodeFault) : Type 0 where
+  pub answer : result ≡ Err fault.Closed
+  pub same : n' ≡ n
+  pub same_host : host' ≡ host
+
+-- Closed is no answer of a node that was not closed; after any fault the node is closed, and else it is not.
+abbrev pub Answers : {T : Type 0} → Result T NodeFault → NodeValue → Type 0
+Answers (Ok _) n' = n'.closed ≡ false
+Answers (Err fault.Memory) n' = n'.closed ≡ true
+Answers (Err fault.DiskFault) n' = n'.closed ≡ true
+Answers (Err fault.Full) n' = n'.closed ≡ true
+Answers (Err fault.Closed) n' = ⊥

@@ -1,0 +1,49 @@
+-- What taking a record does, and what is left of a piece then.
+use Rattle.std.specs.Prelude.{◌≡◌, ℕ, ◌+◌, ◌<◌, Bool, true, false, List, [], ◌∷◌, length, Some, slice_get}
+use Rattle.outside.specs.Outside.{Outside}
+use Rattle.outside.specs.Runs.{Told}
+use Rattle.sync_ids.specs.declared.records.Record.{Record}
+use Rattle.record_grammar.specs.Stream.{records}
+use Rattle.session_core.specs.Taking.{take_of}
+use Rattle.sync_rules.specs.declared.entries.Entry.{Entry}
+use Rattle.sync_rules.specs.declared.entries.Session.{Session}
+use Rattle.sync_rules.specs.Clients.{Meaning}
+use Rattle.sync_rules.specs.Facts.{Facts, after_all, session_at, takes_of}
+use Rattle.sync_rules.specs.Legal.{Allowed, AllSettling}
+use Rattle.sync_rules.specs.Steps.{IsSettled}
+use Rattle.sync_store.specs.Store.{StoreValue}
+use Rattle.sync_store.specs.Ready.{IsReady}
+use Rattle.sync_node.specs.declared.link.Link.{Link}
+use Rattle.sync_node.specs.Going.{Commits}
+use Rattle.sync_node.specs.Output.{Journal, heard_on}
+use Rattle.sync_node.specs.Safe.{Begin, Safe}
+use Rattle.sync_node.specs.Working.{Waits}
+
+-- a store in which a session may take a record
+pub record IsOpenFor (clients : Meaning) (session : Session) (s : StoreValue) (o : Outside) : Type 0 where
+  pub ready : IsReady clients s o.files
+  pub settled : IsSettled clients s.state.facts
+  pub known : session_at s.state.facts.sessions session.number ≡ Some session
+
+-- the batch of a session's next record
+abbrev pub next_take : Facts → Session → Record → List Entry
+next_take f session r = take_of f session (takes_of f.takes session.number) r
+
+-- a record was taken, and the journal settled behind it
+pub record TakesOn (clients : Meaning) (session : Session) (r : Record) (s s' : StoreValue) (o o' : Outside) : Type 0 where
+  pub allowed : Allowed clients s.state.facts (next_take s.state.facts session r)
+  pub more : Journal
+  pub settling : AllSettling clients (after_all s.state.facts (next_take s.state.facts session r)) more
+  pub commits : Commits clients (next_take s.state.facts session r ∷ more) s s' o o'
+  pub settled : IsSettled clients s'.state.facts
+
+-- where the record is the next that was heard on the session's link, it stays safe
+pub record TakesSafe (clients : Meaning) (session : Session) (r : Record) (s s' : StoreValue) (o o' : Outside) : Type 0 where
+  pub safe : (b : Begin) (plans : List Session) (link : ℕ) → session.number ≡ b.first + link
+      → (Told o → slice_get (records (heard_on o.links link)) (takes_of s.state.facts.takes session.number) ≡ Some r)
+      → Safe clients b plans s o → Safe clients b plans s' o'
+
+-- fewer bytes are left, held or of the piece; or nothing is left of the piece, and no item stands whole in what is held
+abbrev pub LeavesLess : Link → List ℕ → Link → List ℕ → Bool → Type 0
+LeavesLess old piece new left true = length new.reader.bytes + length left < length old.reader.bytes + length piece
+LeavesLess old piece new left false = (left ≡ []) × Waits new

@@ -1,0 +1,201 @@
+//! What is heard on a link is taken.
+ghost use Rattle.std.specs.Prelude.{◌≡◌, ◌+◌, ◌<◌, ◌++◌, ◌∷◌, [], false, true, length, IfOk, OnErr};
+ghost use Rattle.std.specs.Prelude.{IsErrOf, OnOk};
+ghost use Rattle.outside.specs.Faults.{Rose};
+ghost use Rattle.sync_course.specs.declared.TheConstants.{PIECE_LEN};
+ghost use Rattle.sync_node.specs.Courses.{HearsAsCourse, HearsStops};
+ghost use Rattle.sync_node.specs.Courses.{NextAsCourse, NextStops, PieceTaken, StopsAsCourse};
+ghost use Rattle.sync_node.specs.Courses.{TakesAsCourse};
+ghost use Rattle.sync_node.specs.Hearing.{Learns};
+ghost use Rattle.sync_node.specs.Taking.{IsOpenFor, LeavesLess, TakesOn, TakesSafe};
+ghost use Rattle.sync_node.specs.Working.{IsAble, StaysSafe, Waits, Works};
+
+use crate::fault::Fault;
+use crate::link::{Link, LinkEnd, ended};
+use crate::told::{cite_laws, commit, settle};
+use outside::{Heard, Host};
+use record_stream::{Next, Piece};
+use session_core::{take, versions_ok};
+use std::alloc::Global;
+use sync_ids::{Record, records_are_within};
+use sync_rules::{Clients, Session};
+use sync_store::Store;
+
+/// Hears once on a link that is still asked, and takes what came. Answers whether nothing came for
+/// now.
+pub(crate) fn receive_on<H: Host, C: Clients>(
+    alloc: Global,
+    store: &mut Store,
+    host: &mut H,
+    clients: &C,
+    number: u8,
+    link: &mut Link,
+    buffer: &mut [u8],
+) -> Result<bool, Fault>
+    requires able { IsAble (C.meaning clients.now) number link.old.session store.old
+        (H.tells host.old) }
+    requires asked { link.old.end ≡ LinkEnd.Going }
+    requires waits { Waits link.old }
+    requires room { 0 < length buffer.old }
+    ensures able { OnOk result (IsAble (C.meaning clients.now) number link.new.session store.new
+        (H.tells host.new)) }
+    ensures waits { OnOk result (Waits link.new) }
+    ensures course { length buffer.old ≡ PIECE_LEN → IfOk result (HearsAsCourse
+        (C.meaning clients.now) number link.old link.new store.old store.new (H.tells host.old)
+        (H.tells host.new)) }
+    ensures stops { length buffer.old ≡ PIECE_LEN → OnErr result (HearsStops
+        (C.meaning clients.now) number link.old store.old (H.tells host.old)
+        (H.tells host.new)) }
+    ensures works { OnOk result (Works (C.meaning clients.now) number [] [] link.old link.new
+        store.old store.new (H.tells host.old) (H.tells host.new)) }
+    ensures stays { OnErr result (StaysSafe (C.meaning clients.now) number [] link.old store.old
+        store.new (H.tells host.old) (H.tells host.new)) }
+    ensures fault { IsErrOf result Fault.DiskFault → Rose (H.tells host.old).disk_faults
+        (H.tells host.new).disk_faults }
+{
+    cite_laws();
+    match host.recv(number, buffer) {
+        Heard::Got(count) => {
+            let mut piece = Piece::new(&buffer[..count]);
+            take_piece(alloc, store, host, clients, number, link, &mut piece)?;
+            Ok(false)
+        }
+        Heard::Idle => Ok(true),
+        Heard::End => {
+            link.end = ended(link.reader.end());
+            Ok(false)
+        }
+        Heard::Failed => {
+            link.end = LinkEnd::Failed;
+            Ok(false)
+        }
+    }
+}
+
+// Takes the records of a piece, one after the other, until the piece is used up or the link is
+// closed.
+fn take_piece<H: Host, C: Clients>(
+    alloc: Global,
+    store: &mut Store,
+    host: &mut H,
+    clients: &C,
+    number: u8,
+    link: &mut Link,
+    piece: &mut Piece,
+) -> Result<(), Fault>
+    requires able { IsAble (C.meaning clients.now) number link.old.session store.old
+        (H.tells host.old) }
+    requires asked { link.old.end ≡ LinkEnd.Going }
+    ensures able { OnOk result (IsAble (C.meaning clients.now) number link.new.session store.new
+        (H.tells host.new)) }
+    ensures waits { OnOk result (Waits link.new) }
+    ensures course { OnOk result (PieceTaken (C.meaning clients.now) number piece.old link.old
+        link.new store.old store.new (H.tells host.old) (H.tells host.new)) }
+    ensures stops { OnErr result (NextStops (C.meaning clients.now) number piece.old link.old
+        store.old (H.tells host.old) (H.tells host.new)) }
+    ensures works { OnOk result (Works (C.meaning clients.now) number piece.old [] link.old link.new
+        store.old store.new (H.tells host.old) (H.tells host.new)) }
+    ensures stays { OnErr result (StaysSafe (C.meaning clients.now) number piece.old link.old
+        store.old store.new (H.tells host.old) (H.tells host.new)) }
+    ensures fault { IsErrOf result Fault.DiskFault → Rose (H.tells host.old).disk_faults
+        (H.tells host.new).disk_faults }
+{
+    'items: while link.end.is_asked() {
+        if !take_next(alloc, store, host, clients, number, link, piece)? {
+            return Ok(());
+        }
+    }
+    Ok(())
+}
+
+// Takes the next record of a piece, or passes over the next skipped one. Answers whether there was
+// one; no record closes the link.
+fn take_next<H: Host, C: Clients>(
+    alloc: Global,
+    store: &mut Store,
+    host: &mut H,
+    clients: &C,
+    number: u8,
+    link: &mut Link,
+    piece: &mut Piece,
+) -> Result<bool, Fault>
+    requires able { IsAble (C.meaning clients.now) number link.old.session store.old
+        (H.tells host.old) }
+    requires asked { link.old.end ≡ LinkEnd.Going }
+    ensures able { OnOk result (IsAble (C.meaning clients.now) number link.new.session store.new
+        (H.tells host.new)) }
+    ensures course { IfOk result (NextAsCourse (C.meaning clients.now) number piece.old piece.new
+        link.old link.new store.old store.new (H.tells host.old) (H.tells host.new)) }
+    ensures stops { OnErr result (NextStops (C.meaning clients.now) number piece.old link.old
+        store.old (H.tells host.old) (H.tells host.new)) }
+    ensures left { IfOk result (LeavesLess link.old piece.old link.new piece.new) }
+    ensures works { OnOk result (Works (C.meaning clients.now) number piece.old piece.new link.old
+        link.new store.old store.new (H.tells host.old) (H.tells host.new)) }
+    ensures stays { OnErr result (StaysSafe (C.meaning clients.now) number piece.old link.old
+        store.old store.new (H.tells host.old) (H.tells host.new)) }
+    ensures fault { IsErrOf result Fault.DiskFault → Rose (H.tells host.old).disk_faults
+        (H.tells host.new).disk_faults }
+{
+    cite_laws();
+    match link.reader.next_in(piece)? {
+        Next::One(place, rec) => {
+            learn(link, place, &rec);
+            take_one(alloc, store, host, clients, &link.session, rec)?;
+            Ok(true)
+        }
+        Next::Skipped(_, _, _) => Ok(true),
+        Next::More => Ok(false),
+        Next::Bad(place, reason) => {
+            link.end = LinkEnd::Bad(place, reason);
+            Ok(false)
+        }
+    }
+}
+
+// What a record says of the link that it was heard on: a nonce, or that the other end does not
+// speak our version.
+fn learn(link: &mut Link, place: u64, rec: &Record)
+    ensures { Learns place rec.now link.old link.new }
+{
+    match rec {
+        Record::Versions(versions) => {
+            if !versions_ok(versions) {
+                link.end = LinkEnd::NoVersion(place);
+            }
+        }
+        Record::Priority(nonce) => {
+            if link.nonce.is_none() {
+                link.nonce = Some(*nonce);
+            }
+        }
+        Record::Ack(_) | Record::Message(_) | Record::Offer(_) | Record::Request(_) => {}
+    }
+}
+
+// Commits the batch of a session's next record, and settles.
+fn take_one<H: Host, C: Clients>(
+    alloc: Global,
+    store: &mut Store,
+    host: &mut H,
+    clients: &C,
+    session: &Session,
+    rec: Record,
+) -> Result<(), Fault>
+    requires able { IsOpenFor (C.meaning clients.now) session.now store.old (H.tells host.old) }
+    ensures course { OnOk result (TakesAsCourse (C.meaning clients.now) session.now.number rec
+        store.old store.new (H.tells host.old) (H.tells host.new)) }
+    ensures stops { OnErr result (StopsAsCourse (C.meaning clients.now) session.now.number rec
+        store.old (H.tells host.old) (H.tells host.new)) }
+    ensures takes { OnOk result (TakesOn (C.meaning clients.now) session.now rec store.old
+        store.new (H.tells host.old) (H.tells host.new)) }
+    ensures safe { TakesSafe (C.meaning clients.now) session.now rec store.old store.new
+        (H.tells host.old) (H.tells host.new) }
+    ensures fault { IsErrOf result Fault.DiskFault → Rose (H.tells host.old).disk_faults
+        (H.tells host.new).disk_faults }
+{
+    records_are_within(&rec);
+    let taken = store.takes(session.number);
+    let batch = take(alloc, store, session, taken, rec)?;
+    commit(store, host, clients, batch)?;
+    settle(store, host, clients)
+}

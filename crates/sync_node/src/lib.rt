@@ -1,0 +1,27 @@
+//! A node: a store whose sessions run over up to eight links (BSP, "Sync modes"). Whatever a link
+//! brings, whatever call fails and whenever the device stops, its files stand for a legal journal
+//! that took what was heard in order and has every byte that was sent.
+//!
+//! - `node`: the node, its calls and its links.
+//! - `link`: a link with its session, and what it does.
+//! - `turning`: the turn of one link; `hearing` takes what is heard on it, `sending` sends what is
+//!   due.
+//! - `redundant`: which of the links with one contact is kept.
+//! - `spelling`: the bytes of what is sent.
+//! - `told`: each call on the store or the host, with what it leaves.
+#![tactic(auto)]
+
+mod attaching;
+mod fault;
+mod hearing;
+mod link;
+mod node;
+mod redundant;
+mod sending;
+mod spelling;
+mod told;
+mod turning;
+
+pub use fault::NodeFault;
+pub use link::LinkEnd;
+pub use node::{Node, Plan, Turned};

@@ -1,0 +1,408 @@
+//! The node.
+ghost use Rattle.std.specs.Prelude.{◌≡◌, ◌<◌, ◌≤◌, false, length, IfOk};
+ghost use Rattle.outside.specs.declared.limits.TheConstants.{LINKS};
+ghost use Rattle.sync_node.specs.Node.{asked_among};
+
+use crate::attaching::attach_on;
+use crate::fault::NodeFault;
+use crate::hearing::receive_on;
+use crate::link::{Link, LinkEnd};
+use crate::sending::send_all;
+use crate::told::{add_settled, cite_laws};
+use crate::turning::turn_all;
+use outside::Host;
+use std::alloc::{AllocError, Global};
+use std::marker::Model;
+use sync_course::PIECE_LEN;
+use sync_ids::Nonce;
+use sync_rules::{Batch, Clients, Mode, Session};
+use sync_store::Store;
+
+/// What runs on a link.
+#[derive(Clone, Copy, Debug, PartialEq, Eq)]
+pub struct Plan {
+    /// The contact at the other end.
+    pub contact: u8,
+    /// How the session sends.
+    pub mode: Mode,
+    /// The greatest expected time of one way, in milliseconds, at least 1.
+    pub latency: u32,
+}
+
+/// What a turn did.
+#[derive(Clone, Copy, Debug, PartialEq, Eq)]
+pub enum Turned {
+    /// Something came, or something was sent.
+    Moving,
+    /// Nothing came for now on any link, and nothing was committed to be sent.
+    Still,
+}
+
+/// A store whose sessions run over links. Contracts see the store, the number of sessions when the
+/// node was made, the links with their sessions, and whether a call failed.
+#[derive(Drop)]
+pub struct Node {
+    alloc: Global,
+    store: Store,
+    first: u32,
+    links: Vec<Link>,
+    buffer: Vec<u8>,
+    closed: bool,
+}
+
+impl Model for Node {
+    ghost use Rattle.std.specs.Prelude.{◌≡◌, length};
+    ghost use Rattle.sync_node.specs.Node.{NodeValue, node_code};
+
+    ghost Value = { NodeValue };
+
+    ghost coded = { node_code };
+
+    ghost use Rattle.sync_node.specs.Node.{IsNode};
+    ghost use Rattle.sync_course.specs.declared.TheConstants.{PIECE_LEN};
+
+    ghost view = { λ n. record {
+      store = n.store;
+      first = n.first;
+      links = n.links.items;
+      closed = n.closed;
+    } };
+
+    ghost invariant = { λ n. (length n.buffer.items ≡ PIECE_LEN) × IsNode (record {
+      store = n.store;
+      first = n.first;
+      links = n.links.items;
+      closed = n.closed;
+    }) };
+}
+
+// A buffer of so many bytes.
+fn zeros(alloc: Global, len: usize) -> Result<Vec<u8>, AllocError>
+    ensures { IfOk result (λ v. length v.items ≡ len) }
+{
+    vec![in alloc; 0u8; len]
+}
+
+impl Node {
+    ghost use Rattle.std.specs.Prelude.{[], true, slice_get, OnErr, OnOk, Some};
+    ghost use Rattle.std.specs.Option.{option_map};
+    ghost use Rattle.sync_node.specs.declared.link.Link.{Link};
+    ghost use Rattle.std.specs.Prelude.{IsErrOf};
+    ghost use Rattle.outside.specs.Faults.{Rose};
+    ghost use Rattle.outside.specs.Files.{Two, File};
+    ghost use Rattle.sync_rules.specs.Legal.{Allowed, suits_nonce};
+    ghost use Rattle.sync_store.specs.Fitting.{Fits};
+    ghost use Rattle.sync_store.specs.Moments.{Leads};
+    ghost use Rattle.sync_node.specs.Adding.{AddsAtMost, IsPlain};
+    ghost use Rattle.sync_node.specs.Output.{Journal};
+    ghost use Rattle.sync_rules.specs.Steps.{IsSettled};
+    ghost use Rattle.sync_node.specs.Node.{Answers, Attaches, KeepsJoined, KeepsSafe};
+    ghost use Rattle.sync_node.specs.Node.{MayRun, PlansSafe, StaysClosed};
+    ghost use Rattle.sync_node.specs.Courses.{BreaksReceiving, BreaksSending, BreaksTurn};
+    ghost use Rattle.sync_node.specs.Courses.{MakesTurn, Receives, SendsDue, is_still};
+    ghost use Rattle.sync_node.specs.Plans.{session_of};
+    ghost use Rattle.sync_node.specs.Ends.{MaySend};
+
+    /// A node over a store, which no failed call has closed. It takes the buffer here that links
+    /// are asked with. It fails only for want of memory.
+    pub fn new(alloc: Global, store: Store) -> Result<Node, AllocError>
+        requires { store.closed ≡ false }
+        ensures { IfOk result (λ n. n ≡ record {
+          store = store;
+          first = store.state.facts.begun;
+          links = [];
+          closed = false;
+        }) }
+    {
+        let buffer = zeros(alloc, PIECE_LEN)?;
+        Ok(Node {
+            alloc,
+            first: store.sessions(),
+            store,
+            links: Vec::new(alloc),
+            buffer,
+            closed: false,
+        })
+    }
+
+    /// The store.
+    pub fn store(&self) -> &Store
+        ensures { result.now ≡ self.now.store }
+    {
+        &self.store
+    }
+
+    /// The number of links that are still asked.
+    pub fn asked(&self) -> u32
+        ensures { result ≡ asked_among self.now.links }
+    {
+        count_asked(self.links.as_slice())
+    }
+
+    /// How a link stands that is attached.
+    pub fn ending(&self, link: u8) -> LinkEnd
+        requires { link < length self.now.links }
+        ensures { option_map (λ l. l.end) (slice_get self.now.links link) ≡ Some result }
+    {
+        self.links[link as usize].end
+    }
+
+    /// Commits a batch of one entry that adds a contact, a group or a message, or sets a level, and
+    /// may follow the journal; and settles. Nothing is sent: at each moment the files stand for the
+    /// journal, or for it with the batch and settling behind it.
+    pub fn add<H: Host, C: Clients>(
+        &mut self,
+        host: &mut H,
+        clients: &C,
+        batch: Batch,
+    ) -> Result<(), NodeFault>
+        requires may { MayRun (C.meaning clients.now) self.old (H.tells host.old) }
+        requires allowed { self.old.closed ≡ false
+            → Allowed (C.meaning clients.now) self.old.store.state.facts batch }
+        requires plain { IsPlain batch }
+        ensures closed { self.old.closed ≡ true
+            → StaysClosed self.old self.new host.old host.new result }
+        ensures answer { self.old.closed ≡ false → Answers result self.new }
+        ensures may { MayRun (C.meaning clients.now) self.new (H.tells host.new) }
+        ensures joined { OnOk result (KeepsJoined (C.meaning clients.now) self.old self.new
+            (H.tells host.old) (H.tells host.new)) }
+        ensures leads { self.old.closed ≡ false → (two : Two File)
+            → (H.tells host.old).files ≡ Some two → (j : Journal)
+            → Fits (C.meaning clients.now) self.old.store j two → Leads (C.meaning clients.now)
+            (AddsAtMost (C.meaning clients.now) j batch)
+            (AddsAtMost (C.meaning clients.now) j batch) self.new.store (H.tells host.old)
+            (H.tells host.new) }
+        ensures fault { IsErrOf result NodeFault.DiskFault → Rose (H.tells host.old).disk_faults
+            (H.tells host.new).disk_faults }
+    {
+        if self.closed {
+            return Err(NodeFault::Closed);
+        }
+        match add_settled(&mut self.store, host, clients, batch) {
+            Ok(()) => Ok(()),
+            Err(fault) => {
+                self.closed = true;
+                Err(NodeFault::from(fault))
+            }
+        }
+    }
+
+    /// Begins a session on a link that was dialled, the next number: commits it, and sends VERSIONS
+    /// and, where it has a nonce, PRIORITY. The journal is settled, the contact is known, the
+    /// latency is at least 1, and a nonce is given in interactive mode alone. A failed send closes
+    /// the link, and the answer is Ok.
+    pub fn attach<H: Host, C: Clients>(
+        &mut self,
+        host: &mut H,
+        clients: &C,
+        link: u8,
+        plan: &Plan,
+        nonce: Option<Nonce>,
+    ) -> Result<(), NodeFault>
+        requires may { MayRun (C.meaning clients.now) self.old (H.tells host.old) }
+        requires settled { self.old.closed ≡ false
+            → IsSettled (C.meaning clients.now) self.old.store.state.facts }
+        requires contact { plan.now.contact < self.old.store.state.facts.contacts }
+        requires latency { 1 ≤ plan.now.latency }
+        requires nonce { suits_nonce plan.now.mode nonce ≡ true }
+        requires next { link ≡ length self.old.links }
+        requires few { link < LINKS }
+        requires dialled { link < (H.tells host.old).links.dialled }
+        ensures closed { self.old.closed ≡ true
+            → StaysClosed self.old self.new host.old host.new result }
+        ensures answer { self.old.closed ≡ false → Answers result self.new }
+        ensures may { MayRun (C.meaning clients.now) self.new (H.tells host.new) }
+        ensures joined { OnOk result (Attaches (C.meaning clients.now) self.old self.new
+            (H.tells host.old) (H.tells host.new)) }
+        ensures safe { PlansSafe (C.meaning clients.now)
+            (session_of self.old.store.state.facts.begun plan.now nonce) self.old self.new
+            (H.tells host.old) (H.tells host.new) }
+        ensures fault { IsErrOf result NodeFault.DiskFault → Rose (H.tells host.old).disk_faults
+            (H.tells host.new).disk_faults }
+    {
+        cite_laws();
+        if self.closed {
+            return Err(NodeFault::Closed);
+        }
+        let session = Session {
+            number: self.store.sessions(),
+            contact: plan.contact,
+            mode: plan.mode,
+            latency: plan.latency,
+            nonce,
+        };
+        match attach_on(
+            self.alloc,
+            &mut self.store,
+            host,
+            clients,
+            &mut self.links,
+            link,
+            session,
+        ) {
+            Ok(()) => Ok(()),
+            Err(fault) => {
+                self.closed = true;
+                Err(NodeFault::from(fault))
+            }
+        }
+    }
+
+    /// Asks a link once that is attached and still asked, and takes what came: the batch of each
+    /// record, and settling behind it. Answers whether nothing came for now.
+    pub fn receive<H: Host, C: Clients>(
+        &mut self,
+        host: &mut H,
+        clients: &C,
+        link: u8,
+    ) -> Result<bool, NodeFault>
+        requires may { MayRun (C.meaning clients.now) self.old (H.tells host.old) }
+        requires attached { link < length self.old.links }
+        requires asked { (l : Link) → slice_get self.old.links link ≡ Some l
+            → l.end ≡ LinkEnd.Going }
+        ensures closed { self.old.closed ≡ true
+            → StaysClosed self.old self.new host.old host.new result }
+        ensures answer { self.old.closed ≡ false → Answers result self.new }
+        ensures may { MayRun (C.meaning clients.now) self.new (H.tells host.new) }
+        ensures course { self.old.closed ≡ false → IfOk result (Receives (C.meaning clients.now)
+            self.old.first link self.old.links self.new.links self.old.store self.new.store
+            (H.tells host.old) (H.tells host.new)) }
+        ensures halts { self.old.closed ≡ false → OnErr result (BreaksReceiving
+            (C.meaning clients.now) self.old.first link self.old.links self.old.store
+            (H.tells host.old) (H.tells host.new)) }
+        ensures joined { OnOk result (KeepsJoined (C.meaning clients.now) self.old self.new
+            (H.tells host.old) (H.tells host.new)) }
+        ensures safe { KeepsSafe (C.meaning clients.now) self.old self.new (H.tells host.old)
+            (H.tells host.new) }
+        ensures fault { IsErrOf result NodeFault.DiskFault → Rose (H.tells host.old).disk_faults
+            (H.tells host.new).disk_faults }
+    {
+        if self.closed {
+            return Err(NodeFault::Closed);
+        }
+        match receive_on(
+            self.alloc,
+            &mut self.store,
+            host,
+            clients,
+            link,
+            &mut self.links[link as usize],
+            self.buffer.as_mut_slice(),
+        ) {
+            Ok(idle) => Ok(idle),
+            Err(fault) => {
+                self.closed = true;
+                Err(NodeFault::from(fault))
+            }
+        }
+    }
+
+    /// Commits and sends what is due at this time in milliseconds on a link that is attached and
+    /// not closed, at most `MAX_OUTPUTS` outputs, and answers how many that were.
+    pub fn send_due<H: Host, C: Clients>(
+        &mut self,
+        host: &mut H,
+        clients: &C,
+        link: u8,
+        now: u64,
+    ) -> Result<u32, NodeFault>
+        requires may { MayRun (C.meaning clients.now) self.old (H.tells host.old) }
+        requires attached { link < length self.old.links }
+        requires unclosed { (l : Link) → slice_get self.old.links link ≡ Some l
+            → MaySend l.end }
+        ensures closed { self.old.closed ≡ true
+            → StaysClosed self.old self.new host.old host.new result }
+        ensures answer { self.old.closed ≡ false → Answers result self.new }
+        ensures may { MayRun (C.meaning clients.now) self.new (H.tells host.new) }
+        ensures course { self.old.closed ≡ false → IfOk result (SendsDue (C.meaning clients.now)
+            self.old.first link now self.old.links self.new.links self.old.store self.new.store
+            (H.tells host.old) (H.tells host.new)) }
+        ensures halts { self.old.closed ≡ false → OnErr result (BreaksSending
+            (C.meaning clients.now) self.old.first link now self.old.links self.old.store
+            (H.tells host.old) (H.tells host.new)) }
+        ensures joined { OnOk result (KeepsJoined (C.meaning clients.now) self.old self.new
+            (H.tells host.old) (H.tells host.new)) }
+        ensures safe { KeepsSafe (C.meaning clients.now) self.old self.new (H.tells host.old)
+            (H.tells host.new) }
+        ensures fault { IsErrOf result NodeFault.DiskFault → Rose (H.tells host.old).disk_faults
+            (H.tells host.new).disk_faults }
+    {
+        if self.closed {
+            return Err(NodeFault::Closed);
+        }
+        match send_all(
+            self.alloc,
+            &mut self.store,
+            host,
+            clients,
+            link,
+            &mut self.links[link as usize],
+            now,
+        ) {
+            Ok(made) => Ok(made),
+            Err(fault) => {
+                self.closed = true;
+                Err(NodeFault::from(fault))
+            }
+        }
+    }
+
+    /// Goes through the links in order: asks each that is still asked, and sends what is due on
+    /// each that is not closed. Then the redundant ones are closed.
+    pub fn turn<H: Host, C: Clients>(
+        &mut self,
+        host: &mut H,
+        clients: &C,
+    ) -> Result<Turned, NodeFault>
+        requires may { MayRun (C.meaning clients.now) self.old (H.tells host.old) }
+        ensures closed { self.old.closed ≡ true
+            → StaysClosed self.old self.new host.old host.new result }
+        ensures answer { self.old.closed ≡ false → Answers result self.new }
+        ensures may { MayRun (C.meaning clients.now) self.new (H.tells host.new) }
+        ensures course { self.old.closed ≡ false → IfOk result (λ turned. MakesTurn
+            (C.meaning clients.now) self.old.first self.old.links self.new.links self.old.store
+            self.new.store (H.tells host.old) (H.tells host.new) (is_still turned)) }
+        ensures halts { self.old.closed ≡ false → OnErr result (BreaksTurn (C.meaning clients.now)
+            self.old.first self.old.links self.old.store (H.tells host.old)
+            (H.tells host.new)) }
+        ensures joined { OnOk result (KeepsJoined (C.meaning clients.now) self.old self.new
+            (H.tells host.old) (H.tells host.new)) }
+        ensures safe { KeepsSafe (C.meaning clients.now) self.old self.new (H.tells host.old)
+            (H.tells host.new) }
+        ensures fault { IsErrOf result NodeFault.DiskFault → Rose (H.tells host.old).disk_faults
+            (H.tells host.new).disk_faults }
+    {
+        if self.closed {
+            return Err(NodeFault::Closed);
+        }
+        match turn_all(
+            self.alloc,
+            &mut self.store,
+            host,
+            clients,
+            self.links.as_mut_slice(),
+            self.buffer.as_mut_slice(),
+        ) {
+            Ok(true) => Ok(Turned::Still),
+            Ok(false) => Ok(Turned::Moving),
+            Err(fault) => {
+                self.closed = true;
+                Err(NodeFault::from(fault))
+            }
+        }
+    }
+}
+
+// How many links are still asked.
+fn count_asked(links: &[Link]) -> u32
+    requires { length links.now ≤ LINKS }
+    ensures { result ≡ asked_among links.now }
+{
+    let mut asked = 0;
+    'links: for link in links {
+        if link.end.is_asked() {
+            asked += 1;
+        }
+    }
+    asked
+}

@@ -1,0 +1,134 @@
+//! Batches committed, and the journal settled: each call on the store, with what it leaves.
+ghost use Rattle.std.specs.Prelude.{◌≡◌, ◌∷◌, [], false, List, IsErrOf, OnErr, OnOk, Some};
+ghost use Rattle.outside.specs.Faults.{Rose};
+ghost use Rattle.outside.specs.Files.{Two, File};
+ghost use Rattle.outside.specs.Runs.{IsFront, Told};
+ghost use Rattle.sync_rules.specs.Allows.{is_settling_kind};
+ghost use Rattle.sync_rules.specs.Legal.{Allowed};
+ghost use Rattle.sync_rules.specs.declared.entries.Session.{Session};
+ghost use Rattle.sync_store.specs.Fitting.{Fits};
+ghost use Rattle.sync_store.specs.Moments.{Leads, WithAtMost};
+ghost use Rattle.sync_store.specs.Ready.{IsReady};
+ghost use Rattle.sync_node.specs.Adding.{AddsAtMost, AddsSettled, GoesOnSettling, IsCommitted};
+ghost use Rattle.sync_node.specs.Adding.{IsPlain};
+ghost use Rattle.sync_node.specs.Cited.{CitedLaws};
+ghost use Rattle.sync_node.specs.Courses.{Adds, AddsSettling, AddsSome, AddsSomeSettling};
+ghost use Rattle.sync_node.specs.Going.{Commits, Settles};
+ghost use Rattle.sync_node.specs.Output.{heard_on, Journal};
+ghost use Rattle.sync_node.specs.Safe.{Begin, Safe};
+ghost use Rattle.sync_node.specs.Suits.{IsOfRun};
+
+use crate::fault::Fault;
+use outside::Host;
+use record_grammar::{endings_are_of_rests, fronts_have_fronts, records_join, rests_give_nothing};
+use record_stream::{readings_follow, readings_widen};
+use sync_rules::{Batch, Clients};
+use sync_store::laws::images_stand;
+use sync_store::{Store, StoreFault};
+
+// The laws of the crates below that proofs of this crate rest on.
+pub(crate) fn cite_laws()
+    ensures { CitedLaws }
+{
+    fronts_have_fronts();
+    records_join();
+    readings_widen();
+    readings_follow();
+    images_stand();
+    endings_are_of_rests();
+    rests_give_nothing();
+}
+
+/// Commits a batch, one of a run.
+pub(crate) fn commit<H: Host, C: Clients>(
+    store: &mut Store,
+    host: &mut H,
+    clients: &C,
+    batch: Batch,
+) -> Result<(), Fault>
+    requires ready { IsReady (C.meaning clients.now) store.old (H.tells host.old).files }
+    requires allowed { Allowed (C.meaning clients.now) store.old.state.facts batch }
+    requires kind { is_settling_kind batch ≡ false }
+    ensures commits { OnOk result (Commits (C.meaning clients.now) (batch ∷ []) store.old store.new
+        (H.tells host.old) (H.tells host.new)) }
+    ensures adds { OnOk result (Adds (C.meaning clients.now) (batch ∷ []) store.old store.new
+        (H.tells host.old) (H.tells host.new)) }
+    ensures adds_some { OnErr result (AddsSome (C.meaning clients.now) (batch ∷ []) store.old
+        (H.tells host.old) (H.tells host.new)) }
+    ensures safe { (b : Begin) (plans later : List Session) → IsFront plans later
+        → (Told (H.tells host.old) → IsOfRun b.first later (heard_on (H.tells host.old).links)
+        store.old.state.facts batch)
+        → Safe (C.meaning clients.now) b plans store.old (H.tells host.old)
+        → Safe (C.meaning clients.now) b later store.new (H.tells host.new) }
+    ensures leads { (two : Two File) → (H.tells host.old).files ≡ Some two → (j : Journal)
+        → Fits (C.meaning clients.now) store.old j two → Leads (C.meaning clients.now)
+        (WithAtMost j batch) (IsCommitted j batch result) store.new (H.tells host.old)
+        (H.tells host.new) }
+    ensures fault { IsErrOf result Fault.DiskFault → Rose (H.tells host.old).disk_faults
+        (H.tells host.new).disk_faults }
+{
+    cite_laws();
+    match store.commit(host, clients, batch) {
+        Ok(()) => Ok(()),
+        Err(StoreFault::Memory) => Err(Fault::Memory),
+        Err(StoreFault::DiskFault) => Err(Fault::DiskFault),
+        Err(StoreFault::Full) => Err(Fault::Full),
+        Err(StoreFault::Closed) => unreachable!(),
+    }
+}
+
+/// Settles the journal.
+pub(crate) fn settle<H: Host, C: Clients>(
+    store: &mut Store,
+    host: &mut H,
+    clients: &C,
+) -> Result<(), Fault>
+    requires ready { IsReady (C.meaning clients.now) store.old (H.tells host.old).files }
+    ensures settles { OnOk result (Settles (C.meaning clients.now) store.old store.new
+        (H.tells host.old) (H.tells host.new)) }
+    ensures adds { OnOk result (AddsSettling (C.meaning clients.now) store.old store.new
+        (H.tells host.old) (H.tells host.new)) }
+    ensures adds_some { OnErr result (AddsSomeSettling (C.meaning clients.now) store.old
+        (H.tells host.old) (H.tells host.new)) }
+    ensures safe { (b : Begin) (plans : List Session)
+        → Safe (C.meaning clients.now) b plans store.old (H.tells host.old)
+        → Safe (C.meaning clients.now) b plans store.new (H.tells host.new) }
+    ensures leads { (two : Two File) → (H.tells host.old).files ≡ Some two → (j : Journal)
+        → Fits (C.meaning clients.now) store.old j two → Leads (C.meaning clients.now)
+        (GoesOnSettling (C.meaning clients.now) j) (GoesOnSettling (C.meaning clients.now) j)
+        store.new (H.tells host.old) (H.tells host.new) }
+    ensures fault { IsErrOf result Fault.DiskFault → Rose (H.tells host.old).disk_faults
+        (H.tells host.new).disk_faults }
+{
+    cite_laws();
+    match store.settle(host, clients) {
+        Ok(()) => Ok(()),
+        Err(StoreFault::Memory) => Err(Fault::Memory),
+        Err(StoreFault::DiskFault) => Err(Fault::DiskFault),
+        Err(StoreFault::Full | StoreFault::Closed) => unreachable!(),
+    }
+}
+
+/// Commits a batch that adds a contact, a group, a level or a message, and settles. Nothing is
+/// sent.
+pub(crate) fn add_settled<H: Host, C: Clients>(
+    store: &mut Store,
+    host: &mut H,
+    clients: &C,
+    batch: Batch,
+) -> Result<(), Fault>
+    requires ready { IsReady (C.meaning clients.now) store.old (H.tells host.old).files }
+    requires allowed { Allowed (C.meaning clients.now) store.old.state.facts batch }
+    requires plain { IsPlain batch }
+    ensures added { OnOk result (AddsSettled (C.meaning clients.now) batch store.old store.new
+        (H.tells host.old) (H.tells host.new)) }
+    ensures leads { (two : Two File) → (H.tells host.old).files ≡ Some two → (j : Journal)
+        → Fits (C.meaning clients.now) store.old j two → Leads (C.meaning clients.now)
+        (AddsAtMost (C.meaning clients.now) j batch) (AddsAtMost (C.meaning clients.now) j batch)
+        store.new (H.tells host.old) (H.tells host.new) }
+    ensures fault { IsErrOf result Fault.DiskFault → Rose (H.tells host.old).disk_faults
+        (H.tells host.new).disk_faults }
+{
+    commit(store, host, clients, batch)?;
+    settle(store, host, clients)
+}
