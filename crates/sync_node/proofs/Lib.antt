@@ -10,3 +10,4 @@ mod NodeLaws
 mod AttachLaws
 mod AddLaws
 mod CourseNode
+mod CourseStart

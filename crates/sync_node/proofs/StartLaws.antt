@@ -133,7 +133,7 @@ abbrev pub session_batch : Session → List Entry
 session_batch x = entry.Session x ∷ []
 
 -- no session of a list has a number that all are below
-none_below : (n : ℕ) (ss : List Session) → AllByRecursion (λ (s : Session). s.number < n) ss → session_at ss n ≡ None
+pub none_below : (n : ℕ) (ss : List Session) → AllByRecursion (λ (s : Session). s.number < n) ss → session_at ss n ≡ None
 none_below n [] below = refl
 none_below n (s ∷ ss) below =
     let first : s.number < n = below.0 in

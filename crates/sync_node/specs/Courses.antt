@@ -1,9 +1,10 @@
 -- What a run does to a store and its disk, as a course: where the disk fits the store with a journal, and what the files stand for
 -- where a call was broken off.
-use Rattle.std.specs.Prelude.{◌≡◌, ◌⊎◌, ℕ, suc, ◌+◌, Bool, true, false, cond, not, ◌&&◌, nat_eq, nat_lt, slice_get, List, [], ◌∷◌, ◌++◌, Option, Some}
+use Rattle.std.specs.Prelude.{◌≡◌, ◌⊎◌, ℕ, suc, ◌+◌, Bool, true, false, cond, not, ◌&&◌, nat_eq, nat_lt, slice_get, List, [], ◌∷◌, ◌++◌, length, Option, Some}
 use Rattle.outside.specs.Files.{Two, File, read_files}
 use Rattle.outside.specs.Outside.{Outside}
 use Rattle.sync_rules.specs.declared.entries.Entry.{Entry}
+use Rattle.sync_rules.specs.declared.entries.Session.{Session}
 use Rattle.sync_rules.specs.Clients.{Meaning}
 use Rattle.entry_codec.specs.Standing.{stands, journal}
 use Rattle.sync_store.specs.Store.{StoreValue}
@@ -27,8 +28,9 @@ use Rattle.sync_node.specs.declared.link.LinkEnd.TheVariants as link_end
 use Rattle.sync_node.specs.declared.node.Turned.{Turned}
 use Rattle.sync_node.specs.declared.node.Turned.TheVariants as turned
 use Rattle.sync_course.specs.LinkTurns.{Asks, Doing, Done, LinkStep, Sends, Spot, Takes, Waits}
+use Rattle.sync_course.specs.Events.{Break, Pass, Told}
 use Rattle.sync_course.specs.Paths.{Breaks, Runs}
-use Rattle.sync_course.specs.Turns.{Between, Place, RunStep, Stage, Terms, Works, is_at_end}
+use Rattle.sync_course.specs.Turns.{Attaches, Between, Place, RunStep, Stage, Terms, Works, is_at_end}
 
 -- the files are told, and fit the store with this journal
 abbrev pub FitsWith : Meaning → StoreValue → Option (Two File) → List (List Entry) → Type 0
@@ -345,6 +347,52 @@ pub record SendsDue (clients : Meaning) (first n now : ℕ) (links links' : List
 pub record BreaksSending (clients : Meaning) (first n now : ℕ) (links : List Link) (s : StoreValue) (o o' : Outside) : Type 0 where
   pub stops : (terms : Terms) (heard : ℕ → List ℕ) (moved : Bool) (still made : ℕ) → terms.first ≡ first
       → RunBreaks clients terms (place_at (Works n (Sends now MAX_OUTPUTS)) links heard moved still made s.state.facts) s o o'
+
+-- ---- a session that begins on the next link
+
+-- all sends of a greeting are one event: they went out, or one failed, and the link is closed
+abbrev pub GreetsAsCourse : ℕ → Link → Link → Outside → Outside → Type 0
+GreetsAsCourse n l l' o o' =
+    ((l' ≡ l) × Told (Pass ∷ []) o o') ⊎ ((l' ≡ record l { end = link_end.Failed }) × Told (Break n ∷ []) o o')
+
+-- a place of a run that is to begin these sessions
+abbrev pub attaching_at : List Session → List course_links.Link → Bool → ℕ → ℕ → Facts → Place
+attaching_at left links moved still made f = record {
+  stage = Attaches left;
+  links = links;
+  moved = moved;
+  still = still;
+  made = made;
+  facts = f;
+}
+
+-- Where files are told, a session began on the link of this number, behind the others, and greeted there. Nothing was heard on it.
+pub record StartsAsCourse (clients : Meaning) (n : ℕ) (session : Session) (l : Link) (s s' : StoreValue) (o o' : Outside) : Type 0 where
+  pub has_read : IsRead [] l
+  pub runs : (two : Two File) → o.files ≡ Some two → (terms : Terms) (left : List Session) (links : List course_links.Link) (moved : Bool) (still made : ℕ) → length links ≡ n
+      → RunRuns clients terms (attaching_at (session ∷ left) links moved still made s.state.facts)
+      (attaching_at left (links ++ link_at l [] ∷ []) moved still made s'.state.facts) s s' o o'
+
+pub record BreaksStart (clients : Meaning) (session : Session) (s : StoreValue) (o o' : Outside) : Type 0 where
+  pub stops : (terms : Terms) (left : List Session) (links : List course_links.Link) (moved : Bool) (still made : ℕ)
+      → RunBreaks clients terms (attaching_at (session ∷ left) links moved still made s.state.facts) s o o'
+
+-- that link stands behind the others
+pub record StartsBehind (clients : Meaning) (n : ℕ) (session : Session) (links links' : List Link) (s s' : StoreValue) (o o' : Outside) : Type 0 where
+  pub link : Link
+  pub starts : StartsAsCourse clients n session link s s' o o'
+  pub pushed : links' ≡ links ++ link ∷ []
+
+-- where files are told, the next session began on the link behind those of a node, on which nothing was heard
+pub record Begins (clients : Meaning) (session : Session) (links links' : List Link) (s s' : StoreValue) (o o' : Outside) : Type 0 where
+  pub has_read : (heard : ℕ → List ℕ) → heard (length links) ≡ [] → AllRead heard links → AllRead heard links'
+  pub runs : (two : Two File) → o.files ≡ Some two → (terms : Terms) (left : List Session) (heard : ℕ → List ℕ) (moved : Bool) (still made : ℕ) → heard (length links) ≡ []
+      → RunRuns clients terms (place_at (Attaches (session ∷ left)) links heard moved still made s.state.facts)
+      (place_at (Attaches left) links' heard moved still made s'.state.facts) s s' o o'
+
+pub record BreaksBeginning (clients : Meaning) (session : Session) (links : List Link) (s : StoreValue) (o o' : Outside) : Type 0 where
+  pub stops : (terms : Terms) (left : List Session) (heard : ℕ → List ℕ) (moved : Bool) (still made : ℕ)
+      → RunBreaks clients terms (place_at (Attaches (session ∷ left)) links heard moved still made s.state.facts) s o o'
 
 -- ---- redundant links
 

@@ -21,3 +21,4 @@ pub mod CourseTurns
 pub mod CourseRuns
 pub mod CourseRedundant
 pub mod CourseCalls
+pub mod CourseJoined

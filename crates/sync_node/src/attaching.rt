@@ -6,6 +6,8 @@ ghost use Rattle.record_stream.specs.Reading.{AwaitsBytes, fresh};
 ghost use Rattle.sync_rules.specs.Legal.{Allowed};
 ghost use Rattle.sync_rules.specs.declared.entries.Entry.TheVariants as entry;
 ghost use Rattle.sync_store.specs.Ready.{IsReady};
+ghost use Rattle.sync_node.specs.Courses.{BreaksStart, GreetsAsCourse, StartsAsCourse};
+ghost use Rattle.sync_node.specs.Courses.{StartsBehind};
 ghost use Rattle.sync_node.specs.Starting.{Greets, Starts, StartsLast, StartsSafe};
 
 use crate::fault::Fault;
@@ -37,6 +39,11 @@ pub(crate) fn attach_on<H: Host, C: Clients>(
     ensures starts { OnOk result (StartsLast (C.meaning clients.now) number session
         links.old.items links.new.items store.old store.new (H.tells host.old)
         (H.tells host.new)) }
+    ensures course { OnOk result (StartsBehind (C.meaning clients.now) number session
+        links.old.items links.new.items store.old store.new (H.tells host.old)
+        (H.tells host.new)) }
+    ensures halts { OnErr result (BreaksStart (C.meaning clients.now) session store.old
+        (H.tells host.old) (H.tells host.new)) }
     ensures same { OnErr result (links.new.items ≡ links.old.items) }
     ensures safe { StartsSafe (C.meaning clients.now) number session store.old store.new
         (H.tells host.old) (H.tells host.new) }
@@ -68,6 +75,10 @@ fn start<H: Host, C: Clients>(
     requires fresh { reader ≡ fresh }
     requires waits { AwaitsBytes reader }
     requires dialled { number < (H.tells host.old).links.dialled }
+    ensures course { IfOk result (λ link. StartsAsCourse (C.meaning clients.now) number session link
+        store.old store.new (H.tells host.old) (H.tells host.new)) }
+    ensures halts { OnErr result (BreaksStart (C.meaning clients.now) session store.old
+        (H.tells host.old) (H.tells host.new)) }
     ensures starts { IfOk result (λ link. Starts (C.meaning clients.now) number session link
         store.old store.new (H.tells host.old) (H.tells host.new)) }
     ensures safe { StartsSafe (C.meaning clients.now) number session store.old store.new
@@ -104,7 +115,9 @@ fn start<H: Host, C: Clients>(
 fn greet<H: Host>(host: &mut H, number: u8, link: &mut Link, versions: &[u8], priority: &[u8])
     requires dialled { number < (H.tells host.old).links.dialled }
     requires going { link.old.end ≡ LinkEnd.Going }
-    ensures { Greets number (versions.now ++ priority.now) link.old link.new (H.tells host.old)
+    ensures told { GreetsAsCourse number link.old link.new (H.tells host.old)
+        (H.tells host.new) }
+    ensures greets { Greets number (versions.now ++ priority.now) link.old link.new (H.tells host.old)
         (H.tells host.new) }
 {
     cite_laws();

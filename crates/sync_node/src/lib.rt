@@ -25,3 +25,4 @@ mod turning;
 pub use fault::NodeFault;
 pub use link::LinkEnd;
 pub use node::{Node, Plan, Turned};
+pub use sync_course::{MAX_OUTPUTS as MOST_OUTS, PIECE_LEN as RECEIVE_LEN};

@@ -98,6 +98,7 @@ impl Node {
     ghost use Rattle.sync_rules.specs.Steps.{IsSettled};
     ghost use Rattle.sync_node.specs.Node.{Answers, Attaches, KeepsJoined, KeepsSafe};
     ghost use Rattle.sync_node.specs.Node.{MayRun, PlansSafe, StaysClosed};
+    ghost use Rattle.sync_node.specs.Courses.{Begins, BreaksBeginning};
     ghost use Rattle.sync_node.specs.Courses.{BreaksReceiving, BreaksSending, BreaksTurn};
     ghost use Rattle.sync_node.specs.Courses.{MakesTurn, Receives, SendsDue, is_still};
     ghost use Rattle.sync_node.specs.Plans.{session_of};
@@ -212,6 +213,12 @@ impl Node {
             → StaysClosed self.old self.new host.old host.new result }
         ensures answer { self.old.closed ≡ false → Answers result self.new }
         ensures may { MayRun (C.meaning clients.now) self.new (H.tells host.new) }
+        ensures course { self.old.closed ≡ false → OnOk result (Begins (C.meaning clients.now)
+            (session_of self.old.store.state.facts.begun plan.now nonce) self.old.links
+            self.new.links self.old.store self.new.store (H.tells host.old) (H.tells host.new)) }
+        ensures halts { self.old.closed ≡ false → OnErr result (BreaksBeginning
+            (C.meaning clients.now) (session_of self.old.store.state.facts.begun plan.now nonce)
+            self.old.links self.old.store (H.tells host.old) (H.tells host.new)) }
         ensures joined { OnOk result (Attaches (C.meaning clients.now) self.old self.new
             (H.tells host.old) (H.tells host.new)) }
         ensures safe { PlansSafe (C.meaning clients.now)

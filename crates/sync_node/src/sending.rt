@@ -18,8 +18,8 @@ use sync_course::MAX_OUTPUTS;
 use sync_rules::{Clients, Entry, Out};
 use sync_store::Store;
 
-/// Commits and sends what is due on the link at this time, at most `MAX_OUTPUTS` outputs, and answers
-/// how many. A failed send closes the link.
+/// Commits and sends what is due on the link at this time, at most `MAX_OUTPUTS` outputs, and
+/// answers how many. A failed send closes the link.
 pub(crate) fn send_all<H: Host, C: Clients>(
     alloc: Global,
     store: &mut Store,

@@ -1,6 +1,8 @@
 use Rattle.std.proofs.Common.{arith, refl, sym, ◌∙◌, subst}
 use Rattle.record_stream.specs.Reading.{AwaitsBytes, ReaderState}
+use Rattle.sync_node.proofs.CourseStart.{start_broken, start_none, starts_course}
 use Rattle.sync_node.proofs.StartLaws.{allowed_as, commits_as, commits_safe_as, first_bytes, kind_as, session_found, starts, starts_as_before, starts_failed, starts_safe}
+use Rattle.sync_node.proofs.WorkLaws.{on_err}
 use Rattle.sync_node.proofs.attaching.start.Goals as goal
 
 pub returns-in_err-versions-clause-safe : goal.returns-in_err-versions-clause-safe
@@ -43,11 +45,30 @@ returns-clause-starts g c =
     starts _ _ c.args.session c.in-Some.begun c.args.reader _ _ _ _ _ _ _ _ c.requires.allowed.1 c.requires.allowed
     (commits_as _ c.in_ok-batch.batch _ _ _ _ _ c.in_ok-batch.ensures c.in_ok-commit.ensures.commits)
     (first_bytes c.args.session _ _ (c.as_slice.ensures.value ∙ c.in_ok-versions.ensures) (c.as_slice-2.ensures.value ∙ c.in_ok-priority.ensures))
-    (sym c.in-Some.is ∙ c.session.ensures.value) c.in-Some.ensures.numbered refl c.requires.fresh refl (subst (λ (r : ReaderState). AwaitsBytes r) c.requires.fresh c.requires.waits) c.greet.ensures
+    (sym c.in-Some.is ∙ c.session.ensures.value) c.in-Some.ensures.numbered refl c.requires.fresh refl (subst (λ (r : ReaderState). AwaitsBytes r) c.requires.fresh c.requires.waits) c.greet.ensures.greets
 
 pub returns-clause-safe : goal.returns-clause-safe
 returns-clause-safe g c =
     starts_safe _ _ c.args.session _ _ _ _ _ _ _ _ c.requires.allowed
     (commits_as _ c.in_ok-batch.batch _ _ _ _ _ c.in_ok-batch.ensures c.in_ok-commit.ensures.commits)
     (commits_safe_as _ c.in_ok-batch.batch _ _ _ _ _ c.in_ok-batch.ensures c.in_ok-commit.ensures.safe)
-    (first_bytes c.args.session _ _ (c.as_slice.ensures.value ∙ c.in_ok-versions.ensures) (c.as_slice-2.ensures.value ∙ c.in_ok-priority.ensures)) c.end-room.ensures.numbers.roomy c.greet.ensures
+    (first_bytes c.args.session _ _ (c.as_slice.ensures.value ∙ c.in_ok-versions.ensures) (c.as_slice-2.ensures.value ∙ c.in_ok-priority.ensures)) c.end-room.ensures.numbers.roomy c.greet.ensures.greets
+
+pub returns-in_err-versions-clause-halts : goal.returns-in_err-versions-clause-halts
+returns-in_err-versions-clause-halts g c = on_err _ _ (start_none _ _ _ _)
+
+pub returns-in_err-priority-clause-halts : goal.returns-in_err-priority-clause-halts
+returns-in_err-priority-clause-halts g c = on_err _ _ (start_none _ _ _ _)
+
+pub returns-in_err-batch-clause-halts : goal.returns-in_err-batch-clause-halts
+returns-in_err-batch-clause-halts g c = on_err _ _ (start_none _ _ _ _)
+
+pub returns-in_err-commit-clause-halts : goal.returns-in_err-commit-clause-halts
+returns-in_err-commit-clause-halts g c =
+    on_err _ _ (start_broken _ c.args.session _ _ c.in_ok-batch.batch c.in_ok-batch.ensures c.requires.allowed _ c.in_err-commit.ensures.adds_some)
+
+pub returns-clause-course : goal.returns-clause-course
+returns-clause-course g c =
+    starts_course _ c.args.session _ _ c.in_ok-batch.batch c.in_ok-batch.ensures c.requires.allowed _ c.in-Some.begun c.args.reader _ _ _ _ c.requires.ready
+    c.in_ok-commit.ensures.commits.facts c.in_ok-commit.ensures.adds (sym c.in-Some.is ∙ c.session.ensures.value) c.greet.ensures.greets.same_files
+    c.requires.fresh (subst (λ (r : ReaderState). AwaitsBytes r) c.requires.fresh c.requires.waits) c.greet.ensures.told

@@ -1,6 +1,7 @@
 use Rattle.std.proofs.Common.{List, ℕ, arith, refl, ap, ◌∙◌, length}
 use Rattle.sync_node.specs.declared.link.Link.{Link}
 use Rattle.sync_node.specs.Node.{NodeValue}
+use Rattle.sync_node.proofs.CourseStart.{beginning_broken, begins_behind, node_beginning_broken, node_begins}
 use Rattle.sync_node.proofs.AttachLaws.{attached_last, attached_may, node_attaches, node_plans, node_settled, one_longer, plan_allowed, plans_as, plans_same}
 use Rattle.sync_node.specs.Plans.{session_of}
 use Rattle.sync_node.proofs.NodeLaws.{fault_answers, is_closed_node, is_node, node_may, stays_closed}
@@ -78,3 +79,19 @@ returns-in-Err-clause-safe g c =
     plans_as _ (session_of c.sessions.result c.args.plan.now c.args.nonce) _ _ _ _ _ (ap (λ (k : ℕ). session_of k c.args.plan.now c.args.nonce) (c.sessions.ensures ∙ ap (λ (n : NodeValue). n.store.state.facts.begun) c.self.view_is))
     (node_plans _ c.self.inside.first c.args.link (session_of c.sessions.result c.args.plan.now c.args.nonce) c.self.inside.links.items _ _ _ _ _ c.self.inside.closed _ _ c.self.view_is (c.self.invariant.1.attached c.if-self.false) c.sessions.ensures
     (omega (arith, c.requires.next, ap (λ (n : NodeValue). length n.links) c.self.view_is)) c.in-Err.ensures.safe)
+
+pub returns-then-self-clause-halts : goal.returns-then-self-clause-halts
+returns-then-self-clause-halts g c = λ opened. absurd (let yes = ap (λ (n : NodeValue). n.closed) c.self.view_is in let is = c.if-self.true in cc)
+
+pub returns-in-Ok-clause-course : goal.returns-in-Ok-clause-course
+returns-in-Ok-clause-course g c = λ opened.
+    node_begins _ (session_of c.sessions.result c.args.plan.now c.args.nonce) c.self.inside.links.items _ _ _ c.self.inside.first c.self.inside.closed _ c.self.view_is _
+    (ap (λ (k : ℕ). session_of k c.args.plan.now c.args.nonce) (c.sessions.ensures ∙ ap (λ (n : NodeValue). n.store.state.facts.begun) c.self.view_is)) _ _
+    (begins_behind _ (session_of c.sessions.result c.args.plan.now c.args.nonce) c.self.inside.links.items _ _ _ c.args.link _ _
+    (omega (arith, c.requires.next, ap (λ (n : NodeValue). length n.links) c.self.view_is)) c.in-Ok.ensures.course)
+
+pub returns-in-Err-clause-halts : goal.returns-in-Err-clause-halts
+returns-in-Err-clause-halts g c = λ opened.
+    node_beginning_broken _ (session_of c.sessions.result c.args.plan.now c.args.nonce) c.self.inside.links.items _ _ _ c.self.inside.first c.self.inside.closed _ c.self.view_is _
+    (ap (λ (k : ℕ). session_of k c.args.plan.now c.args.nonce) (c.sessions.ensures ∙ ap (λ (n : NodeValue). n.store.state.facts.begun) c.self.view_is))
+    (beginning_broken _ (session_of c.sessions.result c.args.plan.now c.args.nonce) c.self.inside.links.items _ _ _ c.in-Err.ensures.halts)
