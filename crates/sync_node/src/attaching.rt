@@ -13,12 +13,12 @@ ghost use Rattle.sync_node.specs.Starting.{Greets, Starts, StartsLast, StartsSaf
 use crate::fault::Fault;
 use crate::link::{Link, LinkEnd};
 use crate::sending::send_on;
-use crate::spelling::{batch_of, spell_nonce, spell_versions};
+use crate::spelling::{spell_nonce, spell_versions};
 use crate::told::{cite_laws, commit};
 use outside::Host;
 use record_stream::Reader;
 use std::alloc::Global;
-use sync_rules::{Clients, Entry, Session};
+use sync_rules::{Batch, Clients, Entry, Session};
 use sync_store::Store;
 
 /// Begins a session on the next link, and puts the link behind the others. It takes the buffer of
@@ -89,7 +89,7 @@ fn start<H: Host, C: Clients>(
     cite_laws();
     let versions = spell_versions(alloc)?;
     let priority = spell_nonce(alloc, &session.nonce)?;
-    let batch = batch_of(alloc, Entry::Session(session))?;
+    let batch = Batch::single(alloc, Entry::Session(session))?;
     commit(store, host, clients, batch)?;
     let _room = store.end();
     let Some(begun) = store.session(session.number) else {

@@ -10,12 +10,12 @@ ghost use Rattle.sync_node.specs.Working.{IsAble, StaysSafe, Waits, Works};
 
 use crate::fault::Fault;
 use crate::link::{Link, LinkEnd};
-use crate::spelling::{batch_of, spell_out};
+use crate::spelling::spell_out;
 use crate::told::{cite_laws, commit};
 use outside::Host;
 use std::alloc::Global;
 use sync_course::MAX_OUTPUTS;
-use sync_rules::{Clients, Entry, Out};
+use sync_rules::{Batch, Clients, Entry, Out};
 use sync_store::Store;
 
 /// Commits and sends what is due on the link at this time, at most `MAX_OUTPUTS` outputs, and
@@ -91,7 +91,7 @@ fn put_out<H: Host, C: Clients>(
 {
     cite_laws();
     let bytes = spell_out(alloc, store, &out)?;
-    let batch = batch_of(alloc, Entry::Out(link.session.number, now, out))?;
+    let batch = Batch::single(alloc, Entry::Out(link.session.number, now, out))?;
     commit(store, host, clients, batch)?;
     let _room = store.end();
     send_on(host, number, link, bytes.as_slice());

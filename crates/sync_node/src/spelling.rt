@@ -10,7 +10,7 @@ use record_grammar::{
 };
 use std::alloc::{AllocError, Global};
 use sync_ids::{MessageId, Nonce, VersionList};
-use sync_rules::{Batch, Entry, Out, View};
+use sync_rules::{Out, View};
 use sync_store::Store;
 
 /// The bytes of an output.
@@ -62,16 +62,4 @@ pub(crate) fn spell_nonce(alloc: Global, nonce: &Option<Nonce>) -> Result<Vec<u8
         encode_priority(nonce, &mut bytes)?;
     }
     Ok(bytes)
-}
-
-/// The batch of one entry.
-pub(crate) fn batch_of(alloc: Global, entry: Entry) -> Result<Batch, AllocError>
-    ensures { IfOk result (λ batch. batch ≡ entry ∷ []) }
-{
-    let mut entries = Vec::new(alloc);
-    entries.push(entry)?;
-    match Batch::new(entries) {
-        Ok(batch) => Ok(batch),
-        Err(_) => unreachable!(),
-    }
 }
