@@ -1,11 +1,12 @@
 -- Syncs leave only what a crash might have left before.
-use Rattle.std.proofs.Common.{◌≡◌, ℕ, zero, suc, List, Some, Result, Ok, Err, refl, sym, ap, ◌∙◌, subst}
+use Rattle.std.proofs.Common.{◌≡◌, ℕ, zero, suc, List, Option, None, Some, Result, Ok, Err, refl, sym, ap, ◌∙◌, subst}
 use Rattle.outside.specs.declared.failed.Failed.{Failed}
 use Rattle.outside.specs.Files.{Two, File, IsFileImage, IsImage, read_files, settled}
 use Rattle.outside.specs.Links.{Links, sent_of}
 use Rattle.outside.specs.Outside.{Outside, IsNow, DiskCall, MomentsAre}
 use Rattle.outside.specs.Disk.{Becomes, Syncs}
 use Rattle.outside.specs.Steps.{moments_none, moments_call, becomes_told, now_images}
+use Rattle.frame_journal.specs.Gates.{ReadsSame}
 use Rattle.frame_journal.proofs.Torn.{settled_only}
 
 settled_back : (f : File) (c : List ℕ) → IsFileImage f f.now → IsFileImage (settled f.now) c → IsFileImage f c
@@ -19,6 +20,24 @@ sync_back (suc _) (Ok _) old new synced reads c image =
     let there = subst (λ (t : Two File). IsImage t c) synced image in
     record { first = there.first; second = settled_back old.second c.second reads.second there.second }
 sync_back file (Err _) old new synced reads c image = subst (λ (t : Two File). IsImage t c) synced image
+
+-- a sync leaves the files as they read
+sync_reads : (file : ℕ) (result : Result (Unit {0}) Failed) (old new : Two File) → Syncs file result old new → read_files new ≡ read_files old
+sync_reads zero (Ok _) old new synced = ap read_files synced
+sync_reads (suc _) (Ok _) old new synced = ap read_files synced
+sync_reads file (Err _) old new synced = ap read_files synced
+
+pub reads_none : (o : Option (Two File)) → Becomes ReadsSame o o
+reads_none None = tt
+reads_none (Some two) = refl
+
+pub reads_sync : (o0 o o' : Option (Two File)) (file : ℕ) (result : Result (Unit {0}) Failed) → Becomes ReadsSame o0 o → Becomes (Syncs file result) o o' → Becomes ReadsSame o0 o'
+reads_sync None None None file result reads becomes = tt
+reads_sync None None (Some new) file result reads becomes = becomes
+reads_sync None (Some mid) o' file result reads becomes = absurd reads
+reads_sync (Some old) None o' file result reads becomes = absurd reads
+reads_sync (Some old) (Some mid) None file result reads becomes = becomes
+reads_sync (Some old) (Some mid) (Some new) file result reads becomes = sync_reads file result mid new becomes ∙ reads
 
 -- A run after which, and at each moment of which, a crash leaves only what it might have left before.
 pub record Calm (two : Two File) (o0 o : Outside) : Type 0 where

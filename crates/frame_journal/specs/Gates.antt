@@ -1,8 +1,12 @@
 -- What syncs of both files do, and writes behind a gate and of it.
 use Rattle.std.specs.Prelude.{◌≡◌, ℕ, ◌+◌, ◌-◌, List, [], ◌∷◌, ◌++◌, take, drop, Some}
-use Rattle.outside.specs.Files.{Two, File, file_of, with_file, settled}
+use Rattle.outside.specs.Files.{Two, File, file_of, with_file, read_files, settled}
 use Rattle.outside.specs.Disk.{overwritten}
 use Rattle.outside.specs.Outside.{Outside, MomentsAre, IsNow}
+
+-- both files read as before
+abbrev pub ReadsSame : Two File → Two File → Type 0
+ReadsSame old new = read_files new ≡ read_files old
 
 -- both files read as before, with nothing pending in them
 abbrev pub Settles : Two File → Two File → Type 0

@@ -1,8 +1,8 @@
 -- What reading the next frame answers.
 use Rattle.std.specs.Prelude.{◌≡◌, ℕ, ◌+◌, ◌-◌, ◌≤◌, Bool, true, false, List, ◌∷◌, ◌++◌, length, take, drop, Option, None, Some, Result, Ok, Err}
 use Rattle.std.specs.Int.{w32, to_be_bytes}
-use Rattle.outside.specs.declared.limits.TheConstants.{MAX_FRAME}
-use Rattle.outside.specs.Frames.{frame_at, frame_of, closed, broken, framed, most_bytes}
+use Rattle.outside.specs.declared.limits.TheConstants.{MAX_FRAME, MAX_JOURNAL}
+use Rattle.outside.specs.Frames.{frame_at, frame_of, closed, broken, framed}
 use Rattle.frame_journal.specs.declared.frame.Gate.{Gate}
 use Rattle.frame_journal.specs.declared.frame.Gate.TheVariants as gate
 use Rattle.frame_journal.specs.declared.fault.FrameFault.{FrameFault}
@@ -25,7 +25,7 @@ IsGate bytes place (gate.Open size) = IsOpenGate bytes place size
 abbrev pub HasSize : ℕ → Gate → Type 0
 HasSize place gate.Closed = Unit {0}
 HasSize place gate.Broken = Unit {0}
-HasSize place (gate.Open size) = (1 ≤ size) × (size ≤ MAX_FRAME) × (place + 6 + size ≤ most_bytes)
+HasSize place (gate.Open size) = (1 ≤ size) × (size ≤ MAX_FRAME) × (place + 6 + size ≤ MAX_JOURNAL)
 
 -- what was read of a frame at a place
 pub record FrameRead (bytes : List ℕ) (place : ℕ) (to : List ℕ) : Type 0 where
@@ -43,7 +43,7 @@ IsNextAt bytes file place to (Err fault.Memory) = Unit {0}
 -- the length of a payload that was read
 abbrev pub IsSizeOf : ℕ → ℕ → Option ℕ → Type 0
 IsSizeOf place long None = Unit {0}
-IsSizeOf place long (Some size) = (long ≡ size) × (1 ≤ size) × (size ≤ MAX_FRAME) × (place + 6 + size ≤ most_bytes)
+IsSizeOf place long (Some size) = (long ≡ size) × (1 ≤ size) × (size ≤ MAX_FRAME) × (place + 6 + size ≤ MAX_JOURNAL)
 
 -- the next frame was read: the bytes from its gate on are that frame and what lies behind it
 pub record NextFrame (bytes : List ℕ) (old new : JournalValue) (to : List ℕ) : Type 0 where
@@ -62,6 +62,6 @@ IsNext bytes old new to (Err fault.Memory) = new ≡ old
 -- whatever the disk tells: how far the reader moved, and that it did not at another answer
 abbrev pub Moves : JournalValue → JournalValue → Result Bool FrameFault → Type 0
 Moves old new (Ok true) = (new.file ≡ old.file) × (new.len ≡ old.len) × (new.last ≡ old.end - 1) × (old.end + 6 ≤ new.end) × (new.end ≤ old.end + 5 + MAX_FRAME) × (new.format ≡ old.format) × (new.generation ≡ old.generation)
-    × (new.end ≤ most_bytes)
+    × (new.end ≤ MAX_JOURNAL)
 Moves old new (Ok false) = new ≡ old
 Moves old new (Err _) = new ≡ old

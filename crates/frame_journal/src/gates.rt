@@ -13,15 +13,17 @@ ghost use Rattle.frame_journal.specs.Create.{IsCleared, Clears, Creates, Prepare
 ghost use Rattle.frame_journal.specs.Create.{ShutOrBegun, BeforeOrShut, HasShutGate, ShutsGate};
 ghost use Rattle.frame_journal.specs.Create.{Shortens};
 ghost use Rattle.frame_journal.specs.Gates.{Settles, AnyImage, WritesBehind, OpensGate};
-ghost use Rattle.frame_journal.specs.Gates.{KeepsFront, KeepsAllBut};
+ghost use Rattle.frame_journal.specs.Gates.{KeepsFront, KeepsAllBut, ReadsSame};
 
 use crate::{DiskFault, FORMAT};
 use outside::Disk;
 
-/// Syncs both files, file 0 first: after it a crash leaves what a read gives.
+/// Syncs both files, file 0 first: after it a crash leaves what a read gives. Whatever it answers,
+/// the files read as before.
 pub fn barrier<D: Disk>(disk: &mut D) -> Result<(), DiskFault>
     ensures settled { OnOk result (Becomes Settles (D.tells disk.old).files
         (D.tells disk.new).files) }
+    ensures reads { Becomes ReadsSame (D.tells disk.old).files (D.tells disk.new).files }
 
     // At each moment a crash leaves what it might have left before.
     ensures any_moment { AnyImage (D.tells disk.old) (D.tells disk.new) }

@@ -31,10 +31,6 @@ header_of format generation = 1 ∷ 66 ∷ 83 ∷ 80 ∷ 74 ∷ format ∷ to_be
 
 -- ---- frames
 
--- no frame reaches past the length of the longest journal
-abbrev pub most_bytes : ℕ
-most_bytes = MAX_JOURNAL
-
 -- a frame's payload has 1 to 65,536 bytes
 abbrev pub IsPayload : List ℕ → Type 0
 IsPayload payload = (1 ≤ length payload) × (length payload ≤ MAX_FRAME)
@@ -84,7 +80,7 @@ is_broken bytes place =
     || (size_at bytes place == 0)
     || nat_lt MAX_FRAME (size_at bytes place)
     || nat_lt (length bytes) (place + 5 + size_at bytes place)
-    || nat_lt most_bytes (place + 6 + size_at bytes place)
+    || nat_lt MAX_JOURNAL (place + 6 + size_at bytes place)
 
 abbrev pub frame_at : List ℕ → ℕ → Frame
 frame_at bytes place =

@@ -1,3 +1,4 @@
+mod Counting
 mod Cut
 mod First
 mod Greatest

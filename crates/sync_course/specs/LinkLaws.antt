@@ -1,5 +1,5 @@
 -- Which lists of versions have that of this node.
-use Rattle.std.proofs.Common.{◌≡◌, ℕ, zero, suc, ◌<◌, true, ◌||◌, nat_eq, eq-eqb, eqb-true, List, [], ◌∷◌, length, arith, inl, inr}
+use Rattle.std.proofs.Common.{◌≡◌, ℕ, zero, suc, ◌<◌, true, nat_eq, eq-eqb, eqb-true, List, [], ◌∷◌, length, arith, inl, inr}
 use Rattle.std.specs.List.{Contains}
 use Rattle.std.proofs.lemmas.Bool.{false≢true, or_cases, or_left, or_right}
 use Rattle.sync_course.specs.Links.{has_zero}

@@ -1,5 +1,5 @@
 -- What is told of events one behind the other, and of the events of single calls.
-use Rattle.std.proofs.Common.{◌≡◌, ℕ, ◌≤◌, le_of_eq, le_refl, Bool, true, false, ◌||◌, nat_eq, eqb-true, List, [], ◌∷◌, ◌++◌, length, take, append-nil, append_assoc, refl, sym, ◌∙◌, ap, subst, inl, inr, arith, Option, None, Some, Ok, Err}
+use Rattle.std.proofs.Common.{◌≡◌, ◌⊎◌, ℕ, ◌≤◌, le_of_eq, le_refl, Bool, true, false, ◌||◌, nat_eq, eqb-true, List, [], ◌∷◌, ◌++◌, length, take, append-nil, append_assoc, refl, sym, ◌∙◌, ap, subst, inl, inr, arith, Option, None, Some, Ok, Err}
 use Rattle.std.specs.Option.{option_map}
 use Rattle.std.proofs.lemmas.Bool.{cases_eq}
 use Rattle.outside.specs.declared.failed.Failed.{Failed}
@@ -7,11 +7,13 @@ use Rattle.outside.specs.declared.host.Heard.{Heard}
 use Rattle.outside.specs.declared.host.Heard.TheVariants as answer
 use Rattle.outside.specs.Faults.{Rose, one_more}
 use Rattle.outside.specs.Host.{Grows, Hears, IsCaused, ReadsClock, Sends}
-use Rattle.outside.specs.Links.{HeardOn, Links, changed_at, got, idle, ended, hear_reply}
+use Rattle.outside.specs.Disk.{Becomes}
+use Rattle.outside.specs.Links.{HeardOn, Links, Planned, changed_at, got, idle, ended, hear_reply}
+use Rattle.outside.specs.Planned.{AnswersAsPlanned, UsesPlan, UsesReading}
 use Rattle.outside.specs.Outside.{Outside}
 use Rattle.sync_rules.specs.declared.entries.Entry.{Entry}
 use Rattle.sync_course.specs.declared.TheConstants.{PIECE_LEN}
-use Rattle.sync_course.specs.Events.{Event, Commit, Hear, Miss, Read, Break, Pass, asked_event, batches_of, readings_of, heard_by, heard_after, is_failure, has_failure, GrowsBy, RoseIf, Told}
+use Rattle.sync_course.specs.Events.{Event, Commit, Hear, Miss, Read, Break, Pass, asked_event, batches_of, readings_of, heard_by, heard_after, is_failure, has_failure, GrowsBy, PlansAfter, RoseIf, Through, Told, UpcomingAfter}
 use Rattle.sync_course.specs.Paths.{Runs, Breaks}
 use Rattle.sync_course.specs.PathLaws.{path_then}
 
@@ -77,11 +79,51 @@ rose_then true false x y z first second = let f : one_more x ≤ y = first in le
 rose_then false true x y z first second = let f : x ≤ y = first in let s : one_more y ≤ z = second in omega (arith, f, s)
 rose_then false false x y z first second = let f : x ≤ y = first in let s : y ≤ z = second in omega (arith, f, s)
 
+-- ---- what is left
+
+through_then : {A : Type 0} (step : Event → A → A → Type 0) (es fs : List Event) (a b c : A) → Through step es a b → Through step fs b c
+    → Through step (es ++ fs) a c
+through_then step [] fs a b c first second = subst (λ x. Through step fs x c) first second
+through_then step (e ∷ es) fs a b c first second = (first.0, first.1, through_then step es fs first.0 b c first.2 second)
+
+becomes_stays : {A : Type 0} (R : A → A → Type 0) → ((x : A) → R x x) → (a b : Option A) → b ≡ a → Becomes R a b
+becomes_stays R stays None None same = tt
+becomes_stays R stays None (Some b) same = cc
+becomes_stays R stays (Some a) None same = cc
+becomes_stays R stays (Some a) (Some b) same = let one : b ≡ a = cc in subst (λ x. R a x) (sym one) (stays a)
+
+becomes_map : {A : Type 0} (R S : A → A → Type 0) → ((x y : A) → R x y → S x y) → (a b : Option A) → Becomes R a b → Becomes S a b
+becomes_map R S then None None becomes = tt
+becomes_map R S then None (Some b) becomes = becomes
+becomes_map R S then (Some a) None becomes = becomes
+becomes_map R S then (Some a) (Some b) becomes = then a b becomes
+
+left_then : {A : Type 0} (step : Event → A → A → Type 0) (es fs : List Event) (a b c : Option A) → Becomes (Through step es) a b
+    → Becomes (Through step fs) b c → Becomes (Through step (es ++ fs)) a c
+left_then step es fs None None None first second = tt
+left_then step es fs None None (Some c) first second = absurd second
+left_then step es fs None (Some b) c first second = absurd first
+left_then step es fs (Some a) None c first second = absurd first
+left_then step es fs (Some a) (Some b) None first second = absurd second
+left_then step es fs (Some a) (Some b) (Some c) first second = through_then step es fs a b c first second
+
+-- one event, which leaves what it was
+left_same : {A : Type 0} (step : Event → A → A → Type 0) (e : Event) → ((x : A) → step e x x) → (a b : Option A) → b ≡ a
+    → Becomes (Through step (e ∷ [])) a b
+left_same step e stays a b same = becomes_stays (Through step (e ∷ [])) (λ x. (x, stays x, refl)) a b same
+
+-- and one that does not
+left_one : {A : Type 0} (R : A → A → Type 0) (step : Event → A → A → Type 0) (e : Event) → ((x y : A) → R x y → step e x y) → (a b : Option A)
+    → Becomes R a b → Becomes (Through step (e ∷ [])) a b
+left_one R step e then a b becomes = becomes_map R (Through step (e ∷ [])) (λ x y r. (y, then x y r, refl)) a b becomes
+
 pub told_none : (o : Outside) → Told [] o o
 told_none o = record {
   heard = heard_none o.links.heard;
   readings = grows_none o.links.readings;
   faults = λ link. omega arith;
+  planned = becomes_stays (Through PlansAfter []) (λ x. refl) o.links.planned o.links.planned refl;
+  upcoming = becomes_stays (Through UpcomingAfter []) (λ x. refl) o.links.upcoming o.links.upcoming refl;
 }
 
 pub told_then : (es fs : List Event) (o o1 o2 : Outside) → Told es o o1 → Told fs o1 o2 → Told (es ++ fs) o o2
@@ -94,6 +136,8 @@ told_then es fs o o1 o2 first second = record {
       subst (λ (b : Bool). RoseIf b (o.links.faults link) (o2.links.faults link)) (sym (has_failure-append link es fs))
       (rose_then (has_failure link es) (has_failure link fs) (o.links.faults link) (o1.links.faults link) (o2.links.faults link)
       (first.faults link) (second.faults link));
+  planned = left_then PlansAfter es fs o.links.planned o1.links.planned o2.links.planned first.planned second.planned;
+  upcoming = left_then UpcomingAfter es fs o.links.upcoming o1.links.upcoming o2.links.upcoming first.upcoming second.upcoming;
 }
 
 -- ---- what calls did, one behind the other
@@ -139,6 +183,14 @@ commits_succeed : (link : ℕ) (bs : List (List Entry)) → has_failure link (co
 commits_succeed link [] = refl
 commits_succeed link (b ∷ bs) = commits_succeed link bs
 
+commits_plan : (bs : List (List Entry)) (plans : ℕ → List Planned) → Through PlansAfter (commits bs) plans plans
+commits_plan [] plans = refl
+commits_plan (b ∷ bs) plans = (plans, refl, commits_plan bs plans)
+
+commits_upcoming : (bs : List (List Entry)) (readings : List ℕ) → Through UpcomingAfter (commits bs) readings readings
+commits_upcoming [] readings = refl
+commits_upcoming (b ∷ bs) readings = (readings, refl, commits_upcoming bs readings)
+
 option_map_same : {A : Type 0} (f : A → A) → ((x : A) → f x ≡ x) → (o : Option A) → o ≡ option_map f o
 option_map_same f same None = refl
 option_map_same f same (Some x) = ap (λ y. Some y) (sym (same x))
@@ -153,6 +205,11 @@ told_commits bs o o' same = record {
   faults = λ link.
       subst (λ (l : Links). RoseIf (has_failure link (commits bs)) (o.links.faults link) (l.faults link)) (sym same)
       (subst (λ (b : Bool). RoseIf b (o.links.faults link) (o.links.faults link)) (sym (commits_succeed link bs)) (le_refl (o.links.faults link)));
+  planned =
+      becomes_stays (Through PlansAfter (commits bs)) (commits_plan bs) o.links.planned o'.links.planned (ap (λ (l : Links). l.planned) same);
+  upcoming =
+      becomes_stays (Through UpcomingAfter (commits bs)) (commits_upcoming bs) o.links.upcoming o'.links.upcoming
+      (ap (λ (l : Links). l.upcoming) same);
 }
 
 -- nothing that is told of
@@ -161,6 +218,8 @@ told_pass o o' same = record {
   heard = (told_commits [] o o' same).heard;
   readings = (told_commits [] o o' same).readings;
   faults = (told_commits [] o o' same).faults;
+  planned = left_same PlansAfter Pass (λ x. refl) o.links.planned o'.links.planned (ap (λ (l : Links). l.planned) same);
+  upcoming = left_same UpcomingAfter Pass (λ x. refl) o.links.upcoming o'.links.upcoming (ap (λ (l : Links). l.upcoming) same);
 }
 
 -- a count of a link that rose where the call of another one failed
@@ -187,21 +246,41 @@ told_asked link (answer.Got n) buf o o' whole hears caused = record {
   heard = hears.heard ∙ ap (λ (room : ℕ). option_map (changed_at link (hear_reply room (got (take n buf)))) o.links.heard) whole;
   readings = subst (λ (r : Option (List ℕ)). GrowsBy [] o.links.readings r) (sym hears.same_readings) (grows_none o.links.readings);
   faults = λ i. other_faults link i o.links.faults o'.links.faults hears.later hears.others;
+  planned =
+      left_one (AnswersAsPlanned link (answer.Got n) buf) PlansAfter (Hear link (got (take n buf)))
+      (λ x y uses. subst (λ (room : ℕ). UsesPlan link room (Some (got (take n buf))) x y) whole uses) o.links.planned o'.links.planned
+      hears.planned;
+  upcoming = left_same UpcomingAfter (Hear link (got (take n buf))) (λ x. refl) o.links.upcoming o'.links.upcoming hears.same_upcoming;
 }
 told_asked link answer.Idle buf o o' whole hears caused = record {
   heard = hears.heard ∙ ap (λ (room : ℕ). option_map (changed_at link (hear_reply room idle)) o.links.heard) whole;
   readings = subst (λ (r : Option (List ℕ)). GrowsBy [] o.links.readings r) (sym hears.same_readings) (grows_none o.links.readings);
   faults = λ i. other_faults link i o.links.faults o'.links.faults hears.later hears.others;
+  planned =
+      left_one (AnswersAsPlanned link answer.Idle buf) PlansAfter (Hear link idle)
+      (λ x y uses. subst (λ (room : ℕ). UsesPlan link room (Some idle) x y) whole uses) o.links.planned o'.links.planned
+      hears.planned;
+  upcoming = left_same UpcomingAfter (Hear link idle) (λ x. refl) o.links.upcoming o'.links.upcoming hears.same_upcoming;
 }
 told_asked link answer.End buf o o' whole hears caused = record {
   heard = hears.heard ∙ ap (λ (room : ℕ). option_map (changed_at link (hear_reply room ended)) o.links.heard) whole;
   readings = subst (λ (r : Option (List ℕ)). GrowsBy [] o.links.readings r) (sym hears.same_readings) (grows_none o.links.readings);
   faults = λ i. other_faults link i o.links.faults o'.links.faults hears.later hears.others;
+  planned =
+      left_one (AnswersAsPlanned link answer.End buf) PlansAfter (Hear link ended)
+      (λ x y uses. subst (λ (room : ℕ). UsesPlan link room (Some ended) x y) whole uses) o.links.planned o'.links.planned
+      hears.planned;
+  upcoming = left_same UpcomingAfter (Hear link ended) (λ x. refl) o.links.upcoming o'.links.upcoming hears.same_upcoming;
 }
 told_asked link answer.Failed buf o o' whole hears caused = record {
   heard = hears.heard;
   readings = subst (λ (r : Option (List ℕ)). GrowsBy [] o.links.readings r) (sym hears.same_readings) (grows_none o.links.readings);
   faults = λ i. failed_faults link i o.links.faults o'.links.faults caused hears.later hears.others;
+  planned =
+      left_one (AnswersAsPlanned link answer.Failed buf) PlansAfter (Miss link)
+      (λ x y uses. subst (λ (room : ℕ). UsesPlan link room None x y ⊎ (y ≡ x)) whole uses) o.links.planned o'.links.planned
+      hears.planned;
+  upcoming = left_same UpcomingAfter (Miss link) (λ x. refl) o.links.upcoming o'.links.upcoming hears.same_upcoming;
 }
 
 grows_one : (now : ℕ) (old new : Option (List ℕ)) → Grows now old new → GrowsBy (now ∷ []) old new
@@ -215,6 +294,8 @@ told_read link now o o' reads = record {
   heard = reads.same_heard ∙ option_map_same (heard_after []) (λ heard. refl) o.links.heard;
   readings = grows_one now o.links.readings o'.links.readings reads.readings;
   faults = λ i. le_of_eq (ap (λ (f : ℕ → ℕ). f i) (sym reads.same_faults));
+  planned = left_same PlansAfter (Read link now) (λ x. refl) o.links.planned o'.links.planned reads.same_planned;
+  upcoming = left_one (UsesReading now) UpcomingAfter (Read link now) (λ x y uses. uses) o.links.upcoming o'.links.upcoming reads.upcoming;
 }
 
 -- all bytes were sent
@@ -223,6 +304,8 @@ told_sent link bytes o o' sends = record {
   heard = sends.same_heard ∙ option_map_same (heard_after []) (λ heard. refl) o.links.heard;
   readings = subst (λ (r : Option (List ℕ)). GrowsBy [] o.links.readings r) (sym sends.same_readings) (grows_none o.links.readings);
   faults = λ i. other_faults link i o.links.faults o'.links.faults sends.faults.later sends.faults.others;
+  planned = left_same PlansAfter Pass (λ x. refl) o.links.planned o'.links.planned sends.same_planned;
+  upcoming = left_same UpcomingAfter Pass (λ x. refl) o.links.upcoming o'.links.upcoming sends.same_upcoming;
 }
 
 -- a send failed
@@ -232,11 +315,23 @@ told_broken link bytes why o o' sends = record {
   heard = sends.same_heard ∙ option_map_same (heard_after []) (λ heard. refl) o.links.heard;
   readings = subst (λ (r : Option (List ℕ)). GrowsBy [] o.links.readings r) (sym sends.same_readings) (grows_none o.links.readings);
   faults = λ i. failed_faults link i o.links.faults o'.links.faults sends.faults.failed sends.faults.later sends.faults.others;
+  planned = left_same PlansAfter (Break link) (λ x. refl) o.links.planned o'.links.planned sends.same_planned;
+  upcoming = left_same UpcomingAfter (Break link) (λ x. refl) o.links.upcoming o'.links.upcoming sends.same_upcoming;
 }
 
 -- nothing that is told of, before what is told
 pub told_behind_pass : (es : List Event) (o o' : Outside) → Told (Pass ∷ es) o o' → Told es o o'
-told_behind_pass es o o' told = record { heard = told.heard; readings = told.readings; faults = told.faults }
+told_behind_pass es o o' told = record {
+  heard = told.heard;
+  readings = told.readings;
+  faults = told.faults;
+  planned =
+      becomes_map (Through PlansAfter (Pass ∷ es)) (Through PlansAfter es) (λ x y t. subst (λ z. Through PlansAfter es z y) t.1 t.2) o.links.planned
+      o'.links.planned told.planned;
+  upcoming =
+      becomes_map (Through UpcomingAfter (Pass ∷ es)) (Through UpcomingAfter es) (λ x y t. subst (λ z. Through UpcomingAfter es z y) t.1 t.2)
+      o.links.upcoming o'.links.upcoming told.upcoming;
+}
 
 -- two sends of a greeting, told as one event: both went out, or the second one failed
 pub told_greeted : (link : ℕ) (first second : List ℕ) (o mid o' : Outside) → Sends link first (Ok tt) o.links mid.links

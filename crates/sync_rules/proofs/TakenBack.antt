@@ -14,11 +14,12 @@ use Rattle.sync_rules.specs.declared.entries.Entry.{Entry}
 use Rattle.sync_rules.specs.declared.entries.Entry.TheVariants as entry
 use Rattle.sync_rules.specs.Lists.{is_among, firsts}
 use Rattle.sync_rules.specs.Facts.{Facts, Held, Id, contact_of, held_at, is_invisible, level_at, row_at, wanted_from}
-use Rattle.sync_rules.specs.Sessions.{is_shown, is_shown_held, is_welcome, one_if, is_remembered, room_after, taken, taken_acks, taken_message_of, taken_offers, taken_requests, wants_limit}
+use Rattle.sync_rules.specs.Sessions.{is_shown, is_shown_held, is_welcome, one_if, is_remembered, room_after, taken, taken_acks, taken_message_of, taken_offers, taken_requests}
 use Rattle.sync_rules.specs.RowLaws.{firsts_distinct}
 use Rattle.sync_rules.specs.Allows.{gives, ids_named, is_id_list, is_message, is_record, is_whole, is_within, read_as, same_entry}
 use Rattle.sync_rules.proofs.SameEntries.{arrive_itself, pair_itself, same_entries-is}
 use Rattle.sync_rules.proofs.PartsOfIds.{IsPart, part_none, part_skip, part_keep, firsts_of_distinct, firsts_few, firsts_whole}
+use Rattle.sync_rules.specs.declared.limits.TheConstants.{MAX_WANTED}
 
 -- ---- limits
 
@@ -289,7 +290,7 @@ gives_message ids f s m is =
 
     came_again : (x : Held) → held_at f.held id ≡ Some x → not (is_invisible (level_at f.levels c x.message.group)) ≡ true → P (entry.Again s id ∷ [])
     came_again x h t =
-        let room : ℕ = wants_limit - length (wanted_from f.wanted c) in
+        let room : ℕ = MAX_WANTED - length (wanted_from f.wanted c) in
         let shown : is_shown f c id ≡ true = ap (is_shown_held f c) h ∙ t in
         let as_before : taken f s (record_kind.Offer (id ∷ [])) ≡ entry.Again s id ∷ [] =
         offer_is f s c room id true false [] shown (shown_forgotten f s c room id shown) in
@@ -305,7 +306,7 @@ gives_taken all f s (record_kind.Ack ids) is =
 gives_taken all f s (record_kind.Message m) is = gives_message all f s m is
 gives_taken all f s (record_kind.Offer ids) is =
     let c = contact_of f.sessions s in
-    let room : ℕ = wants_limit - length (wanted_from f.wanted c) in
+    let room : ℕ = MAX_WANTED - length (wanted_from f.wanted c) in
     gives_list f s record_kind.Offer (taken_offers f s c room (firsts ids)) ids (taken_offers f s c room) (λ xs. refl) (λ xs. refl)
     (offers_read_as f s c (firsts ids) room) (offers_reads f s c (firsts ids) room) (offers_again f s c (firsts ids) room) is
 gives_taken all f s (record_kind.Request ids) is =

@@ -21,7 +21,7 @@ use Rattle.sync_rules.specs.Clients.{Meaning}
 use Rattle.sync_rules.specs.Lists.{same_id, is_among, has_repeat, without}
 use Rattle.sync_rules.specs.Facts.{Facts, Held, Id, after, after_all, nothing, facts, entries_of, held_at, is_held, session_at, contact_of, contact_in, row_at, wanted_from, without_each, with_want, authored, arrived, ids_or}
 use Rattle.sync_rules.specs.Steps.{IsSettled}
-use Rattle.sync_rules.specs.Sessions.{ids_where, ids_limit, shared_ids, is_sendable, is_ripe, owed_to, wanted_of, send_of, offers_of, out_or, acks_due, requests_due, send_due, offers_due, due_by, due}
+use Rattle.sync_rules.specs.Sessions.{ids_where, shared_ids, is_sendable, is_ripe, owed_to, wanted_of, send_of, offers_of, out_or, acks_due, requests_due, send_due, offers_due, due_by, due}
 use Rattle.sync_rules.specs.Legal.{Legal, Allowed, IsDue}
 use Rattle.sync_rules.specs.Output.{AllHeld, records_of, first_records, nonce_record, message_record, sent}
 use Rattle.sync_rules.specs.Meeting.{Meets, AllMeet}
@@ -138,21 +138,21 @@ module _ (f : Facts) where
         && (not (row_at f.rows x.contact k.id).asked && nat_le (row_at f.rows x.contact k.id).expiry now) in
         elim (out_or-cases (acks_due (owed_to f x.contact)) (out_or requests (out_or send offers)) what e) [
           | inl a ↦
-              acks_distinct x.contact what (owed_to f x.contact) (take_distinct ids_limit (ids_where owed f.held) (where_distinct owed f.held h.distinct))
-              (take_few ids_limit (ids_where owed f.held)) (λ id among. held_by owed id (among-take ids_limit (ids_where owed f.held) id among)) a
+              acks_distinct x.contact what (owed_to f x.contact) (take_distinct MAX_IDS (ids_where owed f.held) (where_distinct owed f.held h.distinct))
+              (take_few MAX_IDS (ids_where owed f.held)) (λ id among. held_by owed id (among-take MAX_IDS (ids_where owed f.held) id among)) a
           | inr r ↦
               elim (out_or-cases requests (out_or send offers) what r) [
                 | inl a ↦
-                    requests_distinct x.contact what x.mode (wanted_of f x.contact) (take_distinct ids_limit (wanted_from f.wanted x.contact) (w.distinct x.contact))
-                    (take_few ids_limit (wanted_from f.wanted x.contact)) (λ id among. among-take ids_limit (wanted_from f.wanted x.contact) id among) a
+                    requests_distinct x.contact what x.mode (wanted_of f x.contact) (take_distinct MAX_IDS (wanted_from f.wanted x.contact) (w.distinct x.contact))
+                    (take_few MAX_IDS (wanted_from f.wanted x.contact)) (λ id among. among-take MAX_IDS (wanted_from f.wanted x.contact) id among) a
                 | inr r ↦
                     elim (out_or-cases send offers what r) [
                       | inl a ↦
                           send_held x.contact what (send_of f shared x.contact x.mode now) (λ id is. held_by sends id (first-among (ids_where sends f.held) id is)) a
                       | inr a ↦
                           offers_distinct x.contact what x.mode (offers_of f shared x.contact now)
-                          (take_distinct ids_limit (ids_where offered f.held) (where_distinct offered f.held h.distinct))
-                          (take_few ids_limit (ids_where offered f.held)) (λ id among. held_by offered id (among-take ids_limit (ids_where offered f.held) id among)) a
+                          (take_distinct MAX_IDS (ids_where offered f.held) (where_distinct offered f.held h.distinct))
+                          (take_few MAX_IDS (ids_where offered f.held)) (λ id among. held_by offered id (among-take MAX_IDS (ids_where offered f.held) id among)) a
                     ]
               ]
         ]

@@ -2,6 +2,7 @@
 use Rattle.std.proofs.Common.{◌≡◌, ℕ, zero, suc, Bool, true, false, not, cond, ◌&&◌, ◌||◌, ◌⊎◌, nat_eq, nat_le, List, [], ◌∷◌, ◌++◌, length, take, refl, sym, ◌∙◌, ap, subst, inl, inr, append_assoc, Option, Some, None, is_some}
 use Rattle.std.specs.FinSet as fin_set
 use Rattle.std.proofs.lemmas.Bool.{and_parts, or_cases, or_left, or_right, false≢true}
+use Rattle.sync_ids.specs.declared.lists.TheConstants.{MAX_IDS}
 use Rattle.sync_ids.specs.declared.records.Record.{Record}
 use Rattle.sync_rules.specs.declared.entries.Entry.{Entry}
 use Rattle.sync_rules.specs.declared.entries.Entry.TheVariants as entry
@@ -16,7 +17,7 @@ use Rattle.sync_rules.specs.Lists.{same_id, is_among}
 use Rattle.sync_rules.specs.Facts.{Facts, Held, Id, after, after_all, after_batches, nothing, facts, entries_of, held_at, is_held, session_at, contact_in, level_at, is_level_shared, row_at, Extends}
 use Rattle.sync_rules.specs.Steps.{fate, fate_held}
 use Rattle.sync_rules.specs.Rounds.{graph_of}
-use Rattle.sync_rules.specs.Sessions.{ids_where, ids_limit, shared_ids, is_sendable, is_author, is_ripe, owed_to, wanted_of, send_of, offers_of, first_id, out_or, acks_due, requests_due, send_due, offers_due, due_by}
+use Rattle.sync_rules.specs.Sessions.{ids_where, shared_ids, is_sendable, is_author, is_ripe, owed_to, wanted_of, send_of, offers_of, first_id, out_or, acks_due, requests_due, send_due, offers_due, due_by}
 use Rattle.sync_rules.specs.Legal.{Legal, IsDue}
 use Rattle.sync_rules.specs.Output.{IsOpen, NamesTheOpen, SendsTheOpen, records_by, records_in, message_record, first_records, sent, sent_on, GoesOnFrom}
 use Rattle.sync_rules.specs.Elements.{same_id-is, same_id_itself, In}
@@ -132,7 +133,7 @@ module _ (clients : Meaning) (f : Facts) (s : SoundFacts clients f) where
   owed_held : (contact : ℕ) (id : Id) → is_among (owed_to f contact) id ≡ true → is_held f.held id ≡ true
   owed_held contact id e =
       let test : Held → Bool = λ h. (row_at f.rows contact h.id).owed in
-      held_among test id (found_by test f.held id (among-take ids_limit (ids_where test f.held) id e))
+      held_among test id (found_by test f.held id (among-take MAX_IDS (ids_where test f.held) id e))
 
   send_open : (shared : List Id) (contact : ℕ) (mode : Mode) (now : ℕ) (id : Id) → send_of f shared contact mode now ≡ Some id → IsOpen f contact id
   send_open shared contact mode now id e =
@@ -145,7 +146,7 @@ module _ (clients : Meaning) (f : Facts) (s : SoundFacts clients f) where
   offers_open shared contact now id e =
       let rest : Held → Bool = λ h. not (row_at f.rows contact h.id).asked && nat_le (row_at f.rows contact h.id).expiry now in
       let test : Held → Bool = λ h. is_sendable f shared contact h && rest h in
-      let x = found_by test f.held id (among-take ids_limit (ids_where test f.held) id e) in
+      let x = found_by test f.held id (among-take MAX_IDS (ids_where test f.held) id e) in
       open_if shared contact id x.of x.inside x.same (and_parts (is_sendable f shared contact x.of) (rest x.of) x.passes).0
 
   due_named : (shared : List Id) (x : Session) (now : ℕ) (what : Out) → due_by f shared x now ≡ Some what → NamesTheOpen f x.contact what

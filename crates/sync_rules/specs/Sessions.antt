@@ -86,17 +86,13 @@ taken_offers f session contact room (id ∷ ids) =
     taken_offer f session contact room id
     ++ taken_offers f session contact (room_after (is_remembered f contact room id) room) ids
 
--- how many ids may be wanted from a contact
-abbrev pub wants_limit : ℕ
-wants_limit = MAX_WANTED
-
 -- what a record from this contact is taken as, the entries after Take. Of a list only the first occurrence of an id
 -- counts, and ids are treated in order; no more than MAX_WANTED ids are wanted from a contact
 abbrev pub taken_from : Facts → ℕ → ℕ → Record → List Entry
 taken_from f session contact (record_kind.Ack ids) = taken_acks f session contact (firsts ids)
 taken_from f session contact (record_kind.Message m) = taken_message f session contact m
 taken_from f session contact (record_kind.Offer ids) =
-    taken_offers f session contact (wants_limit - length (wanted_from f.wanted contact)) (firsts ids)
+    taken_offers f session contact (MAX_WANTED - length (wanted_from f.wanted contact)) (firsts ids)
 taken_from f session contact (record_kind.Request ids) = taken_requests f session contact (firsts ids)
 taken_from f session contact (record_kind.Versions versions) = []
 taken_from f session contact (record_kind.Priority nonce) = []
@@ -133,17 +129,13 @@ is_sendable f shared contact h =
     && (is_level_shared (level_at f.levels contact h.message.group)
     && (not (row_at f.rows contact h.id).seen && (is_author h.origin || is_among shared h.id)))
 
--- the greatest number of ids in one output
-abbrev pub ids_limit : ℕ
-ids_limit = MAX_IDS
-
 -- the ids that wait for an acknowledgement to the contact
 abbrev pub owed_to : Facts → ℕ → List Id
-owed_to f contact = take ids_limit (ids_where (λ h. (row_at f.rows contact h.id).owed) f.held)
+owed_to f contact = take MAX_IDS (ids_where (λ h. (row_at f.rows contact h.id).owed) f.held)
 
 -- the ids to request from the contact
 abbrev pub wanted_of : Facts → ℕ → List Id
-wanted_of f contact = take ids_limit (wanted_from f.wanted contact)
+wanted_of f contact = take MAX_IDS (wanted_from f.wanted contact)
 
 -- a message that is to be sent now: in interactive mode one that was asked for, in batch mode one whose time has come
 abbrev pub is_ripe : Mode → ℕ → Row → Bool
@@ -162,7 +154,7 @@ send_of f shared contact mode now =
 -- the ids to offer now
 abbrev pub offers_of : Facts → List Id → ℕ → ℕ → List Id
 offers_of f shared contact now =
-    take ids_limit
+    take MAX_IDS
     (ids_where (λ h. is_sendable f shared contact h
     && (not (row_at f.rows contact h.id).asked && nat_le (row_at f.rows contact h.id).expiry now)) f.held)
 

@@ -1,7 +1,6 @@
--- The ids gathered so far, and those that the rest adds, are the distinct ids of the list.
-use Rattle.std.proofs.Common.{◌≡◌, ◌++◌, drop}
-use Rattle.sync_rules.specs.Lists.{firsts, firsts_after}
+-- What was gathered of the ids so far, and what the set has of them.
+use Rattle.session_core.proofs.First.{IsGathered}
 use Rattle.session_core.proofs.first_ids.first_ids.Given as goal
 
 abbrev pub invariant-loop-id : goal.invariant-loop-id
-invariant-loop-id l = l.distinct.items ++ firsts_after l.known.keys (drop l.id-index l.ids) ≡ firsts l.ids
+invariant-loop-id l = IsGathered l.counts.items l.ids l.id-index l.known.keys l.distinct.items
