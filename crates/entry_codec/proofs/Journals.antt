@@ -12,9 +12,9 @@ use Rattle.sync_rules.specs.Clients.{Meaning}
 use Rattle.sync_rules.specs.Facts.{Facts, after_all, facts, nothing}
 use Rattle.sync_rules.specs.Legal.{Allowed, GoesOn, Legal}
 use Rattle.sync_rules.specs.Allows.{allows}
-use Rattle.outside.specs.declared.limits.TheConstants.{MAX_FRAME}
+use Rattle.outside.specs.declared.limits.TheConstants.{MAX_FRAME, MAX_JOURNAL}
 use Rattle.outside.specs.Files.{Two, file_of}
-use Rattle.outside.specs.Frames.{Frame, IsPayload, broken, closed, format_in, frame_at, frame_of, journal_file, framed, is_broken, most_bytes, size_at}
+use Rattle.outside.specs.Frames.{Frame, IsPayload, broken, closed, format_in, frame_at, frame_of, journal_file, framed, is_broken, size_at}
 use Rattle.entry_codec.specs.Spelling.{IsEntry}
 use Rattle.entry_codec.specs.Payloads.{batch_of, payload, payloads}
 use Rattle.entry_codec.specs.StandingLaws.{HoldsJournal}
@@ -34,7 +34,7 @@ Means clients = (f : Facts) (batch : List Entry) → allows clients f batch ≡ 
 
 -- ---- frames that are there
 
-frame_there : (bytes front p behind : List ℕ) (place : ℕ) → bytes ≡ front ++ (frame_of p ++ behind) → length front ≡ place → IsPayload p → place + 6 + length p ≤ most_bytes
+frame_there : (bytes front p behind : List ℕ) (place : ℕ) → bytes ≡ front ++ (frame_of p ++ behind) → length front ≡ place → IsPayload p → place + 6 + length p ≤ MAX_JOURNAL
     → frame_at bytes place ≡ framed p
 frame_there bytes front p behind place split is fits bounded =
     let width = to_be_bytes w32 (length p) in
@@ -49,7 +49,7 @@ frame_there bytes front p behind place split is fits bounded =
     ap (λ (l : List ℕ). get_or l place 0) split ∙ ap (λ (n : ℕ). get_or (front ++ (frame_of p ++ behind)) n 0) (omega (arith, is)) ∙ get_or-append-add front (frame_of p ++ behind) 0 0 in
     let whole : is_broken bytes place ≡ false =
     or_from _ _ (or_from _ _ (or_from _ _ (or_from _ _ (le-ltb (length bytes) (place + 5) (omega arith)) (ne_eqb (size_at bytes place) 0 (λ none. omega (arith, fits.0, size, none))))
-    (le-ltb MAX_FRAME (size_at bytes place) (omega (arith, fits.1, size)))) (le-ltb (length bytes) (place + 5 + size_at bytes place) (omega arith))) (le-ltb most_bytes (place + 6 + size_at bytes place) (omega arith)) in
+    (le-ltb MAX_FRAME (size_at bytes place) (omega (arith, fits.1, size)))) (le-ltb (length bytes) (place + 5 + size_at bytes place) (omega arith))) (le-ltb MAX_JOURNAL (place + 6 + size_at bytes place) (omega arith)) in
     cond-false (nat_le (length bytes) place) _ _ (lt-leb (length bytes) place (omega arith))
     ∙ cond-false (not (slice_index bytes place == 1)) _ _ (not_from_true (slice_index bytes place == 1) (eq-eqb (slice_index bytes place) 1 byte))
     ∙ cond-false (is_broken bytes place) _ _ whole
@@ -82,7 +82,7 @@ record Follows (clients : Meaning) (bytes : List ℕ) (place : ℕ) (f : Facts) 
   pub payloads_fit : All IsPayload (payloads f more)
   pub legal : GoesOn clients f more
   pub within : AllByRecursion (AllByRecursion IsEntry) more
-  pub bounded : place + 1 + length (flat_map frame_of (payloads f more)) + room_of (facts (done ++ more)) ≤ most_bytes
+  pub bounded : place + 1 + length (flat_map frame_of (payloads f more)) + room_of (facts (done ++ more)) ≤ MAX_JOURNAL
 
 ends_here : (clients : Meaning) (file : ℕ) (bytes : List ℕ) (place : ℕ) (f : Facts) (done : List (List Entry)) → Follows clients bytes place f done []
     → rest_from clients file bytes place done ≡ journal (done ++ [])
@@ -92,7 +92,7 @@ ends_here clients file bytes place f done h =
     let room : room_of (facts (done ++ [])) ≡ room_of (facts done) = ap (λ (d : List (List Entry)). room_of (facts d)) none in
     rest_once clients file bytes place done h.some
     ∙ ap (read_on clients file (rest_from clients file bytes) place done) shut
-    ∙ cond-true (nat_le (place + 1 + room_of (facts done)) most_bytes) _ _ (le-leb _ _ (omega (arith, h.bounded, room)))
+    ∙ cond-true (nat_le (place + 1 + room_of (facts done)) MAX_JOURNAL) _ _ (le-leb _ _ (omega (arith, h.bounded, room)))
     ∙ ap (λ (d : List (List Entry)). journal d) (sym none)
 
 first_read : (clients : Meaning) (bytes : List ℕ) (place : ℕ) (f : Facts) (done more : List (List Entry)) (b : List Entry) → Follows clients bytes place f done (b ∷ more)
@@ -189,7 +189,7 @@ on_legal : (clients : Meaning) → Means clients → (file : ℕ) (further : ℕ
     → ((next : ℕ) (d : List (List Entry)) → Legal clients d → further next d ≡ journal j → Legal clients j)
     → (frame : Frame) → Legal clients done → read_on clients file further place done frame ≡ journal j → Legal clients j
 on_legal clients means file further place done j later closed legal e =
-    let same = same_cond (nat_le (place + 1 + room_of (facts done)) most_bytes) (journal done) (damaged file place) (journal j) (λ h. cc) e in
+    let same = same_cond (nat_le (place + 1 + room_of (facts done)) MAX_JOURNAL) (journal done) (damaged file place) (journal j) (λ h. cc) e in
     subst (λ (d : List (List Entry)). Legal clients d) (journal_is done j same) legal
 on_legal clients means file further place done j later broken legal e = absurd cc
 on_legal clients means file further place done j later (framed to) legal e =

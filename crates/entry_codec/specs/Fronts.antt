@@ -10,9 +10,9 @@ use Rattle.sync_rules.specs.Clients.{Meaning}
 use Rattle.sync_rules.specs.Facts.{facts, nothing}
 use Rattle.sync_rules.specs.Legal.{Allowed, Legal}
 use Rattle.sync_rules.specs.Allows.{allows}
-use Rattle.outside.specs.declared.limits.TheConstants.{MAX_FRAME}
+use Rattle.outside.specs.declared.limits.TheConstants.{MAX_FRAME, MAX_JOURNAL}
 use Rattle.outside.specs.Files.{Two, file_of}
-use Rattle.outside.specs.Frames.{Frame, HasFrames, IsPayload, broken, closed, format_in, frame_at, frame_of, framed, is_broken, is_open, journal_file, most_bytes, size_at}
+use Rattle.outside.specs.Frames.{Frame, HasFrames, IsPayload, broken, closed, format_in, frame_at, frame_of, framed, is_broken, is_open, journal_file, size_at}
 use Rattle.entry_codec.specs.Spelling.{IsEntry}
 use Rattle.entry_codec.specs.Payloads.{batch_of, journal_end, payload, payloads}
 use Rattle.sync_rules.specs.Continuing.{legal-push}
@@ -26,7 +26,7 @@ pub record FitsFile (bytes : List ℕ) (place : ℕ) (to : List ℕ) : Type 0 wh
   pub some : 1 ≤ length to
   pub few : length to ≤ MAX_FRAME
   pub there : place + 5 + length to ≤ length bytes
-  pub bounded : place + 6 + length to ≤ most_bytes
+  pub bounded : place + 6 + length to ≤ MAX_JOURNAL
 
 past_end : (bytes : List ℕ) (place : ℕ) → length bytes ≤ place → frame_at bytes place ≡ broken
 past_end bytes place past = cond-true (nat_le (length bytes) place) _ _ (le-leb (length bytes) place past)
@@ -36,7 +36,7 @@ second_of : {A : Type 0} (t : Bool) (x y z : A) → (x ≡ z → ⊥) → cond t
 second_of true x y z ne e = absurd (ne e)
 second_of false x y z ne e = (refl, e)
 
-size_fits : (bytes : List ℕ) (place size : ℕ) (to : List ℕ) → (size ≡ 0 → ⊥) → size ≤ MAX_FRAME → place + 5 + size ≤ length bytes → place + 6 + size ≤ most_bytes
+size_fits : (bytes : List ℕ) (place size : ℕ) (to : List ℕ) → (size ≡ 0 → ⊥) → size ≤ MAX_FRAME → place + 5 + size ≤ length bytes → place + 6 + size ≤ MAX_JOURNAL
     → take size (drop (place + 5) bytes) ≡ to → FitsFile bytes place to
 size_fits bytes place size to some few there bounded is =
     let long : length to ≡ size = ap length (sym is) ∙ length-take-le size (drop (place + 5) bytes) (omega (arith, length-drop (place + 5) bytes)) in
@@ -47,7 +47,7 @@ framed_fits bytes place to e =
     let inside = second_of (nat_le (length bytes) place) broken _ (framed to) (λ h. cc) e in
     let gate = second_of (not (slice_index bytes place == 1)) closed _ (framed to) (λ h. cc) inside.1 in
     let whole = second_of (is_broken bytes place) broken _ (framed to) (λ h. cc) gate.1 in
-    let bounded = or_parts _ (nat_lt most_bytes (place + 6 + size_at bytes place)) whole.0 in
+    let bounded = or_parts _ (nat_lt MAX_JOURNAL (place + 6 + size_at bytes place)) whole.0 in
     let there = or_parts _ (nat_lt (length bytes) (place + 5 + size_at bytes place)) bounded.0 in
     let few = or_parts _ (nat_lt MAX_FRAME (size_at bytes place)) there.0 in
     let some = or_parts _ (size_at bytes place == 0) few.0 in
@@ -185,24 +185,24 @@ front_refused clients files file done end to batch front e some refused =
     ∙ cond-false (allows clients (facts done) batch) _ _ refused
 
 closed_at : (clients : Meaning) (files : Two (List ℕ)) (file : ℕ) (done : List (List Entry)) (end : ℕ) (t : Bool) → Front clients files file done end
-    → frame_at (file_of files file) (end - 1) ≡ closed → nat_le (end + room_of (facts done)) most_bytes ≡ t → stands clients files ≡ cond t (journal done) (damaged file (end - 1))
+    → frame_at (file_of files file) (end - 1) ≡ closed → nat_le (end + room_of (facts done)) MAX_JOURNAL ≡ t → stands clients files ≡ cond t (journal done) (damaged file (end - 1))
 closed_at clients files file done end t front e sum =
     let far = some_end clients files file done end front in
     let same : end - 1 + 1 + room_of (facts done) ≡ end + room_of (facts done) = omega arith in
     front_once clients files file done end closed front e
-    ∙ ap (λ (b : Bool). cond b (journal done) (damaged file (end - 1))) (ap (λ (n : ℕ). nat_le n most_bytes) same ∙ sum)
+    ∙ ap (λ (b : Bool). cond b (journal done) (damaged file (end - 1))) (ap (λ (n : ℕ). nat_le n MAX_JOURNAL) same ∙ sum)
 
 -- the journal ends there
 pub front_closed : (clients : Meaning) (files : Two (List ℕ)) (file : ℕ) (done : List (List Entry)) (end : ℕ) → Front clients files file done end
-    → frame_at (file_of files file) (end - 1) ≡ closed → end + room_of (facts done) ≤ most_bytes → stands clients files ≡ journal done
+    → frame_at (file_of files file) (end - 1) ≡ closed → end + room_of (facts done) ≤ MAX_JOURNAL → stands clients files ≡ journal done
 front_closed clients files file done end front e fits =
-    closed_at clients files file done end true front e (le-leb (end + room_of (facts done)) most_bytes fits)
+    closed_at clients files file done end true front e (le-leb (end + room_of (facts done)) MAX_JOURNAL fits)
 
 -- its room is not left
 pub front_full : (clients : Meaning) (files : Two (List ℕ)) (file : ℕ) (done : List (List Entry)) (end : ℕ) → Front clients files file done end
-    → frame_at (file_of files file) (end - 1) ≡ closed → most_bytes < end + room_of (facts done) → stands clients files ≡ damaged file (end - 1)
+    → frame_at (file_of files file) (end - 1) ≡ closed → MAX_JOURNAL < end + room_of (facts done) → stands clients files ≡ damaged file (end - 1)
 front_full clients files file done end front e over =
-    closed_at clients files file done end false front e (lt-leb (end + room_of (facts done)) most_bytes over)
+    closed_at clients files file done end false front e (lt-leb (end + room_of (facts done)) MAX_JOURNAL over)
 
 -- the first of two answers
 first_of_two : {A : Type 0} (t : Bool) (x y z : A) → (y ≡ z → ⊥) → cond t x y ≡ z → t ≡ true

@@ -6,9 +6,10 @@ use Rattle.sync_rules.specs.Facts.{Facts, facts}
 use Rattle.sync_rules.specs.Left.{left_of}
 use Rattle.sync_rules.specs.Allows.{allows}
 use Rattle.outside.specs.Files.{Two, file_of}
-use Rattle.outside.specs.Frames.{Frame, closed, broken, framed, format_in, frame_at, journal_file, most_bytes}
+use Rattle.outside.specs.Frames.{Frame, closed, broken, framed, format_in, frame_at, journal_file}
 use Rattle.entry_codec.specs.declared.lengths.TheConstants.{STEP_BYTES}
 use Rattle.entry_codec.specs.Payloads.{batch_of}
+use Rattle.outside.specs.declared.limits.TheConstants.{MAX_JOURNAL}
 
 -- ---- the room of a journal
 
@@ -30,7 +31,7 @@ pub data Standing : Type 0 where
 -- greatest length.
 abbrev pub ended : ℕ → ℕ → List (List Entry) → Standing
 ended file place done =
-    if nat_le (place + 1 + room_of (facts done)) most_bytes then journal done else damaged file place
+    if nat_le (place + 1 + room_of (facts done)) MAX_JOURNAL then journal done else damaged file place
 
 -- the payload of a frame is a batch that is allowed after those before it, or the file is damaged at the frame's gate
 abbrev pub taken_on : Meaning → ℕ → (List (List Entry) → Standing) → ℕ → List (List Entry) → Option (List Entry) → Standing

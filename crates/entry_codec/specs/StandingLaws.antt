@@ -6,10 +6,11 @@ use Rattle.sync_rules.specs.Clients.{Meaning}
 use Rattle.sync_rules.specs.Facts.{Facts, after_all, facts, nothing, takes_of}
 use Rattle.sync_rules.specs.Legal.{Allowed, Legal}
 use Rattle.outside.specs.Files.{Two, file_of}
-use Rattle.outside.specs.Frames.{HasFrames, format_in, journal_file, most_bytes}
+use Rattle.outside.specs.Frames.{HasFrames, format_in, journal_file}
 use Rattle.entry_codec.specs.Spelling.{HasLatency, IsEntry}
 use Rattle.entry_codec.specs.Payloads.{batch_of, journal_end, payload, payloads}
 use Rattle.entry_codec.specs.Standing.{journal, room_of, stands}
+use Rattle.outside.specs.declared.limits.TheConstants.{MAX_JOURNAL}
 
 -- the batch of a payload is the batch that was written, where its entries are within their limits
 abbrev pub BatchesReadBack : Type 0
@@ -43,7 +44,7 @@ pub record HoldsJournal (clients : Meaning) (files : Two (List ℕ)) (file : ℕ
   pub frames : HasFrames (file_of files file) header (payloads nothing j)
   pub legal : Legal clients j
   pub within : AllByRecursion (AllByRecursion IsEntry) j
-  pub bounded : journal_end j + room_of (facts j) ≤ most_bytes
+  pub bounded : journal_end j + room_of (facts j) ≤ MAX_JOURNAL
 
 -- files that hold a journal stand for it
 abbrev pub JournalsStand : Type 0

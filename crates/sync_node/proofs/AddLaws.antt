@@ -1,10 +1,10 @@
 -- A batch that is added beside the sessions.
-use Rattle.std.proofs.Common.{◌≡◌, ℕ, Bool, true, false, List, [], ◌∷◌, ◌++◌, refl, sym, ap, ◌∙◌, subst, inl, inr, arith, Some, Result, append-nil, append_assoc}
+use Rattle.std.proofs.Common.{◌≡◌, ℕ, ◌+◌, Bool, true, false, List, [], ◌∷◌, ◌++◌, refl, sym, ap, ◌∙◌, subst, inl, inr, arith, Some, Result, append-nil, append_assoc, ◌<◌}
 use Rattle.std.specs.List.{list_all}
 use Rattle.outside.specs.Files.{Two, File}
 use Rattle.outside.specs.Links.{Links, sent_of}
 use Rattle.outside.specs.Outside.{Outside, Moment}
-use Rattle.outside.specs.Runs.{Told, answers_at}
+use Rattle.outside.specs.Runs.{IsFront, Told, answers_at, front_then}
 use Rattle.outside.specs.Steps.{moments_map, moments_then, told_on}
 use Rattle.record_grammar.specs.Spelling.{spelled}
 use Rattle.record_stream.specs.Reading.{ReadsOn, fresh}
@@ -12,6 +12,7 @@ use Rattle.sync_ids.specs.declared.records.Record.{Record}
 use Rattle.sync_rules.specs.declared.entries.Entry.{Entry}
 use Rattle.sync_rules.specs.declared.entries.Entry.TheVariants as entry
 use Rattle.sync_rules.specs.Allows.{is_settling_kind}
+use Rattle.sync_rules.specs.declared.entries.Session.{Session}
 use Rattle.sync_rules.specs.Clients.{Meaning}
 use Rattle.sync_rules.specs.Facts.{Facts, after_all, facts, session_at, takes_of}
 use Rattle.sync_rules.specs.Growth.{is_silent, output_of}
@@ -19,6 +20,7 @@ use Rattle.sync_rules.specs.Legal.{Allowed, AllSettling}
 use Rattle.sync_rules.specs.OutputLaws.{silent_adds_nothing}
 use Rattle.sync_rules.specs.StepKinds.{all_settling_only}
 use Rattle.sync_rules.specs.WorkLaws.{facts-push}
+use Rattle.sync_store.specs.Commits.{needed}
 use Rattle.sync_store.specs.Store.{StoreValue}
 use Rattle.sync_store.specs.Fitting.{Fits}
 use Rattle.sync_store.specs.Moments.{IsBetween, JournalMoment, Leads, WithAtMost}
@@ -28,12 +30,13 @@ use Rattle.sync_node.specs.declared.link.Link.{Link}
 use Rattle.sync_node.specs.Adding.{AddsAtMost, AddsSettled, GoesOnSettling, IsPlain}
 use Rattle.sync_node.specs.Going.{Commits, Settles}
 use Rattle.sync_node.specs.Joined.{IsJoined, Joined}
-use Rattle.sync_node.specs.Node.{AreAttached, KeepsJoined, MayGoOn, NodeValue}
+use Rattle.sync_node.specs.Node.{AreAttached, KeepsJoined, KeepsSafeAnew, MayGoOn, NodeValue}
 use Rattle.sync_node.specs.Output.{Journal, heard_on, output, sent_on}
-use Rattle.sync_node.proofs.CommitLaws.{settling_front}
+use Rattle.sync_node.specs.Safe.{Begin, IsCoveredNow, Safe, begun_anew}
+use Rattle.sync_node.proofs.CommitLaws.{one_journal, settling_front}
 use Rattle.sync_node.proofs.NodeLaws.{node_of}
 use Rattle.sync_node.proofs.OutLaws.{output_with}
-use Rattle.sync_node.proofs.SafeLaws.{told_before}
+use Rattle.sync_node.proofs.SafeLaws.{covered_now, told_before}
 use Rattle.sync_node.proofs.TakeLaws.{commits_then, settling_adds}
 
 -- ---- a plain batch
@@ -58,7 +61,8 @@ record LeavesSessions (f later : Facts) : Type 0 where
   begun : later.begun ≡ f.begun
   takes : later.takes ≡ f.takes
 
-plain_leaves : (f : Facts) (batch : List Entry) → IsPlain batch → LeavesSessions f (after_all f batch)
+plain_leaves : (f : Facts) (batch : List Entry) → IsPlain batch
+    → LeavesSessions f (after_all f batch)
 plain_leaves f (entry.Contact c ∷ []) plain = record { sessions = refl; begun = refl; takes = refl }
 plain_leaves f (entry.Group def ∷ []) plain = record { sessions = refl; begun = refl; takes = refl }
 plain_leaves f (entry.Level c g l ∷ []) plain = record { sessions = refl; begun = refl; takes = refl }
@@ -67,7 +71,9 @@ plain_leaves f _ plain = absurd plain
 
 -- ---- the batch, and settling behind it
 
-pub added : (clients : Meaning) (batch : List Entry) (s s1 s2 : StoreValue) (o o1 o2 : Outside) → Commits clients (batch ∷ []) s s1 o o1 → Settles clients s1 s2 o1 o2 → AddsSettled clients batch s s2 o o2
+pub added : (clients : Meaning) (batch : List Entry) (s s1 s2 : StoreValue) (o o1 o2 : Outside)
+    → Commits clients (batch ∷ []) s s1 o o1 → Settles clients s1 s2 o1 o2
+    → AddsSettled clients batch s s2 o o2
 added clients batch s s1 s2 o o1 o2 first settles = record {
   more = settles.more;
   settling = subst (λ (f : Facts). AllSettling clients f settles.more) first.facts settles.settling;
@@ -77,8 +83,11 @@ added clients batch s s1 s2 o o1 o2 first settles = record {
 
 -- ---- joined
 
-same_output : (clients : Meaning) (batch : List Entry) (s s' : StoreValue) (o o' : Outside) (adds : AddsSettled clients batch s s' o o') → IsPlain batch → (told : Told o') (whole : Journal)
-    → (fits : Fits clients s' whole told.two) → (n : ℕ) → output whole n ≡ output (adds.commits.goes_on told whole fits).before n
+same_output : (clients : Meaning) (batch : List Entry) (s s' : StoreValue) (o o' : Outside)
+    (adds : AddsSettled clients batch s s' o o') → IsPlain batch
+    → (told : Told o') (whole : Journal)
+    → (fits : Fits clients s' whole told.two) → (n : ℕ)
+    → output whole n ≡ output (adds.commits.goes_on told whole fits).before n
 same_output clients batch s s' o o' adds plain told whole fits n =
     let from = adds.commits.goes_on told whole fits in
     let none : output_of (facts from.before) n (batch ∷ adds.more) ≡ [] =
@@ -88,7 +97,9 @@ same_output clients batch s s' o o' adds plain told whole fits n =
     output_with clients from.before whole (batch ∷ adds.more) n fits.legal from.is
     ∙ (ap (λ (rs : List Record). output from.before n ++ spelled rs) none ∙ append-nil (output from.before n))
 
-leaves : (clients : Meaning) (batch : List Entry) (s s' : StoreValue) (o o' : Outside) → AddsSettled clients batch s s' o o' → IsPlain batch → LeavesSessions s.state.facts s'.state.facts
+leaves : (clients : Meaning) (batch : List Entry) (s s' : StoreValue) (o o' : Outside)
+    → AddsSettled clients batch s s' o o' → IsPlain batch
+    → LeavesSessions s.state.facts s'.state.facts
 leaves clients batch s s' o o' adds plain =
     let plainly = plain_leaves s.state.facts batch plain in
     let only = all_settling_only clients (after_all s.state.facts batch) adds.more adds.settling in
@@ -98,7 +109,8 @@ leaves clients batch s s' o o' adds plain =
       takes = ap (λ (f : Facts). f.takes) adds.commits.facts ∙ (only.takes ∙ plainly.takes);
     }
 
-one_joined : (clients : Meaning) (batch : List Entry) (k : ℕ) (l : Link) (s s' : StoreValue) (o o' : Outside) → AddsSettled clients batch s s' o o' → IsPlain batch
+one_joined : (clients : Meaning) (batch : List Entry) (k : ℕ) (l : Link) (s s' : StoreValue)
+    (o o' : Outside) → AddsSettled clients batch s s' o o' → IsPlain batch
     → IsJoined clients k [] l s o → IsJoined clients k [] l s' o'
 one_joined clients batch k l s s' o o' adds plain joined = record {
   sent = λ unfailed told' whole fits.
@@ -115,7 +127,9 @@ one_joined clients batch k l s s' o o' adds plain joined = record {
       };
 }
 
-pub add_joined : (clients : Meaning) (batch : List Entry) (links : List Link) (s s' : StoreValue) (o o' : Outside) → AddsSettled clients batch s s' o o' → IsPlain batch → Joined clients links s o → Joined clients links s' o'
+pub add_joined : (clients : Meaning) (batch : List Entry) (links : List Link) (s s' : StoreValue)
+    (o o' : Outside) → AddsSettled clients batch s s' o o' → IsPlain batch
+    → Joined clients links s o → Joined clients links s' o'
 add_joined clients batch links s s' o o' adds plain joined = record {
   each = λ k l there. one_joined clients batch k l s s' o o' adds plain (joined.each k l there);
   others = λ k past.
@@ -126,7 +140,8 @@ add_joined clients batch links s s' o o' adds plain joined = record {
       };
 }
 
-pub add_attached : (clients : Meaning) (batch : List Entry) (first : ℕ) (links : List Link) (s s' : StoreValue) (o o' : Outside) → AddsSettled clients batch s s' o o' → IsPlain batch
+pub add_attached : (clients : Meaning) (batch : List Entry) (first : ℕ) (links : List Link)
+    (s s' : StoreValue) (o o' : Outside) → AddsSettled clients batch s s' o o' → IsPlain batch
     → AreAttached first links s.state.facts → AreAttached first links s'.state.facts
 add_attached clients batch first links s s' o o' adds plain attached =
     let left = leaves clients batch s s' o o' adds plain in
@@ -137,22 +152,76 @@ add_attached clients batch first links s s' o o' adds plain attached =
           record { numbered = was.numbered; known = ap (λ t. session_at t l.session.number) left.sessions ∙ was.known; waits = was.waits };
     }
 
-pub add_may : (clients : Meaning) (batch : List Entry) (links : List Link) (s s' : StoreValue) (o o' : Outside) → AddsSettled clients batch s s' o o' → MayGoOn clients links s o → MayGoOn clients links s' o'
+pub add_may : (clients : Meaning) (batch : List Entry) (links : List Link) (s s' : StoreValue)
+    (o o' : Outside) → AddsSettled clients batch s s' o o' → MayGoOn clients links s o
+    → MayGoOn clients links s' o'
 add_may clients batch links s s' o o' adds may = record {
   ready = adds.commits.ready;
   settled = λ _. adds.settled;
   dialled = omega (arith, may.dialled, adds.commits.goes.links.dialled);
 }
 
-pub node_adds : (clients : Meaning) (batch : List Entry) (first : ℕ) (links : List Link) (s s' : StoreValue) (o o' : Outside) (closed closed' : Bool) (n : NodeValue) → node_of s first links closed ≡ n
-    → AddsSettled clients batch s s' o o' → IsPlain batch → KeepsJoined clients n (node_of s' first links closed') o o'
+pub node_adds : (clients : Meaning) (batch : List Entry) (first : ℕ) (links : List Link)
+    (s s' : StoreValue) (o o' : Outside) (closed closed' : Bool) (n : NodeValue)
+    → node_of s first links closed ≡ n
+    → AddsSettled clients batch s s' o o' → IsPlain batch
+    → KeepsJoined clients n (node_of s' first links closed') o o'
 node_adds clients batch first links s s' o o' closed closed' n is adds plain =
     subst (λ (m : NodeValue). KeepsJoined clients m (node_of s' first links closed') o o') is
     (record { goes = adds.commits.goes; same_first = refl; same_number = refl; joined = add_joined clients batch links s s' o o' adds plain })
 
+-- ---- a run that begins anew
+
+module _ (clients : Meaning) (batch : List Entry) (s s' : StoreValue) (o o' : Outside) (adds : AddsSettled clients batch s s' o o') (b : Begin) (plans : List Session)
+    (safe : Safe clients b plans s o) (opened : s.closed ≡ false) (told : Told o')
+    (whole : Journal) (fits : Fits clients s' whole told.two) where
+  -- what was sent is output of the journal with the batch too
+  anew_sent : (link : ℕ) → IsFront (sent_on o'.links link) (output whole (b.first + link))
+  anew_sent link =
+      let from = adds.commits.goes_on told whole fits in
+      let now = safe.now opened from.told in
+      let same : now.whole ≡ from.before = one_journal clients s s now.whole from.before from.told.two now.fits from.fits in
+      let longer : IsFront (output from.before (b.first + link)) (output whole (b.first + link)) = record {
+        rest = spelled (output_of (facts from.before) (b.first + link) (batch ∷ adds.more));
+        whole = output_with clients from.before whole (batch ∷ adds.more) (b.first + link) fits.legal from.is;
+      } in
+      subst (λ (l : Links). IsFront (sent_on l link) (output whole (b.first + link))) (sym adds.commits.same_links)
+      (front_then _ _ _ (subst (λ (j : Journal). IsFront (sent_on o.links link) (output j (b.first + link))) same (now.has_sent link)) longer)
+
+  anew_now : (two : Two File) → two ≡ told.two
+      → IsCoveredNow clients (begun_anew b told.two whole o') plans (heard_on o'.links)
+      (sent_on o'.links) s' two
+  anew_now two same = record {
+    whole = whole;
+    fits = subst (λ (t : Two File). Fits clients s' whole t) (sym same) fits;
+    suits = record { more = []; extends = sym (append-nil whole); suits = tt };
+    has_sent = anew_sent;
+  }
+
+  pub safe_anew : Safe clients (begun_anew b told.two whole o') plans s' o'
+  safe_anew =
+      let one : (again : Told o') → again.two ≡ told.two = λ again. cc (again.files_are, told.files_are) in
+      record {
+        later = λ again. omega arith;
+        moments = λ again m w. let now = o'.now_is told.two m told.files_are w in inl (record { image = now.image; nothing_sent = now.sent });
+        reads = λ again. covered_now clients (begun_anew b told.two whole o') plans (heard_on o'.links) s' again.two o' (anew_now again.two (one again));
+        now = λ still again. anew_now again.two (one again);
+      }
+
+pub node_anew : (clients : Meaning) (batch : List Entry) (first : ℕ) (links : List Link)
+    (s s' : StoreValue) (o o' : Outside) (closed closed' : Bool) (n : NodeValue)
+    → node_of s first links closed ≡ n
+    → AddsSettled clients batch s s' o o' → s.closed ≡ false
+    → KeepsSafeAnew clients n (node_of s' first links closed') o o'
+node_anew clients batch first links s s' o o' closed closed' n is adds opened =
+    subst (λ (m : NodeValue). KeepsSafeAnew clients m (node_of s' first links closed') o o') is
+    (record { safe = λ b plans safe told whole fits. safe_anew clients batch s s' o o' adds b plans safe opened told whole fits })
+
 -- ---- each moment
 
-pub leads_ok : (clients : Meaning) (batch : List Entry) (s : StoreValue) (o o' : Outside) (j : Journal) (P Q R : Journal → Type 0) → ((k : Journal) → P k → R k) → ((k : Journal) → Q k → R k)
+pub leads_ok : (clients : Meaning) (batch : List Entry) (s : StoreValue) (o o' : Outside)
+    (j : Journal) (P Q R : Journal → Type 0) → ((k : Journal) → P k → R k)
+    → ((k : Journal) → Q k → R k)
     → Leads clients P Q s o o' → Leads clients R R s o o'
 leads_ok clients batch s o o' j P Q R up upq leads = record {
   moments = moments_map o o' (JournalMoment clients P (sent_of o.links.told)) (JournalMoment clients R (sent_of o.links.told))
@@ -160,10 +229,13 @@ leads_ok clients batch s o o' j P Q R up upq leads = record {
   ends = λ opened two files. let end = leads.ends opened two files in (end.0, upq end.0 end.1, end.2);
 }
 
-pub adds_at_most : (clients : Meaning) (j : Journal) (batch : List Entry) (whole : Journal) → WithAtMost j batch whole → AddsAtMost clients j batch whole
-adds_at_most clients j batch whole with_it = elim with_it [ inl same ↦ inl same | inr more ↦ inr (record { more = []; settling = tt; is = more }) ]
+pub adds_at_most : (clients : Meaning) (j : Journal) (batch : List Entry) (whole : Journal)
+    → WithAtMost j batch whole → AddsAtMost clients j batch whole
+adds_at_most clients j batch whole with_it =
+    elim with_it [ inl same ↦ inl same | inr more ↦ inr (record { more = []; settling = tt; is = more }) ]
 
-pub settles_behind : (clients : Meaning) (j : Journal) (batch : List Entry) (whole : Journal) → GoesOnSettling clients (j ++ batch ∷ []) whole → AddsAtMost clients j batch whole
+pub settles_behind : (clients : Meaning) (j : Journal) (batch : List Entry) (whole : Journal)
+    → GoesOnSettling clients (j ++ batch ∷ []) whole → AddsAtMost clients j batch whole
 settles_behind clients j batch whole goes =
     inr (record {
       more = goes.more;
@@ -172,8 +244,11 @@ settles_behind clients j batch whole goes =
     })
 
 -- settling goes on from the journal
-pub leads_settling : (clients : Meaning) (s s' : StoreValue) (o o' : Outside) (result : Result (Unit {0}) StoreFault) → HasSettled clients s s' result o o' → (two : Two File) → o.files ≡ Some two → (j : Journal)
-    → Fits clients s j two → Leads clients (GoesOnSettling clients j) (GoesOnSettling clients j) s' o o'
+pub leads_settling : (clients : Meaning) (s s' : StoreValue) (o o' : Outside)
+    (result : Result (Unit {0}) StoreFault) → HasSettled clients s s' result o o'
+    → (two : Two File) → o.files ≡ Some two → (j : Journal)
+    → Fits clients s j two → Leads clients (GoesOnSettling clients j)
+    (GoesOnSettling clients j) s' o o'
 leads_settling clients s s' o o' result has two files j fits =
     let settles : AllSettling clients (facts j) has.more = subst (λ (f : Facts). AllSettling clients f has.more) (sym fits.facts_are) has.comes.settling in
     leads_ok clients [] s' o o' j (IsBetween j has.more) (λ whole. whole ≡ j ++ has.more) (GoesOnSettling clients j)
@@ -185,7 +260,8 @@ leads_settling clients s s' o o' result has two files j fits =
     (λ k end. record { more = has.more; settling = settles; is = end })
     (has.comes.leads two files j fits)
 
-pub add_leads : (clients : Meaning) (batch : List Entry) (s s1 s2 : StoreValue) (o o1 o2 : Outside) (two : Two File) (j : Journal) → o.files ≡ Some two → Commits clients (batch ∷ []) s s1 o o1
+pub add_leads : (clients : Meaning) (batch : List Entry) (s s1 s2 : StoreValue) (o o1 o2 : Outside)
+    (two : Two File) (j : Journal) → o.files ≡ Some two → Commits clients (batch ∷ []) s s1 o o1
     → Leads clients (WithAtMost j batch) (λ k. k ≡ j ++ batch ∷ []) s1 o o1
     → ((two1 : Two File) → o1.files ≡ Some two1 → (k : Journal) → Fits clients s1 k two1 → Leads clients (GoesOnSettling clients k) (GoesOnSettling clients k) s2 o1 o2)
     → Leads clients (AddsAtMost clients j batch) (AddsAtMost clients j batch) s2 o o2
@@ -207,11 +283,23 @@ add_leads clients batch s s1 s2 o o1 o2 two j files commits first second =
 
 -- ---- a node
 
-pub node_allowed : (clients : Meaning) (s : StoreValue) (first : ℕ) (links : List Link) (closed : Bool) (n : NodeValue) (batch : List Entry) → node_of s first links closed ≡ n
-    → (n.closed ≡ false → Allowed clients n.store.state.facts batch) → closed ≡ false → Allowed clients s.state.facts batch
+pub node_allowed : (clients : Meaning) (s : StoreValue) (first : ℕ) (links : List Link)
+    (closed : Bool) (n : NodeValue) (batch : List Entry) → node_of s first links closed ≡ n
+    → (n.closed ≡ false → Allowed clients n.store.state.facts batch) → closed ≡ false
+    → Allowed clients s.state.facts batch
 node_allowed clients s first links closed n batch is allowed =
     subst (λ (m : NodeValue). (m.closed ≡ false → Allowed clients m.store.state.facts batch) → closed ≡ false → Allowed clients s.state.facts batch) is (λ then opened. then opened) allowed
 
 -- the store of a node before
-pub node_fits : (clients : Meaning) (s : StoreValue) (first : ℕ) (links : List Link) (closed : Bool) (n : NodeValue) (j : Journal) (two : Two File) → node_of s first links closed ≡ n → Fits clients n.store j two → Fits clients s j two
-node_fits clients s first links closed n j two is fits = subst (λ (m : NodeValue). Fits clients m.store j two) (sym is) fits
+pub node_fits : (clients : Meaning) (s : StoreValue) (first : ℕ) (links : List Link)
+    (closed : Bool) (n : NodeValue) (j : Journal) (two : Two File)
+    → node_of s first links closed ≡ n → Fits clients n.store j two → Fits clients s j two
+node_fits clients s first links closed n j two is fits =
+    subst (λ (m : NodeValue). Fits clients m.store j two) (sym is) fits
+
+-- the batch would pass the limit of a node's store
+pub node_limit : (s : StoreValue) (first : ℕ) (links : List Link) (closed : Bool) (n : NodeValue)
+    (batch : List Entry) → node_of s first links closed ≡ n
+    → s.limit < needed s batch → n.store.limit < needed n.store batch
+node_limit s first links closed n batch is over =
+    subst (λ (m : NodeValue). m.store.limit < needed m.store batch) is over

@@ -1,5 +1,5 @@
 -- The links of a node with one more.
-use Rattle.std.proofs.Common.{◌≡◌, ◌≢◌, ◌⊎◌, ℕ, zero, suc, ◌+◌, ◌<◌, ◌≤◌, Bool, true, false, List, [], ◌∷◌, ◌++◌, length, refl, sym, ap, ◌∙◌, subst, inl, inr, arith, Some}
+use Rattle.std.proofs.Common.{◌≡◌, ◌≢◌, ◌⊎◌, ℕ, zero, suc, ◌+◌, ◌<◌, ◌≤◌, Bool, true, false, List, [], ◌∷◌, ◌++◌, length, refl, sym, ap, ◌∙◌, subst, inl, inr, arith, Option, Some}
 use Rattle.std.specs.List.{slice_get}
 use Rattle.std.proofs.lemmas.List.{length-append}
 use Rattle.std.proofs.lemmas.Option.{slice_get_within}
@@ -7,29 +7,36 @@ use Rattle.outside.specs.Outside.{Outside}
 use Rattle.sync_rules.specs.declared.entries.Session.{Session}
 use Rattle.sync_rules.specs.Clients.{Meaning}
 use Rattle.sync_rules.specs.Continuing.{continues_all}
-use Rattle.sync_rules.specs.Facts.{Facts, session_at}
+use Rattle.sync_rules.specs.Facts.{Facts, after_all, session_at}
 use Rattle.sync_rules.specs.Legal.{Allowed, suits_nonce}
 use Rattle.sync_rules.specs.Steps.{IsSettled}
 use Rattle.record_grammar.specs.Laws.{FrontsHaveFronts}
 use Rattle.sync_store.specs.Store.{StoreValue}
 use Rattle.sync_node.specs.declared.link.Link.{Link}
+use Rattle.sync_node.specs.declared.node.Plan.{Plan}
 use Rattle.sync_node.specs.Joined.{IsJoined, Joined}
 use Rattle.sync_node.specs.Node.{AreAttached, Attaches, IsAttached, MayGoOn, NodeValue, PlansSafe}
+use Rattle.sync_node.specs.Plans.{session_of}
 use Rattle.sync_node.specs.Starting.{Starts, StartsLast, StartsSafe}
 use Rattle.sync_node.proofs.Fronts.{front_of_append}
 use Rattle.sync_node.proofs.NodeLaws.{node_of, other_joined, other_unused}
 use Rattle.sync_node.proofs.StartLaws.{safe_planned, session_batch}
 
-get_push : {A : Type 0} (xs : List A) (x : A) (i : ℕ) (y : A) → slice_get (xs ++ x ∷ []) i ≡ Some y → (slice_get xs i ≡ Some y) ⊎ ((i ≡ length xs) × (y ≡ x))
+pub get_push : {A : Type 0} (xs : List A) (x : A) (i : ℕ) (y : A)
+    → slice_get (xs ++ x ∷ []) i ≡ Some y → (slice_get xs i ≡ Some y) ⊎ ((i ≡ length xs) × (y ≡ x))
 get_push [] x zero y e = inr (refl, cc)
 get_push [] x (suc i) y e = cc
 get_push (z ∷ xs) x zero y e = inl e
-get_push (z ∷ xs) x (suc i) y e = elim (get_push xs x i y e) [ inl here ↦ inl here | inr last ↦ inr (ap suc last.0, last.1) ]
+get_push (z ∷ xs) x (suc i) y e =
+    elim (get_push xs x i y e) [ inl here ↦ inl here | inr last ↦ inr (ap suc last.0, last.1) ]
 
 -- a session of a plan may begin
-pub plan_allowed : (clients : Meaning) (f : Facts) (x : Session) → IsSettled clients f → x.number ≡ f.begun → x.contact < f.contacts → 1 ≤ x.latency → suits_nonce x.mode x.nonce ≡ true
+pub plan_allowed : (clients : Meaning) (f : Facts) (x : Session) → IsSettled clients f
+    → x.number ≡ f.begun → x.contact < f.contacts → 1 ≤ x.latency
+    → suits_nonce x.mode x.nonce ≡ true
     → Allowed clients f (session_batch x)
-plan_allowed clients f x settled number contact latency nonce = (refl, settled, record { numbered = number; known_contact = contact; some_latency = latency; suited_nonce = nonce })
+plan_allowed clients f x settled number contact latency nonce =
+    (refl, settled, record { numbered = number; known_contact = contact; some_latency = latency; suited_nonce = nonce })
 
 module _ (clients : Meaning) (first link : ℕ) (x : Session) (links : List Link) (l : Link) (s s' : StoreValue) (o o' : Outside) (attached : AreAttached first links s.state.facts) (number : x.number ≡ s.state.facts.begun)
     (last : length links ≡ link) (starts : Starts clients link x l s s' o o') where
@@ -76,16 +83,25 @@ module _ (clients : Meaning) (first link : ℕ) (x : Session) (links : List Link
   }
 
 -- the same of the list of links as it is then
-pub attached_last : (clients : Meaning) (first link : ℕ) (x : Session) (links links' : List Link) (s s' : StoreValue) (o o' : Outside) → AreAttached first links s.state.facts → x.number ≡ s.state.facts.begun
-    → length links ≡ link → StartsLast clients link x links links' s s' o o' → AreAttached first links' s'.state.facts
+pub attached_last : (clients : Meaning) (first link : ℕ) (x : Session) (links links' : List Link)
+    (s s' : StoreValue) (o o' : Outside) → AreAttached first links s.state.facts
+    → x.number ≡ s.state.facts.begun
+    → length links ≡ link → StartsLast clients link x links links' s s' o o'
+    → AreAttached first links' s'.state.facts
 attached_last clients first link x links links' s s' o o' attached number last starts =
     subst (λ (ls : List Link). AreAttached first ls s'.state.facts) (sym starts.pushed) (attached_push clients first link x links starts.link s s' o o' attached number last starts.starts)
 
-pub one_longer : (clients : Meaning) (link : ℕ) (x : Session) (links links' : List Link) (s s' : StoreValue) (o o' : Outside) → StartsLast clients link x links links' s s' o o' → length links' ≡ length links + 1
-one_longer clients link x links links' s s' o o' starts = ap (λ (ls : List Link). length ls) starts.pushed ∙ length-append links (starts.link ∷ [])
+pub one_longer : (clients : Meaning) (link : ℕ) (x : Session) (links links' : List Link)
+    (s s' : StoreValue) (o o' : Outside) → StartsLast clients link x links links' s s' o o'
+    → length links' ≡ length links + 1
+one_longer clients link x links links' s s' o o' starts =
+    ap (λ (ls : List Link). length ls) starts.pushed ∙ length-append links (starts.link ∷ [])
 
-pub node_attaches : (clients : Meaning) (first link : ℕ) (x : Session) (links links' : List Link) (s s' : StoreValue) (o o' : Outside) (closed closed' : Bool) (n : NodeValue) → node_of s first links closed ≡ n
-    → AreAttached first links s.state.facts → x.number ≡ s.state.facts.begun → length links ≡ link → StartsLast clients link x links links' s s' o o'
+pub node_attaches : (clients : Meaning) (first link : ℕ) (x : Session) (links links' : List Link)
+    (s s' : StoreValue) (o o' : Outside) (closed closed' : Bool) (n : NodeValue)
+    → node_of s first links closed ≡ n
+    → AreAttached first links s.state.facts → x.number ≡ s.state.facts.begun → length links ≡ link
+    → StartsLast clients link x links links' s s' o o'
     → Attaches clients n (node_of s' first links' closed') o o'
 node_attaches clients first link x links links' s s' o o' closed closed' n is attached number last starts =
     subst (λ (m : NodeValue). Attaches clients m (node_of s' first links' closed') o o') is
@@ -96,8 +112,11 @@ node_attaches clients first link x links links' s s' o o' closed closed' n is at
       joined = λ joined. subst (λ (ls : List Link). Joined clients ls s' o') (sym starts.pushed) (joined_push clients first link x links starts.link s s' o o' attached number last starts.starts joined);
     })
 
-pub node_plans : (clients : Meaning) (first link : ℕ) (x : Session) (links links' : List Link) (s s' : StoreValue) (o o' : Outside) (closed closed' : Bool) (n : NodeValue) → node_of s first links closed ≡ n
-    → AreAttached first links s.state.facts → x.number ≡ s.state.facts.begun → length links ≡ link → StartsSafe clients link x s s' o o'
+pub node_plans : (clients : Meaning) (first link : ℕ) (x : Session) (links links' : List Link)
+    (s s' : StoreValue) (o o' : Outside) (closed closed' : Bool) (n : NodeValue)
+    → node_of s first links closed ≡ n
+    → AreAttached first links s.state.facts → x.number ≡ s.state.facts.begun → length links ≡ link
+    → StartsSafe clients link x s s' o o'
     → PlansSafe clients x n (node_of s' first links' closed') o o'
 node_plans clients first link x links links' s s' o o' closed closed' n is attached number last safe =
     subst (λ (m : NodeValue). PlansSafe clients x m (node_of s' first links' closed') o o') is
@@ -106,10 +125,12 @@ node_plans clients first link x links links' s s' o o' closed closed' n is attac
           safe.safe (joined.others link (omega (arith, last))) b plans (omega (arith, number, attached.begun, last, begins)) (long ∙ last) was;
     })
 
-pub plans_same : FrontsHaveFronts → (clients : Meaning) (x : Session) (n : NodeValue) (o : Outside) → PlansSafe clients x n n o o
+pub plans_same : FrontsHaveFronts → (clients : Meaning) (x : Session) (n : NodeValue) (o : Outside)
+    → PlansSafe clients x n n o o
 plans_same fronts clients x n o = record { safe = λ joined b plans begins long was. safe_planned fronts clients b plans (plans ++ x ∷ []) n.store o (front_of_append plans (x ∷ [])) was }
 
-pub attached_may : (clients : Meaning) (link : ℕ) (x : Session) (links links' : List Link) (s s' : StoreValue) (o o' : Outside) → link < o.links.dialled → length links ≡ link
+pub attached_may : (clients : Meaning) (link : ℕ) (x : Session) (links links' : List Link)
+    (s s' : StoreValue) (o o' : Outside) → link < o.links.dialled → length links ≡ link
     → StartsLast clients link x links links' s s' o o' → MayGoOn clients links' s' o'
 attached_may clients link x links links' s s' o o' dialled last starts = record {
   ready = starts.starts.ready;
@@ -117,10 +138,24 @@ attached_may clients link x links links' s s' o o' dialled last starts = record 
   dialled = omega (arith, dialled, last, one_longer clients link x links links' s s' o o' starts, starts.starts.goes.links.dialled);
 }
 
-pub node_settled : (clients : Meaning) (s : StoreValue) (first : ℕ) (links : List Link) (closed : Bool) (n : NodeValue) → node_of s first links closed ≡ n
-    → (n.closed ≡ false → IsSettled clients n.store.state.facts) → closed ≡ false → IsSettled clients s.state.facts
+pub node_settled : (clients : Meaning) (s : StoreValue) (first : ℕ) (links : List Link)
+    (closed : Bool) (n : NodeValue) → node_of s first links closed ≡ n
+    → (n.closed ≡ false → IsSettled clients n.store.state.facts) → closed ≡ false
+    → IsSettled clients s.state.facts
 node_settled clients s first links closed n is settled =
     subst (λ (m : NodeValue). (m.closed ≡ false → IsSettled clients m.store.state.facts) → closed ≡ false → IsSettled clients s.state.facts) is (λ then opened. then opened) settled
 
-pub plans_as : (clients : Meaning) (x y : Session) (n n' : NodeValue) (o o' : Outside) → x ≡ y → PlansSafe clients x n n' o o' → PlansSafe clients y n n' o o'
-plans_as clients x y n n' o o' is safe = subst (λ (z : Session). PlansSafe clients z n n' o o') is safe
+pub plans_as : (clients : Meaning) (x y : Session) (n n' : NodeValue) (o o' : Outside) → x ≡ y
+    → PlansSafe clients x n n' o o' → PlansSafe clients y n n' o o'
+plans_as clients x y n n' o o' is safe =
+    subst (λ (z : Session). PlansSafe clients z n n' o o') is safe
+
+-- the facts behind a session that began
+pub session_begun : (s : StoreValue) (first : ℕ) (links : List Link) (closed : Bool)
+    (n : NodeValue) (f : Facts) (k : ℕ) (plan : Plan) (nonce : Option (List ℕ))
+    → node_of s first links closed ≡ n → k ≡ s.state.facts.begun
+    → f ≡ after_all s.state.facts (session_batch (session_of k plan nonce))
+    → f ≡ after_all n.store.state.facts (session_batch (session_of n.store.state.facts.begun plan nonce))
+session_begun s first links closed n f k plan nonce is number facts =
+    subst (λ (m : NodeValue). f ≡ after_all m.store.state.facts (session_batch (session_of m.store.state.facts.begun plan nonce))) is
+    (subst (λ (j : ℕ). f ≡ after_all s.state.facts (session_batch (session_of j plan nonce))) number facts)

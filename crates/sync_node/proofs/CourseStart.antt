@@ -1,7 +1,6 @@
 -- A session that begins on the next link, as a course has it.
-use Rattle.std.proofs.Common.{◌≡◌, ◌≢◌, ℕ, suc, ◌+◌, Bool, true, false, cond, nat_eq, eq-eqb, List, [], ◌∷◌, ◌++◌, length, refl, sym, ◌∙◌, ap, subst, inl, inr, arith, Option, None, Some, Result, Ok, Err}
+use Rattle.std.proofs.Common.{◌≡◌, ◌≢◌, ℕ, suc, ◌+◌, Bool, true, false, cond, nat_eq, eq-eqb, List, [], ◌∷◌, ◌++◌, length, refl, sym, ◌∙◌, ap, subst, inl, inr, arith, None, Some, Result, Ok, Err}
 use Rattle.std.specs.Prelude.{slice_get}
-use Rattle.outside.specs.Files.{Two, File}
 use Rattle.outside.specs.Host.{Sends}
 use Rattle.outside.specs.Outside.{Outside}
 use Rattle.outside.specs.declared.failed.Failed.{Failed}
@@ -15,21 +14,22 @@ use Rattle.sync_rules.specs.declared.entries.Session.{Session}
 use Rattle.sync_store.specs.Ready.{IsReady}
 use Rattle.sync_store.specs.Store.{StoreValue}
 use Rattle.sync_course.specs.CallLaws.{runs_none}
-use Rattle.sync_course.specs.Events.{Break, Pass, Told}
+use Rattle.sync_course.specs.Events.{Break, Told}
 use Rattle.sync_course.specs.LiftLaws.{breaks_attached, runs_attached, runs_greeted, runs_ungreeted}
 use Rattle.sync_course.specs.Links as course_links
 use Rattle.sync_course.specs.Links.{link_of}
 use Rattle.sync_course.specs.ReadingLaws.{HasRead, fresh_has_read}
 use Rattle.sync_course.specs.RunLaws.{get_push_cases}
 use Rattle.sync_course.specs.ToldLaws.{runs_then, told_broken, told_greeted, told_sent, told_ungreeted}
-use Rattle.sync_course.specs.Turns.{Attaches, Greets, Place, RunStep, Terms, attached, unattached}
-use Rattle.sync_course.specs.declared.ends.LinkEnd.TheVariants as stands
+use Rattle.sync_course.specs.Turns.{Attaches, Greets, Place, RunStep, Terms}
 use Rattle.sync_node.specs.declared.link.Link.{Link}
-use Rattle.sync_node.specs.declared.link.LinkEnd.{LinkEnd}
-use Rattle.sync_node.specs.declared.link.LinkEnd.TheVariants as link_end
+use Rattle.sync_course.specs.declared.ends.LinkEnd.{LinkEnd}
+use Rattle.sync_course.specs.declared.ends.LinkEnd.TheVariants as link_end
 use Rattle.sync_node.specs.CourseLaws.{fits_on}
-use Rattle.sync_node.specs.Courses.{Adds, AddsSome, AllRead, Begins, BreaksBeginning, BreaksStart, FitsWith, GreetsAsCourse, IsRead, ReadsAs, RunBreaks, RunRuns, StartsAsCourse, StartsBehind, attaching_at, end_of, link_at, links_from, place_at}
-use Rattle.sync_node.specs.CourseRuns.{length_from}
+use Rattle.sync_node.proofs.CourseTakes.{full_here}
+use Rattle.sync_node.specs.Fulls.{FullBeginning, FullStart, IsOver}
+use Rattle.sync_node.specs.Courses.{Adds, AddsSome, Begins, BreaksBeginning, BreaksStart, FitsWith, GreetsAsCourse, IsRead, ReadsAs, RunRuns, StartsAsCourse, StartsBehind, attaching_at, link_at, links_from, place_at}
+use Rattle.sync_node.proofs.CourseRuns.{length_from}
 use Rattle.sync_node.specs.Node.{NodeValue}
 use Rattle.sync_node.specs.Sending.{EndsBy, SendsOn}
 use Rattle.sync_node.proofs.NodeLaws.{node_of}
@@ -37,19 +37,23 @@ use Rattle.sync_node.proofs.StartLaws.{none_below, session_batch}
 
 -- ---- a greeting
 
-pub greets_once : (n : ℕ) (bytes : List ℕ) (l l' : Link) (o o' : Outside) → SendsOn n bytes l l' o o' → GreetsAsCourse n l l' o o'
+pub greets_once : (n : ℕ) (bytes : List ℕ) (l l' : Link) (o o' : Outside)
+    → SendsOn n bytes l l' o o' → GreetsAsCourse n l l' o o'
 greets_once n bytes l l' o o' sends = by_result sends.result sends.sends sends.ends
   where
-    by_result : (result : Result (Unit {0}) Failed) → Sends n bytes result o.links o'.links → EndsBy result l l' → GreetsAsCourse n l l' o o'
+    by_result : (result : Result (Unit {0}) Failed) → Sends n bytes result o.links o'.links
+        → EndsBy result l l' → GreetsAsCourse n l l' o o'
     by_result (Ok u) went ends = inl (ends, told_sent n bytes o o' went)
     by_result (Err why) went ends = inr (ends, told_broken n bytes why o o' went)
 
-pub greets_twice : (n : ℕ) (a b : List ℕ) (l mid l' : Link) (o o1 o' : Outside) → mid.end ≢ link_end.Failed → SendsOn n a l mid o o1 → SendsOn n b mid l' o1 o'
+pub greets_twice : (n : ℕ) (a b : List ℕ) (l mid l' : Link) (o o1 o' : Outside)
+    → mid.end ≢ link_end.Failed → SendsOn n a l mid o o1 → SendsOn n b mid l' o1 o'
     → GreetsAsCourse n l l' o o'
 greets_twice n a b l mid l' o o1 o' unfailed first second =
     by_results first.result second.result first.sends first.ends second.sends second.ends
   where
-    by_results : (one two : Result (Unit {0}) Failed) → Sends n a one o.links o1.links → EndsBy one l mid → Sends n b two o1.links o'.links → EndsBy two mid l'
+    by_results : (one two : Result (Unit {0}) Failed) → Sends n a one o.links o1.links
+        → EndsBy one l mid → Sends n b two o1.links o'.links → EndsBy two mid l'
         → GreetsAsCourse n l l' o o'
     by_results (Ok u) (Ok v) went ends then ends' = inl (ends' ∙ ends, told_greeted n a b o o1 o' went then)
     by_results (Ok u) (Err why) went ends then ends' =
@@ -58,7 +62,8 @@ greets_twice n a b l mid l' o o1 o' unfailed first second =
 
 -- ---- the session that was committed
 
-session_last : (ss : List Session) (x : Session) → session_at ss x.number ≡ None → session_at (ss ++ x ∷ []) x.number ≡ Some x
+session_last : (ss : List Session) (x : Session) → session_at ss x.number ≡ None
+    → session_at (ss ++ x ∷ []) x.number ≡ Some x
 session_last [] x none = ap (λ (b : Bool). cond b (Some x) None) (eq-eqb x.number x.number refl)
 session_last (y ∷ ss) x none =
     elim (nat_eq y.number x.number) as (λ b. cond b (Some y) (session_at ss x.number) ≡ None → cond b (Some y) (session_at (ss ++ x ∷ []) x.number) ≡ Some x) [
@@ -67,7 +72,8 @@ session_last (y ∷ ss) x none =
     ] none
 
 -- the next number is free
-is_free : (clients : Meaning) (f : Facts) (x : Session) (j : List (List Entry)) → Legal clients j → facts j ≡ f → Allowed clients f (session_batch x)
+is_free : (clients : Meaning) (f : Facts) (x : Session) (j : List (List Entry)) → Legal clients j
+    → facts j ≡ f → Allowed clients f (session_batch x)
     → session_at f.sessions x.number ≡ None
 is_free clients f x j legal is allowed =
     let has = legal_sessions clients j legal in
@@ -76,7 +82,8 @@ is_free clients f x j legal is allowed =
     ap (λ (n : ℕ). session_at (facts j).sessions n) may.2.numbered ∙ none_below (facts j).begun (facts j).sessions has.below in
     subst (λ (g : Facts). session_at g.sessions x.number ≡ None) is none
 
-begun_is : (f f' : Facts) (x begun : Session) → session_at f.sessions x.number ≡ None → f' ≡ after_all f (session_batch x)
+begun_is : (f f' : Facts) (x begun : Session) → session_at f.sessions x.number ≡ None
+    → f' ≡ after_all f (session_batch x)
     → Some begun ≡ session_at f'.sessions x.number → begun ≡ x
 begun_is f f' x begun free facts_are found =
     let there : Some begun ≡ Some x =
@@ -87,13 +94,16 @@ begun_is f f' x begun free facts_are found =
 
 module _ (clients : Meaning) (x : Session) (s : StoreValue) (o : Outside) (batch : List Entry) (is : batch ≡ session_batch x)
     (allowed : Allowed clients s.state.facts (session_batch x)) where
-  module _ (terms : Terms) (left : List Session) (links : List course_links.Link) (moved : Bool) (still made : ℕ) where
+  module _ (terms : Terms) (left : List Session) (links : List course_links.Link) (moved : Bool)
+      (still made : ℕ) where
     -- where it has begun, and is to greet
     abbrev greeting_at : Facts → Place
     greeting_at f = record { stage = Greets x left; links = links; moved = moved; still = still; made = made; facts = f }
 
-    begun_runs : (s1 : StoreValue) (o1 : Outside) → s1.state.facts ≡ after_all s.state.facts batch → Adds clients (batch ∷ []) s s1 o o1
-        → RunRuns clients terms (attaching_at (x ∷ left) links moved still made s.state.facts) (greeting_at s1.state.facts) s s1 o o1
+    begun_runs : (s1 : StoreValue) (o1 : Outside) → s1.state.facts ≡ after_all s.state.facts batch
+        → Adds clients (batch ∷ []) s s1 o o1
+        → RunRuns clients terms (attaching_at (x ∷ left) links moved still made s.state.facts)
+        (greeting_at s1.state.facts) s s1 o o1
     begun_runs s1 o1 facts_are adds =
         let facts_is : after_all s.state.facts (session_batch x) ≡ s1.state.facts =
         ap (λ (b : List Entry). after_all s.state.facts b) (sym is) ∙ sym facts_are in
@@ -103,17 +113,20 @@ module _ (clients : Meaning) (x : Session) (s : StoreValue) (o : Outside) (batch
         (subst (λ (b : List Entry). (j : List (List Entry)) → FitsWith clients s o.files j → FitsWith clients s1 o1.files (j ++ b ∷ [])) is adds.grows))
 
     -- the link behind the others, and the place once the greeting is over
-    begins_as : (begun : Session) (reader : ReaderState) → begun ≡ x → (l : Link) (e : LinkEnd) (f : Facts)
+    begins_as : (begun : Session) (reader : ReaderState) → begun ≡ x
+        → (l : Link) (e : LinkEnd) (f : Facts)
         → l ≡ record { session = begun; reader = reader; nonce = begun.nonce; end = e }
-        → attaching_at left (links ++ link_of x (end_of e) ∷ []) moved still made f ≡ attaching_at left (links ++ link_at l [] ∷ []) moved still made f
+        → attaching_at left (links ++ link_of x e ∷ []) moved still made f ≡ attaching_at left (links ++ link_at l [] ∷ []) moved still made f
     begins_as begun reader same l e f is_l =
         ap (λ (k : course_links.Link). attaching_at left (links ++ k ∷ []) moved still made f)
-        (ap (λ (y : Session). link_of y (end_of e)) (sym same) ∙ ap (λ (y : Link). link_at y []) (sym is_l))
+        (ap (λ (y : Session). link_of y e) (sym same) ∙ ap (λ (y : Link). link_at y []) (sym is_l))
 
-    greeted_runs : (n : ℕ) (begun : Session) (reader : ReaderState) → begun ≡ x → (l : Link) (s1 : StoreValue) (o1 o2 : Outside) → length links ≡ n
+    greeted_runs : (n : ℕ) (begun : Session) (reader : ReaderState) → begun ≡ x
+        → (l : Link) (s1 : StoreValue) (o1 o2 : Outside) → length links ≡ n
         → o2.files ≡ o1.files
         → GreetsAsCourse n (record { session = begun; reader = reader; nonce = begun.nonce; end = link_end.Going }) l o1 o2
-        → RunRuns clients terms (greeting_at s1.state.facts) (attaching_at left (links ++ link_at l [] ∷ []) moved still made s1.state.facts) s1 s1 o1 o2
+        → RunRuns clients terms (greeting_at s1.state.facts)
+        (attaching_at left (links ++ link_at l [] ∷ []) moved still made s1.state.facts) s1 s1 o1 o2
     greeted_runs n begun reader same l s1 o1 o2 long same_files greets =
         let from : Place = greeting_at s1.state.facts in
         elim greets [
@@ -127,7 +140,8 @@ module _ (clients : Meaning) (x : Session) (s : StoreValue) (o : Outside) (batch
         ]
 
   -- a commit that was broken off
-  pub start_broken : (o' : Outside) → AddsSome clients (batch ∷ []) s o o' → BreaksStart clients x s o o'
+  pub start_broken : (o' : Outside) → AddsSome clients (batch ∷ []) s o o'
+      → BreaksStart clients x s o o'
   start_broken o' adds = record {
     stops = λ terms left links moved still made.
         breaks_attached clients terms (FitsWith clients s o.files) (ReadsAs clients o'.files) adds.stood.front adds.stood.others adds.stood.reads x left
@@ -135,8 +149,20 @@ module _ (clients : Meaning) (x : Session) (s : StoreValue) (o : Outside) (batch
         (ap (λ (b : List Entry). b ∷ []) (sym is) ∙ adds.stood.parts);
   }
 
-  pub starts_course : (n : ℕ) (begun : Session) (reader : ReaderState) (l : Link) (s1 : StoreValue) (o1 o2 : Outside) → IsReady clients s o.files
-      → s1.state.facts ≡ after_all s.state.facts batch → Adds clients (batch ∷ []) s s1 o o1 → Some begun ≡ session_at s1.state.facts.sessions x.number
+  -- a session that would have passed the limit
+  pub start_full : (s' : StoreValue) (o' : Outside) → IsOver clients batch s s' o o'
+      → FullStart clients x s s' o o'
+  start_full s' o' over = record {
+    fills = λ terms left links moved still made.
+        full_here clients (RunStep clients terms) (attaching_at (x ∷ left) links moved still made s.state.facts)
+        (greeting_at terms left links moved still made (after_all s.state.facts (session_batch x))) (session_batch x) s s' o o' (refl, allowed, refl)
+        (subst (λ (b : List Entry). IsOver clients b s s' o o') is over);
+  }
+
+  pub starts_course : (n : ℕ) (begun : Session) (reader : ReaderState) (l : Link) (s1 : StoreValue)
+      (o1 o2 : Outside) → IsReady clients s o.files
+      → s1.state.facts ≡ after_all s.state.facts batch → Adds clients (batch ∷ []) s s1 o o1
+      → Some begun ≡ session_at s1.state.facts.sessions x.number
       → o2.files ≡ o1.files → reader ≡ fresh → AwaitsBytes fresh
       → GreetsAsCourse n (record { session = begun; reader = reader; nonce = begun.nonce; end = link_end.Going }) l o1 o2 → StartsAsCourse clients n x l s s1 o o2
   starts_course n begun reader l s1 o1 o2 ready facts_are adds found same_files is_fresh awaits greets =
@@ -156,7 +182,8 @@ module _ (clients : Meaning) (x : Session) (s : StoreValue) (o : Outside) (batch
       }
 
 -- a call that was broken off before it committed anything
-pub start_none : (clients : Meaning) (x : Session) (s : StoreValue) (o : Outside) → BreaksStart clients x s o o
+pub start_none : (clients : Meaning) (x : Session) (s : StoreValue) (o : Outside)
+    → BreaksStart clients x s o o
 start_none clients x s o = record {
   stops = λ terms left links moved still made. record {
     to = attaching_at (x ∷ left) links moved still made s.state.facts;
@@ -178,8 +205,10 @@ push_from k (y ∷ links) l heard =
     ap (λ (ls : List course_links.Link). link_at y (heard k) ∷ ls)
     (push_from (suc k) links l heard ∙ ap (λ (j : ℕ). links_from (suc k) links heard ++ link_at l (heard j) ∷ []) later)
 
-module _ (clients : Meaning) (x : Session) (links : List Link) (s : StoreValue) (o o' : Outside) where
-  pub begins_behind : (n : ℕ) (links' : List Link) (s' : StoreValue) → length links ≡ n → StartsBehind clients n x links links' s s' o o'
+module _ (clients : Meaning) (x : Session) (links : List Link) (s : StoreValue)
+    (o o' : Outside) where
+  pub begins_behind : (n : ℕ) (links' : List Link) (s' : StoreValue) → length links ≡ n
+      → StartsBehind clients n x links links' s s' o o'
       → Begins clients x links links' s s' o o'
   begins_behind n links' s' last behind = record {
     has_read = λ heard none read i y there.
@@ -207,14 +236,27 @@ module _ (clients : Meaning) (x : Session) (links : List Link) (s : StoreValue) 
     stops = λ terms left heard moved still made. breaks.stops terms left (links_from 0 links heard) moved still made;
   }
 
+  pub beginning_full : (s' : StoreValue) → FullStart clients x s s' o o'
+      → FullBeginning clients x links s s' o o'
+  beginning_full s' full = record { fills = λ terms left heard moved still made. full.fills terms left (links_from 0 links heard) moved still made }
+
   -- as the node is seen
-  module _ (first : ℕ) (closed : Bool) (n : NodeValue) (is : node_of s first links closed ≡ n) (y : Session) (same : x ≡ y) where
-    pub node_begins : (links' : List Link) (s' : StoreValue) → Begins clients x links links' s s' o o' → Begins clients y n.links links' n.store s' o o'
+  module _ (first : ℕ) (closed : Bool) (n : NodeValue) (is : node_of s first links closed ≡ n)
+      (y : Session) (same : x ≡ y) where
+    pub node_begins : (links' : List Link) (s' : StoreValue)
+        → Begins clients x links links' s s' o o' → Begins clients y n.links links' n.store s' o o'
     node_begins links' s' begins =
         subst (λ (m : NodeValue). Begins clients y m.links links' m.store s' o o') is
         (subst (λ (z : Session). Begins clients z links links' s s' o o') same begins)
 
-    pub node_beginning_broken : BreaksBeginning clients x links s o o' → BreaksBeginning clients y n.links n.store o o'
+    pub node_beginning_broken : BreaksBeginning clients x links s o o'
+        → BreaksBeginning clients y n.links n.store o o'
     node_beginning_broken breaks =
         subst (λ (m : NodeValue). BreaksBeginning clients y m.links m.store o o') is
         (subst (λ (z : Session). BreaksBeginning clients z links s o o') same breaks)
+
+    pub node_beginning_full : (s' : StoreValue) → FullBeginning clients x links s s' o o'
+        → FullBeginning clients y n.links n.store s' o o'
+    node_beginning_full s' full =
+        subst (λ (m : NodeValue). FullBeginning clients y m.links m.store s' o o') is
+        (subst (λ (z : Session). FullBeginning clients z links s s' o o') same full)

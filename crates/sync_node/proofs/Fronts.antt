@@ -10,12 +10,14 @@ front_taken n a b = record {
   whole = ap (λ l. a ++ l) (sym (take-append-drop n b)) ∙ sym (append_assoc a (take n b) (drop n b));
 }
 
-slice_get_append : {A : Type 0} (xs ys : List A) (k : ℕ) (a : A) → slice_get xs k ≡ Some a → slice_get (xs ++ ys) k ≡ Some a
+slice_get_append : {A : Type 0} (xs ys : List A) (k : ℕ) (a : A) → slice_get xs k ≡ Some a
+    → slice_get (xs ++ ys) k ≡ Some a
 slice_get_append [] ys k a e = cc
 slice_get_append (x ∷ xs) ys zero a e = e
 slice_get_append (x ∷ xs) ys (suc k) a e = slice_get_append xs ys k a e
 
-pub front_get : {A : Type 0} (xs ys : List A) → IsFront xs ys → (k : ℕ) (a : A) → slice_get xs k ≡ Some a → slice_get ys k ≡ Some a
+pub front_get : {A : Type 0} (xs ys : List A) → IsFront xs ys → (k : ℕ) (a : A)
+    → slice_get xs k ≡ Some a → slice_get ys k ≡ Some a
 front_get {A} xs ys front k a e = subst (λ (l : List A). slice_get l k ≡ Some a) (sym front.whole) (slice_get_append xs front.rest k a e)
 
 pub front_of_append : {A : Type 0} (a b : List A) → IsFront a (a ++ b)

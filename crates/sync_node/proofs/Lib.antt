@@ -8,6 +8,15 @@ mod TakeLaws
 mod StartLaws
 mod NodeLaws
 mod AttachLaws
+mod CauseLaws
+mod StopLaws
+mod BeginLaws
 mod AddLaws
+mod CourseTakes
+mod CourseTurns
+mod CourseRuns
+mod CourseRedundant
+mod CourseCalls
+mod CourseJoined
 mod CourseNode
 mod CourseStart

@@ -1,13 +1,12 @@
 -- An output that is committed and sent, and a session that begins with what is sent first.
-use Rattle.std.proofs.Common.{◌≡◌, ◌≢◌, ◌⊎◌, ℕ, ◌+◌, ◌<◌, ◌≤◌, cond, List, [], ◌∷◌, ◌++◌, refl, sym, ap, ◌∙◌, subst, inl, inr, arith, Some, Option, Result, Ok, Err, append-nil, eq-eqb}
+use Rattle.std.proofs.Common.{◌≡◌, ◌≢◌, ◌⊎◌, ℕ, ◌+◌, ◌<◌, ◌≤◌, cond, List, [], ◌∷◌, ◌++◌, take, refl, sym, ap, ◌∙◌, subst, inl, inr, arith, Some, Option, Result, Ok, Err, append-nil, eq-eqb}
 use Rattle.std.proofs.lemmas.Bool.{ne_eqb}
 use Rattle.outside.specs.declared.failed.Failed.{Failed}
 use Rattle.outside.specs.Files.{Two, File}
-use Rattle.outside.specs.Frames.{most_bytes}
 use Rattle.outside.specs.Host.{Sends, SendsPart}
 use Rattle.outside.specs.Links.{Links}
 use Rattle.outside.specs.Outside.{Outside, LinkCall}
-use Rattle.outside.specs.Runs.{IsFront, Told, answers_at, front_same, grow_send, heard_bytes, others_same, others_send, others_then, sent_here}
+use Rattle.outside.specs.Runs.{IsFront, Told, answers_at, front_same, grow_send, heard_bytes, others_same, others_send, others_then, sent_here, went_out}
 use Rattle.record_grammar.specs.Laws.{FrontsHaveFronts}
 use Rattle.record_grammar.specs.Spelling.{spelled}
 use Rattle.record_stream.specs.Reading.{AwaitsBytes, ReadsOn, fresh}
@@ -24,14 +23,15 @@ use Rattle.sync_rules.specs.Output.{records_of}
 use Rattle.sync_rules.specs.StepKinds.{settled_stays}
 use Rattle.sync_rules.specs.Steps.{IsSettled}
 use Rattle.entry_codec.specs.Standing.{room_of}
+use Rattle.outside.specs.declared.limits.TheConstants.{MAX_JOURNAL}
 use Rattle.sync_store.specs.Store.{StoreValue}
 use Rattle.sync_store.specs.Fitting.{Fits, ImagesStand}
 use Rattle.sync_store.specs.Ready.{IsReady}
 use Rattle.sync_node.specs.declared.link.Link.{Link}
-use Rattle.sync_node.specs.declared.link.LinkEnd.{LinkEnd}
-use Rattle.sync_node.specs.declared.link.LinkEnd.TheVariants as link_end
+use Rattle.sync_course.specs.declared.ends.LinkEnd.{LinkEnd}
+use Rattle.sync_course.specs.declared.ends.LinkEnd.TheVariants as link_end
 use Rattle.sync_node.specs.Ends.{MaySend}
-use Rattle.sync_node.specs.Going.{Commits, Goes, HasOthers}
+use Rattle.sync_node.specs.Going.{Commits, Goes, HasOthers, specs_of}
 use Rattle.sync_node.specs.Joined.{HasTaken, IsAllSent}
 use Rattle.sync_node.specs.Output.{Journal, heard_on, output, sent_on}
 use Rattle.sync_node.specs.Safe.{Begin, Safe}
@@ -39,7 +39,7 @@ use Rattle.sync_node.specs.Sending.{EndsBy, SendsOn}
 use Rattle.sync_node.specs.Suits.{IsOfRun}
 use Rattle.sync_node.specs.Working.{IsAble, StaysSafe, Waits, Works}
 use Rattle.sync_node.proofs.CommitLaws.{CommitsSafe}
-use Rattle.sync_node.proofs.SafeLaws.{goes_link, safe_send, told_before}
+use Rattle.sync_node.proofs.SafeLaws.{goes_link, safe_send, specs_told, told_before}
 use Rattle.sync_node.proofs.SuitLaws.{output_append}
 use Rattle.sync_node.proofs.WorkLaws.{goes_then}
 
@@ -49,24 +49,29 @@ use Rattle.sync_node.proofs.WorkLaws.{goes_then}
 abbrev pub out_batch : ℕ → ℕ → Out → List Entry
 out_batch session now what = entry.Out session now what ∷ []
 
-out_adds : (f : Facts) (n now : ℕ) (what : Out) → output_of f n (out_batch n now what ∷ []) ≡ records_of f.held what
+out_adds : (f : Facts) (n now : ℕ) (what : Out)
+    → output_of f n (out_batch n now what ∷ []) ≡ records_of f.held what
 out_adds f n now what =
     append-nil _ ∙ (append-nil _ ∙ ap (λ b. cond b (records_of f.held what) []) (eq-eqb n n refl))
 
-out_adds_other : (f : Facts) (n other now : ℕ) (what : Out) → other ≢ n → output_of f other (out_batch n now what ∷ []) ≡ []
+out_adds_other : (f : Facts) (n other now : ℕ) (what : Out) → other ≢ n
+    → output_of f other (out_batch n now what ∷ []) ≡ []
 out_adds_other f n other now what apart =
     append-nil _ ∙ (append-nil _ ∙ ap (λ b. cond b (records_of f.held what) []) (ne_eqb n other (λ same. apart (sym same))))
 
 -- the output of a session behind a journal that goes on by a batch
-pub output_with : (clients : Meaning) (before whole : Journal) (more : Journal) (session : ℕ) → Legal clients whole → whole ≡ before ++ more
+pub output_with : (clients : Meaning) (before whole : Journal) (more : Journal) (session : ℕ)
+    → Legal clients whole → whole ≡ before ++ more
     → output whole session ≡ output before session ++ spelled (output_of (facts before) session more)
 output_with clients before whole more session legal is =
     ap (λ (l : Journal). output l session) is ∙ output_append clients before more session (subst (λ (l : Journal). Legal clients l) is legal)
 
 -- what was sent is the whole output but for that of the batch
-pub output_behind : (clients : Meaning) (n link now : ℕ) (what : Out) (s s1 : StoreValue) (o o1 : Outside) (bytes : List ℕ) → Commits clients (out_batch n now what ∷ []) s s1 o o1
+pub output_behind : (clients : Meaning) (n link now : ℕ) (what : Out) (s s1 : StoreValue)
+    (o o1 : Outside) (bytes : List ℕ) → Commits clients (out_batch n now what ∷ []) s s1 o o1
     → bytes ≡ spelled (records_of s.state.facts.held what) → IsAllSent clients n link s o
-    → (told : Told o1) (whole : Journal) → Fits clients s1 whole told.two → output whole n ≡ sent_on o1.links link ++ bytes
+    → (told : Told o1) (whole : Journal) → Fits clients s1 whole told.two
+    → output whole n ≡ sent_on o1.links link ++ bytes
 output_behind clients n link now what s s1 o o1 bytes commits is_bytes sent told1 whole fits =
     let from = commits.goes_on told1 whole fits in
     let were : output from.before n ≡ sent_on o1.links link = sym (sent from.told from.before from.fits) ∙ ap (λ (l : Links). sent_on l link) (sym commits.same_links) in
@@ -76,8 +81,10 @@ output_behind clients n link now what s s1 o o1 bytes commits is_bytes sent told
     ∙ (ap (λ (l : List ℕ). l ++ spelled (output_of (facts from.before) n (out_batch n now what ∷ []))) were
     ∙ ap (λ (l : List ℕ). sent_on o1.links link ++ l) adds)
 
-outputs_elsewhere : (clients : Meaning) (n now : ℕ) (what : Out) (s s1 : StoreValue) (o o1 : Outside) → Commits clients (out_batch n now what ∷ []) s s1 o o1
-    → (told : Told o1) (whole : Journal) → Fits clients s1 whole told.two → HasOthers clients n s o whole
+outputs_elsewhere : (clients : Meaning) (n now : ℕ) (what : Out) (s s1 : StoreValue)
+    (o o1 : Outside) → Commits clients (out_batch n now what ∷ []) s s1 o o1
+    → (told : Told o1) (whole : Journal) → Fits clients s1 whole told.two
+    → HasOthers clients n s o whole
 outputs_elsewhere clients n now what s s1 o o1 commits told1 whole fits =
     let from = commits.goes_on told1 whole fits in
     record {
@@ -93,18 +100,25 @@ outputs_elsewhere clients n now what s s1 o o1 commits told1 whole fits =
 -- ---- a send
 
 -- the disk fits the store before a send as behind it
-pub fits_before : (clients : Meaning) (s : StoreValue) (o o' : Outside) (link : ℕ) (bytes : List ℕ) (goes : Goes o o') → LinkCall (SendsPart o link bytes) o o'
-    → (told : Told o') (whole : Journal) → Fits clients s whole told.two → Fits clients s whole (told_before o o' goes told).two
+pub fits_before : (clients : Meaning) (s : StoreValue) (o o' : Outside) (link : ℕ) (bytes : List ℕ)
+    (goes : Goes o o') → LinkCall (SendsPart o link bytes) o o'
+    → (told : Told o') (whole : Journal) → Fits clients s whole told.two
+    → Fits clients s whole (told_before o o' goes told).two
 fits_before clients s o o' link bytes goes call told' whole fits =
     let told = told_before o o' goes told' in
     let two : told'.two ≡ told.two = cc (told'.files_are, told.files_are, call.same_files) in
     subst (λ (t : Two File). Fits clients s whole t) two fits
 
-pub goes_send : (o o' : Outside) (link : ℕ) (bytes : List ℕ) (l l' : Link) → SendsOn link bytes l l' o o' → Goes o o'
-goes_send o o' link bytes l l' sends = goes_link _ o o' sends.call (grow_send link bytes sends.result o.links o'.links sends.sends)
+pub goes_send : (o o' : Outside) (link : ℕ) (bytes : List ℕ) (l l' : Link)
+    → SendsOn link bytes l l' o o' → Goes o o'
+goes_send o o' link bytes l l' sends =
+    let out = went_out link bytes sends.result o.links o'.links sends.sends in
+    goes_link _ o o' sends.call (grow_send link bytes sends.result o.links o'.links sends.sends) sends.sends.same_dialled
+    (ap specs_of out.1 ∙ specs_told link (take out.0 bytes) o.links.told)
 
 -- what was sent is the whole output, where the send did not fail
-sent_whole : (clients : Meaning) (n link : ℕ) (s : StoreValue) (o o' : Outside) (bytes : List ℕ) (l l' : Link) → link < o.links.dialled
+sent_whole : (clients : Meaning) (n link : ℕ) (s : StoreValue) (o o' : Outside) (bytes : List ℕ)
+    (l l' : Link) → link < o.links.dialled
     → ((told : Told o) (whole : Journal) → Fits clients s whole told.two → output whole n ≡ sent_on o.links link ++ bytes)
     → SendsOn link bytes l l' o o' → l'.end ≢ link_end.Failed → IsAllSent clients n link s o'
 sent_whole clients n link s o o' bytes l l' within whole_is sends unfailed told' whole fits =
@@ -113,7 +127,8 @@ sent_whole clients n link s o o' bytes l l' within whole_is sends unfailed told'
     let before = fits_before clients s o o' link bytes goes sends.call told' whole fits in
     by_result sends.result sends.sends sends.ends told before
   where
-    by_result : (result : Result (Unit {0}) Failed) → Sends link bytes result o.links o'.links → EndsBy result l l' → (told : Told o) → Fits clients s whole told.two
+    by_result : (result : Result (Unit {0}) Failed) → Sends link bytes result o.links o'.links
+        → EndsBy result l l' → (told : Told o) → Fits clients s whole told.two
         → sent_on o'.links link ≡ output whole n
     by_result (Ok u) went ends told before = sent_here o o' link bytes u told within went ∙ sym (whole_is told whole before)
     by_result (Err e) went ends told before = absurd (unfailed (ap (λ (x : Link). x.end) ends))
@@ -123,15 +138,18 @@ pub kept_by : (result : Result (Unit {0}) Failed) (l l' : Link) → EndsBy resul
 kept_by (Ok u) l l' ends = inl ends
 kept_by (Err e) l l' ends = inr ends
 
-pub same_session : (result : Result (Unit {0}) Failed) (l l' : Link) → EndsBy result l l' → l'.session ≡ l.session
+pub same_session : (result : Result (Unit {0}) Failed) (l l' : Link) → EndsBy result l l'
+    → l'.session ≡ l.session
 same_session (Ok u) l l' ends = ap (λ (x : Link). x.session) ends
 same_session (Err e) l l' ends = ap (λ (x : Link). x.session) ends
 
 -- ---- an output that is committed and sent
 
 -- what was heard was taken, as before
-taken_as_before : (link : ℕ) (left : List ℕ) (l l' : Link) (s s1 : StoreValue) (o o1 o2 : Outside) (bytes : List ℕ) → o1.links ≡ o.links
-    → s1.state.facts.takes ≡ s.state.facts.takes → SendsOn link bytes l l' o1 o2 → l'.end ≡ link_end.Going
+taken_as_before : (link : ℕ) (left : List ℕ) (l l' : Link) (s s1 : StoreValue) (o o1 o2 : Outside)
+    (bytes : List ℕ) → o1.links ≡ o.links
+    → s1.state.facts.takes ≡ s.state.facts.takes → SendsOn link bytes l l' o1 o2
+    → l'.end ≡ link_end.Going
     → (l.end ≡ link_end.Going → HasTaken (heard_on o.links link) left l (takes_of s.state.facts.takes l.session.number))
     → HasTaken (heard_on o2.links link) left l' (takes_of s1.state.facts.takes l'.session.number)
 taken_as_before link left l l' s s1 o o1 o2 bytes links takes sends going has = elim (kept_by sends.result l l' sends.ends) [
@@ -147,11 +165,14 @@ taken_as_before link left l l' s s1 o o1 o2 bytes links takes sends going has = 
   | inr failed ↦ absurd (let e : link_end.Failed ≡ link_end.Going = sym (ap (λ (x : Link). x.end) failed) ∙ going in cc)
 ]
 
-pub out_works : FrontsHaveFronts → ImagesStand → (clients : Meaning) (link now : ℕ) (what : Out) (l l' : Link) (s s1 : StoreValue) (o o1 o2 : Outside) (bytes : List ℕ)
+pub out_works : FrontsHaveFronts → ImagesStand → (clients : Meaning) (link now : ℕ) (what : Out)
+    (l l' : Link) (s s1 : StoreValue) (o o1 o2 : Outside) (bytes : List ℕ)
     → Commits clients (out_batch l.session.number now what ∷ []) s s1 o o1
     → ((b : Begin) (plans later : List Session) → IsFront plans later → (Told o → IsOfRun b.first later (heard_on o.links) s.state.facts (out_batch l.session.number now what))
     → Safe clients b plans s o → Safe clients b later s1 o1)
-    → bytes ≡ spelled (records_of s.state.facts.held what) → s1.end + room_of s1.state.facts ≤ most_bytes → link < o.links.dialled → l.end ≢ link_end.Failed
+    → bytes ≡ spelled (records_of s.state.facts.held what)
+    → s1.end + room_of s1.state.facts ≤ MAX_JOURNAL → link < o.links.dialled
+    → l.end ≢ link_end.Failed
     → SendsOn link bytes l l' o1 o2 → Works clients link [] [] l l' s s1 o o2
 out_works fronts stand clients link now what l l' s s1 o o1 o2 bytes commits safe is_bytes roomy within unfailed sends =
     let n : ℕ = l.session.number in
@@ -188,8 +209,10 @@ out_works fronts stand clients link now what l l' s s1 o o1 o2 bytes commits saf
     }
 
 -- behind an output the session may go on
-pub out_able : (clients : Meaning) (link now : ℕ) (what : Out) (l l' : Link) (s s1 : StoreValue) (o o1 o2 : Outside) (bytes : List ℕ) → IsAble clients link l.session s o
-    → Commits clients (out_batch l.session.number now what ∷ []) s s1 o o1 → SendsOn link bytes l l' o1 o2 → IsAble clients link l'.session s1 o2
+pub out_able : (clients : Meaning) (link now : ℕ) (what : Out) (l l' : Link) (s s1 : StoreValue)
+    (o o1 o2 : Outside) (bytes : List ℕ) → IsAble clients link l.session s o
+    → Commits clients (out_batch l.session.number now what ∷ []) s s1 o o1
+    → SendsOn link bytes l l' o1 o2 → IsAble clients link l'.session s1 o2
 out_able clients link now what l l' s s1 o o1 o2 bytes able commits sends =
     let known : session_at s1.state.facts.sessions l.session.number ≡ Some l.session = ap (λ (f : Facts). session_at f.sessions l.session.number) commits.facts ∙ able.known in
     record {
@@ -201,26 +224,35 @@ out_able clients link now what l l' s s1 o o1 o2 bytes able commits sends =
 
 -- ---- the same of the batch that was made
 
-pub put_works : FrontsHaveFronts → ImagesStand → (clients : Meaning) (link now : ℕ) (what : Out) (l l' : Link) (s s1 : StoreValue) (o o1 o2 : Outside) (bytes : List ℕ) (batch : List Entry)
-    → batch ≡ out_batch l.session.number now what → Commits clients (batch ∷ []) s s1 o o1 → CommitsSafe clients batch s s1 o o1
-    → bytes ≡ spelled (records_of s.state.facts.held what) → s1.end + room_of s1.state.facts ≤ most_bytes → link < o.links.dialled → l.end ≢ link_end.Failed
+pub put_works : FrontsHaveFronts → ImagesStand → (clients : Meaning) (link now : ℕ) (what : Out)
+    (l l' : Link) (s s1 : StoreValue) (o o1 o2 : Outside) (bytes : List ℕ) (batch : List Entry)
+    → batch ≡ out_batch l.session.number now what → Commits clients (batch ∷ []) s s1 o o1
+    → CommitsSafe clients batch s s1 o o1
+    → bytes ≡ spelled (records_of s.state.facts.held what)
+    → s1.end + room_of s1.state.facts ≤ MAX_JOURNAL → link < o.links.dialled
+    → l.end ≢ link_end.Failed
     → SendsOn link bytes l l' o1 o2 → Works clients link [] [] l l' s s1 o o2
 put_works fronts stand clients link now what l l' s s1 o o1 o2 bytes batch is commits safe =
     out_works fronts stand clients link now what l l' s s1 o o1 o2 bytes (subst (λ (b : List Entry). Commits clients (b ∷ []) s s1 o o1) is commits)
     (subst (λ (b : List Entry). CommitsSafe clients b s s1 o o1) is safe)
 
-pub put_able : (clients : Meaning) (link now : ℕ) (what : Out) (l l' : Link) (s s1 : StoreValue) (o o1 o2 : Outside) (bytes : List ℕ) (batch : List Entry)
-    → batch ≡ out_batch l.session.number now what → IsAble clients link l.session s o → Commits clients (batch ∷ []) s s1 o o1 → SendsOn link bytes l l' o1 o2 → IsAble clients link l'.session s1 o2
+pub put_able : (clients : Meaning) (link now : ℕ) (what : Out) (l l' : Link) (s s1 : StoreValue)
+    (o o1 o2 : Outside) (bytes : List ℕ) (batch : List Entry)
+    → batch ≡ out_batch l.session.number now what → IsAble clients link l.session s o
+    → Commits clients (batch ∷ []) s s1 o o1 → SendsOn link bytes l l' o1 o2
+    → IsAble clients link l'.session s1 o2
 put_able clients link now what l l' s s1 o o1 o2 bytes batch is able commits =
     out_able clients link now what l l' s s1 o o1 o2 bytes able (subst (λ (b : List Entry). Commits clients (b ∷ []) s s1 o o1) is commits)
 
-pub put_stays : (clients : Meaning) (link now : ℕ) (what : Out) (l : Link) (s s1 : StoreValue) (o o1 : Outside) (batch : List Entry) → batch ≡ out_batch l.session.number now what
+pub put_stays : (clients : Meaning) (link now : ℕ) (what : Out) (l : Link) (s s1 : StoreValue)
+    (o o1 : Outside) (batch : List Entry) → batch ≡ out_batch l.session.number now what
     → CommitsSafe clients batch s s1 o o1 → StaysSafe clients link [] l s s1 o o1
 put_stays clients link now what l s s1 o o1 batch is safe =
     let safely : CommitsSafe clients (out_batch l.session.number now what) s s1 o o1 = subst (λ (b : List Entry). CommitsSafe clients b s s1 o o1) is safe in
     record { safe = λ joined b plans number was. safely b plans plans (front_same plans plans refl) (λ told. omega (arith, number)) was }
 
-pub put_waits : (link : ℕ) (bytes : List ℕ) (l l' : Link) (o o' : Outside) → SendsOn link bytes l l' o o' → Waits l → Waits l'
+pub put_waits : (link : ℕ) (bytes : List ℕ) (l l' : Link) (o o' : Outside)
+    → SendsOn link bytes l l' o o' → Waits l → Waits l'
 put_waits link bytes l l' o o' sends waits going = elim (kept_by sends.result l l' sends.ends) [
   | inl same ↦ subst (λ (x : Link). AwaitsBytes x.reader) (sym same) (waits (ap (λ (x : Link). x.end) (sym same) ∙ going))
   | inr failed ↦ absurd (let e : link_end.Failed ≡ link_end.Going = sym (ap (λ (x : Link). x.end) failed) ∙ going in cc)
@@ -233,7 +265,9 @@ may_unfailed link_end.Going may = λ failed. cc
 may_unfailed link_end.Clean may = λ failed. cc
 may_unfailed _ may = absurd may
 
-pub failed_then : (link : ℕ) (bytes : List ℕ) (l l' : Link) (o o' : Outside) → SendsOn link bytes l l' o o' → l.end ≡ link_end.Going → (MaySend l'.end → ⊥) → l'.end ≡ link_end.Failed
+pub failed_then : (link : ℕ) (bytes : List ℕ) (l l' : Link) (o o' : Outside)
+    → SendsOn link bytes l l' o o' → l.end ≡ link_end.Going → (MaySend l'.end → ⊥)
+    → l'.end ≡ link_end.Failed
 failed_then link bytes l l' o o' sends going closed = elim (kept_by sends.result l l' sends.ends) [
   | inl same ↦ absurd (closed (subst MaySend (sym (ap (λ (x : Link). x.end) same ∙ going)) tt))
   | inr failed ↦ ap (λ (x : Link). x.end) failed

@@ -1,12 +1,12 @@
--- The three kinds of step that keep a run safe: batches of the run that a store commits; calls that send nothing; and a send of
--- what the journal has as output.
-use Rattle.std.proofs.Common.{◌≡◌, ◌⊎◌, ℕ, ◌+◌, ◌<◌, ◌≤◌, false, List, [], ◌++◌, take, length, refl, sym, ap, ◌∙◌, subst, inl, inr, arith, true, Option, Some, None, Result, is_some, slice_index_or}
+-- The three kinds of step that keep a run safe: batches of the run that a store commits; calls that
+-- send nothing; and a send of what the journal has as output.
+use Rattle.std.proofs.Common.{◌≡◌, ◌⊎◌, ℕ, zero, suc, ◌+◌, ◌<◌, ◌≤◌, false, List, [], ◌∷◌, ◌++◌, map, take, length, refl, sym, ap, ◌∙◌, subst, inl, inr, arith, true, Option, Some, None, Result, is_some, slice_index_or}
+use Rattle.std.specs.Option.{option_map}
 use Rattle.std.proofs.lemmas.Bool.{cases_eq}
 use Rattle.outside.specs.declared.failed.Failed.{Failed}
-use Rattle.outside.specs.Files.{Two, File}
-use Rattle.outside.specs.Frames.{most_bytes}
+use Rattle.outside.specs.Files.{Two, File, read_files}
 use Rattle.outside.specs.Host.{Sends, SendsPart}
-use Rattle.outside.specs.Links.{Links, sent_of}
+use Rattle.outside.specs.Links.{Link, Links, sent_of, with_sent}
 use Rattle.outside.specs.Outside.{Outside, Moment, DiskRun, LinkCall, QuietCall}
 use Rattle.outside.specs.Runs.{IsFront, LinksGrow, Told, front_bytes, front_same, front_then, grow_same, grow_send, others_send, quiet_moments, send_moments, sent_at, went_out, sent_at-with_sent}
 use Rattle.record_grammar.specs.Laws.{FrontsHaveFronts}
@@ -15,12 +15,13 @@ use Rattle.sync_rules.specs.Clients.{Meaning}
 use Rattle.sync_rules.specs.Facts.{facts}
 use Rattle.sync_rules.specs.Legal.{Legal}
 use Rattle.entry_codec.specs.Standing.{room_of}
+use Rattle.outside.specs.declared.limits.TheConstants.{MAX_JOURNAL}
 use Rattle.sync_store.specs.Store.{StoreValue}
-use Rattle.sync_store.specs.Fitting.{Fits, ImagesStand}
+use Rattle.sync_store.specs.Fitting.{Fits, FitsSome, ImagesStand}
 use Rattle.sync_store.specs.Moments.{JournalMoment, Leads}
-use Rattle.sync_node.specs.Going.{Goes}
+use Rattle.sync_node.specs.Going.{Goes, specs_of}
 use Rattle.sync_node.specs.Output.{AreOutput, Journal, heard_on, output, sent_on}
-use Rattle.sync_node.specs.Safe.{Begin, IsCovered, IsEarly, Safe}
+use Rattle.sync_node.specs.Safe.{Begin, IsCovered, IsCoveredNow, IsEarly, Safe, read_now}
 use Rattle.sync_node.specs.Starting.{HasOutput}
 use Rattle.sync_node.specs.Suits.{SuitsRun}
 use Rattle.sync_node.proofs.Fronts.{front_taken}
@@ -29,50 +30,129 @@ use Rattle.sync_node.proofs.SuitLaws.{Grows, HearsMore, outputs_grown, suits_gro
 -- ---- what is told before a run
 
 pub goes_none : (o : Outside) → Goes o o
-goes_none o = record { same_files = refl; later = omega arith; links = grow_same o.links o.links refl }
+goes_none o = record {
+  same_files = refl;
+  later = omega arith;
+  links = grow_same o.links o.links refl;
+  same_dialled = refl;
+  same_specs = refl;
+  clock = λ two files. omega arith;
+}
 
-pub goes_disk : (o o' : Outside) → DiskRun o o' → Goes o o'
-goes_disk o o' run = record { same_files = run.same_told; later = run.later; links = grow_same o.links o'.links run.same_links }
+pub goes_disk : (o o' : Outside) → DiskRun o o'
+    → ((two : Two File) → o.files ≡ Some two → o.clock ≤ o'.clock) → Goes o o'
+goes_disk o o' run clock = record {
+  same_files = run.same_told;
+  later = run.later;
+  links = grow_same o.links o'.links run.same_links;
+  same_dialled = ap (λ (l : Links). l.dialled) run.same_links;
+  same_specs = ap (λ (l : Links). specs_of l.told) run.same_links;
+  clock = clock;
+}
 
-pub goes_link : (during : Moment → Type 0) (o o' : Outside) → LinkCall during o o' → LinksGrow o.links o'.links → Goes o o'
-goes_link during o o' call grows = record { same_files = ap is_some call.same_files; later = omega (arith, call.same_faults); links = grows }
+-- a run of a store's calls
+pub goes_led : (clients : Meaning) (s s' : StoreValue) (o o' : Outside)
+    (P Q : Journal → Journal → Type 0) → FitsSome clients s o.files → DiskRun o o'
+    → ((two : Two File) → o.files ≡ Some two → (j : Journal) → Fits clients s j two → Leads clients (P j) (Q j) s' o o') → Goes o o'
+goes_led clients s s' o o' P Q fits run leads =
+    goes_disk o o' run (λ two files. let fit = fits two files in (leads two files fit.0 fit.1).moments.later)
+
+pub goes_link : (during : Moment → Type 0) (o o' : Outside) → LinkCall during o o'
+    → LinksGrow o.links o'.links → o'.links.dialled ≡ o.links.dialled
+    → specs_of o'.links.told ≡ specs_of o.links.told → Goes o o'
+goes_link during o o' call grows dialled specs = record {
+  same_files = ap is_some call.same_files;
+  later = omega (arith, call.same_faults);
+  links = grows;
+  same_dialled = dialled;
+  same_specs = specs;
+  clock = λ two files. call.time.later;
+}
+
+-- bytes that are sent leave the specs
+specs_sent : (link : ℕ) (bytes : List ℕ) (links : List Link)
+    → map (λ (l : Link). l.spec) (with_sent link bytes links) ≡ map (λ (l : Link). l.spec) links
+specs_sent link bytes [] = refl
+specs_sent zero bytes (l ∷ links) = refl
+specs_sent (suc link) bytes (l ∷ links) =
+    ap (λ (specs : List (List ℕ)). l.spec ∷ specs) (specs_sent link bytes links)
+
+pub specs_told : (link : ℕ) (bytes : List ℕ) (told : Option (List Link))
+    → specs_of (option_map (with_sent link bytes) told) ≡ specs_of told
+specs_told link bytes None = refl
+specs_told link bytes (Some links) = ap Some (specs_sent link bytes links)
 
 told_both : {A : Type 0} (o : Option A) → is_some o ≡ true → (a : A) × (o ≡ Some a)
 told_both None is = cc
 told_both (Some a) is = (a, refl)
 
-pub told_before : (o o' : Outside) → Goes o o' → Told o' → Told o
-told_before o o' goes told =
-    let files = told_both o.files (sym goes.same_files ∙ ap is_some told.files_are) in
-    let links = told_both o.links.told (sym goes.links.same_told ∙ ap is_some told.links_are) in
-    let heard = told_both o.links.heard (sym goes.links.same_heard ∙ ap is_some told.heard_are) in
+pub told_by : (o o' : Outside) → is_some o'.files ≡ is_some o.files → LinksGrow o.links o'.links
+    → Told o' → Told o
+told_by o o' same_files grows told =
+    let files = told_both o.files (sym same_files ∙ ap is_some told.files_are) in
+    let links = told_both o.links.told (sym grows.same_told ∙ ap is_some told.links_are) in
+    let heard = told_both o.links.heard (sym grows.same_heard ∙ ap is_some told.heard_are) in
     record { two = files.0; files_are = files.1; links = links.0; links_are = links.1; heard = heard.0; heard_are = heard.1 }
+
+pub told_before : (o o' : Outside) → Goes o o' → Told o' → Told o
+told_before o o' goes told = told_by o o' goes.same_files goes.links told
+
+-- where calls on the disk alone were made
+pub told_disk : (o o' : Outside) → DiskRun o o' → Told o' → Told o
+told_disk o o' run told =
+    told_by o o' run.same_told (grow_same o.links o'.links run.same_links) told
 
 pub heard_more : (old new : Links) → LinksGrow old new → HearsMore (heard_on old) (heard_on new)
 heard_more old new grows link = front_bytes _ _ (grows.answers link)
 
 -- ---- moments that are covered
 
-pub covered_more : FrontsHaveFronts → (clients : Meaning) (b : Begin) (plans plans' : List Session) (heard heard' : ℕ → List ℕ) → IsFront plans plans' → HearsMore heard heard' → (m : Moment)
-    → IsEarly b m ⊎ IsCovered clients b plans heard m → IsEarly b m ⊎ IsCovered clients b plans' heard' m
+pub covered_wide : FrontsHaveFronts → (clients : Meaning) (b : Begin) (plans plans' : List Session)
+    (heard heard' : ℕ → List ℕ) → IsFront plans plans' → HearsMore heard heard' → (m : Moment)
+    → IsCovered clients b plans heard m → IsCovered clients b plans' heard' m
+covered_wide fronts clients b plans plans' heard heard' more hears m covered = record {
+  whole = covered.whole;
+  stands_for = covered.stands_for;
+  suits = suits_more fronts clients b.journal b.first plans plans' heard heard' more hears covered.whole covered.suits;
+  has_sent = covered.has_sent;
+}
+
+pub covered_more : FrontsHaveFronts → (clients : Meaning) (b : Begin) (plans plans' : List Session)
+    (heard heard' : ℕ → List ℕ) → IsFront plans plans' → HearsMore heard heard' → (m : Moment)
+    → IsEarly b m ⊎ IsCovered clients b plans heard m
+    → IsEarly b m ⊎ IsCovered clients b plans' heard' m
 covered_more fronts clients b plans plans' heard heard' more hears m kind = elim kind [
   | inl early ↦ inl early
-  | inr covered ↦ inr (record {
-    whole = covered.whole;
-    stands_for = covered.stands_for;
-    suits = suits_more fronts clients b.journal b.first plans plans' heard heard' more hears covered.whole covered.suits;
-    has_sent = covered.has_sent;
-  })
+  | inr covered ↦ inr (covered_wide fronts clients b plans plans' heard heard' more hears m covered)
 ]
+
+-- the files as they read are covered, where the disk fits the store
+pub covered_now : (clients : Meaning) (b : Begin) (plans : List Session) (heard : ℕ → List ℕ)
+    (s : StoreValue) (two : Two File) (o : Outside)
+    → IsCoveredNow clients b plans heard (sent_on o.links) s two
+    → IsCovered clients b plans heard (read_now two o)
+covered_now clients b plans heard s two o now = record { whole = now.whole; stands_for = now.fits.stands_for; suits = now.suits; has_sent = now.has_sent }
+
+-- they are those of a moment since each clock value
+reads_since : (o : Outside) (two : Two File) (t : ℕ) → t ≤ o.clock → o.files ≡ Some two
+    → o.moments t (read_now two o)
+reads_since o two t since files =
+    let m : Moment = read_now two o in
+    o.since t m since (o.is_now two m files (record { image = o.reads two files; sent = refl }))
 
 -- ---- batches of the run
 
 -- each journal of these goes on from the one before by batches of the run
-abbrev pub AllGrow : Meaning → ℕ → List Session → (ℕ → List ℕ) → StoreValue → (Journal → Journal → Type 0) → Type 0
-AllGrow clients first plans heard s P = (j whole : Journal) → Legal clients j → facts j ≡ s.state.facts → P j whole → Grows clients first plans heard j whole
+abbrev pub AllGrow : Meaning → ℕ → List Session → (ℕ → List ℕ) → StoreValue
+    → (Journal → Journal → Type 0) → Type 0
+AllGrow clients first plans heard s P =
+    (j whole : Journal) → Legal clients j → facts j ≡ s.state.facts → P j whole
+    → Grows clients first plans heard j whole
 
-moment_covered : (clients : Meaning) (b : Begin) (plans : List Session) (heard : ℕ → List ℕ) (j : Journal) (links : Links) (P : Journal → Type 0) (m : Moment)
-    → ((whole : Journal) → P whole → Grows clients b.first plans heard j whole) → SuitsRun clients b.journal b.first plans heard j → AreOutput j b.first (sent_on links)
+moment_covered : (clients : Meaning) (b : Begin) (plans : List Session) (heard : ℕ → List ℕ)
+    (j : Journal) (links : Links) (P : Journal → Type 0) (m : Moment)
+    → ((whole : Journal) → P whole → Grows clients b.first plans heard j whole)
+    → SuitsRun clients b.journal b.first plans heard j → AreOutput j b.first (sent_on links)
     → JournalMoment clients P (sent_of links.told) m → IsCovered clients b plans heard m
 moment_covered clients b plans heard j links P m grow suits sent jm =
     let grows = grow jm.whole jm.has in
@@ -84,14 +164,15 @@ moment_covered clients b plans heard j links P m grow suits sent jm =
       has_sent = λ link. subst (λ (l : List ℕ). IsFront l (output jm.whole (b.first + link))) (sym (ap (λ (s : List (List ℕ)). slice_index_or s link []) jm.nothing_sent)) (has link);
     }
 
-pub safe_store : FrontsHaveFronts → (clients : Meaning) (b : Begin) (plans plans' : List Session) (s s' : StoreValue) (o o' : Outside) (P Q : Journal → Journal → Type 0)
+pub safe_store : FrontsHaveFronts → (clients : Meaning) (b : Begin) (plans plans' : List Session)
+    (s s' : StoreValue) (o o' : Outside) (P Q : Journal → Journal → Type 0)
     → IsFront plans plans' → s.closed ≡ false → DiskRun o o'
     → ((two : Two File) → o.files ≡ Some two → (j : Journal) → Fits clients s j two → Leads clients (P j) (Q j) s' o o')
     → (Told o → AllGrow clients b.first plans' (heard_on o.links) s P)
     → (Told o → AllGrow clients b.first plans' (heard_on o.links) s Q)
     → Safe clients b plans s o → Safe clients b plans' s' o'
 safe_store fronts clients b plans plans' s s' o o' P Q more opened run leads grow_moments grow_end safe =
-    let back : Told o' → Told o = told_before o o' (goes_disk o o' run) in
+    let back : Told o' → Told o = told_disk o o' run in
     let hears : HearsMore (heard_on o.links) (heard_on o'.links) = heard_more o.links o'.links (grow_same o.links o'.links run.same_links) in
     let same : HearsMore (heard_on o.links) (heard_on o.links) = λ link. front_same _ _ refl in
     let none : IsFront plans' plans' = front_same plans' plans' refl in
@@ -113,6 +194,16 @@ safe_store fronts clients b plans plans' s s' o o' P Q more opened run leads gro
                 (inr (moment_covered clients b plans' (heard_on o.links) now.whole o.links (P now.whole) m
                 (λ whole has. grow_moments told now.whole whole now.fits.legal now.fits.facts_are has) suits now.has_sent during))
           ];
+      reads = λ told'.
+          let told = back told' in
+          let now = safe.now opened told in
+          let led = leads told.two told.files_are now.whole now.fits in
+          let suits = suits_more fronts clients b.journal b.first plans plans' _ _ more same now.whole now.suits in
+          let m : Moment = read_now told'.two o' in
+          covered_wide fronts clients b plans' plans' _ _ none hears m
+          (moment_covered clients b plans' (heard_on o.links) now.whole o.links (P now.whole) m
+          (λ whole has. grow_moments told now.whole whole now.fits.legal now.fits.facts_are has) suits now.has_sent
+          (led.moments.each m (reads_since o' told'.two o.clock led.moments.later told'.files_are)));
       now = λ opened' told'.
           let told = back told' in
           let now = safe.now opened told in
@@ -132,10 +223,11 @@ safe_store fronts clients b plans plans' s s' o o' P Q more opened run leads gro
 
 -- ---- calls that send nothing
 
-pub safe_calm : FrontsHaveFronts → (clients : Meaning) (b : Begin) (plans : List Session) (s : StoreValue) (o o' : Outside) → QuietCall o o' → LinksGrow o.links o'.links
+pub safe_calm : FrontsHaveFronts → (clients : Meaning) (b : Begin) (plans : List Session)
+    (s : StoreValue) (o o' : Outside) → QuietCall o o' → LinksGrow o.links o'.links
     → o'.links.told ≡ o.links.told → Safe clients b plans s o → Safe clients b plans s o'
 safe_calm fronts clients b plans s o o' call grows same_told safe =
-    let back : Told o' → Told o = told_before o o' (goes_link _ o o' call grows) in
+    let back : Told o' → Told o = told_by o o' (ap is_some call.same_files) grows in
     let hears : HearsMore (heard_on o.links) (heard_on o'.links) = heard_more o.links o'.links grows in
     let none : IsFront plans plans = front_same plans plans refl in
     record {
@@ -148,6 +240,14 @@ safe_calm fronts clients b plans s o o' call grows same_told safe =
                 safe.moments told m
                 (o.since b.clock m (safe.later told) (o.is_now told.two m told.files_are (quiet_moments o o' told.two call same_told told.files_are m during)))
           ]);
+      reads = λ told'.
+          let told = back told' in
+          let two : told'.two ≡ told.two = cc (told'.files_are, told.files_are, call.same_files) in
+          let same : read_now told'.two o' ≡ read_now told.two o =
+          ap (λ (t : Two File). record { files = read_files t; sent = sent_of o'.links.told }) two
+          ∙ ap (λ (sent : List (List ℕ)). record { files = read_files told.two; sent = sent }) (ap sent_of same_told) in
+          subst (λ (m : Moment). IsCovered clients b plans (heard_on o'.links) m) (sym same)
+          (covered_wide fronts clients b plans plans _ _ none hears (read_now told.two o) (safe.reads told));
       now = λ opened told'.
           let told = back told' in
           let now = safe.now opened told in
@@ -162,16 +262,39 @@ safe_calm fronts clients b plans s o o' call grows same_told safe =
 
 -- ---- a send
 
-pub safe_send : FrontsHaveFronts → ImagesStand → (clients : Meaning) (b : Begin) (plans : List Session) (s : StoreValue) (o o' : Outside) (link : ℕ) (bytes : List ℕ) (result : Result (Unit {0}) Failed)
-    → s.closed ≡ false → s.end + room_of s.state.facts ≤ most_bytes → link < o.links.dialled
-    → LinkCall (SendsPart o link bytes) o o' → Sends link bytes result o.links o'.links → HasOutput clients (b.first + link) link bytes s o
+pub safe_send : FrontsHaveFronts → ImagesStand → (clients : Meaning) (b : Begin)
+    (plans : List Session) (s : StoreValue) (o o' : Outside) (link : ℕ) (bytes : List ℕ)
+    (result : Result (Unit {0}) Failed)
+    → s.closed ≡ false → s.end + room_of s.state.facts ≤ MAX_JOURNAL → link < o.links.dialled
+    → LinkCall (SendsPart o link bytes) o o' → Sends link bytes result o.links o'.links
+    → HasOutput clients (b.first + link) link bytes s o
     → Safe clients b plans s o → Safe clients b plans s o'
 safe_send fronts stand clients b plans s o o' link bytes result opened roomy within call sends output_has safe =
-    let back : Told o' → Told o = told_before o o' (goes_link _ o o' call (grow_send link bytes result o.links o'.links sends)) in
+    let back : Told o' → Told o = told_by o o' (ap is_some call.same_files) (grow_send link bytes result o.links o'.links sends) in
     let hears : HearsMore (heard_on o.links) (heard_on o'.links) = heard_more o.links o'.links (grow_send link bytes result o.links o'.links sends) in
     let none : IsFront plans plans = front_same plans plans refl in
     let here : (told : Told o) (n : ℕ) (whole : Journal) → Fits clients s whole told.two → IsFront (sent_on o.links link ++ take n bytes) (output whole (b.first + link)) =
     λ told n whole fits. front_then _ _ _ (front_taken n (sent_on o.links link) bytes) (output_has told whole fits) in
+    let behind : s.closed ≡ false → (told' : Told o') → IsCoveredNow clients b plans (heard_on o'.links) (sent_on o'.links) s told'.two =
+    λ opened' told'.
+    let told = back told' in
+    let now = safe.now opened told in
+    let two : told'.two ≡ told.two = cc (told'.files_are, told.files_are, call.same_files) in
+    let out = went_out link bytes result o.links o'.links sends in
+    let inside : link < length told.links = omega (arith, within, o.all_told told.links told.links_are) in
+    let went : sent_on o'.links link ≡ sent_on o.links link ++ take out.0 bytes = ap (λ t. sent_at t link) out.1 ∙ sent_at-with_sent o.links.told told.links link (take out.0 bytes) told.links_are inside in
+    record {
+      whole = now.whole;
+      fits = subst (λ (t : Two File). Fits clients s now.whole t) (sym two) now.fits;
+      suits = suits_more fronts clients b.journal b.first plans plans _ _ none hears now.whole now.suits;
+      has_sent = λ i. elim (cases_eq i link) [
+        | inl is ↦
+            subst (λ (k : ℕ). IsFront (sent_on o'.links k) (output now.whole (b.first + k))) (sym is)
+            (subst (λ (l : List ℕ). IsFront l (output now.whole (b.first + link))) (sym went) (here told out.0 now.whole now.fits))
+        | inr other ↦
+            subst (λ (l : List ℕ). IsFront l (output now.whole (b.first + i))) (sym ((others_send link bytes result o.links o'.links sends).sent i other)) (now.has_sent i)
+      ];
+    } in
     record {
       later = λ told'. omega (arith, safe.later (back told'), call.time.later);
       moments = λ told' m w.
@@ -193,23 +316,6 @@ safe_send fronts stand clients b plans s o o' link bytes result opened roomy wit
                   ];
                 })
           ]);
-      now = λ opened' told'.
-          let told = back told' in
-          let now = safe.now opened told in
-          let two : told'.two ≡ told.two = cc (told'.files_are, told.files_are, call.same_files) in
-          let out = went_out link bytes result o.links o'.links sends in
-          let inside : link < length told.links = omega (arith, within, o.all_told told.links told.links_are) in
-          let went : sent_on o'.links link ≡ sent_on o.links link ++ take out.0 bytes = ap (λ t. sent_at t link) out.1 ∙ sent_at-with_sent o.links.told told.links link (take out.0 bytes) told.links_are inside in
-          record {
-            whole = now.whole;
-            fits = subst (λ (t : Two File). Fits clients s now.whole t) (sym two) now.fits;
-            suits = suits_more fronts clients b.journal b.first plans plans _ _ none hears now.whole now.suits;
-            has_sent = λ i. elim (cases_eq i link) [
-              | inl is ↦
-                  subst (λ (k : ℕ). IsFront (sent_on o'.links k) (output now.whole (b.first + k))) (sym is)
-                  (subst (λ (l : List ℕ). IsFront l (output now.whole (b.first + link))) (sym went) (here told out.0 now.whole now.fits))
-              | inr other ↦
-                  subst (λ (l : List ℕ). IsFront l (output now.whole (b.first + i))) (sym ((others_send link bytes result o.links o'.links sends).sent i other)) (now.has_sent i)
-            ];
-          };
+      reads = λ told'. covered_now clients b plans (heard_on o'.links) s told'.two o' (behind opened told');
+      now = behind;
     }

@@ -4,7 +4,6 @@ use Rattle.std.specs.List.{AllByRecursion, slice_get}
 use Rattle.std.proofs.lemmas.Bool.{ne_eqb}
 use Rattle.outside.specs.declared.failed.Failed.{Failed}
 use Rattle.outside.specs.Files.{Two, File}
-use Rattle.outside.specs.Frames.{most_bytes}
 use Rattle.outside.specs.Host.{Sends}
 use Rattle.outside.specs.Links.{Links}
 use Rattle.outside.specs.Outside.{Outside}
@@ -29,22 +28,23 @@ use Rattle.sync_rules.specs.SessionLaws.{legal_sessions}
 use Rattle.sync_rules.specs.StepKinds.{settled_stays}
 use Rattle.sync_rules.specs.Steps.{IsSettled}
 use Rattle.entry_codec.specs.Standing.{room_of}
+use Rattle.outside.specs.declared.limits.TheConstants.{MAX_JOURNAL}
 use Rattle.sync_store.specs.Store.{StoreValue}
 use Rattle.sync_store.specs.Fitting.{Fits, ImagesStand}
 use Rattle.sync_store.specs.Ready.{IsReady}
 use Rattle.sync_node.specs.declared.link.Link.{Link}
-use Rattle.sync_node.specs.declared.link.LinkEnd.TheVariants as link_end
+use Rattle.sync_course.specs.declared.ends.LinkEnd.TheVariants as link_end
 use Rattle.sync_node.specs.Going.{Commits, Goes}
 use Rattle.sync_node.specs.Joined.{known_nonce}
 use Rattle.sync_node.specs.Output.{Journal, heard_on, output, sent_on}
-use Rattle.sync_node.specs.Safe.{Begin, Safe}
+use Rattle.sync_node.specs.Safe.{Begin, Safe, read_now}
 use Rattle.sync_node.specs.Sending.{EndsBy, SendsOn}
 use Rattle.sync_node.specs.Starting.{Greets, HasOutput, Starts, StartsSafe}
 use Rattle.sync_node.specs.Suits.{IsOfRun}
 use Rattle.sync_node.proofs.CommitLaws.{CommitsSafe}
 use Rattle.sync_node.proofs.Fronts.{front_of_append}
 use Rattle.sync_node.proofs.OutLaws.{goes_send, kept_by, output_with, same_session}
-use Rattle.sync_node.proofs.SafeLaws.{covered_more, safe_send, told_before}
+use Rattle.sync_node.proofs.SafeLaws.{covered_more, covered_wide, safe_send, told_before}
 use Rattle.sync_node.proofs.SuitLaws.{suits_more}
 use Rattle.sync_node.proofs.WorkLaws.{goes_then}
 
@@ -56,14 +56,17 @@ none_long (x ∷ xs) long = absurd (omega arith)
 -- ---- what is sent first
 
 -- the disk fits the store before calls that leave the files as behind them
-same_fits : (clients : Meaning) (s : StoreValue) (o o' : Outside) (goes : Goes o o') → o'.files ≡ o.files → (told : Told o') (whole : Journal) → Fits clients s whole told.two
+same_fits : (clients : Meaning) (s : StoreValue) (o o' : Outside) (goes : Goes o o')
+    → o'.files ≡ o.files → (told : Told o') (whole : Journal) → Fits clients s whole told.two
     → Fits clients s whole (told_before o o' goes told).two
 same_fits clients s o o' goes same told' whole fits =
     let told = told_before o o' goes told' in
     let two : told'.two ≡ told.two = cc (told'.files_are, told.files_are, same) in
     subst (λ (t : Two File). Fits clients s whole t) two fits
 
-pub greets_one : FrontsHaveFronts → ImagesStand → (link : ℕ) (bytes : List ℕ) (l l' : Link) (o o' : Outside) → link < o.links.dialled → SendsOn link bytes l l' o o' → Greets link bytes l l' o o'
+pub greets_one : FrontsHaveFronts → ImagesStand → (link : ℕ) (bytes : List ℕ) (l l' : Link)
+    (o o' : Outside) → link < o.links.dialled → SendsOn link bytes l l' o o'
+    → Greets link bytes l l' o o'
 greets_one fronts stand link bytes l l' o o' within sends =
     let goes = goes_send o o' link bytes l l' sends in
     record {
@@ -78,17 +81,20 @@ greets_one fronts stand link bytes l l' o o' within sends =
       safe = λ clients s b plans opened roomy has was. safe_send fronts stand clients b plans s o o' link bytes sends.result opened roomy within sends.call sends.sends has was;
     }
   where
-    by_result : (result : Result (Unit {0}) Failed) → Sends link bytes result o.links o'.links → EndsBy result l l' → l'.end ≢ link_end.Failed → Told o
+    by_result : (result : Result (Unit {0}) Failed) → Sends link bytes result o.links o'.links
+        → EndsBy result l l' → l'.end ≢ link_end.Failed → Told o
         → sent_on o'.links link ≡ sent_on o.links link ++ bytes
     by_result (Ok u) went ends unfailed told = sent_here o o' link bytes u told within went
     by_result (Err e) went ends unfailed told = absurd (unfailed (ap (λ (x : Link). x.end) ends))
 
 -- bytes whose front was to be sent too
-has_front : (clients : Meaning) (n link : ℕ) (a b : List ℕ) (s : StoreValue) (o : Outside) → HasOutput clients n link (a ++ b) s o → HasOutput clients n link a s o
+has_front : (clients : Meaning) (n link : ℕ) (a b : List ℕ) (s : StoreValue) (o : Outside)
+    → HasOutput clients n link (a ++ b) s o → HasOutput clients n link a s o
 has_front clients n link a b s o has told whole fits =
     front_then _ _ _ (subst (λ (l : List ℕ). IsFront (sent_on o.links link ++ a) l) (append_assoc (sent_on o.links link) a b) (front_of_append (sent_on o.links link ++ a) b)) (has told whole fits)
 
-pub greets_failed : (link : ℕ) (a b : List ℕ) (l l' : Link) (o o' : Outside) → l'.end ≡ link_end.Failed → Greets link a l l' o o' → Greets link (a ++ b) l l' o o'
+pub greets_failed : (link : ℕ) (a b : List ℕ) (l l' : Link) (o o' : Outside)
+    → l'.end ≡ link_end.Failed → Greets link a l l' o o' → Greets link (a ++ b) l l' o o'
 greets_failed link a b l l' o o' failed greets = record {
   goes = greets.goes;
   same_files = greets.same_files;
@@ -101,7 +107,9 @@ greets_failed link a b l l' o o' failed greets = record {
   safe = λ clients s begin plans opened roomy has was. greets.safe clients s begin plans opened roomy (has_front clients (begin.first + link) link a b s o has) was;
 }
 
-pub greets_then : (link : ℕ) (a b : List ℕ) (l l1 l2 : Link) (o o1 o2 : Outside) → l1.end ≢ link_end.Failed → Greets link a l l1 o o1 → Greets link b l1 l2 o1 o2 → Greets link (a ++ b) l l2 o o2
+pub greets_then : (link : ℕ) (a b : List ℕ) (l l1 l2 : Link) (o o1 o2 : Outside)
+    → l1.end ≢ link_end.Failed → Greets link a l l1 o o1 → Greets link b l1 l2 o1 o2
+    → Greets link (a ++ b) l l2 o o2
 greets_then link a b l l1 l2 o o1 o2 unfailed first second = record {
   goes = goes_then o o1 o2 first.goes second.goes;
   same_files = second.same_files ∙ first.same_files;
@@ -122,7 +130,8 @@ greets_then link a b l l1 l2 o o1 o2 unfailed first second = record {
       (first.safe clients s begin plans opened roomy (has_front clients (begin.first + link) link a b s o has) was);
 }
 
-pub greets_alone : (link : ℕ) (a b : List ℕ) (l l' : Link) (o o' : Outside) → b ≡ [] → Greets link a l l' o o' → Greets link (a ++ b) l l' o o'
+pub greets_alone : (link : ℕ) (a b : List ℕ) (l l' : Link) (o o' : Outside) → b ≡ []
+    → Greets link a l l' o o' → Greets link (a ++ b) l l' o o'
 greets_alone link a b l l' o o' none greets =
     subst (λ (bytes : List ℕ). Greets link bytes l l' o o') (sym (ap (λ (l : List ℕ). a ++ l) none ∙ append-nil a)) greets
 
@@ -133,7 +142,8 @@ abbrev pub session_batch : Session → List Entry
 session_batch x = entry.Session x ∷ []
 
 -- no session of a list has a number that all are below
-pub none_below : (n : ℕ) (ss : List Session) → AllByRecursion (λ (s : Session). s.number < n) ss → session_at ss n ≡ None
+pub none_below : (n : ℕ) (ss : List Session) → AllByRecursion (λ (s : Session). s.number < n) ss
+    → session_at ss n ≡ None
 none_below n [] below = refl
 none_below n (s ∷ ss) below =
     let first : s.number < n = below.0 in
@@ -141,19 +151,24 @@ none_below n (s ∷ ss) below =
     ap (λ b. cond b (Some s) (session_at ss n)) (ne_eqb s.number n apart) ∙ none_below n ss below.1
 
 -- a session that has not begun has taken nothing
-untaken : (clients : Meaning) (j : Journal) (x : Session) → Legal clients j → Allowed clients (facts j) (session_batch x) → takes_of (facts j).takes x.number ≡ 0
+untaken : (clients : Meaning) (j : Journal) (x : Session) → Legal clients j
+    → Allowed clients (facts j) (session_batch x) → takes_of (facts j).takes x.number ≡ 0
 untaken clients j x legal allowed =
     let has = legal_sessions clients j legal in
     let is : x.number ≡ (facts j).begun = allowed.2.numbered in
     has.untaken x.number (ap (λ n. session_at (facts j).sessions n) is ∙ none_below (facts j).begun (facts j).sessions has.below)
 
-begins_other : (f : Facts) (x : Session) (other : ℕ) → other ≢ x.number → output_of f other (session_batch x ∷ []) ≡ []
+begins_other : (f : Facts) (x : Session) (other : ℕ) → other ≢ x.number
+    → output_of f other (session_batch x ∷ []) ≡ []
 begins_other f x other apart =
     append-nil _ ∙ (append-nil _ ∙ ap (λ b. cond b (first_records x) []) (ne_eqb x.number other (λ same. apart (sym same))))
 
 -- where nothing was sent before, what is sent first is the whole output
-output_first : (clients : Meaning) (x : Session) (s s1 : StoreValue) (o o1 : Outside) (bytes : List ℕ) → Allowed clients s.state.facts (session_batch x) → Commits clients (session_batch x ∷ []) s s1 o o1
-    → bytes ≡ spelled (first_records x) → (told : Told o1) (whole : Journal) → Fits clients s1 whole told.two → output whole x.number ≡ bytes
+output_first : (clients : Meaning) (x : Session) (s s1 : StoreValue) (o o1 : Outside)
+    (bytes : List ℕ) → Allowed clients s.state.facts (session_batch x)
+    → Commits clients (session_batch x ∷ []) s s1 o o1
+    → bytes ≡ spelled (first_records x) → (told : Told o1) (whole : Journal)
+    → Fits clients s1 whole told.two → output whole x.number ≡ bytes
 unfolding output
 output_first clients x s s1 o o1 bytes allowed commits is_bytes told1 whole fits =
     let from = commits.goes_on told1 whole fits in
@@ -176,8 +191,10 @@ nothing_recorded : records_of [] ≡ []
 unfolding records_of
 nothing_recorded = refl
 
-pub starts : (clients : Meaning) (link : ℕ) (x begun : Session) (reader : ReaderState) (l0 l : Link) (s s1 : StoreValue) (o o1 o2 : Outside) (bytes : List ℕ)
-    → IsSettled clients s.state.facts → Allowed clients s.state.facts (session_batch x) → Commits clients (session_batch x ∷ []) s s1 o o1 → bytes ≡ spelled (first_records x)
+pub starts : (clients : Meaning) (link : ℕ) (x begun : Session) (reader : ReaderState)
+    (l0 l : Link) (s s1 : StoreValue) (o o1 o2 : Outside) (bytes : List ℕ)
+    → IsSettled clients s.state.facts → Allowed clients s.state.facts (session_batch x)
+    → Commits clients (session_batch x ∷ []) s s1 o o1 → bytes ≡ spelled (first_records x)
     → Some begun ≡ session_at s1.state.facts.sessions x.number → begun.number ≡ x.number
     → l0.session ≡ begun → l0.reader ≡ fresh → l0.nonce ≡ begun.nonce → AwaitsBytes fresh
     → Greets link bytes l0 l o1 o2 → Starts clients link x l s s1 o o2
@@ -242,7 +259,9 @@ at_end : {A : Type 0} (xs : List A) (a : A) → slice_get (xs ++ a ∷ []) (leng
 at_end [] a = refl
 at_end (x ∷ xs) a = at_end xs a
 
-pub planned_next : (clients : Meaning) (f : Facts) (b : Begin) (plans : List Session) (heard : ℕ → List ℕ) (x : Session) (link : ℕ) → Allowed clients f (session_batch x) → x.number ≡ b.first + link
+pub planned_next : (clients : Meaning) (f : Facts) (b : Begin) (plans : List Session)
+    (heard : ℕ → List ℕ) (x : Session) (link : ℕ) → Allowed clients f (session_batch x)
+    → x.number ≡ b.first + link
     → length plans ≡ link → IsOfRun b.first (plans ++ x ∷ []) heard f (session_batch x)
 planned_next clients f b plans heard x link allowed number long = record {
   link = link;
@@ -251,10 +270,13 @@ planned_next clients f b plans heard x link allowed number long = record {
 }
 
 -- more sessions may be planned
-pub safe_planned : FrontsHaveFronts → (clients : Meaning) (b : Begin) (plans later : List Session) (s : StoreValue) (o : Outside) → IsFront plans later → Safe clients b plans s o → Safe clients b later s o
+pub safe_planned : FrontsHaveFronts → (clients : Meaning) (b : Begin) (plans later : List Session)
+    (s : StoreValue) (o : Outside) → IsFront plans later → Safe clients b plans s o
+    → Safe clients b later s o
 safe_planned fronts clients b plans later s o more safe = record {
   later = safe.later;
   moments = λ told m w. covered_more fronts clients b plans later (heard_on o.links) (heard_on o.links) more (λ link. front_same _ _ refl) m (safe.moments told m w);
+  reads = λ told. covered_wide fronts clients b plans later (heard_on o.links) (heard_on o.links) more (λ link. front_same _ _ refl) (read_now told.two o) (safe.reads told);
   now = λ opened told.
       let now = safe.now opened told in
       record {
@@ -265,14 +287,17 @@ safe_planned fronts clients b plans later s o more safe = record {
       };
 }
 
-pub starts_as_before : FrontsHaveFronts → (clients : Meaning) (link : ℕ) (x : Session) (s : StoreValue) (o : Outside) → StartsSafe clients link x s s o o
+pub starts_as_before : FrontsHaveFronts → (clients : Meaning) (link : ℕ) (x : Session)
+    (s : StoreValue) (o : Outside) → StartsSafe clients link x s s o o
 starts_as_before fronts clients link x s o = record { safe = λ unused b plans number long was. safe_planned fronts clients b plans (plans ++ x ∷ []) s o (front_of_append plans (x ∷ [])) was }
 
-pub starts_safe : (clients : Meaning) (link : ℕ) (x : Session) (l0 l : Link) (s s1 : StoreValue) (o o1 o2 : Outside) (bytes : List ℕ) → Allowed clients s.state.facts (session_batch x)
+pub starts_safe : (clients : Meaning) (link : ℕ) (x : Session) (l0 l : Link) (s s1 : StoreValue)
+    (o o1 o2 : Outside) (bytes : List ℕ) → Allowed clients s.state.facts (session_batch x)
     → Commits clients (session_batch x ∷ []) s s1 o o1
     → ((b : Begin) (plans later : List Session) → IsFront plans later → (Told o → IsOfRun b.first later (heard_on o.links) s.state.facts (session_batch x))
     → Safe clients b plans s o → Safe clients b later s1 o1)
-    → bytes ≡ spelled (first_records x) → s1.end + room_of s1.state.facts ≤ most_bytes → Greets link bytes l0 l o1 o2 → StartsSafe clients link x s s1 o o2
+    → bytes ≡ spelled (first_records x) → s1.end + room_of s1.state.facts ≤ MAX_JOURNAL
+    → Greets link bytes l0 l o1 o2 → StartsSafe clients link x s s1 o o2
 starts_safe clients link x l0 l s s1 o o1 o2 bytes allowed commits safe is_bytes roomy greets = record {
   safe = λ unused b plans number long was.
       let later : List Session = plans ++ x ∷ [] in
@@ -286,7 +311,8 @@ starts_safe clients link x l0 l s s1 o o1 o2 bytes allowed commits safe is_bytes
       after;
 }
 
-pub starts_failed : (clients : Meaning) (link : ℕ) (x : Session) (s s1 : StoreValue) (o o1 : Outside) → Allowed clients s.state.facts (session_batch x)
+pub starts_failed : (clients : Meaning) (link : ℕ) (x : Session) (s s1 : StoreValue)
+    (o o1 : Outside) → Allowed clients s.state.facts (session_batch x)
     → ((b : Begin) (plans later : List Session) → IsFront plans later → (Told o → IsOfRun b.first later (heard_on o.links) s.state.facts (session_batch x))
     → Safe clients b plans s o → Safe clients b later s1 o1)
     → StartsSafe clients link x s s1 o o1
@@ -297,16 +323,25 @@ starts_failed clients link x s s1 o o1 allowed safe = record {
 
 -- ---- the same of the batch that was made
 
-pub commits_as : (clients : Meaning) (batch batch' : List Entry) (s s1 : StoreValue) (o o1 : Outside) → batch ≡ batch' → Commits clients (batch ∷ []) s s1 o o1 → Commits clients (batch' ∷ []) s s1 o o1
-commits_as clients batch batch' s s1 o o1 is commits = subst (λ (b : List Entry). Commits clients (b ∷ []) s s1 o o1) is commits
+pub commits_as : (clients : Meaning) (batch batch' : List Entry) (s s1 : StoreValue)
+    (o o1 : Outside) → batch ≡ batch' → Commits clients (batch ∷ []) s s1 o o1
+    → Commits clients (batch' ∷ []) s s1 o o1
+commits_as clients batch batch' s s1 o o1 is commits =
+    subst (λ (b : List Entry). Commits clients (b ∷ []) s s1 o o1) is commits
 
-pub commits_safe_as : (clients : Meaning) (batch batch' : List Entry) (s s1 : StoreValue) (o o1 : Outside) → batch ≡ batch' → CommitsSafe clients batch s s1 o o1 → CommitsSafe clients batch' s s1 o o1
-commits_safe_as clients batch batch' s s1 o o1 is safe = subst (λ (b : List Entry). CommitsSafe clients b s s1 o o1) is safe
+pub commits_safe_as : (clients : Meaning) (batch batch' : List Entry) (s s1 : StoreValue)
+    (o o1 : Outside) → batch ≡ batch' → CommitsSafe clients batch s s1 o o1
+    → CommitsSafe clients batch' s s1 o o1
+commits_safe_as clients batch batch' s s1 o o1 is safe =
+    subst (λ (b : List Entry). CommitsSafe clients b s s1 o o1) is safe
 
-pub allowed_as : (clients : Meaning) (f : Facts) (batch batch' : List Entry) → batch ≡ batch' → Allowed clients f batch' → Allowed clients f batch
-allowed_as clients f batch batch' is allowed = subst (λ (b : List Entry). Allowed clients f b) (sym is) allowed
+pub allowed_as : (clients : Meaning) (f : Facts) (batch batch' : List Entry) → batch ≡ batch'
+    → Allowed clients f batch' → Allowed clients f batch
+allowed_as clients f batch batch' is allowed =
+    subst (λ (b : List Entry). Allowed clients f b) (sym is) allowed
 
-pub kind_as : (x : Session) (batch : List Entry) → batch ≡ session_batch x → is_settling_kind batch ≡ false
+pub kind_as : (x : Session) (batch : List Entry) → batch ≡ session_batch x
+    → is_settling_kind batch ≡ false
 kind_as x batch is = ap is_settling_kind is
 
 -- a session that was committed is there
@@ -321,13 +356,17 @@ session_there (y ∷ ss) x none =
       | false ↦ λ is. session_there ss x is
     ] none
 
-pub session_found : (clients : Meaning) (x : Session) (batch : List Entry) (s s1 : StoreValue) (o o1 : Outside) → batch ≡ session_batch x → Commits clients (batch ∷ []) s s1 o o1
+pub session_found : (clients : Meaning) (x : Session) (batch : List Entry) (s s1 : StoreValue)
+    (o o1 : Outside) → batch ≡ session_batch x → Commits clients (batch ∷ []) s s1 o o1
     → None ≡ session_at s1.state.facts.sessions x.number → ⊥
 session_found clients x batch s s1 o o1 is commits none =
     let first = commits_as clients batch (session_batch x) s s1 o o1 is commits in
     session_there s.state.facts.sessions x (sym (none ∙ ap (λ (f : Facts). session_at f.sessions x.number) first.facts))
 
 -- what is spelled is what the session begins with
-pub first_bytes : (x : Session) (versions priority : List ℕ) → versions ≡ spelling (record_kind.Versions (0 ∷ [])) → priority ≡ spelled (nonce_record x.nonce)
+pub first_bytes : (x : Session) (versions priority : List ℕ)
+    → versions ≡ spelling (record_kind.Versions (0 ∷ []))
+    → priority ≡ spelled (nonce_record x.nonce)
     → versions ++ priority ≡ spelled (first_records x)
-first_bytes x versions priority is also = ap (λ (v : List ℕ). v ++ priority) is ∙ ap (λ (p : List ℕ). spelling (record_kind.Versions (0 ∷ [])) ++ p) also
+first_bytes x versions priority is also =
+    ap (λ (v : List ℕ). v ++ priority) is ∙ ap (λ (p : List ℕ). spelling (record_kind.Versions (0 ∷ [])) ++ p) also

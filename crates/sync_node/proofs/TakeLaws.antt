@@ -30,7 +30,7 @@ use Rattle.sync_rules.specs.Sessions.{taken_from}
 use Rattle.sync_store.specs.Store.{StoreValue}
 use Rattle.sync_store.specs.Fitting.{Fits}
 use Rattle.sync_node.specs.declared.link.Link.{Link}
-use Rattle.sync_node.specs.declared.link.LinkEnd.TheVariants as link_end
+use Rattle.sync_course.specs.declared.ends.LinkEnd.TheVariants as link_end
 use Rattle.sync_node.specs.Going.{Commits, Settles}
 use Rattle.sync_node.specs.Hearing.{Learns, nonce_with}
 use Rattle.sync_node.specs.Joined.{IsAllSent, IsJoined, first_nonce, known_nonce}
@@ -46,12 +46,15 @@ use Rattle.sync_node.proofs.WorkLaws.{goes_then, works_link}
 
 -- ---- a record sends nothing
 
-pub settling_adds : (clients : Meaning) (f : Facts) (n : ℕ) (bs : Journal) → AllSettling clients f bs → output_of f n bs ≡ []
+pub settling_adds : (clients : Meaning) (f : Facts) (n : ℕ) (bs : Journal)
+    → AllSettling clients f bs → output_of f n bs ≡ []
 settling_adds clients f n [] settling = refl
 settling_adds clients f n (b ∷ bs) settling =
     ap (λ (rs : List Record). rs ++ output_of (after_all f b) n bs) (silent_adds_nothing f n b (settling_silent clients f b settling.0.2)) ∙ settling_adds clients (after_all f b) n bs settling.1
 
-take_adds : (clients : Meaning) (f : Facts) (session : Session) (r : Record) (n : ℕ) (more : Journal) → Allowed clients f (next_take f session r) → AllSettling clients (after_all f (next_take f session r)) more
+take_adds : (clients : Meaning) (f : Facts) (session : Session) (r : Record) (n : ℕ)
+    (more : Journal) → Allowed clients f (next_take f session r)
+    → AllSettling clients (after_all f (next_take f session r)) more
     → output_of f n (next_take f session r ∷ more) ≡ []
 take_adds clients f session r n more allowed settling =
     ap (λ (rs : List Record). rs ++ output_of (after_all f (next_take f session r)) n more)
@@ -59,14 +62,17 @@ take_adds clients f session r n more allowed settling =
     ∙ settling_adds clients (after_all f (next_take f session r)) n more settling
 
 -- the journal behind the record has the output that it had before
-record HasSameOutput (clients : Meaning) (s : StoreValue) (o : Outside) (whole : Journal) : Type 0 where
+record HasSameOutput (clients : Meaning) (s : StoreValue) (o : Outside)
+    (whole : Journal) : Type 0 where
   told : Told o
   before : Journal
   fits : Fits clients s before told.two
   same : (n : ℕ) → output whole n ≡ output before n
 
-take_silently : (clients : Meaning) (session : Session) (r : Record) (s s' : StoreValue) (o o' : Outside) → TakesOn clients session r s s' o o'
-    → (told : Told o') (whole : Journal) → Fits clients s' whole told.two → HasSameOutput clients s o whole
+take_silently : (clients : Meaning) (session : Session) (r : Record) (s s' : StoreValue)
+    (o o' : Outside) → TakesOn clients session r s s' o o'
+    → (told : Told o') (whole : Journal) → Fits clients s' whole told.two
+    → HasSameOutput clients s o whole
 take_silently clients session r s s' o o' takes told' whole fits =
     let from = takes.commits.goes_on told' whole fits in
     let none : (n : ℕ) → output_of (facts from.before) n (next_take s.state.facts session r ∷ takes.more) ≡ [] =
@@ -82,25 +88,29 @@ take_silently clients session r s s' o o' takes told' whole fits =
 
 -- ---- what is counted
 
-settled_only : (clients : Meaning) (session : Session) (r : Record) (s s' : StoreValue) (o o' : Outside) → TakesOn clients session r s s' o o'
+settled_only : (clients : Meaning) (session : Session) (r : Record) (s s' : StoreValue)
+    (o o' : Outside) → TakesOn clients session r s s' o o'
     → OnlySettles (after_all s.state.facts (next_take s.state.facts session r)) s'.state.facts
 settled_only clients session r s s' o o' takes =
     subst (λ (f : Facts). OnlySettles (after_all s.state.facts (next_take s.state.facts session r)) f) (sym takes.commits.facts)
     (all_settling_only clients (after_all s.state.facts (next_take s.state.facts session r)) takes.more takes.settling)
 
-one_more : (clients : Meaning) (session : Session) (r : Record) (s s' : StoreValue) (o o' : Outside) → TakesOn clients session r s s' o o'
+one_more : (clients : Meaning) (session : Session) (r : Record) (s s' : StoreValue)
+    (o o' : Outside) → TakesOn clients session r s s' o o'
     → TakesOne s.state.facts (after_all s.state.facts (next_take s.state.facts session r)) session.number
 one_more clients session r s s' o o' takes =
     takes_one clients s.state.facts session.number (takes_of s.state.facts.takes session.number) (taken_from s.state.facts session.number session.contact r) takes.allowed
 
-counted : (clients : Meaning) (session : Session) (r : Record) (s s' : StoreValue) (o o' : Outside) → TakesOn clients session r s s' o o'
+counted : (clients : Meaning) (session : Session) (r : Record) (s s' : StoreValue) (o o' : Outside)
+    → TakesOn clients session r s s' o o'
     → takes_of s'.state.facts.takes session.number ≡ takes_of s.state.facts.takes session.number + 1
 counted clients session r s s' o o' takes =
     ap (λ t. takes_of t session.number) (settled_only clients session r s s' o o' takes).takes
     ∙ ((one_more clients session r s s' o o' takes).takes session.number
     ∙ ap (λ b. cond b (takes_of s.state.facts.takes session.number + 1) (takes_of s.state.facts.takes session.number)) (eq-eqb session.number session.number refl))
 
-counted_elsewhere : (clients : Meaning) (session : Session) (r : Record) (s s' : StoreValue) (o o' : Outside) → TakesOn clients session r s s' o o' → (other : ℕ) → other ≢ session.number
+counted_elsewhere : (clients : Meaning) (session : Session) (r : Record) (s s' : StoreValue)
+    (o o' : Outside) → TakesOn clients session r s s' o o' → (other : ℕ) → other ≢ session.number
     → takes_of s'.state.facts.takes other ≡ takes_of s.state.facts.takes other
 counted_elsewhere clients session r s s' o o' takes other apart =
     ap (λ t. takes_of t other) (settled_only clients session r s s' o o' takes).takes
@@ -117,19 +127,26 @@ no_record : (place type_byte len : ℕ) → records_of (item.Skipped place type_
 unfolding records_of
 no_record place type_byte len = refl
 
-records_with : RecordsJoin → (has : List Item) (place : ℕ) (r : Record) → records_of (has ++ item.One place r ∷ []) ≡ records_of has ++ r ∷ []
-records_with join has place r = join has (item.One place r ∷ []) ∙ ap (λ (rs : List Record). records_of has ++ rs) (record_alone place r)
+records_with : RecordsJoin → (has : List Item) (place : ℕ) (r : Record)
+    → records_of (has ++ item.One place r ∷ []) ≡ records_of has ++ r ∷ []
+records_with join has place r =
+    join has (item.One place r ∷ []) ∙ ap (λ (rs : List Record). records_of has ++ rs)
+    (record_alone place r)
 
-records_past : RecordsJoin → (has : List Item) (place type_byte len : ℕ) → records_of (has ++ item.Skipped place type_byte len ∷ []) ≡ records_of has
-records_past join has place type_byte len = join has (item.Skipped place type_byte len ∷ []) ∙ (ap (λ (rs : List Record). records_of has ++ rs) (no_record place type_byte len) ∙ append-nil (records_of has))
+records_past : RecordsJoin → (has : List Item) (place type_byte len : ℕ)
+    → records_of (has ++ item.Skipped place type_byte len ∷ []) ≡ records_of has
+records_past join has place type_byte len =
+    join has (item.Skipped place type_byte len ∷ []) ∙ (ap (λ (rs : List Record). records_of has ++ rs) (no_record place type_byte len) ∙ append-nil (records_of has))
 
 -- the item behind a front
-at_seam : {A : Type 0} (xs : List A) (a : A) (ys : List A) → slice_get ((xs ++ a ∷ []) ++ ys) (length xs) ≡ Some a
+at_seam : {A : Type 0} (xs : List A) (a : A) (ys : List A) → slice_get ((xs ++ a ∷ []) ++ ys)
+    (length xs) ≡ Some a
 at_seam [] a ys = refl
 at_seam (x ∷ xs) a ys = at_seam xs a ys
 
 -- the record that was read last is the next of those heard
-pub is_next : RecordsJoin → (heard left : List ℕ) (r1 : ReaderState) (has : List Item) (place : ℕ) (r : Record) → ReadsOn heard fresh (has ++ item.One place r ∷ []) left r1
+pub is_next : RecordsJoin → (heard left : List ℕ) (r1 : ReaderState) (has : List Item) (place : ℕ)
+    (r : Record) → ReadsOn heard fresh (has ++ item.One place r ∷ []) left r1
     → slice_get (records heard) (length (records_of has)) ≡ Some r
 is_next join heard left r1 has place r reads =
     let rest : List Item = items r1.place (r1.bytes ++ (left ++ [])) in
@@ -141,7 +158,8 @@ is_next join heard left r1 has place r reads =
 
 -- ---- the known nonce
 
-nonce_behind : (rs : List Record) (r : Record) → first_nonce (rs ++ r ∷ []) ≡ nonce_with (first_nonce rs) r
+nonce_behind : (rs : List Record) (r : Record)
+    → first_nonce (rs ++ r ∷ []) ≡ nonce_with (first_nonce rs) r
 nonce_behind [] (record_kind.Ack ids) = refl
 nonce_behind [] (record_kind.Message m) = refl
 nonce_behind [] (record_kind.Offer ids) = refl
@@ -155,15 +173,18 @@ nonce_behind (record_kind.Offer ids ∷ rs) r = nonce_behind rs r
 nonce_behind (record_kind.Request ids ∷ rs) r = nonce_behind rs r
 nonce_behind (record_kind.Versions versions ∷ rs) r = nonce_behind rs r
 
-known_behind : (own : Option (List ℕ)) (rs : List Record) (r : Record) → known_nonce own (rs ++ r ∷ []) ≡ nonce_with (known_nonce own rs) r
+known_behind : (own : Option (List ℕ)) (rs : List Record) (r : Record)
+    → known_nonce own (rs ++ r ∷ []) ≡ nonce_with (known_nonce own rs) r
 known_behind None rs r = nonce_behind rs r
 known_behind (Some nonce) rs r = refl
 
 -- ---- a record that is committed and settled
 
 -- the batch of a session's next record may follow
-pub take_allowed : (clients : Meaning) (session : Session) (k : ℕ) (r : Record) (s : StoreValue) (o : Outside) (batch : List Entry) → IsOpenFor clients session s o → IsRecord r
-    → k ≡ takes_of s.state.facts.takes session.number → batch ≡ take_of s.state.facts session k r → Allowed clients s.state.facts batch
+pub take_allowed : (clients : Meaning) (session : Session) (k : ℕ) (r : Record) (s : StoreValue)
+    (o : Outside) (batch : List Entry) → IsOpenFor clients session s o → IsRecord r
+    → k ≡ takes_of s.state.facts.takes session.number → batch ≡ take_of s.state.facts session k r
+    → Allowed clients s.state.facts batch
 take_allowed clients session k r s o batch may within numbered is =
     let contact : contact_of s.state.facts.sessions session.number ≡ session.contact = ap contact_in may.known in
     subst (λ (b : List Entry). Allowed clients s.state.facts b) (sym is) (
@@ -177,13 +198,17 @@ take_allowed clients session k r s o batch may within numbered is =
       },
     )
 
-pub take_kind : (f : Facts) (session : Session) (k : ℕ) (r : Record) (batch : List Entry) → batch ≡ take_of f session k r → is_settling_kind batch ≡ false
+pub take_kind : (f : Facts) (session : Session) (k : ℕ) (r : Record) (batch : List Entry)
+    → batch ≡ take_of f session k r → is_settling_kind batch ≡ false
 take_kind f session k r batch is = ap is_settling_kind is
 
-pub take_is : (f : Facts) (session : Session) (k : ℕ) (r : Record) (batch : List Entry) → k ≡ takes_of f.takes session.number → batch ≡ take_of f session k r → batch ≡ next_take f session r
+pub take_is : (f : Facts) (session : Session) (k : ℕ) (r : Record) (batch : List Entry)
+    → k ≡ takes_of f.takes session.number → batch ≡ take_of f session k r
+    → batch ≡ next_take f session r
 take_is f session k r batch numbered is = is ∙ ap (λ n. take_of f session n r) numbered
 
-pub commits_then : (clients : Meaning) (batch : List Entry) (more : Journal) (s s1 s2 : StoreValue) (o o1 o2 : Outside) → Commits clients (batch ∷ []) s s1 o o1 → Commits clients more s1 s2 o1 o2
+pub commits_then : (clients : Meaning) (batch : List Entry) (more : Journal) (s s1 s2 : StoreValue)
+    (o o1 o2 : Outside) → Commits clients (batch ∷ []) s s1 o o1 → Commits clients more s1 s2 o1 o2
     → Commits clients (batch ∷ more) s s2 o o2
 commits_then clients batch more s s1 s2 o o1 o2 first second = record {
   goes = goes_then o o1 o2 first.goes second.goes;
@@ -196,8 +221,10 @@ commits_then clients batch more s s1 s2 o o1 o2 first second = record {
       record { told = one.told; before = one.before; fits = one.fits; is = two.is ∙ (ap (λ (l : Journal). l ++ more) one.is ∙ append_assoc one.before (batch ∷ []) more) };
 }
 
-pub taken_on : (clients : Meaning) (session : Session) (r : Record) (s s1 s2 : StoreValue) (o o1 o2 : Outside) (batch : List Entry) → batch ≡ next_take s.state.facts session r
-    → Allowed clients s.state.facts batch → Commits clients (batch ∷ []) s s1 o o1 → Settles clients s1 s2 o1 o2 → TakesOn clients session r s s2 o o2
+pub taken_on : (clients : Meaning) (session : Session) (r : Record) (s s1 s2 : StoreValue)
+    (o o1 o2 : Outside) (batch : List Entry) → batch ≡ next_take s.state.facts session r
+    → Allowed clients s.state.facts batch → Commits clients (batch ∷ []) s s1 o o1
+    → Settles clients s1 s2 o1 o2 → TakesOn clients session r s s2 o o2
 taken_on clients session r s s1 s2 o o1 o2 batch is allowed commits settles =
     let first : Commits clients (next_take s.state.facts session r ∷ []) s s1 o o1 = subst (λ (b : List Entry). Commits clients (b ∷ []) s s1 o o1) is commits in
     record {
@@ -209,29 +236,39 @@ taken_on clients session r s s1 s2 o o1 o2 batch is allowed commits settles =
     }
 
 -- the batch is one of the run, where the record is the next that was heard
-take_of_run : (first : ℕ) (heard : ℕ → List ℕ) (plans : List Session) (f : Facts) (session : Session) (r : Record) (link : ℕ) (batch : List Entry) → contact_of f.sessions session.number ≡ session.contact
-    → batch ≡ next_take f session r → session.number ≡ first + link → slice_get (records (heard link)) (takes_of f.takes session.number) ≡ Some r → IsOfRun first plans heard f batch
+take_of_run : (first : ℕ) (heard : ℕ → List ℕ) (plans : List Session) (f : Facts)
+    (session : Session) (r : Record) (link : ℕ) (batch : List Entry)
+    → contact_of f.sessions session.number ≡ session.contact
+    → batch ≡ next_take f session r → session.number ≡ first + link
+    → slice_get (records (heard link)) (takes_of f.takes session.number) ≡ Some r
+    → IsOfRun first plans heard f batch
 take_of_run first heard plans f session r link batch contact is number next =
     subst (λ (b : List Entry). IsOfRun first plans heard f b) (sym is)
-    (record { link = link; on = number; read = r; next = next; taken_so = ap (λ c. taken_from f session.number c r) (sym contact) })
+    (record { link = link; on = number; read = r; stands = next; so = ap (λ c. taken_from f session.number c r) (sym contact) })
 
-pub take_safe : (clients : Meaning) (session : Session) (r : Record) (s s1 : StoreValue) (o o1 : Outside) (batch : List Entry) → IsOpenFor clients session s o
-    → batch ≡ next_take s.state.facts session r → CommitsSafe clients batch s s1 o o1 → TakesSafe clients session r s s1 o o1
+pub take_safe : (clients : Meaning) (session : Session) (r : Record) (s s1 : StoreValue)
+    (o o1 : Outside) (batch : List Entry) → IsOpenFor clients session s o
+    → batch ≡ next_take s.state.facts session r → CommitsSafe clients batch s s1 o o1
+    → TakesSafe clients session r s s1 o o1
 take_safe clients session r s s1 o o1 batch may is safe = record {
   safe = λ b plans link number next was.
       safe b plans plans (front_same plans plans refl)
       (λ told. take_of_run b.first (heard_on o.links) plans s.state.facts session r link batch (ap contact_in may.known) is number (next told)) was;
 }
 
-pub take_safe_then : (clients : Meaning) (session : Session) (r : Record) (s s1 s2 : StoreValue) (o o1 o2 : Outside) → TakesSafe clients session r s s1 o o1
+pub take_safe_then : (clients : Meaning) (session : Session) (r : Record) (s s1 s2 : StoreValue)
+    (o o1 o2 : Outside) → TakesSafe clients session r s s1 o o1
     → ((b : Begin) (plans : List Session) → Safe clients b plans s1 o1 → Safe clients b plans s2 o2) → TakesSafe clients session r s s2 o o2
 take_safe_then clients session r s s1 s2 o o1 o2 first second = record { safe = λ b plans link number next was. second b plans (first.safe b plans link number next was) }
 
-pub take_safe_none : (clients : Meaning) (session : Session) (r : Record) (s : StoreValue) (o : Outside) → TakesSafe clients session r s s o o
+pub take_safe_none : (clients : Meaning) (session : Session) (r : Record) (s : StoreValue)
+    (o : Outside) → TakesSafe clients session r s s o o
 take_safe_none clients session r s o = record { safe = λ b plans link number next was. was }
 
 -- behind it the session may go on
-pub take_able : (clients : Meaning) (link : ℕ) (session session' : Session) (r : Record) (s s' : StoreValue) (o o' : Outside) → session' ≡ session → IsAble clients link session s o → TakesOn clients session r s s' o o'
+pub take_able : (clients : Meaning) (link : ℕ) (session session' : Session) (r : Record)
+    (s s' : StoreValue) (o o' : Outside) → session' ≡ session → IsAble clients link session s o
+    → TakesOn clients session r s s' o o'
     → IsAble clients link session' s' o'
 take_able clients link session session' r s s' o o' same able takes =
     let sessions : s'.state.facts.sessions ≡ s.state.facts.sessions = (settled_only clients session r s s' o o' takes).sessions ∙ (one_more clients session r s s' o o' takes).sessions in
@@ -244,9 +281,12 @@ take_able clients link session session' r s s' o o' same able takes =
 
 -- ---- work
 
-take_stays : RecordsJoin → ReadingsFollow → (clients : Meaning) (link : ℕ) (left left' : List ℕ) (l l1 : Link) (place : ℕ) (r : Record) (s s' : StoreValue) (o o' : Outside)
-    → l.end ≡ link_end.Going → ReadsOn left l.reader (item.One place r ∷ []) left' l1.reader → TakesSafe clients l.session r s s' o o'
-    → IsJoined clients link left l s o → (b : Begin) (plans : List Session) → l.session.number ≡ b.first + link → Safe clients b plans s o → Safe clients b plans s' o'
+take_stays : RecordsJoin → ReadingsFollow → (clients : Meaning) (link : ℕ) (left left' : List ℕ)
+    (l l1 : Link) (place : ℕ) (r : Record) (s s' : StoreValue) (o o' : Outside)
+    → l.end ≡ link_end.Going → ReadsOn left l.reader (item.One place r ∷ []) left' l1.reader
+    → TakesSafe clients l.session r s s' o o'
+    → IsJoined clients link left l s o → (b : Begin) (plans : List Session)
+    → l.session.number ≡ b.first + link → Safe clients b plans s o → Safe clients b plans s' o'
 take_stays join follow clients link left left' l l1 place r s s' o o' asked reads safe joined b plans number was =
     safe.safe b plans link number
     (λ told.
@@ -255,9 +295,13 @@ take_stays join follow clients link left left' l l1 place r s s' o o' asked read
     ap (λ k. slice_get (records (heard_on o.links link)) k) had.count ∙ is_next join (heard_on o.links link) left' l1.reader had.has place r read)
     was
 
-pub take_works : RecordsJoin → ReadingsFollow → (clients : Meaning) (link : ℕ) (left left' : List ℕ) (l l1 l2 : Link) (place : ℕ) (r : Record) (s s' : StoreValue) (o o' : Outside)
-    → l.end ≡ link_end.Going → l1.session ≡ l.session → l1.nonce ≡ l.nonce → ReadsOn left l.reader (item.One place r ∷ []) left' l1.reader → Learns place r l1 l2
-    → TakesOn clients l.session r s s' o o' → TakesSafe clients l.session r s s' o o' → Works clients link left left' l l2 s s' o o'
+pub take_works : RecordsJoin → ReadingsFollow → (clients : Meaning) (link : ℕ)
+    (left left' : List ℕ) (l l1 l2 : Link) (place : ℕ) (r : Record) (s s' : StoreValue)
+    (o o' : Outside)
+    → l.end ≡ link_end.Going → l1.session ≡ l.session → l1.nonce ≡ l.nonce
+    → ReadsOn left l.reader (item.One place r ∷ []) left' l1.reader → Learns place r l1 l2
+    → TakesOn clients l.session r s s' o o' → TakesSafe clients l.session r s s' o o'
+    → Works clients link left left' l l2 s s' o o'
 take_works join follow clients link left left' l l1 l2 place r s s' o o' asked session nonce reads learns takes safe =
     let same : l2.session ≡ l.session = learns.same_session ∙ session in
     let unfailed : l.end ≢ link_end.Failed = λ failed. cc in
@@ -305,8 +349,12 @@ take_works join follow clients link left left' l l1 l2 place r s s' o o' asked s
     }
 
 -- a skipped record is passed over
-pub skip_works : RecordsJoin → ReadingsFollow → (clients : Meaning) (link : ℕ) (left left' : List ℕ) (l l' : Link) (place type_byte len : ℕ) (s : StoreValue) (o : Outside) → l'.session ≡ l.session
-    → l'.nonce ≡ l.nonce → l'.end ≡ l.end → ReadsOn left l.reader (item.Skipped place type_byte len ∷ []) left' l'.reader → Works clients link left left' l l' s s o o
+pub skip_works : RecordsJoin → ReadingsFollow → (clients : Meaning) (link : ℕ)
+    (left left' : List ℕ) (l l' : Link) (place type_byte len : ℕ) (s : StoreValue) (o : Outside)
+    → l'.session ≡ l.session
+    → l'.nonce ≡ l.nonce → l'.end ≡ l.end
+    → ReadsOn left l.reader (item.Skipped place type_byte len ∷ []) left' l'.reader
+    → Works clients link left left' l l' s s o o
 skip_works join follow clients link left left' l l' place type_byte len s o session nonce end reads =
     works_link clients link left left' l l' s o session (λ joined. record {
       sent = λ unfailed. subst (λ (x : Session). IsAllSent clients x.number link s o) (sym session) (joined.sent (λ failed. unfailed (end ∙ failed)));
@@ -322,8 +370,10 @@ skip_works join follow clients link left left' l l' place type_byte len s o sess
     })
 
 -- no item was given
-pub more_works : ReadingsFollow → (clients : Meaning) (link : ℕ) (left left' : List ℕ) (l l' : Link) (s : StoreValue) (o : Outside) → l'.session ≡ l.session
-    → l'.nonce ≡ l.nonce → l'.end ≡ l.end → ReadsOn left l.reader [] left' l'.reader → Works clients link left left' l l' s s o o
+pub more_works : ReadingsFollow → (clients : Meaning) (link : ℕ) (left left' : List ℕ)
+    (l l' : Link) (s : StoreValue) (o : Outside) → l'.session ≡ l.session
+    → l'.nonce ≡ l.nonce → l'.end ≡ l.end → ReadsOn left l.reader [] left' l'.reader
+    → Works clients link left left' l l' s s o o
 more_works follow clients link left left' l l' s o session nonce end reads =
     works_link clients link left left' l l' s o session (λ joined. record {
       sent = λ unfailed. subst (λ (x : Session). IsAllSent clients x.number link s o) (sym session) (joined.sent (λ failed. unfailed (end ∙ failed)));
@@ -339,25 +389,36 @@ more_works follow clients link left left' l l' s o session nonce end reads =
 
 -- ---- the same of the session that the link has then
 
-pub open_for : (clients : Meaning) (link : ℕ) (session session' : Session) (s : StoreValue) (o : Outside) → session' ≡ session → IsAble clients link session s o → IsOpenFor clients session' s o
+pub open_for : (clients : Meaning) (link : ℕ) (session session' : Session) (s : StoreValue)
+    (o : Outside) → session' ≡ session → IsAble clients link session s o
+    → IsOpenFor clients session' s o
 open_for clients link session session' s o same able =
     subst (λ (x : Session). IsOpenFor clients x s o) (sym same) (record { ready = able.ready; settled = able.settled; known = able.known })
 
-pub taken_able : (clients : Meaning) (link : ℕ) (session session' : Session) (r : Record) (s s' : StoreValue) (o o' : Outside) → session' ≡ session → IsAble clients link session s o → TakesOn clients session' r s s' o o'
+pub taken_able : (clients : Meaning) (link : ℕ) (session session' : Session) (r : Record)
+    (s s' : StoreValue) (o o' : Outside) → session' ≡ session → IsAble clients link session s o
+    → TakesOn clients session' r s s' o o'
     → IsAble clients link session' s' o'
 taken_able clients link session session' r s s' o o' same able takes =
     take_able clients link session session' r s s' o o' same able (subst (λ (x : Session). TakesOn clients x r s s' o o') same takes)
 
-pub taken_works : RecordsJoin → ReadingsFollow → (clients : Meaning) (link : ℕ) (left left' : List ℕ) (l l1 l2 : Link) (place : ℕ) (r : Record) (s s' : StoreValue) (o o' : Outside)
-    → l.end ≡ link_end.Going → l1.session ≡ l.session → l1.nonce ≡ l.nonce → ReadsOn left l.reader (item.One place r ∷ []) left' l1.reader → Learns place r l1 l2
-    → TakesOn clients l2.session r s s' o o' → TakesSafe clients l2.session r s s' o o' → Works clients link left left' l l2 s s' o o'
+pub taken_works : RecordsJoin → ReadingsFollow → (clients : Meaning) (link : ℕ)
+    (left left' : List ℕ) (l l1 l2 : Link) (place : ℕ) (r : Record) (s s' : StoreValue)
+    (o o' : Outside)
+    → l.end ≡ link_end.Going → l1.session ≡ l.session → l1.nonce ≡ l.nonce
+    → ReadsOn left l.reader (item.One place r ∷ []) left' l1.reader → Learns place r l1 l2
+    → TakesOn clients l2.session r s s' o o' → TakesSafe clients l2.session r s s' o o'
+    → Works clients link left left' l l2 s s' o o'
 taken_works join follow clients link left left' l l1 l2 place r s s' o o' asked session nonce reads learns takes safe =
     let same : l2.session ≡ l.session = learns.same_session ∙ session in
     take_works join follow clients link left left' l l1 l2 place r s s' o o' asked session nonce reads learns (subst (λ (x : Session). TakesOn clients x r s s' o o') same takes)
     (subst (λ (x : Session). TakesSafe clients x r s s' o o') same safe)
 
-pub taken_stays : RecordsJoin → ReadingsFollow → (clients : Meaning) (link : ℕ) (left left' : List ℕ) (l l1 l2 : Link) (place : ℕ) (r : Record) (s s' : StoreValue) (o o' : Outside)
-    → l.end ≡ link_end.Going → l1.session ≡ l.session → ReadsOn left l.reader (item.One place r ∷ []) left' l1.reader → Learns place r l1 l2
+pub taken_stays : RecordsJoin → ReadingsFollow → (clients : Meaning) (link : ℕ)
+    (left left' : List ℕ) (l l1 l2 : Link) (place : ℕ) (r : Record) (s s' : StoreValue)
+    (o o' : Outside)
+    → l.end ≡ link_end.Going → l1.session ≡ l.session
+    → ReadsOn left l.reader (item.One place r ∷ []) left' l1.reader → Learns place r l1 l2
     → TakesSafe clients l2.session r s s' o o' → StaysSafe clients link left l s s' o o'
 taken_stays join follow clients link left left' l l1 l2 place r s s' o o' asked session reads learns safe =
     let same : l2.session ≡ l.session = learns.same_session ∙ session in
@@ -365,6 +426,7 @@ taken_stays join follow clients link left left' l l1 l2 place r s s' o o' asked 
 
 -- ---- what is left of a piece
 
-pub none_left : (old : Link) (piece : List ℕ) (new : Link) (left : List ℕ) (more : Bool) → more ≡ false → LeavesLess old piece new left more → left ≡ []
+pub none_left : (old : Link) (piece : List ℕ) (new : Link) (left : List ℕ) (more : Bool)
+    → more ≡ false → LeavesLess old piece new left more → left ≡ []
 none_left old piece new left true none leaves = cc
 none_left old piece new left false none leaves = leaves.0

@@ -1,12 +1,14 @@
 -- Work on a link: one piece of it after another, and what each call and batch does.
 use Rattle.std.proofs.Common.{◌≡◌, ◌≢◌, ℕ, ◌<◌, List, [], ◌++◌, take, refl, sym, ap, ◌∙◌, subst, arith, Option, Result, Ok, Err, OnErr, OnOk, append-nil}
 use Rattle.std.proofs.lemmas.Grind.{flat_map-append}
+use Rattle.std.specs.Prelude.{IsErrAnd}
 use Rattle.outside.specs.declared.host.Heard.{Heard}
 use Rattle.outside.specs.declared.host.Heard.TheVariants as heard
 use Rattle.outside.specs.Files.{Two, File}
 use Rattle.outside.specs.Host.{Hears, ReadsClock}
 use Rattle.outside.specs.Links.{Answered, HeardOn}
 use Rattle.outside.specs.Outside.{Outside, Moment, LinkCall, QuietCall}
+use Rattle.outside.specs.Steps.{told_on}
 use Rattle.outside.specs.Runs.{LinksGrow, OthersKeep, Told, answered_by, answers_at, grow_hear, grow_read, grow_then, heard_at, heard_bytes, heard_here, others_hear, others_read, others_same, others_then, reply_bytes, sent_at}
 use Rattle.record_grammar.specs.Laws.{FrontsHaveFronts}
 use Rattle.record_stream.specs.Pieces.{ReadingsWiden}
@@ -16,12 +18,12 @@ use Rattle.sync_rules.specs.Clients.{Meaning}
 use Rattle.sync_store.specs.Store.{StoreValue}
 use Rattle.sync_store.specs.Fitting.{Fits}
 use Rattle.sync_node.specs.declared.link.Link.{Link}
-use Rattle.sync_node.specs.declared.link.LinkEnd.TheVariants as link_end
-use Rattle.sync_node.specs.Going.{Elsewhere, Goes, HasOthers}
+use Rattle.sync_course.specs.declared.ends.LinkEnd.TheVariants as link_end
+use Rattle.sync_node.specs.Going.{Elsewhere, Goes, HasOthers, specs_of}
 use Rattle.sync_node.specs.Joined.{HasTaken, IsAllSent, IsJoined}
 use Rattle.sync_node.specs.Output.{Journal, heard_on}
 use Rattle.sync_node.specs.Working.{IsAble, StaysSafe, Works}
-use Rattle.sync_node.specs.Ends.{ended_by}
+use Rattle.sync_course.specs.Links.{stands_ended}
 use Rattle.sync_store.specs.Ready.{IsReady}
 use Rattle.record_grammar.specs.declared.stream.Ending.{Ending}
 use Rattle.record_grammar.specs.declared.stream.Ending.TheVariants as ending_kind
@@ -41,6 +43,12 @@ pub on_err_then : {T E : Type 0} (r : Result T E) (P Q : Type 0) → (P → Q) �
 on_err_then (Ok _) P Q then p = tt
 on_err_then (Err _) P Q then p = then p
 
+-- an error that was handed on
+pub err_was : {T E : Type 0} (r : Result T E) (x e : E) → IsErrAnd r (λ y. y ≡ x) → r ≡ Err e
+    → x ≡ e
+err_was (Ok a) x e is now = absurd is
+err_was (Err y) x e is now = let same : y ≡ e = cc in sym is ∙ same
+
 -- ---- one piece of work after another
 
 pub goes_then : (o o1 o2 : Outside) → Goes o o1 → Goes o1 o2 → Goes o o2
@@ -48,9 +56,16 @@ goes_then o o1 o2 first second = record {
   same_files = second.same_files ∙ first.same_files;
   later = omega (arith, first.later, second.later);
   links = grow_then o.links o1.links o2.links first.links second.links;
+  same_dialled = second.same_dialled ∙ first.same_dialled;
+  same_specs = second.same_specs ∙ first.same_specs;
+  clock = λ two files.
+      let there = told_on o o1 two first.same_files files in
+      omega (arith, first.clock two files, second.clock there.0 there.1);
 }
 
-pub elsewhere_then : (clients : Meaning) (session link : ℕ) (s s1 s2 : StoreValue) (o o1 o2 : Outside) → Elsewhere clients session link s s1 o o1 → Elsewhere clients session link s1 s2 o1 o2
+pub elsewhere_then : (clients : Meaning) (session link : ℕ) (s s1 s2 : StoreValue)
+    (o o1 o2 : Outside) → Elsewhere clients session link s s1 o o1
+    → Elsewhere clients session link s1 s2 o1 o2
     → Elsewhere clients session link s s2 o o2
 elsewhere_then clients session link s s1 s2 o o1 o2 first second = record {
   takes = λ other d. second.takes other d ∙ first.takes other d;
@@ -61,21 +76,24 @@ elsewhere_then clients session link s s1 s2 o o1 o2 first second = record {
       record { told = one.told; before = one.before; fits = one.fits; same = λ other d. two.same other d ∙ one.same other d };
 }
 
-pub elsewhere_none : (clients : Meaning) (session link : ℕ) (s : StoreValue) (o : Outside) → Elsewhere clients session link s s o o
+pub elsewhere_none : (clients : Meaning) (session link : ℕ) (s : StoreValue) (o : Outside)
+    → Elsewhere clients session link s s o o
 elsewhere_none clients session link s o = record {
   takes = λ other d. refl;
   links = others_same link o.links o.links refl;
   outputs = λ told whole fits. record { told = told; before = whole; fits = fits; same = λ other d. refl };
 }
 
-pub stays_then : (clients : Meaning) (link : ℕ) (left mid : List ℕ) (l l1 : Link) (s s1 s2 : StoreValue) (o o1 o2 : Outside) → Works clients link left mid l l1 s s1 o o1
+pub stays_then : (clients : Meaning) (link : ℕ) (left mid : List ℕ) (l l1 : Link)
+    (s s1 s2 : StoreValue) (o o1 o2 : Outside) → Works clients link left mid l l1 s s1 o o1
     → StaysSafe clients link mid l1 s1 s2 o1 o2 → StaysSafe clients link left l s s2 o o2
 stays_then clients link left mid l l1 s s1 s2 o o1 o2 first second = record {
   safe = λ joined b plans number safe.
       second.safe (first.joined joined) b plans (ap (λ (x : Session). x.number) first.same_session ∙ number) (first.stays.safe joined b plans number safe);
 }
 
-pub works_then : (clients : Meaning) (link : ℕ) (left mid left' : List ℕ) (l l1 l2 : Link) (s s1 s2 : StoreValue) (o o1 o2 : Outside) → Works clients link left mid l l1 s s1 o o1
+pub works_then : (clients : Meaning) (link : ℕ) (left mid left' : List ℕ) (l l1 l2 : Link)
+    (s s1 s2 : StoreValue) (o o1 o2 : Outside) → Works clients link left mid l l1 s s1 o o1
     → Works clients link mid left' l1 l2 s1 s2 o1 o2 → Works clients link left left' l l2 s s2 o o2
 works_then clients link left mid left' l l1 l2 s s1 s2 o o1 o2 first second = record {
   goes = goes_then o o1 o2 first.goes second.goes;
@@ -88,12 +106,15 @@ works_then clients link left mid left' l l1 l2 s s1 s2 o o1 o2 first second = re
   stays = stays_then clients link left mid l l1 s s1 s2 o o1 o2 first second.stays;
 }
 
-pub stays_none : (clients : Meaning) (link : ℕ) (left : List ℕ) (l : Link) (s : StoreValue) (o : Outside) → StaysSafe clients link left l s s o o
+pub stays_none : (clients : Meaning) (link : ℕ) (left : List ℕ) (l : Link) (s : StoreValue)
+    (o : Outside) → StaysSafe clients link left l s s o o
 stays_none clients link left l s o = record { safe = λ joined b plans number safe. safe }
 
 -- the link alone changes
-pub works_link : (clients : Meaning) (link : ℕ) (left left' : List ℕ) (l l' : Link) (s : StoreValue) (o : Outside) → l'.session ≡ l.session
-    → (IsJoined clients link left l s o → IsJoined clients link left' l' s o) → Works clients link left left' l l' s s o o
+pub works_link : (clients : Meaning) (link : ℕ) (left left' : List ℕ) (l l' : Link)
+    (s : StoreValue) (o : Outside) → l'.session ≡ l.session
+    → (IsJoined clients link left l s o → IsJoined clients link left' l' s o)
+    → Works clients link left left' l l' s s o o
 works_link clients link left left' l l' s o session joined = record {
   goes = goes_none o;
   same_session = session;
@@ -104,20 +125,28 @@ works_link clients link left left' l l' s o session joined = record {
   stays = stays_none clients link left l s o;
 }
 
-pub works_none : (clients : Meaning) (link : ℕ) (left : List ℕ) (l : Link) (s : StoreValue) (o : Outside) → Works clients link left left l l s s o o
-works_none clients link left l s o = works_link clients link left left l l s o refl (λ joined. joined)
+pub works_none : (clients : Meaning) (link : ℕ) (left : List ℕ) (l : Link) (s : StoreValue)
+    (o : Outside) → Works clients link left left l l s s o o
+works_none clients link left l s o =
+    works_link clients link left left l l s o refl (λ joined. joined)
 
 -- a link that is closed has no bytes left to be read
-pub closed_joined : (clients : Meaning) (link : ℕ) (left left' : List ℕ) (l : Link) (s : StoreValue) (o : Outside) → l.end ≢ link_end.Going → IsJoined clients link left l s o → IsJoined clients link left' l s o
+pub closed_joined : (clients : Meaning) (link : ℕ) (left left' : List ℕ) (l : Link)
+    (s : StoreValue) (o : Outside) → l.end ≢ link_end.Going → IsJoined clients link left l s o
+    → IsJoined clients link left' l s o
 closed_joined clients link left left' l s o closed joined = record { sent = joined.sent; taken = λ going. absurd (closed going) }
 
-pub works_closed : (clients : Meaning) (link : ℕ) (left mid left' : List ℕ) (l l' : Link) (s s' : StoreValue) (o o' : Outside) → l'.end ≢ link_end.Going → Works clients link left mid l l' s s' o o'
+pub works_closed : (clients : Meaning) (link : ℕ) (left mid left' : List ℕ) (l l' : Link)
+    (s s' : StoreValue) (o o' : Outside) → l'.end ≢ link_end.Going
+    → Works clients link left mid l l' s s' o o'
     → Works clients link left left' l l' s s' o o'
 works_closed clients link left mid left' l l' s s' o o' closed works =
     works_then clients link left mid left' l l' l' s s' s' o o' o' works (works_link clients link mid left' l' l' s' o' refl (closed_joined clients link mid left' l' s' o' closed))
 
 -- a link is closed, though no call on it failed before
-pub works_ended : (clients : Meaning) (link : ℕ) (left left' : List ℕ) (l l' : Link) (s : StoreValue) (o : Outside) → l'.session ≡ l.session → l'.end ≢ link_end.Going → l.end ≡ link_end.Going
+pub works_ended : (clients : Meaning) (link : ℕ) (left left' : List ℕ) (l l' : Link)
+    (s : StoreValue) (o : Outside) → l'.session ≡ l.session → l'.end ≢ link_end.Going
+    → l.end ≡ link_end.Going
     → Works clients link left left' l l' s s o o
 works_ended clients link left left' l l' s o session closed going =
     works_link clients link left left' l l' s o session (λ joined. record {
@@ -134,13 +163,15 @@ heard_by heard.Idle buf = []
 heard_by heard.End buf = []
 heard_by heard.Failed buf = []
 
-bytes_answered : (answer : Heard) (buf : List ℕ) (h : HeardOn) → heard_bytes (answered_by answer buf h) ≡ heard_by answer buf
+bytes_answered : (answer : Heard) (buf : List ℕ) (h : HeardOn)
+    → heard_bytes (answered_by answer buf h) ≡ heard_by answer buf
 bytes_answered (heard.Got n) buf h = append-nil (take n buf)
 bytes_answered heard.Idle buf h = refl
 bytes_answered heard.End buf h = refl
 bytes_answered heard.Failed buf h = refl
 
-pub heard_then : (o o' : Outside) (link : ℕ) (answer : Heard) (buf : List ℕ) → Told o → link < o.links.dialled → Hears link answer buf o.links o'.links
+pub heard_then : (o o' : Outside) (link : ℕ) (answer : Heard) (buf : List ℕ) → Told o
+    → link < o.links.dialled → Hears link answer buf o.links o'.links
     → heard_on o'.links link ≡ heard_on o.links link ++ heard_by answer buf
 heard_then o o' link answer buf told within hears =
     ap heard_bytes (heard_here o o' link answer buf told within hears)
@@ -148,26 +179,31 @@ heard_then o o' link answer buf told within hears =
     ∙ ap (λ (l : List ℕ). heard_on o.links link ++ l) (bytes_answered answer buf (heard_at o.links.heard link)))
 
 -- the disk fits the store as it did, and each session has sent what it had
-calm_outputs : (clients : Meaning) (session : ℕ) (s : StoreValue) (o o' : Outside) (during : Moment → Type 0) → Goes o o' → LinkCall during o o'
-    → (told : Told o') (whole : Journal) → Fits clients s whole told.two → HasOthers clients session s o whole
+calm_outputs : (clients : Meaning) (session : ℕ) (s : StoreValue) (o o' : Outside)
+    (during : Moment → Type 0) → Goes o o' → LinkCall during o o'
+    → (told : Told o') (whole : Journal) → Fits clients s whole told.two
+    → HasOthers clients session s o whole
 calm_outputs clients session s o o' during goes call told' whole fits =
     let told = told_before o o' goes told' in
     let two : told'.two ≡ told.two = cc (told'.files_are, told.files_are, call.same_files) in
     record { told = told; before = whole; fits = subst (λ (t : Two File). Fits clients s whole t) two fits; same = λ other d. refl }
 
-calm_sent : (clients : Meaning) (session link : ℕ) (s : StoreValue) (o o' : Outside) → Goes o o' → QuietCall o o' → o'.links.told ≡ o.links.told
+calm_sent : (clients : Meaning) (session link : ℕ) (s : StoreValue) (o o' : Outside) → Goes o o'
+    → QuietCall o o' → o'.links.told ≡ o.links.told
     → IsAllSent clients session link s o → IsAllSent clients session link s o'
 calm_sent clients session link s o o' goes call same_told sent told' whole fits =
     let told = told_before o o' goes told' in
     let two : told'.two ≡ told.two = cc (told'.files_are, told.files_are, call.same_files) in
     ap (λ t. sent_at t link) same_told ∙ sent told whole (subst (λ (t : Two File). Fits clients s whole t) two fits)
 
-pub works_calm : FrontsHaveFronts → (clients : Meaning) (link : ℕ) (left left' : List ℕ) (l : Link) (s : StoreValue) (o o' : Outside) → QuietCall o o' → LinksGrow o.links o'.links
-    → o'.links.told ≡ o.links.told → OthersKeep link o.links o'.links
+pub works_calm : FrontsHaveFronts → (clients : Meaning) (link : ℕ) (left left' : List ℕ) (l : Link)
+    (s : StoreValue) (o o' : Outside) → QuietCall o o' → LinksGrow o.links o'.links
+    → o'.links.dialled ≡ o.links.dialled → o'.links.told ≡ o.links.told
+    → OthersKeep link o.links o'.links
     → (Told o → (takes : ℕ) → HasTaken (heard_on o.links link) left l takes → HasTaken (heard_on o'.links link) left' l takes)
     → Works clients link left left' l l s s o o'
-works_calm fronts clients link left left' l s o o' call grows same_told others taken =
-    let goes : Goes o o' = goes_link _ o o' call grows in
+works_calm fronts clients link left left' l s o o' call grows same_dialled same_told others taken =
+    let goes : Goes o o' = goes_link _ o o' call grows same_dialled (ap specs_of same_told) in
     record {
       goes = goes;
       same_session = refl;
@@ -185,10 +221,23 @@ works_calm fronts clients link left left' l s o o' call grows same_told others t
       stays = record { safe = λ joined b plans number safe. safe_calm fronts clients b plans s o o' call grows same_told safe };
     }
 
-pub works_heard : FrontsHaveFronts → ReadingsWiden → (clients : Meaning) (link : ℕ) (answer : Heard) (buf : List ℕ) (l : Link) (s : StoreValue) (o o' : Outside) → link < o.links.dialled → QuietCall o o'
-    → Hears link answer buf o.links o'.links → Works clients link [] (heard_by answer buf) l l s s o o'
+pub goes_heard : (link : ℕ) (answer : Heard) (buf : List ℕ) (o o' : Outside) → QuietCall o o'
+    → Hears link answer buf o.links o'.links → Goes o o'
+goes_heard link answer buf o o' call hears =
+    goes_link _ o o' call (grow_hear link answer buf o.links o'.links hears) hears.same_dialled (ap specs_of hears.same_told)
+
+pub goes_read : (reading : ℕ) (o o' : Outside) → QuietCall o o'
+    → ReadsClock reading o.links o'.links → Goes o o'
+goes_read reading o o' call reads =
+    goes_link _ o o' call (grow_read reading o.links o'.links reads) reads.same_dialled (ap specs_of reads.same_told)
+
+pub works_heard : FrontsHaveFronts → ReadingsWiden → (clients : Meaning) (link : ℕ)
+    (answer : Heard) (buf : List ℕ) (l : Link) (s : StoreValue) (o o' : Outside)
+    → link < o.links.dialled → QuietCall o o'
+    → Hears link answer buf o.links o'.links
+    → Works clients link [] (heard_by answer buf) l l s s o o'
 works_heard fronts widen clients link answer buf l s o o' within call hears =
-    works_calm fronts clients link [] (heard_by answer buf) l s o o' call (grow_hear link answer buf o.links o'.links hears) hears.same_told (others_hear link answer buf o.links o'.links hears)
+    works_calm fronts clients link [] (heard_by answer buf) l s o o' call (grow_hear link answer buf o.links o'.links hears) hears.same_dialled hears.same_told (others_hear link answer buf o.links o'.links hears)
     (λ told takes has. record {
       has = has.has;
       reads = subst (λ (h : List ℕ). ReadsOn h fresh has.has (heard_by answer buf) l.reader) (sym (heard_then o o' link answer buf told within hears))
@@ -197,10 +246,12 @@ works_heard fronts widen clients link answer buf l s o o' within call hears =
       nonce = has.nonce;
     })
 
-pub works_clock : FrontsHaveFronts → (clients : Meaning) (link : ℕ) (left : List ℕ) (reading : ℕ) (l : Link) (s : StoreValue) (o o' : Outside) → QuietCall o o' → ReadsClock reading o.links o'.links
+pub works_clock : FrontsHaveFronts → (clients : Meaning) (link : ℕ) (left : List ℕ) (reading : ℕ)
+    (l : Link) (s : StoreValue) (o o' : Outside) → QuietCall o o'
+    → ReadsClock reading o.links o'.links
     → Works clients link left left l l s s o o'
 works_clock fronts clients link left reading l s o o' call reads =
-    works_calm fronts clients link left left l s o o' call (grow_read reading o.links o'.links reads) reads.same_told (others_read link reading o.links o'.links reads)
+    works_calm fronts clients link left left l s o o' call (grow_read reading o.links o'.links reads) reads.same_dialled reads.same_told (others_read link reading o.links o'.links reads)
     (λ told takes has. record {
       has = has.has;
       reads = subst (λ (h : List ℕ). ReadsOn h fresh has.has left l.reader) (sym (ap (λ t. heard_bytes (answers_at t link)) reads.same_heard)) has.reads;
@@ -209,7 +260,9 @@ works_clock fronts clients link left reading l s o o' call reads =
     })
 
 -- a session may go on behind a call that leaves the files
-pub able_calm : (clients : Meaning) (link : ℕ) (session : Session) (s : StoreValue) (o o' : Outside) (during : Moment → Type 0) → LinkCall during o o' → o'.links.dialled ≡ o.links.dialled
+pub able_calm : (clients : Meaning) (link : ℕ) (session : Session) (s : StoreValue)
+    (o o' : Outside) (during : Moment → Type 0) → LinkCall during o o'
+    → o'.links.dialled ≡ o.links.dialled
     → IsAble clients link session s o → IsAble clients link session s o'
 able_calm clients link session s o o' during call dialled able = record {
   ready = subst (λ (f : Option (Two File)). IsReady clients s f) (sym call.same_files) able.ready;
@@ -219,7 +272,7 @@ able_calm clients link session s o o' during call dialled able = record {
 }
 
 -- how a link ends whose other side has ended: it is not asked any more, and no call on it failed
-pub ended_not_going : (e : Ending) → ended_by e ≢ link_end.Going
+pub ended_not_going : (e : Ending) → stands_ended e ≢ link_end.Going
 ended_not_going ending_kind.Clean is = cc
 ended_not_going (ending_kind.Inside place) is = cc
 ended_not_going (ending_kind.Bad place why) is = cc

@@ -32,7 +32,8 @@ pub record GoesOnSettling (clients : Meaning) (j whole : Journal) : Type 0 where
   pub is : whole ≡ j ++ more
 
 -- the journal with the batch and settling behind it
-pub record AddsOne (clients : Meaning) (j : Journal) (batch : List Entry) (whole : Journal) : Type 0 where
+pub record AddsOne (clients : Meaning) (j : Journal) (batch : List Entry)
+    (whole : Journal) : Type 0 where
   pub more : Journal
   pub settling : AllSettling clients (after_all (facts j) batch) more
   pub is : whole ≡ j ++ (batch ∷ more)
@@ -41,7 +42,8 @@ abbrev pub AddsAtMost : Meaning → Journal → List Entry → Journal → Type 
 AddsAtMost clients j batch whole = (whole ≡ j) ⊎ AddsOne clients j batch whole
 
 -- the batch was committed, and the journal settled behind it
-pub record AddsSettled (clients : Meaning) (batch : List Entry) (s s' : StoreValue) (o o' : Outside) : Type 0 where
+pub record AddsSettled (clients : Meaning) (batch : List Entry) (s s' : StoreValue)
+    (o o' : Outside) : Type 0 where
   pub more : Journal
   pub settling : AllSettling clients (after_all s.state.facts batch) more
   pub commits : Commits clients (batch ∷ more) s s' o o'

@@ -1,5 +1,5 @@
--- What a run does to a store and its disk, as a course: where the disk fits the store with a journal, and what the files stand for
--- where a call was broken off.
+-- What a run does to a store and its disk, as a course: where the disk fits the store with a
+-- journal, and what the files stand for where a call was broken off.
 use Rattle.std.specs.Prelude.{◌≡◌, ◌⊎◌, ℕ, suc, ◌+◌, Bool, true, false, cond, not, ◌&&◌, nat_eq, nat_lt, slice_get, List, [], ◌∷◌, ◌++◌, length, Option, Some}
 use Rattle.outside.specs.Files.{Two, File, read_files}
 use Rattle.outside.specs.Outside.{Outside}
@@ -14,17 +14,14 @@ use Rattle.record_grammar.specs.declared.stream.Item.TheVariants as item
 use Rattle.sync_ids.specs.declared.records.Record.{Record}
 use Rattle.sync_rules.specs.Legal.{AllSettling}
 use Rattle.sync_rules.specs.Steps.{IsSettled}
-use Rattle.record_stream.specs.Reading.{ReaderState}
 use Rattle.sync_rules.specs.Facts.{Facts, after_batches}
-use Rattle.sync_course.specs.declared.ends.LinkEnd as course_end
-use Rattle.sync_course.specs.declared.ends.LinkEnd.TheVariants as stands
 use Rattle.sync_course.specs.Links as course_links
 use Rattle.sync_course.specs.Links.{is_going, is_kept, is_sent_to, items_after, link_after}
 use Rattle.sync_course.specs.declared.TheConstants.{MAX_OUTPUTS}
 use Rattle.sync_course.specs.ReadingLaws.{HasRead, IsReading}
 use Rattle.sync_node.specs.declared.link.Link.{Link}
-use Rattle.sync_node.specs.declared.link.LinkEnd.{LinkEnd}
-use Rattle.sync_node.specs.declared.link.LinkEnd.TheVariants as link_end
+use Rattle.sync_course.specs.declared.ends.LinkEnd.{LinkEnd}
+use Rattle.sync_course.specs.declared.ends.LinkEnd.TheVariants as link_end
 use Rattle.sync_node.specs.declared.node.Turned.{Turned}
 use Rattle.sync_node.specs.declared.node.Turned.TheVariants as turned
 use Rattle.sync_course.specs.LinkTurns.{Asks, Doing, Done, LinkStep, Sends, Spot, Takes, Waits}
@@ -38,43 +35,55 @@ FitsWith clients s files j = (two : Two File) × (files ≡ Some two) × Fits cl
 
 -- the files are told, and as they read they stand for this journal
 abbrev pub ReadsAs : Meaning → Option (Two File) → List (List Entry) → Type 0
-ReadsAs clients files j = (two : Two File) × (files ≡ Some two) × (stands clients (read_files two) ≡ journal j)
+ReadsAs clients files j =
+    (two : Two File) × (files ≡ Some two) × (stands clients (read_files two) ≡ journal j)
 
 -- a link's turn led from one place to another
-abbrev pub LinkRuns : Meaning → ℕ → ℕ → Spot → Spot → StoreValue → StoreValue → Outside → Outside → Type 0
+abbrev pub LinkRuns : Meaning → ℕ → ℕ → Spot → Spot → StoreValue → StoreValue → Outside → Outside
+    → Type 0
 LinkRuns clients n session p q s s' o o' =
-    Runs (LinkStep clients n session) (FitsWith clients s o.files) (FitsWith clients s' o'.files) p q o o'
+    Runs (LinkStep clients n session) (FitsWith clients s o.files)
+    (FitsWith clients s' o'.files) p q o o'
 
 -- it was broken off: the files as they read stand for the journal with the batches of some path
 abbrev pub LinkBreaks : Meaning → ℕ → ℕ → Spot → StoreValue → Outside → Outside → Type 0
 LinkBreaks clients n session p s o o' =
-    Breaks (LinkStep clients n session) (FitsWith clients s o.files) (ReadsAs clients o'.files) p o o'
+    Breaks (LinkStep clients n session) (FitsWith clients s o.files)
+    (ReadsAs clients o'.files) p o o'
 
 -- the same of a run
-abbrev pub RunRuns : Meaning → Terms → Place → Place → StoreValue → StoreValue → Outside → Outside → Type 0
+abbrev pub RunRuns : Meaning → Terms → Place → Place → StoreValue → StoreValue → Outside → Outside
+    → Type 0
 RunRuns clients terms p q s s' o o' =
-    Runs (RunStep clients terms) (FitsWith clients s o.files) (FitsWith clients s' o'.files) p q o o'
+    Runs (RunStep clients terms) (FitsWith clients s o.files)
+    (FitsWith clients s' o'.files) p q o o'
 
 abbrev pub RunBreaks : Meaning → Terms → Place → StoreValue → Outside → Outside → Type 0
 RunBreaks clients terms p s o o' =
     Breaks (RunStep clients terms) (FitsWith clients s o.files) (ReadsAs clients o'.files) p o o'
 
--- some of these batches, from the first on, stand in the files as they read, behind the journal that the store had
-pub record ReadsFront (clients : Meaning) (may : List (List Entry)) (s : StoreValue) (o o' : Outside) : Type 0 where
+-- some of these batches, from the first on, stand in the files as they read, behind the journal
+-- that the store had
+pub record ReadsFront (clients : Meaning) (may : List (List Entry)) (s : StoreValue)
+    (o o' : Outside) : Type 0 where
   pub front : List (List Entry)
   pub others : List (List Entry)
   pub parts : may ≡ front ++ others
-  pub reads : (j : List (List Entry)) → FitsWith clients s o.files j → ReadsAs clients o'.files (j ++ front)
+  pub reads : (j : List (List Entry)) → FitsWith clients s o.files j
+      → ReadsAs clients o'.files (j ++ front)
 
 -- ---- what the calls of a store come to
 
 -- these batches were committed
-pub record Adds (clients : Meaning) (more : List (List Entry)) (s s' : StoreValue) (o o' : Outside) : Type 0 where
+pub record Adds (clients : Meaning) (more : List (List Entry)) (s s' : StoreValue)
+    (o o' : Outside) : Type 0 where
   pub same_links : o'.links ≡ o.links
-  pub grows : (j : List (List Entry)) → FitsWith clients s o.files j → FitsWith clients s' o'.files (j ++ more)
+  pub grows : (j : List (List Entry)) → FitsWith clients s o.files j
+      → FitsWith clients s' o'.files (j ++ more)
 
 -- they were to be committed, and some of them were, from the first on
-pub record AddsSome (clients : Meaning) (may : List (List Entry)) (s : StoreValue) (o o' : Outside) : Type 0 where
+pub record AddsSome (clients : Meaning) (may : List (List Entry)) (s : StoreValue)
+    (o o' : Outside) : Type 0 where
   pub same_links : o'.links ≡ o.links
   pub stood : ReadsFront clients may s o o'
 
@@ -93,68 +102,85 @@ pub record AddsSomeSettling (clients : Meaning) (s : StoreValue) (o o' : Outside
 
 -- ---- a record that is taken
 
--- where the record is the next of a link's items it is taken, and the journal settled, as a course has it
-pub record TakesAsCourse (clients : Meaning) (session : ℕ) (r : Record) (s s' : StoreValue) (o o' : Outside) : Type 0 where
-  pub runs : (n place : ℕ) (its : List Item) (p : Spot) → p.doing ≡ Takes (item.One place r ∷ its) → p.facts ≡ s.state.facts
+-- where the record is the next of a link's items it is taken, and the journal settled, as a course
+-- has it
+pub record TakesAsCourse (clients : Meaning) (session : ℕ) (r : Record) (s s' : StoreValue)
+    (o o' : Outside) : Type 0 where
+  pub runs : (n place : ℕ) (its : List Item) (p : Spot) → p.doing ≡ Takes (item.One place r ∷ its)
+      → p.facts ≡ s.state.facts
       → LinkRuns clients n session p
       (record { doing = Takes (items_after r its); link = link_after place r p.link; moved = p.moved; facts = s'.state.facts }) s s' o o'
 
-pub record StopsAsCourse (clients : Meaning) (session : ℕ) (r : Record) (s : StoreValue) (o o' : Outside) : Type 0 where
-  pub stops : (n place : ℕ) (its : List Item) (p : Spot) → p.doing ≡ Takes (item.One place r ∷ its) → p.facts ≡ s.state.facts
+pub record StopsAsCourse (clients : Meaning) (session : ℕ) (r : Record) (s : StoreValue)
+    (o o' : Outside) : Type 0 where
+  pub stops : (n place : ℕ) (its : List Item) (p : Spot) → p.doing ≡ Takes (item.One place r ∷ its)
+      → p.facts ≡ s.state.facts
       → LinkBreaks clients n session p s o o'
 
 -- ---- a link of the node as one of a course
 
-abbrev pub end_of : LinkEnd → course_end.LinkEnd
-end_of link_end.Going = stands.Going
-end_of link_end.Clean = stands.Clean
-end_of link_end.Redundant = stands.Redundant
-end_of (link_end.Inside place) = stands.Inside place
-end_of (link_end.Bad place why) = stands.Bad place why
-end_of (link_end.NoVersion place) = stands.NoVersion place
-end_of link_end.Failed = stands.Failed
-
 -- a link on which these bytes were heard
 abbrev pub link_at : Link → List ℕ → course_links.Link
-link_at l heard = record { contact = l.session.contact; nonce = l.nonce; heard = heard; stands = end_of l.end }
+link_at l heard = record {
+  contact = l.session.contact;
+  nonce = l.nonce;
+  heard = heard;
+  stands = l.end;
+}
 
 abbrev pub spot_at : Doing → Link → List ℕ → Bool → Facts → Spot
-spot_at doing l heard moved f = record { doing = doing; link = link_at l heard; moved = moved; facts = f }
+spot_at doing l heard moved f = record {
+  doing = doing;
+  link = link_at l heard;
+  moved = moved;
+  facts = f;
+}
 
--- in the middle of a piece the items to come are those of its reader and of what is left; once the link is closed there are none
+-- in the middle of a piece the items to come are those of its reader and of what is left; once the
+-- link is closed there are none
 abbrev pub IsTaking : List ℕ → List ℕ → Link → List Item → LinkEnd → Type 0
 IsTaking heard left l its link_end.Going = IsReading heard left l.reader its
 IsTaking heard left l its _ = its ≡ []
 
 -- the next item was taken or passed over, or there was none
-abbrev pub LeadsOn : Meaning → ℕ → List ℕ → List Item → Bool → List ℕ → Link → Link → StoreValue → StoreValue → Outside → Outside → Bool → Type 0
+abbrev pub LeadsOn : Meaning → ℕ → List ℕ → List Item → Bool → List ℕ → Link → Link → StoreValue
+    → StoreValue → Outside → Outside → Bool → Type 0
 LeadsOn clients n heard its moved left l l' s s' o o' true =
     (others : List Item) × IsTaking heard left l' others l'.end
-    × LinkRuns clients n l.session.number (spot_at (Takes its) l heard moved s.state.facts) (spot_at (Takes others) l' heard moved s'.state.facts) s s' o o'
+    × LinkRuns clients n l.session.number (spot_at (Takes its) l heard moved s.state.facts)
+    (spot_at (Takes others) l' heard moved s'.state.facts) s s' o o'
 LeadsOn clients n heard its moved left l l' s s' o o' false =
     HasRead heard l'.reader
-    × LinkRuns clients n l.session.number (spot_at (Takes its) l heard moved s.state.facts) (spot_at Waits l' heard moved s'.state.facts) s s' o o'
+    × LinkRuns clients n l.session.number (spot_at (Takes its) l heard moved s.state.facts)
+    (spot_at Waits l' heard moved s'.state.facts) s s' o o'
 
-pub record NextAsCourse (clients : Meaning) (n : ℕ) (piece left : List ℕ) (l l' : Link) (s s' : StoreValue) (o o' : Outside) (more : Bool) : Type 0 where
+pub record NextAsCourse (clients : Meaning) (n : ℕ) (piece left : List ℕ) (l l' : Link)
+    (s s' : StoreValue) (o o' : Outside) (more : Bool) : Type 0 where
   pub leads : (heard : List ℕ) (its : List Item) (moved : Bool) → IsReading heard piece l.reader its
       → LeadsOn clients n heard its moved left l l' s s' o o' more
 
-pub record NextStops (clients : Meaning) (n : ℕ) (piece : List ℕ) (l : Link) (s : StoreValue) (o o' : Outside) : Type 0 where
+pub record NextStops (clients : Meaning) (n : ℕ) (piece : List ℕ) (l : Link) (s : StoreValue)
+    (o o' : Outside) : Type 0 where
   pub stops : (heard : List ℕ) (its : List Item) (moved : Bool) → IsReading heard piece l.reader its
-      → LinkBreaks clients n l.session.number (spot_at (Takes its) l heard moved s.state.facts) s o o'
+      → LinkBreaks clients n l.session.number
+      (spot_at (Takes its) l heard moved s.state.facts) s o o'
 
 -- ---- a piece
 
 -- some items of a piece were taken
-pub record PieceAsCourse (clients : Meaning) (n : ℕ) (piece left : List ℕ) (l l' : Link) (s s' : StoreValue) (o o' : Outside) : Type 0 where
+pub record PieceAsCourse (clients : Meaning) (n : ℕ) (piece left : List ℕ) (l l' : Link)
+    (s s' : StoreValue) (o o' : Outside) : Type 0 where
   pub leads : (heard : List ℕ) (its : List Item) (moved : Bool) → IsReading heard piece l.reader its
       → LeadsOn clients n heard its moved left l l' s s' o o' true
 
 -- all items of a piece were taken, and the link waits for the clock
-pub record PieceTaken (clients : Meaning) (n : ℕ) (piece : List ℕ) (l l' : Link) (s s' : StoreValue) (o o' : Outside) : Type 0 where
-  pub has_read : (heard : List ℕ) (its : List Item) → IsReading heard piece l.reader its → l'.end ≡ link_end.Going → HasRead heard l'.reader
+pub record PieceTaken (clients : Meaning) (n : ℕ) (piece : List ℕ) (l l' : Link)
+    (s s' : StoreValue) (o o' : Outside) : Type 0 where
+  pub has_read : (heard : List ℕ) (its : List Item) → IsReading heard piece l.reader its
+      → l'.end ≡ link_end.Going → HasRead heard l'.reader
   pub runs : (heard : List ℕ) (its : List Item) (moved : Bool) → IsReading heard piece l.reader its
-      → LinkRuns clients n l.session.number (spot_at (Takes its) l heard moved s.state.facts) (spot_at Waits l' heard moved s'.state.facts) s s' o o'
+      → LinkRuns clients n l.session.number (spot_at (Takes its) l heard moved s.state.facts)
+      (spot_at Waits l' heard moved s'.state.facts) s s' o o'
 
 -- ---- hearing
 
@@ -164,10 +190,11 @@ IsRead heard l = l.end ≡ link_end.Going → HasRead heard l.reader
 
 -- a link waits for the clock, or it is closed and its turn is done
 abbrev pub IsReadyToSend : Doing → Link → Type 0
-IsReadyToSend doing l = (doing ≡ Waits) ⊎ ((doing ≡ Done) × (is_sent_to (end_of l.end) ≡ false))
+IsReadyToSend doing l = (doing ≡ Waits) ⊎ ((doing ≡ Done) × (is_sent_to l.end ≡ false))
 
 -- what was heard in a turn, and where the link came
-pub record HearsTo (clients : Meaning) (n : ℕ) (l l' : Link) (s s' : StoreValue) (o o' : Outside) (heard : List ℕ) (moved idle : Bool) : Type 0 where
+pub record HearsTo (clients : Meaning) (n : ℕ) (l l' : Link) (s s' : StoreValue) (o o' : Outside)
+    (heard : List ℕ) (moved idle : Bool) : Type 0 where
   pub heard' : List ℕ
   pub doing : Doing
   pub has_read : IsRead heard' l'
@@ -175,10 +202,13 @@ pub record HearsTo (clients : Meaning) (n : ℕ) (l l' : Link) (s s' : StoreValu
   pub runs : LinkRuns clients n l.session.number (spot_at Asks l heard moved s.state.facts)
       (spot_at doing l' heard' (cond idle moved true) s'.state.facts) s s' o o'
 
-pub record HearsAsCourse (clients : Meaning) (n : ℕ) (l l' : Link) (s s' : StoreValue) (o o' : Outside) (idle : Bool) : Type 0 where
-  pub leads : (heard : List ℕ) (moved : Bool) → IsRead heard l → HearsTo clients n l l' s s' o o' heard moved idle
+pub record HearsAsCourse (clients : Meaning) (n : ℕ) (l l' : Link) (s s' : StoreValue)
+    (o o' : Outside) (idle : Bool) : Type 0 where
+  pub leads : (heard : List ℕ) (moved : Bool) → IsRead heard l
+      → HearsTo clients n l l' s s' o o' heard moved idle
 
-pub record HearsStops (clients : Meaning) (n : ℕ) (l : Link) (s : StoreValue) (o o' : Outside) : Type 0 where
+pub record HearsStops (clients : Meaning) (n : ℕ) (l : Link) (s : StoreValue)
+    (o o' : Outside) : Type 0 where
   pub stops : (heard : List ℕ) (moved : Bool) → IsRead heard l
       → LinkBreaks clients n l.session.number (spot_at Asks l heard moved s.state.facts) s o o'
 
@@ -187,75 +217,93 @@ pub record HearsStops (clients : Meaning) (n : ℕ) (l : Link) (s : StoreValue) 
 -- a link goes on sending with this room, or it is closed and its turn is done
 abbrev pub GoesOnSending : ℕ → ℕ → Doing → Link → Type 0
 GoesOnSending now room doing l =
-    ((doing ≡ Sends now room) × (is_sent_to (end_of l.end) ≡ true)) ⊎ ((doing ≡ Done) × (is_sent_to (end_of l.end) ≡ false))
+    ((doing ≡ Sends now room) × (is_sent_to l.end ≡ true)) ⊎ ((doing ≡ Done) × (is_sent_to l.end ≡ false))
 
 -- an output was committed and sent
-pub record PutsTo (clients : Meaning) (n now : ℕ) (l l' : Link) (s s' : StoreValue) (o o' : Outside) (heard : List ℕ) (moved : Bool) (room : ℕ) : Type 0 where
+pub record PutsTo (clients : Meaning) (n now : ℕ) (l l' : Link) (s s' : StoreValue)
+    (o o' : Outside) (heard : List ℕ) (moved : Bool) (room : ℕ) : Type 0 where
   pub doing : Doing
   pub goes_on : GoesOnSending now room doing l'
-  pub runs : LinkRuns clients n l.session.number (spot_at (Sends now (suc room)) l heard moved s.state.facts)
+  pub runs : LinkRuns clients n l.session.number
+      (spot_at (Sends now (suc room)) l heard moved s.state.facts)
       (spot_at doing l' heard true s'.state.facts) s s' o o'
 
-pub record PutsAsCourse (clients : Meaning) (n now : ℕ) (l l' : Link) (s s' : StoreValue) (o o' : Outside) : Type 0 where
-  pub leads : (heard : List ℕ) (moved : Bool) (room : ℕ) → is_sent_to (end_of l.end) ≡ true
+pub record PutsAsCourse (clients : Meaning) (n now : ℕ) (l l' : Link) (s s' : StoreValue)
+    (o o' : Outside) : Type 0 where
+  pub leads : (heard : List ℕ) (moved : Bool) (room : ℕ) → is_sent_to l.end ≡ true
       → PutsTo clients n now l l' s s' o o' heard moved room
   pub same_reader : l'.reader ≡ l.reader
   pub same_session : l'.session ≡ l.session
   pub end : (l'.end ≡ l.end) ⊎ (l'.end ≡ link_end.Failed)
 
-pub record PutsStop (clients : Meaning) (n now : ℕ) (l : Link) (s : StoreValue) (o o' : Outside) : Type 0 where
+pub record PutsStop (clients : Meaning) (n now : ℕ) (l : Link) (s : StoreValue)
+    (o o' : Outside) : Type 0 where
   pub stops : (heard : List ℕ) (moved : Bool) (room : ℕ)
-      → LinkBreaks clients n l.session.number (spot_at (Sends now (suc room)) l heard moved s.state.facts) s o o'
+      → LinkBreaks clients n l.session.number
+      (spot_at (Sends now (suc room)) l heard moved s.state.facts) s o o'
 
 -- so many outputs were made at a reading
-pub record OutsTo (clients : Meaning) (n now made : ℕ) (l l' : Link) (s s' : StoreValue) (o o' : Outside) (heard : List ℕ) (moved : Bool) : Type 0 where
+pub record OutsTo (clients : Meaning) (n now made : ℕ) (l l' : Link) (s s' : StoreValue)
+    (o o' : Outside) (heard : List ℕ) (moved : Bool) : Type 0 where
   pub room : ℕ
   pub rest : room + made ≡ MAX_OUTPUTS
   pub doing : Doing
   pub goes_on : GoesOnSending now room doing l'
-  pub runs : LinkRuns clients n l.session.number (spot_at (Sends now MAX_OUTPUTS) l heard moved s.state.facts)
+  pub runs : LinkRuns clients n l.session.number
+      (spot_at (Sends now MAX_OUTPUTS) l heard moved s.state.facts)
       (spot_at doing l' heard (cond (nat_lt 0 made) true moved) s'.state.facts) s s' o o'
 
-pub record OutsAsCourse (clients : Meaning) (n now made : ℕ) (l l' : Link) (s s' : StoreValue) (o o' : Outside) : Type 0 where
-  pub leads : (heard : List ℕ) (moved : Bool) → is_sent_to (end_of l.end) ≡ true → OutsTo clients n now made l l' s s' o o' heard moved
+pub record OutsAsCourse (clients : Meaning) (n now made : ℕ) (l l' : Link) (s s' : StoreValue)
+    (o o' : Outside) : Type 0 where
+  pub leads : (heard : List ℕ) (moved : Bool) → is_sent_to l.end ≡ true
+      → OutsTo clients n now made l l' s s' o o' heard moved
   pub same_reader : l'.reader ≡ l.reader
   pub same_session : l'.session ≡ l.session
   pub end : (l'.end ≡ l.end) ⊎ (l'.end ≡ link_end.Failed)
 
 -- all that was due at a reading was sent, so many outputs
-pub record SentAsCourse (clients : Meaning) (n now : ℕ) (l l' : Link) (s s' : StoreValue) (o o' : Outside) (made : ℕ) : Type 0 where
-  pub runs : (heard : List ℕ) (moved : Bool) → is_sent_to (end_of l.end) ≡ true
-      → LinkRuns clients n l.session.number (spot_at (Sends now MAX_OUTPUTS) l heard moved s.state.facts)
+pub record SentAsCourse (clients : Meaning) (n now : ℕ) (l l' : Link) (s s' : StoreValue)
+    (o o' : Outside) (made : ℕ) : Type 0 where
+  pub runs : (heard : List ℕ) (moved : Bool) → is_sent_to l.end ≡ true
+      → LinkRuns clients n l.session.number
+      (spot_at (Sends now MAX_OUTPUTS) l heard moved s.state.facts)
       (spot_at Done l' heard (cond (nat_lt 0 made) true moved) s'.state.facts) s s' o o'
   pub same_reader : l'.reader ≡ l.reader
   pub end : (l'.end ≡ l.end) ⊎ (l'.end ≡ link_end.Failed)
 
-pub record SentStops (clients : Meaning) (n now : ℕ) (l : Link) (s : StoreValue) (o o' : Outside) : Type 0 where
-  pub stops : (heard : List ℕ) (moved : Bool) → is_sent_to (end_of l.end) ≡ true
-      → LinkBreaks clients n l.session.number (spot_at (Sends now MAX_OUTPUTS) l heard moved s.state.facts) s o o'
+pub record SentStops (clients : Meaning) (n now : ℕ) (l : Link) (s : StoreValue)
+    (o o' : Outside) : Type 0 where
+  pub stops : (heard : List ℕ) (moved : Bool) → is_sent_to l.end ≡ true
+      → LinkBreaks clients n l.session.number
+      (spot_at (Sends now MAX_OUTPUTS) l heard moved s.state.facts) s o o'
 
 -- what was due on a link was sent, unless it is closed
-pub record SendsAsCourse (clients : Meaning) (n : ℕ) (l l' : Link) (s s' : StoreValue) (o o' : Outside) (made : ℕ) : Type 0 where
+pub record SendsAsCourse (clients : Meaning) (n : ℕ) (l l' : Link) (s s' : StoreValue)
+    (o o' : Outside) (made : ℕ) : Type 0 where
   pub runs : (heard : List ℕ) (moved : Bool) (doing : Doing) → IsReadyToSend doing l
       → LinkRuns clients n l.session.number (spot_at doing l heard moved s.state.facts)
       (spot_at Done l' heard (cond (nat_lt 0 made) true moved) s'.state.facts) s s' o o'
   pub same_reader : l'.reader ≡ l.reader
   pub end : (l'.end ≡ l.end) ⊎ (l'.end ≡ link_end.Failed)
 
-pub record SendsStop (clients : Meaning) (n : ℕ) (l : Link) (s : StoreValue) (o o' : Outside) : Type 0 where
+pub record SendsStop (clients : Meaning) (n : ℕ) (l : Link) (s : StoreValue)
+    (o o' : Outside) : Type 0 where
   pub stops : (heard : List ℕ) (moved : Bool) (doing : Doing) → IsReadyToSend doing l
       → LinkBreaks clients n l.session.number (spot_at doing l heard moved s.state.facts) s o o'
 
 -- ---- a link's turn
 
-pub record TurnTo (clients : Meaning) (n : ℕ) (l l' : Link) (s s' : StoreValue) (o o' : Outside) (heard : List ℕ) (moved still : Bool) : Type 0 where
+pub record TurnTo (clients : Meaning) (n : ℕ) (l l' : Link) (s s' : StoreValue) (o o' : Outside)
+    (heard : List ℕ) (moved still : Bool) : Type 0 where
   pub heard' : List ℕ
   pub has_read : IsRead heard' l'
   pub runs : LinkRuns clients n l.session.number (spot_at Asks l heard moved s.state.facts)
       (spot_at Done l' heard' (cond still moved true) s'.state.facts) s s' o o'
 
-pub record TurnAsCourse (clients : Meaning) (n : ℕ) (l l' : Link) (s s' : StoreValue) (o o' : Outside) (still : Bool) : Type 0 where
-  pub leads : (heard : List ℕ) (moved : Bool) → IsRead heard l → TurnTo clients n l l' s s' o o' heard moved still
+pub record TurnAsCourse (clients : Meaning) (n : ℕ) (l l' : Link) (s s' : StoreValue)
+    (o o' : Outside) (still : Bool) : Type 0 where
+  pub leads : (heard : List ℕ) (moved : Bool) → IsRead heard l
+      → TurnTo clients n l l' s s' o o' heard moved still
 
 -- ---- all links
 
@@ -279,19 +327,27 @@ place_at stage links heard moved still made f = record {
 }
 
 -- the first links, so many, had their turn
-pub record TurnsTo (clients : Meaning) (terms : Terms) (n : ℕ) (links links' : List Link) (s s' : StoreValue) (o o' : Outside) (heard : ℕ → List ℕ) (moved : Bool) (still made : ℕ) (quiet : Bool) : Type 0 where
+pub record TurnsTo (clients : Meaning) (terms : Terms) (n : ℕ) (links links' : List Link)
+    (s s' : StoreValue) (o o' : Outside) (heard : ℕ → List ℕ) (moved : Bool) (still made : ℕ)
+    (quiet : Bool) : Type 0 where
   pub heard' : ℕ → List ℕ
   pub has_read : AllRead heard' links'
-  pub runs : RunRuns clients terms (place_at (Works 0 Asks) links heard moved still made s.state.facts)
+  pub runs : RunRuns clients terms
+      (place_at (Works 0 Asks) links heard moved still made s.state.facts)
       (place_at (Works n Asks) links' heard' (cond quiet moved true) still made s'.state.facts) s s' o o'
 
-pub record TurnsAsCourse (clients : Meaning) (first n : ℕ) (links links' : List Link) (s s' : StoreValue) (o o' : Outside) (quiet : Bool) : Type 0 where
-  pub leads : (terms : Terms) (heard : ℕ → List ℕ) (moved : Bool) (still made : ℕ) → terms.first ≡ first → AllRead heard links
+pub record TurnsAsCourse (clients : Meaning) (first n : ℕ) (links links' : List Link)
+    (s s' : StoreValue) (o o' : Outside) (quiet : Bool) : Type 0 where
+  pub leads : (terms : Terms) (heard : ℕ → List ℕ) (moved : Bool) (still made : ℕ)
+      → terms.first ≡ first → AllRead heard links
       → TurnsTo clients terms n links links' s s' o o' heard moved still made quiet
 
-pub record TurnsStop (clients : Meaning) (first : ℕ) (links : List Link) (s : StoreValue) (o o' : Outside) : Type 0 where
-  pub stops : (terms : Terms) (heard : ℕ → List ℕ) (moved : Bool) (still made : ℕ) → terms.first ≡ first → AllRead heard links
-      → RunBreaks clients terms (place_at (Works 0 Asks) links heard moved still made s.state.facts) s o o'
+pub record TurnsStop (clients : Meaning) (first : ℕ) (links : List Link) (s : StoreValue)
+    (o o' : Outside) : Type 0 where
+  pub stops : (terms : Terms) (heard : ℕ → List ℕ) (moved : Bool) (still made : ℕ)
+      → terms.first ≡ first → AllRead heard links
+      → RunBreaks clients terms
+      (place_at (Works 0 Asks) links heard moved still made s.state.facts) s o o'
 
 -- ---- a whole turn
 
@@ -300,53 +356,74 @@ is_still turned.Still = true
 is_still turned.Moving = false
 
 -- every link had its turn, and the redundant ones were closed
-pub record TurnMade (clients : Meaning) (terms : Terms) (links links' : List Link) (s s' : StoreValue) (o o' : Outside) (heard : ℕ → List ℕ) (moved : Bool) (still made : ℕ) (quiet : Bool) : Type 0 where
+pub record TurnMade (clients : Meaning) (terms : Terms) (links links' : List Link)
+    (s s' : StoreValue) (o o' : Outside) (heard : ℕ → List ℕ) (moved : Bool) (still made : ℕ)
+    (quiet : Bool) : Type 0 where
   pub heard' : ℕ → List ℕ
   pub has_read : AllRead heard' links'
   pub runs : RunRuns clients terms (place_at Between links heard moved still made s.state.facts)
       (place_at Between links' heard' (not quiet) (cond quiet (suc still) 0) (suc made) s'.state.facts) s s' o o'
 
--- from a place between two turns that is not the end, a turn leads to the next one; it was still where nothing moved
-pub record MakesTurn (clients : Meaning) (first : ℕ) (links links' : List Link) (s s' : StoreValue) (o o' : Outside) (quiet : Bool) : Type 0 where
-  pub leads : (terms : Terms) (heard : ℕ → List ℕ) (moved : Bool) (still made : ℕ) → terms.first ≡ first → AllRead heard links
+-- from a place between two turns that is not the end, a turn leads to the next one; it was still
+-- where nothing moved
+pub record MakesTurn (clients : Meaning) (first : ℕ) (links links' : List Link) (s s' : StoreValue)
+    (o o' : Outside) (quiet : Bool) : Type 0 where
+  pub leads : (terms : Terms) (heard : ℕ → List ℕ) (moved : Bool) (still made : ℕ)
+      → terms.first ≡ first → AllRead heard links
       → is_at_end terms (place_at Between links heard moved still made s.state.facts) ≡ false
       → TurnMade clients terms links links' s s' o o' heard moved still made quiet
 
 -- the turn was broken off
-pub record BreaksTurn (clients : Meaning) (first : ℕ) (links : List Link) (s : StoreValue) (o o' : Outside) : Type 0 where
-  pub stops : (terms : Terms) (heard : ℕ → List ℕ) (moved : Bool) (still made : ℕ) → terms.first ≡ first → AllRead heard links
+pub record BreaksTurn (clients : Meaning) (first : ℕ) (links : List Link) (s : StoreValue)
+    (o o' : Outside) : Type 0 where
+  pub stops : (terms : Terms) (heard : ℕ → List ℕ) (moved : Bool) (still made : ℕ)
+      → terms.first ≡ first → AllRead heard links
       → is_at_end terms (place_at Between links heard moved still made s.state.facts) ≡ false
       → RunBreaks clients terms (place_at Between links heard moved still made s.state.facts) s o o'
 
 -- ---- one call on the link of this number, in its turn
 
 -- it was asked once; then it waits for the clock, or it is closed and its turn is done
-pub record Received (clients : Meaning) (terms : Terms) (n : ℕ) (links links' : List Link) (s s' : StoreValue) (o o' : Outside) (heard : ℕ → List ℕ) (moved : Bool) (still made : ℕ) (idle : Bool) : Type 0 where
+pub record Received (clients : Meaning) (terms : Terms) (n : ℕ) (links links' : List Link)
+    (s s' : StoreValue) (o o' : Outside) (heard : ℕ → List ℕ) (moved : Bool) (still made : ℕ)
+    (idle : Bool) : Type 0 where
   pub heard' : ℕ → List ℕ
   pub doing : Doing
   pub has_read : AllRead heard' links'
   pub ready : (l : Link) → slice_get links' n ≡ Some l → IsReadyToSend doing l
-  pub runs : RunRuns clients terms (place_at (Works n Asks) links heard moved still made s.state.facts)
+  pub runs : RunRuns clients terms
+      (place_at (Works n Asks) links heard moved still made s.state.facts)
       (place_at (Works n doing) links' heard' (cond idle moved true) still made s'.state.facts) s s' o o'
 
-pub record Receives (clients : Meaning) (first n : ℕ) (links links' : List Link) (s s' : StoreValue) (o o' : Outside) (idle : Bool) : Type 0 where
-  pub leads : (terms : Terms) (heard : ℕ → List ℕ) (moved : Bool) (still made : ℕ) → terms.first ≡ first → AllRead heard links
+pub record Receives (clients : Meaning) (first n : ℕ) (links links' : List Link)
+    (s s' : StoreValue) (o o' : Outside) (idle : Bool) : Type 0 where
+  pub leads : (terms : Terms) (heard : ℕ → List ℕ) (moved : Bool) (still made : ℕ)
+      → terms.first ≡ first → AllRead heard links
       → Received clients terms n links links' s s' o o' heard moved still made idle
 
-pub record BreaksReceiving (clients : Meaning) (first n : ℕ) (links : List Link) (s : StoreValue) (o o' : Outside) : Type 0 where
-  pub stops : (terms : Terms) (heard : ℕ → List ℕ) (moved : Bool) (still made : ℕ) → terms.first ≡ first → AllRead heard links
-      → RunBreaks clients terms (place_at (Works n Asks) links heard moved still made s.state.facts) s o o'
+pub record BreaksReceiving (clients : Meaning) (first n : ℕ) (links : List Link) (s : StoreValue)
+    (o o' : Outside) : Type 0 where
+  pub stops : (terms : Terms) (heard : ℕ → List ℕ) (moved : Bool) (still made : ℕ)
+      → terms.first ≡ first → AllRead heard links
+      → RunBreaks clients terms
+      (place_at (Works n Asks) links heard moved still made s.state.facts) s o o'
 
 -- all that is due on it at this reading was sent, so many outputs, and its turn is done
-pub record SendsDue (clients : Meaning) (first n now : ℕ) (links links' : List Link) (s s' : StoreValue) (o o' : Outside) (outs : ℕ) : Type 0 where
+pub record SendsDue (clients : Meaning) (first n now : ℕ) (links links' : List Link)
+    (s s' : StoreValue) (o o' : Outside) (outs : ℕ) : Type 0 where
   pub has_read : (heard : ℕ → List ℕ) → AllRead heard links → AllRead heard links'
-  pub runs : (terms : Terms) (heard : ℕ → List ℕ) (moved : Bool) (still made : ℕ) → terms.first ≡ first
-      → RunRuns clients terms (place_at (Works n (Sends now MAX_OUTPUTS)) links heard moved still made s.state.facts)
+  pub runs : (terms : Terms) (heard : ℕ → List ℕ) (moved : Bool) (still made : ℕ)
+      → terms.first ≡ first
+      → RunRuns clients terms
+      (place_at (Works n (Sends now MAX_OUTPUTS)) links heard moved still made s.state.facts)
       (place_at (Works n Done) links' heard (cond (nat_lt 0 outs) true moved) still made s'.state.facts) s s' o o'
 
-pub record BreaksSending (clients : Meaning) (first n now : ℕ) (links : List Link) (s : StoreValue) (o o' : Outside) : Type 0 where
-  pub stops : (terms : Terms) (heard : ℕ → List ℕ) (moved : Bool) (still made : ℕ) → terms.first ≡ first
-      → RunBreaks clients terms (place_at (Works n (Sends now MAX_OUTPUTS)) links heard moved still made s.state.facts) s o o'
+pub record BreaksSending (clients : Meaning) (first n now : ℕ) (links : List Link) (s : StoreValue)
+    (o o' : Outside) : Type 0 where
+  pub stops : (terms : Terms) (heard : ℕ → List ℕ) (moved : Bool) (still made : ℕ)
+      → terms.first ≡ first
+      → RunBreaks clients terms
+      (place_at (Works n (Sends now MAX_OUTPUTS)) links heard moved still made s.state.facts) s o o'
 
 -- ---- a session that begins on the next link
 
@@ -366,38 +443,53 @@ attaching_at left links moved still made f = record {
   facts = f;
 }
 
--- Where files are told, a session began on the link of this number, behind the others, and greeted there. Nothing was heard on it.
-pub record StartsAsCourse (clients : Meaning) (n : ℕ) (session : Session) (l : Link) (s s' : StoreValue) (o o' : Outside) : Type 0 where
+-- Where files are told, a session began on the link of this number, behind the others, and greeted
+-- there. Nothing was heard on it.
+pub record StartsAsCourse (clients : Meaning) (n : ℕ) (session : Session) (l : Link)
+    (s s' : StoreValue) (o o' : Outside) : Type 0 where
   pub has_read : IsRead [] l
-  pub runs : (two : Two File) → o.files ≡ Some two → (terms : Terms) (left : List Session) (links : List course_links.Link) (moved : Bool) (still made : ℕ) → length links ≡ n
+  pub runs : (two : Two File) → o.files ≡ Some two → (terms : Terms) (left : List Session)
+      (links : List course_links.Link) (moved : Bool) (still made : ℕ) → length links ≡ n
       → RunRuns clients terms (attaching_at (session ∷ left) links moved still made s.state.facts)
       (attaching_at left (links ++ link_at l [] ∷ []) moved still made s'.state.facts) s s' o o'
 
-pub record BreaksStart (clients : Meaning) (session : Session) (s : StoreValue) (o o' : Outside) : Type 0 where
-  pub stops : (terms : Terms) (left : List Session) (links : List course_links.Link) (moved : Bool) (still made : ℕ)
-      → RunBreaks clients terms (attaching_at (session ∷ left) links moved still made s.state.facts) s o o'
+pub record BreaksStart (clients : Meaning) (session : Session) (s : StoreValue)
+    (o o' : Outside) : Type 0 where
+  pub stops : (terms : Terms) (left : List Session) (links : List course_links.Link) (moved : Bool)
+      (still made : ℕ)
+      → RunBreaks clients terms
+      (attaching_at (session ∷ left) links moved still made s.state.facts) s o o'
 
 -- that link stands behind the others
-pub record StartsBehind (clients : Meaning) (n : ℕ) (session : Session) (links links' : List Link) (s s' : StoreValue) (o o' : Outside) : Type 0 where
+pub record StartsBehind (clients : Meaning) (n : ℕ) (session : Session) (links links' : List Link)
+    (s s' : StoreValue) (o o' : Outside) : Type 0 where
   pub link : Link
   pub starts : StartsAsCourse clients n session link s s' o o'
   pub pushed : links' ≡ links ++ link ∷ []
 
--- where files are told, the next session began on the link behind those of a node, on which nothing was heard
-pub record Begins (clients : Meaning) (session : Session) (links links' : List Link) (s s' : StoreValue) (o o' : Outside) : Type 0 where
-  pub has_read : (heard : ℕ → List ℕ) → heard (length links) ≡ [] → AllRead heard links → AllRead heard links'
-  pub runs : (two : Two File) → o.files ≡ Some two → (terms : Terms) (left : List Session) (heard : ℕ → List ℕ) (moved : Bool) (still made : ℕ) → heard (length links) ≡ []
-      → RunRuns clients terms (place_at (Attaches (session ∷ left)) links heard moved still made s.state.facts)
+-- where files are told, the next session began on the link behind those of a node, on which nothing
+-- was heard
+pub record Begins (clients : Meaning) (session : Session) (links links' : List Link)
+    (s s' : StoreValue) (o o' : Outside) : Type 0 where
+  pub has_read : (heard : ℕ → List ℕ) → heard (length links) ≡ [] → AllRead heard links
+      → AllRead heard links'
+  pub runs : (two : Two File) → o.files ≡ Some two → (terms : Terms) (left : List Session)
+      (heard : ℕ → List ℕ) (moved : Bool) (still made : ℕ) → heard (length links) ≡ []
+      → RunRuns clients terms
+      (place_at (Attaches (session ∷ left)) links heard moved still made s.state.facts)
       (place_at (Attaches left) links' heard moved still made s'.state.facts) s s' o o'
 
-pub record BreaksBeginning (clients : Meaning) (session : Session) (links : List Link) (s : StoreValue) (o o' : Outside) : Type 0 where
-  pub stops : (terms : Terms) (left : List Session) (heard : ℕ → List ℕ) (moved : Bool) (still made : ℕ)
-      → RunBreaks clients terms (place_at (Attaches (session ∷ left)) links heard moved still made s.state.facts) s o o'
+pub record BreaksBeginning (clients : Meaning) (session : Session) (links : List Link)
+    (s : StoreValue) (o o' : Outside) : Type 0 where
+  pub stops : (terms : Terms) (left : List Session) (heard : ℕ → List ℕ) (moved : Bool)
+      (still made : ℕ)
+      → RunBreaks clients terms
+      (place_at (Attaches (session ∷ left)) links heard moved still made s.state.facts) s o o'
 
 -- ---- redundant links
 
 -- a link is kept rather than another one, where it stands before it or not
 abbrev pub outdoes_of : Link → Link → Bool → Bool
 outdoes_of a b before =
-    is_going (end_of a.end)
-    && (is_going (end_of b.end) && (nat_eq a.session.contact b.session.contact && is_kept a.nonce b.nonce before))
+    is_going a.end
+    && (is_going b.end && (nat_eq a.session.contact b.session.contact && is_kept a.nonce b.nonce before))

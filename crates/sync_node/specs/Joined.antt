@@ -1,4 +1,5 @@
--- A link and its session are joined: what was sent is all that the journal has as output, and what was heard was taken.
+-- A link and its session are joined: what was sent is all that the journal has as output, and what
+-- was heard was taken.
 use Rattle.std.specs.Prelude.{◌≡◌, ◌≢◌, ℕ, ◌≤◌, List, [], ◌∷◌, length, Option, Some, None, slice_get}
 use Rattle.outside.specs.Outside.{Outside}
 use Rattle.outside.specs.Runs.{Told, answers_at}
@@ -12,7 +13,7 @@ use Rattle.sync_rules.specs.Facts.{takes_of}
 use Rattle.sync_store.specs.Store.{StoreValue}
 use Rattle.sync_store.specs.Fitting.{Fits}
 use Rattle.sync_node.specs.declared.link.Link.{Link}
-use Rattle.sync_node.specs.declared.link.LinkEnd.TheVariants as link_end
+use Rattle.sync_course.specs.declared.ends.LinkEnd.TheVariants as link_end
 use Rattle.sync_node.specs.Output.{Journal, heard_on, output, sent_on}
 
 -- the nonce of the first PRIORITY
@@ -26,8 +27,8 @@ abbrev pub known_nonce : Option (List ℕ) → List Record → Option (List ℕ)
 known_nonce None rs = first_nonce rs
 known_nonce (Some nonce) rs = Some nonce
 
--- Of the bytes heard on a link the reader has given some items, and these bytes are left to be fed to it. Each record among the
--- items was taken, and the known nonce is that of the records.
+-- Of the bytes heard on a link the reader has given some items, and these bytes are left to be fed
+-- to it. Each record among the items was taken, and the known nonce is that of the records.
 pub record HasTaken (heard left : List ℕ) (l : Link) (takes : ℕ) : Type 0 where
   pub has : List Item
   pub reads : ReadsOn heard fresh has left l.reader
@@ -36,13 +37,17 @@ pub record HasTaken (heard left : List ℕ) (l : Link) (takes : ℕ) : Type 0 wh
 
 -- the bytes sent on a link are the whole output of its session
 abbrev pub IsAllSent : Meaning → ℕ → ℕ → StoreValue → Outside → Type 0
-IsAllSent clients session link s o = (told : Told o) (whole : Journal) → Fits clients s whole told.two → sent_on o.links link ≡ output whole session
+IsAllSent clients session link s o =
+    (told : Told o) (whole : Journal) → Fits clients s whole told.two
+    → sent_on o.links link ≡ output whole session
 
--- A link is joined, but for these bytes that were heard last. Unless a call on it failed, what was sent is the whole output of its
--- session; while it is still asked, what was heard was taken.
-pub record IsJoined (clients : Meaning) (link : ℕ) (left : List ℕ) (l : Link) (s : StoreValue) (o : Outside) : Type 0 where
+-- A link is joined, but for these bytes that were heard last. Unless a call on it failed, what was
+-- sent is the whole output of its session; while it is still asked, what was heard was taken.
+pub record IsJoined (clients : Meaning) (link : ℕ) (left : List ℕ) (l : Link) (s : StoreValue)
+    (o : Outside) : Type 0 where
   pub sent : l.end ≢ link_end.Failed → IsAllSent clients l.session.number link s o
-  pub taken : l.end ≡ link_end.Going → Told o → HasTaken (heard_on o.links link) left l (takes_of s.state.facts.takes l.session.number)
+  pub taken : l.end ≡ link_end.Going → Told o
+      → HasTaken (heard_on o.links link) left l (takes_of s.state.facts.takes l.session.number)
 
 -- on a link that is not attached nothing was heard and nothing was sent
 pub record IsUnused (link : ℕ) (o : Outside) : Type 0 where
@@ -50,6 +55,7 @@ pub record IsUnused (link : ℕ) (o : Outside) : Type 0 where
   pub nothing_heard : Told o → answers_at o.links.heard link ≡ []
 
 -- all links are joined, and the others are not used
-pub record Joined (clients : Meaning) (links : List Link) (s : StoreValue) (o : Outside) : Type 0 where
+pub record Joined (clients : Meaning) (links : List Link) (s : StoreValue)
+    (o : Outside) : Type 0 where
   pub each : (link : ℕ) (l : Link) → slice_get links link ≡ Some l → IsJoined clients link [] l s o
   pub others : (link : ℕ) → length links ≤ link → IsUnused link o

@@ -4,6 +4,7 @@ pub mod Output
 pub mod Suits
 pub mod Safe
 pub mod Going
+pub mod Causes
 pub mod Joined
 pub mod Working
 pub mod Sending
@@ -13,12 +14,11 @@ pub mod Redundant
 pub mod Starting
 pub mod Adding
 pub mod Node
+pub mod Stays
+pub mod Stops
+pub mod Begun
 pub mod Plans
 pub mod Cited
 pub mod Courses
+pub mod Fulls
 pub mod CourseLaws
-pub mod CourseTurns
-pub mod CourseRuns
-pub mod CourseRedundant
-pub mod CourseCalls
-pub mod CourseJoined

@@ -8,21 +8,25 @@ use Rattle.sync_rules.specs.Clients.{Meaning}
 use Rattle.sync_rules.specs.Facts.{Facts, session_at}
 use Rattle.sync_rules.specs.Steps.{IsSettled}
 use Rattle.sync_store.specs.Store.{StoreValue, store_code}
+use Rattle.outside.specs.Runs.{Told}
+use Rattle.sync_store.specs.Fitting.{Fits}
 use Rattle.sync_store.specs.Ready.{IsReady}
 use Rattle.sync_node.specs.declared.fault.NodeFault.{NodeFault}
 use Rattle.sync_node.specs.declared.fault.NodeFault.TheVariants as fault
 use Rattle.sync_node.specs.declared.link.Link.{Link}
-use Rattle.sync_node.specs.contracts.link.LinkEnd as link_ending
+use Rattle.sync_course.specs.contracts.ends.LinkEnd as link_ending
 use Rattle.sync_rules.specs.contracts.entries.Session as session
 use Rattle.record_stream.specs.Reading.{ReaderState}
-use Rattle.sync_node.specs.declared.link.LinkEnd.{LinkEnd}
-use Rattle.sync_node.specs.declared.link.LinkEnd.TheVariants as link_end
+use Rattle.sync_course.specs.declared.ends.LinkEnd.{LinkEnd}
+use Rattle.sync_course.specs.declared.ends.LinkEnd.TheVariants as link_end
 use Rattle.sync_node.specs.Going.{Goes}
 use Rattle.sync_node.specs.Joined.{Joined}
-use Rattle.sync_node.specs.Safe.{Begin, Safe}
+use Rattle.sync_node.specs.Output.{Journal}
+use Rattle.sync_node.specs.Safe.{Begin, Safe, begun_anew}
 use Rattle.sync_node.specs.Working.{Waits}
 
--- the store, the number of sessions when the node was made, the links that are attached, and whether a call failed
+-- the store, the number of sessions when the node was made, the links that are attached, and
+-- whether a call failed
 pub record NodeValue : Type 0 where
   pub store : StoreValue
   pub first : ℕ
@@ -50,6 +54,15 @@ node_code =
     (λ p. record { store = p.0; first = p.1.0; links = p.1.1.0; closed = p.1.1.1 })
     (λ _. refl)
 
+-- a node that is made of a store
+abbrev pub new_node : StoreValue → NodeValue
+new_node store = record {
+  store = store;
+  first = store.state.facts.begun;
+  links = [];
+  closed = false;
+}
+
 -- ---- links
 
 abbrev pub is_going : LinkEnd → Bool
@@ -61,7 +74,8 @@ abbrev pub asked_among : List Link → ℕ
 asked_among [] = 0
 asked_among (l ∷ ls) = cond (is_going l.end) 1 0 + asked_among ls
 
--- a link of a node has its session in the journal, numbered by the link, and its reader waits for bytes
+-- a link of a node has its session in the journal, numbered by the link, and its reader waits for
+-- bytes
 pub record IsAttached (first : ℕ) (f : Facts) (number : ℕ) (l : Link) : Type 0 where
   pub numbered : l.session.number ≡ first + number
   pub known : session_at f.sessions l.session.number ≡ Some l.session
@@ -77,24 +91,29 @@ pub record AreSome (links : List Link) (f : Facts) : Type 0 where
   pub first : ℕ
   pub attached : AreAttached first links f
 
--- links may go on with these clients and this host: the store is ready, the links were dialled on this host, and where there are
--- any the journal is settled
-pub record MayGoOn (clients : Meaning) (links : List Link) (s : StoreValue) (o : Outside) : Type 0 where
+-- links may go on with these clients and this host: the store is ready, the links were dialled on
+-- this host, and where there are any the journal is settled
+pub record MayGoOn (clients : Meaning) (links : List Link) (s : StoreValue)
+    (o : Outside) : Type 0 where
   pub ready : IsReady clients s o.files
   pub settled : 0 < length links → IsSettled clients s.state.facts
   pub dialled : length links ≤ o.links.dialled
 
--- Work on links that were attached leaves them attached and joined; a run stays safe, at every moment and at the end, for whatever
--- begin.
-pub record LinksWork (clients : Meaning) (first : ℕ) (links links' : List Link) (s s' : StoreValue) (o o' : Outside) : Type 0 where
+-- Work on links that were attached leaves them attached and joined; a run stays safe, at every
+-- moment and at the end, for whatever begin.
+pub record LinksWork (clients : Meaning) (first : ℕ) (links links' : List Link) (s s' : StoreValue)
+    (o o' : Outside) : Type 0 where
   pub goes : Goes o o'
   pub same_number : length links' ≡ length links
   pub attached : AreAttached first links' s'.state.facts
   pub joined : Joined clients links s o → Joined clients links' s' o'
-  pub safe : Joined clients links s o → (b : Begin) (plans : List Session) → first ≡ b.first → Safe clients b plans s o → Safe clients b plans s' o'
+  pub safe : Joined clients links s o → (b : Begin) (plans : List Session) → first ≡ b.first
+      → Safe clients b plans s o → Safe clients b plans s' o'
 
-pub record LinksSafe (clients : Meaning) (first : ℕ) (links : List Link) (s s' : StoreValue) (o o' : Outside) : Type 0 where
-  pub safe : Joined clients links s o → (b : Begin) (plans : List Session) → first ≡ b.first → Safe clients b plans s o → Safe clients b plans s' o'
+pub record LinksSafe (clients : Meaning) (first : ℕ) (links : List Link) (s s' : StoreValue)
+    (o o' : Outside) : Type 0 where
+  pub safe : Joined clients links s o → (b : Begin) (plans : List Session) → first ≡ b.first
+      → Safe clients b plans s o → Safe clients b plans s' o'
 
 -- ---- the node
 
@@ -114,16 +133,27 @@ pub record KeepsJoined (clients : Meaning) (n n' : NodeValue) (o o' : Outside) :
   pub same_number : length n'.links ≡ length n.links
   pub joined : Joined clients n.links n.store o → Joined clients n'.links n'.store o'
 
--- From a node whose links were joined, and from a safe run, a call leads to a safe run, whatever it answers: at every moment and
--- at the end, for whatever begin of the run.
+-- From a node whose links were joined, and from a safe run, a call leads to a safe run, whatever it
+-- answers: at every moment and at the end, for whatever begin of the run.
 pub record KeepsSafe (clients : Meaning) (n n' : NodeValue) (o o' : Outside) : Type 0 where
-  pub safe : Joined clients n.links n.store o → (b : Begin) (plans : List Session) → n.first ≡ b.first
+  pub safe : Joined clients n.links n.store o → (b : Begin) (plans : List Session)
+      → n.first ≡ b.first
       → Safe clients b plans n.store o → Safe clients b plans n'.store o'
 
 -- the same of a call that begins a session on the next link
-pub record PlansSafe (clients : Meaning) (session : Session) (n n' : NodeValue) (o o' : Outside) : Type 0 where
-  pub safe : Joined clients n.links n.store o → (b : Begin) (plans : List Session) → n.first ≡ b.first → length plans ≡ length n.links
+pub record PlansSafe (clients : Meaning) (session : Session) (n n' : NodeValue)
+    (o o' : Outside) : Type 0 where
+  pub safe : Joined clients n.links n.store o → (b : Begin) (plans : List Session)
+      → n.first ≡ b.first → length plans ≡ length n.links
       → Safe clients b plans n.store o → Safe clients b (plans ++ session ∷ []) n'.store o'
+
+-- Where a run was safe before something was added to its journal, it begins anew behind that and is
+-- safe: over the journal, the files and the clock value of then, with the sessions that it had.
+pub record KeepsSafeAnew (clients : Meaning) (n n' : NodeValue) (o o' : Outside) : Type 0 where
+  pub safe : (b : Begin) (plans : List Session) → Safe clients b plans n.store o
+      → (told : Told o') (whole : Journal)
+      → Fits clients n'.store whole told.two
+      → Safe clients (begun_anew b told.two whole o') plans n'.store o'
 
 -- a session was begun on the next link
 pub record Attaches (clients : Meaning) (n n' : NodeValue) (o o' : Outside) : Type 0 where
@@ -133,12 +163,14 @@ pub record Attaches (clients : Meaning) (n n' : NodeValue) (o o' : Outside) : Ty
   pub joined : Joined clients n.links n.store o → Joined clients n'.links n'.store o'
 
 -- what a call answers where an earlier call of the node failed: it does nothing
-pub record StaysClosed {T H : Type 0} (n n' : NodeValue) (host host' : H) (result : Result T NodeFault) : Type 0 where
+pub record StaysClosed {T H : Type 0} (n n' : NodeValue) (host host' : H)
+    (result : Result T NodeFault) : Type 0 where
   pub answer : result ≡ Err fault.Closed
   pub same : n' ≡ n
   pub same_host : host' ≡ host
 
--- Closed is no answer of a node that was not closed; after any fault the node is closed, and else it is not.
+-- Closed is no answer of a node that was not closed; after any fault the node is closed, and else
+-- it is not.
 abbrev pub Answers : {T : Type 0} → Result T NodeFault → NodeValue → Type 0
 Answers (Ok _) n' = n'.closed ≡ false
 Answers (Err fault.Memory) n' = n'.closed ≡ true

@@ -20,6 +20,7 @@ heard_on links link = heard_bytes (answers_at links.heard link)
 abbrev pub sent_on : Links → ℕ → List ℕ
 sent_on links link = sent_at links.told link
 
--- on each link the bytes sent are a front of its session's output; the sessions of the links are numbered from `first` on
+-- on each link the bytes sent are a front of its session's output; the sessions of the links are
+-- numbered from `first` on
 abbrev pub AreOutput : Journal → ℕ → (ℕ → List ℕ) → Type 0
 AreOutput journal first sent = (link : ℕ) → IsFront (sent link) (output journal (first + link))

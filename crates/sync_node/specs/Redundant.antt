@@ -1,7 +1,7 @@
 -- Links of which some are closed since another one with the same contact is kept.
 use Rattle.std.specs.Prelude.{◌≡◌, ◌⊎◌, ℕ, List, length, Some, slice_get}
 use Rattle.sync_node.specs.declared.link.Link.{Link}
-use Rattle.sync_node.specs.declared.link.LinkEnd.TheVariants as link_end
+use Rattle.sync_course.specs.declared.ends.LinkEnd.TheVariants as link_end
 
 -- the link of a number stayed as it was, or it was asked and was closed
 pub record StaysOrCloses (links : List Link) (number : ℕ) (l : Link) : Type 0 where

@@ -4,7 +4,7 @@ use Rattle.outside.specs.declared.failed.Failed.{Failed}
 use Rattle.outside.specs.Host.{Sends, SendsPart}
 use Rattle.outside.specs.Outside.{Outside, LinkCall}
 use Rattle.sync_node.specs.declared.link.Link.{Link}
-use Rattle.sync_node.specs.declared.link.LinkEnd.TheVariants as link_end
+use Rattle.sync_course.specs.declared.ends.LinkEnd.TheVariants as link_end
 
 -- a failed send closes the link
 abbrev pub EndsBy : Result (Unit {0}) Failed → Link → Link → Type 0

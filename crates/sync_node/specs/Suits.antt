@@ -1,23 +1,13 @@
 -- Which journal suits a run: what its batches add to the journal that it began with.
 use Rattle.std.specs.Prelude.{◌≡◌, ◌⊎◌, ℕ, ◌+◌, ◌≤◌, List, [], ◌∷◌, ◌++◌, Some, slice_get}
-use Rattle.sync_ids.specs.declared.records.Record.{Record}
-use Rattle.record_grammar.specs.Stream.{records}
 use Rattle.sync_rules.specs.declared.entries.Entry.{Entry}
 use Rattle.sync_rules.specs.declared.entries.Entry.TheVariants as entry
 use Rattle.sync_rules.specs.declared.entries.Session.{Session}
 use Rattle.sync_rules.specs.Clients.{Meaning}
 use Rattle.sync_rules.specs.Facts.{Facts, after_all, facts}
 use Rattle.sync_rules.specs.Legal.{IsSettlingBatch}
-use Rattle.sync_rules.specs.Sessions.{taken}
+use Rattle.sync_course.specs.Suits.{TakesHeard}
 use Rattle.sync_node.specs.Output.{Journal}
-
--- the session's k-th record is what is taken: the k-th that was heard on its link
-pub record TakesHeard (first : ℕ) (heard : ℕ → List ℕ) (f : Facts) (session k : ℕ) (rest : List Entry) : Type 0 where
-  pub link : ℕ
-  pub on : session ≡ first + link
-  pub read : Record
-  pub next : slice_get (records (heard link)) k ≡ Some read
-  pub taken_so : rest ≡ taken f session read
 
 -- the session that begins is that of the next link, as planned
 pub record BeginsPlanned (first : ℕ) (plans : List Session) (f : Facts) (s : Session) : Type 0 where
@@ -25,8 +15,8 @@ pub record BeginsPlanned (first : ℕ) (plans : List Session) (f : Facts) (s : S
   pub on : f.begun ≡ first + link
   pub planned : slice_get plans link ≡ Some s
 
--- What a run adds beside settling: the session of the next link; a record taken; an output of one of its sessions. The sessions
--- of a run are numbered from `first` on, one for each link in order.
+-- What a run adds beside settling: the session of the next link; a record taken; an output of one
+-- of its sessions. The sessions of a run are numbered from `first` on, one for each link in order.
 abbrev pub IsOfRun : ℕ → List Session → (ℕ → List ℕ) → Facts → List Entry → Type 0
 IsOfRun first plans heard f (entry.Session s ∷ rest) = BeginsPlanned first plans f s
 IsOfRun first plans heard f (entry.Take s k ∷ rest) = TakesHeard first heard f s k rest
@@ -34,14 +24,17 @@ IsOfRun first plans heard f (entry.Out s now what ∷ rest) = first ≤ s
 IsOfRun first plans heard f _ = ⊥
 
 abbrev pub Suits : Meaning → ℕ → List Session → (ℕ → List ℕ) → Facts → List Entry → Type 0
-Suits clients first plans heard f batch = IsSettlingBatch clients f batch ⊎ IsOfRun first plans heard f batch
+Suits clients first plans heard f batch =
+    IsSettlingBatch clients f batch ⊎ IsOfRun first plans heard f batch
 
 abbrev pub AllSuit : Meaning → ℕ → List Session → (ℕ → List ℕ) → Facts → Journal → Type 0
 AllSuit clients first plans heard f [] = Unit {0}
-AllSuit clients first plans heard f (b ∷ bs) = Suits clients first plans heard f b × AllSuit clients first plans heard (after_all f b) bs
+AllSuit clients first plans heard f (b ∷ bs) =
+    Suits clients first plans heard f b × AllSuit clients first plans heard (after_all f b) bs
 
 -- a journal that goes on from the one of the begin by batches of the run
-pub record SuitsRun (clients : Meaning) (begin : Journal) (first : ℕ) (plans : List Session) (heard : ℕ → List ℕ) (journal : Journal) : Type 0 where
+pub record SuitsRun (clients : Meaning) (begin : Journal) (first : ℕ) (plans : List Session)
+    (heard : ℕ → List ℕ) (journal : Journal) : Type 0 where
   pub more : Journal
   pub extends : journal ≡ begin ++ more
   pub suits : AllSuit clients first plans heard (facts begin) more

@@ -20,7 +20,8 @@ use Rattle.sync_node.specs.Safe.{Begin, Safe}
 use Rattle.sync_node.specs.Working.{Waits}
 
 -- a store in which a session may take a record
-pub record IsOpenFor (clients : Meaning) (session : Session) (s : StoreValue) (o : Outside) : Type 0 where
+pub record IsOpenFor (clients : Meaning) (session : Session) (s : StoreValue)
+    (o : Outside) : Type 0 where
   pub ready : IsReady clients s o.files
   pub settled : IsSettled clients s.state.facts
   pub known : session_at s.state.facts.sessions session.number ≡ Some session
@@ -30,7 +31,8 @@ abbrev pub next_take : Facts → Session → Record → List Entry
 next_take f session r = take_of f session (takes_of f.takes session.number) r
 
 -- a record was taken, and the journal settled behind it
-pub record TakesOn (clients : Meaning) (session : Session) (r : Record) (s s' : StoreValue) (o o' : Outside) : Type 0 where
+pub record TakesOn (clients : Meaning) (session : Session) (r : Record) (s s' : StoreValue)
+    (o o' : Outside) : Type 0 where
   pub allowed : Allowed clients s.state.facts (next_take s.state.facts session r)
   pub more : Journal
   pub settling : AllSettling clients (after_all s.state.facts (next_take s.state.facts session r)) more
@@ -38,12 +40,15 @@ pub record TakesOn (clients : Meaning) (session : Session) (r : Record) (s s' : 
   pub settled : IsSettled clients s'.state.facts
 
 -- where the record is the next that was heard on the session's link, it stays safe
-pub record TakesSafe (clients : Meaning) (session : Session) (r : Record) (s s' : StoreValue) (o o' : Outside) : Type 0 where
+pub record TakesSafe (clients : Meaning) (session : Session) (r : Record) (s s' : StoreValue)
+    (o o' : Outside) : Type 0 where
   pub safe : (b : Begin) (plans : List Session) (link : ℕ) → session.number ≡ b.first + link
       → (Told o → slice_get (records (heard_on o.links link)) (takes_of s.state.facts.takes session.number) ≡ Some r)
       → Safe clients b plans s o → Safe clients b plans s' o'
 
--- fewer bytes are left, held or of the piece; or nothing is left of the piece, and no item stands whole in what is held
+-- fewer bytes are left, held or of the piece; or nothing is left of the piece, and no item stands
+-- whole in what is held
 abbrev pub LeavesLess : Link → List ℕ → Link → List ℕ → Bool → Type 0
-LeavesLess old piece new left true = length new.reader.bytes + length left < length old.reader.bytes + length piece
+LeavesLess old piece new left true =
+    length new.reader.bytes + length left < length old.reader.bytes + length piece
 LeavesLess old piece new left false = (left ≡ []) × Waits new

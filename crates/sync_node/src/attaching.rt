@@ -1,23 +1,30 @@
 //! A session that begins on a link.
+ghost use Rattle.std.specs.Prelude.{IfErr};
 ghost use Rattle.std.specs.Prelude.{IsErrOf};
 ghost use Rattle.outside.specs.Faults.{Rose};
-ghost use Rattle.std.specs.Prelude.{◌≡◌, ◌<◌, ◌++◌, ◌∷◌, [], IfOk, OnErr, OnOk};
+ghost use Rattle.std.specs.Prelude.{◌≡◌, ◌<◌, ◌++◌, ◌∷◌, [], length, IfOk, OnErr, OnOk};
 ghost use Rattle.record_stream.specs.Reading.{AwaitsBytes, fresh};
 ghost use Rattle.sync_rules.specs.Legal.{Allowed};
 ghost use Rattle.sync_rules.specs.declared.entries.Entry.TheVariants as entry;
 ghost use Rattle.sync_store.specs.Ready.{IsReady};
+ghost use Rattle.sync_node.specs.Causes.{LinkGoes, LinksGo};
 ghost use Rattle.sync_node.specs.Courses.{BreaksStart, GreetsAsCourse, StartsAsCourse};
 ghost use Rattle.sync_node.specs.Courses.{StartsBehind};
+ghost use Rattle.sync_node.specs.Fulls.{FullStart};
+ghost use Rattle.sync_node.specs.Going.{Goes};
 ghost use Rattle.sync_node.specs.Starting.{Greets, Starts, StartsLast, StartsSafe};
+ghost use Rattle.sync_node.specs.Stays.{KeepsReady};
+ghost use Rattle.sync_node.specs.Stops.{StaysSame};
 
 use crate::fault::Fault;
-use crate::link::{Link, LinkEnd};
+use crate::link::Link;
 use crate::sending::send_on;
 use crate::spelling::{spell_nonce, spell_versions};
 use crate::told::{cite_laws, commit};
 use outside::Host;
 use record_stream::Reader;
 use std::alloc::Global;
+use sync_course::LinkEnd;
 use sync_rules::{Batch, Clients, Entry, Session};
 use sync_store::Store;
 
@@ -35,7 +42,10 @@ pub(crate) fn attach_on<H: Host, C: Clients>(
     requires ready { IsReady (C.meaning clients.now) store.old (H.tells host.old).files }
     requires allowed { Allowed (C.meaning clients.now) store.old.state.facts
         (entry.Session session ∷ []) }
+    requires last { length links.old.items ≡ number }
     requires dialled { number < (H.tells host.old).links.dialled }
+    ensures ready { IfErr result (KeepsReady (C.meaning clients.now) store.new
+        (H.tells host.new)) }
     ensures starts { OnOk result (StartsLast (C.meaning clients.now) number session
         links.old.items links.new.items store.old store.new (H.tells host.old)
         (H.tells host.new)) }
@@ -47,6 +57,13 @@ pub(crate) fn attach_on<H: Host, C: Clients>(
     ensures same { OnErr result (links.new.items ≡ links.old.items) }
     ensures safe { StartsSafe (C.meaning clients.now) number session store.old store.new
         (H.tells host.old) (H.tells host.new) }
+    ensures run { LinksGo links.old.items links.new.items (H.tells host.old)
+        (H.tells host.new) }
+    ensures limit { store.new.limit ≡ store.old.limit }
+    ensures as_before { IsErrOf result Fault.Full → StaysSame (C.meaning clients.now) store.old store.new
+        (H.tells host.old) (H.tells host.new) }
+    ensures full { IsErrOf result Fault.Full → FullStart (C.meaning clients.now) session store.old
+        store.new (H.tells host.old) (H.tells host.new) }
     ensures fault { IsErrOf result Fault.DiskFault → Rose (H.tells host.old).disk_faults
         (H.tells host.new).disk_faults }
 {
@@ -75,6 +92,8 @@ fn start<H: Host, C: Clients>(
     requires fresh { reader ≡ fresh }
     requires waits { AwaitsBytes reader }
     requires dialled { number < (H.tells host.old).links.dialled }
+    ensures ready { IfErr result (KeepsReady (C.meaning clients.now) store.new
+        (H.tells host.new)) }
     ensures course { IfOk result (λ link. StartsAsCourse (C.meaning clients.now) number session link
         store.old store.new (H.tells host.old) (H.tells host.new)) }
     ensures halts { OnErr result (BreaksStart (C.meaning clients.now) session store.old
@@ -83,6 +102,15 @@ fn start<H: Host, C: Clients>(
         store.old store.new (H.tells host.old) (H.tells host.new)) }
     ensures safe { StartsSafe (C.meaning clients.now) number session store.old store.new
         (H.tells host.old) (H.tells host.new) }
+    ensures run { Goes (H.tells host.old) (H.tells host.new) }
+    ensures cause { IfOk result (λ link. link.end ≡ LinkEnd.Failed
+        → Rose ((H.tells host.old).links.faults number)
+        ((H.tells host.new).links.faults number)) }
+    ensures limit { store.new.limit ≡ store.old.limit }
+    ensures as_before { IsErrOf result Fault.Full → StaysSame (C.meaning clients.now) store.old store.new
+        (H.tells host.old) (H.tells host.new) }
+    ensures full { IsErrOf result Fault.Full → FullStart (C.meaning clients.now) session store.old
+        store.new (H.tells host.old) (H.tells host.new) }
     ensures fault { IsErrOf result Fault.DiskFault → Rose (H.tells host.old).disk_faults
         (H.tells host.new).disk_faults }
 {
@@ -91,7 +119,6 @@ fn start<H: Host, C: Clients>(
     let priority = spell_nonce(alloc, &session.nonce)?;
     let batch = Batch::single(alloc, Entry::Session(session))?;
     commit(store, host, clients, batch)?;
-    let _room = store.end();
     let Some(begun) = store.session(session.number) else {
         unreachable!()
     };
@@ -115,6 +142,7 @@ fn start<H: Host, C: Clients>(
 fn greet<H: Host>(host: &mut H, number: u8, link: &mut Link, versions: &[u8], priority: &[u8])
     requires dialled { number < (H.tells host.old).links.dialled }
     requires going { link.old.end ≡ LinkEnd.Going }
+    ensures run { LinkGoes number link.old link.new (H.tells host.old) (H.tells host.new) }
     ensures told { GreetsAsCourse number link.old link.new (H.tells host.old)
         (H.tells host.new) }
     ensures greets { Greets number (versions.now ++ priority.now) link.old link.new (H.tells host.old)
@@ -122,7 +150,7 @@ fn greet<H: Host>(host: &mut H, number: u8, link: &mut Link, versions: &[u8], pr
 {
     cite_laws();
     send_on(host, number, link, versions);
-    if link.end.may_send() && !priority.is_empty() {
+    if link.may_send() && !priority.is_empty() {
         send_on(host, number, link, priority);
     }
 }

@@ -1,22 +1,29 @@
 //! What is heard on a link is taken.
+ghost use Rattle.std.specs.Prelude.{IfErr};
 ghost use Rattle.std.specs.Prelude.{◌≡◌, ◌+◌, ◌<◌, ◌++◌, ◌∷◌, [], false, true, length, IfOk, OnErr};
 ghost use Rattle.std.specs.Prelude.{IsErrOf, OnOk};
 ghost use Rattle.outside.specs.Faults.{Rose};
 ghost use Rattle.sync_course.specs.declared.TheConstants.{PIECE_LEN};
+ghost use Rattle.sync_node.specs.Causes.{LinkGoes};
 ghost use Rattle.sync_node.specs.Courses.{HearsAsCourse, HearsStops};
 ghost use Rattle.sync_node.specs.Courses.{NextAsCourse, NextStops, PieceTaken, StopsAsCourse};
 ghost use Rattle.sync_node.specs.Courses.{TakesAsCourse};
+ghost use Rattle.sync_node.specs.Fulls.{HearsFull, NextFull, TakesFull};
+ghost use Rattle.sync_node.specs.Going.{Goes};
 ghost use Rattle.sync_node.specs.Hearing.{Learns};
 ghost use Rattle.sync_node.specs.Taking.{IsOpenFor, LeavesLess, TakesOn, TakesSafe};
 ghost use Rattle.sync_node.specs.Working.{IsAble, StaysSafe, Waits, Works};
+ghost use Rattle.sync_node.specs.Stays.{KeepsReady};
+ghost use Rattle.sync_node.specs.Stops.{StaysSame, StopsSent};
 
 use crate::fault::Fault;
-use crate::link::{Link, LinkEnd, ended};
+use crate::link::{Link, ended};
 use crate::told::{cite_laws, commit, settle};
 use outside::{Heard, Host};
 use record_stream::{Next, Piece};
 use session_core::{take, versions_ok};
 use std::alloc::Global;
+use sync_course::LinkEnd;
 use sync_ids::{Record, records_are_within};
 use sync_rules::{Clients, Session};
 use sync_store::Store;
@@ -37,6 +44,8 @@ pub(crate) fn receive_on<H: Host, C: Clients>(
     requires asked { link.old.end ≡ LinkEnd.Going }
     requires waits { Waits link.old }
     requires room { 0 < length buffer.old }
+    ensures ready { IfErr result (KeepsReady (C.meaning clients.now) store.new
+        (H.tells host.new)) }
     ensures able { OnOk result (IsAble (C.meaning clients.now) number link.new.session store.new
         (H.tells host.new)) }
     ensures waits { OnOk result (Waits link.new) }
@@ -50,6 +59,13 @@ pub(crate) fn receive_on<H: Host, C: Clients>(
         store.old store.new (H.tells host.old) (H.tells host.new)) }
     ensures stays { OnErr result (StaysSafe (C.meaning clients.now) number [] link.old store.old
         store.new (H.tells host.old) (H.tells host.new)) }
+    ensures sent { IsErrOf result Fault.Full → StopsSent (C.meaning clients.now) number [] link.old store.old
+        store.new (H.tells host.old) (H.tells host.new) }
+    ensures run { LinkGoes number link.old link.new (H.tells host.old) (H.tells host.new) }
+    ensures limit { store.new.limit ≡ store.old.limit }
+    ensures full { length buffer.old ≡ PIECE_LEN → IsErrOf result Fault.Full → HearsFull
+        (C.meaning clients.now) number link.old store.old store.new (H.tells host.old)
+        (H.tells host.new) }
     ensures fault { IsErrOf result Fault.DiskFault → Rose (H.tells host.old).disk_faults
         (H.tells host.new).disk_faults }
 {
@@ -86,6 +102,8 @@ fn take_piece<H: Host, C: Clients>(
     requires able { IsAble (C.meaning clients.now) number link.old.session store.old
         (H.tells host.old) }
     requires asked { link.old.end ≡ LinkEnd.Going }
+    ensures ready { IfErr result (KeepsReady (C.meaning clients.now) store.new
+        (H.tells host.new)) }
     ensures able { OnOk result (IsAble (C.meaning clients.now) number link.new.session store.new
         (H.tells host.new)) }
     ensures waits { OnOk result (Waits link.new) }
@@ -97,10 +115,16 @@ fn take_piece<H: Host, C: Clients>(
         store.old store.new (H.tells host.old) (H.tells host.new)) }
     ensures stays { OnErr result (StaysSafe (C.meaning clients.now) number piece.old link.old
         store.old store.new (H.tells host.old) (H.tells host.new)) }
+    ensures sent { IsErrOf result Fault.Full → StopsSent (C.meaning clients.now) number piece.old link.old
+        store.old store.new (H.tells host.old) (H.tells host.new) }
+    ensures run { LinkGoes number link.old link.new (H.tells host.old) (H.tells host.new) }
+    ensures limit { store.new.limit ≡ store.old.limit }
+    ensures full { IsErrOf result Fault.Full → NextFull (C.meaning clients.now) number piece.old
+        link.old store.old store.new (H.tells host.old) (H.tells host.new) }
     ensures fault { IsErrOf result Fault.DiskFault → Rose (H.tells host.old).disk_faults
         (H.tells host.new).disk_faults }
 {
-    'items: while link.end.is_asked() {
+    'items: while link.is_asked() {
         if !take_next(alloc, store, host, clients, number, link, piece)? {
             return Ok(());
         }
@@ -122,6 +146,8 @@ fn take_next<H: Host, C: Clients>(
     requires able { IsAble (C.meaning clients.now) number link.old.session store.old
         (H.tells host.old) }
     requires asked { link.old.end ≡ LinkEnd.Going }
+    ensures ready { IfErr result (KeepsReady (C.meaning clients.now) store.new
+        (H.tells host.new)) }
     ensures able { OnOk result (IsAble (C.meaning clients.now) number link.new.session store.new
         (H.tells host.new)) }
     ensures course { IfOk result (NextAsCourse (C.meaning clients.now) number piece.old piece.new
@@ -133,6 +159,12 @@ fn take_next<H: Host, C: Clients>(
         link.new store.old store.new (H.tells host.old) (H.tells host.new)) }
     ensures stays { OnErr result (StaysSafe (C.meaning clients.now) number piece.old link.old
         store.old store.new (H.tells host.old) (H.tells host.new)) }
+    ensures sent { IsErrOf result Fault.Full → StopsSent (C.meaning clients.now) number piece.old link.old
+        store.old store.new (H.tells host.old) (H.tells host.new) }
+    ensures run { LinkGoes number link.old link.new (H.tells host.old) (H.tells host.new) }
+    ensures limit { store.new.limit ≡ store.old.limit }
+    ensures full { IsErrOf result Fault.Full → NextFull (C.meaning clients.now) number piece.old
+        link.old store.old store.new (H.tells host.old) (H.tells host.new) }
     ensures fault { IsErrOf result Fault.DiskFault → Rose (H.tells host.old).disk_faults
         (H.tells host.new).disk_faults }
 {
@@ -182,6 +214,8 @@ fn take_one<H: Host, C: Clients>(
     rec: Record,
 ) -> Result<(), Fault>
     requires able { IsOpenFor (C.meaning clients.now) session.now store.old (H.tells host.old) }
+    ensures ready { IfErr result (KeepsReady (C.meaning clients.now) store.new
+        (H.tells host.new)) }
     ensures course { OnOk result (TakesAsCourse (C.meaning clients.now) session.now.number rec
         store.old store.new (H.tells host.old) (H.tells host.new)) }
     ensures stops { OnErr result (StopsAsCourse (C.meaning clients.now) session.now.number rec
@@ -190,6 +224,12 @@ fn take_one<H: Host, C: Clients>(
         store.new (H.tells host.old) (H.tells host.new)) }
     ensures safe { TakesSafe (C.meaning clients.now) session.now rec store.old store.new
         (H.tells host.old) (H.tells host.new) }
+    ensures run { Goes (H.tells host.old) (H.tells host.new) }
+    ensures limit { store.new.limit ≡ store.old.limit }
+    ensures as_before { IsErrOf result Fault.Full → StaysSame (C.meaning clients.now) store.old store.new
+        (H.tells host.old) (H.tells host.new) }
+    ensures full { IsErrOf result Fault.Full → TakesFull (C.meaning clients.now)
+        session.now.number rec store.old store.new (H.tells host.old) (H.tells host.new) }
     ensures fault { IsErrOf result Fault.DiskFault → Rose (H.tells host.old).disk_faults
         (H.tells host.new).disk_faults }
 {

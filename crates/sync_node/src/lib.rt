@@ -9,11 +9,13 @@
 //! - `redundant`: which of the links with one contact is kept.
 //! - `spelling`: the bytes of what is sent.
 //! - `told`: each call on the store or the host, with what it leaves.
+//! - `laws`: how a run begins and ends, for callers.
 #![tactic(auto)]
 
 mod attaching;
 mod fault;
 mod hearing;
+pub mod laws;
 mod link;
 mod node;
 mod redundant;
@@ -23,6 +25,5 @@ mod told;
 mod turning;
 
 pub use fault::NodeFault;
-pub use link::LinkEnd;
 pub use node::{Node, Plan, Turned};
-pub use sync_course::{MAX_OUTPUTS as MOST_OUTS, PIECE_LEN as RECEIVE_LEN};
+pub use sync_course::LinkEnd;

@@ -1,19 +1,20 @@
 //! The node.
-ghost use Rattle.std.specs.Prelude.{◌≡◌, ◌<◌, ◌≤◌, false, length, IfOk};
+ghost use Rattle.std.specs.Prelude.{◌≡◌, ◌<◌, ◌≤◌, false, true, length, IfOk};
 ghost use Rattle.outside.specs.declared.limits.TheConstants.{LINKS};
+ghost use Rattle.sync_node.specs.Faults.{fault_of};
 ghost use Rattle.sync_node.specs.Node.{asked_among};
 
 use crate::attaching::attach_on;
-use crate::fault::NodeFault;
+use crate::fault::{Fault, NodeFault};
 use crate::hearing::receive_on;
-use crate::link::{Link, LinkEnd};
+use crate::link::Link;
 use crate::sending::send_all;
 use crate::told::{add_settled, cite_laws};
 use crate::turning::turn_all;
 use outside::Host;
 use std::alloc::{AllocError, Global};
 use std::marker::Model;
-use sync_course::PIECE_LEN;
+use sync_course::{LinkEnd, PIECE_LEN};
 use sync_ids::Nonce;
 use sync_rules::{Batch, Clients, Mode, Session};
 use sync_store::Store;
@@ -76,6 +77,15 @@ impl Model for Node {
     }) };
 }
 
+// What a node answers whose work failed; it is closed.
+fn close(closed: &mut bool, fault: Fault) -> NodeFault
+    ensures closed { closed.new ≡ true }
+    ensures fault { result ≡ fault_of fault }
+{
+    *closed = true;
+    NodeFault::from(fault)
+}
+
 // A buffer of so many bytes.
 fn zeros(alloc: Global, len: usize) -> Result<Vec<u8>, AllocError>
     ensures { IfOk result (λ v. length v.items ≡ len) }
@@ -84,7 +94,7 @@ fn zeros(alloc: Global, len: usize) -> Result<Vec<u8>, AllocError>
 }
 
 impl Node {
-    ghost use Rattle.std.specs.Prelude.{[], true, slice_get, OnErr, OnOk, Some};
+    ghost use Rattle.std.specs.Prelude.{[], ◌∷◌, slice_get, OnErr, OnOk, Some};
     ghost use Rattle.std.specs.Option.{option_map};
     ghost use Rattle.sync_node.specs.declared.link.Link.{Link};
     ghost use Rattle.std.specs.Prelude.{IsErrOf};
@@ -96,24 +106,30 @@ impl Node {
     ghost use Rattle.sync_node.specs.Adding.{AddsAtMost, IsPlain};
     ghost use Rattle.sync_node.specs.Output.{Journal};
     ghost use Rattle.sync_rules.specs.Steps.{IsSettled};
-    ghost use Rattle.sync_node.specs.Node.{Answers, Attaches, KeepsJoined, KeepsSafe};
-    ghost use Rattle.sync_node.specs.Node.{MayRun, PlansSafe, StaysClosed};
+    ghost use Rattle.sync_node.specs.Causes.{FailByCause};
+    ghost use Rattle.sync_store.specs.Commits.{needed};
+    ghost use Rattle.sync_node.specs.Fulls.{FullBeginning, FullReceiving, FullSending};
+    ghost use Rattle.sync_node.specs.Fulls.{FullTurn};
+    ghost use Rattle.sync_node.specs.Going.{Goes};
+    ghost use Rattle.sync_node.specs.Node.{Answers, Attaches, IsNode, KeepsJoined, KeepsSafe};
+    ghost use Rattle.sync_node.specs.Node.{KeepsSafeAnew};
+    ghost use Rattle.sync_node.specs.Node.{MayRun, PlansSafe, StaysClosed, new_node};
     ghost use Rattle.sync_node.specs.Courses.{Begins, BreaksBeginning};
     ghost use Rattle.sync_node.specs.Courses.{BreaksReceiving, BreaksSending, BreaksTurn};
     ghost use Rattle.sync_node.specs.Courses.{MakesTurn, Receives, SendsDue, is_still};
+    ghost use Rattle.sync_node.specs.Node.{IsNode};
+    ghost use Rattle.sync_node.specs.Stays.{StaysReady};
+    ghost use Rattle.sync_node.specs.Stops.{SendsAll};
     ghost use Rattle.sync_node.specs.Plans.{session_of};
+    ghost use Rattle.sync_rules.specs.Facts.{after_all};
+    ghost use Rattle.sync_rules.specs.declared.entries.Entry.TheVariants as entry;
     ghost use Rattle.sync_node.specs.Ends.{MaySend};
 
     /// A node over a store, which no failed call has closed. It takes the buffer here that links
     /// are asked with. It fails only for want of memory.
     pub fn new(alloc: Global, store: Store) -> Result<Node, AllocError>
         requires { store.closed ≡ false }
-        ensures { IfOk result (λ n. n ≡ record {
-          store = store;
-          first = store.state.facts.begun;
-          links = [];
-          closed = false;
-        }) }
+        ensures { IfOk result (λ n. n ≡ new_node store) }
     {
         let buffer = zeros(alloc, PIECE_LEN)?;
         Ok(Node {
@@ -128,7 +144,8 @@ impl Node {
 
     /// The store.
     pub fn store(&self) -> &Store
-        ensures { result.now ≡ self.now.store }
+        ensures value { result.now ≡ self.now.store }
+        ensures node { IsNode self.now }
     {
         &self.store
     }
@@ -165,14 +182,26 @@ impl Node {
             → StaysClosed self.old self.new host.old host.new result }
         ensures answer { self.old.closed ≡ false → Answers result self.new }
         ensures may { MayRun (C.meaning clients.now) self.new (H.tells host.new) }
+        ensures stays { self.old.closed ≡ false → StaysReady (C.meaning clients.now) self.new
+            (H.tells host.new) result }
+        ensures node { IsNode self.new }
         ensures joined { OnOk result (KeepsJoined (C.meaning clients.now) self.old self.new
             (H.tells host.old) (H.tells host.new)) }
+        ensures settled { OnOk result (IsSettled (C.meaning clients.now)
+            self.new.store.state.facts) }
         ensures leads { self.old.closed ≡ false → (two : Two File)
             → (H.tells host.old).files ≡ Some two → (j : Journal)
             → Fits (C.meaning clients.now) self.old.store j two → Leads (C.meaning clients.now)
             (AddsAtMost (C.meaning clients.now) j batch)
             (AddsAtMost (C.meaning clients.now) j batch) self.new.store (H.tells host.old)
             (H.tells host.new) }
+        ensures anew { OnOk result (KeepsSafeAnew (C.meaning clients.now) self.old self.new
+            (H.tells host.old) (H.tells host.new)) }
+        ensures limit { self.new.store.limit ≡ self.old.store.limit }
+        ensures run { Goes (H.tells host.old) (H.tells host.new) }
+        ensures links { self.new.links ≡ self.old.links }
+        ensures full { IsErrOf result NodeFault.Full
+            → self.old.store.limit < needed self.old.store batch }
         ensures fault { IsErrOf result NodeFault.DiskFault → Rose (H.tells host.old).disk_faults
             (H.tells host.new).disk_faults }
     {
@@ -181,10 +210,7 @@ impl Node {
         }
         match add_settled(&mut self.store, host, clients, batch) {
             Ok(()) => Ok(()),
-            Err(fault) => {
-                self.closed = true;
-                Err(NodeFault::from(fault))
-            }
+            Err(fault) => Err(close(&mut self.closed, fault)),
         }
     }
 
@@ -213,6 +239,9 @@ impl Node {
             → StaysClosed self.old self.new host.old host.new result }
         ensures answer { self.old.closed ≡ false → Answers result self.new }
         ensures may { MayRun (C.meaning clients.now) self.new (H.tells host.new) }
+        ensures stays { self.old.closed ≡ false → StaysReady (C.meaning clients.now) self.new
+            (H.tells host.new) result }
+        ensures node { IsNode self.new }
         ensures course { self.old.closed ≡ false → OnOk result (Begins (C.meaning clients.now)
             (session_of self.old.store.state.facts.begun plan.now nonce) self.old.links
             self.new.links self.old.store self.new.store (H.tells host.old) (H.tells host.new)) }
@@ -221,9 +250,21 @@ impl Node {
             self.old.links self.old.store (H.tells host.old) (H.tells host.new)) }
         ensures joined { OnOk result (Attaches (C.meaning clients.now) self.old self.new
             (H.tells host.old) (H.tells host.new)) }
+        ensures facts { OnOk result (self.new.store.state.facts
+            ≡ after_all self.old.store.state.facts
+            (entry.Session (session_of self.old.store.state.facts.begun plan.now nonce) ∷ [])) }
         ensures safe { PlansSafe (C.meaning clients.now)
             (session_of self.old.store.state.facts.begun plan.now nonce) self.old self.new
             (H.tells host.old) (H.tells host.new) }
+        ensures limit { self.new.store.limit ≡ self.old.store.limit }
+        ensures run { Goes (H.tells host.old) (H.tells host.new) }
+        ensures cause { FailByCause self.old.links self.new.links (H.tells host.old)
+            (H.tells host.new) }
+        ensures sent { self.old.closed ≡ false → IsErrOf result NodeFault.Full → SendsAll
+            (C.meaning clients.now) self.old self.new (H.tells host.old) (H.tells host.new) }
+        ensures full { IsErrOf result NodeFault.Full → FullBeginning (C.meaning clients.now)
+            (session_of self.old.store.state.facts.begun plan.now nonce) self.old.links
+            self.old.store self.new.store (H.tells host.old) (H.tells host.new) }
         ensures fault { IsErrOf result NodeFault.DiskFault → Rose (H.tells host.old).disk_faults
             (H.tells host.new).disk_faults }
     {
@@ -248,10 +289,7 @@ impl Node {
             session,
         ) {
             Ok(()) => Ok(()),
-            Err(fault) => {
-                self.closed = true;
-                Err(NodeFault::from(fault))
-            }
+            Err(fault) => Err(close(&mut self.closed, fault)),
         }
     }
 
@@ -271,6 +309,9 @@ impl Node {
             → StaysClosed self.old self.new host.old host.new result }
         ensures answer { self.old.closed ≡ false → Answers result self.new }
         ensures may { MayRun (C.meaning clients.now) self.new (H.tells host.new) }
+        ensures stays { self.old.closed ≡ false → StaysReady (C.meaning clients.now) self.new
+            (H.tells host.new) result }
+        ensures node { IsNode self.new }
         ensures course { self.old.closed ≡ false → IfOk result (Receives (C.meaning clients.now)
             self.old.first link self.old.links self.new.links self.old.store self.new.store
             (H.tells host.old) (H.tells host.new)) }
@@ -280,6 +321,13 @@ impl Node {
         ensures joined { OnOk result (KeepsJoined (C.meaning clients.now) self.old self.new
             (H.tells host.old) (H.tells host.new)) }
         ensures safe { KeepsSafe (C.meaning clients.now) self.old self.new (H.tells host.old)
+            (H.tells host.new) }
+        ensures limit { self.new.store.limit ≡ self.old.store.limit }
+        ensures run { Goes (H.tells host.old) (H.tells host.new) }
+        ensures cause { FailByCause self.old.links self.new.links (H.tells host.old)
+            (H.tells host.new) }
+        ensures full { IsErrOf result NodeFault.Full → FullReceiving (C.meaning clients.now)
+            self.old.first link self.old.links self.old.store self.new.store (H.tells host.old)
             (H.tells host.new) }
         ensures fault { IsErrOf result NodeFault.DiskFault → Rose (H.tells host.old).disk_faults
             (H.tells host.new).disk_faults }
@@ -297,10 +345,7 @@ impl Node {
             self.buffer.as_mut_slice(),
         ) {
             Ok(idle) => Ok(idle),
-            Err(fault) => {
-                self.closed = true;
-                Err(NodeFault::from(fault))
-            }
+            Err(fault) => Err(close(&mut self.closed, fault)),
         }
     }
 
@@ -321,6 +366,9 @@ impl Node {
             → StaysClosed self.old self.new host.old host.new result }
         ensures answer { self.old.closed ≡ false → Answers result self.new }
         ensures may { MayRun (C.meaning clients.now) self.new (H.tells host.new) }
+        ensures stays { self.old.closed ≡ false → StaysReady (C.meaning clients.now) self.new
+            (H.tells host.new) result }
+        ensures node { IsNode self.new }
         ensures course { self.old.closed ≡ false → IfOk result (SendsDue (C.meaning clients.now)
             self.old.first link now self.old.links self.new.links self.old.store self.new.store
             (H.tells host.old) (H.tells host.new)) }
@@ -331,6 +379,13 @@ impl Node {
             (H.tells host.old) (H.tells host.new)) }
         ensures safe { KeepsSafe (C.meaning clients.now) self.old self.new (H.tells host.old)
             (H.tells host.new) }
+        ensures limit { self.new.store.limit ≡ self.old.store.limit }
+        ensures run { Goes (H.tells host.old) (H.tells host.new) }
+        ensures cause { FailByCause self.old.links self.new.links (H.tells host.old)
+            (H.tells host.new) }
+        ensures full { IsErrOf result NodeFault.Full → FullSending (C.meaning clients.now)
+            self.old.first link now self.old.links self.old.store self.new.store
+            (H.tells host.old) (H.tells host.new) }
         ensures fault { IsErrOf result NodeFault.DiskFault → Rose (H.tells host.old).disk_faults
             (H.tells host.new).disk_faults }
     {
@@ -347,10 +402,7 @@ impl Node {
             now,
         ) {
             Ok(made) => Ok(made),
-            Err(fault) => {
-                self.closed = true;
-                Err(NodeFault::from(fault))
-            }
+            Err(fault) => Err(close(&mut self.closed, fault)),
         }
     }
 
@@ -366,6 +418,9 @@ impl Node {
             → StaysClosed self.old self.new host.old host.new result }
         ensures answer { self.old.closed ≡ false → Answers result self.new }
         ensures may { MayRun (C.meaning clients.now) self.new (H.tells host.new) }
+        ensures stays { self.old.closed ≡ false → StaysReady (C.meaning clients.now) self.new
+            (H.tells host.new) result }
+        ensures node { IsNode self.new }
         ensures course { self.old.closed ≡ false → IfOk result (λ turned. MakesTurn
             (C.meaning clients.now) self.old.first self.old.links self.new.links self.old.store
             self.new.store (H.tells host.old) (H.tells host.new) (is_still turned)) }
@@ -375,6 +430,15 @@ impl Node {
         ensures joined { OnOk result (KeepsJoined (C.meaning clients.now) self.old self.new
             (H.tells host.old) (H.tells host.new)) }
         ensures safe { KeepsSafe (C.meaning clients.now) self.old self.new (H.tells host.old)
+            (H.tells host.new) }
+        ensures limit { self.new.store.limit ≡ self.old.store.limit }
+        ensures run { Goes (H.tells host.old) (H.tells host.new) }
+        ensures cause { FailByCause self.old.links self.new.links (H.tells host.old)
+            (H.tells host.new) }
+        ensures sent { self.old.closed ≡ false → IsErrOf result NodeFault.Full → SendsAll
+            (C.meaning clients.now) self.old self.new (H.tells host.old) (H.tells host.new) }
+        ensures full { IsErrOf result NodeFault.Full → FullTurn (C.meaning clients.now)
+            self.old.first self.old.links self.old.store self.new.store (H.tells host.old)
             (H.tells host.new) }
         ensures fault { IsErrOf result NodeFault.DiskFault → Rose (H.tells host.old).disk_faults
             (H.tells host.new).disk_faults }
@@ -392,10 +456,7 @@ impl Node {
         ) {
             Ok(true) => Ok(Turned::Still),
             Ok(false) => Ok(Turned::Moving),
-            Err(fault) => {
-                self.closed = true;
-                Err(NodeFault::from(fault))
-            }
+            Err(fault) => Err(close(&mut self.closed, fault)),
         }
     }
 }
@@ -407,7 +468,7 @@ fn count_asked(links: &[Link]) -> u32
 {
     let mut asked = 0;
     'links: for link in links {
-        if link.end.is_asked() {
+        if link.is_asked() {
             asked += 1;
         }
     }

@@ -4,7 +4,8 @@ ghost use Rattle.sync_course.specs.Links.{is_beaten, without_redundant};
 ghost use Rattle.sync_node.specs.Courses.{link_at, links_from, outdoes_of};
 ghost use Rattle.sync_node.specs.Redundant.{ClosesSome};
 
-use crate::link::{Link, LinkEnd};
+use crate::link::Link;
+use sync_course::LinkEnd;
 
 /// Of the links with one contact that are still asked and have a known nonce keeps the one with the
 /// greatest nonce, of several the first, and closes the others.
@@ -43,7 +44,7 @@ fn outdoes(rival: &Link, link: &Link, before: bool) -> bool
     ensures exact { result ≡ outdoes_of rival.now link.now before }
 {
     let same = rival.session.contact == link.session.contact;
-    if !same || !rival.end.is_asked() || !link.end.is_asked() {
+    if !same || !rival.is_asked() || !link.is_asked() {
         return false;
     }
     match (&rival.nonce, &link.nonce) {

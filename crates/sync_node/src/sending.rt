@@ -1,20 +1,25 @@
 //! What is due on a link is committed and sent.
-ghost use Rattle.std.specs.Prelude.{◌≢◌, ◌∷◌, ◌<◌, [], IfOk, IsErrOf, OnErr, OnOk};
+ghost use Rattle.std.specs.Prelude.{IfErr};
+ghost use Rattle.std.specs.Prelude.{◌≡◌, ◌≢◌, ◌∷◌, ◌<◌, [], IfOk, IsErrOf, OnErr, OnOk};
 ghost use Rattle.outside.specs.Faults.{Rose};
 ghost use Rattle.sync_rules.specs.Legal.{Allowed};
 ghost use Rattle.sync_rules.specs.declared.entries.Entry.TheVariants as entry;
+ghost use Rattle.sync_node.specs.Causes.{LinkGoes};
 ghost use Rattle.sync_node.specs.Courses.{PutsAsCourse, PutsStop, SentAsCourse, SentStops};
 ghost use Rattle.sync_node.specs.Ends.{MaySend};
+ghost use Rattle.sync_node.specs.Fulls.{PutsFull, SentFull};
 ghost use Rattle.sync_node.specs.Sending.{SendsOn};
 ghost use Rattle.sync_node.specs.Working.{IsAble, StaysSafe, Waits, Works};
+ghost use Rattle.sync_node.specs.Stays.{KeepsReady};
+ghost use Rattle.sync_node.specs.Stops.{StopsSent};
 
 use crate::fault::Fault;
-use crate::link::{Link, LinkEnd};
+use crate::link::Link;
 use crate::spelling::spell_out;
 use crate::told::{cite_laws, commit};
 use outside::Host;
 use std::alloc::Global;
-use sync_course::MAX_OUTPUTS;
+use sync_course::{LinkEnd, MAX_OUTPUTS};
 use sync_rules::{Batch, Clients, Entry, Out};
 use sync_store::Store;
 
@@ -32,6 +37,8 @@ pub(crate) fn send_all<H: Host, C: Clients>(
     requires able { IsAble (C.meaning clients.now) number link.old.session store.old
         (H.tells host.old) }
     requires waits { Waits link.old }
+    ensures ready { IfErr result (KeepsReady (C.meaning clients.now) store.new
+        (H.tells host.new)) }
     ensures able { OnOk result (IsAble (C.meaning clients.now) number link.new.session store.new
         (H.tells host.new)) }
     ensures waits { OnOk result (Waits link.new) }
@@ -43,11 +50,18 @@ pub(crate) fn send_all<H: Host, C: Clients>(
         store.old store.new (H.tells host.old) (H.tells host.new)) }
     ensures stays { OnErr result (StaysSafe (C.meaning clients.now) number [] link.old store.old
         store.new (H.tells host.old) (H.tells host.new)) }
+    ensures sent { IsErrOf result Fault.Full → StopsSent (C.meaning clients.now) number [] link.old store.old
+        store.new (H.tells host.old) (H.tells host.new) }
+    ensures run { LinkGoes number link.old link.new (H.tells host.old) (H.tells host.new) }
+    ensures limit { store.new.limit ≡ store.old.limit }
+    ensures full { MaySend link.old.end → IsErrOf result Fault.Full → SentFull
+        (C.meaning clients.now) number now link.old store.old store.new (H.tells host.old)
+        (H.tells host.new) }
     ensures fault { IsErrOf result Fault.DiskFault → Rose (H.tells host.old).disk_faults
         (H.tells host.new).disk_faults }
 {
     let mut made = 0;
-    'outs: while made < MAX_OUTPUTS && link.end.may_send() {
+    'outs: while made < MAX_OUTPUTS && link.may_send() {
         let Some(out) = store.due_on(link.session.number, now)? else {
             return Ok(made);
         };
@@ -75,6 +89,8 @@ fn put_out<H: Host, C: Clients>(
     requires unfailed { link.old.end ≢ LinkEnd.Failed }
     requires allowed { Allowed (C.meaning clients.now) store.old.state.facts
         (entry.Out link.old.session.number now out ∷ []) }
+    ensures ready { IfErr result (KeepsReady (C.meaning clients.now) store.new
+        (H.tells host.new)) }
     ensures able { OnOk result (IsAble (C.meaning clients.now) number link.new.session store.new
         (H.tells host.new)) }
     ensures waits { OnOk result (Waits link.new) }
@@ -86,6 +102,12 @@ fn put_out<H: Host, C: Clients>(
         store.old store.new (H.tells host.old) (H.tells host.new)) }
     ensures stays { OnErr result (StaysSafe (C.meaning clients.now) number [] link.old store.old
         store.new (H.tells host.old) (H.tells host.new)) }
+    ensures sent { IsErrOf result Fault.Full → StopsSent (C.meaning clients.now) number [] link.old store.old
+        store.new (H.tells host.old) (H.tells host.new) }
+    ensures run { LinkGoes number link.old link.new (H.tells host.old) (H.tells host.new) }
+    ensures limit { store.new.limit ≡ store.old.limit }
+    ensures full { IsErrOf result Fault.Full → PutsFull (C.meaning clients.now) number now link.old
+        store.old store.new (H.tells host.old) (H.tells host.new) }
     ensures fault { IsErrOf result Fault.DiskFault → Rose (H.tells host.old).disk_faults
         (H.tells host.new).disk_faults }
 {
@@ -93,7 +115,6 @@ fn put_out<H: Host, C: Clients>(
     let bytes = spell_out(alloc, store, &out)?;
     let batch = Batch::single(alloc, Entry::Out(link.session.number, now, out))?;
     commit(store, host, clients, batch)?;
-    let _room = store.end();
     send_on(host, number, link, bytes.as_slice());
     Ok(())
 }

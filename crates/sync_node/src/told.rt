@@ -1,22 +1,28 @@
 //! Batches committed, and the journal settled: each call on the store, with what it leaves.
-ghost use Rattle.std.specs.Prelude.{◌≡◌, ◌∷◌, [], false, List, IsErrOf, OnErr, OnOk, Some};
+ghost use Rattle.std.specs.Prelude.{IfErr};
+ghost use Rattle.std.specs.Prelude.{◌≡◌, ◌<◌, ◌∷◌, [], false, List, IsErrOf, OnErr, OnOk, Some};
 ghost use Rattle.outside.specs.Faults.{Rose};
 ghost use Rattle.outside.specs.Files.{Two, File};
 ghost use Rattle.outside.specs.Runs.{IsFront, Told};
 ghost use Rattle.sync_rules.specs.Allows.{is_settling_kind};
 ghost use Rattle.sync_rules.specs.Legal.{Allowed};
 ghost use Rattle.sync_rules.specs.declared.entries.Session.{Session};
+ghost use Rattle.sync_store.specs.Commits.{needed};
 ghost use Rattle.sync_store.specs.Fitting.{Fits};
 ghost use Rattle.sync_store.specs.Moments.{Leads, WithAtMost};
 ghost use Rattle.sync_store.specs.Ready.{IsReady};
+ghost use Rattle.sync_store.specs.Store.{IsStore};
 ghost use Rattle.sync_node.specs.Adding.{AddsAtMost, AddsSettled, GoesOnSettling, IsCommitted};
 ghost use Rattle.sync_node.specs.Adding.{IsPlain};
 ghost use Rattle.sync_node.specs.Cited.{CitedLaws};
 ghost use Rattle.sync_node.specs.Courses.{Adds, AddsSettling, AddsSome, AddsSomeSettling};
-ghost use Rattle.sync_node.specs.Going.{Commits, Settles};
+ghost use Rattle.sync_node.specs.Fulls.{IsOver};
+ghost use Rattle.sync_node.specs.Going.{Commits, Goes, Settles};
 ghost use Rattle.sync_node.specs.Output.{heard_on, Journal};
 ghost use Rattle.sync_node.specs.Safe.{Begin, Safe};
 ghost use Rattle.sync_node.specs.Suits.{IsOfRun};
+ghost use Rattle.sync_node.specs.Stays.{KeepsReady};
+ghost use Rattle.sync_node.specs.Stops.{StaysSame};
 
 use crate::fault::Fault;
 use outside::Host;
@@ -49,6 +55,8 @@ pub(crate) fn commit<H: Host, C: Clients>(
     requires ready { IsReady (C.meaning clients.now) store.old (H.tells host.old).files }
     requires allowed { Allowed (C.meaning clients.now) store.old.state.facts batch }
     requires kind { is_settling_kind batch ≡ false }
+    ensures ready { IfErr result (KeepsReady (C.meaning clients.now) store.new
+        (H.tells host.new)) }
     ensures commits { OnOk result (Commits (C.meaning clients.now) (batch ∷ []) store.old store.new
         (H.tells host.old) (H.tells host.new)) }
     ensures adds { OnOk result (Adds (C.meaning clients.now) (batch ∷ []) store.old store.new
@@ -64,6 +72,13 @@ pub(crate) fn commit<H: Host, C: Clients>(
         → Fits (C.meaning clients.now) store.old j two → Leads (C.meaning clients.now)
         (WithAtMost j batch) (IsCommitted j batch result) store.new (H.tells host.old)
         (H.tells host.new) }
+    ensures run { Goes (H.tells host.old) (H.tells host.new) }
+    ensures numbers { IsStore store.new }
+    ensures limit { store.new.limit ≡ store.old.limit }
+    ensures as_before { IsErrOf result Fault.Full → StaysSame (C.meaning clients.now) store.old store.new
+        (H.tells host.old) (H.tells host.new) }
+    ensures full { IsErrOf result Fault.Full → IsOver (C.meaning clients.now) batch store.old
+        store.new (H.tells host.old) (H.tells host.new) }
     ensures fault { IsErrOf result Fault.DiskFault → Rose (H.tells host.old).disk_faults
         (H.tells host.new).disk_faults }
 {
@@ -84,6 +99,8 @@ pub(crate) fn settle<H: Host, C: Clients>(
     clients: &C,
 ) -> Result<(), Fault>
     requires ready { IsReady (C.meaning clients.now) store.old (H.tells host.old).files }
+    ensures ready { IfErr result (KeepsReady (C.meaning clients.now) store.new
+        (H.tells host.new)) }
     ensures settles { OnOk result (Settles (C.meaning clients.now) store.old store.new
         (H.tells host.old) (H.tells host.new)) }
     ensures adds { OnOk result (AddsSettling (C.meaning clients.now) store.old store.new
@@ -97,6 +114,9 @@ pub(crate) fn settle<H: Host, C: Clients>(
         → Fits (C.meaning clients.now) store.old j two → Leads (C.meaning clients.now)
         (GoesOnSettling (C.meaning clients.now) j) (GoesOnSettling (C.meaning clients.now) j)
         store.new (H.tells host.old) (H.tells host.new) }
+    ensures run { Goes (H.tells host.old) (H.tells host.new) }
+    ensures limit { store.new.limit ≡ store.old.limit }
+    ensures never { IsErrOf result Fault.Full → ⊥ }
     ensures fault { IsErrOf result Fault.DiskFault → Rose (H.tells host.old).disk_faults
         (H.tells host.new).disk_faults }
 {
@@ -120,12 +140,17 @@ pub(crate) fn add_settled<H: Host, C: Clients>(
     requires ready { IsReady (C.meaning clients.now) store.old (H.tells host.old).files }
     requires allowed { Allowed (C.meaning clients.now) store.old.state.facts batch }
     requires plain { IsPlain batch }
+    ensures ready { IfErr result (KeepsReady (C.meaning clients.now) store.new
+        (H.tells host.new)) }
     ensures added { OnOk result (AddsSettled (C.meaning clients.now) batch store.old store.new
         (H.tells host.old) (H.tells host.new)) }
     ensures leads { (two : Two File) → (H.tells host.old).files ≡ Some two → (j : Journal)
         → Fits (C.meaning clients.now) store.old j two → Leads (C.meaning clients.now)
         (AddsAtMost (C.meaning clients.now) j batch) (AddsAtMost (C.meaning clients.now) j batch)
         store.new (H.tells host.old) (H.tells host.new) }
+    ensures run { Goes (H.tells host.old) (H.tells host.new) }
+    ensures limit { store.new.limit ≡ store.old.limit }
+    ensures full { IsErrOf result Fault.Full → store.old.limit < needed store.old batch }
     ensures fault { IsErrOf result Fault.DiskFault → Rose (H.tells host.old).disk_faults
         (H.tells host.new).disk_faults }
 {

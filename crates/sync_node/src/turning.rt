@@ -1,13 +1,18 @@
 //! A turn: of one link, and of all links in order.
+ghost use Rattle.std.specs.Prelude.{IfErr};
 ghost use Rattle.std.specs.Prelude.{◌≡◌, ℕ, ◌<◌, ◌≤◌, [], length, IfOk, IsErrOf, OnErr, OnOk};
 ghost use Rattle.outside.specs.Faults.{Rose};
 ghost use Rattle.sync_course.specs.declared.TheConstants.{PIECE_LEN};
+ghost use Rattle.sync_node.specs.Causes.{LinkGoes, LinksGo};
 ghost use Rattle.sync_node.specs.Courses.{BreaksTurn, MakesTurn};
 ghost use Rattle.sync_node.specs.Courses.{HearsAsCourse, HearsStops, SendsAsCourse, SendsStop};
 ghost use Rattle.sync_node.specs.Courses.{TurnAsCourse, TurnsAsCourse, TurnsStop};
+ghost use Rattle.sync_node.specs.Fulls.{FullTurn, HearsFull, SendsFull, TurnsFull};
 ghost use Rattle.outside.specs.declared.limits.TheConstants.{LINKS};
 ghost use Rattle.sync_node.specs.Node.{AreAttached, AreSome, LinksSafe, LinksWork, MayGoOn};
 ghost use Rattle.sync_node.specs.Working.{IsAble, StaysSafe, Waits, Works};
+ghost use Rattle.sync_node.specs.Stays.{KeepsReady};
+ghost use Rattle.sync_node.specs.Stops.{LinksSent, StopsSent};
 
 use crate::fault::Fault;
 use crate::hearing::receive_on;
@@ -34,6 +39,8 @@ pub(crate) fn turn_all<H: Host, C: Clients>(
     requires few { length links.old ≤ LINKS }
     requires attached { AreSome links.old store.old.state.facts }
     requires room { 0 < length buffer.old }
+    ensures ready { IfErr result (KeepsReady (C.meaning clients.now) store.new
+        (H.tells host.new)) }
     ensures may { OnOk result (MayGoOn (C.meaning clients.now) links.new store.new
         (H.tells host.new)) }
     ensures course { (first : ℕ) → AreAttached first links.old store.old.state.facts
@@ -48,6 +55,15 @@ pub(crate) fn turn_all<H: Host, C: Clients>(
     ensures safe { (first : ℕ) → AreAttached first links.old store.old.state.facts
         → OnErr result (LinksSafe (C.meaning clients.now) first links.old store.old store.new
         (H.tells host.old) (H.tells host.new)) }
+    ensures sent { (first : ℕ) → AreAttached first links.old store.old.state.facts
+        → IsErrOf result Fault.Full → LinksSent (C.meaning clients.now) first links.old store.old store.new
+        (H.tells host.old) (H.tells host.new) }
+    ensures run { LinksGo links.old links.new (H.tells host.old) (H.tells host.new) }
+    ensures limit { store.new.limit ≡ store.old.limit }
+    ensures full { (first : ℕ) → AreAttached first links.old store.old.state.facts
+        → length buffer.old ≡ PIECE_LEN → IsErrOf result Fault.Full → FullTurn
+        (C.meaning clients.now) first links.old store.old store.new (H.tells host.old)
+        (H.tells host.new) }
     ensures fault { IsErrOf result Fault.DiskFault → Rose (H.tells host.old).disk_faults
         (H.tells host.new).disk_faults }
 {
@@ -69,6 +85,8 @@ fn turn_each<H: Host, C: Clients>(
     requires few { length links.old ≤ LINKS }
     requires attached { AreSome links.old store.old.state.facts }
     requires room { 0 < length buffer.old }
+    ensures ready { IfErr result (KeepsReady (C.meaning clients.now) store.new
+        (H.tells host.new)) }
     ensures may { OnOk result (MayGoOn (C.meaning clients.now) links.new store.new
         (H.tells host.new)) }
     ensures course { (first : ℕ) → AreAttached first links.old store.old.state.facts
@@ -84,6 +102,15 @@ fn turn_each<H: Host, C: Clients>(
     ensures safe { (first : ℕ) → AreAttached first links.old store.old.state.facts
         → OnErr result (LinksSafe (C.meaning clients.now) first links.old store.old store.new
         (H.tells host.old) (H.tells host.new)) }
+    ensures sent { (first : ℕ) → AreAttached first links.old store.old.state.facts
+        → IsErrOf result Fault.Full → LinksSent (C.meaning clients.now) first links.old store.old store.new
+        (H.tells host.old) (H.tells host.new) }
+    ensures run { LinksGo links.old links.new (H.tells host.old) (H.tells host.new) }
+    ensures limit { store.new.limit ≡ store.old.limit }
+    ensures full { (first : ℕ) → AreAttached first links.old store.old.state.facts
+        → length buffer.old ≡ PIECE_LEN → IsErrOf result Fault.Full → TurnsFull
+        (C.meaning clients.now) first links.old store.old store.new (H.tells host.old)
+        (H.tells host.new) }
     ensures fault { IsErrOf result Fault.DiskFault → Rose (H.tells host.old).disk_faults
         (H.tells host.new).disk_faults }
 {
@@ -111,6 +138,8 @@ fn turn_link<H: Host, C: Clients>(
         (H.tells host.old) }
     requires waits { Waits link.old }
     requires room { 0 < length buffer.old }
+    ensures ready { IfErr result (KeepsReady (C.meaning clients.now) store.new
+        (H.tells host.new)) }
     ensures able { OnOk result (IsAble (C.meaning clients.now) number link.new.session store.new
         (H.tells host.new)) }
     ensures waits { OnOk result (Waits link.new) }
@@ -124,6 +153,13 @@ fn turn_link<H: Host, C: Clients>(
         store.old store.new (H.tells host.old) (H.tells host.new)) }
     ensures stays { OnErr result (StaysSafe (C.meaning clients.now) number [] link.old store.old
         store.new (H.tells host.old) (H.tells host.new)) }
+    ensures sent { IsErrOf result Fault.Full → StopsSent (C.meaning clients.now) number [] link.old store.old
+        store.new (H.tells host.old) (H.tells host.new) }
+    ensures run { LinkGoes number link.old link.new (H.tells host.old) (H.tells host.new) }
+    ensures limit { store.new.limit ≡ store.old.limit }
+    ensures full { length buffer.old ≡ PIECE_LEN → IsErrOf result Fault.Full → HearsFull
+        (C.meaning clients.now) number link.old store.old store.new (H.tells host.old)
+        (H.tells host.new) }
     ensures fault { IsErrOf result Fault.DiskFault → Rose (H.tells host.old).disk_faults
         (H.tells host.new).disk_faults }
 {
@@ -146,6 +182,8 @@ fn hear_now<H: Host, C: Clients>(
         (H.tells host.old) }
     requires waits { Waits link.old }
     requires room { 0 < length buffer.old }
+    ensures ready { IfErr result (KeepsReady (C.meaning clients.now) store.new
+        (H.tells host.new)) }
     ensures able { OnOk result (IsAble (C.meaning clients.now) number link.new.session store.new
         (H.tells host.new)) }
     ensures waits { OnOk result (Waits link.new) }
@@ -159,10 +197,17 @@ fn hear_now<H: Host, C: Clients>(
         store.old store.new (H.tells host.old) (H.tells host.new)) }
     ensures stays { OnErr result (StaysSafe (C.meaning clients.now) number [] link.old store.old
         store.new (H.tells host.old) (H.tells host.new)) }
+    ensures sent { IsErrOf result Fault.Full → StopsSent (C.meaning clients.now) number [] link.old store.old
+        store.new (H.tells host.old) (H.tells host.new) }
+    ensures run { LinkGoes number link.old link.new (H.tells host.old) (H.tells host.new) }
+    ensures limit { store.new.limit ≡ store.old.limit }
+    ensures full { length buffer.old ≡ PIECE_LEN → IsErrOf result Fault.Full → HearsFull
+        (C.meaning clients.now) number link.old store.old store.new (H.tells host.old)
+        (H.tells host.new) }
     ensures fault { IsErrOf result Fault.DiskFault → Rose (H.tells host.old).disk_faults
         (H.tells host.new).disk_faults }
 {
-    if !link.end.is_asked() {
+    if !link.is_asked() {
         return Ok(true);
     }
     receive_on(alloc, store, host, clients, number, link, buffer)
@@ -181,6 +226,8 @@ fn send_now<H: Host, C: Clients>(
     requires able { IsAble (C.meaning clients.now) number link.old.session store.old
         (H.tells host.old) }
     requires waits { Waits link.old }
+    ensures ready { IfErr result (KeepsReady (C.meaning clients.now) store.new
+        (H.tells host.new)) }
     ensures able { OnOk result (IsAble (C.meaning clients.now) number link.new.session store.new
         (H.tells host.new)) }
     ensures waits { OnOk result (Waits link.new) }
@@ -192,10 +239,16 @@ fn send_now<H: Host, C: Clients>(
         store.old store.new (H.tells host.old) (H.tells host.new)) }
     ensures stays { OnErr result (StaysSafe (C.meaning clients.now) number [] link.old store.old
         store.new (H.tells host.old) (H.tells host.new)) }
+    ensures sent { IsErrOf result Fault.Full → StopsSent (C.meaning clients.now) number [] link.old store.old
+        store.new (H.tells host.old) (H.tells host.new) }
+    ensures run { LinkGoes number link.old link.new (H.tells host.old) (H.tells host.new) }
+    ensures limit { store.new.limit ≡ store.old.limit }
+    ensures full { IsErrOf result Fault.Full → SendsFull (C.meaning clients.now) number link.old
+        store.old store.new (H.tells host.old) (H.tells host.new) }
     ensures fault { IsErrOf result Fault.DiskFault → Rose (H.tells host.old).disk_faults
         (H.tells host.new).disk_faults }
 {
-    if !link.end.may_send() {
+    if !link.may_send() {
         return Ok(0);
     }
     cite_laws();

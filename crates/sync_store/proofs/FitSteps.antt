@@ -4,7 +4,7 @@ use Rattle.std.specs.List.{AllByRecursion}
 use Rattle.std.specs.Option.{ForSome}
 use Rattle.std.proofs.lemmas.List.{ext_get_or}
 use Rattle.outside.specs.Files.{Two, File, IsFileImage, IsImage, NothingPending, file_of, read_files, settled}
-use Rattle.outside.specs.Frames.{HasFrames, IsAtRest, format_in, most_bytes}
+use Rattle.outside.specs.Frames.{HasFrames, IsAtRest, format_in}
 use Rattle.outside.specs.Links.{sent_of}
 use Rattle.outside.specs.Disk.{Becomes}
 use Rattle.outside.specs.Outside.{Outside, Moment, MomentsAre}
@@ -20,6 +20,7 @@ use Rattle.entry_codec.specs.Growing.{all_push, facts_push, payloads_push}
 use Rattle.entry_codec.specs.Spelling.{IsEntry}
 use Rattle.entry_codec.specs.Standing.{stands, journal, room_of}
 use Rattle.entry_codec.specs.StandingLaws.{JournalsStand}
+use Rattle.outside.specs.declared.limits.TheConstants.{MAX_JOURNAL}
 use Rattle.sync_store.specs.declared.fault.StoreFault.{StoreFault}
 use Rattle.sync_store.specs.Store.{StoreValue}
 use Rattle.sync_store.specs.Fitting.{Fits, FitsSome}
@@ -65,7 +66,7 @@ this_reads two (suc _) = refl
 -- frames of a journal behind the store's header, and the other file as it was
 stands_at : JournalsStand → (clients : Meaning) (s : StoreValue) (j : List (List Entry)) (two : Two File) (fits : Fits clients s j two) (m : Two (List ℕ)) (k : List (List Entry))
     → HasFrames (file_of m s.file) fits.header (payloads nothing k) → other_of m s.file ≡ (other_of two s.file).now → Legal clients k
-    → AllByRecursion (λ batch. AllByRecursion IsEntry batch) k → journal_end k + room_of (facts k) ≤ most_bytes → stands clients m ≡ journal k
+    → AllByRecursion (λ batch. AllByRecursion IsEntry batch) k → journal_end k + room_of (facts k) ≤ MAX_JOURNAL → stands clients m ≡ journal k
 stands_at stand clients s j two fits m k frames other legal within bounded =
     let reads : HasFrames (file_of (read_files two) s.file) fits.header (payloads nothing j) =
     subst (λ (bytes : List ℕ). HasFrames bytes fits.header (payloads nothing j)) (sym (this_reads two s.file)) fits.frames in
@@ -84,15 +85,15 @@ stands_at stand clients s j two fits m k frames other legal within bounded =
     })
 
 -- the room of a store in words of its journal
-bounded_now : (clients : Meaning) (s : StoreValue) (j : List (List Entry)) (two : Two File) → Fits clients s j two → s.end + room_of s.state.facts ≤ most_bytes
-    → journal_end j + room_of (facts j) ≤ most_bytes
+bounded_now : (clients : Meaning) (s : StoreValue) (j : List (List Entry)) (two : Two File) → Fits clients s j two → s.end + room_of s.state.facts ≤ MAX_JOURNAL
+    → journal_end j + room_of (facts j) ≤ MAX_JOURNAL
 bounded_now clients s j two fits roomy =
     let same : room_of (facts j) ≡ room_of s.state.facts = ap room_of fits.facts_are in
     omega (arith, fits.end_is, same, roomy)
 
 -- every crash of now leaves files that stand for the journal
 pub fits_image : JournalsStand → (clients : Meaning) (s : StoreValue) (j : List (List Entry)) (two : Two File) (m : Two (List ℕ)) → Fits clients s j two
-    → s.end + room_of s.state.facts ≤ most_bytes → IsImage two m → stands clients m ≡ journal j
+    → s.end + room_of s.state.facts ≤ MAX_JOURNAL → IsImage two m → stands clients m ≡ journal j
 fits_image stand clients s j two m fits roomy image =
     let this : file_of m s.file ≡ (file_of two s.file).now =
     settled_only (file_of two s.file).now (file_of m s.file)
@@ -114,7 +115,7 @@ payload_here : (clients : Meaning) (s : StoreValue) (j : List (List Entry)) (two
 payload_here clients s j two batch framed fits may = may.payload_is ∙ ap (λ (f : Facts). payload f batch) (sym fits.facts_are)
 
 bounded_then : (clients : Meaning) (s : StoreValue) (j : List (List Entry)) (two : Two File) (batch : List Entry) (framed : List ℕ) → Fits clients s j two → MayAdd clients s batch framed
-    → journal_end (j ++ batch ∷ []) + room_of (facts (j ++ batch ∷ [])) ≤ most_bytes
+    → journal_end (j ++ batch ∷ []) + room_of (facts (j ++ batch ∷ [])) ≤ MAX_JOURNAL
 bounded_then clients s j two batch framed fits may =
     let same : room_of (facts (j ++ batch ∷ [])) ≡ room_of (after_all s.state.facts batch) =
     ap room_of (facts_push j batch ∙ ap (λ (f : Facts). after_all f batch) fits.facts_are) in
@@ -251,7 +252,7 @@ fits_some_same clients s new files fits same two told = let there = fits two tol
 
 -- no call on the disk
 pub leads_none : JournalsStand → (clients : Meaning) (P Q : List (List Entry) → Type 0) (s new : StoreValue) (j : List (List Entry)) (two : Two File) (o : Outside) → Fits clients s j two
-    → s.end + room_of s.state.facts ≤ most_bytes → o.files ≡ Some two → IsSame s new → P j → Q j → Leads clients P Q new o o
+    → s.end + room_of s.state.facts ≤ MAX_JOURNAL → o.files ≡ Some two → IsSame s new → P j → Q j → Leads clients P Q new o o
 leads_none stand clients P Q s new j two o fits roomy told same p q = record {
   moments =
       moments_none o (JournalMoment clients P (sent_of o.links.told))

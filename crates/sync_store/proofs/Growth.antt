@@ -3,7 +3,7 @@ use Rattle.std.proofs.Common.{◌≡◌, ◌⊎◌, ℕ, ◌+◌, ◌*◌, ◌�
 use Rattle.std.specs.List.{AllByRecursion}
 use Rattle.std.proofs.lemmas.Bool.Decides.{nat_tests}
 use Rattle.outside.specs.Files.{Two, File, file_of}
-use Rattle.outside.specs.Frames.{IsPayload, most_bytes}
+use Rattle.outside.specs.Frames.{IsPayload}
 use Rattle.outside.specs.Disk.{Becomes}
 use Rattle.outside.specs.Outside.{Outside}
 use Rattle.outside.specs.Steps.{Passed}
@@ -22,6 +22,7 @@ use Rattle.entry_codec.specs.Payloads.{payload_len, spellings}
 use Rattle.entry_codec.specs.Spelling.{IsEntry}
 use Rattle.entry_codec.specs.Standing.{room_of}
 use Rattle.entry_codec.specs.StandingLaws.{JournalsStand}
+use Rattle.outside.specs.declared.limits.TheConstants.{MAX_JOURNAL}
 use Rattle.sync_store.specs.declared.fault.StoreFault.{StoreFault}
 use Rattle.sync_store.specs.declared.fault.StoreFault.TheVariants as fault
 use Rattle.sync_store.specs.Cited.{CitedLaws}
@@ -122,7 +123,7 @@ filled_may clients s facts es framed f =
       still_roomy = omega (arith, f.store.roomy, fewer, f.long, f.some, length_by es framed f.framed_is);
     }
 
-pub filled_room : (clients : Meaning) (s : StoreValue) (facts : Facts) (es : List Entry) (framed : List ℕ) → Filled clients s facts es framed → s.end + length framed + room_of facts ≤ most_bytes
+pub filled_room : (clients : Meaning) (s : StoreValue) (facts : Facts) (es : List Entry) (framed : List ℕ) → Filled clients s facts es framed → s.end + length framed + room_of facts ≤ MAX_JOURNAL
 filled_room clients s facts es framed f =
     let may = filled_may clients s facts es framed f in
     let same : room_of facts ≡ room_of (after_all s.state.facts es) = ap room_of f.facts_are in

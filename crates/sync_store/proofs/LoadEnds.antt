@@ -8,7 +8,7 @@ use Rattle.std.specs.Ordering.{nat_cmp}
 use Rattle.sync_rules.specs.Facts.{Facts, count_or, facts, nothing, takes_of}
 use Rattle.sync_rules.specs.Steps.{answer_of}
 use Rattle.outside.specs.Files.{Two, File, IsFileImage, IsImage, file_of, read_files, settled}
-use Rattle.outside.specs.Frames.{format_in, HasFrames, most_bytes}
+use Rattle.outside.specs.Frames.{format_in, HasFrames}
 use Rattle.outside.specs.Links.{Links, sent_of}
 use Rattle.outside.specs.Outside.{Outside, Moment, IsNow, DiskRun, Looks}
 use Rattle.outside.specs.Disk.{Becomes}
@@ -23,6 +23,7 @@ use Rattle.entry_codec.specs.Payloads.{payloads}
 use Rattle.entry_codec.specs.Standing.{damaged, no_store, room_of, stands}
 use Rattle.entry_codec.specs.Fronts.{Front, front_closed, front_format, front_frames, front_none, front_start}
 use Rattle.journal_state.specs.Whole.{Knows, StateValue}
+use Rattle.outside.specs.declared.limits.TheConstants.{MAX_JOURNAL}
 use Rattle.sync_store.specs.Store.{StoreValue}
 use Rattle.sync_store.specs.Fitting.{FitsSome}
 use Rattle.sync_store.specs.Ready.{IsReady}
@@ -135,7 +136,7 @@ reads_leaves o0 o1 o2 (load.Damaged place) settles looks = settles_then o0 o1 o2
 pub loaded : (clients : Meaning) (two : Two File) (files : Option (Two File)) (j : JournalValue) (s : StoreValue) → HasReadAll clients files j s.state → files ≡ Some two → StandsFor clients (read_files two) s
 loaded clients two files j s all told =
     let read = all.so_far.known two told in
-    let room : j.end + room_of (facts read.done) ≤ most_bytes = subst (λ (f : Facts). j.end + room_of f ≤ most_bytes) (sym read.facts_are) all.roomy in
+    let room : j.end + room_of (facts read.done) ≤ MAX_JOURNAL = subst (λ (f : Facts). j.end + room_of f ≤ MAX_JOURNAL) (sym read.facts_are) all.roomy in
     record { done = read.done; stands_for = front_closed clients (read_files two) j.file read.done j.end read.front (all.at_end two told) room; facts_are = read.facts_are }
 
 -- what the journal's reading answers, in words of the files before the barrier

@@ -5,7 +5,7 @@ use Rattle.sync_rules.specs.Clients.{Meaning}
 use Rattle.sync_rules.specs.Facts.{Facts, after_all, facts}
 use Rattle.sync_rules.specs.Allows.{allows}
 use Rattle.outside.specs.Files.{Two, File, file_of, read_files}
-use Rattle.outside.specs.Frames.{broken, closed, frame_at, framed, most_bytes}
+use Rattle.outside.specs.Frames.{broken, closed, frame_at, framed}
 use Rattle.outside.specs.declared.disk.Place.{Place}
 use Rattle.frame_journal.specs.Journal.{JournalValue}
 use Rattle.frame_journal.specs.Next.{IsNext, Moves, NextFrame}
@@ -16,6 +16,7 @@ use Rattle.entry_codec.specs.Growing.{facts_push}
 use Rattle.entry_codec.specs.Standing.{Standing, damaged, room_of, stands}
 use Rattle.entry_codec.specs.Fronts.{Front, front_broken, front_full, front_more, front_refused, front_unread}
 use Rattle.journal_state.specs.Whole.{StateValue}
+use Rattle.outside.specs.declared.limits.TheConstants.{MAX_JOURNAL}
 use Rattle.sync_store.specs.Cited.{CitedLaws}
 use Rattle.sync_store.specs.Store.{HasNumbers}
 use Rattle.sync_store.specs.Faults.{load_of_frame}
@@ -115,10 +116,10 @@ turn_refused clients files files' j j' s to place so_far same next moves refused
     (refused.0 ∙ moves.0) (refused.1 ∙ moves.2)
 
 pub room_refused : (clients : Meaning) (files : Option (Two File)) (j : JournalValue) (s : StateValue) (place : Place) → SoFar clients files j s → IsAtEnd files j
-    → (place.file ≡ j.file) × (place.at ≡ j.end - 1) × (most_bytes < j.end + room_of s.facts) → AreDamaged clients files place
+    → (place.file ≡ j.file) × (place.at ≡ j.end - 1) × (MAX_JOURNAL < j.end + room_of s.facts) → AreDamaged clients files place
 room_refused clients files j s place so_far at_end refused two told =
     let read = so_far.known two told in
-    let over : most_bytes < j.end + room_of (facts read.done) = subst (λ (f : Facts). most_bytes < j.end + room_of f) (sym read.facts_are) refused.2 in
+    let over : MAX_JOURNAL < j.end + room_of (facts read.done) = subst (λ (f : Facts). MAX_JOURNAL < j.end + room_of f) (sym read.facts_are) refused.2 in
     same_place (stands clients (read_files two)) j.file (j.end - 1) place
     (front_full clients (read_files two) j.file read.done j.end read.front (at_end two told) over) refused.0 refused.1
 

@@ -1,7 +1,6 @@
 -- What a commit answers, and what stands after each answer.
 use Rattle.std.specs.Prelude.{◌≡◌, ℕ, ◌+◌, ◌<◌, ◌≤◌, true, false, List, length, Result, Ok, Err}
 use Rattle.std.specs.List.{AllByRecursion}
-use Rattle.outside.specs.Frames.{most_bytes}
 use Rattle.frame_journal.specs.Append.{IsFramed, payload_of}
 use Rattle.sync_rules.specs.declared.entries.Entry.{Entry}
 use Rattle.sync_rules.specs.Clients.{Meaning}
@@ -10,6 +9,7 @@ use Rattle.sync_rules.specs.Legal.{Allowed}
 use Rattle.entry_codec.specs.Payloads.{payload, payload_len}
 use Rattle.entry_codec.specs.Spelling.{IsEntry}
 use Rattle.entry_codec.specs.Standing.{room_of}
+use Rattle.outside.specs.declared.limits.TheConstants.{MAX_JOURNAL}
 use Rattle.sync_store.specs.Store.{StoreValue}
 use Rattle.sync_store.specs.declared.fault.StoreFault.{StoreFault}
 use Rattle.sync_store.specs.declared.fault.StoreFault.TheVariants as fault
@@ -44,8 +44,8 @@ pub record MayAdd (clients : Meaning) (s : StoreValue) (batch : List Entry) (fra
   pub within : AllByRecursion IsEntry batch
   pub is_framed : IsFramed framed
   pub payload_is : payload_of framed ≡ payload s.state.facts batch
-  pub roomy : s.end + room_of s.state.facts ≤ most_bytes
-  pub still_roomy : s.end + length framed + room_of (after_all s.state.facts batch) ≤ most_bytes
+  pub roomy : s.end + room_of s.state.facts ≤ MAX_JOURNAL
+  pub still_roomy : s.end + length framed + room_of (after_all s.state.facts batch) ≤ MAX_JOURNAL
 
 -- Closed comes exactly where the store was closed, and Full exactly where it was not and the journal would pass the limit; the
 -- others come only behind these. After any error all is as before, but that the store is closed after DiskFault.

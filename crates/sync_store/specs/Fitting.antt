@@ -2,7 +2,7 @@
 use Rattle.std.specs.Prelude.{◌≡◌, ℕ, ◌+◌, ◌≤◌, List, Option, Some}
 use Rattle.std.specs.List.{AllByRecursion}
 use Rattle.outside.specs.Files.{Two, File, IsImage, file_of, read_files, NothingPending}
-use Rattle.outside.specs.Frames.{HasFrames, format_in, journal_file, most_bytes}
+use Rattle.outside.specs.Frames.{HasFrames, format_in, journal_file}
 use Rattle.sync_rules.specs.declared.entries.Entry.{Entry}
 use Rattle.sync_rules.specs.Clients.{Meaning}
 use Rattle.sync_rules.specs.Facts.{facts, nothing}
@@ -10,6 +10,7 @@ use Rattle.sync_rules.specs.Legal.{Legal}
 use Rattle.entry_codec.specs.Payloads.{journal_end, payloads}
 use Rattle.entry_codec.specs.Spelling.{IsEntry}
 use Rattle.entry_codec.specs.Standing.{stands, journal, room_of}
+use Rattle.outside.specs.declared.limits.TheConstants.{MAX_JOURNAL}
 use Rattle.sync_store.specs.Store.{StoreValue}
 
 pub record Fits (clients : Meaning) (s : StoreValue) (j : List (List Entry)) (two : Two File) : Type 0 where
@@ -38,4 +39,4 @@ FitsSome clients s files = (two : Two File) → files ≡ Some two → (j : List
 abbrev pub ImagesStand : Type 0
 ImagesStand =
     (clients : Meaning) (s : StoreValue) (j : List (List Entry)) (two : Two File) (left : Two (List ℕ)) → Fits clients s j two
-    → s.end + room_of s.state.facts ≤ most_bytes → IsImage two left → stands clients left ≡ journal j
+    → s.end + room_of s.state.facts ≤ MAX_JOURNAL → IsImage two left → stands clients left ≡ journal j

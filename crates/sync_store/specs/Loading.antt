@@ -2,7 +2,7 @@
 use Rattle.std.specs.Prelude.{◌≡◌, ◌⊎◌, ℕ, ◌+◌, ◌-◌, ◌<◌, ◌≤◌, Bool, true, false, List, length, Option, None, Some, Result, Ok, Err}
 use Rattle.std.specs.List.{AllByRecursion}
 use Rattle.outside.specs.Files.{Two, File, file_of, read_files}
-use Rattle.outside.specs.Frames.{closed, frame_at, most_bytes}
+use Rattle.outside.specs.Frames.{closed, frame_at}
 use Rattle.outside.specs.Disk.{Becomes}
 use Rattle.outside.specs.declared.disk.Place.{Place}
 use Rattle.frame_journal.specs.Gates.{Settles}
@@ -16,6 +16,7 @@ use Rattle.entry_codec.specs.Payloads.{batch_of, payload}
 use Rattle.entry_codec.specs.Standing.{damaged, journal, no_store, room_of, stands}
 use Rattle.entry_codec.specs.Fronts.{Front}
 use Rattle.journal_state.specs.Whole.{Knows, StateValue}
+use Rattle.outside.specs.declared.limits.TheConstants.{MAX_JOURNAL}
 use Rattle.sync_store.specs.Store.{HasNumbers, StoreValue}
 use Rattle.sync_store.specs.declared.fault.LoadFault.{LoadFault}
 use Rattle.sync_store.specs.declared.fault.LoadFault.TheVariants as load
@@ -59,7 +60,7 @@ pub record SoFar (clients : Meaning) (files : Option (Two File)) (j : JournalVal
   pub knows : Knows clients s
   pub numbers : HasNumbers s.facts j.end
   pub started : 15 ≤ j.end
-  pub bounded : j.end ≤ most_bytes
+  pub bounded : j.end ≤ MAX_JOURNAL
   -- the place of the last frame is that of a frame, once there was one
   pub begun : j.last < 14 → s.facts ≡ nothing
   pub known : (two : Two File) → files ≡ Some two → HasRead clients two j s
@@ -109,9 +110,9 @@ Turns clients files j j' s' (Err load.Memory) = Unit {0}
 
 -- whether the room of the journal is left
 abbrev pub HasItsRoom : JournalValue → StateValue → Result (Unit {0}) LoadFault → Type 0
-HasItsRoom j s (Ok u) = j.end + room_of s.facts ≤ most_bytes
+HasItsRoom j s (Ok u) = j.end + room_of s.facts ≤ MAX_JOURNAL
 HasItsRoom j s (Err load.NoStore) = ⊥
-HasItsRoom j s (Err (load.Damaged place)) = (place.file ≡ j.file) × (place.at ≡ j.end - 1) × (most_bytes < j.end + room_of s.facts)
+HasItsRoom j s (Err (load.Damaged place)) = (place.file ≡ j.file) × (place.at ≡ j.end - 1) × (MAX_JOURNAL < j.end + room_of s.facts)
 HasItsRoom j s (Err load.DiskFault) = ⊥
 HasItsRoom j s (Err load.Memory) = Unit {0}
 
@@ -119,7 +120,7 @@ HasItsRoom j s (Err load.Memory) = Unit {0}
 pub record HasReadAll (clients : Meaning) (files : Option (Two File)) (j : JournalValue) (s : StateValue) : Type 0 where
   pub so_far : SoFar clients files j s
   pub at_end : IsAtEnd files j
-  pub roomy : j.end + room_of s.facts ≤ most_bytes
+  pub roomy : j.end + room_of s.facts ≤ MAX_JOURNAL
 
 -- what reading the whole journal answers
 abbrev pub ReadsAll : Meaning → Option (Two File) → JournalValue → StateValue → Result (Unit {0}) LoadFault → Type 0

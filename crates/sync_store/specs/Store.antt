@@ -1,10 +1,10 @@
 -- What contracts see of a store.
 use Rattle.std.specs.Prelude.{ℕ, ◌+◌, ◌≤◌, Bool, length, refl}
 use Rattle.std.specs.Coded.{Coded, code_by, coded×, coded_bool, coded_ℕ}
-use Rattle.outside.specs.Frames.{most_bytes}
 use Rattle.sync_rules.specs.Facts.{Facts, takes_of}
 use Rattle.entry_codec.specs.Standing.{room_of}
 use Rattle.journal_state.specs.Whole.{StateValue, state_code}
+use Rattle.outside.specs.declared.limits.TheConstants.{MAX_JOURNAL}
 
 -- The facts of the journal and the judgements of its messages; the number of the journal's file, its format, and the place of
 -- its closed gate plus one; the length that commits may fill; and whether a call on the disk failed. The journal itself is not
@@ -32,6 +32,6 @@ pub record HasNumbers (f : Facts) (end : ℕ) : Type 0 where
 
 -- what every store keeps: its limit is one of a journal, settling finds its room, and its counts are bounded by its end
 pub record IsStore (s : StoreValue) : Type 0 where
-  pub limited : s.limit ≤ most_bytes
-  pub roomy : s.end + room_of s.state.facts ≤ most_bytes
+  pub limited : s.limit ≤ MAX_JOURNAL
+  pub roomy : s.end + room_of s.state.facts ≤ MAX_JOURNAL
   pub numbers : HasNumbers s.state.facts s.end

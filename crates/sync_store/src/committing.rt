@@ -13,6 +13,7 @@ ghost use Rattle.sync_store.specs.Commits.{Commits, Gains, MayAdd, Unasked, need
 ghost use Rattle.sync_store.specs.Fitting.{Fits};
 ghost use Rattle.sync_store.specs.Moments.{Adds};
 ghost use Rattle.sync_store.specs.Ready.{IsReady};
+ghost use Rattle.sync_store.specs.Store.{IsStore};
 
 use crate::StoreFault;
 use crate::frames::frame_batch;
@@ -63,6 +64,7 @@ impl Store {
             → IsReady (C.meaning clients.now) self.new (D.tells disk.new).files }
         ensures unasked { Unasked result disk.old disk.new }
         ensures run { DiskRun (D.tells disk.old) (D.tells disk.new) }
+        ensures numbers { IsStore self.new }
         ensures fault { IsErrOf result StoreFault.DiskFault
             → Rose (D.tells disk.old).disk_faults (D.tells disk.new).disk_faults }
     {
@@ -117,6 +119,7 @@ impl Store {
         ensures ready { self.new.closed ≡ false
             → IsReady (C.meaning clients.now) self.new (D.tells disk.new).files }
         ensures run { DiskRun (D.tells disk.old) (D.tells disk.new) }
+        ensures numbers { IsStore self.new }
         ensures fault { HasCause (D.tells disk.old).disk_faults (D.tells disk.new).disk_faults
             result }
     {

@@ -1,15 +1,17 @@
 //! Loading a store: the journal is read batch by batch, and never held.
 ghost use Rattle.std.specs.Prelude.{◌≡◌, ◌+◌, ◌-◌, ◌<◌, ◌≤◌, IfOk, IsErrOf, Some};
 ghost use Rattle.outside.specs.Faults.{Rose};
+ghost use Rattle.outside.specs.Disk.{Becomes};
 ghost use Rattle.outside.specs.Files.{Two, File, read_files};
 ghost use Rattle.outside.specs.Outside.{DiskRun, Looks};
-ghost use Rattle.frame_journal.specs.Gates.{AnyImage};
+ghost use Rattle.frame_journal.specs.Gates.{AnyImage, ReadsSame};
 ghost use Rattle.journal_state.specs.Taking.{HasNextNumbers};
 ghost use Rattle.journal_state.specs.Whole.{Knows};
 ghost use Rattle.sync_rules.specs.Facts.{nothing};
 ghost use Rattle.sync_store.specs.Loading.{HasItsRoom, IsLoaded, LeavesSettled, Plays, ReadsAll};
 ghost use Rattle.sync_store.specs.Loading.{SoFar, Turns};
 ghost use Rattle.sync_store.specs.Ready.{IsReady};
+ghost use Rattle.sync_store.specs.Store.{IsStore};
 
 use crate::LoadFault;
 use crate::laws::cite_laws;
@@ -130,11 +132,15 @@ impl Store {
             → IsLoaded (C.meaning clients.now) (read_files two) result }
         ensures ready { IfOk result (λ store. IsReady (C.meaning clients.now) store
             (D.tells disk.new).files) }
+        ensures numbers { IfOk result (λ store. IsStore store) }
         ensures limit { IfOk result (λ store. store.limit ≡ limit) }
 
         // At each moment a crash leaves what it might have left before.
         ensures any_moment { AnyImage (D.tells disk.old) (D.tells disk.new) }
         ensures settled { LeavesSettled (D.tells disk.old).files (D.tells disk.new).files result }
+
+        // Whatever it answers, the files read as before.
+        ensures reads { Becomes ReadsSame (D.tells disk.old).files (D.tells disk.new).files }
         ensures run { DiskRun (D.tells disk.old) (D.tells disk.new) }
         ensures fault { IsErrOf result LoadFault.DiskFault
             → Rose (D.tells disk.old).disk_faults (D.tells disk.new).disk_faults }

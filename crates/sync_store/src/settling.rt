@@ -15,6 +15,7 @@ ghost use Rattle.sync_rules.specs.Legal.{IsSettling};
 ghost use Rattle.sync_rules.specs.Steps.{IsSettled};
 ghost use Rattle.entry_codec.specs.Standing.{room_of};
 ghost use Rattle.sync_store.specs.Ready.{IsReady};
+ghost use Rattle.sync_store.specs.Store.{IsStore};
 ghost use Rattle.sync_store.specs.Settling.{HasSettled, MakesBatch};
 
 use crate::StoreFault;
@@ -48,6 +49,7 @@ impl Store {
         ensures ready { self.new.closed ≡ false
             → IsReady (C.meaning clients.now) self.new (D.tells disk.new).files }
         ensures run { DiskRun (D.tells disk.old) (D.tells disk.new) }
+        ensures numbers { IsStore self.new }
         ensures fault { IsErrOf result StoreFault.DiskFault
             → Rose (D.tells disk.old).disk_faults (D.tells disk.new).disk_faults }
     {
@@ -73,6 +75,7 @@ impl Store {
             (D.tells disk.old) (D.tells disk.new) }
         ensures knows { Knows (C.meaning clients.now) self.new.state }
         ensures run { DiskRun (D.tells disk.old) (D.tells disk.new) }
+        ensures numbers { IsStore self.new }
         ensures fault { IsErrOf result StoreFault.DiskFault
             → Rose (D.tells disk.old).disk_faults (D.tells disk.new).disk_faults }
     {
@@ -100,6 +103,7 @@ impl Store {
             (D.tells disk.old) (D.tells disk.new) }
         ensures knows { Knows (C.meaning clients.now) self.new.state }
         ensures run { DiskRun (D.tells disk.old) (D.tells disk.new) }
+        ensures numbers { IsStore self.new }
         ensures fault { IsErrOf result StoreFault.DiskFault
             → Rose (D.tells disk.old).disk_faults (D.tells disk.new).disk_faults }
     {
@@ -132,6 +136,7 @@ impl Store {
             → Passed two (D.tells disk.old) (D.tells disk.new) self.old.file
             (BeforeOrWith (file_of two self.old.file).now self.old.end framed.now) }
         ensures run { DiskRun (D.tells disk.old) (D.tells disk.new) }
+        ensures numbers { IsStore self.new }
         ensures fault { HasCause (D.tells disk.old).disk_faults (D.tells disk.new).disk_faults
             result }
     {

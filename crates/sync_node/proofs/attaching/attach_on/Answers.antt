@@ -1,6 +1,12 @@
 use Rattle.sync_node.proofs.CourseStart.{start_none}
+use Rattle.sync_node.proofs.SafeLaws.{goes_none}
 use Rattle.sync_node.proofs.StartLaws.{starts_as_before}
 use Rattle.sync_node.proofs.WorkLaws.{on_err}
+use Rattle.std.proofs.Common.{List, [], ◌∷◌, ◌++◌, ap, ◌∙◌}
+use Rattle.sync_node.specs.declared.link.Link.{Link}
+use Rattle.sync_node.proofs.CauseLaws.{links_go_none, links_go_push, links_go_same}
+use Rattle.std.proofs.Common.{Err}
+use Rattle.sync_node.proofs.WorkLaws.{err_was}
 use Rattle.sync_node.proofs.attaching.attach_on.Goals as goal
 
 pub returns-in_err-reader-clause-safe : goal.returns-in_err-reader-clause-safe
@@ -14,3 +20,25 @@ returns-in_err-reader-clause-halts g c = on_err _ _ (start_none _ _ _ _)
 
 pub returns-in_err-reserve-clause-halts : goal.returns-in_err-reserve-clause-halts
 returns-in_err-reserve-clause-halts g c = on_err _ _ (start_none _ _ _ _)
+
+pub returns-in_err-reader-clause-run : goal.returns-in_err-reader-clause-run
+returns-in_err-reader-clause-run g c = links_go_none _ _
+
+pub returns-in_err-reserve-clause-run : goal.returns-in_err-reserve-clause-run
+returns-in_err-reserve-clause-run g c = links_go_same _ _ _ _ c.reserve.ensures.items (goes_none _)
+
+pub returns-in_err-link-clause-run : goal.returns-in_err-link-clause-run
+returns-in_err-link-clause-run g c =
+    links_go_same _ _ _ _ c.reserve.ensures.items c.start.ensures.run
+
+pub returns-clause-run : goal.returns-clause-run
+returns-clause-run g c =
+    links_go_push c.args.number _ _ c.in_ok-link.link _ _ c.requires.last
+    ((rw c.unwrap.ensures at c.push.ensures.items) ∙ ap (λ (ls : List Link). ls ++ c.in_ok-link.link ∷ []) c.reserve.ensures.items) c.start.ensures.run c.in_ok-link.ensures.cause
+
+pub returns-in_err-link-clause-full : goal.returns-in_err-link-clause-full
+returns-in_err-link-clause-full g c =
+    λ is. c.in_err-link.ensures.full (ap (λ e. Err e) (err_was _ c.in_err-link.field-0.0 _ c.from_residual-in_err-link.ensures.1 is))
+
+pub returns-in_err-link-clause-as_before : goal.returns-in_err-link-clause-as_before
+returns-in_err-link-clause-as_before g c = λ is. c.in_err-link.ensures.as_before (ap (λ e. Err e) (err_was _ c.in_err-link.field-0.0 _ c.from_residual-in_err-link.ensures.1 is))

@@ -2,11 +2,13 @@ use Rattle.std.proofs.Common.{arith, eqb-true, sym}
 use Rattle.sync_node.proofs.OutLaws.{failed_then, may_unfailed}
 use Rattle.sync_node.proofs.CourseStart.{greets_once, greets_twice}
 use Rattle.sync_node.proofs.StartLaws.{greets_alone, greets_failed, greets_one, greets_then, none_long}
+use Rattle.sync_node.proofs.CauseLaws.{link_sent, link_then}
 use Rattle.sync_node.proofs.attaching.greet.Goals as goal
 use Rattle.sync_node.proofs.attaching.greet.Goals.{else-may_send-via-then-may_send+else-not-is_empty, else-may_send-via-else-may_send}
 
 pub send_on-requires-then-not-is_empty : goal.send_on-requires-then-not-is_empty
-send_on-requires-then-not-is_empty g c = omega (arith, c.requires.dialled, c.send_on.ensures.sends.same_dialled)
+send_on-requires-then-not-is_empty g c =
+    omega (arith, c.requires.dialled, c.send_on.ensures.sends.same_dialled)
 
 pub returns-then-not-is_empty-clause-greets : goal.returns-then-not-is_empty-clause-greets
 returns-then-not-is_empty-clause-greets g c =
@@ -30,3 +32,11 @@ returns-then-not-is_empty-clause-told g c =
 
 pub returns-else-may_send-clause-told : goal.returns-else-may_send-clause-told
 returns-else-may_send-clause-told g c = greets_once _ _ _ _ _ _ c.send_on.ensures
+
+pub returns-then-not-is_empty-clause-run : goal.returns-then-not-is_empty-clause-run
+returns-then-not-is_empty-clause-run g c =
+    link_then _ _ _ _ _ _ _ (link_sent _ _ _ _ _ _ c.send_on.ensures)
+    (link_sent _ _ _ _ _ _ c.send_on-then-not-is_empty.ensures)
+
+pub returns-else-may_send-clause-run : goal.returns-else-may_send-clause-run
+returns-else-may_send-clause-run g c = link_sent _ _ _ _ _ _ c.send_on.ensures

@@ -3,6 +3,12 @@ use Rattle.record_stream.specs.Reading.{AwaitsBytes, ReaderState}
 use Rattle.sync_node.proofs.CourseStart.{start_broken, start_none, starts_course}
 use Rattle.sync_node.proofs.StartLaws.{allowed_as, commits_as, commits_safe_as, first_bytes, kind_as, session_found, starts, starts_as_before, starts_failed, starts_safe}
 use Rattle.sync_node.proofs.WorkLaws.{on_err}
+use Rattle.sync_node.proofs.CauseLaws.{greeted_cause}
+use Rattle.sync_node.proofs.SafeLaws.{goes_none}
+use Rattle.sync_node.proofs.WorkLaws.{goes_then}
+use Rattle.std.proofs.Common.{Err, ap}
+use Rattle.sync_node.proofs.WorkLaws.{err_was}
+use Rattle.sync_node.proofs.CourseStart.{start_full}
 use Rattle.sync_node.proofs.attaching.start.Goals as goal
 
 pub returns-in_err-versions-clause-safe : goal.returns-in_err-versions-clause-safe
@@ -18,7 +24,8 @@ pub commit-requires-clause-ready : goal.commit-requires-clause-ready
 commit-requires-clause-ready g c = c.requires.ready
 
 pub commit-requires-clause-allowed : goal.commit-requires-clause-allowed
-commit-requires-clause-allowed g c = allowed_as (g.C.Clients.meaning c.args.clients.now) c.args.store.now.state.facts c.in_ok-batch.batch _ c.in_ok-batch.ensures c.requires.allowed
+commit-requires-clause-allowed g c =
+    allowed_as (g.C.Clients.meaning c.args.clients.now) c.args.store.now.state.facts c.in_ok-batch.batch _ c.in_ok-batch.ensures c.requires.allowed
 
 pub commit-requires-clause-kind : goal.commit-requires-clause-kind
 commit-requires-clause-kind g c = kind_as c.args.session c.in_ok-batch.batch c.in_ok-batch.ensures
@@ -35,7 +42,8 @@ pub same-reader : goal.same-reader
 same-reader g c = refl
 
 pub greet-requires-clause-dialled : goal.greet-requires-clause-dialled
-greet-requires-clause-dialled g c = omega (arith, c.requires.dialled, c.in_ok-commit.ensures.commits.goes.links.dialled)
+greet-requires-clause-dialled g c =
+    omega (arith, c.requires.dialled, c.in_ok-commit.ensures.commits.goes.links.dialled)
 
 pub greet-requires-clause-going : goal.greet-requires-clause-going
 greet-requires-clause-going g c = refl
@@ -52,7 +60,7 @@ returns-clause-safe g c =
     starts_safe _ _ c.args.session _ _ _ _ _ _ _ _ c.requires.allowed
     (commits_as _ c.in_ok-batch.batch _ _ _ _ _ c.in_ok-batch.ensures c.in_ok-commit.ensures.commits)
     (commits_safe_as _ c.in_ok-batch.batch _ _ _ _ _ c.in_ok-batch.ensures c.in_ok-commit.ensures.safe)
-    (first_bytes c.args.session _ _ (c.as_slice.ensures.value ∙ c.in_ok-versions.ensures) (c.as_slice-2.ensures.value ∙ c.in_ok-priority.ensures)) c.end-room.ensures.numbers.roomy c.greet.ensures.greets
+    (first_bytes c.args.session _ _ (c.as_slice.ensures.value ∙ c.in_ok-versions.ensures) (c.as_slice-2.ensures.value ∙ c.in_ok-priority.ensures)) c.in_ok-commit.ensures.numbers.roomy c.greet.ensures.greets
 
 pub returns-in_err-versions-clause-halts : goal.returns-in_err-versions-clause-halts
 returns-in_err-versions-clause-halts g c = on_err _ _ (start_none _ _ _ _)
@@ -72,3 +80,29 @@ returns-clause-course g c =
     starts_course _ c.args.session _ _ c.in_ok-batch.batch c.in_ok-batch.ensures c.requires.allowed _ c.in-Some.begun c.args.reader _ _ _ _ c.requires.ready
     c.in_ok-commit.ensures.commits.facts c.in_ok-commit.ensures.adds (sym c.in-Some.is ∙ c.session.ensures.value) c.greet.ensures.greets.same_files
     c.requires.fresh (subst (λ (r : ReaderState). AwaitsBytes r) c.requires.fresh c.requires.waits) c.greet.ensures.told
+
+pub returns-in_err-versions-clause-run : goal.returns-in_err-versions-clause-run
+returns-in_err-versions-clause-run g c = goes_none _
+
+pub returns-in_err-priority-clause-run : goal.returns-in_err-priority-clause-run
+returns-in_err-priority-clause-run g c = goes_none _
+
+pub returns-in_err-batch-clause-run : goal.returns-in_err-batch-clause-run
+returns-in_err-batch-clause-run g c = goes_none _
+
+pub returns-in_err-commit-clause-run : goal.returns-in_err-commit-clause-run
+returns-in_err-commit-clause-run g c = c.commit.ensures.run
+
+pub returns-clause-run : goal.returns-clause-run
+returns-clause-run g c = goes_then _ _ _ c.commit.ensures.run c.greet.ensures.run.goes
+
+pub returns-clause-cause : goal.returns-clause-cause
+returns-clause-cause g c = greeted_cause _ _ _ _ _ _ c.commit.ensures.run refl c.greet.ensures.run
+
+pub returns-in_err-commit-clause-full : goal.returns-in_err-commit-clause-full
+returns-in_err-commit-clause-full g c = λ is.
+    start_full _ c.args.session _ _ c.in_ok-batch.batch c.in_ok-batch.ensures c.requires.allowed _ _
+    (c.in_err-commit.ensures.full (ap (λ e. Err e) (err_was _ c.in_err-commit.field-0.0 _ c.from_residual-in_err-commit.ensures.1 is)))
+
+pub returns-in_err-commit-clause-as_before : goal.returns-in_err-commit-clause-as_before
+returns-in_err-commit-clause-as_before g c = λ is. c.in_err-commit.ensures.as_before (ap (λ e. Err e) (err_was _ c.in_err-commit.field-0.0 _ c.from_residual-in_err-commit.ensures.1 is))

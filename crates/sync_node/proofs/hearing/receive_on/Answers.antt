@@ -2,8 +2,14 @@ use Rattle.std.proofs.Common.{refl, sym, ◌∙◌}
 use Rattle.outside.specs.declared.host.Heard.TheVariants as heard
 use Rattle.sync_node.proofs.WorkLaws.{able_calm, ended_not_going, on_err, stays_then, works_ended, works_heard, works_then}
 use Rattle.std.proofs.Common.{ap}
-use Rattle.sync_node.specs.CourseTurns.{hears_ended, hears_failed, hears_idle, hears_piece, hears_stops}
-use Rattle.sync_node.specs.Ends.{ended_by}
+use Rattle.sync_node.proofs.CourseTurns.{hears_ended, hears_failed, hears_idle, hears_piece, hears_stops}
+use Rattle.sync_course.specs.Links.{stands_ended}
+use Rattle.sync_node.proofs.CauseLaws.{ended_unfailed, link_failed, link_kept, link_then, link_unfailed}
+use Rattle.sync_node.proofs.WorkLaws.{goes_heard}
+use Rattle.std.proofs.Common.{Err}
+use Rattle.sync_node.proofs.WorkLaws.{err_was}
+use Rattle.sync_node.proofs.CourseTurns.{hears_full}
+use Rattle.sync_node.proofs.StopLaws.{stops_then}
 use Rattle.sync_node.proofs.hearing.receive_on.Goals as goal
 
 pub recv-requires-clause-link : goal.recv-requires-clause-link
@@ -13,7 +19,8 @@ pub recv-requires-clause-room : goal.recv-requires-clause-room
 recv-requires-clause-room g c = c.requires.room
 
 pub take_piece-requires-clause-able : goal.take_piece-requires-clause-able
-take_piece-requires-clause-able g c = able_calm _ _ _ _ _ _ _ c.recv.ensures.call c.recv.ensures.links.same_dialled c.requires.able
+take_piece-requires-clause-able g c =
+    able_calm _ _ _ _ _ _ _ c.recv.ensures.call c.recv.ensures.links.same_dialled c.requires.able
 
 pub take_piece-requires-clause-asked : goal.take_piece-requires-clause-asked
 take_piece-requires-clause-asked g c = c.requires.asked
@@ -40,7 +47,8 @@ returns-in_ok-take_piece-in-Got-clause-works g c =
     (rw c.new-piece.ensures at c.in_ok-take_piece-in-Got.ensures.works)
 
 pub returns-in-Idle-clause-able : goal.returns-in-Idle-clause-able
-returns-in-Idle-clause-able g c = able_calm _ _ _ _ _ _ _ c.recv.ensures.call c.recv.ensures.links.same_dialled c.requires.able
+returns-in-Idle-clause-able g c =
+    able_calm _ _ _ _ _ _ _ c.recv.ensures.call c.recv.ensures.links.same_dialled c.requires.able
 
 pub returns-in-Idle-clause-waits : goal.returns-in-Idle-clause-waits
 returns-in-Idle-clause-waits g c = c.requires.waits
@@ -50,10 +58,12 @@ returns-in-Idle-clause-works g c =
     (works_heard c.cite_laws.ensures.fronts c.cite_laws.ensures.widen (g.C.Clients.meaning c.args.clients.now) c.args.number heard.Idle c.recv.new.buf c.args.link.now c.args.store.now _ _ c.requires.able.dialled c.in-Idle.ensures.call c.in-Idle.ensures.links)
 
 pub returns-in-End-clause-able : goal.returns-in-End-clause-able
-returns-in-End-clause-able g c = able_calm _ _ _ _ _ _ _ c.recv.ensures.call c.recv.ensures.links.same_dialled c.requires.able
+returns-in-End-clause-able g c =
+    able_calm _ _ _ _ _ _ _ c.recv.ensures.call c.recv.ensures.links.same_dialled c.requires.able
 
 pub returns-in-End-clause-waits : goal.returns-in-End-clause-waits
-returns-in-End-clause-waits g c = λ going. absurd (ended_not_going _ (sym c.ended-link.ensures ∙ going))
+returns-in-End-clause-waits g c =
+    λ going. absurd (ended_not_going _ (sym c.ended-link.ensures ∙ going))
 
 pub returns-in-End-clause-works : goal.returns-in-End-clause-works
 returns-in-End-clause-works g c =
@@ -62,7 +72,8 @@ returns-in-End-clause-works g c =
     (works_ended _ _ _ _ _ _ _ _ refl (λ going. ended_not_going _ (sym c.ended-link.ensures ∙ going)) c.requires.asked)
 
 pub returns-in-Failed-clause-able : goal.returns-in-Failed-clause-able
-returns-in-Failed-clause-able g c = able_calm _ _ _ _ _ _ _ c.recv.ensures.call c.recv.ensures.links.same_dialled c.requires.able
+returns-in-Failed-clause-able g c =
+    able_calm _ _ _ _ _ _ _ c.recv.ensures.call c.recv.ensures.links.same_dialled c.requires.able
 
 pub returns-in-Failed-clause-waits : goal.returns-in-Failed-clause-waits
 returns-in-Failed-clause-waits g c = λ going. cc
@@ -91,8 +102,40 @@ returns-in-Idle-clause-course g c = λ whole.
 pub returns-in-End-clause-course : goal.returns-in-End-clause-course
 returns-in-End-clause-course g c = λ whole.
     hears_ended _ _ _ _ _ _ c.recv.new.buf (c.recv.auto.buf ∙ whole) c.requires.asked c.in-End.ensures.call.same_files _
-    (c.ended-link.ensures ∙ ap ended_by c.end.ensures.ending) c.in-End.ensures.links c.in-End.ensures.answer
+    (c.ended-link.ensures ∙ ap stands_ended c.end.ensures.ending) c.in-End.ensures.links c.in-End.ensures.answer
 
 pub returns-in-Failed-clause-course : goal.returns-in-Failed-clause-course
 returns-in-Failed-clause-course g c = λ whole.
     hears_failed _ _ _ _ _ _ c.recv.new.buf (c.recv.auto.buf ∙ whole) c.requires.asked c.in-Failed.ensures.call.same_files c.in-Failed.ensures.links c.in-Failed.ensures.answer
+
+pub returns-in_err-take_piece-in-Got-clause-run : goal.returns-in_err-take_piece-in-Got-clause-run
+returns-in_err-take_piece-in-Got-clause-run g c =
+    link_then _ _ _ _ _ _ _ (link_kept _ _ _ _ _ (goes_heard _ _ _ _ _ c.recv.ensures.call c.recv.ensures.links) refl) c.take_piece.ensures.run
+
+pub returns-in_ok-take_piece-in-Got-clause-run : goal.returns-in_ok-take_piece-in-Got-clause-run
+returns-in_ok-take_piece-in-Got-clause-run g c =
+    link_then _ _ _ _ _ _ _ (link_kept _ _ _ _ _ (goes_heard _ _ _ _ _ c.recv.ensures.call c.recv.ensures.links) refl) c.take_piece.ensures.run
+
+pub returns-in-Idle-clause-run : goal.returns-in-Idle-clause-run
+returns-in-Idle-clause-run g c =
+    link_kept _ _ _ _ _ (goes_heard _ _ _ _ _ c.recv.ensures.call c.recv.ensures.links) refl
+
+pub returns-in-End-clause-run : goal.returns-in-End-clause-run
+returns-in-End-clause-run g c =
+    link_unfailed _ _ _ _ _ (goes_heard _ _ _ _ _ c.recv.ensures.call c.recv.ensures.links) (λ failed. ended_unfailed _ (sym c.ended-link.ensures ∙ failed))
+
+pub returns-in-Failed-clause-run : goal.returns-in-Failed-clause-run
+returns-in-Failed-clause-run g c =
+    link_failed _ _ _ _ _ (goes_heard _ _ _ _ _ c.recv.ensures.call c.recv.ensures.links) c.in-Failed.ensures.answer
+
+pub returns-in_err-take_piece-in-Got-clause-full : goal.returns-in_err-take_piece-in-Got-clause-full
+returns-in_err-take_piece-in-Got-clause-full g c = λ whole is.
+    hears_full _ _ _ _ _ _ c.recv.new.buf (c.recv.auto.buf ∙ whole) c.requires.asked c.in-Got.ensures.call.same_files c.cite_laws.ensures.widen c.in-Got.count _ _
+    c.in-Got.ensures.links c.in-Got.ensures.answer
+    (rw c.new-piece.ensures at (c.in_err-take_piece-in-Got.ensures.full (ap (λ e. Err e) (err_was _ c.in_err-take_piece-in-Got.field-0.0 _ c.from_residual.ensures.1 is))))
+
+pub returns-in_err-take_piece-in-Got-clause-sent : goal.returns-in_err-take_piece-in-Got-clause-sent
+returns-in_err-take_piece-in-Got-clause-sent g c = λ is.
+    stops_then _ _ _ _ _ _ _ _ _ _ _ _
+    (works_heard c.cite_laws.ensures.fronts c.cite_laws.ensures.widen (g.C.Clients.meaning c.args.clients.now) c.args.number (heard.Got c.in-Got.count) c.recv.new.buf c.args.link.now c.args.store.now _ _ c.requires.able.dialled c.in-Got.ensures.call c.in-Got.ensures.links)
+    (rw c.new-piece.ensures at (c.in_err-take_piece-in-Got.ensures.sent (ap (λ e. Err e) (err_was _ c.in_err-take_piece-in-Got.field-0.0 _ c.from_residual.ensures.1 is))))

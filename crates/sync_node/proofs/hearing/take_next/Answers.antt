@@ -2,7 +2,13 @@ use Rattle.std.proofs.Common.{refl, ap, length, arith}
 use Rattle.record_stream.specs.Reading.{ReaderState}
 use Rattle.sync_node.proofs.TakeLaws.{more_works, open_for, skip_works, taken_able, taken_stays, taken_works}
 use Rattle.sync_node.proofs.WorkLaws.{on_err, stays_none, works_ended}
-use Rattle.sync_node.specs.CourseLaws.{next_bad, next_more, next_one, next_skipped, next_stops, next_stops_at_none}
+use Rattle.sync_node.proofs.CourseTakes.{next_bad, next_more, next_one, next_skipped, next_stops, next_stops_at_none}
+use Rattle.sync_node.proofs.CauseLaws.{learnt_unfailed, link_kept, link_unfailed}
+use Rattle.sync_node.proofs.SafeLaws.{goes_none}
+use Rattle.std.proofs.Common.{Err}
+use Rattle.sync_node.proofs.WorkLaws.{err_was}
+use Rattle.sync_node.proofs.CourseTakes.{next_full}
+use Rattle.sync_node.proofs.StopLaws.{stops_none}
 use Rattle.sync_node.proofs.hearing.take_next.Goals as goal
 
 pub take_one-requires : goal.take_one-requires
@@ -51,7 +57,8 @@ returns-in-More-clause-left g c =
     (left.0, λ _. left.1)
 
 pub returns-in-More-clause-works : goal.returns-in-More-clause-works
-returns-in-More-clause-works g c = more_works c.cite_laws.ensures.follow _ _ _ _ _ _ _ _ refl refl refl (rw c.in-More.is at c.in_ok-place.ensures.stream)
+returns-in-More-clause-works g c =
+    more_works c.cite_laws.ensures.follow _ _ _ _ _ _ _ _ refl refl refl (rw c.in-More.is at c.in_ok-place.ensures.stream)
 
 pub returns-in-Bad-clause-able : goal.returns-in-Bad-clause-able
 returns-in-Bad-clause-able g c = c.requires.able
@@ -94,3 +101,34 @@ returns-in-Bad-clause-course g c =
     let left = rw c.in-Bad.is at c.in_ok-place.ensures.left in
     next_bad c.cite_laws.ensures.follow _ _ c.in-Bad.place c.in-Bad.reason _ _ _ _ _ _ c.requires.asked refl refl refl c.requires.able.settled
     (rw c.in-Bad.is at c.in_ok-place.ensures.stream) left.0 left.1 left.2
+
+pub returns-in_err-place-clause-run : goal.returns-in_err-place-clause-run
+returns-in_err-place-clause-run g c = link_kept _ _ _ _ _ (goes_none _) refl
+
+pub returns-in_err-take_one-in-One-clause-run : goal.returns-in_err-take_one-in-One-clause-run
+returns-in_err-take_one-in-One-clause-run g c =
+    link_unfailed _ _ _ _ _ c.take_one.ensures.run (learnt_unfailed c.in-One.place c.in-One.rec _ _ c.learn.ensures c.requires.asked)
+
+pub returns-in_ok-take_one-in-One-clause-run : goal.returns-in_ok-take_one-in-One-clause-run
+returns-in_ok-take_one-in-One-clause-run g c =
+    link_unfailed _ _ _ _ _ c.take_one.ensures.run (learnt_unfailed c.in-One.place c.in-One.rec _ _ c.learn.ensures c.requires.asked)
+
+pub returns-in-Skipped-clause-run : goal.returns-in-Skipped-clause-run
+returns-in-Skipped-clause-run g c = link_kept _ _ _ _ _ (goes_none _) refl
+
+pub returns-in-More-clause-run : goal.returns-in-More-clause-run
+returns-in-More-clause-run g c = link_kept _ _ _ _ _ (goes_none _) refl
+
+pub returns-in-Bad-clause-run : goal.returns-in-Bad-clause-run
+returns-in-Bad-clause-run g c = link_unfailed _ _ _ _ _ (goes_none _) (λ failed. cc)
+
+pub returns-in_err-take_one-in-One-clause-full : goal.returns-in_err-take_one-in-One-clause-full
+returns-in_err-take_one-in-One-clause-full g c = λ is.
+    next_full c.cite_laws.ensures.follow _ _ c.in-One.place c.in-One.rec _ _ _ _ c.learn.new.link _ _ _ _ refl
+    (rw c.in-One.is at c.in_ok-place.ensures.stream) c.learn.ensures
+    (c.in_err-take_one-in-One.ensures.full (ap (λ e. Err e) (err_was _ c.in_err-take_one-in-One.field-0.0 _ c.from_residual-in_err-take_one-in-One.ensures.1 is)))
+
+pub returns-in_err-take_one-in-One-clause-sent : goal.returns-in_err-take_one-in-One-clause-sent
+returns-in_err-take_one-in-One-clause-sent g c = λ is.
+    stops_none _ _ _ _ _ _ _ _ (λ failed. let asked = c.requires.asked in cc)
+    (c.in_err-take_one-in-One.ensures.as_before (ap (λ e. Err e) (err_was _ c.in_err-take_one-in-One.field-0.0 _ c.from_residual-in_err-take_one-in-One.ensures.1 is)))

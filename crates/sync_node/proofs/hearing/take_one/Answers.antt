@@ -1,16 +1,23 @@
 use Rattle.sync_node.proofs.TakeLaws.{take_allowed, take_is, take_kind, take_safe, take_safe_none, take_safe_then, taken_on}
 use Rattle.sync_node.proofs.WorkLaws.{on_err, on_err_then, on_ok}
-use Rattle.sync_node.specs.CourseLaws.{stops_at_commit, stops_at_none, stops_at_settle, takes_course, take_named}
+use Rattle.sync_node.proofs.CourseTakes.{stops_at_commit, stops_at_none, stops_at_settle, takes_course, take_named}
+use Rattle.sync_node.proofs.SafeLaws.{goes_none}
+use Rattle.sync_node.proofs.WorkLaws.{goes_then}
+use Rattle.std.proofs.Common.{Err, ap}
+use Rattle.sync_node.proofs.WorkLaws.{err_was}
+use Rattle.sync_node.proofs.CourseTakes.{take_full}
 use Rattle.sync_node.proofs.hearing.take_one.Goals as goal
 
 pub commit-requires-clause-ready : goal.commit-requires-clause-ready
 commit-requires-clause-ready g c = c.requires.able.ready
 
 pub commit-requires-clause-allowed : goal.commit-requires-clause-allowed
-commit-requires-clause-allowed g c = take_allowed _ _ c.takes-taken.result c.args.rec _ _ c.in_ok-batch.batch c.requires.able c.records_are_within.ensures c.takes-taken.ensures c.in_ok-batch.ensures
+commit-requires-clause-allowed g c =
+    take_allowed _ _ c.takes-taken.result c.args.rec _ _ c.in_ok-batch.batch c.requires.able c.records_are_within.ensures c.takes-taken.ensures c.in_ok-batch.ensures
 
 pub commit-requires-clause-kind : goal.commit-requires-clause-kind
-commit-requires-clause-kind g c = take_kind c.args.store.now.state.facts c.args.session.now c.takes-taken.result c.args.rec c.in_ok-batch.batch c.in_ok-batch.ensures
+commit-requires-clause-kind g c =
+    take_kind c.args.store.now.state.facts c.args.session.now c.takes-taken.result c.args.rec c.in_ok-batch.batch c.in_ok-batch.ensures
 
 pub returns-in_err-batch-clause-safe : goal.returns-in_err-batch-clause-safe
 returns-in_err-batch-clause-safe g c = take_safe_none _ _ _ _ _
@@ -67,3 +74,26 @@ returns-clause-stops g c =
     (take_is c.args.store.now.state.facts c.args.session.now c.takes-taken.result c.args.rec c.in_ok-batch.batch c.takes-taken.ensures c.in_ok-batch.ensures)) allowed
     c.in_ok-commit.ensures.commits.facts c.in_ok-commit.ensures.adds)
     c.settle.ensures.adds_some
+
+pub returns-in_err-batch-clause-run : goal.returns-in_err-batch-clause-run
+returns-in_err-batch-clause-run g c = goes_none _
+
+pub returns-clause-run : goal.returns-clause-run
+returns-clause-run g c = goes_then _ _ _ c.commit.ensures.run c.settle.ensures.run
+
+pub returns-in_err-commit-clause-full : goal.returns-in_err-commit-clause-full
+returns-in_err-commit-clause-full g c = λ is.
+    let allowed = take_allowed _ _ c.takes-taken.result c.args.rec _ _ c.in_ok-batch.batch c.requires.able c.records_are_within.ensures c.takes-taken.ensures c.in_ok-batch.ensures in
+    take_full _ _ c.args.rec _ _ _ _ c.in_ok-batch.batch
+    (take_named c.args.store.now.state.facts c.args.session.now c.args.rec c.in_ok-batch.batch c.requires.able.known
+    (take_is c.args.store.now.state.facts c.args.session.now c.takes-taken.result c.args.rec c.in_ok-batch.batch c.takes-taken.ensures c.in_ok-batch.ensures)) allowed
+    (c.in_err-commit.ensures.full (ap (λ e. Err e) (err_was _ c.in_err-commit.field-0.0 _ c.from_residual-in_err-commit.ensures.1 is)))
+
+pub returns-clause-full : goal.returns-clause-full
+returns-clause-full g c = λ is. absurd (c.settle.ensures.never is)
+
+pub returns-in_err-commit-clause-as_before : goal.returns-in_err-commit-clause-as_before
+returns-in_err-commit-clause-as_before g c = λ is. c.in_err-commit.ensures.as_before (ap (λ e. Err e) (err_was _ c.in_err-commit.field-0.0 _ c.from_residual-in_err-commit.ensures.1 is))
+
+pub returns-clause-as_before : goal.returns-clause-as_before
+returns-clause-as_before g c = λ is. absurd (c.settle.ensures.never is)

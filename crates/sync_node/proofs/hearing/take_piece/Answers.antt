@@ -1,10 +1,15 @@
 use Rattle.sync_node.proofs.TakeLaws.{none_left}
 use Rattle.sync_node.proofs.WorkLaws.{on_err, stays_then, works_closed, works_none, works_then}
-use Rattle.sync_node.specs.CourseLaws.{piece_closed, piece_none, piece_stops, piece_taken, piece_then}
+use Rattle.sync_node.proofs.CourseTakes.{piece_closed, piece_none, piece_stops, piece_taken, piece_then}
+use Rattle.sync_node.proofs.CauseLaws.{link_none, link_then}
+use Rattle.std.proofs.Common.{Err, ap, refl, ◌∙◌}
+use Rattle.sync_node.proofs.WorkLaws.{err_was}
+use Rattle.sync_node.proofs.CourseTakes.{piece_full}
+use Rattle.sync_node.proofs.StopLaws.{stops_then}
 use Rattle.sync_node.proofs.hearing.take_piece.Goals as goal
 
 pub items-init : goal.items-init
-items-init g c = record { able = c.requires.able; course = piece_none _ _ _ _ _ _ c.requires.asked; works = works_none _ _ _ _ _ _ }
+items-init g c = record { run = link_none _ _ _; limit = refl; able = c.requires.able; course = piece_none _ _ _ _ _ _ c.requires.asked; works = works_none _ _ _ _ _ _ }
 
 pub returns-then-not-branch-clause-works : goal.returns-then-not-branch-clause-works
 returns-then-not-branch-clause-works g c =
@@ -12,10 +17,13 @@ returns-then-not-branch-clause-works g c =
     rw none at (works_then _ _ _ _ _ _ _ _ _ _ _ _ _ _ c.items.invariant.works c.in_ok-take_next.ensures.works)
 
 pub returns-in_err-take_next-clause-stays : goal.returns-in_err-take_next-clause-stays
-returns-in_err-take_next-clause-stays g c = on_err _ _ (stays_then _ _ _ _ _ _ _ _ _ _ _ _ c.items.invariant.works c.in_err-take_next.ensures.stays)
+returns-in_err-take_next-clause-stays g c =
+    on_err _ _ (stays_then _ _ _ _ _ _ _ _ _ _ _ _ c.items.invariant.works c.in_err-take_next.ensures.stays)
 
 pub items-preserved : goal.items-preserved
 items-preserved g c = record {
+  run = link_then _ _ _ _ _ _ _ c.items.invariant.run c.take_next.ensures.run;
+  limit = c.take_next.ensures.limit ∙ c.items.invariant.limit;
   able = c.in_ok-take_next.ensures.able;
   course = piece_then _ _ _ _ _ _ _ _ _ _ c.items.invariant.works.same_session (c.is_asked.ensures.0 c.items-test.true) c.items.invariant.course _ _ _ _
       (rw c.if-not-branch.false at c.in_ok-take_next.ensures.course);
@@ -41,3 +49,23 @@ pub returns-clause-course : goal.returns-clause-course
 returns-clause-course g c =
     piece_closed _ _ _ _ _ _ _ _ _ _ (λ going. let yes = c.is_asked.ensures.1 going in let no = c.items-test.false in cc) c.items.invariant.able.settled
     c.items.invariant.course
+
+pub returns-then-not-branch-clause-run : goal.returns-then-not-branch-clause-run
+returns-then-not-branch-clause-run g c =
+    link_then _ _ _ _ _ _ _ c.items.invariant.run c.take_next.ensures.run
+
+pub returns-in_err-take_next-clause-run : goal.returns-in_err-take_next-clause-run
+returns-in_err-take_next-clause-run g c =
+    link_then _ _ _ _ _ _ _ c.items.invariant.run c.take_next.ensures.run
+
+pub returns-clause-run : goal.returns-clause-run
+returns-clause-run g c = c.items.invariant.run
+
+pub returns-in_err-take_next-clause-full : goal.returns-in_err-take_next-clause-full
+returns-in_err-take_next-clause-full g c = λ is.
+    piece_full _ _ _ _ _ _ _ _ _ _ c.items.invariant.works.same_session (c.is_asked.ensures.0 c.items-test.true) c.items.invariant.course _ _
+    (c.in_err-take_next.ensures.full (ap (λ e. Err e) (err_was _ c.in_err-take_next.field-0.0 _ c.from_residual.ensures.1 is)))
+
+pub returns-in_err-take_next-clause-sent : goal.returns-in_err-take_next-clause-sent
+returns-in_err-take_next-clause-sent g c = λ is.
+    stops_then _ _ _ _ _ _ _ _ _ _ _ _ c.items.invariant.works (c.in_err-take_next.ensures.sent (ap (λ e. Err e) (err_was _ c.in_err-take_next.field-0.0 _ c.from_residual.ensures.1 is)))

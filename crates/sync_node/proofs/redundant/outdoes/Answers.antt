@@ -1,4 +1,4 @@
-use Rattle.sync_node.specs.CourseRedundant.{outdoes_eq, outdoes_gt, outdoes_not}
+use Rattle.sync_node.proofs.CourseRedundant.{outdoes_eq, outdoes_gt, outdoes_not}
 use Rattle.sync_node.proofs.redundant.outdoes.Goals as goal
 
 pub returns-then-gt-clause-exact : goal.returns-then-gt-clause-exact

@@ -1,7 +1,13 @@
 use Rattle.std.proofs.Common.{arith, ◌∙◌}
 use Rattle.sync_node.proofs.OutLaws.{put_able, put_stays, put_waits, put_works}
 use Rattle.sync_node.proofs.WorkLaws.{on_err, stays_none}
-use Rattle.sync_node.specs.CourseTurns.{puts_course, puts_stops, puts_stops_there}
+use Rattle.sync_node.proofs.CourseTurns.{puts_course, puts_stops, puts_stops_there}
+use Rattle.std.proofs.Common.{refl}
+use Rattle.sync_node.proofs.CauseLaws.{link_kept, link_none, link_sent, link_then}
+use Rattle.std.proofs.Common.{Err, ap}
+use Rattle.sync_node.proofs.WorkLaws.{err_was}
+use Rattle.sync_node.proofs.CourseTurns.{puts_full}
+use Rattle.sync_node.proofs.StopLaws.{stops_none}
 use Rattle.sync_node.proofs.sending.put_out.Goals as goal
 
 pub returns-in_err-bytes-clause-stays : goal.returns-in_err-bytes-clause-stays
@@ -11,10 +17,12 @@ pub returns-in_err-batch-clause-stays : goal.returns-in_err-batch-clause-stays
 returns-in_err-batch-clause-stays g c = on_err _ _ (stays_none _ _ _ _ _ _)
 
 pub returns-in_err-commit-clause-stays : goal.returns-in_err-commit-clause-stays
-returns-in_err-commit-clause-stays g c = on_err _ _ (put_stays _ _ c.args.now c.args.out _ _ _ _ _ c.in_ok-batch.batch c.in_ok-batch.ensures c.in_err-commit.ensures.safe)
+returns-in_err-commit-clause-stays g c =
+    on_err _ _ (put_stays _ _ c.args.now c.args.out _ _ _ _ _ c.in_ok-batch.batch c.in_ok-batch.ensures c.in_err-commit.ensures.safe)
 
 pub send_on-requires : goal.send_on-requires
-send_on-requires g c = omega (arith, c.requires.able.dialled, c.in_ok-commit.ensures.commits.goes.links.dialled)
+send_on-requires g c =
+    omega (arith, c.requires.able.dialled, c.in_ok-commit.ensures.commits.goes.links.dialled)
 
 pub returns-clause-able : goal.returns-clause-able
 returns-clause-able g c =
@@ -28,7 +36,7 @@ returns-clause-works g c =
     put_works c.cite_laws.ensures.fronts c.cite_laws.ensures.images _ _ c.args.now c.args.out _ _ _ _ _ _ _ c.as_slice.result.now c.in_ok-batch.batch c.in_ok-batch.ensures
     c.in_ok-commit.ensures.commits c.in_ok-commit.ensures.safe
     (c.as_slice.ensures.value ∙ c.in_ok-bytes.ensures)
-    c.end-room.ensures.numbers.roomy c.requires.able.dialled c.requires.unfailed c.send_on.ensures
+    c.in_ok-commit.ensures.numbers.roomy c.requires.able.dialled c.requires.unfailed c.send_on.ensures
 
 pub returns-in_err-bytes-clause-stops : goal.returns-in_err-bytes-clause-stops
 returns-in_err-bytes-clause-stops g c = on_err _ _ (puts_stops_there _ _ _ _ _ _)
@@ -44,3 +52,26 @@ pub returns-clause-course : goal.returns-clause-course
 returns-clause-course g c =
     puts_course _ _ c.args.now c.args.out _ _ _ c.in_ok-batch.batch c.in_ok-batch.ensures c.requires.allowed _ _ _ _ _ c.in_ok-commit.ensures.commits.facts
     c.in_ok-commit.ensures.adds c.send_on.ensures
+
+pub returns-in_err-bytes-clause-run : goal.returns-in_err-bytes-clause-run
+returns-in_err-bytes-clause-run g c = link_none _ _ _
+
+pub returns-in_err-batch-clause-run : goal.returns-in_err-batch-clause-run
+returns-in_err-batch-clause-run g c = link_none _ _ _
+
+pub returns-in_err-commit-clause-run : goal.returns-in_err-commit-clause-run
+returns-in_err-commit-clause-run g c = link_kept _ _ _ _ _ c.commit.ensures.run refl
+
+pub returns-clause-run : goal.returns-clause-run
+returns-clause-run g c =
+    link_then _ _ _ _ _ _ _ (link_kept _ _ _ _ _ c.commit.ensures.run refl)
+    (link_sent _ _ _ _ _ _ c.send_on.ensures)
+
+pub returns-in_err-commit-clause-full : goal.returns-in_err-commit-clause-full
+returns-in_err-commit-clause-full g c = λ is.
+    puts_full _ _ c.args.now c.args.out _ _ _ c.in_ok-batch.batch c.in_ok-batch.ensures c.requires.allowed _ _
+    (c.in_err-commit.ensures.full (ap (λ e. Err e) (err_was _ c.in_err-commit.field-0.0 _ c.from_residual-in_err-commit.ensures.1 is)))
+
+pub returns-in_err-commit-clause-sent : goal.returns-in_err-commit-clause-sent
+returns-in_err-commit-clause-sent g c = λ is.
+    stops_none _ _ _ _ _ _ _ _ c.requires.unfailed (c.in_err-commit.ensures.as_before (ap (λ e. Err e) (err_was _ c.in_err-commit.field-0.0 _ c.from_residual-in_err-commit.ensures.1 is)))

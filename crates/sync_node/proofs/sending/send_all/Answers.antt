@@ -1,12 +1,17 @@
 use Rattle.sync_node.proofs.OutLaws.{may_unfailed}
 use Rattle.sync_node.proofs.WorkLaws.{on_err, stays_then, works_none, works_then}
-use Rattle.std.proofs.Common.{sym, ◌∙◌}
-use Rattle.sync_node.specs.CourseTurns.{full, may_end, may_not_end, none_due, option_none, outs_end, outs_none, outs_stop, outs_stop_there, outs_then}
+use Rattle.std.proofs.Common.{sym, ◌∙◌, refl}
+use Rattle.sync_node.proofs.CourseTurns.{full, may_end, may_not_end, none_due, option_none, outs_end, outs_none, outs_stop, outs_stop_there, outs_then}
 use Rattle.std.proofs.lemmas.Bool.{false≢true}
+use Rattle.sync_node.proofs.CauseLaws.{link_none, link_then}
+use Rattle.std.proofs.Common.{Err, ap}
+use Rattle.sync_node.proofs.WorkLaws.{err_was}
+use Rattle.sync_node.proofs.CourseTurns.{outs_full}
+use Rattle.sync_node.proofs.StopLaws.{stops_then}
 use Rattle.sync_node.proofs.sending.send_all.Goals as goal
 
 pub outs-init : goal.outs-init
-outs-init g c = record { able = c.requires.able; waits = c.requires.waits; course = outs_none _ _ _ _ _ _; works = works_none _ _ _ _ _ _ }
+outs-init g c = record { run = link_none _ _ _; limit = refl; able = c.requires.able; waits = c.requires.waits; course = outs_none _ _ _ _ _ _; works = works_none _ _ _ _ _ _ }
 
 pub returns-in_err-out-clause-stays : goal.returns-in_err-out-clause-stays
 returns-in_err-out-clause-stays g c = on_err _ _ c.outs.invariant.works.stays
@@ -35,10 +40,13 @@ put_out-requires-clause-allowed g c =
     rw c.in-Some.is at allowed
 
 pub returns-in_err-put_out-clause-stays : goal.returns-in_err-put_out-clause-stays
-returns-in_err-put_out-clause-stays g c = on_err _ _ (stays_then _ _ _ _ _ _ _ _ _ _ _ _ c.outs.invariant.works c.in_err-put_out.ensures.stays)
+returns-in_err-put_out-clause-stays g c =
+    on_err _ _ (stays_then _ _ _ _ _ _ _ _ _ _ _ _ c.outs.invariant.works c.in_err-put_out.ensures.stays)
 
 pub outs-preserved : goal.outs-preserved
 outs-preserved g c = record {
+  run = link_then _ _ _ _ _ _ _ c.outs.invariant.run c.put_out.ensures.run;
+  limit = c.put_out.ensures.limit ∙ c.outs.invariant.limit;
   able = c.in_ok-put_out.ensures.able;
   waits = c.in_ok-put_out.ensures.waits;
   course = outs_then _ _ _ _ _ _ _ _ _ _ c.outs.invariant.course (may_end _ (c.may_send.ensures.0 c.if-may_send.true)) _ _ _ c.outs-test.true c.in_ok-put_out.ensures.course;
@@ -64,7 +72,8 @@ pub returns-after-outs-clause-works : goal.returns-after-outs-clause-works
 returns-after-outs-clause-works g c = c.outs.invariant.works
 
 pub returns-in_err-out-clause-stops : goal.returns-in_err-out-clause-stops
-returns-in_err-out-clause-stops g c = λ may. on_err _ _ (outs_stop_there _ _ _ _ _ _ _ _ _ _ c.outs.invariant.course)
+returns-in_err-out-clause-stops g c =
+    λ may. on_err _ _ (outs_stop_there _ _ _ _ _ _ _ _ _ _ c.outs.invariant.course)
 
 pub returns-in_default-clause-course : goal.returns-in_default-clause-course
 returns-in_default-clause-course g c = λ may.
@@ -85,3 +94,28 @@ returns-else-may_send-clause-course g c = λ may.
 pub returns-after-outs-clause-course : goal.returns-after-outs-clause-course
 returns-after-outs-clause-course g c = λ may.
     outs_end _ _ _ _ _ _ _ _ _ _ c.outs.invariant.course (λ open_is room rest. full (g.C.Clients.meaning c.args.clients.now) c.outs.store.state.facts c.outs.link.session.number c.args.now c.outs.made c.outs-test.false room rest)
+
+pub returns-in_err-out-clause-run : goal.returns-in_err-out-clause-run
+returns-in_err-out-clause-run g c = c.outs.invariant.run
+
+pub returns-in_default-clause-run : goal.returns-in_default-clause-run
+returns-in_default-clause-run g c = c.outs.invariant.run
+
+pub returns-in_err-put_out-clause-run : goal.returns-in_err-put_out-clause-run
+returns-in_err-put_out-clause-run g c =
+    link_then _ _ _ _ _ _ _ c.outs.invariant.run c.put_out.ensures.run
+
+pub returns-else-may_send-clause-run : goal.returns-else-may_send-clause-run
+returns-else-may_send-clause-run g c = c.outs.invariant.run
+
+pub returns-after-outs-clause-run : goal.returns-after-outs-clause-run
+returns-after-outs-clause-run g c = c.outs.invariant.run
+
+pub returns-in_err-put_out-clause-full : goal.returns-in_err-put_out-clause-full
+returns-in_err-put_out-clause-full g c = λ may is.
+    outs_full _ _ _ _ _ _ _ _ _ _ c.outs.invariant.course (may_end _ (c.may_send.ensures.0 c.if-may_send.true)) _ _ c.outs-test.true
+    (c.in_err-put_out.ensures.full (ap (λ e. Err e) (err_was _ c.in_err-put_out.field-0.0 _ c.from_residual-in_err-put_out.ensures.1 is)))
+
+pub returns-in_err-put_out-clause-sent : goal.returns-in_err-put_out-clause-sent
+returns-in_err-put_out-clause-sent g c = λ is.
+    stops_then _ _ _ _ _ _ _ _ _ _ _ _ c.outs.invariant.works (c.in_err-put_out.ensures.sent (ap (λ e. Err e) (err_was _ c.in_err-put_out.field-0.0 _ c.from_residual-in_err-put_out.ensures.1 is)))

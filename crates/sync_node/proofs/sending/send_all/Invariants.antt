@@ -1,11 +1,15 @@
-use Rattle.std.proofs.Common.{◌-◌, []}
+use Rattle.std.proofs.Common.{◌-◌, [], ◌≡◌}
 use Rattle.sync_course.specs.declared.TheConstants.{MAX_OUTPUTS}
+use Rattle.sync_node.specs.Causes.{LinkGoes}
 use Rattle.sync_node.specs.Courses.{OutsAsCourse}
 use Rattle.sync_node.specs.Working.{IsAble, Waits, Works}
 use Rattle.sync_node.proofs.sending.send_all.Given as goal
 
 abbrev pub invariant-outs : goal.invariant-outs
 invariant-outs g l = record {
+  run : LinkGoes l.number l.initial.link l.link (g.H.Disk.tells l.initial.host)
+      (g.H.Disk.tells l.host);
+  limit : l.store.limit ≡ l.initial.store.limit;
   able : IsAble (g.C.Clients.meaning l.clients) l.number l.link.session l.store (g.H.Disk.tells l.host);
   waits : Waits l.link;
   course : OutsAsCourse (g.C.Clients.meaning l.clients) l.number l.now l.made l.initial.link l.link l.initial.store l.store (g.H.Disk.tells l.initial.host) (g.H.Disk.tells l.host);

@@ -2,6 +2,11 @@ use Rattle.std.proofs.Common.{Ok, Err}
 use Rattle.sync_store.specs.declared.fault.StoreFault.TheVariants as store_fault
 use Rattle.sync_node.proofs.CommitLaws.{committed, safe_commit}
 use Rattle.sync_node.specs.CourseLaws.{commit_adds, commit_adds_some}
+use Rattle.sync_node.proofs.CommitLaws.{goes_adds}
+use Rattle.sync_node.proofs.CourseTakes.{over_limit}
+use Rattle.sync_store.specs.declared.fault.StoreFault.TheVariants as store_fault
+use Rattle.sync_node.proofs.StopLaws.{same_commit}
+use Rattle.std.proofs.Common.{◌∙◌}
 use Rattle.sync_node.proofs.told.commit.Goals as goal
 
 pub returns-in-Ok-clause-commits : goal.returns-in-Ok-clause-commits
@@ -36,7 +41,8 @@ pub returns-in-Err-Memory-clause-leads : goal.returns-in-Err-Memory-clause-leads
 returns-in-Err-Memory-clause-leads g c = c.in-Err-Memory.ensures.extends c.requires.ready.still_open
 
 pub returns-in-Err-DiskFault-clause-leads : goal.returns-in-Err-DiskFault-clause-leads
-returns-in-Err-DiskFault-clause-leads g c = c.in-Err-DiskFault.ensures.extends c.requires.ready.still_open
+returns-in-Err-DiskFault-clause-leads g c =
+    c.in-Err-DiskFault.ensures.extends c.requires.ready.still_open
 
 pub returns-in-Err-Full-clause-leads : goal.returns-in-Err-Full-clause-leads
 returns-in-Err-Full-clause-leads g c = c.in-Err-Full.ensures.extends c.requires.ready.still_open
@@ -60,3 +66,29 @@ pub returns-in-Err-Full-clause-adds_some : goal.returns-in-Err-Full-clause-adds_
 returns-in-Err-Full-clause-adds_some g c =
     commit_adds_some _ _ _ c.args.batch (Err store_fault.Full) _ _ c.requires.ready.fits c.in-Err-Full.ensures.run
     (c.in-Err-Full.ensures.extends c.requires.ready.still_open)
+
+pub returns-in-Ok-clause-run : goal.returns-in-Ok-clause-run
+returns-in-Ok-clause-run g c =
+    goes_adds _ _ _ _ _ c.args.batch (Ok tt) c.requires.ready.fits c.in-Ok.ensures.run (c.in-Ok.ensures.extends c.requires.ready.still_open)
+
+pub returns-in-Err-Memory-clause-run : goal.returns-in-Err-Memory-clause-run
+returns-in-Err-Memory-clause-run g c =
+    goes_adds _ _ _ _ _ c.args.batch (Err store_fault.Memory) c.requires.ready.fits c.in-Err-Memory.ensures.run (c.in-Err-Memory.ensures.extends c.requires.ready.still_open)
+
+pub returns-in-Err-DiskFault-clause-run : goal.returns-in-Err-DiskFault-clause-run
+returns-in-Err-DiskFault-clause-run g c =
+    goes_adds _ _ _ _ _ c.args.batch (Err store_fault.DiskFault) c.requires.ready.fits c.in-Err-DiskFault.ensures.run (c.in-Err-DiskFault.ensures.extends c.requires.ready.still_open)
+
+pub returns-in-Err-Full-clause-run : goal.returns-in-Err-Full-clause-run
+returns-in-Err-Full-clause-run g c =
+    goes_adds _ _ _ _ _ c.args.batch (Err store_fault.Full) c.requires.ready.fits c.in-Err-Full.ensures.run (c.in-Err-Full.ensures.extends c.requires.ready.still_open)
+
+pub returns-in-Err-Full-clause-full : goal.returns-in-Err-Full-clause-full
+returns-in-Err-Full-clause-full g c = λ is.
+    over_limit _ _ _ c.args.batch _ _ c.in-Err-Full.ensures.run (rw c.in-Err-Full.field-0-is at c.in-Err-Full.ensures.answer)
+    (c.in-Err-Full.ensures.extends c.requires.ready.still_open)
+
+pub returns-in-Err-Full-clause-as_before : goal.returns-in-Err-Full-clause-as_before
+returns-in-Err-Full-clause-as_before g c = λ is.
+    let answer = rw c.in-Err-Full.field-0-is at c.in-Err-Full.ensures.answer in
+    same_commit _ _ _ _ _ c.args.batch store_fault.Full c.requires.ready c.in-Err-Full.ensures.run (answer.2.closed ∙ c.requires.ready.still_open) answer.2.facts (c.in-Err-Full.ensures.extends c.requires.ready.still_open)

@@ -1,6 +1,7 @@
 use Rattle.sync_node.proofs.AddLaws.{leads_settling}
 use Rattle.sync_node.proofs.CommitLaws.{safe_settle, settled}
 use Rattle.sync_node.specs.CourseLaws.{settle_adds, settle_adds_some}
+use Rattle.sync_node.proofs.CommitLaws.{goes_settled}
 use Rattle.sync_node.proofs.told.settle.Goals as goal
 
 pub returns-in-Ok-clause-settles : goal.returns-in-Ok-clause-settles
@@ -20,13 +21,16 @@ returns-in-Err-DiskFault-clause-safe g c = λ b plans safe.
     safe_settle c.cite_laws.ensures.fronts _ b plans _ _ _ _ _ c.requires.ready.still_open c.in-Err-DiskFault.ensures.run (c.in-Err-DiskFault.ensures.settled c.requires.ready.still_open) safe
 
 pub returns-in-Ok-clause-leads : goal.returns-in-Ok-clause-leads
-returns-in-Ok-clause-leads g c = leads_settling _ _ _ _ _ _ (c.in-Ok.ensures.settled c.requires.ready.still_open)
+returns-in-Ok-clause-leads g c =
+    leads_settling _ _ _ _ _ _ (c.in-Ok.ensures.settled c.requires.ready.still_open)
 
 pub returns-in-Err-Memory-clause-leads : goal.returns-in-Err-Memory-clause-leads
-returns-in-Err-Memory-clause-leads g c = leads_settling _ _ _ _ _ _ (c.in-Err-Memory.ensures.settled c.requires.ready.still_open)
+returns-in-Err-Memory-clause-leads g c =
+    leads_settling _ _ _ _ _ _ (c.in-Err-Memory.ensures.settled c.requires.ready.still_open)
 
 pub returns-in-Err-DiskFault-clause-leads : goal.returns-in-Err-DiskFault-clause-leads
-returns-in-Err-DiskFault-clause-leads g c = leads_settling _ _ _ _ _ _ (c.in-Err-DiskFault.ensures.settled c.requires.ready.still_open)
+returns-in-Err-DiskFault-clause-leads g c =
+    leads_settling _ _ _ _ _ _ (c.in-Err-DiskFault.ensures.settled c.requires.ready.still_open)
 
 pub returns-in-Ok-clause-adds : goal.returns-in-Ok-clause-adds
 returns-in-Ok-clause-adds g c =
@@ -39,3 +43,15 @@ returns-in-Err-Memory-clause-adds_some g c =
 pub returns-in-Err-DiskFault-clause-adds_some : goal.returns-in-Err-DiskFault-clause-adds_some
 returns-in-Err-DiskFault-clause-adds_some g c =
     settle_adds_some _ _ _ _ _ _ c.requires.ready.fits c.in-Err-DiskFault.ensures.run (c.in-Err-DiskFault.ensures.settled c.requires.ready.still_open)
+
+pub returns-in-Ok-clause-run : goal.returns-in-Ok-clause-run
+returns-in-Ok-clause-run g c =
+    goes_settled _ _ _ _ _ _ c.requires.ready.fits c.in-Ok.ensures.run (c.in-Ok.ensures.settled c.requires.ready.still_open)
+
+pub returns-in-Err-Memory-clause-run : goal.returns-in-Err-Memory-clause-run
+returns-in-Err-Memory-clause-run g c =
+    goes_settled _ _ _ _ _ _ c.requires.ready.fits c.in-Err-Memory.ensures.run (c.in-Err-Memory.ensures.settled c.requires.ready.still_open)
+
+pub returns-in-Err-DiskFault-clause-run : goal.returns-in-Err-DiskFault-clause-run
+returns-in-Err-DiskFault-clause-run g c =
+    goes_settled _ _ _ _ _ _ c.requires.ready.fits c.in-Err-DiskFault.ensures.run (c.in-Err-DiskFault.ensures.settled c.requires.ready.still_open)

@@ -1,5 +1,6 @@
 use Rattle.sync_node.proofs.WorkLaws.{works_none}
-use Rattle.sync_node.specs.CourseTurns.{hears_nothing}
+use Rattle.sync_node.proofs.CourseTurns.{hears_nothing}
+use Rattle.sync_node.proofs.CauseLaws.{link_none}
 use Rattle.sync_node.proofs.turning.hear_now.Goals as goal
 
 pub returns-then-not-is_asked-clause-able : goal.returns-then-not-is_asked-clause-able
@@ -32,3 +33,15 @@ returns-clause-course g c = c.receive_on.ensures.course
 
 pub returns-clause-stops : goal.returns-clause-stops
 returns-clause-stops g c = c.receive_on.ensures.stops
+
+pub returns-then-not-is_asked-clause-run : goal.returns-then-not-is_asked-clause-run
+returns-then-not-is_asked-clause-run g c = link_none _ _ _
+
+pub returns-clause-run : goal.returns-clause-run
+returns-clause-run g c = c.receive_on.ensures.run
+
+pub returns-clause-full : goal.returns-clause-full
+returns-clause-full g c = c.receive_on.ensures.full
+
+pub returns-clause-sent : goal.returns-clause-sent
+returns-clause-sent g c = c.receive_on.ensures.sent

@@ -1,5 +1,10 @@
 use Rattle.sync_node.proofs.WorkLaws.{able_calm, on_err_then, on_ok, stays_then, works_clock, works_none, works_then}
-use Rattle.sync_node.specs.CourseTurns.{if_ok_then, sends_closed, sends_read, sends_stop}
+use Rattle.sync_node.proofs.CourseTurns.{if_ok_then, sends_closed, sends_read, sends_stop}
+use Rattle.std.proofs.Common.{refl}
+use Rattle.sync_node.proofs.CauseLaws.{link_kept, link_none, link_then}
+use Rattle.sync_node.proofs.WorkLaws.{goes_read}
+use Rattle.sync_node.proofs.CourseTurns.{sends_full}
+use Rattle.sync_node.proofs.StopLaws.{stops_then}
 use Rattle.sync_node.proofs.turning.send_now.Goals as goal
 
 pub returns-then-not-may_send-clause-able : goal.returns-then-not-may_send-clause-able
@@ -12,7 +17,8 @@ pub returns-then-not-may_send-clause-works : goal.returns-then-not-may_send-clau
 returns-then-not-may_send-clause-works g c = works_none _ _ _ _ _ _
 
 pub send_all-requires-clause-able : goal.send_all-requires-clause-able
-send_all-requires-clause-able g c = able_calm _ _ _ _ _ _ _ c.now-now.ensures.call c.now-now.ensures.links.same_dialled c.requires.able
+send_all-requires-clause-able g c =
+    able_calm _ _ _ _ _ _ _ c.now-now.ensures.call c.now-now.ensures.links.same_dialled c.requires.able
 
 pub send_all-requires-clause-waits : goal.send_all-requires-clause-waits
 send_all-requires-clause-waits g c = c.requires.waits
@@ -50,3 +56,19 @@ returns-clause-halts g c =
     let may = c.may_send.ensures.0 c.if-not-may_send.false in
     on_err_then c.send_all.result _ _
     (sends_stop _ _ _ _ _ _ _ may c.now-now.ensures.links c.now-now.ensures.call.same_files _) (c.send_all.ensures.stops may)
+
+pub returns-then-not-may_send-clause-run : goal.returns-then-not-may_send-clause-run
+returns-then-not-may_send-clause-run g c = link_none _ _ _
+
+pub returns-clause-run : goal.returns-clause-run
+returns-clause-run g c =
+    link_then _ _ _ _ _ _ _ (link_kept _ _ _ _ _ (goes_read _ _ _ c.now-now.ensures.call c.now-now.ensures.links) refl) c.send_all.ensures.run
+
+pub returns-clause-full : goal.returns-clause-full
+returns-clause-full g c = λ is.
+    let may = c.may_send.ensures.0 c.if-not-may_send.false in
+    sends_full _ _ _ _ _ _ _ may c.now-now.ensures.links c.now-now.ensures.call.same_files _ _ (c.send_all.ensures.full may is)
+
+pub returns-clause-sent : goal.returns-clause-sent
+returns-clause-sent g c = λ is.
+    stops_then _ _ _ _ _ _ _ _ _ _ _ _ (works_clock c.cite_laws.ensures.fronts _ _ _ _ _ _ _ _ c.now-now.ensures.call c.now-now.ensures.links) (c.send_all.ensures.sent is)

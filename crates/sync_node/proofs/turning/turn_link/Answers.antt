@@ -1,5 +1,10 @@
 use Rattle.sync_node.proofs.WorkLaws.{on_err, stays_then, works_then}
-use Rattle.sync_node.specs.CourseTurns.{turn_loud, turn_quiet, turn_stops}
+use Rattle.sync_node.proofs.CourseTurns.{turn_loud, turn_quiet, turn_stops}
+use Rattle.sync_node.proofs.CauseLaws.{link_then}
+use Rattle.std.proofs.Common.{Err, ap}
+use Rattle.sync_node.proofs.WorkLaws.{err_was}
+use Rattle.sync_node.proofs.CourseTurns.{turn_full}
+use Rattle.sync_node.proofs.StopLaws.{stops_then}
 use Rattle.sync_node.proofs.turning.turn_link.Goals as goal
 
 pub returns-in_err-quiet-clause-stays : goal.returns-in_err-quiet-clause-stays
@@ -12,7 +17,8 @@ pub send_now-requires-clause-waits : goal.send_now-requires-clause-waits
 send_now-requires-clause-waits g c = c.in_ok-quiet.ensures.waits
 
 pub returns-in_err-made-clause-stays : goal.returns-in_err-made-clause-stays
-returns-in_err-made-clause-stays g c = on_err _ _ (stays_then _ _ _ _ _ _ _ _ _ _ _ _ c.in_ok-quiet.ensures.works c.in_err-made.ensures.stays)
+returns-in_err-made-clause-stays g c =
+    on_err _ _ (stays_then _ _ _ _ _ _ _ _ _ _ _ _ c.in_ok-quiet.ensures.works c.in_err-made.ensures.stays)
 
 pub returns-then-quiet-clause-able : goal.returns-then-quiet-clause-able
 returns-then-quiet-clause-able g c = c.in_ok-made.ensures.able
@@ -21,7 +27,8 @@ pub returns-then-quiet-clause-waits : goal.returns-then-quiet-clause-waits
 returns-then-quiet-clause-waits g c = c.in_ok-made.ensures.waits
 
 pub returns-then-quiet-clause-works : goal.returns-then-quiet-clause-works
-returns-then-quiet-clause-works g c = works_then _ _ _ _ _ _ _ _ _ _ _ _ _ _ c.in_ok-quiet.ensures.works c.in_ok-made.ensures.works
+returns-then-quiet-clause-works g c =
+    works_then _ _ _ _ _ _ _ _ _ _ _ _ _ _ c.in_ok-quiet.ensures.works c.in_ok-made.ensures.works
 
 pub returns-else-quiet-clause-able : goal.returns-else-quiet-clause-able
 returns-else-quiet-clause-able g c = c.in_ok-made.ensures.able
@@ -30,7 +37,8 @@ pub returns-else-quiet-clause-waits : goal.returns-else-quiet-clause-waits
 returns-else-quiet-clause-waits g c = c.in_ok-made.ensures.waits
 
 pub returns-else-quiet-clause-works : goal.returns-else-quiet-clause-works
-returns-else-quiet-clause-works g c = works_then _ _ _ _ _ _ _ _ _ _ _ _ _ _ c.in_ok-quiet.ensures.works c.in_ok-made.ensures.works
+returns-else-quiet-clause-works g c =
+    works_then _ _ _ _ _ _ _ _ _ _ _ _ _ _ c.in_ok-quiet.ensures.works c.in_ok-made.ensures.works
 
 pub returns-in_err-quiet-clause-halts : goal.returns-in_err-quiet-clause-halts
 returns-in_err-quiet-clause-halts g c = λ whole. on_err _ _ (c.in_err-quiet.ensures.stops whole)
@@ -46,3 +54,34 @@ returns-then-quiet-clause-course g c = λ whole.
 pub returns-else-quiet-clause-course : goal.returns-else-quiet-clause-course
 returns-else-quiet-clause-course g c = λ whole.
     turn_loud _ _ _ _ _ _ _ _ _ c.in_ok-quiet.ensures.works.same_session (c.in_ok-quiet.ensures.course whole) _ _ _ _ c.if-quiet.false c.in_ok-made.ensures.course
+
+pub returns-in_err-quiet-clause-run : goal.returns-in_err-quiet-clause-run
+returns-in_err-quiet-clause-run g c = c.hear_now.ensures.run
+
+pub returns-in_err-made-clause-run : goal.returns-in_err-made-clause-run
+returns-in_err-made-clause-run g c =
+    link_then _ _ _ _ _ _ _ c.hear_now.ensures.run c.send_now.ensures.run
+
+pub returns-then-quiet-clause-run : goal.returns-then-quiet-clause-run
+returns-then-quiet-clause-run g c =
+    link_then _ _ _ _ _ _ _ c.hear_now.ensures.run c.send_now.ensures.run
+
+pub returns-else-quiet-clause-run : goal.returns-else-quiet-clause-run
+returns-else-quiet-clause-run g c =
+    link_then _ _ _ _ _ _ _ c.hear_now.ensures.run c.send_now.ensures.run
+
+pub returns-in_err-quiet-clause-full : goal.returns-in_err-quiet-clause-full
+returns-in_err-quiet-clause-full g c =
+    λ whole is. c.in_err-quiet.ensures.full whole (ap (λ e. Err e) (err_was _ c.in_err-quiet.field-0.0 _ c.from_residual.ensures.1 is))
+
+pub returns-in_err-made-clause-full : goal.returns-in_err-made-clause-full
+returns-in_err-made-clause-full g c = λ whole is.
+    turn_full _ _ _ _ _ _ _ _ _ c.in_ok-quiet.ensures.works.same_session (c.in_ok-quiet.ensures.course whole) _ _
+    (c.in_err-made.ensures.full (ap (λ e. Err e) (err_was _ c.in_err-made.field-0.0 _ c.from_residual-in_err-made.ensures.1 is)))
+
+pub returns-in_err-quiet-clause-sent : goal.returns-in_err-quiet-clause-sent
+returns-in_err-quiet-clause-sent g c = λ is. c.in_err-quiet.ensures.sent (ap (λ e. Err e) (err_was _ c.in_err-quiet.field-0.0 _ c.from_residual.ensures.1 is))
+
+pub returns-in_err-made-clause-sent : goal.returns-in_err-made-clause-sent
+returns-in_err-made-clause-sent g c = λ is.
+    stops_then _ _ _ _ _ _ _ _ _ _ _ _ c.in_ok-quiet.ensures.works (c.in_err-made.ensures.sent (ap (λ e. Err e) (err_was _ c.in_err-made.field-0.0 _ c.from_residual-in_err-made.ensures.1 is)))

@@ -1,10 +1,16 @@
-use Rattle.std.proofs.Common.{List, ℕ, arith, refl, ap, ◌∙◌, length}
+use Rattle.std.proofs.Common.{inl, List, ℕ, arith, refl, ap, ◌∙◌, length}
 use Rattle.sync_node.specs.declared.link.Link.{Link}
 use Rattle.sync_node.specs.Node.{NodeValue}
 use Rattle.sync_node.proofs.CourseStart.{beginning_broken, begins_behind, node_beginning_broken, node_begins}
-use Rattle.sync_node.proofs.AttachLaws.{attached_last, attached_may, node_attaches, node_plans, node_settled, one_longer, plan_allowed, plans_as, plans_same}
+use Rattle.sync_node.proofs.AttachLaws.{attached_last, attached_may, node_attaches, node_plans, node_settled, one_longer, plan_allowed, plans_as, plans_same, session_begun}
 use Rattle.sync_node.specs.Plans.{session_of}
-use Rattle.sync_node.proofs.NodeLaws.{fault_answers, is_closed_node, is_node, node_may, stays_closed}
+use Rattle.sync_node.proofs.NodeLaws.{true≢false, fault_answers, is_closed_node, is_node, node_may, stays_closed}
+use Rattle.sync_node.proofs.SafeLaws.{goes_none}
+use Rattle.sync_node.proofs.CauseLaws.{node_causes}
+use Rattle.std.proofs.Common.{Err}
+use Rattle.sync_node.proofs.NodeLaws.{was_full}
+use Rattle.sync_node.proofs.CourseStart.{beginning_full, node_beginning_full}
+use Rattle.sync_node.proofs.StopLaws.{links_same, node_sends}
 use Rattle.sync_node.proofs.node.Node.attach.Goals as goal
 
 pub same-self : goal.same-self
@@ -14,7 +20,8 @@ pub returns-then-self-clause-closed : goal.returns-then-self-clause-closed
 returns-then-self-clause-closed g c = λ closed. stays_closed _ _
 
 pub returns-then-self-clause-answer : goal.returns-then-self-clause-answer
-returns-then-self-clause-answer g c = λ opened. absurd (let yes = ap (λ (n : NodeValue). n.closed) c.self.view_is in let is = c.if-self.true in cc)
+returns-then-self-clause-answer g c =
+    λ opened. absurd (let yes = ap (λ (n : NodeValue). n.closed) c.self.view_is in let is = c.if-self.true in cc)
 
 pub returns-then-self-clause-may : goal.returns-then-self-clause-may
 returns-then-self-clause-may g c = c.requires.may
@@ -23,7 +30,8 @@ pub returns-then-self-clause-safe : goal.returns-then-self-clause-safe
 returns-then-self-clause-safe g c = plans_same c.cite_laws.ensures.fronts _ _ _ _
 
 pub attach_on-requires-clause-ready : goal.attach_on-requires-clause-ready
-attach_on-requires-clause-ready g c = (node_may _ _ c.self.inside.first _ c.self.inside.closed _ _ c.self.view_is c.requires.may c.if-self.false).ready
+attach_on-requires-clause-ready g c =
+    (node_may _ _ c.self.inside.first _ c.self.inside.closed _ _ c.self.view_is c.requires.may c.if-self.false).ready
 
 pub attach_on-requires-clause-allowed : goal.attach_on-requires-clause-allowed
 attach_on-requires-clause-allowed g c =
@@ -43,16 +51,19 @@ invariant_of-self g c = (
 )
 
 pub invariant_of-self-in-Err : goal.invariant_of-self-in-Err
-invariant_of-self-in-Err g c = (c.self.invariant.0, is_closed_node _ _ _ (omega (arith, c.self.invariant.1.few, ap (λ (ls : List Link). length ls) c.in-Err.ensures.same)))
+invariant_of-self-in-Err g c =
+    (c.self.invariant.0, is_closed_node _ _ _ _ c.close.ensures.closed (omega (arith, c.self.invariant.1.few, ap (λ (ls : List Link). length ls) c.in-Err.ensures.same)))
 
 pub returns-in-Ok-clause-closed : goal.returns-in-Ok-clause-closed
-returns-in-Ok-clause-closed g c = λ closed. absurd (let is = ap (λ (n : NodeValue). n.closed) c.self.view_is in let no = c.if-self.false in cc)
+returns-in-Ok-clause-closed g c =
+    λ closed. absurd (let is = ap (λ (n : NodeValue). n.closed) c.self.view_is in let no = c.if-self.false in cc)
 
 pub returns-in-Ok-clause-answer : goal.returns-in-Ok-clause-answer
 returns-in-Ok-clause-answer g c = λ _. c.if-self.false
 
 pub returns-in-Ok-clause-may : goal.returns-in-Ok-clause-may
-returns-in-Ok-clause-may g c = λ _. attached_may _ c.args.link (session_of c.sessions.result c.args.plan.now c.args.nonce) c.self.inside.links.items _ _ _ _ _ c.requires.dialled (omega (arith, c.requires.next, ap (λ (n : NodeValue). length n.links) c.self.view_is)) c.in-Ok.ensures.starts
+returns-in-Ok-clause-may g c =
+    λ _. attached_may _ c.args.link (session_of c.sessions.result c.args.plan.now c.args.nonce) c.self.inside.links.items _ _ _ _ _ c.requires.dialled (omega (arith, c.requires.next, ap (λ (n : NodeValue). length n.links) c.self.view_is)) c.in-Ok.ensures.starts
 
 pub returns-in-Ok-clause-joined : goal.returns-in-Ok-clause-joined
 returns-in-Ok-clause-joined g c =
@@ -66,13 +77,15 @@ returns-in-Ok-clause-safe g c =
     (omega (arith, c.requires.next, ap (λ (n : NodeValue). length n.links) c.self.view_is)) c.in-Ok.ensures.safe)
 
 pub returns-in-Err-clause-closed : goal.returns-in-Err-clause-closed
-returns-in-Err-clause-closed g c = λ closed. absurd (let is = ap (λ (n : NodeValue). n.closed) c.self.view_is in let no = c.if-self.false in cc)
+returns-in-Err-clause-closed g c =
+    λ closed. absurd (let is = ap (λ (n : NodeValue). n.closed) c.self.view_is in let no = c.if-self.false in cc)
 
 pub returns-in-Err-clause-answer : goal.returns-in-Err-clause-answer
-returns-in-Err-clause-answer g c = λ _. fault_answers (Unit {0}) c.in-Err.fault _ _ c.from.ensures refl
+returns-in-Err-clause-answer g c =
+    λ _. fault_answers (Unit {0}) c.in-Err.fault _ _ c.close.ensures.fault c.close.ensures.closed
 
 pub returns-in-Err-clause-may : goal.returns-in-Err-clause-may
-returns-in-Err-clause-may g c = λ opened. cc
+returns-in-Err-clause-may g c = λ opened. absurd (true≢false _ c.close.ensures.closed opened)
 
 pub returns-in-Err-clause-safe : goal.returns-in-Err-clause-safe
 returns-in-Err-clause-safe g c =
@@ -81,7 +94,8 @@ returns-in-Err-clause-safe g c =
     (omega (arith, c.requires.next, ap (λ (n : NodeValue). length n.links) c.self.view_is)) c.in-Err.ensures.safe)
 
 pub returns-then-self-clause-halts : goal.returns-then-self-clause-halts
-returns-then-self-clause-halts g c = λ opened. absurd (let yes = ap (λ (n : NodeValue). n.closed) c.self.view_is in let is = c.if-self.true in cc)
+returns-then-self-clause-halts g c =
+    λ opened. absurd (let yes = ap (λ (n : NodeValue). n.closed) c.self.view_is in let is = c.if-self.true in cc)
 
 pub returns-in-Ok-clause-course : goal.returns-in-Ok-clause-course
 returns-in-Ok-clause-course g c = λ opened.
@@ -95,3 +109,46 @@ returns-in-Err-clause-halts g c = λ opened.
     node_beginning_broken _ (session_of c.sessions.result c.args.plan.now c.args.nonce) c.self.inside.links.items _ _ _ c.self.inside.first c.self.inside.closed _ c.self.view_is _
     (ap (λ (k : ℕ). session_of k c.args.plan.now c.args.nonce) (c.sessions.ensures ∙ ap (λ (n : NodeValue). n.store.state.facts.begun) c.self.view_is))
     (beginning_broken _ (session_of c.sessions.result c.args.plan.now c.args.nonce) c.self.inside.links.items _ _ _ c.in-Err.ensures.halts)
+
+pub attach_on-requires-clause-last : goal.attach_on-requires-clause-last
+attach_on-requires-clause-last g c =
+    omega (arith, c.requires.next, ap (λ (n : NodeValue). length n.links) c.self.view_is)
+
+pub returns-then-self-clause-run : goal.returns-then-self-clause-run
+returns-then-self-clause-run g c = goes_none _
+
+pub returns-then-self-clause-cause : goal.returns-then-self-clause-cause
+returns-then-self-clause-cause g c = λ number stands. inl stands
+
+pub returns-in-Ok-clause-run : goal.returns-in-Ok-clause-run
+returns-in-Ok-clause-run g c = c.attach_on.ensures.run.goes
+
+pub returns-in-Ok-clause-cause : goal.returns-in-Ok-clause-cause
+returns-in-Ok-clause-cause g c =
+    node_causes _ c.self.inside.first c.self.inside.links.items _ c.self.inside.closed _ _ _ c.self.view_is c.attach_on.ensures.run
+
+pub returns-in-Err-clause-run : goal.returns-in-Err-clause-run
+returns-in-Err-clause-run g c = c.attach_on.ensures.run.goes
+
+pub returns-in-Err-clause-cause : goal.returns-in-Err-clause-cause
+returns-in-Err-clause-cause g c =
+    node_causes _ c.self.inside.first c.self.inside.links.items _ c.self.inside.closed _ _ _ c.self.view_is c.attach_on.ensures.run
+
+pub returns-in-Err-clause-full : goal.returns-in-Err-clause-full
+returns-in-Err-clause-full g c = λ is.
+    node_beginning_full _ (session_of c.sessions.result c.args.plan.now c.args.nonce) c.self.inside.links.items _ _ _ c.self.inside.first c.self.inside.closed _ c.self.view_is _
+    (ap (λ (k : ℕ). session_of k c.args.plan.now c.args.nonce) (c.sessions.ensures ∙ ap (λ (n : NodeValue). n.store.state.facts.begun) c.self.view_is)) _
+    (beginning_full _ (session_of c.sessions.result c.args.plan.now c.args.nonce) c.self.inside.links.items _ _ _ _ (c.in-Err.ensures.full (ap (λ e. Err e) (was_full c.in-Err.fault _ c.close.ensures.fault is))))
+
+pub returns-in-Ok-clause-facts : goal.returns-in-Ok-clause-facts
+returns-in-Ok-clause-facts g c =
+    session_begun _ c.self.inside.first c.self.inside.links.items c.self.inside.closed _ _ c.sessions.result c.args.plan.now c.args.nonce c.self.view_is c.sessions.ensures
+    c.in-Ok.ensures.starts.starts.facts
+
+pub returns-in-Ok-clause-node : goal.returns-in-Ok-clause-node
+returns-in-Ok-clause-node g c = (invariant_of-self g c).1
+
+pub returns-in-Err-clause-sent : goal.returns-in-Err-clause-sent
+returns-in-Err-clause-sent g c = λ opened is.
+    node_sends _ _ _ c.self.inside.first c.self.inside.links.items _ c.self.inside.closed _ _ _ _ c.self.view_is
+    (links_same _ c.self.inside.first c.self.inside.links.items _ _ _ _ (c.self.invariant.1.attached c.if-self.false) (c.in-Err.ensures.as_before (ap (λ e. Err e) (was_full c.in-Err.fault _ c.close.ensures.fault is))))

@@ -1,10 +1,16 @@
-use Rattle.std.proofs.Common.{Bool, ◌<◌, List, ℕ, arith, refl, ap, sym, ◌∙◌, length, Some}
+use Rattle.std.proofs.Common.{inl, Bool, ◌<◌, List, ℕ, arith, refl, ap, sym, ◌∙◌, length, Some}
 use Rattle.std.specs.List.{slice_get}
 use Rattle.std.proofs.lemmas.Option.{slice_get-get_or}
 use Rattle.sync_node.specs.Node.{NodeValue}
-use Rattle.sync_node.proofs.NodeLaws.{fault_answers, all_safe, is_closed_node, is_node, kept_long, length_set, link_able, links_go_on, links_one, node_keeps, node_may, node_safe, node_same, stays_closed}
-use Rattle.sync_node.specs.CourseCalls.{receives, receiving_broken}
+use Rattle.sync_node.proofs.NodeLaws.{true≢false, fault_answers, all_safe, is_closed_node, is_node, kept_long, length_set, link_able, links_go_on, links_one, node_keeps, node_may, node_safe, node_same, stays_closed}
+use Rattle.sync_node.proofs.CourseCalls.{receives, receiving_broken}
 use Rattle.sync_node.proofs.CourseNode.{node_receives, node_receiving_broken}
+use Rattle.sync_node.proofs.SafeLaws.{goes_none}
+use Rattle.sync_node.proofs.CauseLaws.{links_go_none, links_go_set, node_causes}
+use Rattle.std.proofs.Common.{Err}
+use Rattle.sync_node.proofs.NodeLaws.{was_full}
+use Rattle.sync_node.proofs.CourseCalls.{receiving_full}
+use Rattle.sync_node.proofs.CourseNode.{node_receiving_full}
 use Rattle.sync_node.proofs.node.Node.receive.Goals as goal
 
 pub same-self : goal.same-self
@@ -14,7 +20,8 @@ pub returns-then-self-clause-closed : goal.returns-then-self-clause-closed
 returns-then-self-clause-closed g c = λ closed. stays_closed _ _
 
 pub returns-then-self-clause-answer : goal.returns-then-self-clause-answer
-returns-then-self-clause-answer g c = λ opened. absurd (let yes = ap (λ (n : NodeValue). n.closed) c.self.view_is in let is = c.if-self.true in cc)
+returns-then-self-clause-answer g c =
+    λ opened. absurd (let yes = ap (λ (n : NodeValue). n.closed) c.self.view_is in let is = c.if-self.true in cc)
 
 pub returns-then-self-clause-may : goal.returns-then-self-clause-may
 returns-then-self-clause-may g c = c.requires.may
@@ -23,7 +30,8 @@ pub returns-then-self-clause-safe : goal.returns-then-self-clause-safe
 returns-then-self-clause-safe g c = node_same _ _ _
 
 pub index_mut-requires : goal.index_mut-requires
-index_mut-requires g c = omega (arith, c.requires.attached, ap (λ (n : NodeValue). length n.links) c.self.view_is)
+index_mut-requires g c =
+    omega (arith, c.requires.attached, ap (λ (n : NodeValue). length n.links) c.self.view_is)
 
 pub receive_on-requires-clause-able : goal.receive_on-requires-clause-able
 receive_on-requires-clause-able g c =
@@ -45,7 +53,8 @@ receive_on-requires-clause-asked g c =
     c.requires.asked _ (ap (λ (n : NodeValue). slice_get n.links c.args.link) (sym c.self.view_is) ∙ here)
 
 pub receive_on-requires-clause-room : goal.receive_on-requires-clause-room
-receive_on-requires-clause-room g c = omega (arith, c.self.invariant.0, ap (λ (b : List ℕ). length b) c.as_mut_slice.ensures.value)
+receive_on-requires-clause-room g c =
+    omega (arith, c.self.invariant.0, ap (λ (b : List ℕ). length b) c.as_mut_slice.ensures.value)
 
 pub invariant_of-self : goal.invariant_of-self
 invariant_of-self g c =
@@ -61,11 +70,12 @@ pub invariant_of-self-in-Err : goal.invariant_of-self-in-Err
 invariant_of-self-in-Err g c = (
   kept_long c.self.inside.buffer.len _ c.self.inside.buffer.items c.receive_on.new.buffer c.self.invariant.0 (omega (arith, c.as_mut_slice.ensures.len, ap (λ (b : List ℕ). length b) c.as_mut_slice.ensures.value))
       (omega (arith, c.receive_on.auto.buffer, ap (λ (b : List ℕ). length b) c.as_mut_slice.ensures.value)),
-  is_closed_node _ _ _ (omega (arith, c.self.invariant.1.few, length_set c.self.inside.links.items c.args.link c.receive_on.new.link)),
+  is_closed_node _ _ _ _ c.close.ensures.closed (omega (arith, c.self.invariant.1.few, length_set c.self.inside.links.items c.args.link c.receive_on.new.link)),
 )
 
 pub returns-in-Ok-clause-closed : goal.returns-in-Ok-clause-closed
-returns-in-Ok-clause-closed g c = λ closed. absurd (let is = ap (λ (n : NodeValue). n.closed) c.self.view_is in let no = c.if-self.false in cc)
+returns-in-Ok-clause-closed g c =
+    λ closed. absurd (let is = ap (λ (n : NodeValue). n.closed) c.self.view_is in let no = c.if-self.false in cc)
 
 pub returns-in-Ok-clause-answer : goal.returns-in-Ok-clause-answer
 returns-in-Ok-clause-answer g c = λ _. c.if-self.false
@@ -90,13 +100,15 @@ returns-in-Ok-clause-safe g c =
     (record { safe = all_safe _ c.self.inside.first c.args.link c.self.inside.links.items _ _ _ _ _ (c.self.invariant.1.attached c.if-self.false) here c.in-Ok.ensures.works.stays })
 
 pub returns-in-Err-clause-closed : goal.returns-in-Err-clause-closed
-returns-in-Err-clause-closed g c = λ closed. absurd (let is = ap (λ (n : NodeValue). n.closed) c.self.view_is in let no = c.if-self.false in cc)
+returns-in-Err-clause-closed g c =
+    λ closed. absurd (let is = ap (λ (n : NodeValue). n.closed) c.self.view_is in let no = c.if-self.false in cc)
 
 pub returns-in-Err-clause-answer : goal.returns-in-Err-clause-answer
-returns-in-Err-clause-answer g c = λ _. fault_answers Bool c.in-Err.fault _ _ c.from.ensures refl
+returns-in-Err-clause-answer g c =
+    λ _. fault_answers Bool c.in-Err.fault _ _ c.close.ensures.fault c.close.ensures.closed
 
 pub returns-in-Err-clause-may : goal.returns-in-Err-clause-may
-returns-in-Err-clause-may g c = λ opened. cc
+returns-in-Err-clause-may g c = λ opened. absurd (true≢false _ c.close.ensures.closed opened)
 
 pub returns-in-Err-clause-safe : goal.returns-in-Err-clause-safe
 returns-in-Err-clause-safe g c =
@@ -106,7 +118,8 @@ returns-in-Err-clause-safe g c =
     (record { safe = all_safe _ c.self.inside.first c.args.link c.self.inside.links.items _ _ _ _ _ (c.self.invariant.1.attached c.if-self.false) here c.in-Err.ensures.stays })
 
 pub returns-then-self-clause-halts : goal.returns-then-self-clause-halts
-returns-then-self-clause-halts g c = λ opened. absurd (let yes = ap (λ (n : NodeValue). n.closed) c.self.view_is in let is = c.if-self.true in cc)
+returns-then-self-clause-halts g c =
+    λ opened. absurd (let yes = ap (λ (n : NodeValue). n.closed) c.self.view_is in let is = c.if-self.true in cc)
 
 pub returns-in-Ok-clause-course : goal.returns-in-Ok-clause-course
 returns-in-Ok-clause-course g c = λ opened.
@@ -123,3 +136,41 @@ returns-in-Err-clause-halts g c = λ opened.
     let numbered = ((c.self.invariant.1.attached c.if-self.false).each c.args.link _ here).numbered in
     node_receiving_broken _ _ c.self.inside.first _ c.self.inside.closed _ _ _ c.self.view_is c.args.link
     (receiving_broken _ c.self.inside.first c.args.link c.self.inside.links.items _ _ _ here numbered _ (c.in-Err.ensures.stops (ap (λ (b : List ℕ). length b) c.as_mut_slice.ensures.value ∙ c.self.invariant.0)))
+
+pub returns-then-self-clause-run : goal.returns-then-self-clause-run
+returns-then-self-clause-run g c = goes_none _
+
+pub returns-then-self-clause-cause : goal.returns-then-self-clause-cause
+returns-then-self-clause-cause g c = λ number stands. inl stands
+
+pub returns-in-Ok-clause-run : goal.returns-in-Ok-clause-run
+returns-in-Ok-clause-run g c = c.receive_on.ensures.run.goes
+
+pub returns-in-Ok-clause-cause : goal.returns-in-Ok-clause-cause
+returns-in-Ok-clause-cause g c =
+    let within : c.args.link < length c.self.inside.links.items = omega (arith, c.requires.attached, ap (λ (n : NodeValue). length n.links) c.self.view_is) in
+    let here = slice_get-get_or c.self.inside.links.items c.args.link c.index_mut.result.now within ∙ ap Some (sym c.index_mut.ensures.value) in
+    node_causes _ c.self.inside.first c.self.inside.links.items _ c.self.inside.closed _ _ _ c.self.view_is
+    (links_go_set c.args.link _ c.self.inside.links.items _ c.receive_on.new.link _ _ _ (links_go_none _ _) here c.receive_on.ensures.run)
+
+pub returns-in-Err-clause-run : goal.returns-in-Err-clause-run
+returns-in-Err-clause-run g c = c.receive_on.ensures.run.goes
+
+pub returns-in-Err-clause-cause : goal.returns-in-Err-clause-cause
+returns-in-Err-clause-cause g c =
+    let within : c.args.link < length c.self.inside.links.items = omega (arith, c.requires.attached, ap (λ (n : NodeValue). length n.links) c.self.view_is) in
+    let here = slice_get-get_or c.self.inside.links.items c.args.link c.index_mut.result.now within ∙ ap Some (sym c.index_mut.ensures.value) in
+    node_causes _ c.self.inside.first c.self.inside.links.items _ c.self.inside.closed _ _ _ c.self.view_is
+    (links_go_set c.args.link _ c.self.inside.links.items _ c.receive_on.new.link _ _ _ (links_go_none _ _) here c.receive_on.ensures.run)
+
+pub returns-in-Err-clause-full : goal.returns-in-Err-clause-full
+returns-in-Err-clause-full g c = λ is.
+    let within : c.args.link < length c.self.inside.links.items = omega (arith, c.requires.attached, ap (λ (n : NodeValue). length n.links) c.self.view_is) in
+    let here = slice_get-get_or c.self.inside.links.items c.args.link c.index_mut.result.now within ∙ ap Some (sym c.index_mut.ensures.value) in
+    let numbered = ((c.self.invariant.1.attached c.if-self.false).each c.args.link _ here).numbered in
+    node_receiving_full _ _ c.self.inside.first _ c.self.inside.closed _ _ _ c.self.view_is c.args.link _
+    (receiving_full _ c.self.inside.first c.args.link c.self.inside.links.items _ _ _ here numbered _ _
+    (c.in-Err.ensures.full (ap (λ (b : List ℕ). length b) c.as_mut_slice.ensures.value ∙ c.self.invariant.0) (ap (λ e. Err e) (was_full c.in-Err.fault _ c.close.ensures.fault is))))
+
+pub returns-in-Ok-clause-node : goal.returns-in-Ok-clause-node
+returns-in-Ok-clause-node g c = (invariant_of-self g c).1

@@ -1,10 +1,16 @@
-use Rattle.std.proofs.Common.{◌<◌, ℕ, arith, refl, ap, sym, ◌∙◌, length, Some}
+use Rattle.std.proofs.Common.{inl, ◌<◌, ℕ, arith, refl, ap, sym, ◌∙◌, length, Some}
 use Rattle.std.specs.List.{slice_get}
 use Rattle.std.proofs.lemmas.Option.{slice_get-get_or}
 use Rattle.sync_node.specs.Node.{NodeValue}
-use Rattle.sync_node.proofs.NodeLaws.{fault_answers, all_safe, is_closed_node, is_node, length_set, link_able, links_go_on, links_one, node_keeps, node_may, node_safe, node_same, stays_closed}
-use Rattle.sync_node.specs.CourseCalls.{sending_broken, sends_due}
+use Rattle.sync_node.proofs.NodeLaws.{true≢false, fault_answers, all_safe, is_closed_node, is_node, length_set, link_able, links_go_on, links_one, node_keeps, node_may, node_safe, node_same, stays_closed}
+use Rattle.sync_node.proofs.CourseCalls.{sending_broken, sends_due}
 use Rattle.sync_node.proofs.CourseNode.{node_sending_broken, node_sends}
+use Rattle.sync_node.proofs.SafeLaws.{goes_none}
+use Rattle.sync_node.proofs.CauseLaws.{links_go_none, links_go_set, node_causes}
+use Rattle.std.proofs.Common.{Err}
+use Rattle.sync_node.proofs.NodeLaws.{was_full}
+use Rattle.sync_node.proofs.CourseCalls.{sending_full}
+use Rattle.sync_node.proofs.CourseNode.{node_sending_full}
 use Rattle.sync_node.proofs.node.Node.send_due.Goals as goal
 
 pub same-self : goal.same-self
@@ -14,7 +20,8 @@ pub returns-then-self-clause-closed : goal.returns-then-self-clause-closed
 returns-then-self-clause-closed g c = λ closed. stays_closed _ _
 
 pub returns-then-self-clause-answer : goal.returns-then-self-clause-answer
-returns-then-self-clause-answer g c = λ opened. absurd (let yes = ap (λ (n : NodeValue). n.closed) c.self.view_is in let is = c.if-self.true in cc)
+returns-then-self-clause-answer g c =
+    λ opened. absurd (let yes = ap (λ (n : NodeValue). n.closed) c.self.view_is in let is = c.if-self.true in cc)
 
 pub returns-then-self-clause-may : goal.returns-then-self-clause-may
 returns-then-self-clause-may g c = c.requires.may
@@ -23,7 +30,8 @@ pub returns-then-self-clause-safe : goal.returns-then-self-clause-safe
 returns-then-self-clause-safe g c = node_same _ _ _
 
 pub index_mut-requires : goal.index_mut-requires
-index_mut-requires g c = omega (arith, c.requires.attached, ap (λ (n : NodeValue). length n.links) c.self.view_is)
+index_mut-requires g c =
+    omega (arith, c.requires.attached, ap (λ (n : NodeValue). length n.links) c.self.view_is)
 
 pub send_all-requires-clause-able : goal.send_all-requires-clause-able
 send_all-requires-clause-able g c =
@@ -47,10 +55,11 @@ invariant_of-self g c =
 
 pub invariant_of-self-in-Err : goal.invariant_of-self-in-Err
 invariant_of-self-in-Err g c =
-    (c.self.invariant.0, is_closed_node _ _ _ (omega (arith, c.self.invariant.1.few, length_set c.self.inside.links.items c.args.link c.send_all.new.link)))
+    (c.self.invariant.0, is_closed_node _ _ _ _ c.close.ensures.closed (omega (arith, c.self.invariant.1.few, length_set c.self.inside.links.items c.args.link c.send_all.new.link)))
 
 pub returns-in-Ok-clause-closed : goal.returns-in-Ok-clause-closed
-returns-in-Ok-clause-closed g c = λ closed. absurd (let is = ap (λ (n : NodeValue). n.closed) c.self.view_is in let no = c.if-self.false in cc)
+returns-in-Ok-clause-closed g c =
+    λ closed. absurd (let is = ap (λ (n : NodeValue). n.closed) c.self.view_is in let no = c.if-self.false in cc)
 
 pub returns-in-Ok-clause-answer : goal.returns-in-Ok-clause-answer
 returns-in-Ok-clause-answer g c = λ _. c.if-self.false
@@ -75,13 +84,15 @@ returns-in-Ok-clause-safe g c =
     (record { safe = all_safe _ c.self.inside.first c.args.link c.self.inside.links.items _ _ _ _ _ (c.self.invariant.1.attached c.if-self.false) here c.in-Ok.ensures.works.stays })
 
 pub returns-in-Err-clause-closed : goal.returns-in-Err-clause-closed
-returns-in-Err-clause-closed g c = λ closed. absurd (let is = ap (λ (n : NodeValue). n.closed) c.self.view_is in let no = c.if-self.false in cc)
+returns-in-Err-clause-closed g c =
+    λ closed. absurd (let is = ap (λ (n : NodeValue). n.closed) c.self.view_is in let no = c.if-self.false in cc)
 
 pub returns-in-Err-clause-answer : goal.returns-in-Err-clause-answer
-returns-in-Err-clause-answer g c = λ _. fault_answers ℕ c.in-Err.fault _ _ c.from.ensures refl
+returns-in-Err-clause-answer g c =
+    λ _. fault_answers ℕ c.in-Err.fault _ _ c.close.ensures.fault c.close.ensures.closed
 
 pub returns-in-Err-clause-may : goal.returns-in-Err-clause-may
-returns-in-Err-clause-may g c = λ opened. cc
+returns-in-Err-clause-may g c = λ opened. absurd (true≢false _ c.close.ensures.closed opened)
 
 pub returns-in-Err-clause-safe : goal.returns-in-Err-clause-safe
 returns-in-Err-clause-safe g c =
@@ -91,7 +102,8 @@ returns-in-Err-clause-safe g c =
     (record { safe = all_safe _ c.self.inside.first c.args.link c.self.inside.links.items _ _ _ _ _ (c.self.invariant.1.attached c.if-self.false) here c.in-Err.ensures.stays })
 
 pub returns-then-self-clause-halts : goal.returns-then-self-clause-halts
-returns-then-self-clause-halts g c = λ opened. absurd (let yes = ap (λ (n : NodeValue). n.closed) c.self.view_is in let is = c.if-self.true in cc)
+returns-then-self-clause-halts g c =
+    λ opened. absurd (let yes = ap (λ (n : NodeValue). n.closed) c.self.view_is in let is = c.if-self.true in cc)
 
 pub returns-in-Ok-clause-course : goal.returns-in-Ok-clause-course
 returns-in-Ok-clause-course g c = λ opened.
@@ -110,3 +122,42 @@ returns-in-Err-clause-halts g c = λ opened.
     let may = c.requires.unclosed _ (ap (λ (n : NodeValue). slice_get n.links c.args.link) (sym c.self.view_is) ∙ here) in
     node_sending_broken _ _ c.self.inside.first _ c.self.inside.closed _ _ _ c.self.view_is c.args.link c.args.now
     (sending_broken _ c.self.inside.first c.args.link c.self.inside.links.items _ _ _ here numbered c.args.now may _ (c.in-Err.ensures.stops may))
+
+pub returns-then-self-clause-run : goal.returns-then-self-clause-run
+returns-then-self-clause-run g c = goes_none _
+
+pub returns-then-self-clause-cause : goal.returns-then-self-clause-cause
+returns-then-self-clause-cause g c = λ number stands. inl stands
+
+pub returns-in-Ok-clause-run : goal.returns-in-Ok-clause-run
+returns-in-Ok-clause-run g c = c.send_all.ensures.run.goes
+
+pub returns-in-Ok-clause-cause : goal.returns-in-Ok-clause-cause
+returns-in-Ok-clause-cause g c =
+    let within : c.args.link < length c.self.inside.links.items = omega (arith, c.requires.attached, ap (λ (n : NodeValue). length n.links) c.self.view_is) in
+    let here = slice_get-get_or c.self.inside.links.items c.args.link c.index_mut.result.now within ∙ ap Some (sym c.index_mut.ensures.value) in
+    node_causes _ c.self.inside.first c.self.inside.links.items _ c.self.inside.closed _ _ _ c.self.view_is
+    (links_go_set c.args.link _ c.self.inside.links.items _ c.send_all.new.link _ _ _ (links_go_none _ _) here c.send_all.ensures.run)
+
+pub returns-in-Err-clause-run : goal.returns-in-Err-clause-run
+returns-in-Err-clause-run g c = c.send_all.ensures.run.goes
+
+pub returns-in-Err-clause-cause : goal.returns-in-Err-clause-cause
+returns-in-Err-clause-cause g c =
+    let within : c.args.link < length c.self.inside.links.items = omega (arith, c.requires.attached, ap (λ (n : NodeValue). length n.links) c.self.view_is) in
+    let here = slice_get-get_or c.self.inside.links.items c.args.link c.index_mut.result.now within ∙ ap Some (sym c.index_mut.ensures.value) in
+    node_causes _ c.self.inside.first c.self.inside.links.items _ c.self.inside.closed _ _ _ c.self.view_is
+    (links_go_set c.args.link _ c.self.inside.links.items _ c.send_all.new.link _ _ _ (links_go_none _ _) here c.send_all.ensures.run)
+
+pub returns-in-Err-clause-full : goal.returns-in-Err-clause-full
+returns-in-Err-clause-full g c = λ is.
+    let within : c.args.link < length c.self.inside.links.items = omega (arith, c.requires.attached, ap (λ (n : NodeValue). length n.links) c.self.view_is) in
+    let here = slice_get-get_or c.self.inside.links.items c.args.link c.index_mut.result.now within ∙ ap Some (sym c.index_mut.ensures.value) in
+    let numbered = ((c.self.invariant.1.attached c.if-self.false).each c.args.link _ here).numbered in
+    let may = c.requires.unclosed _ (ap (λ (n : NodeValue). slice_get n.links c.args.link) (sym c.self.view_is) ∙ here) in
+    node_sending_full _ _ c.self.inside.first _ c.self.inside.closed _ _ _ c.self.view_is c.args.link c.args.now _
+    (sending_full _ c.self.inside.first c.args.link c.self.inside.links.items _ _ _ here numbered c.args.now may _ _
+    (c.in-Err.ensures.full may (ap (λ e. Err e) (was_full c.in-Err.fault _ c.close.ensures.fault is))))
+
+pub returns-in-Ok-clause-node : goal.returns-in-Ok-clause-node
+returns-in-Ok-clause-node g c = (invariant_of-self g c).1

@@ -1,9 +1,15 @@
-use Rattle.std.proofs.Common.{List, ℕ, arith, refl, ap, ◌∙◌, length}
+use Rattle.std.proofs.Common.{inl, List, ℕ, arith, refl, ap, ◌∙◌, length}
 use Rattle.sync_node.specs.declared.link.Link.{Link}
 use Rattle.sync_node.specs.declared.node.Turned.{Turned}
 use Rattle.sync_node.specs.Node.{NodeValue}
-use Rattle.sync_node.proofs.NodeLaws.{fault_answers, attached_as, is_closed_node, is_node, kept_long, kept_same, links_as, may_as, node_keeps, node_may, node_safe, node_same, safe_as, some_as, stays_closed, works_safe}
+use Rattle.sync_node.proofs.NodeLaws.{true≢false, fault_answers, attached_as, is_closed_node, is_node, kept_long, kept_same, links_as, may_as, node_keeps, node_may, node_safe, node_same, safe_as, some_as, stays_closed, works_safe}
 use Rattle.sync_node.proofs.CourseNode.{node_turn_broken, node_turns}
+use Rattle.sync_node.proofs.SafeLaws.{goes_none}
+use Rattle.sync_node.proofs.CauseLaws.{links_go_as, node_causes}
+use Rattle.std.proofs.Common.{Err}
+use Rattle.sync_node.proofs.NodeLaws.{was_full}
+use Rattle.sync_node.proofs.CourseNode.{node_turn_full}
+use Rattle.sync_node.proofs.StopLaws.{node_sends, sent_as}
 use Rattle.sync_node.proofs.node.Node.turn.Goals as goal
 
 pub same-self : goal.same-self
@@ -13,7 +19,8 @@ pub returns-then-self-clause-closed : goal.returns-then-self-clause-closed
 returns-then-self-clause-closed g c = λ closed. stays_closed _ _
 
 pub returns-then-self-clause-answer : goal.returns-then-self-clause-answer
-returns-then-self-clause-answer g c = λ opened. absurd (let yes = ap (λ (n : NodeValue). n.closed) c.self.view_is in let is = c.if-self.true in cc)
+returns-then-self-clause-answer g c =
+    λ opened. absurd (let yes = ap (λ (n : NodeValue). n.closed) c.self.view_is in let is = c.if-self.true in cc)
 
 pub returns-then-self-clause-may : goal.returns-then-self-clause-may
 returns-then-self-clause-may g c = c.requires.may
@@ -26,13 +33,16 @@ turn_all-requires-clause-may g c =
     may_as _ _ _ _ _ c.as_mut_slice.ensures.value (node_may _ _ c.self.inside.first _ c.self.inside.closed _ _ c.self.view_is c.requires.may c.if-self.false)
 
 pub turn_all-requires-clause-few : goal.turn_all-requires-clause-few
-turn_all-requires-clause-few g c = omega (arith, c.self.invariant.1.few, ap (λ (ls : List Link). length ls) c.as_mut_slice.ensures.value)
+turn_all-requires-clause-few g c =
+    omega (arith, c.self.invariant.1.few, ap (λ (ls : List Link). length ls) c.as_mut_slice.ensures.value)
 
 pub turn_all-requires-clause-attached : goal.turn_all-requires-clause-attached
-turn_all-requires-clause-attached g c = some_as c.self.inside.first _ _ _ c.as_mut_slice.ensures.value (c.self.invariant.1.attached c.if-self.false)
+turn_all-requires-clause-attached g c =
+    some_as c.self.inside.first _ _ _ c.as_mut_slice.ensures.value (c.self.invariant.1.attached c.if-self.false)
 
 pub turn_all-requires-clause-room : goal.turn_all-requires-clause-room
-turn_all-requires-clause-room g c = omega (arith, c.self.invariant.0, ap (λ (b : List ℕ). length b) c.as_mut_slice-2.ensures.value)
+turn_all-requires-clause-room g c =
+    omega (arith, c.self.invariant.0, ap (λ (b : List ℕ). length b) c.as_mut_slice-2.ensures.value)
 
 pub invariant_of-self : goal.invariant_of-self
 invariant_of-self g c =
@@ -48,7 +58,8 @@ invariant_of-self g c =
     )
 
 pub returns-in-Ok-true-clause-closed : goal.returns-in-Ok-true-clause-closed
-returns-in-Ok-true-clause-closed g c = λ closed. absurd (let is = ap (λ (n : NodeValue). n.closed) c.self.view_is in let no = c.if-self.false in cc)
+returns-in-Ok-true-clause-closed g c =
+    λ closed. absurd (let is = ap (λ (n : NodeValue). n.closed) c.self.view_is in let no = c.if-self.false in cc)
 
 pub returns-in-Ok-true-clause-answer : goal.returns-in-Ok-true-clause-answer
 returns-in-Ok-true-clause-answer g c = λ _. c.if-self.false
@@ -94,7 +105,8 @@ invariant_of-self-in-Ok-false g c =
     )
 
 pub returns-in-Ok-false-clause-closed : goal.returns-in-Ok-false-clause-closed
-returns-in-Ok-false-clause-closed g c = λ closed. absurd (let is = ap (λ (n : NodeValue). n.closed) c.self.view_is in let no = c.if-self.false in cc)
+returns-in-Ok-false-clause-closed g c =
+    λ closed. absurd (let is = ap (λ (n : NodeValue). n.closed) c.self.view_is in let no = c.if-self.false in cc)
 
 pub returns-in-Ok-false-clause-answer : goal.returns-in-Ok-false-clause-answer
 returns-in-Ok-false-clause-answer g c = λ _. c.if-self.false
@@ -131,7 +143,7 @@ invariant_of-self-in-Err g c = (
   kept_long c.self.inside.buffer.len _ c.self.inside.buffer.items c.turn_all.new.buffer c.self.invariant.0
       (omega (arith, c.as_mut_slice-2.ensures.len, ap (λ (b : List ℕ). length b) c.as_mut_slice-2.ensures.value))
       (omega (arith, c.turn_all.auto.buffer, ap (λ (b : List ℕ). length b) c.as_mut_slice-2.ensures.value)),
-  is_closed_node _ _ _ (omega (
+  is_closed_node _ _ _ _ c.close.ensures.closed (omega (
     arith,
     c.self.invariant.1.few,
     ap (λ (ls : List Link). length ls)
@@ -144,13 +156,15 @@ invariant_of-self-in-Err g c = (
 )
 
 pub returns-in-Err-clause-closed : goal.returns-in-Err-clause-closed
-returns-in-Err-clause-closed g c = λ closed. absurd (let is = ap (λ (n : NodeValue). n.closed) c.self.view_is in let no = c.if-self.false in cc)
+returns-in-Err-clause-closed g c =
+    λ closed. absurd (let is = ap (λ (n : NodeValue). n.closed) c.self.view_is in let no = c.if-self.false in cc)
 
 pub returns-in-Err-clause-answer : goal.returns-in-Err-clause-answer
-returns-in-Err-clause-answer g c = λ _. fault_answers Turned c.in-Err.fault _ _ c.from.ensures refl
+returns-in-Err-clause-answer g c =
+    λ _. fault_answers Turned c.in-Err.fault _ _ c.close.ensures.fault c.close.ensures.closed
 
 pub returns-in-Err-clause-may : goal.returns-in-Err-clause-may
-returns-in-Err-clause-may g c = λ opened. cc
+returns-in-Err-clause-may g c = λ opened. absurd (true≢false _ c.close.ensures.closed opened)
 
 pub returns-in-Err-clause-safe : goal.returns-in-Err-clause-safe
 returns-in-Err-clause-safe g c =
@@ -158,7 +172,8 @@ returns-in-Err-clause-safe g c =
     (safe_as _ _ _ _ _ _ _ _ c.as_mut_slice.ensures.value (c.in-Err.ensures.safe c.self.inside.first (attached_as c.self.inside.first _ _ _ c.as_mut_slice.ensures.value (c.self.invariant.1.attached c.if-self.false))))
 
 pub returns-then-self-clause-halts : goal.returns-then-self-clause-halts
-returns-then-self-clause-halts g c = λ opened. absurd (let yes = ap (λ (n : NodeValue). n.closed) c.self.view_is in let is = c.if-self.true in cc)
+returns-then-self-clause-halts g c =
+    λ opened. absurd (let yes = ap (λ (n : NodeValue). n.closed) c.self.view_is in let is = c.if-self.true in cc)
 
 pub returns-in-Ok-true-clause-course : goal.returns-in-Ok-true-clause-course
 returns-in-Ok-true-clause-course g c = λ opened.
@@ -183,3 +198,64 @@ returns-in-Err-clause-halts g c = λ opened.
     node_turn_broken _ _ c.self.inside.first _ c.self.inside.closed _ _ _ c.self.view_is _ c.as_mut_slice.ensures.value
     (c.in-Err.ensures.halts c.self.inside.first (attached_as c.self.inside.first _ _ _ c.as_mut_slice.ensures.value (c.self.invariant.1.attached c.if-self.false))
     (ap (λ (b : List ℕ). length b) c.as_mut_slice-2.ensures.value ∙ c.self.invariant.0))
+
+pub returns-then-self-clause-run : goal.returns-then-self-clause-run
+returns-then-self-clause-run g c = goes_none _
+
+pub returns-then-self-clause-cause : goal.returns-then-self-clause-cause
+returns-then-self-clause-cause g c = λ number stands. inl stands
+
+pub returns-in-Ok-true-clause-run : goal.returns-in-Ok-true-clause-run
+returns-in-Ok-true-clause-run g c = c.turn_all.ensures.run.goes
+
+pub returns-in-Ok-true-clause-cause : goal.returns-in-Ok-true-clause-cause
+returns-in-Ok-true-clause-cause g c =
+    node_causes _ c.self.inside.first c.self.inside.links.items _ c.self.inside.closed _ _ _ c.self.view_is
+    (links_go_as _ _ _ _ _ _ c.as_mut_slice.ensures.value
+    (kept_same c.self.inside.links.len c.self.inside.links.items c.turn_all.new.links
+    (omega (arith, c.as_mut_slice.ensures.len, ap (λ (ls : List Link). length ls) c.as_mut_slice.ensures.value))
+    (omega (arith, c.turn_all.auto.links, ap (λ (ls : List Link). length ls) c.as_mut_slice.ensures.value)))
+    c.turn_all.ensures.run)
+
+pub returns-in-Ok-false-clause-run : goal.returns-in-Ok-false-clause-run
+returns-in-Ok-false-clause-run g c = c.turn_all.ensures.run.goes
+
+pub returns-in-Ok-false-clause-cause : goal.returns-in-Ok-false-clause-cause
+returns-in-Ok-false-clause-cause g c =
+    node_causes _ c.self.inside.first c.self.inside.links.items _ c.self.inside.closed _ _ _ c.self.view_is
+    (links_go_as _ _ _ _ _ _ c.as_mut_slice.ensures.value
+    (kept_same c.self.inside.links.len c.self.inside.links.items c.turn_all.new.links
+    (omega (arith, c.as_mut_slice.ensures.len, ap (λ (ls : List Link). length ls) c.as_mut_slice.ensures.value))
+    (omega (arith, c.turn_all.auto.links, ap (λ (ls : List Link). length ls) c.as_mut_slice.ensures.value)))
+    c.turn_all.ensures.run)
+
+pub returns-in-Err-clause-run : goal.returns-in-Err-clause-run
+returns-in-Err-clause-run g c = c.turn_all.ensures.run.goes
+
+pub returns-in-Err-clause-cause : goal.returns-in-Err-clause-cause
+returns-in-Err-clause-cause g c =
+    node_causes _ c.self.inside.first c.self.inside.links.items _ c.self.inside.closed _ _ _ c.self.view_is
+    (links_go_as _ _ _ _ _ _ c.as_mut_slice.ensures.value
+    (kept_same c.self.inside.links.len c.self.inside.links.items c.turn_all.new.links
+    (omega (arith, c.as_mut_slice.ensures.len, ap (λ (ls : List Link). length ls) c.as_mut_slice.ensures.value))
+    (omega (arith, c.turn_all.auto.links, ap (λ (ls : List Link). length ls) c.as_mut_slice.ensures.value)))
+    c.turn_all.ensures.run)
+
+pub returns-in-Err-clause-full : goal.returns-in-Err-clause-full
+returns-in-Err-clause-full g c = λ is.
+    node_turn_full _ _ c.self.inside.first _ c.self.inside.closed _ _ _ c.self.view_is _ _ c.as_mut_slice.ensures.value
+    (c.in-Err.ensures.full c.self.inside.first (attached_as c.self.inside.first _ _ _ c.as_mut_slice.ensures.value (c.self.invariant.1.attached c.if-self.false))
+    (ap (λ (b : List ℕ). length b) c.as_mut_slice-2.ensures.value ∙ c.self.invariant.0) (ap (λ e. Err e) (was_full c.in-Err.fault _ c.close.ensures.fault is)))
+
+pub returns-in-Ok-true-clause-node : goal.returns-in-Ok-true-clause-node
+returns-in-Ok-true-clause-node g c = (invariant_of-self g c).1
+
+pub returns-in-Ok-false-clause-node : goal.returns-in-Ok-false-clause-node
+returns-in-Ok-false-clause-node g c = (invariant_of-self-in-Ok-false g c).1
+
+pub returns-in-Err-clause-sent : goal.returns-in-Err-clause-sent
+returns-in-Err-clause-sent g c = λ opened is.
+    node_sends _ _ _ c.self.inside.first c.self.inside.links.items _ c.self.inside.closed _ _ _ _ c.self.view_is
+    (sent_as _ c.self.inside.first _ c.self.inside.links.items _ _ _ _ c.as_mut_slice.ensures.value
+    (c.in-Err.ensures.sent c.self.inside.first (attached_as c.self.inside.first _ _ _ c.as_mut_slice.ensures.value (c.self.invariant.1.attached c.if-self.false))
+    (ap (λ e. Err e) (was_full c.in-Err.fault _ c.close.ensures.fault is))))

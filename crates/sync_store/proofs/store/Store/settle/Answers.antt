@@ -12,6 +12,7 @@ batches-init g c =
     let still : s.closed ≡ false = sym c.is_closed.ensures.closed ∙ c.if-is_closed.false in
     record {
       ready = c.requires.ready still;
+      numbers = c.is_closed.ensures.numbers;
       settles = settles_begun c.cite_laws.ensures.stand (g.C.Clients.meaning c.args.clients.now) s (g.D.Disk.tells c.args.disk.now) c.is_closed.ensures.numbers;
     }
 
@@ -38,6 +39,7 @@ batches-preserved g c =
         knows = c.settle_batch.ensures.knows;
         fits = comes_fits clients s1 s2 o1 o2 made.more c.settle_batch.ensures.run made.comes before.ready.fits made.answer.0;
       };
+      numbers = c.settle_batch.ensures.numbers;
       settles = settles_more clients s0 s1 s2 o0 o1 o2 _ before.settles before.ready.still_open left made c.settle_batch.ensures.run;
     }
 
@@ -73,3 +75,6 @@ returns-clause-settled g c _ =
     let before = c.batches.invariant in
     settled_ok clients c.args.self.now c.batches.self _ (g.D.Disk.tells c.args.disk.now) (g.D.Disk.tells c.batches.disk) before.settles before.ready.still_open
     ((c.is_settled.ensures clients before.ready.knows).0 c.batches-test.false)
+
+pub returns-clause-numbers : goal.returns-clause-numbers
+returns-clause-numbers g c = c.batches.invariant.numbers

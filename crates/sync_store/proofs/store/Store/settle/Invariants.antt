@@ -1,5 +1,6 @@
 use Rattle.sync_rules.specs.Left.{left_of}
 use Rattle.sync_store.specs.Ready.{IsReady}
+use Rattle.sync_store.specs.Store.{IsStore}
 use Rattle.sync_store.proofs.SettleSteps.{SettlesOn}
 use Rattle.sync_store.proofs.store.Store.settle.Given as goal
 
@@ -7,6 +8,7 @@ use Rattle.sync_store.proofs.store.Store.settle.Given as goal
 abbrev pub invariant-batches : goal.invariant-batches
 invariant-batches g l = record {
   ready : IsReady (g.C.Clients.meaning l.clients) l.self (g.D.Disk.tells l.disk).files;
+  numbers : IsStore l.self;
   settles : SettlesOn (g.C.Clients.meaning l.clients) l.fn.self l.self (g.D.Disk.tells l.fn.disk) (g.D.Disk.tells l.disk);
 }
 

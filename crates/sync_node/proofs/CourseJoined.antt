@@ -1,7 +1,6 @@
--- Where a node and its host are joined and links are told, each link that is still asked has read all that was heard on it: the
--- clauses on the course hold with the bytes that the host tells.
-use Rattle.std.proofs.Common.{◌≡◌, ℕ, List, [], ◌++◌, length, ap, le_refl, refl, Some}
-use Rattle.std.specs.Prelude.{slice_get}
+-- Where a node and its host are joined and links are told, each link that is still asked has read
+-- all that was heard on it: the clauses on the course hold with the bytes that the host tells.
+use Rattle.std.proofs.Common.{◌≡◌, ℕ, List, [], ◌++◌, length, ap, le_refl, refl}
 use Rattle.outside.specs.Outside.{Outside}
 use Rattle.outside.specs.Runs.{Told, heard_bytes}
 use Rattle.record_grammar.specs.Stream.{items}
@@ -15,7 +14,8 @@ use Rattle.sync_node.specs.Joined.{Joined}
 use Rattle.sync_node.specs.Node.{AreAttached}
 use Rattle.sync_node.specs.Output.{heard_on}
 
-pub joined_read : (clients : Meaning) (first : ℕ) (links : List Link) (f : Facts) (s : StoreValue) (o : Outside) → AreAttached first links f → Joined clients links s o
+pub joined_read : (clients : Meaning) (first : ℕ) (links : List Link) (f : Facts) (s : StoreValue)
+    (o : Outside) → AreAttached first links f → Joined clients links s o
     → Told o → AllRead (heard_on o.links) links
 joined_read clients first links f s o attached joined told i l at going =
     let has = (joined.each i l at).taken going told in
@@ -24,5 +24,7 @@ joined_read clients first links f s o attached joined told i l at going =
     (none_come (heard_on o.links i) [] l.reader (items l.reader.place (l.reader.bytes ++ [])) reading refl ((attached.each i l at).waits going)).1
 
 -- nothing was heard on the link behind them
-pub joined_unheard : (clients : Meaning) (links : List Link) (s : StoreValue) (o : Outside) → Joined clients links s o → Told o → heard_on o.links (length links) ≡ []
-joined_unheard clients links s o joined told = ap heard_bytes ((joined.others (length links) (le_refl (length links))).nothing_heard told)
+pub joined_unheard : (clients : Meaning) (links : List Link) (s : StoreValue) (o : Outside)
+    → Joined clients links s o → Told o → heard_on o.links (length links) ≡ []
+joined_unheard clients links s o joined told =
+    ap heard_bytes ((joined.others (length links) (le_refl (length links))).nothing_heard told)

@@ -1,39 +1,42 @@
 -- A whole turn, and single calls on one link in its turn, as parts of a run.
-use Rattle.std.proofs.Common.{◌≡◌, ℕ, suc, ◌+◌, ◌<◌, Bool, true, false, cond, nat_eq, nat_lt, eq-eqb, List, [], ◌∷◌, length, refl, sym, ◌∙◌, ap, subst, inl, inr, arith, Option, Some}
+use Rattle.std.proofs.Common.{◌≡◌, ℕ, suc, ◌+◌, Bool, true, false, cond, nat_eq, nat_lt, eq-eqb, List, [], ◌∷◌, length, refl, sym, ◌∙◌, ap, subst, inl, inr, Some}
 use Rattle.std.specs.Prelude.{not, slice_get, slice_set}
 use Rattle.std.proofs.lemmas.Bool.{cases_eq, ne_eqb}
 use Rattle.outside.specs.Outside.{Outside}
 use Rattle.sync_rules.specs.Clients.{Meaning}
-use Rattle.sync_rules.specs.Facts.{Facts}
 use Rattle.sync_store.specs.Store.{StoreValue}
-use Rattle.sync_course.specs.LiftLaws.{breaks_lifted, get_set, get_within, runs_lifted, runs_turn, runs_turn_ended, set_same}
+use Rattle.sync_course.specs.LiftLaws.{get_set, get_within, runs_turn, runs_turn_ended}
 use Rattle.sync_course.specs.Links as course_links
 use Rattle.sync_course.specs.Links.{without_redundant}
-use Rattle.sync_course.specs.LinkTurns.{Asks, Doing, Done, Sends, Spot}
+use Rattle.sync_course.specs.LinkTurns.{Asks, Done, Sends}
 use Rattle.sync_course.specs.ToldLaws.{breaks_then, runs_then}
-use Rattle.sync_course.specs.Turns.{Between, Place, RunStep, Terms, Works, is_at_end, turn_ended, with_spot}
+use Rattle.sync_course.specs.Turns.{Between, Place, RunStep, Terms, Works, is_at_end, turn_ended}
 use Rattle.sync_course.specs.declared.TheConstants.{MAX_OUTPUTS}
 use Rattle.sync_node.specs.declared.link.Link.{Link}
-use Rattle.sync_node.specs.declared.link.LinkEnd.{LinkEnd}
-use Rattle.sync_node.specs.declared.link.LinkEnd.TheVariants as link_end
+use Rattle.sync_course.specs.declared.ends.LinkEnd.TheVariants as link_end
 use Rattle.sync_node.specs.Ends.{MaySend}
 use Rattle.sync_node.specs.Redundant.{ClosesSome}
-use Rattle.sync_node.specs.Courses.{AllRead, BreaksReceiving, BreaksSending, BreaksTurn, FitsWith, HearsAsCourse, HearsStops, IsRead, IsReadyToSend, LinkBreaks, LinkRuns, MakesTurn, ReadsAs, Receives, RunBreaks, RunRuns, SendsDue, SentAsCourse, SentStops, TurnsAsCourse, TurnsStop, link_at, links_from, place_at, spot_at}
-use Rattle.sync_node.specs.CourseRuns.{all_read, get_at, heard_with, length_from, set_at}
-use Rattle.sync_node.specs.CourseTurns.{may_end, read_on}
+use Rattle.sync_node.specs.Courses.{AllRead, BreaksReceiving, BreaksSending, BreaksTurn, FitsWith, HearsAsCourse, HearsStops, IsRead, IsReadyToSend, MakesTurn, ReadsAs, Receives, RunRuns, SendsDue, SentAsCourse, SentStops, TurnsAsCourse, TurnsStop, link_at, links_from, place_at}
+use Rattle.sync_node.proofs.CourseTakes.{full_then}
+use Rattle.sync_node.specs.Fulls.{FullReceiving, FullSending, FullTurn, HearsFull, SentFull, TurnsFull}
+use Rattle.sync_node.proofs.CourseRuns.{all_read, link_broken, link_in_run, link_limit, heard_with, length_from}
+use Rattle.sync_node.proofs.CourseTurns.{may_end, read_on}
 
 -- ---- a whole turn
 
 -- a turn begins
-turn_begun : (clients : Meaning) (terms : Terms) (links : List Link) (s : StoreValue) (o : Outside) (heard : ℕ → List ℕ) (moved : Bool) (still made : ℕ)
+turn_begun : (clients : Meaning) (terms : Terms) (links : List Link) (s : StoreValue) (o : Outside)
+    (heard : ℕ → List ℕ) (moved : Bool) (still made : ℕ)
     → is_at_end terms (place_at Between links heard moved still made s.state.facts) ≡ false
-    → RunRuns clients terms (place_at Between links heard moved still made s.state.facts) (place_at (Works 0 Asks) links heard false still made s.state.facts) s s o o
+    → RunRuns clients terms (place_at Between links heard moved still made s.state.facts)
+    (place_at (Works 0 Asks) links heard false still made s.state.facts) s s o o
 turn_begun clients terms links s o heard moved still made on =
     runs_turn clients terms (FitsWith clients s o.files) (FitsWith clients s o.files) (λ j fit. fit)
     (place_at Between links heard moved still made s.state.facts) o refl on
 
 -- links that are closed have read what they are to have read
-closed_read : (mid links' : List Link) (heard : ℕ → List ℕ) → ClosesSome mid links' → AllRead heard mid → AllRead heard links'
+closed_read : (mid links' : List Link) (heard : ℕ → List ℕ) → ClosesSome mid links'
+    → AllRead heard mid → AllRead heard links'
 closed_read mid links' heard closes read i l at =
     let one = closes.each i l at in
     elim one.is [
@@ -75,7 +78,8 @@ module _ (clients : Meaning) (n : ℕ) (mid links' : List Link) (s : StoreValue)
       (runs_turn_ended clients terms (FitsWith clients s o.files) (FitsWith clients s o.files) (λ j fit. fit) place o
       (ap (λ (k : ℕ). Works k Asks) (all ∙ sym (length_from 0 mid heard))))
 
-pub turn_made : (clients : Meaning) (first n : ℕ) (links mid links' : List Link) (s s' : StoreValue) (o o' : Outside) (quiet : Bool) → n ≡ length mid
+pub turn_made : (clients : Meaning) (first n : ℕ) (links mid links' : List Link)
+    (s s' : StoreValue) (o o' : Outside) (quiet : Bool) → n ≡ length mid
     → TurnsAsCourse clients first n links mid s s' o o' quiet → ClosesSome mid links'
     → ((heard : ℕ → List ℕ) → links_from 0 links' heard ≡ without_redundant (links_from 0 mid heard))
     → MakesTurn clients first links links' s s' o o' quiet
@@ -97,13 +101,24 @@ turn_made clients first n links mid links' s s' o o' quiet all turns closes exac
       };
 }
 
-pub turn_broken : (clients : Meaning) (first : ℕ) (links : List Link) (s : StoreValue) (o o' : Outside) → TurnsStop clients first links s o o'
+pub turn_broken : (clients : Meaning) (first : ℕ) (links : List Link) (s : StoreValue)
+    (o o' : Outside) → TurnsStop clients first links s o o'
     → BreaksTurn clients first links s o o'
 turn_broken clients first links s o o' stopped = record {
   stops = λ terms heard moved still made same read on.
       breaks_then (RunStep clients terms) (FitsWith clients s o.files) (FitsWith clients s o.files) (ReadsAs clients o'.files)
       (place_at Between links heard moved still made s.state.facts) (place_at (Works 0 Asks) links heard false still made s.state.facts) o o o'
       (turn_begun clients terms links s o heard moved still made on) (stopped.stops terms heard false still made same read);
+}
+
+pub turn_limit : (clients : Meaning) (first : ℕ) (links : List Link) (s s' : StoreValue)
+    (o o' : Outside) → TurnsFull clients first links s s' o o'
+    → FullTurn clients first links s s' o o'
+turn_limit clients first links s s' o o' full = record {
+  fills = λ terms heard moved still made same read on.
+      full_then clients (RunStep clients terms) (place_at Between links heard moved still made s.state.facts)
+      (place_at (Works 0 Asks) links heard false still made s.state.facts) s s s' o o o' (turn_begun clients terms links s o heard moved still made on)
+      (full.fills terms heard false still made same read);
 }
 
 -- ---- one call on a link
@@ -116,7 +131,8 @@ same_cond k n heard =
       | inr other ↦ ap (λ (b : Bool). cond b (heard n) (heard k)) (ne_eqb k n other)
     ]
 
-same_heard : (k n : ℕ) (links : List Link) (heard : ℕ → List ℕ) → links_from k links (heard_with n (heard n) heard) ≡ links_from k links heard
+same_heard : (k n : ℕ) (links : List Link) (heard : ℕ → List ℕ)
+    → links_from k links (heard_with n (heard n) heard) ≡ links_from k links heard
 same_heard k n [] heard = refl
 same_heard k n (x ∷ links) heard =
     ap (λ (bytes : List ℕ). link_at x bytes ∷ links_from (suc k) links (heard_with n (heard n) heard)) (same_cond k n heard)
@@ -124,71 +140,9 @@ same_heard k n (x ∷ links) heard =
 
 module _ (clients : Meaning) (first n : ℕ) (links : List Link) (l : Link) (s : StoreValue) (o : Outside) (at : slice_get links n ≡ Some l)
     (numbered : l.session.number ≡ first + n) where
-  module _ (terms : Terms) (same : terms.first ≡ first) (heard : ℕ → List ℕ) (moved : Bool) (still made : ℕ) where
-    at_course : slice_get (links_from 0 links heard) n ≡ Some (link_at l (heard n))
-    at_course =
-        let plain : 0 + n ≡ n = omega arith in
-        get_at 0 n links heard l at ∙ ap (λ (j : ℕ). Some (link_at l (heard j))) plain
-
-    in_terms : l.session.number ≡ terms.first + n
-    in_terms = numbered ∙ ap (λ (f : ℕ). f + n) (sym same)
-
-    start_here : (doing : Doing)
-        → with_spot n (spot_at doing l (heard n) moved s.state.facts) (place_at (Works n doing) links heard moved still made s.state.facts)
-        ≡ place_at (Works n doing) links heard moved still made s.state.facts
-    start_here doing =
-        ap (λ (ls : List course_links.Link). record {
-          stage = Works n doing;
-          links = ls;
-          moved = moved;
-          still = still;
-          made = made;
-          facts = s.state.facts;
-        }) (set_same (links_from 0 links heard) n (link_at l (heard n)) at_course)
-
-    end_there : (doing doing' : Doing) (l' : Link) (f : Facts) (bytes : List ℕ) (moved' : Bool)
-        → with_spot n (spot_at doing' l' bytes moved' f) (place_at (Works n doing) links heard moved still made s.state.facts)
-        ≡ place_at (Works n doing') (slice_set links n l') (heard_with n bytes heard) moved' still made f
-    end_there doing doing' l' f bytes moved' =
-        let plain : 0 + n ≡ n = omega arith in
-        ap (λ (ls : List course_links.Link). record {
-          stage = Works n doing';
-          links = ls;
-          moved = moved';
-          still = still;
-          made = made;
-          facts = f;
-        })
-        (set_at 0 n links heard l' bytes ∙ ap (λ (j : ℕ). links_from 0 (slice_set links n l') (heard_with j bytes heard)) plain)
-
-    link_in_run : (doing doing' : Doing) (l' : Link) (s' : StoreValue) (o' : Outside) (bytes : List ℕ) (moved' : Bool)
-        → LinkRuns clients n l.session.number (spot_at doing l (heard n) moved s.state.facts) (spot_at doing' l' bytes moved' s'.state.facts) s s' o o'
-        → RunRuns clients terms (place_at (Works n doing) links heard moved still made s.state.facts)
-        (place_at (Works n doing') (slice_set links n l') (heard_with n bytes heard) moved' still made s'.state.facts) s s' o o'
-    link_in_run doing doing' l' s' o' bytes moved' runs =
-        let place : Place = place_at (Works n doing) links heard moved still made s.state.facts in
-        let p : Spot = spot_at doing l (heard n) moved s.state.facts in
-        let q : Spot = spot_at doing' l' bytes moved' s'.state.facts in
-        let within : n < length place.links = get_within (links_from 0 links heard) n (link_at l (heard n)) at_course in
-        let lifted : RunRuns clients terms (with_spot n p place) (with_spot n q place) s s' o o' =
-        runs_lifted clients terms n place within (FitsWith clients s o.files) (FitsWith clients s' o'.files) p q o o'
-        (subst (λ (k : ℕ). LinkRuns clients n k p q s s' o o') in_terms runs) in
-        subst (λ (x : Place). RunRuns clients terms x (place_at (Works n doing') (slice_set links n l') (heard_with n bytes heard) moved' still made s'.state.facts) s s' o o')
-        (start_here doing)
-        (subst (λ (x : Place). RunRuns clients terms (with_spot n p place) x s s' o o') (end_there doing doing' l' s'.state.facts bytes moved') lifted)
-
-    link_broken : (doing : Doing) (o' : Outside) → LinkBreaks clients n l.session.number (spot_at doing l (heard n) moved s.state.facts) s o o'
-        → RunBreaks clients terms (place_at (Works n doing) links heard moved still made s.state.facts) s o o'
-    link_broken doing o' breaks =
-        let place : Place = place_at (Works n doing) links heard moved still made s.state.facts in
-        let p : Spot = spot_at doing l (heard n) moved s.state.facts in
-        let within : n < length place.links = get_within (links_from 0 links heard) n (link_at l (heard n)) at_course in
-        subst (λ (x : Place). RunBreaks clients terms x s o o') (start_here doing)
-        (breaks_lifted clients terms n place within (FitsWith clients s o.files) (ReadsAs clients o'.files) p o o'
-        (subst (λ (k : ℕ). LinkBreaks clients n k p s o o') in_terms breaks))
-
   -- it was asked once
-  pub receives : (l' : Link) (s' : StoreValue) (o' : Outside) (idle : Bool) → HearsAsCourse clients n l l' s s' o o' idle
+  pub receives : (l' : Link) (s' : StoreValue) (o' : Outside) (idle : Bool)
+      → HearsAsCourse clients n l l' s s' o o' idle
       → Receives clients first n links (slice_set links n l') s s' o o' idle
   receives l' s' o' idle hears = record {
     leads = λ terms heard moved still made same read.
@@ -201,19 +155,28 @@ module _ (clients : Meaning) (first n : ℕ) (links : List Link) (l : Link) (s :
               let both : Some l' ≡ Some x = sym (get_set links n l' (get_within links n l at)) ∙ there in
               let is : l' ≡ x = cc in
               subst (IsReadyToSend to.doing) is to.ready;
-          runs = link_in_run terms same heard moved still made Asks to.doing l' s' o' to.heard' (cond idle moved true) to.runs;
+          runs = link_in_run clients first n links l s o at numbered terms same heard moved still made Asks to.doing l' s' o' to.heard' (cond idle moved true) to.runs;
         };
   }
 
-  pub receiving_broken : (o' : Outside) → HearsStops clients n l s o o' → BreaksReceiving clients first n links s o o'
+  pub receiving_broken : (o' : Outside) → HearsStops clients n l s o o'
+      → BreaksReceiving clients first n links s o o'
   receiving_broken o' stopped = record {
     stops = λ terms heard moved still made same read.
-        link_broken terms same heard moved still made Asks o' (stopped.stops (heard n) moved (read n l at));
+        link_broken clients first n links l s o at numbered terms same heard moved still made Asks o' (stopped.stops (heard n) moved (read n l at));
+  }
+
+  pub receiving_full : (s' : StoreValue) (o' : Outside) → HearsFull clients n l s s' o o'
+      → FullReceiving clients first n links s s' o o'
+  receiving_full s' o' full = record {
+    fills = λ terms heard moved still made same read.
+        link_limit clients first n links l s o at numbered terms same heard moved still made Asks s' o' (full.fills (heard n) moved (read n l at));
   }
 
   -- what is due on it was sent
   module _ (now : ℕ) (may : MaySend l.end) where
-    pub sends_due : (l' : Link) (s' : StoreValue) (o' : Outside) (outs : ℕ) → SentAsCourse clients n now l l' s s' o o' outs
+    pub sends_due : (l' : Link) (s' : StoreValue) (o' : Outside) (outs : ℕ)
+        → SentAsCourse clients n now l l' s s' o o' outs
         → SendsDue clients first n now links (slice_set links n l') s s' o o' outs
     sends_due l' s' o' outs sent = record {
       has_read = λ heard read i x there.
@@ -232,12 +195,20 @@ module _ (clients : Meaning) (first n : ℕ) (links : List Link) (l : Link) (s :
             facts = s'.state.facts;
           }) (same_heard 0 n (slice_set links n l') heard) in
           subst (λ (q : Place). RunRuns clients terms from q s s' o o') is
-          (link_in_run terms same heard moved still made (Sends now MAX_OUTPUTS) Done l' s' o' (heard n) (cond (nat_lt 0 outs) true moved)
+          (link_in_run clients first n links l s o at numbered terms same heard moved still made (Sends now MAX_OUTPUTS) Done l' s' o' (heard n) (cond (nat_lt 0 outs) true moved)
           (sent.runs (heard n) moved (may_end l.end may)));
     }
 
-    pub sending_broken : (o' : Outside) → SentStops clients n now l s o o' → BreaksSending clients first n now links s o o'
+    pub sending_broken : (o' : Outside) → SentStops clients n now l s o o'
+        → BreaksSending clients first n now links s o o'
     sending_broken o' stopped = record {
       stops = λ terms heard moved still made same.
-          link_broken terms same heard moved still made (Sends now MAX_OUTPUTS) o' (stopped.stops (heard n) moved (may_end l.end may));
+          link_broken clients first n links l s o at numbered terms same heard moved still made (Sends now MAX_OUTPUTS) o' (stopped.stops (heard n) moved (may_end l.end may));
+    }
+
+    pub sending_full : (s' : StoreValue) (o' : Outside) → SentFull clients n now l s s' o o'
+        → FullSending clients first n now links s s' o o'
+    sending_full s' o' full = record {
+      fills = λ terms heard moved still made same.
+          link_limit clients first n links l s o at numbered terms same heard moved still made (Sends now MAX_OUTPUTS) s' o' (full.fills (heard n) moved (may_end l.end may));
     }

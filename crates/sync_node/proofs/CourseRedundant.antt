@@ -1,7 +1,7 @@
 -- Which links a course closes as redundant, by the links of the code.
-use Rattle.std.proofs.Common.{◌≡◌, ◌⊎◌, ℕ, zero, suc, ◌+◌, ◌<◌, ◌≤◌, Bool, true, false, cond, ◌&&◌, ◌||◌, nat_eq, eq-eqb, List, [], ◌∷◌, length, drop, refl, sym, ◌∙◌, ap, subst, arith, Option, None, Some}
+use Rattle.std.proofs.Common.{◌≡◌, ℕ, zero, suc, ◌+◌, ◌<◌, ◌≤◌, Bool, true, false, cond, ◌&&◌, ◌||◌, nat_eq, eq-eqb, List, [], ◌∷◌, length, drop, refl, sym, ◌∙◌, ap, subst, arith, Option, Some}
 use Rattle.std.specs.Cmp.Lexicographic.{lists_agrees, pointwise, slice_cmp, slice_partial_cmp, texts_ties}
-use Rattle.std.specs.Ordering.{eq_by_cmp, is_eq, is_gt, is_some_and, nat_cmp, partial_gt}
+use Rattle.std.specs.Ordering.{is_eq, is_gt, is_some_and, nat_cmp, partial_gt}
 use Rattle.std.specs.declared.cmp.Ordering.{Ordering}
 use Rattle.std.specs.declared.cmp.Ordering.TheVariants as ordering
 use Rattle.std.specs.Prelude.{nat_lt, slice_get, slice_set}
@@ -9,26 +9,27 @@ use Rattle.sync_course.specs.Links as course_links
 use Rattle.sync_course.specs.Links.{beats, is_beaten, is_before, is_going, is_kept, without_redundant}
 use Rattle.sync_course.specs.KeptLaws.{closed_upto, closed_whole, closes_next}
 use Rattle.sync_course.specs.LiftLaws.{set_same}
-use Rattle.sync_course.specs.declared.ends.LinkEnd.TheVariants as stands
 use Rattle.sync_node.specs.declared.link.Link.{Link}
-use Rattle.sync_node.specs.declared.link.LinkEnd.{LinkEnd}
-use Rattle.sync_node.specs.declared.link.LinkEnd.TheVariants as link_end
-use Rattle.sync_node.specs.Courses.{end_of, link_at, links_from, outdoes_of}
-use Rattle.sync_node.specs.CourseRuns.{get_at, length_from}
+use Rattle.sync_course.specs.declared.ends.LinkEnd.{LinkEnd}
+use Rattle.sync_course.specs.declared.ends.LinkEnd.TheVariants as link_end
+use Rattle.sync_node.specs.Courses.{link_at, links_from, outdoes_of}
+use Rattle.sync_node.proofs.CourseRuns.{get_at, length_from}
 
-gt_is : (a b : List ℕ) → partial_gt (slice_partial_cmp (λ x y. Some (nat_cmp x y))) a b ≡ is_gt (slice_cmp nat_cmp a b)
+gt_is : (a b : List ℕ)
+    → partial_gt (slice_partial_cmp (λ x y. Some (nat_cmp x y))) a b ≡ is_gt (slice_cmp nat_cmp a b)
 gt_is a b = ap (is_some_and is_gt) (lists_agrees (λ x y. refl) a b)
 
 eq_is : (a b : List ℕ) → pointwise nat_eq a b ≡ is_eq (slice_cmp nat_cmp a b)
 eq_is a b = texts_ties a b
 
 -- both links are asked, with one contact and known nonces
-pub outdoes_when : (a b : Link) (before : Bool) (theirs own : List ℕ) → a.end ≡ link_end.Going → b.end ≡ link_end.Going
+pub outdoes_when : (a b : Link) (before : Bool) (theirs own : List ℕ) → a.end ≡ link_end.Going
+    → b.end ≡ link_end.Going
     → a.session.contact ≡ b.session.contact → a.nonce ≡ Some theirs → b.nonce ≡ Some own
     → outdoes_of a b before ≡ is_before (slice_cmp nat_cmp theirs own) before
 outdoes_when a b before theirs own first second same one two =
-    ap (λ (e : LinkEnd). is_going (end_of e) && (is_going (end_of b.end) && (nat_eq a.session.contact b.session.contact && kept a.nonce b.nonce))) first
-    ∙ ap (λ (e : LinkEnd). is_going (end_of e) && (nat_eq a.session.contact b.session.contact && kept a.nonce b.nonce)) second
+    ap (λ (e : LinkEnd). is_going e && (is_going b.end && (nat_eq a.session.contact b.session.contact && kept a.nonce b.nonce))) first
+    ∙ ap (λ (e : LinkEnd). is_going e && (nat_eq a.session.contact b.session.contact && kept a.nonce b.nonce)) second
     ∙ ap (λ (t : Bool). t && kept a.nonce b.nonce) (eq-eqb a.session.contact b.session.contact same)
     ∙ ap (λ n. kept n b.nonce) one
     ∙ ap (λ n. kept (Some theirs) n) two
@@ -41,24 +42,30 @@ before_gt ordering.Greater before g is so = so
 before_gt ordering.Equal before g is so = let no_gt : false ≡ true = sym is ∙ so in cc
 before_gt ordering.Less before g is so = let no_gt : false ≡ true = sym is ∙ so in cc
 
-before_eq : (o : Ordering) (before g e : Bool) → g ≡ is_gt o → g ≡ false → before ≡ true → e ≡ is_eq o → e ≡ is_before o before
-before_eq ordering.Greater before g e is not_gt first same = let no_gt : true ≡ false = sym is ∙ not_gt in cc
+before_eq : (o : Ordering) (before g e : Bool) → g ≡ is_gt o → g ≡ false → before ≡ true
+    → e ≡ is_eq o → e ≡ is_before o before
+before_eq ordering.Greater before g e is not_gt first same =
+    let no_gt : true ≡ false = sym is ∙ not_gt in cc
 before_eq ordering.Equal before g e is not_gt first same = same ∙ sym first
 before_eq ordering.Less before g e is not_gt first same = same
 
-before_not : (o : Ordering) (before g : Bool) → g ≡ is_gt o → g ≡ false → before ≡ false → before ≡ is_before o before
-before_not ordering.Greater before g is not_gt later = let no_gt : true ≡ false = sym is ∙ not_gt in cc
+before_not : (o : Ordering) (before g : Bool) → g ≡ is_gt o → g ≡ false → before ≡ false
+    → before ≡ is_before o before
+before_not ordering.Greater before g is not_gt later =
+    let no_gt : true ≡ false = sym is ∙ not_gt in cc
 before_not ordering.Equal before g is not_gt later = refl
 before_not ordering.Less before g is not_gt later = later
 
 module _ (a b : Link) (before g : Bool) (theirs own : List ℕ) (first : a.end ≡ link_end.Going) (second : b.end ≡ link_end.Going)
-    (same : a.session.contact ≡ b.session.contact) (one : a.nonce ≡ Some theirs) (two : b.nonce ≡ Some own)
+    (same : a.session.contact ≡ b.session.contact) (one : a.nonce ≡ Some theirs)
+    (two : b.nonce ≡ Some own)
     (gt : g ≡ partial_gt (slice_partial_cmp (λ x y. Some (nat_cmp x y))) theirs own) where
   pub outdoes_gt : g ≡ true → g ≡ outdoes_of a b before
   outdoes_gt so =
       before_gt (slice_cmp nat_cmp theirs own) before g (gt ∙ gt_is theirs own) so ∙ sym (outdoes_when a b before theirs own first second same one two)
 
-  pub outdoes_eq : (e : Bool) → g ≡ false → before ≡ true → e ≡ pointwise nat_eq theirs own → e ≡ outdoes_of a b before
+  pub outdoes_eq : (e : Bool) → g ≡ false → before ≡ true → e ≡ pointwise nat_eq theirs own
+      → e ≡ outdoes_of a b before
   outdoes_eq e no_gt earlier eq =
       before_eq (slice_cmp nat_cmp theirs own) before g e (gt ∙ gt_is theirs own) no_gt earlier (eq ∙ eq_is theirs own)
       ∙ sym (outdoes_when a b before theirs own first second same one two)
@@ -71,8 +78,10 @@ module _ (a b : Link) (before g : Bool) (theirs own : List ℕ) (first : a.end �
 -- ---- some link of a list is kept rather than one
 
 module _ (k : ℕ) (b : course_links.Link) where
-  pub beaten_step : (j i : ℕ) (links : List course_links.Link) (a : course_links.Link) → slice_get links i ≡ Some a
-      → is_beaten (j + i) (drop i links) k b ≡ (beats (j + i) a k b || is_beaten (suc (j + i)) (drop (suc i) links) k b)
+  pub beaten_step : (j i : ℕ) (links : List course_links.Link) (a : course_links.Link)
+      → slice_get links i ≡ Some a
+      → is_beaten (j + i)
+      (drop i links) k b ≡ (beats (j + i) a k b || is_beaten (suc (j + i)) (drop (suc i) links) k b)
   beaten_step j i [] a at = cc
   beaten_step j zero (x ∷ links) a at =
       let same : x ≡ a = cc in
@@ -82,7 +91,8 @@ module _ (k : ℕ) (b : course_links.Link) where
       subst (λ (n : ℕ). is_beaten n (drop i links) k b ≡ (beats n a k b || is_beaten (suc n) (drop (suc i) links) k b)) later
       (beaten_step (suc j) i links a at)
 
-  pub beaten_end : (j i : ℕ) (links : List course_links.Link) → length links ≤ i → is_beaten j (drop i links) k b ≡ false
+  pub beaten_end : (j i : ℕ) (links : List course_links.Link) → length links ≤ i
+      → is_beaten j (drop i links) k b ≡ false
   beaten_end j zero [] past = refl
   beaten_end j (suc i) [] past = refl
   beaten_end j zero (x ∷ links) past = absurd (omega (arith, past))
@@ -97,7 +107,8 @@ pub record NoneSoFar (links : List Link) (place i : ℕ) : Type 0 where
 pub none_yet : (links : List Link) (place : ℕ) → NoneSoFar links place 0
 none_yet links place = record { rest = λ heard l at. refl }
 
-one_more_of : (links : List Link) (place i : ℕ) (a : Link) → slice_get links i ≡ Some a → NoneSoFar links place i → (heard : ℕ → List ℕ) (l : Link)
+one_more_of : (links : List Link) (place i : ℕ) (a : Link) → slice_get links i ≡ Some a
+    → NoneSoFar links place i → (heard : ℕ → List ℕ) (l : Link)
     → slice_get links place ≡ Some l
     → is_beaten 0 (links_from 0 links heard) place (link_at l (heard place))
     ≡ (outdoes_of a l (nat_lt i place) || is_beaten (suc i) (drop (suc i) (links_from 0 links heard)) place (link_at l (heard place)))
@@ -112,8 +123,10 @@ one_more_of links place i a at so heard l here =
     (beaten_step place (link_at l (heard place)) 0 i (links_from 0 links heard) (link_at a (heard i)) found)
 
 -- this one was
-pub some_beats : (links : List Link) (place i : ℕ) (a l0 : Link) (r : Bool) → slice_get links i ≡ Some a → slice_get links place ≡ Some l0
-    → r ≡ outdoes_of a l0 (nat_lt i place) → r ≡ true → NoneSoFar links place i → (heard : ℕ → List ℕ) (l : Link) → slice_get links place ≡ Some l
+pub some_beats : (links : List Link) (place i : ℕ) (a l0 : Link) (r : Bool)
+    → slice_get links i ≡ Some a → slice_get links place ≡ Some l0
+    → r ≡ outdoes_of a l0 (nat_lt i place) → r ≡ true → NoneSoFar links place i
+    → (heard : ℕ → List ℕ) (l : Link) → slice_get links place ≡ Some l
     → true ≡ is_beaten 0 (links_from 0 links heard) place (link_at l (heard place))
 some_beats links place i a l0 r at here is so before heard l at_l =
     let both : Some l0 ≡ Some l = sym here ∙ at_l in
@@ -123,8 +136,10 @@ some_beats links place i a l0 r at here is so before heard l at_l =
     ∙ ap (λ (t : Bool). t || is_beaten (suc i) (drop (suc i) (links_from 0 links heard)) place (link_at l (heard place))) first)
 
 -- this one was not
-pub one_more : (links : List Link) (place i k : ℕ) (a l0 : Link) (r : Bool) → slice_get links i ≡ Some a → slice_get links place ≡ Some l0
-    → r ≡ outdoes_of a l0 (nat_lt i place) → r ≡ false → k ≡ i + 1 → NoneSoFar links place i → NoneSoFar links place k
+pub one_more : (links : List Link) (place i k : ℕ) (a l0 : Link) (r : Bool)
+    → slice_get links i ≡ Some a → slice_get links place ≡ Some l0
+    → r ≡ outdoes_of a l0 (nat_lt i place) → r ≡ false → k ≡ i + 1 → NoneSoFar links place i
+    → NoneSoFar links place k
 one_more links place i k a l0 r at here is so next before =
     let suc_is : suc i ≡ k = omega (arith, next) in
     subst (NoneSoFar links place) suc_is (record {
@@ -137,7 +152,8 @@ one_more links place i k a l0 r at here is so next before =
     })
 
 -- none was
-pub none_at_all : (links : List Link) (place i : ℕ) → length links ≤ i → NoneSoFar links place i → (heard : ℕ → List ℕ) (l : Link) → slice_get links place ≡ Some l
+pub none_at_all : (links : List Link) (place i : ℕ) → length links ≤ i → NoneSoFar links place i
+    → (heard : ℕ → List ℕ) (l : Link) → slice_get links place ≡ Some l
     → false ≡ is_beaten 0 (links_from 0 links heard) place (link_at l (heard place))
 none_at_all links place i past so heard l at =
     let len : length (links_from 0 links heard) ≡ length links = length_from 0 links heard in
@@ -145,7 +161,8 @@ none_at_all links place i past so heard l at =
 
 -- ---- closing one after the other
 
-rest_of : (all : List course_links.Link) (k m : ℕ) (links : List course_links.Link) → slice_get (closed_upto all k m links) m ≡ slice_get links m
+rest_of : (all : List course_links.Link) (k m : ℕ) (links : List course_links.Link)
+    → slice_get (closed_upto all k m links) m ≡ slice_get links m
 rest_of all k zero links = refl
 rest_of all k (suc m) [] = refl
 rest_of all k (suc m) (x ∷ links) = rest_of all (suc k) m links
@@ -163,7 +180,8 @@ set_there k (suc n) (x ∷ links) heard l' =
 
 -- the first links, so many, are closed as a course has it
 pub record ClosedSo (old links : List Link) (m : ℕ) : Type 0 where
-  pub closed : (heard : ℕ → List ℕ) → links_from 0 links heard ≡ closed_upto (links_from 0 old heard) 0 m (links_from 0 old heard)
+  pub closed : (heard : ℕ → List ℕ)
+      → links_from 0 links heard ≡ closed_upto (links_from 0 old heard) 0 m (links_from 0 old heard)
 
 pub closed_none : (old : List Link) → ClosedSo old old 0
 closed_none old = record { closed = λ heard. refl }
@@ -173,7 +191,7 @@ module _ (old links : List Link) (m : ℕ) (l : Link) (at : slice_get links m �
     (before : ClosedSo old links m) where
   next_closed : (heard : ℕ → List ℕ)
       → closed_upto (links_from 0 old heard) 0 (suc m) (links_from 0 old heard)
-      ≡ slice_set (links_from 0 links heard) m (record (link_at l (heard m)) { stands = cond r stands.Redundant (end_of l.end) })
+      ≡ slice_set (links_from 0 links heard) m (record (link_at l (heard m)) { stands = cond r link_end.Redundant l.end })
   next_closed heard =
       let whole : List course_links.Link = links_from 0 old heard in
       let now : List course_links.Link = links_from 0 links heard in
@@ -183,8 +201,8 @@ module _ (old links : List Link) (m : ℕ) (l : Link) (at : slice_get links m �
       let in_old : slice_get whole m ≡ Some b =
       sym (rest_of whole 0 m whole) ∙ ap (λ (ls : List course_links.Link). slice_get ls m) (sym (before.closed heard)) ∙ found in
       closes_next whole m b in_old
-      ∙ ap (λ (ls : List course_links.Link). slice_set ls m (record b { stands = cond (is_beaten 0 ls m b) stands.Redundant b.stands })) (sym (before.closed heard))
-      ∙ ap (λ (t : Bool). slice_set now m (record b { stands = cond t stands.Redundant b.stands })) (sym (exact heard l at))
+      ∙ ap (λ (ls : List course_links.Link). slice_set ls m (record b { stands = cond (is_beaten 0 ls m b) link_end.Redundant b.stands })) (sym (before.closed heard))
+      ∙ ap (λ (t : Bool). slice_set now m (record b { stands = cond t link_end.Redundant b.stands })) (sym (exact heard l at))
 
   pub closes_it : r ≡ true → (k : ℕ) → k ≡ m + 1 → ClosedSo old (slice_set links m (record l { end = link_end.Redundant })) k
   closes_it so k next =
@@ -193,7 +211,7 @@ module _ (old links : List Link) (m : ℕ) (l : Link) (at : slice_get links m �
         closed = λ heard.
             let plain : m ≡ 0 + m = omega arith in
             sym (next_closed heard
-            ∙ ap (λ (t : Bool). slice_set (links_from 0 links heard) m (record (link_at l (heard m)) { stands = cond t stands.Redundant (end_of l.end) })) so
+            ∙ ap (λ (t : Bool). slice_set (links_from 0 links heard) m (record (link_at l (heard m)) { stands = cond t link_end.Redundant l.end })) so
             ∙ ap (λ (j : ℕ). slice_set (links_from 0 links heard) m (link_at (record l { end = link_end.Redundant }) (heard j))) plain
             ∙ set_there 0 m links heard (record l { end = link_end.Redundant }));
       })
@@ -207,16 +225,18 @@ module _ (old links : List Link) (m : ℕ) (l : Link) (at : slice_get links m �
             let found : slice_get (links_from 0 links heard) m ≡ Some (link_at l (heard m)) =
             get_at 0 m links heard l at ∙ ap (λ (j : ℕ). Some (link_at l (heard j))) plain in
             sym (next_closed heard
-            ∙ ap (λ (t : Bool). slice_set (links_from 0 links heard) m (record (link_at l (heard m)) { stands = cond t stands.Redundant (end_of l.end) })) so
+            ∙ ap (λ (t : Bool). slice_set (links_from 0 links heard) m (record (link_at l (heard m)) { stands = cond t link_end.Redundant l.end })) so
             ∙ set_same (links_from 0 links heard) m (link_at l (heard m)) found);
       })
 
-pub get_there : (links : List Link) (i : ℕ) → i < length links → (l : Link) × (slice_get links i ≡ Some l)
+pub get_there : (links : List Link) (i : ℕ) → i < length links
+    → (l : Link) × (slice_get links i ≡ Some l)
 get_there [] i less = absurd (omega (arith, less))
 get_there (x ∷ links) zero less = (x, refl)
 get_there (x ∷ links) (suc i) less = get_there links i (omega (arith, less))
 
-pub closed_all : (old links : List Link) (m : ℕ) → m ≡ length old → ClosedSo old links m → (heard : ℕ → List ℕ)
+pub closed_all : (old links : List Link) (m : ℕ) → m ≡ length old → ClosedSo old links m
+    → (heard : ℕ → List ℕ)
     → links_from 0 links heard ≡ without_redundant (links_from 0 old heard)
 closed_all old links m all so heard =
     let whole : List course_links.Link = links_from 0 old heard in

@@ -1,13 +1,11 @@
 -- A link's turn as a course has it: hearing, sending, and both.
-use Rattle.std.proofs.Common.{◌≡◌, ◌⊎◌, ℕ, zero, suc, ◌+◌, ◌<◌, ◌≤◌, Bool, true, false, cond, nat_eq, List, [], ◌∷◌, ◌++◌, length, take, append-nil, refl, sym, ◌∙◌, ap, subst, inl, inr, arith, Option, None, Some, Result, Ok, Err}
+use Rattle.std.proofs.Common.{◌≡◌, ◌⊎◌, ℕ, zero, suc, ◌+◌, ◌<◌, ◌≤◌, Bool, true, false, cond, nat_eq, List, [], ◌∷◌, ◌++◌, length, take, refl, sym, ◌∙◌, ap, subst, inl, inr, arith, Option, None, Some, Result, Ok, Err}
 use Rattle.std.specs.Prelude.{IfOk, nat_lt}
 use Rattle.std.proofs.lemmas.Bool.{false≢true, lt-ltb, ne_eqb}
 use Rattle.outside.specs.declared.failed.Failed.{Failed}
 use Rattle.outside.specs.declared.host.Heard.TheVariants as heard_kind
-use Rattle.outside.specs.Files.{Two, File}
 use Rattle.outside.specs.Host.{Hears, IsCaused, ReadsClock, Sends as SendsBytes}
-use Rattle.outside.specs.Links.{got, idle, ended}
-use Rattle.outside.specs.Outside.{LinkCall, Outside, Moment}
+use Rattle.outside.specs.Outside.{Outside}
 use Rattle.record_grammar.specs.Stream.{ending}
 use Rattle.record_grammar.specs.declared.stream.Ending.{Ending}
 use Rattle.record_grammar.specs.declared.stream.Ending.TheVariants as ending_kind
@@ -19,38 +17,42 @@ use Rattle.sync_rules.specs.declared.entries.Out.{Out}
 use Rattle.sync_rules.specs.declared.entries.Session.{Session}
 use Rattle.sync_rules.specs.Clients.{Meaning}
 use Rattle.sync_rules.specs.Facts.{Facts, after_all, session_at}
-use Rattle.sync_rules.specs.Legal.{Allowed, IsDue}
+use Rattle.sync_rules.specs.Legal.{Allowed}
 use Rattle.journal_state.specs.Allowing.{due_of}
 use Rattle.sync_store.specs.Store.{StoreValue}
 use Rattle.sync_course.specs.declared.TheConstants.{MAX_OUTPUTS, PIECE_LEN}
-use Rattle.sync_course.specs.declared.ends.LinkEnd.TheVariants as stands
 use Rattle.sync_course.specs.CallLaws.{breaks_out, runs_asked, runs_broken, runs_closed, runs_none, runs_out, runs_put, runs_read, runs_sent, runs_unasked}
 use Rattle.sync_course.specs.Links.{is_going, is_sent_to, new_items, stands_ended}
-use Rattle.sync_course.specs.LinkTurns.{Asks, Doing, Done, IsEnough, IsNothingDue, LinkStep, Puts, Sends, Spot, Takes, Waits, failed_spot, heard_spot, out_batch, out_spot}
+use Rattle.sync_course.specs.LinkTurns.{Asks, Doing, Done, IsEnough, IsNothingDue, LinkStep, Puts, Sends, Spot, Takes, Waits, out_batch, out_spot}
 use Rattle.sync_course.specs.ReadingLaws.{HasRead, IsReading, ends_as, piece_comes}
 use Rattle.sync_course.specs.ToldLaws.{breaks_then, runs_then}
 use Rattle.sync_node.specs.declared.link.Link.{Link}
-use Rattle.sync_node.specs.declared.link.LinkEnd.{LinkEnd}
-use Rattle.sync_node.specs.declared.link.LinkEnd.TheVariants as link_end
-use Rattle.sync_node.specs.Ends.{MaySend, ended_by}
+use Rattle.sync_course.specs.declared.ends.LinkEnd.{LinkEnd}
+use Rattle.sync_course.specs.declared.ends.LinkEnd.TheVariants as link_end
+use Rattle.sync_node.specs.Ends.{MaySend}
 use Rattle.sync_node.specs.Sending.{EndsBy, SendsOn}
 use Rattle.sync_node.specs.CourseLaws.{fits_on}
-use Rattle.sync_node.specs.Courses.{Adds, AddsSome, FitsWith, GoesOnSending, HearsAsCourse, HearsStops, HearsTo, IsRead, IsReadyToSend, LinkBreaks, LinkRuns, NextStops, OutsAsCourse, OutsTo, PieceTaken, PutsAsCourse, PutsStop, PutsTo, ReadsAs, SendsAsCourse, SendsStop, SentAsCourse, SentStops, TurnAsCourse, TurnTo, end_of, link_at, spot_at}
+use Rattle.sync_node.proofs.CourseTakes.{full_here, full_then}
+use Rattle.sync_node.specs.Fulls.{HearsFull, IsOver, LinkFull, NextFull, PutsFull, SendsFull, SentFull}
+use Rattle.sync_node.specs.Courses.{Adds, AddsSome, FitsWith, GoesOnSending, HearsAsCourse, HearsStops, IsRead, IsReadyToSend, LinkBreaks, LinkRuns, NextStops, OutsAsCourse, OutsTo, PieceTaken, PutsAsCourse, PutsStop, ReadsAs, SendsAsCourse, SendsStop, SentAsCourse, SentStops, TurnAsCourse, link_at, spot_at}
 
 -- ---- one after the other
 
 module _ (clients : Meaning) (n number : ℕ) where
-  pub joins : (s s1 s' : StoreValue) (o o1 o' : Outside) (p q r : Spot) → LinkRuns clients n number p q s s1 o o1
+  pub joins : (s s1 s' : StoreValue) (o o1 o' : Outside) (p q r : Spot)
+      → LinkRuns clients n number p q s s1 o o1
       → LinkRuns clients n number q r s1 s' o1 o' → LinkRuns clients n number p r s s' o o'
   joins s s1 s' o o1 o' p q r first second =
       runs_then (LinkStep clients n number) (FitsWith clients s o.files) (FitsWith clients s1 o1.files) (FitsWith clients s' o'.files) p q r o o1 o' first second
 
-  pub stops_behind : (s s1 : StoreValue) (o o1 o' : Outside) (p q : Spot) → LinkRuns clients n number p q s s1 o o1
+  pub stops_behind : (s s1 : StoreValue) (o o1 o' : Outside) (p q : Spot)
+      → LinkRuns clients n number p q s s1 o o1
       → LinkBreaks clients n number q s1 o1 o' → LinkBreaks clients n number p s o o'
   stops_behind s s1 o o1 o' p q first second =
       breaks_then (LinkStep clients n number) (FitsWith clients s o.files) (FitsWith clients s1 o1.files) (ReadsAs clients o'.files) p q o o1 o' first second
 
-  pub stays_there : (s : StoreValue) (o : Outside) (p : Spot) → LinkRuns clients n number p p s s o o
+  pub stays_there : (s : StoreValue) (o : Outside) (p : Spot)
+      → LinkRuns clients n number p p s s o o
   stays_there s o p = runs_none (LinkStep clients n number) (FitsWith clients s o.files) (FitsWith clients s o.files) (λ j fit. fit) p o
 
   pub stops_there : (s : StoreValue) (o : Outside) (p : Spot) → LinkBreaks clients n number p s o o
@@ -61,19 +63,21 @@ module _ (clients : Meaning) (n number : ℕ) where
         (λ j fit. (fit.0, fit.1, fit.2.stands_for)) p o;
   }
 
-pub if_ok_then : {T E : Type 0} (r : Result T E) (P Q : T → Type 0) → ((x : T) → P x → Q x) → IfOk r P → IfOk r Q
+pub if_ok_then : {T E : Type 0} (r : Result T E) (P Q : T → Type 0) → ((x : T) → P x → Q x)
+    → IfOk r P → IfOk r Q
 if_ok_then (Ok x) P Q then p = then x p
 if_ok_then (Err e) P Q then p = tt
 
 -- ---- hearing
 
-going_end : (e : LinkEnd) → e ≡ link_end.Going → is_going (end_of e) ≡ true
-going_end e going = ap (λ x. is_going (end_of x)) going
+going_end : (e : LinkEnd) → e ≡ link_end.Going → is_going e ≡ true
+going_end e going = ap (λ x. is_going x) going
 
 module _ (clients : Meaning) (n : ℕ) (l : Link) (s : StoreValue) (o o1 : Outside) (buf : List ℕ) (whole : length buf ≡ PIECE_LEN)
     (going : l.end ≡ link_end.Going) (same_files : o1.files ≡ o.files) where
   -- nothing came for now
-  pub hears_idle : Hears n heard_kind.Idle buf o.links o1.links → IsCaused heard_kind.Idle (length buf) (o.links.faults n) (o1.links.faults n)
+  pub hears_idle : Hears n heard_kind.Idle buf o.links o1.links
+      → IsCaused heard_kind.Idle (length buf) (o.links.faults n) (o1.links.faults n)
       → HearsAsCourse clients n l l s s o o1 true
   hears_idle hears caused = record {
     leads = λ heard moved read. record {
@@ -88,7 +92,8 @@ module _ (clients : Meaning) (n : ℕ) (l : Link) (s : StoreValue) (o o1 : Outsi
   }
 
   -- the call failed
-  pub hears_failed : Hears n heard_kind.Failed buf o.links o1.links → IsCaused heard_kind.Failed (length buf) (o.links.faults n) (o1.links.faults n)
+  pub hears_failed : Hears n heard_kind.Failed buf o.links o1.links
+      → IsCaused heard_kind.Failed (length buf) (o.links.faults n) (o1.links.faults n)
       → HearsAsCourse clients n l (record l { end = link_end.Failed }) s s o o1 false
   hears_failed hears caused = record {
     leads = λ heard moved read. record {
@@ -102,26 +107,21 @@ module _ (clients : Meaning) (n : ℕ) (l : Link) (s : StoreValue) (o o1 : Outsi
     };
   }
 
-  ended_same : (e : Ending) → stands_ended e ≡ end_of (ended_by e)
-  ended_same ending_kind.Clean = refl
-  ended_same (ending_kind.Inside place) = refl
-  ended_same (ending_kind.Bad place why) = refl
-
-  ended_not : (e : Ending) → ended_by e ≡ link_end.Going → ⊥
+  ended_not : (e : Ending) → stands_ended e ≡ link_end.Going → ⊥
   ended_not ending_kind.Clean is = cc
   ended_not (ending_kind.Inside place) is = cc
   ended_not (ending_kind.Bad place why) is = cc
 
   -- the other side ended
-  pub hears_ended : (end : LinkEnd) → end ≡ ended_by (ending l.reader.place l.reader.bytes) → Hears n heard_kind.End buf o.links o1.links
+  pub hears_ended : (end : LinkEnd) → end ≡ stands_ended (ending l.reader.place l.reader.bytes)
+      → Hears n heard_kind.End buf o.links o1.links
       → IsCaused heard_kind.End (length buf) (o.links.faults n) (o1.links.faults n)
       → HearsAsCourse clients n l (record l { end = end }) s s o o1 false
   hears_ended end is hears caused = record {
     leads = λ heard moved read.
-        let stood : stands_ended (ending 0 heard) ≡ end_of end =
+        let stood : stands_ended (ending 0 heard) ≡ end =
         ap stands_ended (ends_as heard l.reader (read going))
-        ∙ ended_same (ending l.reader.place l.reader.bytes)
-        ∙ ap end_of (sym is) in
+        ∙ sym is in
         record {
           heard' = heard;
           doing = Waits;
@@ -135,7 +135,8 @@ module _ (clients : Meaning) (n : ℕ) (l : Link) (s : StoreValue) (o o1 : Outsi
         };
   }
 
-  heard_piece : (count : ℕ) (heard : List ℕ) (moved : Bool) → Hears n (heard_kind.Got count) buf o.links o1.links
+  heard_piece : (count : ℕ) (heard : List ℕ) (moved : Bool)
+      → Hears n (heard_kind.Got count) buf o.links o1.links
       → IsCaused (heard_kind.Got count) (length buf) (o.links.faults n) (o1.links.faults n)
       → LinkRuns clients n l.session.number (spot_at Asks l heard moved s.state.facts)
       (spot_at (Takes (new_items heard (take count buf))) l (heard ++ take count buf) true s.state.facts) s s o o1
@@ -144,9 +145,11 @@ module _ (clients : Meaning) (n : ℕ) (l : Link) (s : StoreValue) (o o1 : Outsi
       (spot_at Asks l heard moved s.state.facts) o o1 refl (going_end l.end going) whole hears caused (fits_on clients s o o1 same_files)
 
   -- bytes came, and were taken
-  pub hears_piece : ReadingsWiden → (count : ℕ) (l' : Link) (s' : StoreValue) (o' : Outside) → Hears n (heard_kind.Got count) buf o.links o1.links
+  pub hears_piece : ReadingsWiden → (count : ℕ) (l' : Link) (s' : StoreValue) (o' : Outside)
+      → Hears n (heard_kind.Got count) buf o.links o1.links
       → IsCaused (heard_kind.Got count) (length buf) (o.links.faults n) (o1.links.faults n)
-      → PieceTaken clients n (take count buf) l l' s s' o1 o' → HearsAsCourse clients n l l' s s' o o' false
+      → PieceTaken clients n (take count buf) l l' s s' o1 o'
+      → HearsAsCourse clients n l l' s s' o o' false
   hears_piece widen count l' s' o' hears caused taken = record {
     leads = λ heard moved read.
         let bytes : List ℕ = take count buf in
@@ -164,7 +167,8 @@ module _ (clients : Meaning) (n : ℕ) (l : Link) (s : StoreValue) (o o1 : Outsi
         };
   }
 
-  pub hears_stops : ReadingsWiden → (count : ℕ) (o' : Outside) → Hears n (heard_kind.Got count) buf o.links o1.links
+  pub hears_stops : ReadingsWiden → (count : ℕ) (o' : Outside)
+      → Hears n (heard_kind.Got count) buf o.links o1.links
       → IsCaused (heard_kind.Got count) (length buf) (o.links.faults n) (o1.links.faults n)
       → NextStops clients n (take count buf) l s o1 o' → HearsStops clients n l s o o'
   hears_stops widen count o' hears caused stopped = record {
@@ -177,7 +181,21 @@ module _ (clients : Meaning) (n : ℕ) (l : Link) (s : StoreValue) (o o1 : Outsi
         (stopped.stops (heard ++ bytes) its true reading);
   }
 
-not_going_end : (e : LinkEnd) → (e ≡ link_end.Going → ⊥) → is_going (end_of e) ≡ false
+  pub hears_full : ReadingsWiden → (count : ℕ) (s' : StoreValue) (o' : Outside)
+      → Hears n (heard_kind.Got count) buf o.links o1.links
+      → IsCaused (heard_kind.Got count) (length buf) (o.links.faults n) (o1.links.faults n)
+      → NextFull clients n (take count buf) l s s' o1 o' → HearsFull clients n l s s' o o'
+  hears_full widen count s' o' hears caused full = record {
+    fills = λ heard moved read.
+        let bytes : List ℕ = take count buf in
+        let its : List Item = new_items heard bytes in
+        let reading : IsReading (heard ++ bytes) bytes l.reader its = piece_comes widen heard bytes l.reader (read going) in
+        full_then clients (LinkStep clients n l.session.number) (spot_at Asks l heard moved s.state.facts)
+        (spot_at (Takes its) l (heard ++ bytes) true s.state.facts) s s s' o o1 o' (heard_piece count heard moved hears caused)
+        (full.fills (heard ++ bytes) its true reading);
+  }
+
+not_going_end : (e : LinkEnd) → (e ≡ link_end.Going → ⊥) → is_going e ≡ false
 not_going_end link_end.Going closed = absurd (closed refl)
 not_going_end link_end.Clean closed = refl
 not_going_end link_end.Redundant closed = refl
@@ -187,7 +205,8 @@ not_going_end (link_end.NoVersion place) closed = refl
 not_going_end link_end.Failed closed = refl
 
 -- a link that is not asked
-pub hears_nothing : (clients : Meaning) (n : ℕ) (l : Link) (s : StoreValue) (o : Outside) → (l.end ≡ link_end.Going → ⊥) → HearsAsCourse clients n l l s s o o true
+pub hears_nothing : (clients : Meaning) (n : ℕ) (l : Link) (s : StoreValue) (o : Outside)
+    → (l.end ≡ link_end.Going → ⊥) → HearsAsCourse clients n l l s s o o true
 hears_nothing clients n l s o closed = record {
   leads = λ heard moved read. record {
     heard' = heard;
@@ -202,7 +221,7 @@ hears_nothing clients n l s o closed = record {
 
 -- ---- sending
 
-pub may_end : (e : LinkEnd) → MaySend e → is_sent_to (end_of e) ≡ true
+pub may_end : (e : LinkEnd) → MaySend e → is_sent_to e ≡ true
 may_end link_end.Going may = refl
 may_end link_end.Clean may = refl
 may_end link_end.Redundant may = absurd may
@@ -211,7 +230,7 @@ may_end (link_end.Bad place why) may = absurd may
 may_end (link_end.NoVersion place) may = absurd may
 may_end link_end.Failed may = absurd may
 
-pub may_not_end : (e : LinkEnd) → (MaySend e → ⊥) → is_sent_to (end_of e) ≡ false
+pub may_not_end : (e : LinkEnd) → (MaySend e → ⊥) → is_sent_to e ≡ false
 may_not_end link_end.Going may = absurd (may tt)
 may_not_end link_end.Clean may = absurd (may tt)
 may_not_end link_end.Redundant may = refl
@@ -223,7 +242,8 @@ may_not_end link_end.Failed may = refl
 module _ (clients : Meaning) (n now : ℕ) (what : Out) (l : Link) (s : StoreValue) (o : Outside) (batch : List Entry)
     (is : batch ≡ entry.Out l.session.number now what ∷ [])
     (allowed : Allowed clients s.state.facts (entry.Out l.session.number now what ∷ [])) where
-  committed_out : (s1 : StoreValue) (o1 : Outside) → s1.state.facts ≡ after_all s.state.facts batch → Adds clients (batch ∷ []) s s1 o o1
+  committed_out : (s1 : StoreValue) (o1 : Outside) → s1.state.facts ≡ after_all s.state.facts batch
+      → Adds clients (batch ∷ []) s s1 o o1
       → (heard : List ℕ) (moved : Bool) (room : ℕ)
       → LinkRuns clients n l.session.number (spot_at (Sends now (suc room)) l heard moved s.state.facts)
       (spot_at (Puts now room) l heard true s1.state.facts) s s1 o o1
@@ -235,32 +255,37 @@ module _ (clients : Meaning) (n now : ℕ) (what : Out) (l : Link) (s : StoreVal
       (spot_at (Sends now (suc room)) l heard moved s.state.facts) o o1 refl allowed.2 allowed adds.same_links
       (λ j fit. subst (λ (x : List Entry). FitsWith clients s1 o1.files (j ++ x ∷ [])) is (adds.grows j fit)))
 
-  sent_on_link : (s1 : StoreValue) (o1 o' : Outside) (l' : Link) (bytes : List ℕ) (result : Result (Unit {0}) Failed) → o'.files ≡ o1.files
-      → SendsBytes n bytes result o1.links o'.links → EndsBy result l l' → is_sent_to (end_of l.end) ≡ true → (heard : List ℕ) (room : ℕ)
+  sent_on_link : (s1 : StoreValue) (o1 o' : Outside) (l' : Link) (bytes : List ℕ)
+      (result : Result (Unit {0}) Failed) → o'.files ≡ o1.files
+      → SendsBytes n bytes result o1.links o'.links → EndsBy result l l' → is_sent_to l.end ≡ true
+      → (heard : List ℕ) (room : ℕ)
       → (doing : Doing) × GoesOnSending now room doing l'
       × LinkRuns clients n l.session.number (spot_at (Puts now room) l heard true s1.state.facts) (spot_at doing l' heard true s1.state.facts) s1 s1 o1 o'
   sent_on_link s1 o1 o' l' bytes (Ok u) same_files sends ends open_is heard room = (
     Sends now room,
-    inl (refl, ap (λ x. is_sent_to (end_of x.end)) ends ∙ open_is),
+    inl (refl, ap (λ x. is_sent_to x.end) ends ∙ open_is),
     subst (λ x. LinkRuns clients n l.session.number (spot_at (Puts now room) l heard true s1.state.facts) (spot_at (Sends now room) x heard true s1.state.facts) s1 s1 o1 o') (sym ends)
         (runs_put clients n l.session.number (FitsWith clients s1 o1.files) (FitsWith clients s1 o'.files) now room bytes
         (spot_at (Puts now room) l heard true s1.state.facts) o1 o' refl sends (fits_on clients s1 o1 o' same_files)),
   )
   sent_on_link s1 o1 o' l' bytes (Err why) same_files sends ends open_is heard room = (
     Done,
-    inr (refl, ap (λ x. is_sent_to (end_of x.end)) ends),
+    inr (refl, ap (λ x. is_sent_to x.end) ends),
     subst (λ x. LinkRuns clients n l.session.number (spot_at (Puts now room) l heard true s1.state.facts) (spot_at Done x heard true s1.state.facts) s1 s1 o1 o') (sym ends)
         (runs_broken clients n l.session.number (FitsWith clients s1 o1.files) (FitsWith clients s1 o'.files) now room bytes why
         (spot_at (Puts now room) l heard true s1.state.facts) o1 o' refl sends (fits_on clients s1 o1 o' same_files)),
   )
 
   same_of : (l' : Link) (result : Result (Unit {0}) Failed) → EndsBy result l l'
-      → (l'.reader ≡ l.reader) × (l'.session ≡ l.session) × ((l'.end ≡ l.end) ⊎ (l'.end ≡ link_end.Failed))
+      → (l'.reader ≡ l.reader) × (l'.session ≡ l.session)
+      × ((l'.end ≡ l.end) ⊎ (l'.end ≡ link_end.Failed))
   same_of l' (Ok u) ends = (ap (λ x. x.reader) ends, ap (λ x. x.session) ends, inl (ap (λ x. x.end) ends))
   same_of l' (Err why) ends = (ap (λ x. x.reader) ends, ap (λ x. x.session) ends, inr (ap (λ x. x.end) ends))
 
-  pub puts_course : (s1 : StoreValue) (o1 o' : Outside) (l' : Link) (bytes : List ℕ) → s1.state.facts ≡ after_all s.state.facts batch
-      → Adds clients (batch ∷ []) s s1 o o1 → SendsOn n bytes l l' o1 o' → PutsAsCourse clients n now l l' s s1 o o'
+  pub puts_course : (s1 : StoreValue) (o1 o' : Outside) (l' : Link) (bytes : List ℕ)
+      → s1.state.facts ≡ after_all s.state.facts batch
+      → Adds clients (batch ∷ []) s s1 o o1 → SendsOn n bytes l l' o1 o'
+      → PutsAsCourse clients n now l l' s s1 o o'
   puts_course s1 o1 o' l' bytes facts_are adds sends = record {
     leads = λ heard moved room open_is.
         let second = sent_on_link s1 o1 o' l' bytes sends.result sends.call.same_files sends.sends sends.ends open_is heard room in
@@ -277,7 +302,8 @@ module _ (clients : Meaning) (n now : ℕ) (what : Out) (l : Link) (s : StoreVal
     end = (same_of l' sends.result sends.ends).2;
   }
 
-  pub puts_stops : (o' : Outside) → AddsSome clients (batch ∷ []) s o o' → PutsStop clients n now l s o o'
+  pub puts_stops : (o' : Outside) → AddsSome clients (batch ∷ []) s o o'
+      → PutsStop clients n now l s o o'
   puts_stops o' adds = record {
     stops = λ heard moved room.
         breaks_out clients n l.session.number (FitsWith clients s o.files) (ReadsAs clients o'.files) adds.stood.front adds.stood.others adds.stood.reads now
@@ -285,12 +311,25 @@ module _ (clients : Meaning) (n now : ℕ) (what : Out) (l : Link) (s : StoreVal
         (ap (λ (x : List Entry). x ∷ []) (sym is) ∙ adds.stood.parts);
   }
 
-pub puts_stops_there : (clients : Meaning) (n now : ℕ) (l : Link) (s : StoreValue) (o : Outside) → PutsStop clients n now l s o o
+  pub puts_full : (s' : StoreValue) (o' : Outside) → IsOver clients batch s s' o o'
+      → PutsFull clients n now l s s' o o'
+  puts_full s' o' over = record {
+    fills = λ heard moved room.
+        let p : Spot = spot_at (Sends now (suc room)) l heard moved s.state.facts in
+        let b : List Entry = out_batch l.session.number now what in
+        full_here clients (LinkStep clients n l.session.number) p (out_spot now room b p) b s s' o o'
+        (record { what = what; is = refl; is_due = allowed.2; allowed = allowed; leads = refl })
+        (subst (λ (x : List Entry). IsOver clients x s s' o o') is over);
+  }
+
+pub puts_stops_there : (clients : Meaning) (n now : ℕ) (l : Link) (s : StoreValue) (o : Outside)
+    → PutsStop clients n now l s o o
 puts_stops_there clients n now l s o = record { stops = λ heard moved room. stops_there clients n l.session.number s o _ }
 
 -- ---- a list of outputs
 
-pub outs_none : (clients : Meaning) (n now : ℕ) (l : Link) (s : StoreValue) (o : Outside) → OutsAsCourse clients n now 0 l l s s o o
+pub outs_none : (clients : Meaning) (n now : ℕ) (l : Link) (s : StoreValue) (o : Outside)
+    → OutsAsCourse clients n now 0 l l s s o o
 outs_none clients n now l s o = record {
   leads = λ heard moved open_is. record {
     room = MAX_OUTPUTS;
@@ -304,7 +343,8 @@ outs_none clients n now l s o = record {
   end = inl refl;
 }
 
-end_then : (a b c : LinkEnd) → (b ≡ a) ⊎ (b ≡ link_end.Failed) → (c ≡ b) ⊎ (c ≡ link_end.Failed) → (c ≡ a) ⊎ (c ≡ link_end.Failed)
+end_then : (a b c : LinkEnd) → (b ≡ a) ⊎ (b ≡ link_end.Failed) → (c ≡ b) ⊎ (c ≡ link_end.Failed)
+    → (c ≡ a) ⊎ (c ≡ link_end.Failed)
 end_then a b c first second =
     elim second [
       | inl same ↦ elim first [ inl was ↦ inl (same ∙ was) | inr was ↦ inr (same ∙ was) ]
@@ -312,7 +352,8 @@ end_then a b c first second =
     ]
 
 -- what goes on sends, unless the link is closed
-sends_yet : {A : Type 0} → (now room : ℕ) (doing : Doing) (l : Link) → GoesOnSending now room doing l → is_sent_to (end_of l.end) ≡ true
+sends_yet : {A : Type 0} → (now room : ℕ) (doing : Doing) (l : Link)
+    → GoesOnSending now room doing l → is_sent_to l.end ≡ true
     → ((doing ≡ Sends now room) → A) → A
 sends_yet now room doing l goes open_is then =
     elim goes [
@@ -321,8 +362,10 @@ sends_yet now room doing l goes open_is then =
     ]
 
 module _ (clients : Meaning) (n now made : ℕ) (l m : Link) (s s1 : StoreValue) (o o1 : Outside) (a : OutsAsCourse clients n now made l m s s1 o o1)
-    (open_is : is_sent_to (end_of m.end) ≡ true) where
-  came : (heard : List ℕ) (moved : Bool) (first : OutsTo clients n now made l m s s1 o o1 heard moved) → first.doing ≡ Sends now first.room
+    (open_is : is_sent_to m.end ≡ true) where
+  came : (heard : List ℕ) (moved : Bool)
+      (first : OutsTo clients n now made l m s s1 o o1 heard moved)
+      → first.doing ≡ Sends now first.room
       → LinkRuns clients n m.session.number (spot_at (Sends now MAX_OUTPUTS) l heard moved s.state.facts)
       (spot_at (Sends now first.room) m heard (cond (nat_lt 0 made) true moved) s1.state.facts) s s1 o o1
   came heard moved first is =
@@ -331,11 +374,14 @@ module _ (clients : Meaning) (n now made : ℕ) (l m : Link) (s s1 : StoreValue)
       (subst (λ d. LinkRuns clients n l.session.number (spot_at (Sends now MAX_OUTPUTS) l heard moved s.state.facts)
       (spot_at d m heard (cond (nat_lt 0 made) true moved) s1.state.facts) s s1 o o1) is first.runs)
 
-  back : (s' : StoreValue) (o' : Outside) (p q : Spot) → LinkRuns clients n m.session.number p q s s' o o' → LinkRuns clients n l.session.number p q s s' o o'
+  back : (s' : StoreValue) (o' : Outside) (p q : Spot)
+      → LinkRuns clients n m.session.number p q s s' o o'
+      → LinkRuns clients n l.session.number p q s s' o o'
   back s' o' p q runs = subst (λ (k : ℕ). LinkRuns clients n k p q s s' o o') (ap (λ x. x.number) a.same_session) runs
 
   -- one more
-  pub outs_then : (l' : Link) (s' : StoreValue) (o' : Outside) → made < MAX_OUTPUTS → PutsAsCourse clients n now m l' s1 s' o1 o'
+  pub outs_then : (l' : Link) (s' : StoreValue) (o' : Outside) → made < MAX_OUTPUTS
+      → PutsAsCourse clients n now m l' s1 s' o1 o'
       → OutsAsCourse clients n now (made + 1) l l' s s' o o'
   outs_then l' s' o' less b = record {
     leads = λ heard moved entry_open.
@@ -349,7 +395,9 @@ module _ (clients : Meaning) (n now made : ℕ) (l m : Link) (s s1 : StoreValue)
       moved_more : (moved : Bool) → cond (nat_lt 0 (made + 1)) true moved ≡ true
       moved_more moved = ap (λ (b : Bool). cond b true moved) (lt-ltb 0 (made + 1) (omega arith))
 
-      by_room : (heard : List ℕ) (moved : Bool) (first : OutsTo clients n now made l m s s1 o o1 heard moved) → first.doing ≡ Sends now first.room → (room : ℕ)
+      by_room : (heard : List ℕ) (moved : Bool)
+          (first : OutsTo clients n now made l m s s1 o o1 heard moved)
+          → first.doing ≡ Sends now first.room → (room : ℕ)
           → first.room ≡ room → OutsTo clients n now (made + 1) l l' s s' o o' heard moved
       by_room heard moved first is zero none =
           let rest : first.room + made ≡ MAX_OUTPUTS = first.rest in
@@ -374,14 +422,17 @@ module _ (clients : Meaning) (n now made : ℕ) (l m : Link) (s s1 : StoreValue)
           }
 
   -- broken off
-  pub outs_stop : (o' : Outside) → made < MAX_OUTPUTS → PutsStop clients n now m s1 o1 o' → SentStops clients n now l s o o'
+  pub outs_stop : (o' : Outside) → made < MAX_OUTPUTS → PutsStop clients n now m s1 o1 o'
+      → SentStops clients n now l s o o'
   outs_stop o' less b = record {
     stops = λ heard moved entry_open.
         let first = a.leads heard moved entry_open in
         sends_yet now first.room first.doing m first.goes_on open_is (λ is. by_room heard moved first is first.room refl);
   }
     where
-      by_room : (heard : List ℕ) (moved : Bool) (first : OutsTo clients n now made l m s s1 o o1 heard moved) → first.doing ≡ Sends now first.room → (room : ℕ)
+      by_room : (heard : List ℕ) (moved : Bool)
+          (first : OutsTo clients n now made l m s s1 o o1 heard moved)
+          → first.doing ≡ Sends now first.room → (room : ℕ)
           → first.room ≡ room → LinkBreaks clients n l.session.number (spot_at (Sends now MAX_OUTPUTS) l heard moved s.state.facts) s o o'
       by_room heard moved first is zero none =
           let rest : first.room + made ≡ MAX_OUTPUTS = first.rest in
@@ -394,9 +445,34 @@ module _ (clients : Meaning) (n now made : ℕ) (l m : Link) (s s1 : StoreValue)
           (spot_at (Sends now k) m heard (cond (nat_lt 0 made) true moved) s1.state.facts) s s1 o o1) more (came heard moved first is))
           (b.stops heard (cond (nat_lt 0 made) true moved) room))
 
+  -- an output would have passed the limit
+  pub outs_full : (s' : StoreValue) (o' : Outside) → made < MAX_OUTPUTS
+      → PutsFull clients n now m s1 s' o1 o' → SentFull clients n now l s s' o o'
+  outs_full s' o' less b = record {
+    fills = λ heard moved entry_open.
+        let first = a.leads heard moved entry_open in
+        sends_yet now first.room first.doing m first.goes_on open_is (λ is. by_room heard moved first is first.room refl);
+  }
+    where
+      by_room : (heard : List ℕ) (moved : Bool)
+          (first : OutsTo clients n now made l m s s1 o o1 heard moved)
+          → first.doing ≡ Sends now first.room → (room : ℕ)
+          → first.room ≡ room → LinkFull clients n l.session.number (spot_at (Sends now MAX_OUTPUTS) l heard moved s.state.facts) s s' o o'
+      by_room heard moved first is zero none =
+          let rest : first.room + made ≡ MAX_OUTPUTS = first.rest in
+          absurd (omega (arith, rest, none, less))
+      by_room heard moved first is (suc room) more =
+          subst (λ (k : ℕ). LinkFull clients n k (spot_at (Sends now MAX_OUTPUTS) l heard moved s.state.facts) s s' o o') (ap (λ x. x.number) a.same_session)
+          (full_then clients (LinkStep clients n m.session.number) (spot_at (Sends now MAX_OUTPUTS) l heard moved s.state.facts)
+          (spot_at (Sends now (suc room)) m heard (cond (nat_lt 0 made) true moved) s1.state.facts) s s1 s' o o1 o'
+          (subst (λ (k : ℕ). LinkRuns clients n m.session.number (spot_at (Sends now MAX_OUTPUTS) l heard moved s.state.facts)
+          (spot_at (Sends now k) m heard (cond (nat_lt 0 made) true moved) s1.state.facts) s s1 o o1) more (came heard moved first is))
+          (b.fills heard (cond (nat_lt 0 made) true moved) room))
+
 -- nothing more: nothing is due, the room is used up, or the link is closed
-pub outs_end : (clients : Meaning) (n now made : ℕ) (l m : Link) (s s1 : StoreValue) (o o1 : Outside) → OutsAsCourse clients n now made l m s s1 o o1
-    → (is_sent_to (end_of m.end) ≡ true → (room : ℕ) → room + made ≡ MAX_OUTPUTS → IsEnough clients s1.state.facts m.session.number now room)
+pub outs_end : (clients : Meaning) (n now made : ℕ) (l m : Link) (s s1 : StoreValue)
+    (o o1 : Outside) → OutsAsCourse clients n now made l m s s1 o o1
+    → (is_sent_to m.end ≡ true → (room : ℕ) → room + made ≡ MAX_OUTPUTS → IsEnough clients s1.state.facts m.session.number now room)
     → SentAsCourse clients n now l m s s1 o o1 made
 outs_end clients n now made l m s s1 o o1 a enough = record {
   runs = λ heard moved entry_open.
@@ -418,7 +494,8 @@ outs_end clients n now made l m s s1 o o1 a enough = record {
   end = a.end;
 }
 
-pub outs_stop_there : (clients : Meaning) (n now made : ℕ) (l m : Link) (s s1 : StoreValue) (o o1 : Outside) → OutsAsCourse clients n now made l m s s1 o o1
+pub outs_stop_there : (clients : Meaning) (n now made : ℕ) (l m : Link) (s s1 : StoreValue)
+    (o o1 : Outside) → OutsAsCourse clients n now made l m s s1 o o1
     → SentStops clients n now l s o o1
 outs_stop_there clients n now made l m s s1 o o1 a = record {
   stops = λ heard moved entry_open.
@@ -428,7 +505,8 @@ outs_stop_there clients n now made l m s s1 o o1 a = record {
 }
 
 -- so many outputs were made that no room is left
-pub full : (clients : Meaning) (f : Facts) (session now made : ℕ) → MAX_OUTPUTS ≤ made → (room : ℕ) → room + made ≡ MAX_OUTPUTS → IsEnough clients f session now room
+pub full : (clients : Meaning) (f : Facts) (session now made : ℕ) → MAX_OUTPUTS ≤ made → (room : ℕ)
+    → room + made ≡ MAX_OUTPUTS → IsEnough clients f session now room
 full clients f session now made used zero rest = tt
 full clients f session now made used (suc room) rest = absurd (omega (arith, used, rest))
 
@@ -437,7 +515,8 @@ option_none None never = refl
 option_none (Some x) never = absurd (never x refl)
 
 -- nothing is due
-pub none_due : (clients : Meaning) (f : Facts) (session now : ℕ) → due_of clients f (session_at f.sessions session) now ≡ None → (room : ℕ)
+pub none_due : (clients : Meaning) (f : Facts) (session now : ℕ)
+    → due_of clients f (session_at f.sessions session) now ≡ None → (room : ℕ)
     → IsEnough clients f session now room
 none_due clients f session now none zero = tt
 none_due clients f session now none (suc room) = by_session (session_at f.sessions session) none
@@ -448,7 +527,8 @@ none_due clients f session now none (suc room) = by_session (session_at f.sessio
 
 -- ---- sending in a turn
 
-pub sends_closed : (clients : Meaning) (n : ℕ) (l : Link) (s : StoreValue) (o : Outside) → (MaySend l.end → ⊥) → SendsAsCourse clients n l l s s o o 0
+pub sends_closed : (clients : Meaning) (n : ℕ) (l : Link) (s : StoreValue) (o : Outside)
+    → (MaySend l.end → ⊥) → SendsAsCourse clients n l l s s o o 0
 sends_closed clients n l s o may = record {
   runs = λ heard moved doing ready.
       elim ready [
@@ -467,7 +547,8 @@ sends_closed clients n l s o may = record {
 module _ (clients : Meaning) (n now : ℕ) (l : Link) (s : StoreValue) (o o1 : Outside) (may : MaySend l.end) (reads : ReadsClock now o.links o1.links)
     (same_files : o1.files ≡ o.files) where
   read_at : (heard : List ℕ) (moved : Bool) (doing : Doing) → IsReadyToSend doing l
-      → LinkRuns clients n l.session.number (spot_at doing l heard moved s.state.facts) (spot_at (Sends now MAX_OUTPUTS) l heard moved s.state.facts) s s o o1
+      → LinkRuns clients n l.session.number (spot_at doing l heard moved s.state.facts)
+      (spot_at (Sends now MAX_OUTPUTS) l heard moved s.state.facts) s s o o1
   read_at heard moved doing ready =
       elim ready [
         | inl waits ↦
@@ -477,7 +558,9 @@ module _ (clients : Meaning) (n now : ℕ) (l : Link) (s : StoreValue) (o o1 : O
         | inr done ↦ absurd (false≢true (sym done.1 ∙ may_end l.end may))
       ]
 
-  pub sends_read : (l' : Link) (s' : StoreValue) (o' : Outside) (made : ℕ) → SentAsCourse clients n now l l' s s' o1 o' made → SendsAsCourse clients n l l' s s' o o' made
+  pub sends_read : (l' : Link) (s' : StoreValue) (o' : Outside) (made : ℕ)
+      → SentAsCourse clients n now l l' s s' o1 o' made
+      → SendsAsCourse clients n l l' s s' o o' made
   sends_read l' s' o' made sent = record {
     runs = λ heard moved doing ready.
         joins clients n l.session.number s s s' o o1 o' (spot_at doing l heard moved s.state.facts) (spot_at (Sends now MAX_OUTPUTS) l heard moved s.state.facts)
@@ -494,9 +577,19 @@ module _ (clients : Meaning) (n now : ℕ) (l : Link) (s : StoreValue) (o o1 : O
         (read_at heard moved doing ready) (sent.stops heard moved (may_end l.end may));
   }
 
+  pub sends_full : (s' : StoreValue) (o' : Outside) → SentFull clients n now l s s' o1 o'
+      → SendsFull clients n l s s' o o'
+  sends_full s' o' sent = record {
+    fills = λ heard moved doing ready.
+        full_then clients (LinkStep clients n l.session.number) (spot_at doing l heard moved s.state.facts)
+        (spot_at (Sends now MAX_OUTPUTS) l heard moved s.state.facts) s s s' o o1 o' (read_at heard moved doing ready)
+        (sent.fills heard moved (may_end l.end may));
+  }
+
 -- ---- a turn
 
-pub read_on : (heard : List ℕ) (m l' : Link) → l'.reader ≡ m.reader → (l'.end ≡ m.end) ⊎ (l'.end ≡ link_end.Failed) → IsRead heard m → IsRead heard l'
+pub read_on : (heard : List ℕ) (m l' : Link) → l'.reader ≡ m.reader
+    → (l'.end ≡ m.end) ⊎ (l'.end ≡ link_end.Failed) → IsRead heard m → IsRead heard l'
 read_on heard m l' same end read going =
     elim end [
       | inl as_before ↦ subst (HasRead heard) (sym same) (read (sym as_before ∙ going))
@@ -536,7 +629,19 @@ module _ (clients : Meaning) (n : ℕ) (l m : Link) (s s1 : StoreValue) (o o1 : 
         (sends.stops first.heard' (cond idle moved true) first.doing first.ready));
   }
 
-  pub turn_quiet : (l' : Link) (s' : StoreValue) (o' : Outside) (made : ℕ) → idle ≡ true → SendsAsCourse clients n m l' s1 s' o1 o' made
+  pub turn_full : (s' : StoreValue) (o' : Outside) → SendsFull clients n m s1 s' o1 o'
+      → HearsFull clients n l s s' o o'
+  turn_full s' o' sends = record {
+    fills = λ heard moved read.
+        let first = hears.leads heard moved read in
+        full_then clients (LinkStep clients n l.session.number) (spot_at Asks l heard moved s.state.facts)
+        (spot_at first.doing m first.heard' (cond idle moved true) s1.state.facts) s s1 s' o o1 o' first.runs
+        (subst (λ (k : ℕ). LinkFull clients n k (spot_at first.doing m first.heard' (cond idle moved true) s1.state.facts) s1 s' o1 o') (ap (λ x. x.number) same_session)
+        (sends.fills first.heard' (cond idle moved true) first.doing first.ready));
+  }
+
+  pub turn_quiet : (l' : Link) (s' : StoreValue) (o' : Outside) (made : ℕ) → idle ≡ true
+      → SendsAsCourse clients n m l' s1 s' o1 o' made
       → TurnAsCourse clients n l l' s s' o o' (nat_eq made 0)
   turn_quiet l' s' o' made is sends =
       turn_to l' s' o' made (nat_eq made 0) (λ moved. ap (λ (b : Bool). cond (nat_lt 0 made) true (cond b moved true)) is ∙ by_made made moved) sends
@@ -546,7 +651,8 @@ module _ (clients : Meaning) (n : ℕ) (l m : Link) (s s1 : StoreValue) (o o1 : 
       by_made (suc k) moved =
           ap (λ (b : Bool). cond b true moved) (lt-ltb 0 (suc k) (omega arith)) ∙ ap (λ (b : Bool). cond b moved true) (sym (ne_eqb (suc k) 0 (λ e. omega (arith, e))))
 
-  pub turn_loud : (l' : Link) (s' : StoreValue) (o' : Outside) (made : ℕ) → idle ≡ false → SendsAsCourse clients n m l' s1 s' o1 o' made
+  pub turn_loud : (l' : Link) (s' : StoreValue) (o' : Outside) (made : ℕ) → idle ≡ false
+      → SendsAsCourse clients n m l' s1 s' o1 o' made
       → TurnAsCourse clients n l l' s s' o o' idle
   turn_loud l' s' o' made is sends =
       turn_to l' s' o' made idle

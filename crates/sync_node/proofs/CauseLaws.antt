@@ -1,0 +1,208 @@
+-- Why links stand Failed: one call after another.
+use Rattle.std.proofs.Common.{◌≡◌, ◌≢◌, ◌⊎◌, ℕ, ◌≤◌, Bool, true, false, List, [], ◌∷◌, ◌++◌, length, set, refl, sym, ap, ◌∙◌, subst, inl, inr, arith, Some, Result, Ok, Err}
+use Rattle.std.specs.List.{slice_get}
+use Rattle.std.proofs.lemmas.Bool.{cases_eq, false≢true}
+use Rattle.outside.specs.declared.failed.Failed.{Failed}
+use Rattle.outside.specs.Faults.{Rose, one_more}
+use Rattle.outside.specs.Host.{Sends}
+use Rattle.outside.specs.Outside.{Outside}
+use Rattle.record_grammar.specs.declared.stream.Ending.{Ending}
+use Rattle.record_grammar.specs.declared.stream.Ending.TheVariants as ending_kind
+use Rattle.sync_ids.specs.declared.records.Record.{Record}
+use Rattle.sync_ids.specs.declared.records.Record.TheVariants as record_kind
+use Rattle.sync_course.specs.LinkLaws.{contains_zero, zero_contained}
+use Rattle.sync_course.specs.Links.{has_zero}
+use Rattle.sync_store.specs.Store.{StoreValue}
+use Rattle.sync_node.specs.declared.link.Link.{Link}
+use Rattle.sync_course.specs.declared.ends.LinkEnd.{LinkEnd}
+use Rattle.sync_course.specs.declared.ends.LinkEnd.TheVariants as link_end
+use Rattle.sync_node.specs.Causes.{FailByCause, LinkGoes, LinksGo, StandsFailed}
+use Rattle.sync_course.specs.Links.{stands_ended}
+use Rattle.sync_node.specs.Going.{Goes}
+use Rattle.sync_node.specs.Hearing.{ClosesBy, Learns}
+use Rattle.sync_node.specs.Node.{NodeValue}
+use Rattle.sync_node.specs.Redundant.{ClosesSome}
+use Rattle.sync_node.specs.Sending.{EndsBy, SendsOn}
+use Rattle.sync_node.proofs.AttachLaws.{get_push}
+use Rattle.sync_node.proofs.NodeLaws.{get_set_other, get_set_same, node_of}
+use Rattle.sync_node.proofs.OutLaws.{goes_send}
+use Rattle.sync_node.proofs.SafeLaws.{goes_none}
+use Rattle.sync_node.proofs.WorkLaws.{goes_then}
+
+-- ---- counts
+
+rose_later : (a b c : ℕ) → Rose a b → b ≤ c → Rose a c
+rose_later a b c rose later = let r : one_more a ≤ b = rose in omega (arith, r, later)
+
+rose_before : (a b c : ℕ) → a ≤ b → Rose b c → Rose a c
+rose_before a b c before rose = let r : one_more b ≤ c = rose in omega (arith, before, r)
+
+-- ---- one link
+
+-- the link did not fail
+pub link_kept : (number : ℕ) (l l' : Link) (o o' : Outside) → Goes o o' → l'.end ≡ l.end
+    → LinkGoes number l l' o o'
+link_kept number l l' o o' goes same = record { goes = goes; cause = λ failed. inl (sym same ∙ failed) }
+
+pub link_unfailed : (number : ℕ) (l l' : Link) (o o' : Outside) → Goes o o'
+    → l'.end ≢ link_end.Failed → LinkGoes number l l' o o'
+link_unfailed number l l' o o' goes unfailed = record { goes = goes; cause = λ failed. absurd (unfailed failed) }
+
+pub link_none : (number : ℕ) (l : Link) (o : Outside) → LinkGoes number l l o o
+link_none number l o = link_kept number l l o o (goes_none o) refl
+
+-- a call on it failed
+pub link_failed : (number : ℕ) (l l' : Link) (o o' : Outside) → Goes o o'
+    → Rose (o.links.faults number) (o'.links.faults number) → LinkGoes number l l' o o'
+link_failed number l l' o o' goes rose = record { goes = goes; cause = λ failed. inr rose }
+
+pub link_then : (number : ℕ) (l l1 l2 : Link) (o o1 o2 : Outside) → LinkGoes number l l1 o o1
+    → LinkGoes number l1 l2 o1 o2 → LinkGoes number l l2 o o2
+link_then number l l1 l2 o o1 o2 first second = record {
+  goes = goes_then o o1 o2 first.goes second.goes;
+  cause = λ failed. elim (second.cause failed) [
+    | inl before ↦ elim (first.cause before) [
+      | inl at_first ↦ inl at_first
+      | inr rose ↦ inr (rose_later (o.links.faults number) (o1.links.faults number) (o2.links.faults number) rose (second.goes.links.faults number))
+    ]
+    | inr rose ↦ inr (rose_before (o.links.faults number) (o1.links.faults number) (o2.links.faults number) (first.goes.links.faults number) rose)
+  ];
+}
+
+pub link_sent : (number : ℕ) (bytes : List ℕ) (l l' : Link) (o o' : Outside)
+    → SendsOn number bytes l l' o o' → LinkGoes number l l' o o'
+link_sent number bytes l l' o o' sends = by_result sends.result sends.sends sends.ends
+  where
+    by_result : (result : Result (Unit {0}) Failed) → Sends number bytes result o.links o'.links
+        → EndsBy result l l' → LinkGoes number l l' o o'
+    by_result (Ok u) went ends = link_kept number l l' o o' (goes_send o o' number bytes l l' sends) (ap (λ (x : Link). x.end) ends)
+    by_result (Err e) went ends = link_failed number l l' o o' (goes_send o o' number bytes l l' sends) went.faults.failed
+
+-- a link that began as going, behind a commit
+pub greeted_cause : (number : ℕ) (l0 l : Link) (o o1 o2 : Outside) → Goes o o1
+    → l0.end ≡ link_end.Going → LinkGoes number l0 l o1 o2
+    → l.end ≡ link_end.Failed → Rose (o.links.faults number) (o2.links.faults number)
+greeted_cause number l0 l o o1 o2 goes going greets failed = elim (greets.cause failed) [
+  | inl before ↦ absurd (let e : link_end.Going ≡ link_end.Failed = sym going ∙ before in cc)
+  | inr rose ↦ rose_before (o.links.faults number) (o1.links.faults number) (o2.links.faults number) (goes.links.faults number) rose
+]
+
+-- ---- how links end that did not fail
+
+pub ended_unfailed : (e : Ending) → stands_ended e ≢ link_end.Failed
+ended_unfailed ending_kind.Clean is = cc
+ended_unfailed (ending_kind.Inside place) is = cc
+ended_unfailed (ending_kind.Bad place why) is = cc
+
+kept_unfailed : (old new : LinkEnd) → new ≡ old → old ≡ link_end.Going → new ≢ link_end.Failed
+kept_unfailed old new same going failed =
+    let e : link_end.Going ≡ link_end.Failed = sym going ∙ (sym same ∙ failed) in cc
+
+versions_unfailed : (place : ℕ) (versions : List ℕ) (old new : LinkEnd)
+    → ClosesBy place (record_kind.Versions versions) old new → old ≡ link_end.Going
+    → new ≢ link_end.Failed
+versions_unfailed place versions old new closing going failed =
+    elim (has_zero versions) as (λ b. has_zero versions ≡ b → ⊥) [
+      | true ↦ λ has. kept_unfailed old new (closing.0 (zero_contained versions has)) going failed
+      | false ↦ λ has.
+          let closed : new ≡ link_end.NoVersion place = closing.1 (λ there. false≢true (sym has ∙ contains_zero versions there)) in
+          let e : link_end.NoVersion place ≡ link_end.Failed = sym closed ∙ failed in
+          cc
+    ] refl
+
+closes_unfailed : (place : ℕ) (r : Record) (old new : LinkEnd) → ClosesBy place r old new
+    → old ≡ link_end.Going → new ≢ link_end.Failed
+closes_unfailed place (record_kind.Versions versions) old new closing going =
+    versions_unfailed place versions old new closing going
+closes_unfailed place (record_kind.Ack ids) old new same going = kept_unfailed old new same going
+closes_unfailed place (record_kind.Message m) old new same going = kept_unfailed old new same going
+closes_unfailed place (record_kind.Offer ids) old new same going = kept_unfailed old new same going
+closes_unfailed place (record_kind.Request ids) old new same going =
+    kept_unfailed old new same going
+closes_unfailed place (record_kind.Priority nonce) old new same going =
+    kept_unfailed old new same going
+
+pub learnt_unfailed : (place : ℕ) (r : Record) (l l' : Link) → Learns place r l l'
+    → l.end ≡ link_end.Going → l'.end ≢ link_end.Failed
+learnt_unfailed place r l l' learns going = closes_unfailed place r l.end l'.end learns.end going
+
+-- ---- all links
+
+pub links_go_none : (links : List Link) (o : Outside) → LinksGo links links o o
+links_go_none links o = record { goes = goes_none o; cause = λ number stands. inl stands }
+
+-- the links are as before
+pub links_go_same : (links links' : List Link) (o o' : Outside) → links' ≡ links → Goes o o'
+    → LinksGo links links' o o'
+links_go_same links links' o o' same goes = record {
+  goes = goes;
+  cause = λ number stands. inl (subst (λ (ls : List Link). StandsFailed ls number) same stands);
+}
+
+-- one link more was worked on
+pub links_go_set : (place : ℕ) (links links1 : List Link) (l l' : Link) (o o1 o2 : Outside)
+    → LinksGo links links1 o o1 → slice_get links1 place ≡ Some l → LinkGoes place l l' o1 o2
+    → LinksGo links (set links1 place l') o o2
+links_go_set place links links1 l l' o o1 o2 first here second = record {
+  goes = goes_then o o1 o2 first.goes second.goes;
+  cause = λ number stands.
+      let earlier : StandsFailed links1 number → StandsFailed links number ⊎ Rose (o.links.faults number) (o2.links.faults number) =
+      λ before. elim (first.cause number before) [
+        | inl at_first ↦ inl at_first
+        | inr rose ↦ inr (rose_later (o.links.faults number) (o1.links.faults number) (o2.links.faults number) rose (second.goes.links.faults number))
+      ] in
+      elim (cases_eq number place) [
+        | inl same ↦
+            let is : stands.link ≡ l' = get_set_same links1 place l' stands.link (subst (λ k. slice_get (set links1 place l') k ≡ Some stands.link) same stands.there) in
+            elim (second.cause (ap (λ (x : Link). x.end) (sym is) ∙ stands.failed)) [
+              | inl failed ↦ earlier (record { link = l; there = subst (λ k. slice_get links1 k ≡ Some l) (sym same) here; failed = failed })
+              | inr rose ↦
+                  inr (subst (λ k. Rose (o.links.faults k) (o2.links.faults k)) (sym same)
+                  (rose_before (o.links.faults place) (o1.links.faults place) (o2.links.faults place) (first.goes.links.faults place) rose))
+            ]
+        | inr apart ↦ earlier (record { link = stands.link; there = sym (get_set_other links1 place number l' apart) ∙ stands.there; failed = stands.failed })
+      ];
+}
+
+-- redundant links were closed
+pub links_go_closed : (links mid links' : List Link) (o o' : Outside) → LinksGo links mid o o'
+    → ClosesSome mid links' → LinksGo links links' o o'
+links_go_closed links mid links' o o' first closes = record {
+  goes = first.goes;
+  cause = λ number stands.
+      let one = closes.each number stands.link stands.there in
+      elim one.is [
+        | inl same ↦ first.cause number (record { link = one.before; there = one.was; failed = ap (λ (x : Link). x.end) (sym same) ∙ stands.failed })
+        | inr closing ↦ absurd (let e : link_end.Redundant ≡ link_end.Failed = sym (ap (λ (x : Link). x.end) closing.1) ∙ stands.failed in cc)
+      ];
+}
+
+-- a link came behind the others, and it failed only by a call on it
+pub links_go_push : (number : ℕ) (links links' : List Link) (l : Link) (o o' : Outside)
+    → length links ≡ number → links' ≡ links ++ l ∷ [] → Goes o o'
+    → (l.end ≡ link_end.Failed → Rose (o.links.faults number) (o'.links.faults number))
+    → LinksGo links links' o o'
+links_go_push number links links' l o o' last pushed goes cause = record {
+  goes = goes;
+  cause = λ n stands.
+      elim (get_push links l n stands.link (ap (λ (ls : List Link). slice_get ls n) (sym pushed) ∙ stands.there)) [
+        | inl here ↦ inl (record { link = stands.link; there = here; failed = stands.failed })
+        | inr end ↦
+            inr (subst (λ k. Rose (o.links.faults k) (o'.links.faults k)) (sym (end.0 ∙ last))
+            (cause (ap (λ (x : Link). x.end) (sym end.1) ∙ stands.failed)))
+      ];
+}
+
+-- ---- a node
+
+-- links that were lent
+pub links_go_as : (links lent new kept : List Link) (o o' : Outside) → lent ≡ links → kept ≡ new
+    → LinksGo lent new o o' → LinksGo links kept o o'
+links_go_as links lent new kept o o' is is_kept go =
+    subst (λ (ls : List Link). LinksGo ls kept o o') is (subst (λ (ls : List Link). LinksGo lent ls o o') (sym is_kept) go)
+
+pub node_causes : (s : StoreValue) (first : ℕ) (links links' : List Link) (closed : Bool)
+    (n : NodeValue) (o o' : Outside) → node_of s first links closed ≡ n → LinksGo links links' o o'
+    → FailByCause n.links links' o o'
+node_causes s first links links' closed n o o' is go =
+    subst (λ (m : NodeValue). FailByCause m.links links' o o') is go.cause

@@ -1,0 +1,135 @@
+-- Where a call answers Full: it led to a place of the course from which the next step commits a
+-- batch with which the journal, the batch's frame and the room for settling would pass the limit.
+use Rattle.std.specs.Prelude.{◌≡◌, ℕ, suc, ◌<◌, Bool, true, false, List, ◌∷◌}
+use Rattle.outside.specs.Outside.{Outside}
+use Rattle.record_grammar.specs.declared.stream.Item.{Item}
+use Rattle.record_grammar.specs.declared.stream.Item.TheVariants as item
+use Rattle.sync_ids.specs.declared.records.Record.{Record}
+use Rattle.sync_rules.specs.declared.entries.Entry.{Entry}
+use Rattle.sync_rules.specs.declared.entries.Session.{Session}
+use Rattle.sync_rules.specs.Clients.{Meaning}
+use Rattle.sync_store.specs.Commits.{needed}
+use Rattle.sync_store.specs.Store.{StoreValue}
+use Rattle.sync_course.specs.Events.{Commit, Event}
+use Rattle.sync_course.specs.Links as course_links
+use Rattle.sync_course.specs.Links.{is_sent_to}
+use Rattle.sync_course.specs.LinkTurns.{Asks, Doing, LinkStep, Sends, Spot, Takes}
+use Rattle.sync_course.specs.Paths.{Runs}
+use Rattle.sync_course.specs.ReadingLaws.{IsReading}
+use Rattle.sync_course.specs.Turns.{Attaches, Between, Place, RunStep, Terms, Works, is_at_end}
+use Rattle.sync_course.specs.declared.TheConstants.{MAX_OUTPUTS}
+use Rattle.sync_node.specs.Courses.{AllRead, FitsWith, IsRead, IsReadyToSend, attaching_at, place_at, spot_at}
+use Rattle.sync_node.specs.declared.link.Link.{Link}
+
+-- the place that the call led to, and the batch; the store is as that place has it
+pub record StopsFull {P : Type 0} (clients : Meaning) (step : P → Event → P → Type 0) (from : P)
+    (s s' : StoreValue) (o o' : Outside) : Type 0 where
+  pub to : P
+  pub runs : Runs step (FitsWith clients s o.files) (FitsWith clients s' o'.files) from to o o'
+  pub batch : List Entry
+  pub next : P
+  pub steps : step to (Commit batch) next
+  pub over : s'.limit < needed s' batch
+
+-- in a link's turn, and in a run
+abbrev pub LinkFull : Meaning → ℕ → ℕ → Spot → StoreValue → StoreValue → Outside → Outside → Type 0
+LinkFull clients n session p s s' o o' = StopsFull clients (LinkStep clients n session) p s s' o o'
+
+abbrev pub RunFull : Meaning → Terms → Place → StoreValue → StoreValue → Outside → Outside → Type 0
+RunFull clients terms p s s' o o' = StopsFull clients (RunStep clients terms) p s s' o o'
+
+-- a batch that was to be committed would pass the limit, and nothing was done
+pub record IsOver (clients : Meaning) (batch : List Entry) (s s' : StoreValue)
+    (o o' : Outside) : Type 0 where
+  pub same_links : o'.links ≡ o.links
+  pub fits : (j : List (List Entry)) → FitsWith clients s o.files j → FitsWith clients s' o'.files j
+  pub before : s.limit < needed s batch
+  pub over : s'.limit < needed s' batch
+
+-- ---- a link's turn
+
+-- the record at the front of the items was to be taken
+pub record TakesFull (clients : Meaning) (session : ℕ) (r : Record) (s s' : StoreValue)
+    (o o' : Outside) : Type 0 where
+  pub fills : (n place : ℕ) (its : List Item) (p : Spot) → p.doing ≡ Takes (item.One place r ∷ its)
+      → p.facts ≡ s.state.facts
+      → LinkFull clients n session p s s' o o'
+
+-- items of a piece were
+pub record NextFull (clients : Meaning) (n : ℕ) (piece : List ℕ) (l : Link) (s s' : StoreValue)
+    (o o' : Outside) : Type 0 where
+  pub fills : (heard : List ℕ) (its : List Item) (moved : Bool) → IsReading heard piece l.reader its
+      → LinkFull clients n l.session.number
+      (spot_at (Takes its) l heard moved s.state.facts) s s' o o'
+
+-- the link was asked, or was to send what is due
+pub record HearsFull (clients : Meaning) (n : ℕ) (l : Link) (s s' : StoreValue)
+    (o o' : Outside) : Type 0 where
+  pub fills : (heard : List ℕ) (moved : Bool) → IsRead heard l
+      → LinkFull clients n l.session.number (spot_at Asks l heard moved s.state.facts) s s' o o'
+
+pub record PutsFull (clients : Meaning) (n now : ℕ) (l : Link) (s s' : StoreValue)
+    (o o' : Outside) : Type 0 where
+  pub fills : (heard : List ℕ) (moved : Bool) (room : ℕ)
+      → LinkFull clients n l.session.number
+      (spot_at (Sends now (suc room)) l heard moved s.state.facts) s s' o o'
+
+pub record SentFull (clients : Meaning) (n now : ℕ) (l : Link) (s s' : StoreValue)
+    (o o' : Outside) : Type 0 where
+  pub fills : (heard : List ℕ) (moved : Bool) → is_sent_to l.end ≡ true
+      → LinkFull clients n l.session.number
+      (spot_at (Sends now MAX_OUTPUTS) l heard moved s.state.facts) s s' o o'
+
+pub record SendsFull (clients : Meaning) (n : ℕ) (l : Link) (s s' : StoreValue)
+    (o o' : Outside) : Type 0 where
+  pub fills : (heard : List ℕ) (moved : Bool) (doing : Doing) → IsReadyToSend doing l
+      → LinkFull clients n l.session.number (spot_at doing l heard moved s.state.facts) s s' o o'
+
+-- ---- a run
+
+-- all links in order
+pub record TurnsFull (clients : Meaning) (first : ℕ) (links : List Link) (s s' : StoreValue)
+    (o o' : Outside) : Type 0 where
+  pub fills : (terms : Terms) (heard : ℕ → List ℕ) (moved : Bool) (still made : ℕ)
+      → terms.first ≡ first → AllRead heard links
+      → RunFull clients terms
+      (place_at (Works 0 Asks) links heard moved still made s.state.facts) s s' o o'
+
+-- a whole turn
+pub record FullTurn (clients : Meaning) (first : ℕ) (links : List Link) (s s' : StoreValue)
+    (o o' : Outside) : Type 0 where
+  pub fills : (terms : Terms) (heard : ℕ → List ℕ) (moved : Bool) (still made : ℕ)
+      → terms.first ≡ first → AllRead heard links
+      → is_at_end terms (place_at Between links heard moved still made s.state.facts) ≡ false
+      → RunFull clients terms
+      (place_at Between links heard moved still made s.state.facts) s s' o o'
+
+-- one call on the link of this number: to ask it, and to send what is due at a reading
+pub record FullReceiving (clients : Meaning) (first n : ℕ) (links : List Link) (s s' : StoreValue)
+    (o o' : Outside) : Type 0 where
+  pub fills : (terms : Terms) (heard : ℕ → List ℕ) (moved : Bool) (still made : ℕ)
+      → terms.first ≡ first → AllRead heard links
+      → RunFull clients terms
+      (place_at (Works n Asks) links heard moved still made s.state.facts) s s' o o'
+
+pub record FullSending (clients : Meaning) (first n now : ℕ) (links : List Link)
+    (s s' : StoreValue) (o o' : Outside) : Type 0 where
+  pub fills : (terms : Terms) (heard : ℕ → List ℕ) (moved : Bool) (still made : ℕ)
+      → terms.first ≡ first
+      → RunFull clients terms
+      (place_at (Works n (Sends now MAX_OUTPUTS)) links heard moved still made s.state.facts) s s' o o'
+
+-- a session was to begin, over the links of a course and over those of a node
+pub record FullStart (clients : Meaning) (session : Session) (s s' : StoreValue)
+    (o o' : Outside) : Type 0 where
+  pub fills : (terms : Terms) (left : List Session) (links : List course_links.Link) (moved : Bool)
+      (still made : ℕ)
+      → RunFull clients terms
+      (attaching_at (session ∷ left) links moved still made s.state.facts) s s' o o'
+
+pub record FullBeginning (clients : Meaning) (session : Session) (links : List Link)
+    (s s' : StoreValue) (o o' : Outside) : Type 0 where
+  pub fills : (terms : Terms) (left : List Session) (heard : ℕ → List ℕ) (moved : Bool)
+      (still made : ℕ)
+      → RunFull clients terms
+      (place_at (Attaches (session ∷ left)) links heard moved still made s.state.facts) s s' o o'

@@ -1,0 +1,25 @@
+-- Where a call failed for want of memory or of room, the store is ready, as it was before the call.
+use Rattle.std.specs.Prelude.{Result, Ok, Err}
+use Rattle.outside.specs.Outside.{Outside}
+use Rattle.sync_rules.specs.Clients.{Meaning}
+use Rattle.sync_store.specs.Store.{StoreValue}
+use Rattle.sync_store.specs.Ready.{IsReady}
+use Rattle.sync_node.specs.declared.fault.Fault.{Fault}
+use Rattle.sync_node.specs.declared.fault.Fault.TheVariants as fault
+use Rattle.sync_node.specs.declared.fault.NodeFault.{NodeFault}
+use Rattle.sync_node.specs.declared.fault.NodeFault.TheVariants as node
+use Rattle.sync_node.specs.Node.{NodeValue}
+
+-- by the fault of work on a store
+abbrev pub KeepsReady : Meaning → StoreValue → Outside → Fault → Type 0
+KeepsReady clients s o fault.Memory = IsReady clients s o.files
+KeepsReady clients s o fault.Full = IsReady clients s o.files
+KeepsReady clients s o fault.DiskFault = Unit {0}
+
+-- by what a call of a node answers
+abbrev pub StaysReady : {T : Type 0} → Meaning → NodeValue → Outside → Result T NodeFault → Type 0
+StaysReady clients n o (Ok _) = Unit {0}
+StaysReady clients n o (Err node.Memory) = IsReady clients n.store o.files
+StaysReady clients n o (Err node.Full) = IsReady clients n.store o.files
+StaysReady clients n o (Err node.DiskFault) = Unit {0}
+StaysReady clients n o (Err node.Closed) = Unit {0}
