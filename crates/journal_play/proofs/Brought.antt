@@ -9,7 +9,7 @@ use Rattle.sync_rules.specs.declared.entries.Entry.TheVariants as entry
 use Rattle.sync_rules.specs.Clients.{Meaning}
 use Rattle.sync_rules.specs.Lists.{same_id, firsts}
 use Rattle.sync_rules.specs.Facts.{Facts, Held, Id, after, after_all, after_batches, facts, nothing, known_of, arrived, contact_of, held_at, is_invisible, level_at, wanted_from}
-use Rattle.sync_rules.specs.Sessions.{taken, taken_message_of, one_if, wants_limit}
+use Rattle.sync_rules.specs.Sessions.{taken, taken_message_of, one_if}
 use Rattle.sync_rules.specs.Legal.{IsSettling, AllSettling}
 use Rattle.sync_rules.specs.Hearing.{Hears, take_batch, one_session}
 use Rattle.sync_rules.specs.StepLaws.{IsSettlingEntry, next_is_settling}
@@ -18,6 +18,7 @@ use Rattle.sync_rules.specs.WorkLaws.{facts-push}
 use Rattle.journal_play.specs.Playing.{Plays}
 use Rattle.journal_play.specs.Fates.{is_brought, with_record, with_records}
 use Rattle.journal_play.proofs.Takes.{Alike, AllQuiet, alike_then, alike_all, quiet_if, quiet_acks, quiet_requests, quiet_offers, map_push, contact_is, welcome_by}
+use Rattle.sync_rules.specs.declared.limits.TheConstants.{MAX_WANTED}
 
 -- what the facts of a journal of one session and one group are that holds these messages
 pub record Brings (def : GroupValue) (messages : List MessageValue) (f : Facts) : Type 0 where
@@ -83,7 +84,7 @@ module _ (def : GroupValue) (messages : List MessageValue) (k : ℕ) (f : Facts)
   record_brings (record_kind.Message m) = message_brings m
   record_brings (record_kind.Offer ids) =
       quiet_brings (taken f 0 (record_kind.Offer ids))
-      (quiet_offers f 0 (contact_of f.sessions 0) (wants_limit - length (wanted_from f.wanted (contact_of f.sessions 0))) (firsts ids))
+      (quiet_offers f 0 (contact_of f.sessions 0) (MAX_WANTED - length (wanted_from f.wanted (contact_of f.sessions 0))) (firsts ids))
   record_brings (record_kind.Request ids) = quiet_brings (taken f 0 (record_kind.Request ids)) (quiet_requests f 0 (contact_of f.sessions 0) (firsts ids))
   record_brings (record_kind.Versions versions) = quiet_brings [] tt
   record_brings (record_kind.Priority nonce) = quiet_brings [] tt

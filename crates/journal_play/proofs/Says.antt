@@ -18,7 +18,7 @@ use Rattle.sync_rules.specs.Clients.{Meaning}
 use Rattle.sync_rules.specs.Lists.{same_id, is_among, firsts}
 use Rattle.sync_rules.specs.Facts.{Facts, Held, Id, held_at, is_held, arrived, after, after_all, after_batches, facts, entries_of, nothing, contact_of, takes_of, session_at, is_invisible, level_at, wanted_from}
 use Rattle.sync_rules.specs.Steps.{verdict_in, is_ended, fate, IsSettled, kind_of_def}
-use Rattle.sync_rules.specs.Sessions.{taken, taken_message, taken_message_of, is_welcome, one_if, wants_limit}
+use Rattle.sync_rules.specs.Sessions.{taken, taken_message, taken_message_of, is_welcome, one_if}
 use Rattle.sync_rules.specs.Legal.{Legal, IsSettling, AllSettling}
 use Rattle.sync_rules.specs.Rounds.{Graph, good, bad, graph_of}
 use Rattle.sync_rules.specs.Laws.{Decides}
@@ -43,6 +43,7 @@ use Rattle.journal_play.proofs.Brought.{Brings, plays_brings}
 use Rattle.journal_play.proofs.Orders.{IsDistinct, IsDistinct-filter, In-filter, of_filter, same_elements}
 use Rattle.journal_play.proofs.Named.{or_false, messages_at, In_arrived, IsRight, of_told, to_told, distinct_told, told_text, unended_text}
 use Rattle.journal_play.proofs.Takes.{quiet_acks, quiet_requests, quiet_offers, takes_all, one_more_take}
+use Rattle.sync_rules.specs.declared.limits.TheConstants.{MAX_WANTED}
 
 -- ---- a journal that takes records stays legal and settled
 
@@ -81,7 +82,7 @@ taken_takes f g (record_kind.Ack ids) = takes_all g (taken f 0 (record_kind.Ack 
 taken_takes f g (record_kind.Message m) = message_takes f g (contact_of f.sessions 0) m
 taken_takes f g (record_kind.Offer ids) =
     takes_all g (taken f 0 (record_kind.Offer ids))
-    (quiet_offers f 0 (contact_of f.sessions 0) (wants_limit - length (wanted_from f.wanted (contact_of f.sessions 0))) (firsts ids))
+    (quiet_offers f 0 (contact_of f.sessions 0) (MAX_WANTED - length (wanted_from f.wanted (contact_of f.sessions 0))) (firsts ids))
 taken_takes f g (record_kind.Request ids) = takes_all g (taken f 0 (record_kind.Request ids)) (quiet_requests f 0 (contact_of f.sessions 0) (firsts ids))
 taken_takes f g (record_kind.Versions versions) = refl
 taken_takes f g (record_kind.Priority nonce) = refl

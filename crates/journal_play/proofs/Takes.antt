@@ -20,7 +20,7 @@ use Rattle.sync_rules.specs.Clients.{Meaning}
 use Rattle.sync_rules.specs.Lists.{same_id, is_among, has_repeat, firsts}
 use Rattle.sync_rules.specs.Facts.{Facts, Held, Id, held_at, is_held, after, after_all, facts, entries_of, group_at, known_of, arrived, contact_of, level_at, is_invisible, takes_of, count_or, session_at, wanted_from, row_at}
 use Rattle.sync_rules.specs.Steps.{verdict_in, IsSettled, kind_of_def}
-use Rattle.sync_rules.specs.Sessions.{taken, taken_message, taken_message_of, taken_acks, taken_requests, taken_offers, taken_offer, is_welcome, one_if, is_shown, is_remembered, room_after, wants_limit}
+use Rattle.sync_rules.specs.Sessions.{taken, taken_message, taken_message_of, taken_acks, taken_requests, taken_offers, taken_offer, is_welcome, one_if, is_shown, is_remembered, room_after}
 use Rattle.sync_rules.specs.Hearing.{Hears, take_batch, one_session}
 use Rattle.sync_rules.specs.Elements.{same_id-is, same_id_itself, same_id_swap}
 use Rattle.sync_rules.specs.Sound.{SoundFacts}
@@ -41,6 +41,7 @@ use Rattle.journal_play.proofs.Same.{node_named-held, next_same, entry_of, id_at
 use Rattle.journal_play.proofs.Changes.{ids_of}
 use Rattle.journal_play.proofs.Steps.{one_group, of_group, delivered_held, entries-push}
 use Rattle.journal_play.proofs.Texts.{told-append, told-push, text-push, stays_held, all_stay}
+use Rattle.sync_rules.specs.declared.limits.TheConstants.{MAX_WANTED}
 
 -- ---- facts that what is kept does not tell apart
 
@@ -319,7 +320,7 @@ module _ (clients : Meaning) (def : GroupValue) (k : ℕ) (f : Facts) (es : List
   take_mirrors (record_kind.Message msg) = message_mirrors msg
   take_mirrors (record_kind.Offer ids) =
       quiet_mirrors clients def k f es (taken f 0 (record_kind.Offer ids)) play m
-      (quiet_offers f 0 (contact_of f.sessions 0) (wants_limit - length (wanted_from f.wanted (contact_of f.sessions 0))) (firsts ids))
+      (quiet_offers f 0 (contact_of f.sessions 0) (MAX_WANTED - length (wanted_from f.wanted (contact_of f.sessions 0))) (firsts ids))
   take_mirrors (record_kind.Request ids) = quiet_mirrors clients def k f es (taken f 0 (record_kind.Request ids)) play m (quiet_requests f 0 (contact_of f.sessions 0) (firsts ids))
   take_mirrors (record_kind.Versions versions) = quiet_mirrors clients def k f es [] play m tt
   take_mirrors (record_kind.Priority nonce) = quiet_mirrors clients def k f es [] play m tt

@@ -1,5 +1,5 @@
 -- What settling a store, adding a batch to it and settling again comes to.
-use Rattle.std.specs.Prelude.{◌≡◌, ◌⊎◌, ℕ, ◌+◌, ◌<◌, ◌≤◌, false, List, [], ◌∷◌, ◌++◌, Some, Result, Ok, Err}
+use Rattle.std.specs.Prelude.{◌≡◌, ◌⊎◌, ℕ, ◌+◌, ◌<◌, ◌≤◌, false, List, [], ◌∷◌, ◌++◌, Option, Some, Result, Ok, Err}
 use Rattle.outside.specs.declared.limits.TheConstants.{MAX_JOURNAL}
 use Rattle.outside.specs.Faults.{Rose}
 use Rattle.outside.specs.Files.{Two, File, read_files, NothingPending}
@@ -15,6 +15,7 @@ use Rattle.entry_codec.specs.Standing.{journal, room_of, stands}
 use Rattle.sync_store.specs.Commits.{needed}
 use Rattle.sync_store.specs.Store.{StoreValue}
 use Rattle.sync_store.specs.Fitting.{Fits}
+use Rattle.sync_store.specs.Ready.{IsReady}
 use Rattle.sync_store.specs.Moments.{JournalMoment, Leads, WithAtMost}
 use Rattle.sync_store.specs.Settling.{ComesBy}
 use Rattle.sync_words.specs.declared.outcome.Outcome.{Outcome}
@@ -92,6 +93,11 @@ SettledBy clients s (Ok _) = (s.closed ≡ false) × IsSettled clients s.state.f
 SettledBy clients s (Err outcome.Memory) = Unit {0}
 SettledBy clients s (Err outcome.DiskFault) = Unit {0}
 SettledBy clients s (Err _) = ⊥
+
+-- but where a call on the disk failed the store is ready
+abbrev pub StaysReady : Meaning → StoreValue → Option (Two File) → Result (Unit {0}) Outcome → Type 0
+StaysReady clients s files (Err outcome.DiskFault) = Unit {0}
+StaysReady clients s files _ = IsReady clients s files
 
 -- a store came by settling batches as far as the answer says
 pub record SettlesAs (clients : Meaning) (s s' : StoreValue) (old new : Outside) (result : Result (Unit {0}) Outcome) : Type 0 where

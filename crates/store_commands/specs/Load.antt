@@ -1,9 +1,11 @@
 -- What loading a store comes to.
 use Rattle.std.specs.Prelude.{◌≡◌, List, Option, Result, Ok, Err}
 use Rattle.outside.specs.declared.limits.TheConstants.{MAX_JOURNAL}
+use Rattle.outside.specs.Disk.{Becomes}
 use Rattle.outside.specs.Faults.{Rose}
 use Rattle.outside.specs.Files.{Two, File}
 use Rattle.outside.specs.Outside.{Outside}
+use Rattle.frame_journal.specs.Gates.{Settles}
 use Rattle.sync_rules.specs.declared.entries.Entry.{Entry}
 use Rattle.sync_rules.specs.Clients.{Meaning}
 use Rattle.sync_rules.specs.Facts.{facts}
@@ -49,3 +51,10 @@ IsOpened clients files (Err _) = Unit {0}
 abbrev pub LoadKeeps : Result StoreValue Outcome → Two File → Two File → Type 0
 LoadKeeps (Ok s) two two' = ReadsAs two two'
 LoadKeeps (Err came) two two' = Keeps came two two'
+
+-- but for a fault of the disk the files read as before, with nothing pending in them
+abbrev pub LeavesSettled : Option (Two File) → Option (Two File) → Result StoreValue Outcome
+    → Type 0
+LeavesSettled old new (Err outcome.DiskFault) = Unit {0}
+LeavesSettled old new (Ok s) = Becomes Settles old new
+LeavesSettled old new (Err _) = Becomes Settles old new

@@ -9,7 +9,7 @@ ghost use Rattle.sync_rules.specs.Legal.{Allowed};
 ghost use Rattle.sync_store.specs.Fitting.{Fits};
 ghost use Rattle.sync_store.specs.Ready.{IsReady};
 ghost use Rattle.store_commands.specs.Commit.{CommitsAs, ExtendsBy, ExtendsTold, HasBatch};
-ghost use Rattle.store_commands.specs.Commit.{IsAdded, MayFollow, SettlesAs};
+ghost use Rattle.store_commands.specs.Commit.{IsAdded, MayFollow, SettlesAs, StaysReady};
 ghost use Rattle.store_commands.specs.Load.{MayExtend};
 
 use outside::Disk;
@@ -76,13 +76,18 @@ fn commit_settled<D: Disk, C: Clients>(
     commit(store, batch, disk, clients)
 }
 
-// Settles the journal.
-fn settle<D: Disk, C: Clients>(store: &mut Store, disk: &mut D, clients: &C) -> Result<(), Outcome>
+/// Settles the journal. `Memory` and `DiskFault` are its only outcomes beside `Ok`.
+pub fn settle<D: Disk, C: Clients>(
+    store: &mut Store,
+    disk: &mut D,
+    clients: &C,
+) -> Result<(), Outcome>
     requires ready { IsReady (C.meaning clients.now) store.old (D.tells disk.old).files }
     ensures run { DiskRun (D.tells disk.old) (D.tells disk.new) }
     ensures by { ExtendsBy (D.tells disk.old) (D.tells disk.new) result }
     ensures settled { SettlesAs (C.meaning clients.now) store.old store.new (D.tells disk.old)
         (D.tells disk.new) result }
+    ensures stays { StaysReady (C.meaning clients.now) store.new (D.tells disk.new).files result }
     ensures ready { OnOk result (IsReady (C.meaning clients.now) store.new
         (D.tells disk.new).files) }
 {

@@ -17,9 +17,10 @@ mod post;
 mod print;
 mod show;
 
-pub use commit::Settling;
+pub use commit::{Settling, settle};
 pub use entries::{add_contact, add_group, set_level};
 pub use init::make_store;
-pub use listing::Listing;
+pub use listing::{Listing, add_listing};
+pub use load::load_store;
 pub use post::post_message;
 pub use show::{list, write_body};

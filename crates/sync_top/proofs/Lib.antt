@@ -3,3 +3,4 @@ pub mod PlayLemmas
 pub mod StreamLemmas
 pub mod StateLemmas
 pub mod UndamagedLemmas
+pub mod HeadlineLemmas

@@ -26,8 +26,11 @@ use Rattle.store_commands.specs.Plans.{Plan, contact_plan, group_plan, level_pla
 use Rattle.store_commands.specs.Post.{HasPosted, PostsBody, StopsShort}
 use Rattle.store_commands.specs.Show.{HasLooked}
 use Rattle.store_commands.specs.Shown.{Showing, body_shown, listing_shown}
-use Rattle.sync_top.specs.Run.{Comes, ComesOfStore, KeepsHost}
-use Rattle.sync_top.specs.Undamaged.{StandsForSome, Undamaged}
+use Rattle.sync_top.specs.Run.{Comes, ComesOfStore, Covered, KeepsHost}
+use Rattle.sync_top.specs.Undamaged.{NeverDamaged, RunUndamaged, StandsForSome, Undamaged}
+use Rattle.outside.specs.Runs.{Told}
+use Rattle.sync_run.specs.Headline.{Headline, RunsOn}
+use Rattle.sync_words.specs.declared.link_words.LinkWords.{LinkWords}
 
 -- ---- a store that is begun
 
@@ -95,6 +98,14 @@ module _ (clients : Meaning) (old new : Outside) where
     of_posted outcome.Memory (inr did) = of_body outcome.Memory did
     of_posted came did = of_body came did
 
+  -- a run of sessions leaves what a crash might have left before, or a journal of the run
+  of_run : (words : List LinkWords) → Headline clients words old new → RunUndamaged clients old new
+  of_run words headline two files each told m w =
+      elim ((headline two files told).moments m w) [
+        | inl now ↦ each m.files now.image
+        | inr on ↦ record { of = on.stands_for.whole; stands_for = on.stands_for.stands_for }
+      ]
+
   of_store : (did : Outcome → Type 0) (input input' out out' : Stream) (came : Outcome) → (did came → Undamaged clients old new)
       → ComesOfStore did old new input input' out out' came → Undamaged clients old new
   of_store did input input' out out' came of_did (inl done) = of_did done
@@ -109,24 +120,26 @@ module _ {H : Type 0} (tells : H → Outside) (clients : Meaning) (h h' : H) (in
   kept : h' ≡ h → Undamaged clients (tells h) (tells h')
   kept same = subst (λ (x : H). Undamaged clients (tells h) (tells x)) (sym same) (nothing_done clients (tells h))
 
-  pub undamaged : (words : Asked) → Comes clients words (tells h) (tells h') input input' out out' came → KeepsHost words h h' → Undamaged clients (tells h) (tells h')
-  undamaged (Usage place) comes keeps = kept keeps
-  undamaged (Do (command.Try name descriptor)) comes keeps = kept keeps
-  undamaged (Do command.Records) comes keeps = kept keeps
-  undamaged (Do command.Init) comes keeps =
+  pub undamaged : (words : Asked) → Comes clients words (tells h) (tells h') input input' out out' came → KeepsHost words h h' → Covered clients words (tells h) (tells h')
+      → NeverDamaged clients words (tells h) (tells h')
+  undamaged (Usage place) comes keeps covered = kept keeps
+  undamaged (Do (command.Try name descriptor)) comes keeps covered = kept keeps
+  undamaged (Do command.Records) comes keeps covered = kept keeps
+  undamaged (Do command.Init) comes keeps covered =
       of_store clients (tells h) (tells h') (λ o. HasBegun (tells h) (tells h') out out' o × IsIdle input input') input input' out out' came (λ did. of_begun clients (tells h) (tells h') out out' came did.0) comes
-  undamaged (Do command.Contact) comes keeps =
+  undamaged (Do command.Contact) comes keeps covered =
       of_store clients (tells h) (tells h') (λ o. HasAdded clients contact_plan settling.Before (tells h) (tells h') out out' o × IsIdle input input') input input' out out' came (λ did. of_added clients (tells h) (tells h') _ _ out out' came did.0) comes
-  undamaged (Do (command.Group name major descriptor)) comes keeps =
+  undamaged (Do (command.Group name major descriptor)) comes keeps covered =
       of_store clients (tells h) (tells h') (λ o. HasAdded clients (λ f. group_plan clients f (record { name = name; major = major; descriptor = descriptor })) settling.Before (tells h) (tells h') out out' o × IsIdle input input') input input' out out' came (λ did. of_added clients (tells h) (tells h') _ _ out out' came did.0) comes
-  undamaged (Do (command.Share contact group level)) comes keeps =
+  undamaged (Do (command.Share contact group level)) comes keeps covered =
       of_store clients (tells h) (tells h') (λ o. HasAdded clients (λ f. level_plan f contact group level) settling.Before (tells h) (tells h') out out' o × IsIdle input input') input input' out out' came (λ did. of_added clients (tells h) (tells h') _ _ out out' came did.0) comes
-  undamaged (Do (command.Post group timestamp)) comes keeps =
+  undamaged (Do (command.Post group timestamp)) comes keeps covered =
       of_store clients (tells h) (tells h') (λ o. HasPosted clients group timestamp (tells h) (tells h') input input' out out' o) input input' out out' came
       (λ did. of_posted clients (tells h) (tells h') group timestamp input input' out out' came did) comes
-  undamaged (Do command.Show) comes keeps =
+  undamaged (Do command.Show) comes keeps covered =
       of_store clients (tells h) (tells h') (λ o. HasLooked clients (listing_shown listing.Store) (tells h) (tells h') out out' o × IsIdle input input') input input' out out' came (λ did. of_looked clients (tells h) (tells h') _ out out' came did.0) comes
-  undamaged (Do command.Inbox) comes keeps =
+  undamaged (Do command.Inbox) comes keeps covered =
       of_store clients (tells h) (tells h') (λ o. HasLooked clients (listing_shown listing.Inbox) (tells h) (tells h') out out' o × IsIdle input input') input input' out out' came (λ did. of_looked clients (tells h) (tells h') _ out out' came did.0) comes
-  undamaged (Do (command.Body id)) comes keeps =
+  undamaged (Do (command.Body id)) comes keeps covered =
       of_store clients (tells h) (tells h') (λ o. HasLooked clients (body_shown id) (tells h) (tells h') out out' o × IsIdle input input') input input' out out' came (λ did. of_looked clients (tells h) (tells h') _ out out' came did.0) comes
+  undamaged (Do (command.Sync turns quiet links)) comes keeps covered = of_run clients (tells h) (tells h') links covered

@@ -1,4 +1,3 @@
-pub mod Reasons
 pub mod RecordText
 pub mod Input
 pub mod Plays

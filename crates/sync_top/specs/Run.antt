@@ -20,6 +20,8 @@ use Rattle.store_commands.specs.Plans.{contact_plan, group_plan, level_plan}
 use Rattle.store_commands.specs.Post.{HasPosted}
 use Rattle.store_commands.specs.Shown.{body_shown, listing_shown}
 use Rattle.store_commands.specs.declared.commit.Settling.TheVariants as settling
+use Rattle.sync_run.specs.Headline.{Headline}
+use Rattle.sync_run.specs.Ran.{HasRun}
 use Rattle.store_commands.specs.declared.listing.Listing.TheVariants as listing
 use Rattle.sync_top.specs.declared.input.TheConstants.{MAX_INPUT}
 use Rattle.sync_top.specs.declared.input.Stop.{Stop}
@@ -29,7 +31,7 @@ use Rattle.sync_words.specs.declared.outcome.Outcome.{Outcome}
 use Rattle.sync_words.specs.declared.outcome.Outcome.TheVariants as outcome
 use Rattle.sync_words.specs.Outcomes.{status_of, text_of}
 use Rattle.outside.specs.Streams.{Stream, IsIdle, GetsFront, Gets}
-use Rattle.sync_top.specs.Reasons.{in_words}
+use Rattle.sync_run.specs.Lines.{in_words}
 use Rattle.sync_top.specs.RecordText.{items_text}
 use Rattle.sync_words.specs.Reading.{Asked}
 use Rattle.sync_words.specs.Reading.Asked.{Usage, Do}
@@ -140,6 +142,18 @@ Comes clients (Do command.Inbox) old new input input' out out' came =
     ComesOfStore (λ did. HasLooked clients (listing_shown listing.Inbox) old new out out' did × IsIdle input input') old new input input' out out' came
 Comes clients (Do (command.Body id)) old new input input' out out' came =
     ComesOfStore (λ did. HasLooked clients (body_shown id) old new out out' did × IsIdle input input') old new input input' out out' came
+Comes clients (Do (command.Sync turns quiet links)) old new input input' out out' came =
+    ComesOfStore (λ did. HasRun clients (record { turns = turns; quiet = quiet }) links old new did × Untouched input input' out out') old new input input' out out' came
+
+-- the words ask for a run of sessions
+abbrev pub AsksSync : Asked → Type 0
+AsksSync (Do (command.Sync turns quiet links)) = Unit {0}
+AsksSync _ = ⊥
+
+-- Whatever the links bring, whatever call fails and whenever the device stops, each moment of a run of sessions is covered.
+abbrev pub Covered : Meaning → Asked → (old new : Outside) → Type 0
+Covered clients (Do (command.Sync turns quiet links)) old new = Headline clients links old new
+Covered clients _ old new = Unit {0}
 
 -- the host is as before, but for the commands of a store
 abbrev pub KeepsHost : {H : Type 0} → Asked → H → H → Type 0

@@ -1,8 +1,8 @@
 // A command from its words to its status.
 ghost use Rattle.std.specs.Prelude.{◌≡◌};
-ghost use Rattle.sync_top.specs.Run.{Comes, KeepsHost, Ran, Reports};
+ghost use Rattle.sync_top.specs.Run.{AsksSync, Comes, Covered, KeepsHost, Ran, Reports};
 ghost use Rattle.sync_top.specs.States.{TellsWhole};
-ghost use Rattle.sync_top.specs.Undamaged.{Undamaged};
+ghost use Rattle.sync_top.specs.Undamaged.{NeverDamaged};
 ghost use Rattle.sync_words.specs.Outcomes.{came_to};
 ghost use Rattle.sync_words.specs.Reading.{asks, IsWithin, texts};
 ghost use Rattle.sync_words.specs.Reading.Asked.{Do};
@@ -16,12 +16,13 @@ use store_commands::{
     Listing, add_contact, add_group, list, make_store, post_message, set_level, write_body,
 };
 use sync_rules::Clients;
+use sync_run::{Limits, sync_links};
 use sync_words::{Command, Outcome, Status, read_words};
 
 /// Runs the command that the words ask for: it reads `input`, writes its text to `out` and its
 /// line, if it has one, to `err`, and says what it came to. The words are those after the program's
-/// name; `hasher` is for the tables whose keys a stranger chooses. A failing `err` never changes
-/// the status.
+/// name; `hasher` is for the tables whose keys a stranger chooses. For the words of `sync` no link was
+/// made on the host. A failing `err` never changes the status.
 pub fn run<H: Host, S: Source, W: Sink, E: Sink, C: Clients>(
     alloc: Global,
     hasher: RandomState,
@@ -32,13 +33,17 @@ pub fn run<H: Host, S: Source, W: Sink, E: Sink, C: Clients>(
     err: &mut E,
     clients: &C,
 ) -> Status
+    requires unused { AsksSync (asks (texts words.now)) → (H.tells host.old).links.dialled ≡ 0 }
+    ensures headline { Covered (C.meaning clients.now) (asks (texts words.now)) (H.tells host.old)
+        (H.tells host.new) }
     ensures ran { Ran (C.meaning clients.now) (asks (texts words.now)) (H.tells host.old)
         (H.tells host.new) (S.tells input.old) (S.tells input.new) (W.tells out.old)
         (W.tells out.new) (E.tells err.old) (E.tells err.new) result }
     ensures states { TellsWhole (C.meaning clients.now) (asks (texts words.now)) (S.tells input.old)
         (S.tells input.new) (W.tells out.old) (W.tells out.new) result }
     ensures host { KeepsHost (asks (texts words.now)) host.old host.new }
-    ensures undamaged { Undamaged (C.meaning clients.now) (H.tells host.old) (H.tells host.new) }
+    ensures undamaged { NeverDamaged (C.meaning clients.now) (asks (texts words.now))
+        (H.tells host.old) (H.tells host.new) }
 {
     // The law that the clause on the states rests on.
     play_says();
@@ -56,6 +61,7 @@ fn command<H: Host, S: Source, W: Sink, C: Clients>(
     out: &mut W,
     clients: &C,
 ) -> Result<(), Outcome>
+    requires unused { AsksSync (asks (texts words.now)) → (H.tells host.old).links.dialled ≡ 0 }
     ensures comes { Comes (C.meaning clients.now) (asks (texts words.now)) (H.tells host.old)
         (H.tells host.new) (S.tells input.old) (S.tells input.new) (W.tells out.old)
         (W.tells out.new) (came_to result) }
@@ -75,7 +81,8 @@ fn obey<H: Host, S: Source, W: Sink, C: Clients>(
     out: &mut W,
     clients: &C,
 ) -> Result<(), Outcome>
-    requires { IsWithin asked }
+    requires within { IsWithin asked }
+    requires unused { AsksSync (Do asked) → (H.tells host.old).links.dialled ≡ 0 }
     ensures comes { Comes (C.meaning clients.now) (Do asked) (H.tells host.old) (H.tells host.new)
         (S.tells input.old) (S.tells input.new) (W.tells out.old) (W.tells out.new)
         (came_to result) }
@@ -107,6 +114,11 @@ fn obey<H: Host, S: Source, W: Sink, C: Clients>(
         Command::Show => list(alloc, hasher, Listing::Store, host, out, clients),
         Command::Inbox => list(alloc, hasher, Listing::Inbox, host, out, clients),
         Command::Body(id) => write_body(alloc, hasher, &id, host, out, clients),
+        Command::Sync(turns, quiet, links) => {
+            let limits = Limits { turns, quiet };
+            let ends = sync_links(alloc, hasher, limits, links.as_slice(), host, clients)?;
+            Err(Outcome::Links(ends))
+        }
     }
 }
 

@@ -4,7 +4,6 @@ ghost use Rattle.journal_play.specs.Playing.{IsTextOf};
 ghost use Rattle.record_grammar.specs.Stream.{records_of};
 ghost use Rattle.sync_rules.specs.Steps.{kind_of_def};
 ghost use Rattle.sync_words.specs.Outcomes.{came_to};
-ghost use Rattle.sync_top.specs.Reasons.{in_words};
 ghost use Rattle.sync_top.specs.RecordText.{items_text};
 ghost use Rattle.sync_top.specs.Run.{outcome_of, PrintEnds, PrintsPlay, Streams, TriesClient};
 
@@ -13,12 +12,13 @@ use crate::lister::Lister;
 use crate::player::Player;
 use journal_play::Play;
 use outside::{Sink, Source, write_text};
-use record_stream::{Ending, Reason};
+use record_stream::Ending;
 use std::alloc::{AllocError, Global};
 use std::hash::RandomState;
 use sync_ids::{GroupDef, MAX_DESCRIPTOR, MAX_NAME};
 use sync_rules::{Clients, Refused};
-use sync_words::{Outcome, ReasonText};
+use sync_run::in_words;
+use sync_words::Outcome;
 
 /// Plays the records of the input in a journal of the group of this client's name, major version 0
 /// and this descriptor, and prints what becomes of each message.
@@ -141,22 +141,5 @@ fn ended(ending: Ending) -> Result<(), Outcome>
         Ending::Clean => Ok(()),
         Ending::Inside(place) => Err(Outcome::Inside(place)),
         Ending::Bad(place, reason) => Err(Outcome::Bad(place, in_words(reason))),
-    }
-}
-
-// A reason, as it is put in words.
-fn in_words(reason: Reason) -> ReasonText
-    ensures { result ≡ in_words reason }
-{
-    match reason {
-        Reason::WrongVersion => ReasonText::WrongVersion,
-        Reason::TooLong => ReasonText::TooLong,
-        Reason::EmptyIds => ReasonText::EmptyIds,
-        Reason::RaggedIds => ReasonText::RaggedIds,
-        Reason::ShortMessage => ReasonText::ShortMessage,
-        Reason::BodyTooLong => ReasonText::BodyTooLong,
-        Reason::BadTimestamp => ReasonText::BadTimestamp,
-        Reason::BadVersions => ReasonText::BadVersions,
-        Reason::BadNonce => ReasonText::BadNonce,
     }
 }

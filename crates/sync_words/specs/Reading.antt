@@ -1,16 +1,20 @@
 -- What the words of a command line ask for. Words are counted from 0 and read from left to right.
-use Rattle.std.specs.Prelude.{◌≡◌, ℕ, ◌+◌, ◌≤◌, Bool, true, false, if◌then◌else◌, List, [], ◌∷◌, length, map, drop, codes, String, Option, Some, None, Result, Ok, Err}
+use Rattle.std.specs.Prelude.{◌≡◌, ℕ, zero, suc, ◌+◌, ◌≤◌, Bool, true, false, not, if◌then◌else◌, List, [], ◌∷◌, ◌++◌, length, map, drop, codes, String, Option, Some, None, Result, Ok, Err}
 use Rattle.std.specs.Str.{bytes_eq}
 use Rattle.std.specs.String.{string_bytes}
 use Rattle.std.specs.declared.alloc.Global.{Global}
 use Rattle.sync_ids.specs.declared.def.TheConstants.{MAX_NAME, MAX_DESCRIPTOR}
 use Rattle.sync_ids.specs.declared.message.TheConstants.{MAX_TIMESTAMP}
-use Rattle.sync_words.specs.declared.command.TheConstants.{MAX_CONTACT, MAX_MAJOR}
+use Rattle.outside.specs.declared.limits.TheConstants.{LINKS}
+use Rattle.sync_words.specs.declared.command.TheConstants.{MAX_CONTACT, MAX_MAJOR, MAX_TURNS}
+use Rattle.sync_words.specs.declared.link_words.TheConstants.{FIRST_LINK, LINK_WORDS, MAX_LATENCY}
+use Rattle.sync_words.specs.declared.link_words.LinkWords.{LinkWords}
 use Rattle.sync_words.specs.declared.command.Command.{Command}
 use Rattle.sync_words.specs.declared.command.Command.TheVariants as command
 use Rattle.sync_words.specs.declared.command.WordsFault.{WordsFault}
 use Rattle.sync_words.specs.declared.command.WordsFault.TheVariants as fault
-use Rattle.sync_words.specs.Words.{name_in, descriptor_in, number_in, id_in, level_in}
+use Rattle.sync_words.specs.Links.{has_std, AreLinks}
+use Rattle.sync_words.specs.Words.{name_in, descriptor_in, number_in, positive_in, id_in, level_in, mode_in, spec_in}
 
 -- the words as bytes
 abbrev pub texts : List (String Global) → List (List ℕ)
@@ -68,6 +72,29 @@ asks_post = word_then id_in (λ group. word_then (number_in MAX_TIMESTAMP) (λ t
 abbrev pub asks_body : Rest
 asks_body = word_then id_in (λ id. ends (command.Body id))
 
+-- a link behind others: a contact, a mode, a latency and a spec
+abbrev pub link_then : (before : List LinkWords) → (LinkWords → Rest) → Rest
+link_then before next =
+    word_then (number_in MAX_CONTACT) (λ contact. word_then mode_in (λ mode. word_then (positive_in MAX_LATENCY) (λ latency.
+    word_then (spec_in (has_std before)) (λ spec. next (record { contact = contact; mode = mode; latency = latency; spec = spec })))))
+
+-- no link follows: there is one, and no word is left
+abbrev pub has_ended : List LinkWords → List (List ℕ) → Bool
+has_ended [] words = false
+has_ended (link ∷ links) words = not (is_left words)
+
+-- at most so many more links behind others
+unfoldable pub asks_links : (List LinkWords → Command) → (more : ℕ) → (before : List LinkWords) → Rest
+asks_links asked zero before place words = ends (asked before) place words
+asks_links asked (suc more) before place words =
+    if has_ended before words then Do (asked before) else link_then before (λ link. asks_links asked more (before ++ link ∷ [])) place words
+
+-- a number of turns, a number of still ones, and 1 to 8 links
+abbrev pub asks_sync : Rest
+asks_sync =
+    word_then (positive_in MAX_TURNS) (λ turns. word_then (positive_in MAX_TURNS) (λ quiet.
+    asks_links (command.Sync turns quiet) LINKS []))
+
 -- the commands without parts
 abbrev pub plain_in : List ℕ → Option Command
 plain_in word =
@@ -90,6 +117,7 @@ asks_of word =
     else if bytes_eq word (codes "share") then asks_share
     else if bytes_eq word (codes "post") then asks_post
     else if bytes_eq word (codes "body") then asks_body
+    else if bytes_eq word (codes "sync") then asks_sync
     else ends_or_usage (plain_in word)
 
 -- what all words ask for
@@ -111,11 +139,15 @@ IsName word = (1 ≤ length word) × (length word ≤ MAX_NAME)
 abbrev pub IsDescriptor : List ℕ → Type 0
 IsDescriptor word = length word ≤ MAX_DESCRIPTOR
 
+abbrev pub IsCount : ℕ → Type 0
+IsCount n = (1 ≤ n) × (n ≤ MAX_TURNS)
+
 -- the parts of a command are within their limits
 abbrev pub IsWithin : Command → Type 0
 IsWithin (command.Try name descriptor) = IsName name × IsDescriptor descriptor
 IsWithin (command.Group name major descriptor) = IsName name × IsDescriptor descriptor
 IsWithin (command.Post group timestamp) = timestamp ≤ MAX_TIMESTAMP
+IsWithin (command.Sync turns quiet links) = IsCount turns × IsCount quiet × AreLinks links
 IsWithin _ = Unit {0}
 
 -- ---- a single word
@@ -128,3 +160,25 @@ Reads {V} read words place value = (next : V → Rest) → word_then read next p
 abbrev pub Stops : {V : Type 0} → (List ℕ → Option V) → List (List ℕ) → ℕ → WordsFault → Type 0
 Stops {V} read words place (fault.Usage at) = (next : V → Rest) → word_then read next place (drop place words) ≡ Usage at
 Stops {V} read words place fault.Memory = Unit {0}
+
+-- ---- links
+
+-- the words of a link from this place on, behind the links before, were read as this link
+abbrev pub ReadsLink : List LinkWords → List (List ℕ) → ℕ → LinkWords → Type 0
+ReadsLink before words place link =
+    (next : LinkWords → Rest) → link_then before next place (drop place words) ≡ next link (place + LINK_WORDS) (drop (place + LINK_WORDS) words)
+
+-- one of them is missing or wrong
+abbrev pub StopsLink : List LinkWords → List (List ℕ) → ℕ → WordsFault → Type 0
+StopsLink before words place (fault.Usage at) = (next : LinkWords → Rest) → link_then before next place (drop place words) ≡ Usage at
+StopsLink before words place fault.Memory = Unit {0}
+
+-- all words from the first link on were read as these links
+abbrev pub ReadsLinks : List (List ℕ) → List LinkWords → Type 0
+ReadsLinks words links =
+    (asked : List LinkWords → Command) → asks_links asked LINKS [] FIRST_LINK (drop FIRST_LINK words) ≡ Do (asked links)
+
+-- one of them is missing, wrong or too many
+abbrev pub StopsLinks : List (List ℕ) → WordsFault → Type 0
+StopsLinks words (fault.Usage at) = (asked : List LinkWords → Command) → asks_links asked LINKS [] FIRST_LINK (drop FIRST_LINK words) ≡ Usage at
+StopsLinks words fault.Memory = Unit {0}

@@ -1,20 +1,25 @@
 //! The commands and their words.
 ghost use Rattle.std.specs.Prelude.{◌≡◌, drop, IfOk, IfSome};
 ghost use Rattle.sync_words.specs.Reading.{asks, asks_of, asks_try, asks_group, asks_share};
-ghost use Rattle.sync_words.specs.Reading.{asks_post, asks_body, ends, IsReadAs, IsWithin};
+ghost use Rattle.sync_words.specs.Reading.{asks_post, asks_body, asks_sync, ends};
+ghost use Rattle.sync_words.specs.Reading.{IsReadAs, IsWithin};
 ghost use Rattle.sync_words.specs.Reading.{plain_in, texts};
 
-use crate::reading::{descriptor_at, id_at, is_left_at, level_at, name_at, number_at};
+use crate::link_words::{LinkList, read_links};
+use crate::reading::{descriptor_at, id_at, is_left_at, level_at, name_at, number_at, positive_at};
 use crate::word::Word;
-use std::alloc::{AllocError, Global};
+use std::alloc::{AllocError, AllocFailed, Global};
 use sync_ids::{GroupId, MAX_TIMESTAMP, MessageId};
 use sync_rules::{Level, MAX_CONTACTS};
 
-// The greatest number of a contact.
-const MAX_CONTACT: u64 = MAX_CONTACTS as u64 - 1;
+/// The greatest number of a contact.
+pub const MAX_CONTACT: u64 = MAX_CONTACTS as u64 - 1;
 
 // The greatest major version of a client.
 const MAX_MAJOR: u64 = 4_294_967_295;
+
+/// The most turns of a run, and the most still turns behind which it is over.
+pub const MAX_TURNS: u64 = 1_000_000;
 
 /// What the words of a command line ask for. The parts are those of the command, in order.
 #[derive(Debug, Drop)]
@@ -39,6 +44,9 @@ pub enum Command {
     Inbox,
     /// `body ID`: writes the body of a message.
     Body(MessageId),
+    /// `sync TURNS QUIET` and the words of each link: runs sessions over the links, at most so many
+    /// turns, and until so many turns in a row were still.
+    Sync(u32, u32, LinkList),
 }
 
 /// Why the words of a command line were not read.
@@ -58,6 +66,17 @@ impl From<AllocError> for WordsFault {
     ghost from_gives = { λ _ e. e ≡ fault.Memory };
 
     fn from(_: AllocError) -> WordsFault {
+        WordsFault::Memory
+    }
+}
+
+impl<T: Drop> From<AllocFailed<T>> for WordsFault {
+    ghost use Rattle.std.specs.Prelude.{◌≡◌};
+    ghost use Rattle.sync_words.specs.declared.command.WordsFault.TheVariants as fault;
+
+    ghost from_gives = { λ _ e. e ≡ fault.Memory };
+
+    fn from(_: AllocFailed<T>) -> WordsFault {
         WordsFault::Memory
     }
 }
@@ -87,6 +106,7 @@ fn read_command(alloc: Global, word: &str, words: &[String]) -> Result<Command, 
         "share" => read_share(words),
         "post" => read_post(words),
         "body" => read_body(words),
+        "sync" => read_sync(alloc, words),
         word => match plain(word) {
             Some(command) => read_end(words, 1, command),
             None => Err(WordsFault::Usage(0)),
@@ -164,4 +184,14 @@ fn read_body(words: &[String]) -> Result<Command, WordsFault>
 {
     let id = id_at(words, 1)?;
     read_end(words, 2, Command::Body(id))
+}
+
+fn read_sync(alloc: Global, words: &[String]) -> Result<Command, WordsFault>
+    ensures read { IsReadAs (asks_sync 1 (drop 1 (texts words.now))) result }
+    ensures within { IfOk result IsWithin }
+{
+    let turns = positive_at(words, 1, MAX_TURNS)?;
+    let quiet = positive_at(words, 2, MAX_TURNS)?;
+    let links = read_links(alloc, words)?;
+    Ok(Command::Sync(turns as u32, quiet as u32, links))
 }

@@ -1,16 +1,18 @@
 // The words of a command line, one by one.
-ghost use Rattle.std.specs.Prelude.{◌≡◌, ◌+◌, ◌≤◌, ◌∷◌, [], drop, IfOk, IfErr, MatchOption};
+ghost use Rattle.std.specs.Prelude.{◌≡◌, ◌+◌, ◌≤◌, ◌∷◌, [], drop, IfOk, IfErr, IfSome, MatchOption};
 ghost use Rattle.std.specs.Char.{is_ascii_digit};
 ghost use Rattle.std.specs.List.{list_all};
 ghost use Rattle.sync_words.specs.Reading.{texts, is_left, IsDescriptor, IsName, Reads, Stops};
-ghost use Rattle.sync_words.specs.Words.{name_in, descriptor_in, number_in, id_in, level_in};
+ghost use Rattle.sync_words.specs.Words.{name_in, descriptor_in, number_in, positive_in, id_in};
+ghost use Rattle.sync_words.specs.Words.{level_in, mode_in, spec_in};
 ghost use Rattle.sync_words.specs.Words.{is_digits, is_number, has_leading_zero};
 
 use crate::command::WordsFault;
+use crate::spec::{is_spec, is_std};
 use crate::word::Word;
 use std::alloc::Global;
 use sync_ids::{Fixed, MAX_DESCRIPTOR, MAX_NAME};
-use sync_rules::Level;
+use sync_rules::{Level, Mode};
 
 // The word at a place, if there is one.
 fn word_at(words: &[String], place: usize) -> Option<&str>
@@ -67,9 +69,35 @@ pub fn number_at(words: &[String], place: usize, most: u64) -> Result<u64, Words
     }
 }
 
-// The number that a word spells, if it is one.
-fn number(word: &str, most: u64) -> Option<u64>
-    ensures { result ≡ number_in most word.now }
+/// Reads the word at this place as a number from 1 to `most`.
+pub fn positive_at(words: &[String], place: usize, most: u64) -> Result<u64, WordsFault>
+    ensures ok { IfOk result (Reads (positive_in most) (texts words.now) place) }
+    ensures least { IfOk result (λ n. 1 ≤ n) }
+    ensures most { IfOk result (λ n. n ≤ most) }
+    ensures err { IfErr result (Stops (positive_in most) (texts words.now) place) }
+{
+    match word_at(words, place) {
+        Some(word) => positive(word, most).ok_or(WordsFault::Usage(place)),
+        None => Err(WordsFault::Usage(place)),
+    }
+}
+
+fn positive(word: &str, most: u64) -> Option<u64>
+    ensures value { result ≡ positive_in most word.now }
+    ensures least { IfSome result (λ n. 1 ≤ n) }
+    ensures most { IfSome result (λ n. n ≤ most) }
+{
+    match number(word, most) {
+        Some(n) => (n > 0).then_some(n),
+        None => None,
+    }
+}
+
+/// The number that a word spells, if it is one: `0`, or decimal digits without a leading zero, at
+/// most `most`. It may have any number of digits.
+pub fn number(word: &str, most: u64) -> Option<u64>
+    ensures read { result ≡ number_in most word.now }
+    ensures most { IfSome result (λ n. n ≤ most) }
 {
     if !is_number(word.as_bytes()) {
         return None;
@@ -136,7 +164,8 @@ pub fn level_at(words: &[String], place: usize) -> Result<Level, WordsFault>
     }
 }
 
-fn level(word: &str) -> Option<Level>
+/// The level that a word names: `invisible`, `visible` or `shared`.
+pub fn level(word: &str) -> Option<Level>
     ensures { result ≡ level_in word.now }
 {
     match word {
@@ -144,6 +173,45 @@ fn level(word: &str) -> Option<Level>
         "visible" => Some(Level::Visible),
         "shared" => Some(Level::Shared),
         _ => None,
+    }
+}
+
+/// Reads the word at this place as a mode.
+pub fn mode_at(words: &[String], place: usize) -> Result<Mode, WordsFault>
+    ensures ok { IfOk result (Reads mode_in (texts words.now) place) }
+    ensures err { IfErr result (Stops mode_in (texts words.now) place) }
+{
+    match word_at(words, place) {
+        Some(word) => mode(word).ok_or(WordsFault::Usage(place)),
+        None => Err(WordsFault::Usage(place)),
+    }
+}
+
+/// The mode of a session that a word names: `interactive` or `batch`.
+pub fn mode(word: &str) -> Option<Mode>
+    ensures { result ≡ mode_in word.now }
+{
+    match word {
+        "interactive" => Some(Mode::Interactive),
+        "batch" => Some(Mode::Batch),
+        _ => None,
+    }
+}
+
+/// Reads the word at this place as the spec of a link; where a link before it is `std`, that is
+/// wrong.
+pub fn spec_at(
+    alloc: Global,
+    words: &[String],
+    place: usize,
+    has_std: bool,
+) -> Result<Word, WordsFault>
+    ensures ok { IfOk result (Reads (spec_in has_std) (texts words.now) place) }
+    ensures err { IfErr result (Stops (spec_in has_std) (texts words.now) place) }
+{
+    match word_at(words, place) {
+        Some(word) if is_spec(word) && !(has_std && is_std(word)) => copied(alloc, word),
+        _ => Err(WordsFault::Usage(place)),
     }
 }
 

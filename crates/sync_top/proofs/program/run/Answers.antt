@@ -1,5 +1,6 @@
 use Rattle.sync_words.specs.Outcomes.{came_to}
 use Rattle.sync_words.specs.Reading.{asks, texts}
+use Rattle.sync_top.proofs.HeadlineLemmas.{covers}
 use Rattle.sync_top.proofs.StateLemmas.{reports_as, tells}
 use Rattle.sync_top.proofs.UndamagedLemmas.{undamaged}
 use Rattle.sync_top.proofs.program.run.Goals as goal
@@ -20,3 +21,12 @@ pub returns-clause-undamaged : goal.returns-clause-undamaged
 returns-clause-undamaged g c =
     undamaged g.H.Disk.tells (g.C.Clients.meaning c.args.clients.now) c.args.host.now c.command.new.host _ _ _ _ (came_to c.command.result)
     (asks (texts c.args.words.now)) c.command.ensures.comes c.command.ensures.host
+    (covers (g.C.Clients.meaning c.args.clients.now) (asks (texts c.args.words.now)) (g.H.Disk.tells c.args.host.now)
+    (g.H.Disk.tells c.command.new.host) _ _ _ _ (came_to c.command.result) c.requires.unused
+    c.command.ensures.comes)
+
+pub returns-clause-headline : goal.returns-clause-headline
+returns-clause-headline g c =
+    covers (g.C.Clients.meaning c.args.clients.now) (asks (texts c.args.words.now)) (g.H.Disk.tells c.args.host.now)
+    (g.H.Disk.tells c.command.new.host) _ _ _ _ (came_to c.command.result) c.requires.unused
+    c.command.ensures.comes

@@ -1,6 +1,6 @@
 use Rattle.std.proofs.Common.{◌≡◌, Err, drop, sym, ◌∙◌, subst, rules}
 use Rattle.sync_words.specs.declared.command.Command.TheVariants as command
-use Rattle.sync_words.specs.Reading.{Asked, Rest, texts, word_then, ends, asks_group, IsReadAs}
+use Rattle.sync_words.specs.Reading.{Asked, texts, word_then, ends, asks_group, IsReadAs}
 use Rattle.sync_words.specs.Words.{number_in, descriptor_in}
 use Rattle.sync_words.proofs.PlaceLemmas.{stopped}
 use Rattle.sync_words.proofs.command.read_group.Goals as goal

@@ -1,0 +1,238 @@
+-- What the command comes to, by its load, its test of the contacts, and the run on its links.
+use Rattle.std.proofs.Common.{◌≡◌, ◌+◌, ◌≤◌, false, List, [], ◌++◌, append-nil, refl, sym, ◌∙◌, ap, subst, arith, Option, None, Some, Result, Ok, Err}
+use Rattle.std.specs.Prelude.{IsErrAnd}
+use Rattle.std.specs.Option.{option_map}
+use Rattle.outside.specs.Disk.{Becomes}
+use Rattle.outside.specs.Faults.{Rose, one_more}
+use Rattle.outside.specs.Files.{Two, File, read_files}
+use Rattle.outside.specs.Links.{HeardOn, Links}
+use Rattle.outside.specs.Outside.{DiskRun, Outside}
+use Rattle.outside.specs.Runs.{grow_same}
+use Rattle.frame_journal.specs.Gates.{ReadsSame}
+use Rattle.sync_rules.specs.declared.states.Refused.{Refused}
+use Rattle.sync_rules.specs.declared.states.Refused.TheVariants as refused
+use Rattle.sync_rules.specs.Clients.{Meaning}
+use Rattle.sync_rules.specs.Facts.{Facts, facts}
+use Rattle.entry_codec.specs.Standing.{Standing, journal, stands}
+use Rattle.sync_store.specs.Fitting.{Fits, FitsSome}
+use Rattle.sync_store.specs.Store.{StoreValue}
+use Rattle.sync_course.specs.Events.{Event, GrowsBy, RoseIf, has_failure, heard_after, readings_of}
+use Rattle.sync_node.specs.Courses.{FitsWith, ReadsAs}
+use Rattle.sync_node.specs.Output.{Journal}
+use Rattle.store_commands.specs.Load.{HasFacts, IsLoaded, LoadedBy}
+use Rattle.sync_words.specs.declared.link_words.LinkWords.{LinkWords}
+use Rattle.sync_words.specs.declared.links.LinkEnd.{LinkEnd}
+use Rattle.sync_words.specs.declared.outcome.Outcome.{Outcome}
+use Rattle.sync_words.specs.declared.outcome.Outcome.TheVariants as outcome
+use Rattle.sync_run.specs.declared.run.Limits.{Limits}
+use Rattle.sync_run.specs.Causes.{IsCaused}
+use Rattle.sync_run.specs.Courses.{ComesTo, HearsRun, RanToEnd, RunComes, TestsContacts, WasBroken, WasFull, is_unknown, unheard}
+use Rattle.sync_run.specs.Dialling.{MakesLinks}
+use Rattle.sync_run.proofs.CourseDials.{unbegun}
+
+-- ---- the same, where links and files are the same
+
+hears_as : (es : List Event) (o0 o1 o2 o3 : Outside) → o1.links ≡ o0.links → o3.links ≡ o2.links → HearsRun es o1 o2 → HearsRun es o0 o3
+hears_as es o0 o1 o2 o3 first last h = record {
+  heard =
+      subst (λ (a : Links). o3.links.heard ≡ option_map (λ (l : List HeardOn). heard_after es (unheard o3.links.dialled)) a.heard) first
+      (subst (λ (b : Links). b.heard ≡ option_map (λ (l : List HeardOn). heard_after es (unheard b.dialled)) o1.links.heard) (sym last) h.heard);
+  readings =
+      subst (λ (a : Links). GrowsBy (readings_of es) a.readings o3.links.readings) first
+      (subst (λ (b : Links). GrowsBy (readings_of es) o1.links.readings b.readings) (sym last) h.readings);
+  faults = λ link.
+      subst (λ (a : Links). RoseIf (has_failure link es) (a.faults link) (o3.links.faults link)) first
+      (subst (λ (b : Links). RoseIf (has_failure link es) (o1.links.faults link) (b.faults link)) (sym last) (h.faults link));
+}
+
+reads_as : (clients : Meaning) (a b : Option (Two File)) (j : Journal) → b ≡ a → ReadsAs clients a j → ReadsAs clients b j
+reads_as clients a b j same reads = subst (λ (f : Option (Two File)). ReadsAs clients f j) (sym same) reads
+
+module _ (clients : Meaning) (limits : Limits) (words : List LinkWords) (j : Journal) (o0 o1 o2 o3 : Outside) (first : o1.links ≡ o0.links) (last : o3.links ≡ o2.links)
+    (files : o3.files ≡ o2.files) where
+  ran_as : (ends : List LinkEnd) → RanToEnd clients limits words j o1 o2 ends → RanToEnd clients limits words j o0 o3 ends
+  ran_as ends ran = record {
+    sessions = ran.sessions;
+    planned = ran.planned;
+    all_planned = ran.all_planned;
+    all_made = ap (λ (l : Links). l.dialled) last ∙ ran.all_made;
+    events = ran.events;
+    last = ran.last;
+    course = ran.course;
+    hears = hears_as ran.events o0 o1 o2 o3 first last ran.hears;
+    reads = reads_as clients o2.files o3.files _ files ran.reads;
+    closes = ran.closes;
+    quiet = ran.quiet;
+  }
+
+  was_as : WasBroken clients limits words j o1 o2 → WasBroken clients limits words j o0 o3
+  was_as was = record {
+    sessions = was.sessions;
+    planned = was.planned;
+    all_planned = was.all_planned;
+    events = was.events;
+    last = was.last;
+    broken = was.broken;
+    all_made = λ begun. ap (λ (l : Links). l.dialled) last ∙ was.all_made begun;
+    hears = hears_as was.events o0 o1 o2 o3 first last was.hears;
+    reads = reads_as clients o2.files o3.files _ files was.reads;
+  }
+
+  full_as : WasFull clients limits words j o1 o2 → WasFull clients limits words j o0 o3
+  unfolding was_as
+  full_as was = record { run = was_as was.run; batch = was.batch; next = was.next; steps = was.steps; over = was.over }
+
+  comes_as : (r : Result (List LinkEnd) Outcome) → RunComes clients limits words j o1 o2 r → RunComes clients limits words j o0 o3 r
+  comes_as (Ok ends) comes = ran_as ends comes
+  comes_as (Err (outcome.Links ends)) comes = reads_as clients o2.files o3.files j files comes
+  comes_as (Err outcome.Full) comes = full_as comes
+  comes_as (Err outcome.Memory) comes = was_as comes
+  comes_as (Err outcome.DiskFault) comes = was_as comes
+  comes_as (Err _) comes = absurd comes
+
+-- ---- by what the files stood for
+
+run_comes_to : (clients : Meaning) (limits : Limits) (words : List LinkWords) (stood : Standing) (j : Journal) (o o' : Outside) → stood ≡ journal j → is_unknown (facts j) words ≡ false
+    → (r : Result (List LinkEnd) Outcome) → RunComes clients limits words j o o' r → ComesTo clients limits words stood o o' r
+run_comes_to clients limits words stood j o o' began known (Ok ends) comes = record { begin = j; began = began; tested = known; has = comes }
+run_comes_to clients limits words stood j o o' began known (Err (outcome.Links ends)) comes = record { begin = j; began = began; tested = known; has = comes }
+run_comes_to clients limits words stood j o o' began known (Err outcome.Full) comes = record { begin = j; began = began; tested = known; has = comes }
+run_comes_to clients limits words stood j o o' began known (Err outcome.Memory) comes = λ begin is.
+    let both : journal j ≡ journal begin = sym began ∙ is in
+    let same : j ≡ begin = cc in
+    subst (λ (k : Journal). WasBroken clients limits words k o o') same comes
+run_comes_to clients limits words stood j o o' began known (Err outcome.DiskFault) comes = λ begin is.
+    let both : journal j ≡ journal begin = sym began ∙ is in
+    let same : j ≡ begin = cc in
+    subst (λ (k : Journal). WasBroken clients limits words k o o') same comes
+run_comes_to clients limits words stood j o o' began known (Err _) comes = absurd comes
+
+-- ---- a load
+
+-- files that read as before
+reads_still : (clients : Meaning) (two : Two File) (old new : Option (Two File)) (j : Journal) → old ≡ Some two → Becomes ReadsSame old new → stands clients (read_files two) ≡ journal j
+    → ReadsAs clients new j
+reads_still clients two None new j is same began = cc
+reads_still clients two (Some old) None j is same began = absurd same
+reads_still clients two (Some old) (Some new) j is same began =
+    let one : old ≡ two = cc in
+    (new, refl, ap (stands clients) (same ∙ ap read_files one) ∙ began)
+
+no_links_made : (o o' : Outside) → o'.links ≡ o.links → MakesLinks [] o.links o'.links
+no_links_made o o' same = record {
+  grows = grow_same o.links o'.links same;
+  dialled = (let plain : o.links.dialled ≡ o.links.dialled + 0 = omega arith in ap (λ (l : Links). l.dialled) same ∙ plain);
+  told = ap (λ (l : Links). l.told) same ∙ none_more o.links.told;
+  heard = ap (λ (l : Links). l.heard) same ∙ none_more o.links.heard;
+  same_readings = ap (λ (l : Links). l.readings) same;
+}
+  where
+    none_more : {A : Type 0} (x : Option (List A)) → x ≡ option_map (λ (l : List A). l ++ []) x
+    none_more None = refl
+    none_more (Some l) = ap (λ (k : List _). Some k) (sym (append-nil l))
+
+module _ (clients : Meaning) (limits : Limits) (words : List LinkWords) (two : Two File) (o o' : Outside) (none : o.links.dialled ≡ 0) (told : o.files ≡ Some two)
+    (same : o'.links ≡ o.links) (reads : Becomes ReadsSame o.files o'.files) where
+  abbrev stood : Standing
+  stood = stands clients (read_files two)
+
+  -- it was broken off before its first session
+  broken_early : (begin : Journal) → stood ≡ journal begin → WasBroken clients limits words begin o o'
+  broken_early begin began =
+      unbegun clients limits words [] begin o o' none (no_links_made o o' same) (reads_still clients two o.files o'.files begin told reads began)
+
+  load_comes : (came : Outcome) → LoadedBy o o' (Err came) → IsLoaded stood (Err came) → ComesTo clients limits words stood o o' (Err came)
+  load_comes outcome.NoStore by loaded = loaded
+  load_comes (outcome.Damaged place) by loaded = loaded
+  load_comes outcome.DiskFault by loaded = broken_early
+  load_comes outcome.Memory by loaded = broken_early
+  load_comes _ by loaded = absurd by
+
+  pub unloaded_comes : (r : Result (List LinkEnd) Outcome) (came : Outcome) → IsErrAnd r (λ e. e ≡ came) → LoadedBy o o' (Err came) → IsLoaded stood (Err came)
+      → ComesTo clients limits words stood o o' r
+  unloaded_comes (Ok ends) came is by loaded = absurd is
+  unloaded_comes (Err e) came is by loaded =
+      subst (λ (x : Outcome). ComesTo clients limits words stood o o' (Err x)) (sym is) (load_comes came by loaded)
+
+  pub unheld_comes : (r : Result (List LinkEnd) Outcome) → IsErrAnd r (λ e. e ≡ outcome.Memory) → ComesTo clients limits words stood o o' r
+  unheld_comes (Ok ends) is = absurd is
+  unheld_comes (Err e) is = subst (λ (x : Outcome). ComesTo clients limits words stood o o' (Err x)) (sym is) broken_early
+
+  module _ (s : StoreValue) (loaded : HasFacts stood s) where
+    pub refused_comes : (r : Result (List LinkEnd) Outcome) (why : Refused) → IsErrAnd r (λ e. e ≡ outcome.Refused why) → TestsContacts s.state.facts words (Err why)
+        → ComesTo clients limits words stood o o' r
+    refused_comes (Ok ends) why is tests = absurd is
+    refused_comes (Err e) why is tests =
+        subst (λ (x : Outcome). ComesTo clients limits words stood o o' (Err x)) (sym is) (
+          tests.0,
+          record {
+            begin = loaded.of;
+            began = loaded.stood;
+            tested = ap (λ (f : Facts). is_unknown f words) loaded.are ∙ tests.1;
+            has = reads_still clients two o.files o'.files loaded.of told reads loaded.stood;
+          },
+        )
+
+    -- the store fits the journal
+    fits_loaded : FitsSome clients s o'.files → FitsWith clients s o'.files loaded.of
+    fits_loaded fits =
+        let there = reads_still clients two o.files o'.files loaded.of told reads loaded.stood in
+        let fit = fits there.0 there.1 in
+        let both : journal fit.0 ≡ journal loaded.of = sym fit.1.stands_for ∙ there.2 in
+        let one : fit.0 ≡ loaded.of = cc in
+        (there.0, there.1, subst (λ (k : Journal). Fits clients s k there.0) one fit.1)
+
+    pub links_come : (o2 o3 : Outside) (u : Unit {0}) (r : Result (List LinkEnd) Outcome) → FitsSome clients s o'.files → TestsContacts s.state.facts words (Ok u) → o3.links ≡ o2.links
+        → o3.files ≡ o2.files → ((j : Journal) → FitsWith clients s o'.files j → RunComes clients limits words j o' o2 r) → ComesTo clients limits words stood o o3 r
+    links_come o2 o3 u r fits tests last files comes =
+        run_comes_to clients limits words stood loaded.of o o3 loaded.stood (ap (λ (f : Facts). is_unknown f words) loaded.are ∙ tests) r
+        (comes_as clients limits words loaded.of o o' o2 o3 same last files r (comes loaded.of (fits_loaded fits)))
+
+-- ---- causes
+
+load_caused : (words : List LinkWords) (o o' : Outside) (came : Outcome) → LoadedBy o o' (Err came) → IsCaused words o o' (Err came)
+load_caused words o o' outcome.NoStore by = tt
+load_caused words o o' (outcome.Damaged place) by = tt
+load_caused words o o' outcome.DiskFault by = by
+load_caused words o o' outcome.Memory by = tt
+load_caused words o o' _ by = absurd by
+
+pub unloaded_caused : (words : List LinkWords) (o o' : Outside) (r : Result (List LinkEnd) Outcome) (came : Outcome) → IsErrAnd r (λ e. e ≡ came) → LoadedBy o o' (Err came)
+    → IsCaused words o o' r
+unloaded_caused words o o' (Ok ends) came is by = absurd is
+unloaded_caused words o o' (Err e) came is by = subst (λ (x : Outcome). IsCaused words o o' (Err x)) (sym is) (load_caused words o o' came by)
+
+pub refused_caused : (f : Facts) (words : List LinkWords) (o o' : Outside) (r : Result (List LinkEnd) Outcome) (why : Refused) → IsErrAnd r (λ e. e ≡ outcome.Refused why)
+    → TestsContacts f words (Err why) → IsCaused words o o' r
+refused_caused f words o o' (Ok ends) why is tests = absurd is
+refused_caused f words o o' (Err e) why is tests =
+    subst (λ (x : Outcome). IsCaused words o o' (Err x)) (sym is ∙ refl)
+    (subst (λ (w : Refused). IsCaused words o o' (Err (outcome.Refused w))) (sym tests.0) tt)
+
+pub unheld_caused : (words : List LinkWords) (o o' : Outside) (r : Result (List LinkEnd) Outcome) → IsErrAnd r (λ e. e ≡ outcome.Memory) → IsCaused words o o' r
+unheld_caused words o o' (Ok ends) is = absurd is
+unheld_caused words o o' (Err e) is = subst (λ (x : Outcome). IsCaused words o o' (Err x)) (sym is) tt
+
+pub links_caused : (words : List LinkWords) (o o1 o2 o3 : Outside) → DiskRun o o1 → o3.links ≡ o2.links → o3.disk_faults ≡ o2.disk_faults
+    → (r : Result (List LinkEnd) Outcome) → IsCaused words o1 o2 r → IsCaused words o o3 r
+links_caused words o o1 o2 o3 run last faults (Ok ends) caused = λ i end at failed.
+    subst (λ (a : Links). Rose (a.faults end.link) (o3.links.faults end.link)) run.same_links
+    (subst (λ (b : Links). Rose (o1.links.faults end.link) (b.faults end.link)) (sym last) (caused i end at failed))
+links_caused words o o1 o2 o3 run last faults (Err outcome.DiskFault) caused =
+    let rose : one_more o1.disk_faults ≤ o2.disk_faults = caused in
+    let more : one_more o.disk_faults ≤ o3.disk_faults = omega (arith, rose, run.later, faults) in
+    more
+links_caused words o o1 o2 o3 run last faults (Err (outcome.Links ends)) caused = record {
+  link = caused.link;
+  within = caused.within;
+  alone = caused.alone;
+  rose =
+      subst (λ (a : Links). Rose (a.faults caused.link) (o3.links.faults caused.link)) run.same_links
+      (subst (λ (b : Links). Rose (o1.links.faults caused.link) (b.faults caused.link)) (sym last) caused.rose);
+}
+links_caused words o o1 o2 o3 run last faults (Err outcome.NoStore) caused = tt
+links_caused words o o1 o2 o3 run last faults (Err (outcome.Damaged place)) caused = tt
+links_caused words o o1 o2 o3 run last faults (Err (outcome.Refused refused.UnknownContact)) caused = tt
+links_caused words o o1 o2 o3 run last faults (Err outcome.Full) caused = tt
+links_caused words o o1 o2 o3 run last faults (Err outcome.Memory) caused = tt
+links_caused words o o1 o2 o3 run last faults (Err _) caused = absurd caused

@@ -1,0 +1,265 @@
+-- A run over a journal, from its first place on: settling, the sessions on the links that were dialled, and its end.
+use Rattle.std.proofs.Common.{◌≡◌, ℕ, ◌<◌, Bool, true, false, List, ◌++◌, refl, sym, ◌∙◌, ap, subst, arith, Some, Result, Ok, Err}
+use Rattle.std.specs.Prelude.{IsErrAnd}
+use Rattle.outside.specs.declared.limits.TheConstants.{MAX_JOURNAL}
+use Rattle.outside.specs.Files.{Two, File}
+use Rattle.outside.specs.Outside.{DiskRun, Outside}
+use Rattle.sync_rules.specs.declared.entries.Entry.{Entry}
+use Rattle.sync_rules.specs.declared.entries.Session.{Session}
+use Rattle.sync_rules.specs.Clients.{Meaning}
+use Rattle.sync_rules.specs.Facts.{Facts, after_all, after_batches, facts}
+use Rattle.sync_rules.specs.Legal.{AllSettling, Legal}
+use Rattle.sync_rules.specs.StepKinds.{all_settling_only}
+use Rattle.sync_rules.specs.Steps.{IsSettled}
+use Rattle.entry_codec.specs.Payloads.{journal_end}
+use Rattle.entry_codec.specs.Standing.{room_of}
+use Rattle.sync_store.specs.Commits.{needed}
+use Rattle.sync_store.specs.Fitting.{FitsSome}
+use Rattle.sync_store.specs.Moments.{IsBetween}
+use Rattle.sync_store.specs.Settling.{ComesBy}
+use Rattle.sync_store.specs.Store.{StoreValue}
+use Rattle.sync_course.specs.Events.{Event, batches_of}
+use Rattle.sync_course.specs.LiftLaws.{breaks_begun, runs_begun, runs_settled_begun}
+use Rattle.sync_course.specs.Quiet.{EndsQuiet}
+use Rattle.sync_course.specs.ToldLaws.{breaks_then, runs_then}
+use Rattle.sync_course.specs.Turns.{Attaches, Course, Ended, Place, RunStep, Terms, first_place, is_over}
+use Rattle.sync_course.specs.declared.ends.LinkLine.{LinkLine}
+use Rattle.sync_node.specs.declared.link.Link.{Link}
+use Rattle.sync_node.specs.CourseLaws.{fits_grown, reads_front}
+use Rattle.sync_node.specs.Courses.{FitsWith, ReadsAs, RunBreaks, RunRuns, place_at}
+use Rattle.sync_node.specs.Fulls.{RunFull}
+use Rattle.sync_node.specs.Node.{NodeValue}
+use Rattle.sync_node.specs.Output.{Journal}
+use Rattle.sync_words.specs.declared.links.LinkEnd.{LinkEnd}
+use Rattle.sync_words.specs.declared.outcome.Outcome.{Outcome}
+use Rattle.sync_words.specs.declared.outcome.Outcome.TheVariants as outcome
+use Rattle.store_commands.specs.Commit.{SettledBy, SettlesAs, needed_by}
+use Rattle.sync_run.specs.declared.dialling.Dialled.{Dialled}
+use Rattle.sync_run.specs.declared.run.Limits.{Limits}
+use Rattle.sync_run.specs.Courses.{terms_of}
+use Rattle.sync_run.specs.Lines.{lines_of, numbered}
+use Rattle.sync_run.specs.Parts.{BreaksRun, EndsFrom, FullRun, RunBroken, RunEnded, RunFilled, RunsOver, RunsSessions, before_sessions, sessions_from}
+use Rattle.sync_run.proofs.CourseParts.{full_then, told_too}
+use Rattle.sync_run.proofs.LineLaws.{lines_close}
+
+-- the law of what stands at the end of a run that is over
+abbrev pub RunsEndQuiet : Type 0
+RunsEndQuiet =
+    (clients : Meaning) (terms : Terms) (sessions : List Session) (j : List (List Entry)) (events : List Event) (last : Place) → Legal clients j
+    → Course clients terms sessions (facts j) events last → is_over terms.quiet last ≡ true → EndsQuiet clients terms events last
+
+-- the sum of a store is that of its journal
+sum_over : (s : StoreValue) (k : Journal) (batch : List Entry) → s.end ≡ journal_end k → facts k ≡ s.state.facts → s.limit ≡ MAX_JOURNAL → s.limit < needed s batch
+    → MAX_JOURNAL < needed_by k batch
+sum_over s k batch end same limit over =
+    let room : room_of (after_all (facts k) batch) ≡ room_of (after_all s.state.facts batch) = ap (λ (f : Facts). room_of (after_all f batch)) same in
+    omega (arith, end, limit, over, room)
+
+module _ (clients : Meaning) (limits : Limits) (links : List Dialled) (j : Journal) (s0 : StoreValue) (o0 : Outside) (fit : FitsWith clients s0 o0.files j) where
+  abbrev sessions : List Session
+  sessions = sessions_from (facts j).begun links
+
+  abbrev terms : Terms
+  terms = terms_of limits j
+
+  -- the run came to this place
+  abbrev pub ComesTo : Place → StoreValue → Outside → Type 0
+  ComesTo place s o = RunRuns clients terms (first_place sessions (facts j)) place s0 s o0 o
+
+  abbrev pub StopsBy : Outside → Type 0
+  StopsBy o = RunBreaks clients terms (first_place sessions (facts j)) s0 o0 o
+
+  -- the files as they read, where a store fits them
+  fits_reads : (s : StoreValue) (o : Outside) (k : Journal) → FitsWith clients s o.files k → ReadsAs clients o.files k
+  fits_reads s o k f = (f.0, f.1, f.2.stands_for)
+
+  pub broken_by : (o : Outside) → StopsBy o → RunBroken clients limits sessions j o0 o
+  broken_by o breaks = record {
+    events = breaks.runs.events;
+    last = breaks.to;
+    broken = record { numbered = refl; path = breaks.runs.path };
+    told = breaks.runs.told;
+    reads = breaks.runs.journal j fit;
+  }
+
+  -- it stopped at a place between two calls
+  pub broken_at : (place : Place) (s : StoreValue) (o : Outside) → ComesTo place s o → RunBroken clients limits sessions j o0 o
+  broken_at place s o runs = record {
+    events = runs.events;
+    last = place;
+    broken = record { numbered = refl; path = runs.path };
+    told = runs.told;
+    reads = fits_reads s o (j ++ batches_of runs.events) (runs.journal j fit);
+  }
+
+  -- the next batch would have passed the limit
+  filled_by : (s : StoreValue) (o : Outside) → s.limit ≡ MAX_JOURNAL → RunFull clients terms (first_place sessions (facts j)) s0 s o0 o → RunFilled clients limits sessions j o0 o
+  filled_by s o limit full =
+      let fit_now : FitsWith clients s o.files (j ++ batches_of full.runs.events) = full.runs.journal j fit in
+      record {
+        run = record {
+          events = full.runs.events;
+          last = full.to;
+          broken = record { numbered = refl; path = full.runs.path };
+          told = full.runs.told;
+          reads = fits_reads s o (j ++ batches_of full.runs.events) fit_now;
+        };
+        batch = full.batch;
+        next = full.next;
+        steps = full.steps;
+        over = sum_over s (j ++ batches_of full.runs.events) full.batch fit_now.2.end_is fit_now.2.facts_are limit full.over;
+      }
+
+  -- ---- settling
+
+  module _ (s1 : StoreValue) (o1 : Outside) (more : List (List Entry)) (run : DiskRun o0 o1) (comes : ComesBy clients s0 s1 o0 o1 more) where
+    settling : AllSettling clients (facts j) more
+    settling = subst (λ (f : Facts). AllSettling clients f more) (sym fit.2.facts_are) comes.settling
+
+    pub begun_same : s1.state.facts.begun ≡ (facts j).begun
+    begun_same =
+        ap (λ (f : Facts). f.begun) comes.facts
+        ∙ (all_settling_only clients s0.state.facts more comes.settling).begun
+        ∙ ap (λ (f : Facts). f.begun) (sym fit.2.facts_are)
+
+    same_facts : after_batches (facts j) more ≡ s1.state.facts
+    same_facts = ap (λ (f : Facts). after_batches f more) fit.2.facts_are ∙ sym comes.facts
+
+    -- the journal is settled
+    pub comes_settled : s1.closed ≡ false → IsSettled clients s1.state.facts → ComesTo (before_sessions sessions s1.state.facts) s1 o1
+    comes_settled opened settled =
+        let start : Place = first_place sessions (facts j) in
+        let mid : Place = record start { facts = after_batches (facts j) more } in
+        let grows : (k : Journal) → FitsWith clients s0 o0.files k → FitsWith clients s1 o1.files (k ++ more) =
+        fits_grown clients s0 s1 more o0 o1 (λ k whole. IsBetween k more whole) run.same_told opened comes.leads in
+        let is_settled : IsSettled clients (after_batches (facts j) more) = subst (IsSettled clients) (sym same_facts) settled in
+        let whole : ComesTo (record mid { stage = Attaches sessions }) s1 o1 =
+        runs_then (RunStep clients terms) (FitsWith clients s0 o0.files) (FitsWith clients s1 o1.files) (FitsWith clients s1 o1.files) start mid
+        (record mid { stage = Attaches sessions }) o0 o1 o1
+        (runs_begun clients terms (FitsWith clients s0 o0.files) (FitsWith clients s1 o1.files) sessions more start o0 o1 refl settling run.same_links grows)
+        (runs_settled_begun clients terms (FitsWith clients s1 o1.files) (FitsWith clients s1 o1.files) (λ k f. f) sessions mid o1 refl is_settled) in
+        subst (λ (f : Facts). ComesTo (before_sessions sessions f) s1 o1) same_facts whole
+
+    -- it was broken off while it was settled
+    pub stops_settling : FitsSome clients s0 o0.files → StopsBy o1
+    stops_settling fits =
+        let front = reads_front clients s0 s1 more o0 o1 (λ k whole. IsBetween k more whole) (λ k whole. whole ≡ k ++ more) fits run.same_told (λ k whole between. between)
+        comes.leads in
+        breaks_begun clients terms (FitsWith clients s0 o0.files) (ReadsAs clients o1.files) front.front front.others front.reads sessions more
+        (first_place sessions (facts j)) o0 o1 refl settling run.same_links front.parts
+
+    -- ---- behind it
+
+    module _ (opened : s1.closed ≡ false) (settled : IsSettled clients s1.state.facts) where
+      told : (two : Two File) × (o1.files ≡ Some two)
+      told = told_too o0.files o1.files fit.0 run.same_told fit.1
+
+      here : ComesTo (before_sessions sessions s1.state.facts) s1 o1
+      here = comes_settled opened settled
+
+      pub run_stops : (t : StoreValue) (o : Outside) → t ≡ s1 → BreaksRun clients limits t.state.facts.begun (sessions_from t.state.facts.begun links) t o1 o → StopsBy o
+      run_stops t o same breaks =
+          let here_too : BreaksRun clients limits s1.state.facts.begun (sessions_from s1.state.facts.begun links) s1 o1 o =
+          subst (λ (s : StoreValue). BreaksRun clients limits s.state.facts.begun (sessions_from s.state.facts.begun links) s o1 o) same breaks in
+          breaks_then (RunStep clients terms) (FitsWith clients s0 o0.files) (FitsWith clients s1 o1.files) (ReadsAs clients o.files) (first_place sessions (facts j))
+          (before_sessions sessions s1.state.facts) o0 o1 o here
+          ((subst (λ (k : ℕ). BreaksRun clients limits k (sessions_from k links) s1 o1 o) begun_same here_too).stops told.0 told.1)
+
+      pub run_fills : (t s : StoreValue) (o : Outside) → t ≡ s1 → s.limit ≡ MAX_JOURNAL
+          → FullRun clients limits t.state.facts.begun (sessions_from t.state.facts.begun links) t s o1 o → RunFilled clients limits sessions j o0 o
+      run_fills t s o same limit full =
+          let here_too : FullRun clients limits s1.state.facts.begun (sessions_from s1.state.facts.begun links) s1 s o1 o =
+          subst (λ (x : StoreValue). FullRun clients limits x.state.facts.begun (sessions_from x.state.facts.begun links) x s o1 o) same full in
+          filled_by s o limit
+          (full_then clients terms (first_place sessions (facts j)) (before_sessions sessions s1.state.facts) s0 s1 s o0 o1 o here
+          ((subst (λ (k : ℕ). FullRun clients limits k (sessions_from k links) s1 s o1 o) begun_same here_too).fills told.0 told.1))
+
+      module _ (t : StoreValue) (nodes : List Link) (s : StoreValue) (o : Outside) (over : Bool) (same : t ≡ s1)
+          (given : RunsSessions clients limits t.state.facts.begun (sessions_from t.state.facts.begun links) nodes t s o1 o over) where
+        runs : RunsSessions clients limits s1.state.facts.begun (sessions_from s1.state.facts.begun links) nodes s1 s o1 o over
+        runs = subst (λ (x : StoreValue). RunsSessions clients limits x.state.facts.begun (sessions_from x.state.facts.begun links) nodes x s o1 o over) same given
+
+        end : EndsFrom clients limits (facts j).begun (before_sessions sessions s1.state.facts) nodes s1 s o1 o over
+        end = (subst (λ (k : ℕ). RunsSessions clients limits k (sessions_from k links) nodes s1 s o1 o over) begun_same runs).ends told.0 told.1
+
+        abbrev last : Place
+        last = place_at Ended nodes end.heard end.moved end.still end.made s.state.facts
+
+        ended : ComesTo last s o
+        ended =
+            runs_then (RunStep clients terms) (FitsWith clients s0 o0.files) (FitsWith clients s1 o1.files) (FitsWith clients s o.files) (first_place sessions (facts j))
+            (before_sessions sessions s1.state.facts) last o0 o1 o here end.runs
+
+        -- but its lines were not made
+        pub run_unclosed : RunBroken clients limits sessions j o0 o
+        run_unclosed = broken_at last s o ended
+
+        pub run_closed : RunsEndQuiet → (ends : List LinkEnd) → ends ≡ numbered 0 (lines_of over nodes) → RunEnded clients limits sessions j o0 o ends
+        run_closed law ends are =
+            let course : Course clients terms sessions (facts j) ended.events last = record { numbered = refl; path = ended.path; at_end = refl } in
+            record {
+              events = ended.events;
+              last = last;
+              course = course;
+              told = ended.told;
+              reads = fits_reads s o (j ++ batches_of ended.events) (ended.journal j fit);
+              closes =
+                  are ∙ ap (λ (ls : List LinkLine). numbered 0 ls)
+                  (lines_close over limits.quiet Ended nodes end.heard end.moved end.still end.made s.state.facts end.is_so);
+              quiet = law clients terms sessions j ended.events last fit.2.legal course;
+            }
+
+-- ---- by the answers
+
+-- an error that goes on by `?`
+pub passed : (P : Result (List LinkEnd) Outcome → Type 0) (r : Result (List LinkEnd) Outcome) (x : Outcome) → IsErrAnd r (λ e. e ≡ x) → P (Err x) → P r
+passed P (Ok ends) x is h = absurd is
+passed P (Err e) x is h = subst (λ (o : Outcome). P (Err o)) (sym is) h
+
+settling_answers : (clients : Meaning) (limits : Limits) (plans : List Session) (j : Journal) (s : StoreValue) (o0 o : Outside) (came : Outcome) → SettledBy clients s (Err came)
+    → RunBroken clients limits plans j o0 o → RunsOver clients limits plans j o0 o (Err came)
+settling_answers clients limits plans j s o0 o outcome.Memory answer broken = broken
+settling_answers clients limits plans j s o0 o outcome.DiskFault answer broken = broken
+settling_answers clients limits plans j s o0 o _ answer broken = absurd answer
+
+pub over_settling : (clients : Meaning) (limits : Limits) (links : List Dialled) (s0 s1 : StoreValue) (o0 o1 : Outside) (r : Result (List LinkEnd) Outcome) (came : Outcome) → IsErrAnd r (λ e. e ≡ came)
+    → FitsSome clients s0 o0.files → DiskRun o0 o1 → SettlesAs clients s0 s1 o0 o1 (Err came) → (j : Journal) → FitsWith clients s0 o0.files j
+    → RunsOver clients limits (sessions_from (facts j).begun links) j o0 o1 r
+over_settling clients limits links s0 s1 o0 o1 r came is fits run settles j fit =
+    passed (λ (r : Result (List LinkEnd) Outcome). RunsOver clients limits (sessions_from (facts j).begun links) j o0 o1 r) r came is
+    (settling_answers clients limits (sessions_from (facts j).begun links) j s1 o0 o1 came settles.answer
+    (broken_by clients limits links j s0 o0 fit o1 (stops_settling clients limits links j s0 o0 fit s1 o1 settles.more run settles.comes fits)))
+
+module _ (clients : Meaning) (limits : Limits) (links : List Dialled) (s0 s1 : StoreValue) (o0 o1 : Outside) (u : Unit {0}) (run : DiskRun o0 o1) (settles : SettlesAs clients s0 s1 o0 o1 (Ok u))
+    (j : Journal) (fit : FitsWith clients s0 o0.files j) where
+  -- want of memory for the node
+  pub over_unmade : RunBroken clients limits (sessions_from (facts j).begun links) j o0 o1
+  over_unmade =
+      broken_at clients limits links j s0 o0 fit (before_sessions (sessions_from (facts j).begun links) s1.state.facts) s1 o1
+      (comes_settled clients limits links j s0 o0 fit s1 o1 settles.more run settles.comes settles.answer.0 settles.answer.1)
+
+  module _ (n : NodeValue) (is : n.store ≡ s1) where
+    pub over_broken : (o : Outside) → BreaksRun clients limits n.store.state.facts.begun (sessions_from n.store.state.facts.begun links) n.store o1 o
+        → RunBroken clients limits (sessions_from (facts j).begun links) j o0 o
+    over_broken o breaks =
+        broken_by clients limits links j s0 o0 fit o
+        (run_stops clients limits links j s0 o0 fit s1 o1 settles.more run settles.comes settles.answer.0 settles.answer.1 n.store o is breaks)
+
+    pub over_filled : (s : StoreValue) (o : Outside) → s0.limit ≡ MAX_JOURNAL → s.limit ≡ n.store.limit
+        → FullRun clients limits n.store.state.facts.begun (sessions_from n.store.state.facts.begun links) n.store s o1 o
+        → RunFilled clients limits (sessions_from (facts j).begun links) j o0 o
+    over_filled s o limited same full =
+        run_fills clients limits links j s0 o0 fit s1 o1 settles.more run settles.comes settles.answer.0 settles.answer.1 n.store s o is
+        (same ∙ ap (λ (x : StoreValue). x.limit) is ∙ settles.comes.limit ∙ limited) full
+
+    module _ (nodes : List Link) (s : StoreValue) (o : Outside) (over : Bool)
+        (runs : RunsSessions clients limits n.store.state.facts.begun (sessions_from n.store.state.facts.begun links) nodes n.store s o1 o over) where
+      -- want of memory for the lines
+      pub over_unclosed : RunBroken clients limits (sessions_from (facts j).begun links) j o0 o
+      over_unclosed =
+          run_unclosed clients limits links j s0 o0 fit s1 o1 settles.more run settles.comes settles.answer.0 settles.answer.1 n.store nodes s o over is runs
+
+      pub over_closed : RunsEndQuiet → (ends : List LinkEnd) → ends ≡ numbered 0 (lines_of over nodes)
+          → RunEnded clients limits (sessions_from (facts j).begun links) j o0 o ends
+      over_closed law ends are =
+          run_closed clients limits links j s0 o0 fit s1 o1 settles.more run settles.comes settles.answer.0 settles.answer.1 n.store nodes s o over is runs law ends are

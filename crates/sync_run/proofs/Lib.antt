@@ -1,0 +1,12 @@
+mod LineLaws
+mod CourseParts
+mod CauseLaws
+mod CourseRun
+mod CourseDials
+mod CourseLinks
+mod SafeCalm
+mod SafeBegin
+mod SafeEnds
+mod SafeTurns
+mod SafeRunning
+mod SafeFull

@@ -1,0 +1,272 @@
+-- Calls that make links, ask for nonces and end links: they change no file and send nothing.
+use Rattle.std.proofs.Common.{◌≡◌, ℕ, zero, suc, ◌+◌, ◌<◌, ◌≤◌, List, [], ◌∷◌, ◌++◌, length, take, drop, refl, sym, ap, ◌∙◌, subst, inl, inr, arith, Option, None, Some, Result, Ok, Err, is_some, slice_index_or, append-nil, append_assoc}
+use Rattle.std.specs.Prelude.{IsErrAnd}
+use Rattle.std.specs.Bool.{if◌then◌else◌}
+use Rattle.std.specs.Result.{is_ok}
+use Rattle.std.specs.List.{slice_get}
+use Rattle.std.specs.Option.{option_map}
+use Rattle.std.proofs.lemmas.List.{length-append, map-append, take-append-drop}
+use Rattle.outside.specs.declared.failed.Failed.{Failed}
+use Rattle.outside.specs.Faults.{Rose}
+use Rattle.outside.specs.Host.{AsksNonce, Dials}
+use Rattle.outside.specs.Links.{HeardOn, Link, Links, nothing_heard}
+use Rattle.outside.specs.Outside.{IsNow, Outside, QuietCall}
+use Rattle.outside.specs.Runs.{HostRun, IsFront, LinksGrow, answers_at, grow_dial, grow_nonce, grow_same, grow_then, others_dial, others_nonce}
+use Rattle.sync_node.specs.Output.{sent_on}
+use Rattle.sync_words.specs.declared.link_words.LinkWords.{LinkWords}
+use Rattle.sync_run.specs.declared.dialling.Dialled.{Dialled}
+use Rattle.sync_run.specs.Courses.{unheard}
+use Rattle.sync_run.specs.Dialling.{AreDialled, Calms, DialsAll, IsDialled, MakesLinks, MakesOne, Stills, fresh_links}
+
+-- ---- calls that send nothing
+
+pub calms_none : (o : Outside) → Calms o o
+calms_none o = record {
+  same_files = refl;
+  same_faults = refl;
+  later = omega arith;
+  grows = grow_same o.links o.links refl;
+  sent = λ link. refl;
+  answers = λ link. refl;
+  moments = λ two told t m before w. inl w;
+}
+
+pub calms_then : (o0 o1 o2 : Outside) → Calms o0 o1 → Calms o1 o2 → Calms o0 o2
+calms_then o0 o1 o2 first second = record {
+  same_files = second.same_files ∙ first.same_files;
+  same_faults = second.same_faults ∙ first.same_faults;
+  later = omega (arith, first.later, second.later);
+  grows = grow_then o0.links o1.links o2.links first.grows second.grows;
+  sent = λ link. second.sent link ∙ first.sent link;
+  answers = λ link. second.answers link ∙ first.answers link;
+  moments = λ two told t m before w.
+      elim (second.moments two (first.same_files ∙ told) t m (omega (arith, before, first.later)) w) [
+        | inl old ↦ first.moments two told t m before old
+        | inr calm ↦ inr (record { image = calm.image; same_sent = λ link. calm.same_sent link ∙ first.sent link })
+      ];
+}
+
+calms_call : (o o' : Outside) → QuietCall o o' → LinksGrow o.links o'.links → ((link : ℕ) → sent_on o'.links link ≡ sent_on o.links link)
+    → ((link : ℕ) → answers_at o'.links.heard link ≡ answers_at o.links.heard link) → Calms o o'
+calms_call o o' call grows sent answers = record {
+  same_files = call.same_files;
+  same_faults = call.same_faults;
+  later = call.time.later;
+  grows = grows;
+  sent = sent;
+  answers = answers;
+  moments = λ two told t m before w. elim (call.time.nothing_else t m before w) [
+    | inl old ↦ inl old
+    | inr now ↦
+        let is = o'.now_is two m (call.same_files ∙ told) now in
+        inr (record { image = is.image; same_sent = λ link. ap (λ (s : List (List ℕ)). slice_index_or s link []) is.sent ∙ sent link })
+  ];
+}
+
+pub calms_dial : (o o' : Outside) (spec : List ℕ) (result : Result ℕ Failed) → QuietCall o o' → Dials spec result o.links o'.links → Calms o o'
+calms_dial o o' spec result call dials =
+    calms_call o o' call (grow_dial spec result o.links o'.links dials)
+    (λ link. (others_dial (suc link) spec result o.links o'.links dials).sent link (λ same. absurd (omega (arith, same))))
+    (λ link. (others_dial (suc link) spec result o.links o'.links dials).answers link (λ same. absurd (omega (arith, same))))
+
+pub calms_nonce : (o o' : Outside) (of : ℕ) (result : Result (List ℕ) Failed) → QuietCall o o' → AsksNonce of result o.links o'.links → Calms o o'
+calms_nonce o o' of result call asks =
+    calms_call o o' call (grow_nonce of result o.links o'.links asks)
+    (λ link. (others_nonce (suc link) of result o.links o'.links asks).sent link (λ same. absurd (omega (arith, same))))
+    (λ link. (others_nonce (suc link) of result o.links o'.links asks).answers link (λ same. absurd (omega (arith, same))))
+
+-- ---- calls that leave all but the time
+
+pub stills_none : (o : Outside) → Stills o o
+stills_none o = record { same_files = refl; same_faults = refl; same_links = refl; later = omega arith; moments = λ two told t m before w. w }
+
+pub stills_then : (o0 o1 o2 : Outside) → Stills o0 o1 → Stills o1 o2 → Stills o0 o2
+stills_then o0 o1 o2 first second = record {
+  same_files = second.same_files ∙ first.same_files;
+  same_faults = second.same_faults ∙ first.same_faults;
+  same_links = second.same_links ∙ first.same_links;
+  later = omega (arith, first.later, second.later);
+  moments = λ two told t m before w. first.moments two told t m before (second.moments two (first.same_files ∙ told) t m (omega (arith, before, first.later)) w);
+}
+
+pub stills_call : (o o' : Outside) → QuietCall o o' → o'.links ≡ o.links → Stills o o'
+stills_call o o' call same = record {
+  same_files = call.same_files;
+  same_faults = call.same_faults;
+  same_links = same;
+  later = call.time.later;
+  moments = λ two told t m before w. elim (call.time.nothing_else t m before w) [
+    | inl old ↦ old
+    | inr now ↦
+        let is = o'.now_is two m (call.same_files ∙ told) now in
+        o.since t m before (o.is_now two m told (subst (λ (l : Links). IsNow two l m) same is))
+  ];
+}
+
+pub calms_stills : (o o' : Outside) → Stills o o' → Calms o o'
+calms_stills o o' stills = record {
+  same_files = stills.same_files;
+  same_faults = stills.same_faults;
+  later = stills.later;
+  grows = grow_same o.links o'.links stills.same_links;
+  sent = λ link. ap (λ (l : Links). sent_on l link) stills.same_links;
+  answers = λ link. ap (λ (l : Links). answers_at l.heard link) stills.same_links;
+  moments = λ two told t m before w. inl (stills.moments two told t m before w);
+}
+
+-- a run of such calls is one of a host
+pub calms_run : (o o' : Outside) → Calms o o' → HostRun o o'
+calms_run o o' calms = record { same_files = ap is_some calms.same_files; later = omega (arith, calms.same_faults); clock = calms.later; links = calms.grows }
+
+-- ---- links that are made
+
+nothing_more : {A : Type 0} (t : Option (List A)) → t ≡ option_map (λ (xs : List A). xs ++ []) t
+nothing_more None = refl
+nothing_more (Some xs) = ap Some (sym (append-nil xs))
+
+both_more : {A : Type 0} (t : Option (List A)) (xs ys zs : List A) → zs ≡ xs ++ ys
+    → option_map (λ (l : List A). l ++ ys) (option_map (λ (l : List A). l ++ xs) t) ≡ option_map (λ (l : List A). l ++ zs) t
+both_more None xs ys zs is = refl
+both_more (Some l) xs ys zs is = ap Some (append_assoc l xs ys ∙ ap (λ r. l ++ r) (sym is))
+
+unheard_words : (ws vs : List LinkWords) → unheard (length (ws ++ vs)) ≡ unheard (length ws) ++ unheard (length vs)
+unheard_words [] vs = refl
+unheard_words (w ∷ ws) vs = ap (λ l. nothing_heard ∷ l) (unheard_words ws vs)
+
+pub makes_none : (old new : Links) → LinksGrow old new → new.dialled ≡ old.dialled → new.told ≡ old.told → new.heard ≡ old.heard → new.readings ≡ old.readings → MakesLinks [] old new
+makes_none old new grows dialled told heard readings = record {
+  grows = grows;
+  dialled = omega (arith, dialled);
+  told = told ∙ nothing_more old.told;
+  heard = heard ∙ nothing_more old.heard;
+  same_readings = readings;
+}
+
+pub makes_same : (old new : Links) → new ≡ old → MakesLinks [] old new
+makes_same old new same =
+    makes_none old new (grow_same old new same) (ap (λ (l : Links). l.dialled) same) (ap (λ (l : Links). l.told) same) (ap (λ (l : Links). l.heard) same)
+    (ap (λ (l : Links). l.readings) same)
+
+pub makes_then : (ws vs : List LinkWords) (a b c : Links) → MakesLinks ws a b → MakesLinks vs b c → MakesLinks (ws ++ vs) a c
+makes_then ws vs a b c first second = record {
+  grows = grow_then a b c first.grows second.grows;
+  dialled = omega (arith, first.dialled, second.dialled, length-append ws vs);
+  told = second.told ∙ ap (option_map (λ (ls : List Link). ls ++ fresh_links vs)) first.told
+      ∙ both_more a.told (fresh_links ws) (fresh_links vs) (fresh_links (ws ++ vs)) (map-append (λ (w : LinkWords). record { spec = w.spec; sent = [] }) ws vs);
+  heard = second.heard ∙ ap (option_map (λ (hs : List HeardOn). hs ++ unheard (length vs))) first.heard
+      ∙ both_more a.heard (unheard (length ws)) (unheard (length vs)) (unheard (length (ws ++ vs))) (unheard_words ws vs);
+  same_readings = second.same_readings ∙ first.same_readings;
+}
+
+pub makes_dialled : (w : LinkWords) (spec : List ℕ) (link : ℕ) (old new : Links) → spec ≡ w.spec → Dials spec (Ok link) old new → MakesLinks (w ∷ []) old new
+makes_dialled w spec link old new is dials = record {
+  grows = grow_dial spec (Ok link) old new dials;
+  dialled = omega (arith, dials.made.1);
+  told = dials.made.2 ∙ ap (λ (s : List ℕ). option_map (λ (ls : List Link). ls ++ record { spec = s; sent = [] } ∷ []) old.told) is;
+  heard = dials.made.3;
+  same_readings = dials.same_readings;
+}
+
+-- a call that failed made none
+pub makes_failed : (spec : List ℕ) (e : Failed) (old new : Links) → Dials spec (Err e) old new → MakesLinks [] old new
+makes_failed spec e old new dials = makes_none old new (grow_dial spec (Err e) old new dials) dials.made.0 dials.made.1 dials.made.2 dials.same_readings
+
+pub makes_asked : (ws : List LinkWords) (link : ℕ) (result : Result (List ℕ) Failed) (a b c : Links) → MakesLinks ws a b → AsksNonce link result b c → MakesLinks ws a c
+makes_asked ws link result a b c makes asks = record {
+  grows = grow_then a b c makes.grows (grow_nonce link result b c asks);
+  dialled = asks.same_dialled ∙ makes.dialled;
+  told = asks.same_told ∙ makes.told;
+  heard = asks.same_heard ∙ makes.heard;
+  same_readings = asks.same_readings ∙ makes.same_readings;
+}
+
+pub makes_stilled : (ws : List LinkWords) (a b c : Links) → MakesLinks ws a b → c ≡ b → MakesLinks ws a c
+makes_stilled ws a b c makes same = subst (λ (l : Links). MakesLinks ws a l) (sym same) makes
+
+-- ---- all links of some words
+
+take_next : {A : Type 0} (xs : List A) (i : ℕ) (x : A) → slice_get xs i ≡ Some x → take (suc i) xs ≡ take i xs ++ x ∷ []
+take_next [] i x there = cc
+take_next (y ∷ ys) zero x there = cc
+take_next (y ∷ ys) (suc i) x there = ap (λ l. y ∷ l) (take_next ys i x there)
+
+pub makes_next : (words : List LinkWords) (i n : ℕ) (w : LinkWords) (a b c : Links) → n ≡ i + 1 → slice_get words i ≡ Some w → MakesLinks (take i words) a b → MakesLinks (w ∷ []) b c
+    → MakesLinks (take n words) a c
+makes_next words i n w a b c is there first second =
+    let next : n ≡ suc i = omega (arith, is) in
+    subst (λ (k : ℕ). MakesLinks (take k words) a c) (sym next)
+    (subst (λ (ws : List LinkWords). MakesLinks ws a c) (sym (take_next words i w there)) (makes_then (take i words) (w ∷ []) a b c first second))
+
+pub front_take : {A : Type 0} (i : ℕ) (xs : List A) → IsFront (take i xs) xs
+front_take i xs = record { rest = drop i xs; whole = sym (take-append-drop i xs) }
+
+pub dialled_push : (words : List LinkWords) (links : List Dialled) (i : ℕ) (w : LinkWords) (d : Dialled) → length links ≡ i → AreDialled words links → slice_get words i ≡ Some w → IsDialled w d
+    → AreDialled words (links ++ d ∷ [])
+dialled_push [] [] i w d long are there is = cc
+dialled_push (v ∷ words) [] i w d long are there is =
+    let first : slice_get (v ∷ words) 0 ≡ Some w = subst (λ (k : ℕ). slice_get (v ∷ words) k ≡ Some w) (sym long) there in
+    let same : w ≡ v = cc in
+    (subst (λ (x : LinkWords). IsDialled x d) same is, tt)
+dialled_push [] (x ∷ links) i w d long are there is = absurd are
+dialled_push (v ∷ words) (x ∷ links) i w d long are there is =
+    let at : slice_get (v ∷ words) (suc (length links)) ≡ Some w = subst (λ (k : ℕ). slice_get (v ∷ words) k ≡ Some w) (sym long) there in
+    (are.0, dialled_push words links (length links) w d refl are.1 at is)
+
+-- ---- a call that failed
+
+rose_before : (a b c : ℕ) → a ≤ b → Rose b c → Rose a c
+rose_before a b c le rose = omega (arith, le, rose)
+
+-- a nonce that could not be drawn for the link that was dialled
+pub rose_then : (spec : List ℕ) (link : ℕ) (e : Failed) (a b c d : Links) → Dials spec (Ok link) a b → AsksNonce link (Err e) b c → d ≡ c → Rose (a.faults a.dialled) (d.faults a.dialled)
+rose_then spec link e a b c d dials asks same =
+    let rose : Rose (b.faults a.dialled) (c.faults a.dialled) = subst (λ (k : ℕ). Rose (b.faults k) (c.faults k)) dials.made.0 asks.faults.failed in
+    subst (λ (l : Links). Rose (a.faults a.dialled) (l.faults a.dialled)) (sym same) (rose_before _ _ _ ((grow_dial spec (Ok link) a b dials).faults a.dialled) rose)
+
+-- the call on the link of this number failed
+pub dial_stops : (words : List LinkWords) (links : List Dialled) (i n : ℕ) (w : LinkWords) (e : Failed) (o0 o1 o2 : Outside) → o0.links.dialled ≡ 0 → length links ≡ i → n ≡ i + 1 → slice_get words i ≡ Some w
+    → i < length words → AreDialled words links → MakesLinks (take i words) o0.links o1.links → length (take i words) ≡ i → length (take n words) ≡ n → MakesOne {T = Unit {0}} w (Err e) o1.links o2.links
+    → DialsAll words links (Err e) o0 o2
+dial_stops words links i n w e o0 o1 o2 none long is there within are makes len len' one =
+    let at : o1.links.dialled ≡ length links = omega (arith, makes.dialled, none, len, long) in
+    let rose1 : Rose (o1.links.faults (length links)) (o2.links.faults (length links)) = subst (λ (k : ℕ). Rose (o1.links.faults k) (o2.links.faults k)) at one.0 in
+    let rose = rose_before _ _ _ (makes.grows.faults (length links)) rose1 in
+    let few : length links < length words = omega (arith, within, long) in
+    elim one.1 [
+      | inl none_made ↦ record {
+        made = take i words ++ [];
+        front = subst (λ (l : List LinkWords). IsFront l words) (sym (append-nil (take i words))) (front_take i words);
+        makes = makes_then (take i words) [] o0.links o1.links o2.links makes none_made;
+        dialled = are;
+        count = omega (arith, long, len, length-append (take i words) []);
+        all = (few, rose);
+      }
+      | inr one_made ↦ record {
+        made = take n words;
+        front = front_take n words;
+        makes = makes_next words i n w o0.links o1.links o2.links is there makes one_made;
+        dialled = are;
+        count = omega (arith, long, len', is);
+        all = (few, rose);
+      }
+    ]
+
+pub dials_all : (words : List LinkWords) (links : List Dialled) (i : ℕ) (u : Unit {0}) (o0 o1 : Outside) → length links ≡ i → i ≡ length words → take i words ≡ words → AreDialled words links
+    → MakesLinks (take i words) o0.links o1.links → DialsAll words links (Ok u) o0 o1
+dials_all words links i u o0 o1 long end all are makes = record {
+  made = words;
+  front = record { rest = []; whole = sym (append-nil words) };
+  makes = subst (λ (l : List LinkWords). MakesLinks l o0.links o1.links) all makes;
+  dialled = are;
+  count = omega (arith, long, end);
+  all = (refl, long ∙ end);
+}
+
+-- the error that is handed on
+pub err_is : {T E : Type 0} (r : Result T E) (e : E) → IsErrAnd r (λ x. x ≡ e) → r ≡ Err e
+err_is (Ok t) e is = absurd is
+err_is (Err x) e is = ap (λ y. Err y) is
+
+-- a value that was put behind others
+pub pushed : {A T E : Type 0} (r : Result T E) (t : T) (new xs ys : List A) → r ≡ Ok t → new ≡ (if is_ok r then ys else xs) → new ≡ ys
+pushed r t new xs ys ok is = is ∙ ap (λ q. if is_ok q then ys else xs) ok

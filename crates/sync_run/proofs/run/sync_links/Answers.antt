@@ -1,0 +1,118 @@
+use Rattle.std.proofs.Common.{ap, ◌∙◌}
+use Rattle.outside.specs.Links.{Links}
+use Rattle.sync_node.specs.Going.{specs_of}
+use Rattle.sync_run.proofs.CourseLinks.{links_caused, links_come, refused_caused, refused_comes, unheld_caused, unheld_comes, unloaded_caused, unloaded_comes}
+use Rattle.sync_run.proofs.SafeCalm.{err_is}
+use Rattle.sync_run.proofs.SafeEnds.{headline_none}
+use Rattle.sync_run.proofs.SafeRunning.{at_rest_stills, headline_run, load_rests, rests_at, rests_fault, rests_ready, sent_run, specs_disk, specs_kept}
+use Rattle.sync_run.proofs.SafeFull.{err_was, full_run, loaded_unfull}
+use Rattle.sync_run.proofs.run.sync_links.Goals as goal
+
+pub returns-in_err-store-clause-headline : goal.returns-in_err-store-clause-headline
+returns-in_err-store-clause-headline g c =
+    headline_none _ c.args.links.now (g.H.Disk.tells c.args.host.now) (g.H.Disk.tells c.load_store.new.disk) c.requires.unused c.load_store.ensures.run
+    (λ two told. (c.load_store.ensures.rests two told).moments) c.load_store.ensures.reads
+
+pub returns-in_err-store-clause-rests : goal.returns-in_err-store-clause-rests
+returns-in_err-store-clause-rests g c = λ two told.
+    let e = c.in_err-store.field-0.0 in
+    rests_fault _ _ e (err_is c.from_residual.result e c.from_residual.ensures.1) (load_rests (g.H.Disk.tells c.args.host.now).files _ e c.in_err-store.ensures.settled)
+
+pub returns-in_err-store-clause-specs : goal.returns-in_err-store-clause-specs
+returns-in_err-store-clause-specs g c = specs_disk c.args.links.now (g.H.Disk.tells c.args.host.now) (g.H.Disk.tells c.load_store.new.disk) c.requires.unused c.load_store.ensures.run
+
+pub returns-in_err-test_contacts-clause-headline : goal.returns-in_err-test_contacts-clause-headline
+returns-in_err-test_contacts-clause-headline g c =
+    headline_none _ c.args.links.now (g.H.Disk.tells c.args.host.now) (g.H.Disk.tells c.load_store.new.disk) c.requires.unused c.load_store.ensures.run
+    (λ two told. (c.load_store.ensures.rests two told).moments) c.load_store.ensures.reads
+
+pub returns-in_err-test_contacts-clause-rests : goal.returns-in_err-test_contacts-clause-rests
+returns-in_err-test_contacts-clause-rests g c = λ two told. rests_at _ _ (rests_ready _ _ _ c.in_ok-store.ensures.opened.ready)
+
+pub returns-in_err-test_contacts-clause-specs : goal.returns-in_err-test_contacts-clause-specs
+returns-in_err-test_contacts-clause-specs g c = specs_disk c.args.links.now (g.H.Disk.tells c.args.host.now) (g.H.Disk.tells c.load_store.new.disk) c.requires.unused c.load_store.ensures.run
+
+pub returns-in_err-dialled-clause-headline : goal.returns-in_err-dialled-clause-headline
+returns-in_err-dialled-clause-headline g c =
+    headline_none _ c.args.links.now (g.H.Disk.tells c.args.host.now) (g.H.Disk.tells c.load_store.new.disk) c.requires.unused c.load_store.ensures.run
+    (λ two told. (c.load_store.ensures.rests two told).moments) c.load_store.ensures.reads
+
+pub returns-in_err-dialled-clause-rests : goal.returns-in_err-dialled-clause-rests
+returns-in_err-dialled-clause-rests g c = λ two told. rests_at _ _ (rests_ready _ _ _ c.in_ok-store.ensures.opened.ready)
+
+pub returns-in_err-dialled-clause-specs : goal.returns-in_err-dialled-clause-specs
+returns-in_err-dialled-clause-specs g c = specs_disk c.args.links.now (g.H.Disk.tells c.args.host.now) (g.H.Disk.tells c.load_store.new.disk) c.requires.unused c.load_store.ensures.run
+
+pub run_links-ended-requires-clause-unused : goal.run_links-ended-requires-clause-unused
+run_links-ended-requires-clause-unused g c = ap (λ (l : Links). l.dialled) c.load_store.ensures.run.same_links ∙ c.requires.unused
+
+pub run_links-ended-requires-clause-ready : goal.run_links-ended-requires-clause-ready
+run_links-ended-requires-clause-ready g c = c.in_ok-store.ensures.opened.ready
+
+pub returns-clause-headline : goal.returns-clause-headline
+returns-clause-headline g c =
+    headline_run _ c.args.links.now _ (g.H.Disk.tells c.args.host.now) (g.H.Disk.tells c.load_store.new.disk) (g.H.Disk.tells c.run_links-ended.new.host) (g.H.Disk.tells c.hang_up_all.new.host) c.requires.unused
+    c.load_store.ensures.run (λ two told. (c.load_store.ensures.rests two told).moments) c.load_store.ensures.reads c.in_ok-store.ensures.loaded c.in_ok-store.ensures.opened.ready c.run_links-ended.ensures.safe
+    c.hang_up_all.ensures
+
+pub returns-clause-rests : goal.returns-clause-rests
+returns-clause-rests g c = λ two told. at_rest_stills (g.H.Disk.tells c.run_links-ended.new.host) (g.H.Disk.tells c.hang_up_all.new.host) _ c.hang_up_all.ensures c.run_links-ended.ensures.rests
+
+pub returns-clause-sent : goal.returns-clause-sent
+returns-clause-sent g c =
+    sent_run _ _ (g.H.Disk.tells c.args.host.now) (g.H.Disk.tells c.run_links-ended.new.host) (g.H.Disk.tells c.hang_up_all.new.host) _ c.in_ok-store.ensures.loaded c.hang_up_all.ensures c.run_links-ended.ensures.sent
+
+pub returns-clause-specs : goal.returns-clause-specs
+returns-clause-specs g c =
+    specs_kept c.args.links.now (g.H.Disk.tells c.run_links-ended.new.host) (g.H.Disk.tells c.hang_up_all.new.host) (ap (λ (l : Links). specs_of l.told) c.hang_up_all.ensures.same_links) c.run_links-ended.ensures.specs
+
+pub returns-in_err-store-clause-comes : goal.returns-in_err-store-clause-comes
+returns-in_err-store-clause-comes g c = λ two told.
+    unloaded_comes _ c.args.limits c.args.links.now two (g.H.Disk.tells c.args.host.now) (g.H.Disk.tells c.load_store.new.disk) c.requires.unused told c.load_store.ensures.run.same_links
+    c.load_store.ensures.reads c.from_residual.result c.in_err-store.field-0.0 c.from_residual.ensures.1 c.in_err-store.ensures.by (c.in_err-store.ensures.loaded two told)
+
+pub returns-in_err-store-clause-caused : goal.returns-in_err-store-clause-caused
+returns-in_err-store-clause-caused g c =
+    unloaded_caused c.args.links.now (g.H.Disk.tells c.args.host.now) (g.H.Disk.tells c.load_store.new.disk) c.from_residual.result c.in_err-store.field-0.0 c.from_residual.ensures.1
+    c.in_err-store.ensures.by
+
+pub returns-in_err-test_contacts-clause-comes : goal.returns-in_err-test_contacts-clause-comes
+returns-in_err-test_contacts-clause-comes g c = λ two told.
+    refused_comes _ c.args.limits c.args.links.now two (g.H.Disk.tells c.args.host.now) (g.H.Disk.tells c.load_store.new.disk) c.requires.unused told c.load_store.ensures.run.same_links
+    c.load_store.ensures.reads _ (c.in_ok-store.ensures.loaded two told) c.from_residual-in_err-test_contacts.result c.in_err-test_contacts.field-0.0
+    c.from_residual-in_err-test_contacts.ensures.1 c.in_err-test_contacts.ensures.tested
+
+pub returns-in_err-test_contacts-clause-caused : goal.returns-in_err-test_contacts-clause-caused
+returns-in_err-test_contacts-clause-caused g c =
+    refused_caused c.in_ok-store.store.state.facts c.args.links.now (g.H.Disk.tells c.args.host.now) (g.H.Disk.tells c.load_store.new.disk) c.from_residual-in_err-test_contacts.result
+    c.in_err-test_contacts.field-0.0 c.from_residual-in_err-test_contacts.ensures.1 c.in_err-test_contacts.ensures.tested
+
+pub returns-in_err-dialled-clause-comes : goal.returns-in_err-dialled-clause-comes
+returns-in_err-dialled-clause-comes g c = λ two told.
+    unheld_comes _ c.args.limits c.args.links.now two (g.H.Disk.tells c.args.host.now) (g.H.Disk.tells c.load_store.new.disk) c.requires.unused told c.load_store.ensures.run.same_links
+    c.load_store.ensures.reads c.from_residual-in_err-dialled.result c.from_residual-in_err-dialled.ensures.1
+
+pub returns-in_err-dialled-clause-caused : goal.returns-in_err-dialled-clause-caused
+returns-in_err-dialled-clause-caused g c =
+    unheld_caused c.args.links.now (g.H.Disk.tells c.args.host.now) (g.H.Disk.tells c.load_store.new.disk) c.from_residual-in_err-dialled.result c.from_residual-in_err-dialled.ensures.1
+
+pub returns-clause-comes : goal.returns-clause-comes
+returns-clause-comes g c = λ two told.
+    links_come _ c.args.limits c.args.links.now two (g.H.Disk.tells c.args.host.now) (g.H.Disk.tells c.load_store.new.disk) c.requires.unused told c.load_store.ensures.run.same_links
+    c.load_store.ensures.reads _ (c.in_ok-store.ensures.loaded two told) (g.H.Disk.tells c.run_links-ended.new.host) (g.H.Disk.tells c.hang_up_all.new.host) c.in_ok-test_contacts.field-0
+    c.run_links-ended.result c.in_ok-store.ensures.opened.ready.fits c.in_ok-test_contacts.ensures.tested c.hang_up_all.ensures.same_links c.hang_up_all.ensures.same_files
+    c.run_links-ended.ensures.comes
+
+pub returns-clause-caused : goal.returns-clause-caused
+returns-clause-caused g c =
+    links_caused c.args.links.now (g.H.Disk.tells c.args.host.now) (g.H.Disk.tells c.load_store.new.disk) (g.H.Disk.tells c.run_links-ended.new.host) (g.H.Disk.tells c.hang_up_all.new.host)
+    c.load_store.ensures.run c.hang_up_all.ensures.same_links c.hang_up_all.ensures.same_faults c.run_links-ended.result c.run_links-ended.ensures.caused
+
+pub returns-in_err-store-clause-sent_full : goal.returns-in_err-store-clause-sent_full
+returns-in_err-store-clause-sent_full g c = λ two told is.
+    absurd (loaded_unfull (g.H.Disk.tells c.args.host.now) (g.H.Disk.tells c.load_store.new.disk) c.in_err-store.field-0.0 c.in_err-store.ensures.by (err_was _ c.in_err-store.field-0.0 _ c.from_residual.ensures.1 is))
+
+pub returns-clause-sent_full : goal.returns-clause-sent_full
+returns-clause-sent_full g c = λ two told is.
+    full_run _ _ (g.H.Disk.tells c.args.host.now) (g.H.Disk.tells c.load_store.new.disk) (g.H.Disk.tells c.run_links-ended.new.host) (g.H.Disk.tells c.hang_up_all.new.host) c.load_store.ensures.run c.hang_up_all.ensures
+    c.in_ok-store.ensures.loaded (c.run_links-ended.ensures.sent_full is) two told

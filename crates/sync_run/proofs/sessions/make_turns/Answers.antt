@@ -1,0 +1,130 @@
+use Rattle.std.proofs.Common.{◌+◌, true, false, arith, refl, sym, ◌∙◌, inl, inr}
+use Rattle.std.proofs.lemmas.Bool.{le-leb}
+use Rattle.sync_node.specs.Node.{asked_among}
+use Rattle.sync_run.proofs.CauseLaws.{causes_then, goes_none, goes_then, no_causes}
+use Rattle.sync_run.proofs.CourseParts.{err_same, CountsStill, few_behind, no_turn_yet, on_err, over_asked, still_behind, turn_broken, turn_full, turn_more, turns_end}
+use Rattle.sync_run.proofs.SafeTurns.{kept_none, kept_then, safe_none, safe_then}
+use Rattle.std.proofs.Common.{Err, ap}
+use Rattle.sync_run.proofs.SafeFull.{err_was, sends_then}
+use Rattle.sync_run.proofs.sessions.make_turns.Goals as goal
+use Rattle.sync_run.proofs.sessions.make_turns.Goals.{in-Still, in-Moving}
+
+pub turns-init : goal.turns-init
+turns-init g c = record {
+  course = λ heard read. no_turn_yet _ c.args.limits c.args.node.now.first _ _ _ heard read;
+  goes_on = refl;
+  cause = no_causes _ (g.H.Disk.tells c.args.host.now);
+  run = goes_none (g.H.Disk.tells c.args.host.now);
+  limit = refl;
+  still_open = c.requires.still_open;
+  same_first = refl;
+  few_still = omega arith;
+  may = c.requires.may;
+  node = c.requires.node;
+  joined = kept_none _ _ _;
+  safe = safe_none _ _ _;
+}
+
+pub returns-in_err-turn-clause-halts : goal.returns-in_err-turn-clause-halts
+returns-in_err-turn-clause-halts g c =
+    on_err c.from_residual.result (record {
+      stops = λ heard read.
+          turn_broken _ c.args.limits c.args.node.now.first _ _ _ _ _ _ _ _ (c.turns.invariant.course heard read) c.turns.invariant.goes_on c.turns-test.true _ _
+          c.turns.invariant.same_first (c.in_err-turn.ensures.halts c.turns.invariant.still_open);
+    })
+
+pub returns-then-is_over-clause-course : goal.returns-then-is_over-clause-course
+returns-then-is_over-clause-course g c =
+    let branch : CountsStill c.in_ok-turn.field-0 c.turns.still c.match-branch-2.still =
+    elim c.match-branch-2.branch [ in-Still w ↦ inl (w.in-Still.is, w.still-is) | in-Moving w ↦ inr (w.in-Moving.is, w.still-is) ] in
+    record {
+      ends = λ heard read.
+          let so = turn_more _ c.args.limits c.args.node.now.first _ _ _ _ _ _ _ _ (c.turns.invariant.course heard read) c.turns.invariant.goes_on c.turns-test.true _ _ _ _ _
+          c.match-branch-2.still (c.turns.counter + 1) c.turns.invariant.same_first (still_behind c.in_ok-turn.field-0 c.turns.still c.match-branch-2.still branch) refl
+          (c.in_ok-turn.ensures.course c.turns.invariant.still_open) in
+          turns_end _ c.args.limits c.args.node.now.first _ _ _ _ _ _ _ _ so true
+          (sym c.if-is_over.true ∙ over_asked _ _ c.args.limits.quiet _ _ (asked_among c.turn.new.self.links) c.is_over.ensures c.from.ensures c.asked.ensures) refl;
+    }
+
+pub turns-preserved : goal.turns-preserved
+turns-preserved g c =
+    let branch : CountsStill c.in_ok-turn.field-0 c.turns.still c.match-branch-2.still =
+    elim c.match-branch-2.branch [ in-Still w ↦ inl (w.in-Still.is, w.still-is) | in-Moving w ↦ inr (w.in-Moving.is, w.still-is) ] in
+    record {
+      course = λ heard read.
+          turn_more _ c.args.limits c.args.node.now.first _ _ _ _ _ _ _ _ (c.turns.invariant.course heard read) c.turns.invariant.goes_on c.turns-test.true _ _ _ _ _
+          c.match-branch-2.still (c.turns.counter + 1) c.turns.invariant.same_first (still_behind c.in_ok-turn.field-0 c.turns.still c.match-branch-2.still branch) refl
+          (c.in_ok-turn.ensures.course c.turns.invariant.still_open);
+      goes_on = sym (over_asked _ _ c.args.limits.quiet _ _ (asked_among c.turn.new.self.links) c.is_over.ensures c.from.ensures c.asked.ensures) ∙ c.if-is_over.false;
+      cause = causes_then _ _ _ _ _ _ c.turns.invariant.run c.in_ok-turn.ensures.run c.turns.invariant.cause c.in_ok-turn.ensures.cause;
+      run = goes_then _ _ _ c.turns.invariant.run c.in_ok-turn.ensures.run;
+      limit = c.in_ok-turn.ensures.limit ∙ c.turns.invariant.limit;
+      still_open = c.in_ok-turn.ensures.answer c.turns.invariant.still_open;
+      same_first = c.in_ok-turn.ensures.joined.same_first ∙ c.turns.invariant.same_first;
+      few_still = few_behind c.in_ok-turn.field-0 c.turns.still c.match-branch-2.still c.turns.counter branch c.turns.invariant.few_still;
+      may = c.in_ok-turn.ensures.may;
+      node = c.in_ok-turn.ensures.node;
+      joined = kept_then _ _ _ _ _ _ _ c.turns.invariant.joined c.in_ok-turn.ensures.joined;
+      safe = safe_then _ _ _ _ _ _ _ c.turns.invariant.joined c.turns.invariant.safe c.in_ok-turn.ensures.safe;
+    }
+
+pub returns-clause-course : goal.returns-clause-course
+returns-clause-course g c = record {
+  ends = λ heard read.
+      turns_end _ c.args.limits c.args.node.now.first _ _ _ _ _ _ _ _ (c.turns.invariant.course heard read) false (sym c.turns.invariant.goes_on)
+      (le-leb c.args.limits.turns c.turns.counter c.turns-test.false);
+}
+
+pub returns-in_err-turn-clause-run : goal.returns-in_err-turn-clause-run
+returns-in_err-turn-clause-run g c = goes_then _ _ _ c.turns.invariant.run c.in_err-turn.ensures.run
+
+pub returns-in_err-turn-clause-cause : goal.returns-in_err-turn-clause-cause
+returns-in_err-turn-clause-cause g c = causes_then _ _ _ _ _ _ c.turns.invariant.run c.in_err-turn.ensures.run c.turns.invariant.cause c.in_err-turn.ensures.cause
+
+pub returns-then-is_over-clause-run : goal.returns-then-is_over-clause-run
+returns-then-is_over-clause-run g c = goes_then _ _ _ c.turns.invariant.run c.in_ok-turn.ensures.run
+
+pub returns-then-is_over-clause-cause : goal.returns-then-is_over-clause-cause
+returns-then-is_over-clause-cause g c = causes_then _ _ _ _ _ _ c.turns.invariant.run c.in_ok-turn.ensures.run c.turns.invariant.cause c.in_ok-turn.ensures.cause
+
+pub returns-clause-run : goal.returns-clause-run
+returns-clause-run g c = c.turns.invariant.run
+
+pub returns-clause-cause : goal.returns-clause-cause
+returns-clause-cause g c = c.turns.invariant.cause
+
+pub turn-requires : goal.turn-requires
+turn-requires g c = record { may = c.turns.invariant.may }
+
+pub returns-in_err-turn-clause-safe : goal.returns-in_err-turn-clause-safe
+returns-in_err-turn-clause-safe g c = safe_then _ _ _ _ _ _ _ c.turns.invariant.joined c.turns.invariant.safe c.in_err-turn.ensures.safe
+
+pub returns-then-is_over-clause-joined : goal.returns-then-is_over-clause-joined
+returns-then-is_over-clause-joined g c = kept_then _ _ _ _ _ _ _ c.turns.invariant.joined c.in_ok-turn.ensures.joined
+
+pub returns-then-is_over-clause-safe : goal.returns-then-is_over-clause-safe
+returns-then-is_over-clause-safe g c = safe_then _ _ _ _ _ _ _ c.turns.invariant.joined c.turns.invariant.safe c.in_ok-turn.ensures.safe
+
+pub returns-clause-may : goal.returns-clause-may
+returns-clause-may g c = c.turns.invariant.may
+
+pub returns-clause-node : goal.returns-clause-node
+returns-clause-node g c = c.turns.invariant.node
+
+pub returns-clause-joined : goal.returns-clause-joined
+returns-clause-joined g c = c.turns.invariant.joined
+
+pub returns-clause-safe : goal.returns-clause-safe
+returns-clause-safe g c = c.turns.invariant.safe
+
+pub returns-in_err-turn-clause-sent : goal.returns-in_err-turn-clause-sent
+returns-in_err-turn-clause-sent g c = λ is.
+    sends_then _ _ _ _ _ _ _ c.turns.invariant.joined c.turns.invariant.cause c.requires.node c.requires.still_open c.turns.invariant.node c.turns.invariant.still_open c.in_err-turn.ensures.run
+    (c.in_err-turn.ensures.sent c.turns.invariant.still_open (ap (λ e. Err e) (err_was _ c.in_err-turn.field-0.0 _ c.from_residual.ensures.1 is)))
+
+pub returns-in_err-turn-clause-full : goal.returns-in_err-turn-clause-full
+returns-in_err-turn-clause-full g c = λ is. record {
+  fills = λ heard read.
+      turn_full _ c.args.limits c.args.node.now.first _ _ _ _ _ _ _ _ (c.turns.invariant.course heard read) c.turns.invariant.goes_on c.turns-test.true _ _ _
+      c.turns.invariant.same_first (c.in_err-turn.ensures.full (err_same c.from_residual.result c.in_err-turn.field-0.0 _ c.from_residual.ensures.1 is));
+}

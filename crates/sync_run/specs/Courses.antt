@@ -1,0 +1,130 @@
+-- What a run of sessions does, as a course: the journal, the answers heard and the readings of the clock are those of a path of
+-- events, and the lines of the links close it.
+use Rattle.std.specs.Prelude.{◌≡◌, ℕ, zero, suc, ◌<◌, Bool, true, false, nat_le, List, [], ◌∷◌, ◌++◌, length, map, Some, Result, Ok, Err}
+use Rattle.std.specs.List.{list_any}
+use Rattle.std.specs.Option.{option_map}
+use Rattle.outside.specs.declared.limits.TheConstants.{MAX_JOURNAL}
+use Rattle.outside.specs.Links.{HeardOn, Link, nothing_heard}
+use Rattle.outside.specs.Outside.{Outside}
+use Rattle.outside.specs.Runs.{IsFront}
+use Rattle.sync_rules.specs.declared.entries.Entry.{Entry}
+use Rattle.sync_rules.specs.declared.entries.Session.{Session}
+use Rattle.sync_rules.specs.declared.states.Refused.{Refused}
+use Rattle.sync_rules.specs.declared.states.Refused.TheVariants as refused
+use Rattle.sync_rules.specs.Clients.{Meaning}
+use Rattle.sync_rules.specs.Facts.{Facts, facts}
+use Rattle.entry_codec.specs.Standing.{Standing, damaged, journal, no_store}
+use Rattle.sync_course.specs.Closing.{closing}
+use Rattle.sync_course.specs.Events.{Commit, Event, GrowsBy, RoseIf, batches_of, has_failure, heard_after, readings_of}
+use Rattle.sync_course.specs.Quiet.{EndsQuiet}
+use Rattle.sync_course.specs.Turns.{Broken, Course, Place, RunStep, Terms, is_over}
+use Rattle.sync_node.specs.Courses.{ReadsAs}
+use Rattle.sync_node.specs.Output.{Journal}
+use Rattle.store_commands.specs.Commit.{needed_by}
+use Rattle.sync_words.specs.declared.link_words.LinkWords.{LinkWords}
+use Rattle.sync_words.specs.declared.links.LinkEnd.{LinkEnd}
+use Rattle.sync_words.specs.declared.outcome.Outcome.{Outcome}
+use Rattle.sync_words.specs.declared.outcome.Outcome.TheVariants as outcome
+use Rattle.sync_run.specs.declared.run.Limits.{Limits}
+use Rattle.sync_run.specs.Lines.{numbered}
+use Rattle.sync_run.specs.Plans.{ArePlanned}
+
+-- what a run is asked for whose first session has this number
+abbrev pub terms_at : Limits → ℕ → Terms
+terms_at limits first = record { first = first; turns = limits.turns; quiet = limits.quiet }
+
+-- what a run over a journal is asked for
+abbrev pub terms_of : Limits → Journal → Terms
+terms_of limits begin = terms_at limits (facts begin).begun
+
+-- so many links on which nothing was heard
+abbrev pub unheard : ℕ → List HeardOn
+unheard zero = []
+unheard (suc n) = nothing_heard ∷ unheard n
+
+-- From a host on which no link was made: what the links heard and what the clock gave is what the events say, wherever it is told;
+-- and the count of a link's failures rose where an event says that a call of it failed.
+pub record HearsRun (events : List Event) (old new : Outside) : Type 0 where
+  pub heard : new.links.heard ≡ option_map (λ (h : List HeardOn). heard_after events (unheard new.links.dialled)) old.links.heard
+  pub readings : GrowsBy (readings_of events) old.links.readings new.links.readings
+  pub faults : (link : ℕ) → RoseIf (has_failure link events) (old.links.faults link) (new.links.faults link)
+
+-- the links that were made have the first specs of the words, in order
+abbrev pub HaveSpecs : List LinkWords → Outside → Type 0
+HaveSpecs words new = (links : List Link) → new.links.told ≡ Some links → IsFront (map (λ (l : Link). l.spec) links) (map (λ (w : LinkWords). w.spec) words)
+
+-- The run came to its end: a whole course of the sessions of all words, whose closing the lines are. Where it was over nothing is due
+-- on a link that is not closed, and what was heard was taken.
+pub record RanToEnd (clients : Meaning) (limits : Limits) (words : List LinkWords) (begin : Journal) (old new : Outside) (ends : List LinkEnd) : Type 0 where
+  pub sessions : List Session
+  pub planned : ArePlanned (facts begin).begun words sessions
+  pub all_planned : length sessions ≡ length words
+  pub all_made : new.links.dialled ≡ length words
+  pub events : List Event
+  pub last : Place
+  pub course : Course clients (terms_of limits begin) sessions (facts begin) events last
+  pub hears : HearsRun events old new
+  pub reads : ReadsAs clients new.files (begin ++ batches_of events)
+  pub closes : ends ≡ numbered 0 (closing limits.quiet last)
+  pub quiet : is_over limits.quiet last ≡ true → EndsQuiet clients (terms_of limits begin) events last
+
+-- The run was broken off: the course of the sessions of all words, up to any place. Where a session had begun all links were made.
+pub record WasBroken (clients : Meaning) (limits : Limits) (words : List LinkWords) (begin : Journal) (old new : Outside) : Type 0 where
+  pub sessions : List Session
+  pub planned : ArePlanned (facts begin).begun words sessions
+  pub all_planned : length sessions ≡ length words
+  pub events : List Event
+  pub last : Place
+  pub broken : Broken clients (terms_of limits begin) sessions (facts begin) events last
+  pub all_made : (facts begin).begun < last.facts.begun → new.links.dialled ≡ length words
+  pub hears : HearsRun events old new
+  pub reads : ReadsAs clients new.files (begin ++ batches_of events)
+
+-- The same at Full: from that place the next step of the course commits a batch with which the journal, the batch's frame and the
+-- room for settling pass the greatest length of a journal.
+pub record WasFull (clients : Meaning) (limits : Limits) (words : List LinkWords) (begin : Journal) (old new : Outside) : Type 0 where
+  pub run : WasBroken clients limits words begin old new
+  pub batch : List Entry
+  pub next : Place
+  pub steps : RunStep clients (terms_of limits begin) run.last (Commit batch) next
+  pub over : MAX_JOURNAL < needed_by (begin ++ batches_of run.events) batch
+
+-- some contact of the words is not known
+abbrev pub is_unknown : Facts → List LinkWords → Bool
+is_unknown f words = list_any (λ (w : LinkWords). nat_le f.contacts w.contact) words
+
+-- the test of the contacts
+abbrev pub TestsContacts : Facts → List LinkWords → Result (Unit {0}) Refused → Type 0
+TestsContacts f words (Ok _) = is_unknown f words ≡ false
+TestsContacts f words (Err why) = (why ≡ refused.UnknownContact) × (is_unknown f words ≡ true)
+
+-- What a run over a journal comes to whose contacts are known. A dial that failed leaves the files as they read.
+abbrev pub RunComes : Meaning → Limits → List LinkWords → Journal → (old new : Outside) → Result (List LinkEnd) Outcome → Type 0
+RunComes clients limits words begin old new (Ok ends) = RanToEnd clients limits words begin old new ends
+RunComes clients limits words begin old new (Err (outcome.Links ends)) = ReadsAs clients new.files begin
+RunComes clients limits words begin old new (Err outcome.Full) = WasFull clients limits words begin old new
+RunComes clients limits words begin old new (Err outcome.Memory) = WasBroken clients limits words begin old new
+RunComes clients limits words begin old new (Err outcome.DiskFault) = WasBroken clients limits words begin old new
+RunComes clients limits words begin old new (Err _) = ⊥
+
+-- the files stood for a journal in which the contacts of the words are known, or some is not, and which has P
+pub record OfJournal (words : List LinkWords) (stood : Standing) (unknown : Bool) (P : Journal → Type 0) : Type 0 where
+  pub begin : Journal
+  pub began : stood ≡ journal begin
+  pub tested : is_unknown (facts begin) words ≡ unknown
+  pub has : P begin
+
+-- What the command comes to, by what the files stood for; what is said of journals, answers and readings is said where the files
+-- were told. A run that ends before its first session leaves the files as they read.
+abbrev pub ComesTo : Meaning → Limits → List LinkWords → Standing → (old new : Outside) → Result (List LinkEnd) Outcome → Type 0
+ComesTo clients limits words stood old new (Ok ends) = OfJournal words stood false (λ begin. RunComes clients limits words begin old new (Ok ends))
+ComesTo clients limits words stood old new (Err outcome.NoStore) = stood ≡ no_store
+ComesTo clients limits words stood old new (Err (outcome.Damaged place)) = stood ≡ damaged place.file place.at
+ComesTo clients limits words stood old new (Err (outcome.Refused why)) =
+    (why ≡ refused.UnknownContact) × OfJournal words stood true (λ begin. ReadsAs clients new.files begin)
+ComesTo clients limits words stood old new (Err (outcome.Links ends)) =
+    OfJournal words stood false (λ begin. RunComes clients limits words begin old new (Err (outcome.Links ends)))
+ComesTo clients limits words stood old new (Err outcome.Full) = OfJournal words stood false (λ begin. RunComes clients limits words begin old new (Err outcome.Full))
+ComesTo clients limits words stood old new (Err outcome.Memory) = (begin : Journal) → stood ≡ journal begin → WasBroken clients limits words begin old new
+ComesTo clients limits words stood old new (Err outcome.DiskFault) = (begin : Journal) → stood ≡ journal begin → WasBroken clients limits words begin old new
+ComesTo clients limits words stood old new (Err _) = ⊥

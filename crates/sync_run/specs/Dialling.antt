@@ -1,0 +1,94 @@
+-- Links that are dialled for the words of a command, before anything is committed.
+use Rattle.std.specs.Prelude.{◌≡◌, ◌⊎◌, ℕ, ◌+◌, ◌<◌, ◌≤◌, List, [], ◌∷◌, ◌++◌, length, map, is_some, Some, Result, Ok, Err, slice_index_or}
+use Rattle.std.specs.Option.{option_map}
+use Rattle.outside.specs.declared.failed.Failed.{Failed}
+use Rattle.outside.specs.Faults.{Rose}
+use Rattle.outside.specs.Files.{Two, File, IsImage}
+use Rattle.outside.specs.Links.{HeardOn, Link, Links}
+use Rattle.outside.specs.Outside.{Moment, Outside}
+use Rattle.outside.specs.Runs.{IsFront, LinksGrow, answers_at}
+use Rattle.sync_node.specs.Output.{sent_on}
+use Rattle.sync_words.specs.declared.link_words.LinkWords.{LinkWords}
+use Rattle.sync_words.specs.Links.{has_nonce}
+use Rattle.sync_run.specs.declared.dialling.Dialled.{Dialled}
+use Rattle.sync_run.specs.Courses.{unheard}
+
+-- ---- what was dialled
+
+-- a link was dialled as its words say: it has a nonce exactly where they ask for one
+pub record IsDialled (words : LinkWords) (d : Dialled) : Type 0 where
+  pub same_contact : d.plan.contact ≡ words.contact
+  pub same_mode : d.plan.mode ≡ words.mode
+  pub same_latency : d.plan.latency ≡ words.latency
+  pub nonce : is_some d.nonce ≡ has_nonce words
+
+-- links that were dialled for the first of these words, in order
+abbrev pub AreDialled : List LinkWords → List Dialled → Type 0
+AreDialled words [] = Unit {0}
+AreDialled [] (d ∷ links) = ⊥
+AreDialled (w ∷ words) (d ∷ links) = IsDialled w d × AreDialled words links
+
+-- links with the specs of these words, on which nothing was sent
+abbrev pub fresh_links : List LinkWords → List Link
+fresh_links words = map (λ (w : LinkWords). record { spec = w.spec; sent = [] }) words
+
+-- Links were made for these words, in order. Nothing was sent or heard on any link, and the clock
+-- was not read.
+pub record MakesLinks (words : List LinkWords) (old new : Links) : Type 0 where
+  pub grows : LinksGrow old new
+  pub dialled : new.dialled ≡ old.dialled + length words
+  pub told : new.told ≡ option_map (λ (ls : List Link). ls ++ fresh_links words) old.told
+  pub heard : new.heard ≡ option_map (λ (hs : List HeardOn). hs ++ unheard (length words)) old.heard
+  pub same_readings : new.readings ≡ old.readings
+
+-- a link was made, with a nonce where the words ask for one; or a call on it failed, its dial or
+-- another
+abbrev pub MakesOne : {T : Type 0} → LinkWords → Result T Failed → Links → Links → Type 0
+MakesOne w (Ok _) old new = MakesLinks (w ∷ []) old new
+MakesOne w (Err _) old new = Rose (old.faults old.dialled) (new.faults old.dialled) ×
+    (MakesLinks [] old new ⊎ MakesLinks (w ∷ []) old new)
+
+-- all links were made; or so many, and a call on the next one failed
+abbrev pub MakesAll : List LinkWords → (made : List LinkWords) → ℕ → Result (Unit {0}) Failed
+    → Links → Links → Type 0
+MakesAll words made count (Ok _) old new = (made ≡ words) × (count ≡ length words)
+MakesAll words made count (Err _) old new = (count < length words) × Rose (old.faults count)
+    (new.faults count)
+
+-- Links were dialled for these words, up to a call that failed. There were none before.
+pub record DialsAll (words : List LinkWords) (links : List Dialled)
+    (result : Result (Unit {0}) Failed) (o o' : Outside) : Type 0 where
+  pub made : List LinkWords
+  pub front : IsFront made words
+  pub makes : MakesLinks made o.links o'.links
+  pub dialled : AreDialled words links
+  pub count : length links ≤ length made
+  pub all : MakesAll words made (length links) result o.links o'.links
+
+-- ---- time
+
+-- a moment that might have been now, but that a crash may tell of links on which nothing was sent
+pub record IsCalm (two : Two File) (o : Outside) (m : Moment) : Type 0 where
+  pub image : IsImage two m.files
+  pub same_sent : (link : ℕ) → slice_index_or m.sent link [] ≡ sent_on o.links link
+
+-- Calls that change no file and send nothing. Links may be made; on each link the same was sent and
+-- heard.
+pub record Calms (o o' : Outside) : Type 0 where
+  pub same_files : o'.files ≡ o.files
+  pub same_faults : o'.disk_faults ≡ o.disk_faults
+  pub later : o.clock ≤ o'.clock
+  pub grows : LinksGrow o.links o'.links
+  pub sent : (link : ℕ) → sent_on o'.links link ≡ sent_on o.links link
+  pub answers : (link : ℕ) → answers_at o'.links.heard link ≡ answers_at o.links.heard link
+  pub moments : (two : Two File) → o.files ≡ Some two → (t : ℕ) (m : Moment) → t ≤ o.clock
+      → o'.moments t m → o.moments t m ⊎ IsCalm two o m
+
+-- calls that change nothing of what is told but the time
+pub record Stills (o o' : Outside) : Type 0 where
+  pub same_files : o'.files ≡ o.files
+  pub same_faults : o'.disk_faults ≡ o.disk_faults
+  pub same_links : o'.links ≡ o.links
+  pub later : o.clock ≤ o'.clock
+  pub moments : (two : Two File) → o.files ≡ Some two → (t : ℕ) (m : Moment) → t ≤ o.clock
+      → o'.moments t m → o.moments t m

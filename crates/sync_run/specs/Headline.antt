@@ -1,0 +1,95 @@
+-- The headline: whatever the links bring, cut or repeat, whatever call fails and whenever the
+-- device stops, its files stand for a legal journal that extends the old one, took what was heard
+-- in order, and has every byte that was sent.
+use Rattle.std.specs.Prelude.{◌≡◌, ◌≢◌, ◌⊎◌, ℕ, ◌+◌, ◌<◌, List, [], Option, Some, Result, Err, slice_get, slice_index_or}
+use Rattle.outside.specs.Faults.{Rose}
+use Rattle.outside.specs.Files.{Two, File, IsImage, read_files}
+use Rattle.outside.specs.Outside.{Outside, Moment, IsNow}
+use Rattle.outside.specs.Runs.{Told}
+use Rattle.sync_rules.specs.declared.entries.Session.{Session}
+use Rattle.sync_rules.specs.Clients.{Meaning}
+use Rattle.sync_rules.specs.Facts.{facts}
+use Rattle.entry_codec.specs.Standing.{Standing, journal, stands}
+use Rattle.sync_node.specs.Output.{AreOutput, Journal, heard_on, output, sent_on}
+use Rattle.sync_node.specs.Suits.{SuitsRun}
+use Rattle.sync_words.specs.declared.link_words.LinkWords.{LinkWords}
+use Rattle.sync_words.specs.declared.error_lines.LinkText.TheVariants as text
+use Rattle.sync_words.specs.declared.links.LinkEnd.{LinkEnd}
+use Rattle.sync_words.specs.declared.outcome.Outcome.{Outcome}
+use Rattle.sync_words.specs.declared.outcome.Outcome.TheVariants as outcome
+use Rattle.sync_run.specs.Plans.{ArePlanned}
+
+-- the bytes sent by a moment, on each link
+abbrev pub sent_by : Moment → ℕ → List ℕ
+sent_by m link = slice_index_or m.sent link []
+
+-- Files stand for a journal of a run of these words: it goes on from the one that the run began
+-- with by settling, by sessions as the words plan them, by what was taken of what was heard, in
+-- order, and by outputs; and what was sent on each link is a front of its session's output.
+pub record StandsForRun (clients : Meaning) (words : List LinkWords) (begin : Journal)
+    (heard sent : ℕ → List ℕ) (files : Two (List ℕ)) : Type 0 where
+  pub sessions : List Session
+  pub planned : ArePlanned (facts begin).begun words sessions
+  pub whole : Journal
+  pub stands_for : stands clients files ≡ journal whole
+  pub suits : SuitsRun clients begin (facts begin).begun sessions heard whole
+  pub has_sent : AreOutput whole (facts begin).begun sent
+
+-- the same where files stood for a journal when the run began
+pub record RunsOn (clients : Meaning) (words : List LinkWords) (stood : Standing)
+    (heard sent : ℕ → List ℕ) (files : Two (List ℕ)) : Type 0 where
+  pub begin : Journal
+  pub began : stood ≡ journal begin
+  pub stands_for : StandsForRun clients words begin heard sent files
+
+-- What is so where files, links and what they heard are told. The files were `two` when the command
+-- began.
+pub record HeadlineTold (clients : Meaning) (words : List LinkWords) (two : Two File)
+    (old new : Outside) (told : Told new) : Type 0 where
+  -- at each moment a crash leaves what it might have left before the command, nothing being sent,
+  -- or a journal of the run
+  pub moments : (m : Moment) → new.moments old.clock m
+      → IsNow two old.links m
+      ⊎ RunsOn clients words (stands clients (read_files two)) (heard_on new.links)
+      (sent_by m) m.files
+  -- from the first byte on that was sent, it leaves a journal of the run
+  pub once_sent : (m : Moment) → new.moments old.clock m → (link : ℕ) → sent_by m link ≢ []
+      → RunsOn clients words (stands clients (read_files two)) (heard_on new.links)
+      (sent_by m) m.files
+  -- at the end the files as they read stand for a journal of the run
+  pub ends : (begin : Journal) → stands clients (read_files two) ≡ journal begin
+      → StandsForRun clients words begin (heard_on new.links) (sent_on new.links)
+      (read_files told.two)
+
+abbrev pub Headline : Meaning → List LinkWords → (old new : Outside) → Type 0
+Headline clients words old new = (two : Two File) → old.files ≡ Some two → (told : Told new)
+    → HeadlineTold clients words two old new told
+
+-- nothing is pending in the files: each crash leaves what a read gives
+abbrev pub AtRest : Option (Two File) → Type 0
+AtRest files = (two : Two File) → files ≡ Some two → (left : Two (List ℕ)) → IsImage two left
+    → left ≡ read_files two
+
+-- but where a call on the disk failed
+abbrev pub Rests : Option (Two File) → Result (List LinkEnd) Outcome → Type 0
+Rests files (Err outcome.DiskFault) = Unit {0}
+Rests files _ = AtRest files
+
+-- On a link of a run that came to its end, but where a call of it failed, all output of its session
+-- was sent.
+abbrev pub SentWhole : Meaning → Two File → Outside → List LinkEnd → Type 0
+SentWhole clients two new ends =
+    (told : Told new) (begin whole : Journal) → stands clients (read_files two) ≡ journal begin
+    → stands clients (read_files told.two) ≡ journal whole
+    → (i : ℕ) (end : LinkEnd) → slice_get ends i ≡ Some end → end.ending ≢ text.Failed
+    → sent_on new.links i ≡ output whole ((facts begin).begun + i)
+
+-- Where a batch found no room: on each link whose session had begun, but where a call of it failed
+-- in this command, all output of its session was sent.
+abbrev pub SentFull : Meaning → Two File → (old new : Outside) → Type 0
+SentFull clients two old new =
+    (told : Told new) (begin whole : Journal) → stands clients (read_files two) ≡ journal begin
+    → stands clients (read_files told.two) ≡ journal whole
+    → (i : ℕ) → (facts begin).begun + i < (facts whole).begun
+    → Rose (old.links.faults i) (new.links.faults i)
+    ⊎ (sent_on new.links i ≡ output whole ((facts begin).begun + i))

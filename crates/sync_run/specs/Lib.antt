@@ -1,0 +1,9 @@
+pub mod Plans
+pub mod Headline
+pub mod Courses
+pub mod Causes
+pub mod Lines
+pub mod Parts
+pub mod Dialling
+pub mod SafeRuns
+pub mod Ran

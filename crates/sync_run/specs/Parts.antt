@@ -1,0 +1,150 @@
+-- What the parts of a run come to, as parts of its course.
+use Rattle.std.specs.Prelude.{◌≡◌, ℕ, suc, ◌<◌, Bool, true, false, List, [], ◌∷◌, ◌++◌, Some, is_some, Result, Ok, Err}
+use Rattle.outside.specs.declared.limits.TheConstants.{MAX_JOURNAL}
+use Rattle.outside.specs.Files.{Two, File}
+use Rattle.outside.specs.Outside.{Outside}
+use Rattle.sync_rules.specs.declared.entries.Entry.{Entry}
+use Rattle.sync_rules.specs.declared.entries.Session.{Session}
+use Rattle.sync_rules.specs.Clients.{Meaning}
+use Rattle.sync_rules.specs.Facts.{Facts, facts}
+use Rattle.sync_store.specs.Store.{StoreValue}
+use Rattle.sync_course.specs.Closing.{closing}
+use Rattle.sync_course.specs.Events.{Commit, Event, Told, batches_of}
+use Rattle.sync_course.specs.Quiet.{EndsQuiet}
+use Rattle.sync_course.specs.Turns.{Attaches, Between, Broken, Course, Ended, Place, RunStep, Terms, is_over}
+use Rattle.sync_node.specs.declared.link.Link.{Link}
+use Rattle.sync_node.specs.Courses.{AllRead, ReadsAs, RunBreaks, RunRuns, place_at}
+use Rattle.sync_node.specs.Fulls.{RunFull}
+use Rattle.sync_node.specs.Output.{Journal}
+use Rattle.sync_node.specs.Plans.{session_of}
+use Rattle.store_commands.specs.Commit.{needed_by}
+use Rattle.sync_words.specs.declared.links.LinkEnd.{LinkEnd}
+use Rattle.sync_words.specs.declared.outcome.Outcome.{Outcome}
+use Rattle.sync_words.specs.declared.outcome.Outcome.TheVariants as outcome
+use Rattle.sync_run.specs.declared.dialling.Dialled.{Dialled}
+use Rattle.sync_run.specs.declared.run.Limits.{Limits}
+use Rattle.sync_run.specs.Courses.{terms_at, terms_of}
+use Rattle.sync_run.specs.Lines.{numbered}
+
+-- the sessions of links that were dialled; the first has this number
+abbrev pub sessions_from : ℕ → List Dialled → List Session
+sessions_from first [] = []
+sessions_from first (d ∷ links) = session_of first d.plan d.nonce ∷ sessions_from (suc first) links
+
+-- links on which nothing was heard
+abbrev pub silent : ℕ → List ℕ
+silent link = []
+
+-- before the first session, in a settled journal of these facts
+abbrev pub before_sessions : List Session → Facts → Place
+before_sessions sessions f = place_at (Attaches sessions) [] silent false 0 0 f
+
+-- before the first turn
+abbrev pub before_turns : List Link → (ℕ → List ℕ) → Facts → Place
+before_turns links heard f = place_at Between links heard false 0 0 f
+
+-- ---- the sessions begin
+
+-- of these sessions, those before the ones that are left began
+pub record SessionsSoFar (clients : Meaning) (sessions left : List Session) (links : List Link) (s s' : StoreValue) (o o' : Outside) : Type 0 where
+  pub same_told : is_some o'.files ≡ is_some o.files
+  pub has_read : AllRead silent links
+  pub runs : (two : Two File) → o.files ≡ Some two → (terms : Terms)
+      → RunRuns clients terms (before_sessions sessions s.state.facts) (place_at (Attaches left) links silent false 0 0 s'.state.facts) s s' o o'
+
+-- where files are told, all these sessions began, and these are their links
+pub record SessionsBegin (clients : Meaning) (sessions : List Session) (links : List Link) (s s' : StoreValue) (o o' : Outside) : Type 0 where
+  pub has_read : AllRead silent links
+  pub runs : (two : Two File) → o.files ≡ Some two → (terms : Terms)
+      → RunRuns clients terms (before_sessions sessions s.state.facts) (before_turns links silent s'.state.facts) s s' o o'
+
+pub record BreaksSessions (clients : Meaning) (sessions : List Session) (s : StoreValue) (o o' : Outside) : Type 0 where
+  pub stops : (two : Two File) → o.files ≡ Some two → (terms : Terms)
+      → RunBreaks clients terms (before_sessions sessions s.state.facts) s o o'
+
+-- the batch of the next of these sessions would have passed the limit
+pub record FullSessions (clients : Meaning) (sessions : List Session) (s s' : StoreValue) (o o' : Outside) : Type 0 where
+  pub fills : (two : Two File) → o.files ≡ Some two → (terms : Terms)
+      → RunFull clients terms (before_sessions sessions s.state.facts) s s' o o'
+
+-- ---- the turns are made
+
+-- so many turns were made, of which so many last ones were still
+pub record TurnsSoFar (clients : Meaning) (limits : Limits) (first : ℕ) (from : Place) (links : List Link) (s s' : StoreValue) (o o' : Outside) (still made : ℕ) : Type 0 where
+  pub heard : ℕ → List ℕ
+  pub moved : Bool
+  pub has_read : AllRead heard links
+  pub runs : RunRuns clients (terms_at limits first) from (place_at Between links heard moved still made s'.state.facts) s s' o o'
+
+-- from a place a run came to its end with these links, over or not
+pub record EndsFrom (clients : Meaning) (limits : Limits) (first : ℕ) (from : Place) (links : List Link) (s s' : StoreValue) (o o' : Outside) (over : Bool) : Type 0 where
+  pub heard : ℕ → List ℕ
+  pub moved : Bool
+  pub still : ℕ
+  pub made : ℕ
+  pub runs : RunRuns clients (terms_at limits first) from (place_at Ended links heard moved still made s'.state.facts) s s' o o'
+  pub is_so : over ≡ is_over limits.quiet (place_at Ended links heard moved still made s'.state.facts)
+
+-- the turns of a run were made, from before the first one on
+pub record MakesTurns (clients : Meaning) (limits : Limits) (first : ℕ) (links links' : List Link) (s s' : StoreValue) (o o' : Outside) (over : Bool) : Type 0 where
+  pub ends : (heard : ℕ → List ℕ) → AllRead heard links
+      → EndsFrom clients limits first (before_turns links heard s.state.facts) links' s s' o o' over
+
+pub record BreaksTurns (clients : Meaning) (limits : Limits) (first : ℕ) (links : List Link) (s : StoreValue) (o o' : Outside) : Type 0 where
+  pub stops : (heard : ℕ → List ℕ) → AllRead heard links
+      → RunBreaks clients (terms_at limits first) (before_turns links heard s.state.facts) s o o'
+
+-- a batch would have passed the limit
+pub record FullTurns (clients : Meaning) (limits : Limits) (first : ℕ) (links : List Link) (s s' : StoreValue) (o o' : Outside) : Type 0 where
+  pub fills : (heard : ℕ → List ℕ) → AllRead heard links
+      → RunFull clients (terms_at limits first) (before_turns links heard s.state.facts) s s' o o'
+
+-- ---- both
+
+-- where files are told, these sessions began and the turns were made
+pub record RunsSessions (clients : Meaning) (limits : Limits) (first : ℕ) (sessions : List Session) (links : List Link) (s s' : StoreValue) (o o' : Outside) (over : Bool) : Type 0 where
+  pub ends : (two : Two File) → o.files ≡ Some two
+      → EndsFrom clients limits first (before_sessions sessions s.state.facts) links s s' o o' over
+
+pub record BreaksRun (clients : Meaning) (limits : Limits) (first : ℕ) (sessions : List Session) (s : StoreValue) (o o' : Outside) : Type 0 where
+  pub stops : (two : Two File) → o.files ≡ Some two
+      → RunBreaks clients (terms_at limits first) (before_sessions sessions s.state.facts) s o o'
+
+pub record FullRun (clients : Meaning) (limits : Limits) (first : ℕ) (sessions : List Session) (s s' : StoreValue) (o o' : Outside) : Type 0 where
+  pub fills : (two : Two File) → o.files ≡ Some two
+      → RunFull clients (terms_at limits first) (before_sessions sessions s.state.facts) s s' o o'
+
+-- ---- the run on links that were dialled
+
+-- a whole course over this journal, whose closing the lines are
+pub record RunEnded (clients : Meaning) (limits : Limits) (sessions : List Session) (j : Journal) (o o' : Outside) (ends : List LinkEnd) : Type 0 where
+  pub events : List Event
+  pub last : Place
+  pub course : Course clients (terms_of limits j) sessions (facts j) events last
+  pub told : Told events o o'
+  pub reads : ReadsAs clients o'.files (j ++ batches_of events)
+  pub closes : ends ≡ numbered 0 (closing limits.quiet last)
+  pub quiet : is_over limits.quiet last ≡ true → EndsQuiet clients (terms_of limits j) events last
+
+-- a course that was broken off
+pub record RunBroken (clients : Meaning) (limits : Limits) (sessions : List Session) (j : Journal) (o o' : Outside) : Type 0 where
+  pub events : List Event
+  pub last : Place
+  pub broken : Broken clients (terms_of limits j) sessions (facts j) events last
+  pub told : Told events o o'
+  pub reads : ReadsAs clients o'.files (j ++ batches_of events)
+
+-- the same at a place from which the next step commits a batch that passes the greatest length of a journal
+pub record RunFilled (clients : Meaning) (limits : Limits) (sessions : List Session) (j : Journal) (o o' : Outside) : Type 0 where
+  pub run : RunBroken clients limits sessions j o o'
+  pub batch : List Entry
+  pub next : Place
+  pub steps : RunStep clients (terms_of limits j) run.last (Commit batch) next
+  pub over : MAX_JOURNAL < needed_by (j ++ batches_of run.events) batch
+
+abbrev pub RunsOver : Meaning → Limits → List Session → Journal → Outside → Outside → Result (List LinkEnd) Outcome → Type 0
+RunsOver clients limits sessions j o o' (Ok ends) = RunEnded clients limits sessions j o o' ends
+RunsOver clients limits sessions j o o' (Err outcome.Full) = RunFilled clients limits sessions j o o'
+RunsOver clients limits sessions j o o' (Err outcome.Memory) = RunBroken clients limits sessions j o o'
+RunsOver clients limits sessions j o o' (Err outcome.DiskFault) = RunBroken clients limits sessions j o o'
+RunsOver clients limits sessions j o o' (Err _) = ⊥

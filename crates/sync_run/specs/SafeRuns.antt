@@ -1,0 +1,101 @@
+-- Sessions that run over links that were dialled: what they need, and that a run is safe with them.
+use Rattle.std.specs.Prelude.{◌≡◌, ◌≢◌, ◌⊎◌, ℕ, ◌+◌, ◌<◌, ◌≤◌, true, List, [], length, Some, slice_get}
+use Rattle.std.specs.List.{All}
+use Rattle.outside.specs.Faults.{Rose}
+use Rattle.outside.specs.Files.{read_files}
+use Rattle.outside.specs.Outside.{Outside}
+use Rattle.outside.specs.Runs.{IsFront, Told}
+use Rattle.sync_rules.specs.declared.entries.Session.{Session}
+use Rattle.sync_rules.specs.Clients.{Meaning}
+use Rattle.sync_rules.specs.Facts.{facts}
+use Rattle.sync_rules.specs.Legal.{suits_nonce}
+use Rattle.entry_codec.specs.Standing.{journal, stands}
+use Rattle.sync_store.specs.Store.{StoreValue}
+use Rattle.sync_node.specs.Joined.{IsAllSent, IsUnused, Joined}
+use Rattle.sync_node.specs.Node.{NodeValue}
+use Rattle.sync_node.specs.Output.{Journal, output, sent_on}
+use Rattle.sync_node.specs.Safe.{Begin, Safe}
+use Rattle.sync_words.specs.declared.link_words.LinkWords.{LinkWords}
+use Rattle.sync_words.specs.declared.error_lines.LinkText.TheVariants as text
+use Rattle.sync_words.specs.declared.links.LinkEnd.{LinkEnd}
+use Rattle.sync_run.specs.declared.dialling.Dialled.{Dialled}
+use Rattle.sync_run.specs.Parts.{sessions_from}
+use Rattle.sync_run.specs.Plans.{ArePlanned}
+
+-- ---- what the sessions need
+
+-- the contact of these words is known, where there are so many
+abbrev pub IsKnown : ℕ → LinkWords → Type 0
+IsKnown contacts words = words.contact < contacts
+
+-- a session may begin on a link that was dialled, where so many contacts are known
+pub record MayBeginOn (contacts : ℕ) (d : Dialled) : Type 0 where
+  pub known : d.plan.contact < contacts
+  pub latency : 1 ≤ d.plan.latency
+  pub suited : suits_nonce d.plan.mode d.nonce ≡ true
+
+abbrev pub AllMayBegin : ℕ → List Dialled → Type 0
+AllMayBegin contacts links = All (MayBeginOn contacts) links
+
+-- nothing was sent or heard on any link
+abbrev pub AreUnused : Outside → Type 0
+AreUnused o = (link : ℕ) → IsUnused link o
+
+-- ---- what they do
+
+-- sessions began on these links, behind those of a node
+pub record AttachesAll (clients : Meaning) (links : List Dialled) (n n' : NodeValue)
+    (o o' : Outside) : Type 0 where
+  pub same_first : n'.first ≡ n.first
+  pub number : length n'.links ≡ length n.links + length links
+  pub joined : Joined clients n.links n.store o → Joined clients n'.links n'.store o'
+
+-- Sessions ran on links of a node that had none, whatever the answer. A run that was safe with no
+-- session is safe with those of some first links.
+pub record SessionsSafe (clients : Meaning) (links : List Dialled) (n n' : NodeValue)
+    (o o' : Outside) : Type 0 where
+  pub plans : List Session
+  pub front : IsFront plans (sessions_from n.store.state.facts.begun links)
+  pub safe : Joined clients n.links n.store o → (b : Begin) → n.first ≡ b.first
+      → Safe clients b [] n.store o → Safe clients b plans n'.store o'
+
+-- the same of a store that was given to a node
+pub record RunsSafe (clients : Meaning) (links : List Dialled) (s : StoreValue)
+    (o o' : Outside) : Type 0 where
+  pub store : StoreValue
+  pub plans : List Session
+  pub front : IsFront plans (sessions_from s.state.facts.begun links)
+  pub safe : (b : Begin) → s.state.facts.begun ≡ b.first → Safe clients b [] s o
+      → Safe clients b plans store o'
+
+-- the same in words of a command
+pub record WordsSafe (clients : Meaning) (words : List LinkWords) (s : StoreValue)
+    (o o' : Outside) : Type 0 where
+  pub store : StoreValue
+  pub plans : List Session
+  pub planned : ArePlanned s.state.facts.begun words plans
+  pub safe : (b : Begin) → s.state.facts.begun ≡ b.first → Safe clients b [] s o
+      → Safe clients b plans store o'
+
+-- On each link that is not said to have failed all output of its session was sent. The first
+-- session has this number.
+abbrev pub SendsWhole : Meaning → ℕ → Outside → List LinkEnd → Type 0
+SendsWhole clients first o ends =
+    (told : Told o) (whole : Journal) → stands clients (read_files told.two) ≡ journal whole
+    → (i : ℕ) (end : LinkEnd) → slice_get ends i ≡ Some end → end.ending ≢ text.Failed
+    → sent_on o.links i ≡ output whole (first + i)
+
+-- ---- no room
+
+-- Sessions of a node that had none were broken off where a batch found no room: on each link whose
+-- session had begun all output of that was sent, but where a call of the link failed.
+pub record SessionsSent (clients : Meaning) (n n' : NodeValue) (o o' : Outside) : Type 0 where
+  pub sent : Joined clients n.links n.store o → (i : ℕ) → n.first + i < n'.store.state.facts.begun
+      → Rose (o.links.faults i) (o'.links.faults i) ⊎ IsAllSent clients (n.first + i) i n'.store o'
+
+-- the same in words of the journal that the files stand for; the first session has this number
+abbrev pub SendsFull : Meaning → ℕ → (o o' : Outside) → Type 0
+SendsFull clients first o o' =
+    (told : Told o') (whole : Journal) → stands clients (read_files told.two) ≡ journal whole
+    → (i : ℕ) → first + i < (facts whole).begun
+    → Rose (o.links.faults i) (o'.links.faults i) ⊎ (sent_on o'.links i ≡ output whole (first + i))

@@ -1,0 +1,239 @@
+// The command `sync`.
+ghost use Rattle.std.specs.Prelude.{◌≡◌, ◌≤◌, [], false, length, vec_capacity, ◌<◌, IfOk, IsErrOf};
+ghost use Rattle.std.specs.Prelude.{OnErr, OnOk, Some};
+ghost use Rattle.outside.specs.Faults.{Rose};
+ghost use Rattle.std.specs.List.{All};
+ghost use Rattle.outside.specs.Files.{Two, File, read_files};
+ghost use Rattle.entry_codec.specs.Standing.{stands};
+ghost use Rattle.sync_rules.specs.Facts.{facts};
+ghost use Rattle.sync_rules.specs.Steps.{IsSettled};
+ghost use Rattle.sync_store.specs.Ready.{IsReady};
+ghost use Rattle.sync_node.specs.Causes.{FailByCause};
+ghost use Rattle.sync_node.specs.Courses.{FitsWith};
+ghost use Rattle.sync_node.specs.Going.{Goes};
+ghost use Rattle.sync_node.specs.Node.{Answers, IsNode, MayRun};
+ghost use Rattle.sync_node.specs.Output.{Journal};
+ghost use Rattle.sync_node.specs.Stays.{StaysReady};
+ghost use Rattle.outside.specs.declared.limits.TheConstants.{LINKS, MAX_JOURNAL};
+ghost use Rattle.sync_words.specs.Links.{AreLinks};
+ghost use Rattle.sync_run.specs.Causes.{FailsAlone, IsCaused, RunCaused};
+ghost use Rattle.sync_run.specs.Courses.{ComesTo, HaveSpecs, RunComes, TestsContacts};
+ghost use Rattle.sync_run.specs.Headline.{Headline, Rests, SentFull, SentWhole};
+ghost use Rattle.sync_run.specs.Parts.{BreaksRun, FullRun, RunsOver, RunsSessions, sessions_from};
+ghost use Rattle.sync_run.specs.SafeRuns.{AllMayBegin, AreUnused, AttachesAll, IsKnown, RunsSafe};
+ghost use Rattle.sync_run.specs.SafeRuns.{SendsFull, SendsWhole, SessionsSafe, SessionsSent, WordsSafe};
+
+use crate::closing::{close, failed_alone};
+use crate::dialling::{Dialled, dial_all, hang_up_all};
+use crate::sessions::{attach_all, make_turns};
+use outside::Host;
+use std::alloc::Global;
+use std::hash::RandomState;
+use store_commands::{load_store, settle};
+use sync_course::laws::runs_end_quiet;
+use sync_node::{Node, NodeFault};
+use sync_rules::{Clients, Refused};
+use sync_store::Store;
+use sync_words::{LinkEnds, LinkWords, Outcome};
+
+/// How long a run goes on.
+#[derive(Clone, Copy, Debug, PartialEq, Eq)]
+pub struct Limits {
+    /// How many turns are made at most, 1 to 1,000,000.
+    pub turns: u32,
+    /// How many still turns one behind the other end the run, 1 to 1,000,000.
+    pub quiet: u32,
+}
+
+/// Runs a session on each of these links, 1 to 8 of them, over a host on which no link was made, and
+/// answers how the links ended. It loads the store, tests the contacts, dials the links and draws
+/// their nonces, settles the journal, begins the sessions in order, and makes turns until the run is
+/// over or all were made. At the end every link is hung up.
+///
+/// # Errors `NoStore`, `Damaged` and `Refused(UnknownContact)` leave the journal as it is; `Links`
+/// names the one link whose dial or nonce failed, and the journal is as it was; `Full`, `Memory` and
+/// `DiskFault` break the run off.
+pub fn sync_links<H: Host, C: Clients>(
+    alloc: Global,
+    hasher: RandomState,
+    limits: Limits,
+    links: &[LinkWords],
+    host: &mut H,
+    clients: &C,
+) -> Result<LinkEnds, Outcome>
+    requires links { AreLinks links.now }
+    requires unused { (H.tells host.old).links.dialled ≡ 0 }
+    ensures headline { Headline (C.meaning clients.now) links.now (H.tells host.old)
+        (H.tells host.new) }
+    ensures rests { (two : Two File) → (H.tells host.old).files ≡ Some two
+        → Rests (H.tells host.new).files result }
+    ensures sent { (two : Two File) → (H.tells host.old).files ≡ Some two
+        → IfOk result (SentWhole (C.meaning clients.now) two (H.tells host.new)) }
+    ensures sent_full { (two : Two File) → (H.tells host.old).files ≡ Some two
+        → IsErrOf result Outcome.Full → SentFull (C.meaning clients.now) two (H.tells host.old)
+        (H.tells host.new) }
+    ensures comes { (two : Two File) → (H.tells host.old).files ≡ Some two
+        → ComesTo (C.meaning clients.now) limits links.now
+        (stands (C.meaning clients.now) (read_files two)) (H.tells host.old) (H.tells host.new)
+        result }
+    ensures specs { HaveSpecs links.now (H.tells host.new) }
+    ensures caused { IsCaused links.now (H.tells host.old) (H.tells host.new) result }
+{
+    let store = load_store(alloc, hasher, host, clients)?;
+    test_contacts(&store, links)?;
+    let mut dialled = Vec::with_capacity(alloc, links.len())?;
+    let ended = run_links(alloc, store, limits, links, &mut dialled, host, clients);
+    hang_up_all(host, dialled.len());
+    ended
+}
+
+// The first refusal: a contact that is not known.
+fn test_contacts(store: &Store, links: &[LinkWords]) -> Result<(), Refused>
+    ensures known { OnOk result (All (IsKnown store.now.state.facts.contacts) links.now) }
+    ensures tested { TestsContacts store.now.state.facts links.now result }
+{
+    let contacts = store.contacts();
+    'links: for words in links {
+        if u32::from(words.contact) >= contacts {
+            return Err(Refused::UnknownContact);
+        }
+    }
+    Ok(())
+}
+
+// Dials the links, and runs the sessions on them.
+fn run_links<H: Host, C: Clients>(
+    alloc: Global,
+    store: Store,
+    limits: Limits,
+    words: &[LinkWords],
+    dialled: &mut Vec<Dialled>,
+    host: &mut H,
+    clients: &C,
+) -> Result<LinkEnds, Outcome>
+    requires links { AreLinks words.now }
+    requires unused { (H.tells host.old).links.dialled ≡ 0 }
+    requires ready { IsReady (C.meaning clients.now) store (H.tells host.old).files }
+    requires limited { store.limit ≡ MAX_JOURNAL }
+    requires known { All (IsKnown store.state.facts.contacts) words.now }
+    requires empty { dialled.old.items ≡ [] }
+    requires room { length words.now ≤ vec_capacity dialled.old }
+    ensures few { length dialled.new.items ≤ LINKS }
+    ensures made { length dialled.new.items ≤ (H.tells host.new).links.dialled }
+    ensures safe { WordsSafe (C.meaning clients.now) words.now store (H.tells host.old)
+        (H.tells host.new) }
+    ensures rests { Rests (H.tells host.new).files result }
+    ensures sent { IfOk result (SendsWhole (C.meaning clients.now) store.state.facts.begun
+        (H.tells host.new)) }
+    ensures sent_full { IsErrOf result Outcome.Full → SendsFull (C.meaning clients.now)
+        store.state.facts.begun (H.tells host.old) (H.tells host.new) }
+    ensures specs { HaveSpecs words.now (H.tells host.new) }
+    ensures caused { IsCaused words.now (H.tells host.old) (H.tells host.new) result }
+    ensures comes { (j : Journal) → FitsWith (C.meaning clients.now) store (H.tells host.old).files j
+        → RunComes (C.meaning clients.now) limits words.now j (H.tells host.old)
+        (H.tells host.new) result }
+{
+    match dial_all(host, words, dialled) {
+        Ok(()) => run_dialled(alloc, store, limits, dialled.as_slice(), host, clients),
+        Err(_) => dial_failed(alloc, dialled.len()),
+    }
+}
+
+// What the command comes to where the call on the link of this number failed.
+fn dial_failed(alloc: Global, link: usize) -> Result<LinkEnds, Outcome>
+    requires { link < LINKS }
+    ensures { FailsAlone link result }
+{
+    Err(Outcome::Links(failed_alone(alloc, link as u8)?))
+}
+
+// Runs the sessions on links that were dialled.
+fn run_dialled<H: Host, C: Clients>(
+    alloc: Global,
+    store: Store,
+    limits: Limits,
+    links: &[Dialled],
+    host: &mut H,
+    clients: &C,
+) -> Result<LinkEnds, Outcome>
+    requires ready { IsReady (C.meaning clients.now) store (H.tells host.old).files }
+    requires limited { store.limit ≡ MAX_JOURNAL }
+    requires each { AllMayBegin store.state.facts.contacts links.now }
+    requires few { length links.now ≤ LINKS }
+    requires dialled { length links.now ≤ (H.tells host.old).links.dialled }
+    requires unused { AreUnused (H.tells host.old) }
+    ensures safe { RunsSafe (C.meaning clients.now) links.now store (H.tells host.old)
+        (H.tells host.new) }
+    ensures rests { Rests (H.tells host.new).files result }
+    ensures sent { IfOk result (SendsWhole (C.meaning clients.now) store.state.facts.begun
+        (H.tells host.new)) }
+    ensures sent_full { IsErrOf result Outcome.Full → SendsFull (C.meaning clients.now)
+        store.state.facts.begun (H.tells host.old) (H.tells host.new) }
+    ensures run { Goes (H.tells host.old) (H.tells host.new) }
+    ensures caused { RunCaused (H.tells host.old) (H.tells host.new) result }
+    ensures course { (j : Journal) → FitsWith (C.meaning clients.now) store (H.tells host.old).files j
+        → RunsOver (C.meaning clients.now) limits (sessions_from (facts j).begun links.now) j
+        (H.tells host.old) (H.tells host.new) result }
+{
+    // The law of what stands at the end of a run that is over.
+    runs_end_quiet();
+    let mut store = store;
+    settle(&mut store, host, clients)?;
+    let mut node = Node::new(alloc, store)?;
+    match run_node(&mut node, limits, links, host, clients) {
+        Ok(over) => Ok(close(alloc, &node, links.len() as u8, over)?),
+        Err(NodeFault::Memory) => Err(Outcome::Memory),
+        Err(NodeFault::DiskFault) => Err(Outcome::DiskFault),
+        Err(NodeFault::Full) => Err(Outcome::Full),
+        Err(NodeFault::Closed) => unreachable!(),
+    }
+}
+
+// Begins the sessions and makes the turns.
+fn run_node<H: Host, C: Clients>(
+    node: &mut Node,
+    limits: Limits,
+    links: &[Dialled],
+    host: &mut H,
+    clients: &C,
+) -> Result<bool, NodeFault>
+    requires still_open { node.old.closed ≡ false }
+    requires may { MayRun (C.meaning clients.now) node.old (H.tells host.old) }
+    requires settled { IsSettled (C.meaning clients.now) node.old.store.state.facts }
+    requires none { node.old.links ≡ [] }
+    requires first { node.old.store.state.facts.begun ≡ node.old.first }
+    requires each { AllMayBegin node.old.store.state.facts.contacts links.now }
+    requires few { length links.now ≤ LINKS }
+    requires dialled { length links.now ≤ (H.tells host.old).links.dialled }
+    ensures answer { Answers result node.new }
+    ensures may { MayRun (C.meaning clients.now) node.new (H.tells host.new) }
+    ensures node { IsNode node.new }
+    ensures joined { OnOk result (AttachesAll (C.meaning clients.now) links.now node.old node.new
+        (H.tells host.old) (H.tells host.new)) }
+    ensures safe { SessionsSafe (C.meaning clients.now) links.now node.old node.new
+        (H.tells host.old) (H.tells host.new) }
+    ensures sent { IsErrOf result NodeFault.Full → SessionsSent (C.meaning clients.now) node.old node.new
+        (H.tells host.old) (H.tells host.new) }
+    ensures stays { StaysReady (C.meaning clients.now) node.new (H.tells host.new) result }
+    ensures run { Goes (H.tells host.old) (H.tells host.new) }
+    ensures cause { FailByCause node.old.links node.new.links (H.tells host.old)
+        (H.tells host.new) }
+    ensures limit { node.new.store.limit ≡ node.old.store.limit }
+    ensures full { IsErrOf result NodeFault.Full → FullRun (C.meaning clients.now) limits
+        node.old.store.state.facts.begun
+        (sessions_from node.old.store.state.facts.begun links.now) node.old.store
+        node.new.store (H.tells host.old) (H.tells host.new) }
+    ensures fault { IsErrOf result NodeFault.DiskFault → Rose (H.tells host.old).disk_faults
+        (H.tells host.new).disk_faults }
+    ensures course { IfOk result (RunsSessions (C.meaning clients.now) limits
+        node.old.store.state.facts.begun
+        (sessions_from node.old.store.state.facts.begun links.now) node.new.links node.old.store
+        node.new.store (H.tells host.old) (H.tells host.new)) }
+    ensures halts { OnErr result (BreaksRun (C.meaning clients.now) limits
+        node.old.store.state.facts.begun
+        (sessions_from node.old.store.state.facts.begun links.now) node.old.store
+        (H.tells host.old) (H.tells host.new)) }
+{
+    attach_all(node, host, clients, links)?;
+    make_turns(node, host, clients, limits)
+}

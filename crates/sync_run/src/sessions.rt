@@ -1,0 +1,117 @@
+// The sessions of a run: they begin, and the turns are made.
+ghost use Rattle.std.specs.Prelude.{◌≡◌, ◌≤◌, [], false, length, IfOk, IsErrOf, OnErr, OnOk};
+ghost use Rattle.outside.specs.Faults.{Rose};
+ghost use Rattle.outside.specs.declared.limits.TheConstants.{LINKS};
+ghost use Rattle.sync_rules.specs.Steps.{IsSettled};
+ghost use Rattle.sync_node.specs.Causes.{FailByCause};
+ghost use Rattle.sync_node.specs.Going.{Goes};
+ghost use Rattle.sync_node.specs.Node.{Answers, IsNode, KeepsJoined, KeepsSafe, MayRun};
+ghost use Rattle.sync_node.specs.Stays.{StaysReady};
+ghost use Rattle.sync_node.specs.Stops.{SendsAll};
+ghost use Rattle.sync_run.specs.SafeRuns.{AllMayBegin, AttachesAll, SessionsSafe, SessionsSent};
+ghost use Rattle.sync_run.specs.Parts.{BreaksSessions, BreaksTurns, MakesTurns};
+ghost use Rattle.sync_run.specs.Parts.{FullSessions, FullTurns, SessionsBegin, sessions_from};
+
+use crate::dialling::Dialled;
+use crate::run::Limits;
+use outside::Host;
+use sync_course::is_over;
+use sync_node::{Node, NodeFault, Turned};
+use sync_rules::Clients;
+
+/// Begins a session on each of these links, in order.
+pub fn attach_all<H: Host, C: Clients>(
+    node: &mut Node,
+    host: &mut H,
+    clients: &C,
+    links: &[Dialled],
+) -> Result<(), NodeFault>
+    requires still_open { node.old.closed ≡ false }
+    requires may { MayRun (C.meaning clients.now) node.old (H.tells host.old) }
+    requires settled { IsSettled (C.meaning clients.now) node.old.store.state.facts }
+    requires none { node.old.links ≡ [] }
+    requires first { node.old.store.state.facts.begun ≡ node.old.first }
+    requires each { AllMayBegin node.old.store.state.facts.contacts links.now }
+    requires few { length links.now ≤ LINKS }
+    requires dialled { length links.now ≤ (H.tells host.old).links.dialled }
+    ensures answer { Answers result node.new }
+    ensures may { MayRun (C.meaning clients.now) node.new (H.tells host.new) }
+    ensures node { IsNode node.new }
+    ensures joined { OnOk result (AttachesAll (C.meaning clients.now) links.now node.old node.new
+        (H.tells host.old) (H.tells host.new)) }
+    ensures safe { SessionsSafe (C.meaning clients.now) links.now node.old node.new
+        (H.tells host.old) (H.tells host.new) }
+    ensures sent { IsErrOf result NodeFault.Full → SessionsSent (C.meaning clients.now) node.old node.new
+        (H.tells host.old) (H.tells host.new) }
+    ensures stays { StaysReady (C.meaning clients.now) node.new (H.tells host.new) result }
+    ensures run { Goes (H.tells host.old) (H.tells host.new) }
+    ensures cause { FailByCause node.old.links node.new.links (H.tells host.old)
+        (H.tells host.new) }
+    ensures limit { node.new.store.limit ≡ node.old.store.limit }
+    ensures full { IsErrOf result NodeFault.Full → FullSessions (C.meaning clients.now)
+        (sessions_from node.old.store.state.facts.begun links.now) node.old.store node.new.store
+        (H.tells host.old) (H.tells host.new) }
+    ensures fault { IsErrOf result NodeFault.DiskFault → Rose (H.tells host.old).disk_faults
+        (H.tells host.new).disk_faults }
+    ensures course { OnOk result (SessionsBegin (C.meaning clients.now)
+        (sessions_from node.old.store.state.facts.begun links.now) node.new.links node.old.store
+        node.new.store (H.tells host.old) (H.tells host.new)) }
+    ensures halts { OnErr result (BreaksSessions (C.meaning clients.now)
+        (sessions_from node.old.store.state.facts.begun links.now) node.old.store
+        (H.tells host.old) (H.tells host.new)) }
+{
+    let mut number = 0;
+    'links: for link in links {
+        node.attach(host, clients, number, &link.plan, link.nonce)?;
+        number += 1;
+    }
+    Ok(())
+}
+
+/// Makes turns until the run is over or all were made, and answers whether it is over.
+pub fn make_turns<H: Host, C: Clients>(
+    node: &mut Node,
+    host: &mut H,
+    clients: &C,
+    limits: Limits,
+) -> Result<bool, NodeFault>
+    requires still_open { node.old.closed ≡ false }
+    requires may { MayRun (C.meaning clients.now) node.old (H.tells host.old) }
+    requires node { IsNode node.old }
+    ensures answer { Answers result node.new }
+    ensures may { MayRun (C.meaning clients.now) node.new (H.tells host.new) }
+    ensures node { IsNode node.new }
+    ensures joined { OnOk result (KeepsJoined (C.meaning clients.now) node.old node.new
+        (H.tells host.old) (H.tells host.new)) }
+    ensures safe { KeepsSafe (C.meaning clients.now) node.old node.new (H.tells host.old)
+        (H.tells host.new) }
+    ensures sent { IsErrOf result NodeFault.Full → SendsAll (C.meaning clients.now) node.old node.new
+        (H.tells host.old) (H.tells host.new) }
+    ensures stays { StaysReady (C.meaning clients.now) node.new (H.tells host.new) result }
+    ensures run { Goes (H.tells host.old) (H.tells host.new) }
+    ensures cause { FailByCause node.old.links node.new.links (H.tells host.old)
+        (H.tells host.new) }
+    ensures limit { node.new.store.limit ≡ node.old.store.limit }
+    ensures full { IsErrOf result NodeFault.Full → FullTurns (C.meaning clients.now) limits
+        node.old.first node.old.links node.old.store node.new.store (H.tells host.old)
+        (H.tells host.new) }
+    ensures fault { IsErrOf result NodeFault.DiskFault → Rose (H.tells host.old).disk_faults
+        (H.tells host.new).disk_faults }
+    ensures course { IfOk result (MakesTurns (C.meaning clients.now) limits node.old.first
+        node.old.links node.new.links node.old.store node.new.store (H.tells host.old)
+        (H.tells host.new)) }
+    ensures halts { OnErr result (BreaksTurns (C.meaning clients.now) limits node.old.first
+        node.old.links node.old.store (H.tells host.old) (H.tells host.new)) }
+{
+    let mut still = 0;
+    'turns: for _ in 0..limits.turns {
+        still = match node.turn(host, clients)? {
+            Turned::Still => still + 1,
+            Turned::Moving => 0,
+        };
+        if is_over(u64::from(limits.quiet), still, node.asked() > 0) {
+            return Ok(true);
+        }
+    }
+    Ok(false)
+}
