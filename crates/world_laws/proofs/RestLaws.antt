@@ -1,13 +1,14 @@
 -- Where nothing is due and no message waits, no message is still to be sent.
 use Rattle.std.proofs.Common.{◌≡◌, ℕ, zero, suc, ◌≤◌, Bool, true, false, not, cond, ◌&&◌, nat_le, List, [], ◌∷◌, take, refl, sym, ◌∙◌, ap, inl, inr, arith, Option, Some, None}
 use Rattle.std.proofs.lemmas.Bool.{false≢true, le-leb}
+use Rattle.sync_ids.specs.declared.lists.TheConstants.{MAX_IDS}
 use Rattle.sync_rules.specs.declared.entries.Mode.{Mode}
 use Rattle.sync_rules.specs.declared.entries.Mode.TheVariants as mode_kind
 use Rattle.sync_rules.specs.declared.entries.Out.{Out}
 use Rattle.sync_rules.specs.declared.entries.Session.{Session}
 use Rattle.sync_rules.specs.Elements.{In}
 use Rattle.sync_rules.specs.Facts.{Facts, Held, Id, Row, row_at}
-use Rattle.sync_rules.specs.Sessions.{acks_due, due_by, first_id, ids_limit, ids_where, is_ripe, is_sendable, offers_due, offers_of, out_or, owed_to, requests_due, send_due, send_of, wanted_of}
+use Rattle.sync_rules.specs.Sessions.{acks_due, due_by, first_id, ids_where, is_ripe, is_sendable, offers_due, offers_of, out_or, owed_to, requests_due, send_due, send_of, wanted_of}
 
 -- no id passes a test
 none_passes : (test : Held → Bool) (hs : List Held) → ids_where test hs ≡ [] → (h : Held) → In h hs → test h ≡ false
@@ -77,7 +78,7 @@ none_sendable f shared s now none h inside waits =
     (λ interactive.
     let at : offers_due mode_kind.Interactive (offers_of f shared s.contact now) ≡ None =
     ap (λ (m : Mode). offers_due m (offers_of f shared s.contact now)) (sym interactive) ∙ c.1 in
-    let no_offer : ids_where offered f.held ≡ [] = take_none ids_limit (ids_where offered f.held) (omega arith) (offers_none (offers_of f shared s.contact now) at) in
+    let no_offer : ids_where offered f.held ≡ [] = take_none MAX_IDS (ids_where offered f.held) (omega arith) (offers_none (offers_of f shared s.contact now) at) in
     none_passes offered f.held no_offer h inside)
 
 -- a message that is not sendable though all else holds was seen

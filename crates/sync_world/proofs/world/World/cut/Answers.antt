@@ -1,0 +1,9 @@
+use Rattle.std.proofs.Common.{◌<◌, length, arith}
+use Rattle.sync_world.specs.Moving.{link_cut}
+use Rattle.sync_world.proofs.MovingLaws.{becomes_at}
+use Rattle.sync_world.proofs.world.World.cut.Goals as goal
+
+pub returns-clause-links : goal.returns-clause-links
+returns-clause-links c =
+    let within : c.args.link < length c.args.self.now.links.items = omega arith in
+    becomes_at link_cut c.args.link c.args.self.now.links.items c.index_mut.result.now c.cut_link.new.link c.cut_link.result within c.index_mut.ensures.value c.cut_link.ensures

@@ -1,0 +1,9 @@
+use Rattle.std.proofs.Common.{◌<◌, length, arith}
+use Rattle.sync_world.specs.Moving.{link_moved}
+use Rattle.sync_world.proofs.MovingLaws.{becomes_at}
+use Rattle.sync_world.proofs.world.World.move_first.Goals as goal
+
+pub returns-clause-links : goal.returns-clause-links
+returns-clause-links c =
+    let within : c.args.link < length c.args.self.now.links.items = omega arith in
+    becomes_at (link_moved c.args.how c.args.d) c.args.link c.args.self.now.links.items c.index_mut.result.now c.move_on.new.link c.move_on.result within c.index_mut.ensures.value c.move_on.ensures

@@ -1,0 +1,74 @@
+-- What becomes of a link by a step: the link afterwards, or nothing where the step is refused.
+use Rattle.std.specs.Prelude.{◌≡◌, ℕ, if◌then◌else◌, List, Option, Some, None, Result, Ok, Err, slice_get, slice_set}
+use Rattle.world_devices.specs.declared.stop.StepFault.{StepFault}
+use Rattle.world_devices.specs.declared.stop.StepFault.TheVariants as fault
+use Rattle.world_links.specs.declared.link.Link.{Link}
+use Rattle.world_links.specs.declared.moves.Move.{Move}
+use Rattle.world_links.specs.declared.moves.Move.TheVariants as move
+use Rattle.world_links.specs.declared.moves.Side.{Side}
+use Rattle.world_links.specs.Links.{cut, end_of, moved, side_of}
+use Rattle.world_links.specs.Moves.{is_possible}
+use Rattle.world_devices.specs.Devices.{DeviceValue}
+use Rattle.world_scripts.specs.declared.step.WorldStep.{WorldStep}
+use Rattle.world_scripts.specs.declared.step.WorldStep.TheVariants as step
+
+-- the first records in flight from a device move, where the link is there, the device stands at it, and there is what moves
+abbrev pub moved_from : Move → Link → Option Side → Option Link
+moved_from how l None = None
+moved_from how l (Some side) = if is_possible how (end_of side l).flight then Some (moved how side l) else None
+
+abbrev pub link_moved : Move → ℕ → Option Link → Option Link
+link_moved how device None = None
+link_moved how device (Some l) = moved_from how l (side_of device l)
+
+-- a link that is not cut is cut
+abbrev pub link_cut : Option Link → Option Link
+link_cut None = None
+link_cut (Some l) = if l.is_cut then None else Some (cut l)
+
+-- the links after a step that makes this of one of them: refused exactly where it makes nothing
+abbrev pub Becomes : Option Link → ℕ → List Link → List Link → Result (Unit {0}) StepFault → Type 0
+Becomes None link old new (Ok _) = ⊥
+Becomes None link old new (Err fault.Refused) = new ≡ old
+Becomes None link old new (Err fault.Full) = ⊥
+Becomes None link old new (Err fault.Memory) = new ≡ old
+Becomes (Some l) link old new (Ok _) = new ≡ slice_set old link l
+Becomes (Some l) link old new (Err fault.Refused) = ⊥
+Becomes (Some l) link old new (Err fault.Full) = ⊥
+Becomes (Some l) link old new (Err fault.Memory) = new ≡ old
+
+-- the same of the link alone
+abbrev pub BecomesOne : Option Link → Link → Link → Result (Unit {0}) StepFault → Type 0
+BecomesOne None old new (Ok _) = ⊥
+BecomesOne None old new (Err fault.Refused) = new ≡ old
+BecomesOne None old new (Err fault.Full) = ⊥
+BecomesOne None old new (Err fault.Memory) = new ≡ old
+BecomesOne (Some l) old new (Ok _) = new ≡ l
+BecomesOne (Some l) old new (Err fault.Refused) = ⊥
+BecomesOne (Some l) old new (Err fault.Full) = ⊥
+BecomesOne (Some l) old new (Err fault.Memory) = new ≡ old
+
+-- what a step makes of the links, where it is a move or a cut
+abbrev pub LinksBecome : WorldStep → List Link → List Link → Result (Unit {0}) StepFault → Type 0
+LinksBecome (step.Carry link d) old new result = Becomes (link_moved move.Carry d (slice_get old link)) link old new result
+LinksBecome (step.Lose link d) old new result = Becomes (link_moved move.Lose d (slice_get old link)) link old new result
+LinksBecome (step.Repeat link d) old new result = Becomes (link_moved move.Repeat d (slice_get old link)) link old new result
+LinksBecome (step.Swap link d) old new result = Becomes (link_moved move.Swap d (slice_get old link)) link old new result
+LinksBecome (step.Cut link) old new result = Becomes (link_cut (slice_get old link)) link old new result
+LinksBecome _ old new result = Unit {0}
+
+-- such a step leaves the devices as they were
+abbrev pub LeavesDevices : WorldStep → List DeviceValue → List DeviceValue → Type 0
+LeavesDevices (step.Carry link d) old new = new ≡ old
+LeavesDevices (step.Lose link d) old new = new ≡ old
+LeavesDevices (step.Repeat link d) old new = new ≡ old
+LeavesDevices (step.Swap link d) old new = new ≡ old
+LeavesDevices (step.Cut link) old new = new ≡ old
+LeavesDevices _ old new = Unit {0}
+
+-- a step that failed for want of memory, or since a journal is full, is the last one that is made
+abbrev pub fault_after : Result (Unit {0}) StepFault → Option StepFault
+fault_after (Ok _) = None
+fault_after (Err fault.Refused) = None
+fault_after (Err fault.Full) = Some fault.Full
+fault_after (Err fault.Memory) = Some fault.Memory

@@ -1,0 +1,23 @@
+//! Worlds of several devices, moved step by step: messages are written, devices are linked and make
+//! turns, records in flight arrive, are lost, repeated or swapped, links are cut, clocks are set,
+//! disks stop at any call. A world makes the same calls on nodes and stores as a program does.
+//!
+//! - `world`: the world and its steps.
+//! - `naming`: what devices, groups and messages of a world are called.
+//! - `posting`: the body of a post.
+//! - `turning`: a device's turn, and rounds of turns.
+//! - `playing`, `player`, `asking`: scripts played, the world with what is to be printed of it, and what
+//!   the words ask for.
+#![tactic(auto)]
+
+mod asking;
+mod naming;
+mod player;
+mod playing;
+mod posting;
+mod turning;
+mod world;
+
+pub use playing::replay;
+pub use world::World;
+pub use world_devices::StepFault;

@@ -1,0 +1,160 @@
+-- What a host in memory tells, over its own calls.
+use Rattle.std.proofs.Common.{◌≡◌, ℕ, zero, suc, ◌<◌, List, [], ◌∷◌, ◌++◌, length, refl, sym, ap, ◌∙◌, subst, arith, Option, Some, None, Result, Ok, Err, OnOk, OnErr, slice_index}
+use Rattle.std.specs.declared.alloc.AllocError.{AllocError}
+use Rattle.outside.specs.declared.failed.Failed.{Failed}
+use Rattle.outside.specs.Disk.{Becomes}
+use Rattle.outside.specs.Files.{Two, File, IsImage, settled}
+use Rattle.outside.specs.Host.{Dials}
+use Rattle.outside.specs.Links.{Link, Links, HeardOn}
+use Rattle.outside.specs.Outside.{Outside, Moment}
+use Rattle.outside.specs.Runs.{Told, answers_at, others_dial, sent_at}
+use Rattle.outside.specs.MemDisk.{Change, hosted, MemDiskValue, Kept, kept_after, changed, both_kept, disk_files, files_of, with_call, fresh, links_after, answers_after}
+use Rattle.outside.specs.MemHost.{MemHostValue, Readings, Crashes, fresh_host}
+use Rattle.outside.specs.HostTold.{host_told, heard_on}
+use Rattle.outside.specs.declared.pick.Pick.{Pick}
+use Rattle.outside.specs.Links.{Planned}
+use Rattle.sync_store.specs.Begin.{Begins}
+use Rattle.client_basic.specs.Bodies.{bundle_meaning}
+use Rattle.world_devices.specs.Devices.{links_made}
+use Rattle.world_devices.specs.Keeping.{GoOnFrom, IsQuiet, Keeps, KeepsOn, TellsSame}
+use Rattle.world_devices.proofs.KeepLaws.{keeps_same, settled_only}
+
+-- all is told
+pub told_host : (h : MemHostValue) → Told (host_told h)
+told_host h = record {
+  two = files_of (disk_files h.disk);
+  files_are = refl;
+  links = links_after [] h.disk.calls;
+  links_are = refl;
+  heard = heard_on (answers_after [] h.disk.calls) (λ i. slice_index h.silences i);
+  heard_are = refl;
+}
+
+-- ---- calls that change nothing that is told of files and links
+
+abbrev SameAs : MemHostValue → MemHostValue → Type 0
+SameAs h h' = TellsSame (host_told h) (host_told h')
+
+with_clock : (h : MemHostValue) (clock : Readings) → SameAs h (record h { clock = clock })
+with_clock h clock = record { files = refl; told = refl; heard = refl; clock = refl; moments = λ t m w. w; dialled = refl }
+
+pub same_clock : (h h' : MemHostValue) (clock : Readings) → h' ≡ record h { clock = clock } → SameAs h h'
+same_clock h h' clock is = subst (λ (x : MemHostValue). SameAs h x) (sym is) (with_clock h clock)
+
+with_scripts : (h : MemHostValue) (scripts : List (List Planned)) → SameAs h (record h { scripts = scripts })
+with_scripts h scripts = record { files = refl; told = refl; heard = refl; clock = refl; moments = λ t m w. w; dialled = refl }
+
+pub same_scripts : (h h' : MemHostValue) (scripts : List (List Planned)) → h' ≡ record h { scripts = scripts } → SameAs h h'
+same_scripts h h' scripts is = subst (λ (x : MemHostValue). SameAs h x) (sym is) (with_scripts h scripts)
+
+with_failing : (h : MemHostValue) (failing : List ℕ) (stop : Option ℕ) → SameAs h (record h { disk = record h.disk { failing = failing; stop = stop } })
+with_failing h failing stop = record { files = refl; told = refl; heard = refl; clock = refl; moments = λ t m w. w; dialled = refl }
+
+pub same_failing : (h h' : MemHostValue) (failing : List ℕ) (stop : Option ℕ) → h' ≡ record h { disk = record h.disk { failing = failing; stop = stop } } → SameAs h h'
+same_failing h h' failing stop is = subst (λ (x : MemHostValue). SameAs h x) (sym is) (with_failing h failing stop)
+
+with_stop : (h : MemHostValue) (stop : Option ℕ) → SameAs h (record h { disk = record h.disk { stop = stop } })
+with_stop h stop = record { files = refl; told = refl; heard = refl; clock = refl; moments = λ t m w. w; dialled = refl }
+
+pub same_stop : (h h' : MemHostValue) (stop : Option ℕ) → h' ≡ record h { disk = record h.disk { stop = stop } } → SameAs h h'
+same_stop h h' stop is = subst (λ (x : MemHostValue). SameAs h x) (sym is) (with_stop h stop)
+
+tells_equal : (h h' : MemHostValue) → h' ≡ h → SameAs h h'
+tells_equal h h' is = subst (λ (x : MemHostValue). SameAs h x) (sym is) (record { files = refl; told = refl; heard = refl; clock = refl; moments = λ t m w. w; dialled = refl })
+
+pub script_same : (h h' : MemHostValue) (scripts : List (List Planned)) (result : Result (Unit {0}) AllocError) → OnOk result (h' ≡ record h { scripts = scripts }) → OnErr result (h' ≡ h) → SameAs h h'
+script_same h h' scripts (Ok u) ok err = same_scripts h h' scripts ok
+script_same h h' scripts (Err e) ok err = tells_equal h h' err
+
+pub clock_same : (h h' : MemHostValue) (clock : Readings) (result : Result (Unit {0}) AllocError) → OnOk result (h' ≡ record h { clock = clock }) → OnErr result (h' ≡ h) → SameAs h h'
+clock_same h h' clock (Ok u) ok err = same_clock h h' clock ok
+clock_same h h' clock (Err e) ok err = tells_equal h h' err
+
+pub same_then : (a b c : Outside) → TellsSame a b → TellsSame b c → TellsSame a c
+same_then a b c first second = record {
+  files = second.files ∙ first.files;
+  told = second.told ∙ first.told;
+  heard = second.heard ∙ first.heard;
+  clock = second.clock ∙ first.clock;
+  moments = λ t m w. first.moments t m (second.moments t m w);
+  dialled = second.dialled ∙ first.dialled;
+}
+
+-- ---- a host that begins anew
+
+hosted_same : (two : Two Kept) (calls : List Change) → kept_after two (calls ++ hosted ∷ []) ≡ kept_after two calls
+hosted_same two [] = refl
+hosted_same two (c ∷ calls) = hosted_same (changed two c) calls
+
+pub keeps_anew : (h h' : MemHostValue) → h' ≡ fresh_host h.disk → KeepsOn (host_told h) (host_told h')
+keeps_anew h h' is =
+    keeps_same (host_told h) (host_told h')
+    (ap (λ (x : MemHostValue). (host_told x).files) is ∙ ap (λ (k : Two Kept). Some (files_of k)) (hosted_same (both_kept h.disk.start) h.disk.calls))
+
+pub keeps_crash : (pick : Pick) (h h' : MemHostValue) → Crashes pick h h' → KeepsOn (host_told h) (host_told h')
+keeps_crash pick h h' crashes j k =
+    let start = crashes.disk.start in
+    let went : GoOnFrom j start = k.each (files_of (disk_files h.disk)) refl start crashes.image in
+    let anew : h' ≡ fresh_host (fresh start) = crashes.anew ∙ ap fresh_host crashes.pictured.fresh in
+    record {
+      each = λ two is left image.
+          let only : Some (record { first = settled start.first; second = settled start.second }) ≡ Some two = sym (ap (λ (x : MemHostValue). (host_told x).files) anew) ∙ is in
+          let same : record { first = settled start.first; second = settled start.second } ≡ two = cc in
+          let there : IsImage (record { first = settled start.first; second = settled start.second }) left = subst (λ (t : Two File). IsImage t left) (sym same) image in
+          let first = settled_only start.first left.first there.first in
+          let second = settled_only start.second left.second there.second in
+          let is_start : start ≡ left = (λ i. record { first = sym first i; second = sym second i }) in
+          subst (λ (l : Two (List ℕ)). GoOnFrom j l) is_start went;
+    }
+
+-- ---- a store that was begun
+
+begins_images : (old new : Option (Two File)) → Becomes Begins old new → (two : Two File) → new ≡ Some two → (left : Two (List ℕ)) → IsImage two left → GoOnFrom [] left
+begins_images None None begins two is left image = cc
+begins_images None (Some new) begins two is left image = absurd begins
+begins_images (Some old) None begins two is left image = absurd begins
+begins_images (Some old) (Some new) begins two is left image =
+    let same : two ≡ new = (let both : Some new ≡ Some two = is in cc) in
+    record {
+      whole = [];
+      front = record { rest = []; whole = refl };
+      stands_for = begins.each_image bundle_meaning left (subst (λ (t : Two File). IsImage t left) same image);
+    }
+
+pub keeps_begun : (o o' : Outside) → Becomes Begins o.files o'.files → Keeps [] o'
+keeps_begun o o' begins = record { each = begins_images o.files o'.files begins }
+
+-- ---- links on which nothing was sent
+
+none_sent : (link : ℕ) → sent_at (Some []) link ≡ []
+none_sent zero = refl
+none_sent (suc link) = refl
+
+none_heard : (link : ℕ) → answers_at (Some []) link ≡ []
+none_heard zero = refl
+none_heard (suc link) = refl
+
+no_items : {A : Type 0} (xs : List A) → length xs ≡ 0 → xs ≡ []
+no_items [] none = refl
+no_items (x ∷ xs) none = absurd (omega arith)
+
+pub quiet_none : (o : Outside) → Told o → o.links.dialled ≡ 0 → IsQuiet o
+quiet_none o told none =
+    let links : told.links ≡ [] = no_items told.links (o.all_told told.links told.links_are ∙ none) in
+    let heard : told.heard ≡ [] = no_items told.heard (o.all_heard told.heard told.heard_are ∙ none) in
+    record {
+      sent = λ link. ap (λ (t : Option (List Link)). sent_at t link) (told.links_are ∙ ap (λ (l : List Link). Some l) links) ∙ none_sent link;
+      heard = λ link. ap (λ (t : Option (List HeardOn)). answers_at t link) (told.heard_are ∙ ap (λ (l : List HeardOn). Some l) heard) ∙ none_heard link;
+    }
+
+pub quiet_dialled : (spec : List ℕ) (result : Result ℕ Failed) (o o' : Outside) → Dials spec result o.links o'.links → IsQuiet o → IsQuiet o'
+quiet_dialled spec result o o' dials quiet = record {
+  sent = λ link. (others_dial (suc link) spec result o.links o'.links dials).sent link (λ same. omega (arith, same)) ∙ quiet.sent link;
+  heard = λ link. (others_dial (suc link) spec result o.links o'.links dials).answers link (λ same. omega (arith, same)) ∙ quiet.heard link;
+}
+
+pub quiet_same : (o o' : Outside) → o'.links ≡ o.links → IsQuiet o → IsQuiet o'
+quiet_same o o' same quiet = record {
+  sent = λ link. ap (λ (l : Links). sent_at l.told link) same ∙ quiet.sent link;
+  heard = λ link. ap (λ (l : Links). answers_at l.heard link) same ∙ quiet.heard link;
+}

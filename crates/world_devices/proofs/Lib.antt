@@ -1,0 +1,4 @@
+pub mod AllowedLaws
+pub mod KeepLaws
+pub mod HostLaws
+pub mod RunningLaws

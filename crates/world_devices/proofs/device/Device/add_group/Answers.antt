@@ -1,0 +1,5 @@
+use Rattle.world_devices.proofs.RunningLaws.{may_add_group}
+use Rattle.world_devices.proofs.device.Device.add_group.Goals as goal
+
+pub add-requires : goal.add-requires
+add-requires c = may_add_group c.args.self.now.node c.in-Some.store.now c.args.def c.in-Ok.field-0 c.in-Some.ensures c.in-Ok.ensures

@@ -1,0 +1,20 @@
+use Rattle.std.proofs.Common.{[], ap}
+use Rattle.outside.specs.HostTold.{host_told}
+use Rattle.world_devices.specs.Devices.{DeviceValue}
+use Rattle.world_devices.proofs.RunningLaws.{crash_keeps, keeps_seen}
+use Rattle.world_devices.proofs.device.Device.crash.Goals as goal
+
+pub invariant_of-self : goal.invariant_of-self
+invariant_of-self c = (tt, crash_keeps c.args.pick c.self.inside.host c.crash.new.self c.crash.result c.crash.ensures.ok c.crash.ensures.err [] c.self.invariant.1)
+
+pub returns-in_err-crash-clause-keeps : goal.returns-in_err-crash-clause-keeps
+returns-in_err-crash-clause-keeps c = keeps_seen c.self.inside.host c.args.self.now.host (host_told c.crash.new.self) (ap (λ (d : DeviceValue). d.host) c.self.view_is) (crash_keeps c.args.pick c.self.inside.host c.crash.new.self c.crash.result c.crash.ensures.ok c.crash.ensures.err)
+
+pub invariant_of-self-2 : goal.invariant_of-self-2
+invariant_of-self-2 c = (tt, crash_keeps c.args.pick c.self.inside.host c.crash.new.self c.crash.result c.crash.ensures.ok c.crash.ensures.err [] c.self.invariant.1)
+
+pub returns-in-Ok-clause-keeps : goal.returns-in-Ok-clause-keeps
+returns-in-Ok-clause-keeps c = keeps_seen c.self.inside.host c.args.self.now.host (host_told c.start.new.self.host) (ap (λ (d : DeviceValue). d.host) c.self.view_is) (λ j k. c.start.ensures j (crash_keeps c.args.pick c.self.inside.host c.crash.new.self c.crash.result c.crash.ensures.ok c.crash.ensures.err j k))
+
+pub returns-in-Err-clause-keeps : goal.returns-in-Err-clause-keeps
+returns-in-Err-clause-keeps c = keeps_seen c.self.inside.host c.args.self.now.host (host_told c.start.new.self.host) (ap (λ (d : DeviceValue). d.host) c.self.view_is) (λ j k. c.start.ensures j (crash_keeps c.args.pick c.self.inside.host c.crash.new.self c.crash.result c.crash.ensures.ok c.crash.ensures.err j k))

@@ -1,0 +1,12 @@
+use Rattle.std.proofs.Common.{◌≡◌}
+use Rattle.outside.specs.HostTold.{host_told}
+use Rattle.world_devices.specs.Devices.{links_made}
+use Rattle.world_devices.specs.Keeping.{IsQuiet}
+use Rattle.world_devices.proofs.starting.dial_all.Given as goal
+
+abbrev pub invariant-links : goal.invariant-links
+invariant-links l = record {
+  made : links_made l.host ≡ l._link;
+  quiet : IsQuiet (host_told l.host);
+  files : (host_told l.host).files ≡ (host_told l.initial.host).files;
+}

@@ -1,0 +1,14 @@
+use Rattle.world_devices.proofs.RunningLaws.{settle_keeps}
+use Rattle.world_devices.proofs.starting.settle.Goals as goal
+
+pub returns-in-Ok-clause-keeps : goal.returns-in-Ok-clause-keeps
+returns-in-Ok-clause-keeps c =
+    settle_keeps c.args.store c.settle.new.self c.settle.result c.args.host.now c.settle.new.disk c.requires (c.settle.ensures.settled c.requires.still_open)
+
+pub returns-in-Err-DiskFault-clause-keeps : goal.returns-in-Err-DiskFault-clause-keeps
+returns-in-Err-DiskFault-clause-keeps c =
+    settle_keeps c.args.store c.settle.new.self c.settle.result c.args.host.now c.settle.new.disk c.requires (c.settle.ensures.settled c.requires.still_open)
+
+pub returns-clause-keeps : goal.returns-clause-keeps
+returns-clause-keeps c =
+    settle_keeps c.args.store c.settle.new.self c.settle.result c.args.host.now c.settle.new.disk c.requires (c.settle.ensures.settled c.requires.still_open)

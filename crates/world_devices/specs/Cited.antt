@@ -1,0 +1,11 @@
+-- The laws of the crates below that the proofs of this one rest on.
+use Rattle.std.specs.Prelude.{ℕ, List}
+use Rattle.sync_rules.specs.declared.entries.Entry.{Entry}
+use Rattle.sync_rules.specs.Clients.{Meaning}
+use Rattle.sync_rules.specs.Facts.{Extends}
+use Rattle.sync_rules.specs.Legal.{Legal}
+use Rattle.sync_rules.specs.Output.{GoesOnFrom, sent}
+
+-- what a session sends only grows
+abbrev pub SentGrows : Type 0
+SentGrows = (clients : Meaning) (j before : List (List Entry)) (session : ℕ) → Extends j before → Legal clients j → GoesOnFrom (sent j session) (sent before session)

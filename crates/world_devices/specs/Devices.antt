@@ -1,0 +1,77 @@
+-- A device: its host, the node on it while it runs, how many links it has had, its clock, and where its disk is to stop.
+use Rattle.std.specs.Prelude.{◌≡◌, ℕ, ◌≤◌, false, [], ◌∷◌, length, Option, Some, None, refl}
+use Rattle.std.specs.Coded.{Coded, code_by, coded×, coded_option, coded_ℕ}
+use Rattle.outside.specs.MemHost.{MemHostValue}
+use Rattle.outside.specs.HostTold.{host_told}
+use Rattle.outside.specs.declared.limits.TheConstants.{LINKS}
+use Rattle.outside.specs.contracts.mem_host.MemHost as mem_host
+use Rattle.client_basic.specs.Bodies.{bundle_meaning}
+use Rattle.sync_rules.specs.declared.entries.Entry.{Entry}
+use Rattle.sync_rules.specs.Legal.{Allowed}
+use Rattle.sync_rules.specs.Steps.{IsSettled}
+use Rattle.sync_store.specs.Store.{StoreValue}
+use Rattle.sync_store.specs.Ready.{IsReady}
+use Rattle.sync_node.specs.Adding.{IsPlain}
+use Rattle.sync_node.specs.Node.{NodeValue, node_code, MayRun}
+use Rattle.world_devices.specs.Keeping.{IsSafeRun, Keeps, KeepsOn}
+use Rattle.world_devices.specs.declared.stop.Stop.{Stop}
+use Rattle.world_devices.specs.contracts.stop.Stop as stop
+
+pub record DeviceValue : Type 0 where
+  pub host : MemHostValue
+  pub node : Option NodeValue
+  pub links : ℕ
+  pub clock : ℕ
+  pub stop : Option Stop
+
+abbrev pub device_code : Coded DeviceValue
+device_code =
+    code_by (MemHostValue × (Option NodeValue × (ℕ × (ℕ × Option Stop))))
+    (coded× mem_host.the_row.coded (coded× (coded_option node_code) (coded× coded_ℕ (coded× coded_ℕ (coded_option stop.the_row.coded)))))
+    (λ d. (d.host, (d.node, (d.links, (d.clock, d.stop)))))
+    (λ p. record { host = p.0; node = p.1.0; links = p.1.1.0; clock = p.1.1.1.0; stop = p.1.1.1.1 })
+    (λ _. refl)
+
+-- how many links a host has
+abbrev pub links_made : MemHostValue → ℕ
+links_made host = (host_told host).links.dialled
+
+-- a store that was loaded and settled
+pub record IsStarted (s : StoreValue) (host : MemHostValue) : Type 0 where
+  pub ready : IsReady bundle_meaning s (host_told host).files
+  pub settled : IsSettled bundle_meaning s.state.facts
+
+-- the node may go on and its run is safe, its links are those that the device has had, and its host has all links that it may get
+pub record IsRunning (n : NodeValue) (host : MemHostValue) (links : ℕ) : Type 0 where
+  pub unclosed : n.closed ≡ false
+  pub runs : IsSafeRun n (host_told host)
+  pub may : MayRun bundle_meaning n (host_told host)
+  pub linked : links ≡ length n.links
+  pub dialled : LINKS ≤ links_made host
+
+-- the same where the device runs
+abbrev pub MayBeRunning : Option NodeValue → MemHostValue → ℕ → Type 0
+MayBeRunning None host links = Unit {0}
+MayBeRunning (Some n) host links = IsRunning n host links
+
+-- what a device always keeps: whatever a crash leaves of its files stands for a journal
+abbrev pub IsDevice : Option NodeValue → MemHostValue → ℕ → Type 0
+IsDevice node host links = MayBeRunning node host links × Keeps [] (host_told host)
+
+-- a call of a device: whatever a crash may leave then stands for a journal that goes on from each that it went on from before
+abbrev pub DeviceKeeps : DeviceValue → DeviceValue → Type 0
+DeviceKeeps old new = KeepsOn (host_told old.host) (host_told new.host)
+
+-- where the device runs and its node is open, an entry may follow its journal, and it is none of a session
+pub record MayAddTo (n : NodeValue) (e : Entry) : Type 0 where
+  pub allowed : n.closed ≡ false → Allowed bundle_meaning n.store.state.facts (e ∷ [])
+  pub plain : IsPlain (e ∷ [])
+
+abbrev pub MayAdd : Option NodeValue → Entry → Type 0
+MayAdd None e = Unit {0}
+MayAdd (Some n) e = MayAddTo n e
+
+-- the store of a device that runs, whose journal is settled
+abbrev pub IsReadyStore : Option NodeValue → StoreValue → Type 0
+IsReadyStore None s = ⊥
+IsReadyStore (Some n) s = (s ≡ n.store) × (n.closed ≡ false → IsSettled bundle_meaning n.store.state.facts)

@@ -1,0 +1,4 @@
+pub mod Cited
+pub mod Keeping
+pub mod Devices
+pub mod Refusals

@@ -1,0 +1,404 @@
+//! The device and its calls.
+ghost use Rattle.std.specs.Prelude.{◌≡◌, ◌≤◌, true, IsErrOf, MatchOption};
+ghost use Rattle.outside.specs.HostTold.{host_told};
+ghost use Rattle.sync_rules.specs.Legal.{suits_nonce};
+ghost use Rattle.world_devices.specs.Devices.{DeviceKeeps, IsReadyStore, MayAdd, links_made};
+ghost use Rattle.world_devices.specs.Keeping.{StandsLegal};
+ghost use Rattle.world_devices.specs.Refusals.{IsNotRefused, RefusedBy, refuses_contact};
+ghost use Rattle.world_devices.specs.Refusals.{refuses_group, refuses_level, refuses_link};
+ghost use Rattle.world_devices.specs.Refusals.{refuses_message};
+
+use crate::starting::{StartFault, begin, cite_laws, dial_all, load};
+use crate::stop::{Ran, StepFault, Stop};
+use client_basic::Bundle;
+use entry_codec::laws::standing_is_legal;
+use outside::{Answer, LINKS, MemHost, Pick};
+use std::alloc::{AllocError, Global};
+use std::hash::RandomState;
+use std::marker::Model;
+use sync_ids::{GroupDef, GroupId, Message, Nonce};
+use sync_node::{LinkEnd, Node, NodeFault, Plan, Turned};
+use sync_rules::{Batch, Entry, Level, View};
+use sync_store::{PostFault, Store};
+
+/// A device of a world: a host in memory and the node that runs on it.
+#[derive(Drop)]
+pub struct Device {
+    alloc: Global,
+    hasher: RandomState,
+    host: MemHost,
+    node: Option<Node>,
+    links: u8,
+    clock: u64,
+    stop: Option<Stop>,
+}
+
+impl Model for Device {
+    ghost use Rattle.world_devices.specs.Devices.{DeviceValue, device_code};
+
+    ghost Value = { DeviceValue };
+
+    ghost coded = { device_code };
+
+    ghost use Rattle.world_devices.specs.Devices.{IsDevice};
+
+    ghost view = { λ d. record {
+      host = d.host;
+      node = d.node;
+      links = d.links;
+      clock = d.clock;
+      stop = d.stop;
+    } };
+
+    ghost invariant = { λ d. IsDevice d.node d.host d.links };
+}
+
+impl Device {
+    /// A device with an empty store, so many contacts, and this time in milliseconds.
+    ///
+    /// # Errors
+    /// `Memory` for want of memory.
+    pub fn new(
+        alloc: Global,
+        hasher: RandomState,
+        contacts: u8,
+        clock: u64,
+    ) -> Result<Device, StepFault> {
+        let Ok(host) = begin(alloc) else {
+            return Err(StepFault::Memory);
+        };
+        let mut device = Device {
+            alloc,
+            hasher,
+            host,
+            node: None,
+            links: 0,
+            clock,
+            stop: None,
+        };
+        if device.start().is_err() {
+            return Err(StepFault::Memory);
+        }
+        for _added in 0..contacts {
+            device.add_contact()?;
+        }
+        Ok(device)
+    }
+
+    /// Its store; `None` only after a call of it failed.
+    pub fn store(&self) -> Option<&Store> {
+        match &self.node {
+            Some(node) => Some(node.store()),
+            None => None,
+        }
+    }
+
+    /// Whatever a crash leaves of its files now stands for a legal journal. It does nothing.
+    pub fn files_stand(&self)
+        ensures { StandsLegal (host_told self.now.host) }
+    {
+        let _links = self.links;
+        standing_is_legal();
+    }
+
+    // Its store where it runs; its journal is settled, as it is between any two calls.
+    fn ready(&self) -> Option<&Store>
+        ensures { MatchOption result (Unit {0}) (λ store. IsReadyStore self.now.node store.now) }
+    {
+        match &self.node {
+            Some(node) if node.store().is_settled() => Some(node.store()),
+            _ => None,
+        }
+    }
+
+    /// The number of links that it has had since it was started.
+    pub fn links(&self) -> u8
+        ensures { result ≡ self.now.links }
+    {
+        self.links
+    }
+
+    /// Its time, in milliseconds, until it is set anew.
+    pub fn set_clock(&mut self, at: u64) -> Result<(), AllocError>
+        ensures { DeviceKeeps self.old self.new }
+    {
+        self.host.set_clock(at)?;
+        self.clock = at;
+        Ok(())
+    }
+
+    /// Its disk stops at the call of this number from now on, counted from 0; it then crashes to
+    /// this image. That takes the place of an earlier stop.
+    pub fn stop_at(&mut self, calls: u64, pick: Pick)
+        ensures { DeviceKeeps self.old self.new }
+    {
+        self.host.fail_none();
+        self.stop = None;
+        if let Some(call) = self.host.disk().calls().checked_add(calls) {
+            self.host.stop_at(call);
+            self.stop = Some(Stop { call, pick });
+        }
+    }
+
+    /// It is started again over its files.
+    pub fn restart(&mut self) -> Result<(), StepFault>
+        ensures keeps { DeviceKeeps self.old self.new }
+        ensures unrefused { IsNotRefused result }
+    {
+        self.node = None;
+        self.host.restart()?;
+        match self.start() {
+            Ok(()) => Ok(()),
+            Err(StartFault::DiskFault) => self.break_off(),
+            Err(StartFault::Memory) => Err(StepFault::Memory),
+        }
+    }
+
+    // Loads the store and sets a node on it, and dials all links that it may get: sessions take
+    // them in order.
+    fn start(&mut self) -> Result<(), StartFault>
+        requires { links_made self.old.host ≡ 0 }
+        ensures { DeviceKeeps self.old self.new }
+    {
+        self.node = None;
+        self.links = 0;
+        dial_all(&mut self.host)?;
+        self.host.set_clock(self.clock)?;
+        let store = load(self.alloc, self.hasher, &mut self.host)?;
+        self.node = Some(Node::new(self.alloc, store)?);
+        Ok(())
+    }
+
+    // A call on the disk failed: it stopped there, or there was no memory for that call.
+    fn break_off(&mut self) -> Result<(), StepFault>
+        ensures keeps { DeviceKeeps self.old self.new }
+        ensures unrefused { IsNotRefused result }
+    {
+        let made = self.host.disk().calls();
+        match self.stop {
+            Some(stop) if stop.call < made => self.crash(stop.pick),
+            _ => Err(StepFault::Memory),
+        }
+    }
+
+    // It begins anew over this image of its files.
+    fn crash(&mut self, pick: Pick) -> Result<(), StepFault>
+        ensures keeps { DeviceKeeps self.old self.new }
+        ensures unrefused { IsNotRefused result }
+    {
+        self.node = None;
+        self.stop = None;
+        self.host.crash(pick)?;
+        match self.start() {
+            Ok(()) => Ok(()),
+            Err(_) => Err(StepFault::Memory),
+        }
+    }
+
+    // A call of its node failed: where its disk stopped it crashes.
+    fn fail(&mut self, fault: NodeFault) -> Result<(), StepFault>
+        ensures keeps { DeviceKeeps self.old self.new }
+        ensures unrefused { IsNotRefused result }
+    {
+        match fault {
+            NodeFault::DiskFault => self.break_off(),
+            NodeFault::Full => Err(StepFault::Full),
+            NodeFault::Memory | NodeFault::Closed => Err(StepFault::Memory),
+        }
+    }
+
+    // Whether each call on its links and its clock found memory.
+    fn test_memory(&self) -> Result<(), StepFault>
+        ensures { IsNotRefused result }
+    {
+        if self.host.starved() == 0 {
+            Ok(())
+        } else {
+            Err(StepFault::Memory)
+        }
+    }
+}
+
+// The commands of a device.
+impl Device {
+    // Adds the next contact.
+    fn add_contact(&mut self) -> Result<Ran, StepFault>
+        ensures keeps { DeviceKeeps self.old self.new }
+        ensures refused { RefusedBy (refuses_contact self.old.node) result }
+        ensures same { IsErrOf result StepFault.Refused → self.new ≡ self.old }
+    {
+        let Some(store) = self.ready() else {
+            return Err(StepFault::Memory);
+        };
+        match store.may_contact() {
+            Ok(number) => self.add(Entry::Contact(number)),
+            Err(_) => Err(StepFault::Refused),
+        }
+    }
+
+    /// Adds a group.
+    pub fn add_group(&mut self, def: GroupDef) -> Result<Ran, StepFault>
+        ensures keeps { DeviceKeeps self.old self.new }
+        ensures refused { RefusedBy (refuses_group self.old.node def) result }
+        ensures same { IsErrOf result StepFault.Refused → self.new ≡ self.old }
+    {
+        let Some(store) = self.ready() else {
+            return Err(StepFault::Memory);
+        };
+        match store.may_group(&Bundle::new(), &def) {
+            Ok(_) => self.add(Entry::Group(def)),
+            Err(_) => Err(StepFault::Refused),
+        }
+    }
+
+    /// Sets the level of a group for a contact.
+    pub fn set_level(
+        &mut self,
+        contact: u8,
+        group: &GroupId,
+        level: Level,
+    ) -> Result<Ran, StepFault>
+        ensures keeps { DeviceKeeps self.old self.new }
+        ensures refused { RefusedBy (refuses_level self.old.node contact group.now) result }
+        ensures same { IsErrOf result StepFault.Refused → self.new ≡ self.old }
+    {
+        let Some(store) = self.ready() else {
+            return Err(StepFault::Memory);
+        };
+        match store.may_level(contact, group) {
+            Ok(()) => self.add(Entry::Level(contact, *group, level)),
+            Err(_) => Err(StepFault::Refused),
+        }
+    }
+
+    /// Writes a message.
+    pub fn author(&mut self, message: Message) -> Result<Ran, StepFault>
+        ensures keeps { DeviceKeeps self.old self.new }
+        ensures refused { RefusedBy (refuses_message self.old.node message) result }
+        ensures same { IsErrOf result StepFault.Refused → self.new ≡ self.old }
+    {
+        let Some(store) = self.ready() else {
+            return Err(StepFault::Memory);
+        };
+        match store.may_post(&Bundle::new(), &message) {
+            Ok(_) => self.add(Entry::Author(message)),
+            Err(PostFault::Memory) => Err(StepFault::Memory),
+            Err(PostFault::Refused(_)) => Err(StepFault::Refused),
+        }
+    }
+
+    // Commits an entry and settles.
+    fn add(&mut self, entry: Entry) -> Result<Ran, StepFault>
+        requires { MayAdd self.old.node entry }
+        ensures keeps { DeviceKeeps self.old self.new }
+        ensures unrefused { IsNotRefused result }
+    {
+        cite_laws();
+        let batch = Batch::single(self.alloc, entry)?;
+        let Some(node) = &mut self.node else {
+            return Err(StepFault::Memory);
+        };
+        match node.add(&mut self.host, &Bundle::new(), batch) {
+            Ok(()) => {
+                self.test_memory()?;
+                Ok(Ran::Done)
+            }
+            Err(fault) => {
+                self.node = None;
+                self.fail(fault)?;
+                Ok(Ran::Crashed)
+            }
+        }
+    }
+}
+
+// The links of a device.
+impl Device {
+    /// Begins a session on its next link. Answers the number of that session, or nothing where the
+    /// device crashed.
+    pub fn attach(&mut self, plan: &Plan, nonce: Option<Nonce>) -> Result<Option<u32>, StepFault>
+        requires latency { 1 ≤ plan.now.latency }
+        requires nonce { suits_nonce plan.now.mode nonce ≡ true }
+        ensures keeps { DeviceKeeps self.old self.new }
+        ensures refused { RefusedBy (refuses_link self.old.node self.old.links
+            plan.now.contact) result }
+        ensures same { IsErrOf result StepFault.Refused → self.new ≡ self.old }
+    {
+        let Some(store) = self.ready() else {
+            return Err(StepFault::Memory);
+        };
+        if self.links as usize >= LINKS || u32::from(plan.contact) >= store.contacts() {
+            return Err(StepFault::Refused);
+        }
+        let session = store.sessions();
+        let Some(node) = &mut self.node else {
+            return Err(StepFault::Memory);
+        };
+        match node.attach(&mut self.host, &Bundle::new(), self.links, plan, nonce) {
+            Ok(()) => {
+                self.links += 1;
+                self.test_memory()?;
+                Ok(Some(session))
+            }
+            Err(fault) => {
+                self.node = None;
+                self.fail(fault)?;
+                Ok(None)
+            }
+        }
+    }
+
+    /// Whether a link is still asked.
+    pub fn is_asked(&self, link: u8) -> bool {
+        match &self.node {
+            Some(node) if link < self.links => node.ending(link) == LinkEnd::Going,
+            _ => false,
+        }
+    }
+
+    /// Whether a link was closed on this side.
+    pub fn is_closed(&self, link: u8) -> bool {
+        match &self.node {
+            Some(node) if link < self.links => {
+                !matches!(node.ending(link), LinkEnd::Going | LinkEnd::Clean)
+            }
+            _ => false,
+        }
+    }
+
+    /// Plans what a link is to answer next.
+    pub fn plan(&mut self, link: u8, answer: Answer) -> Result<(), AllocError>
+        ensures { DeviceKeeps self.old self.new }
+    {
+        if (link as usize) < LINKS {
+            self.host.script(link, answer)?;
+        }
+        Ok(())
+    }
+
+    /// The bytes that were sent on a link since the device was started.
+    pub fn sent(&self, link: u8) -> &[u8] {
+        self.host.sent(link)
+    }
+
+    /// Makes a turn. Answers whether all links were still, or nothing where the device crashed.
+    pub fn turn(&mut self) -> Result<Option<bool>, StepFault>
+        ensures keeps { DeviceKeeps self.old self.new }
+        ensures unrefused { IsNotRefused result }
+    {
+        let Some(node) = &mut self.node else {
+            return Err(StepFault::Memory);
+        };
+        match node.turn(&mut self.host, &Bundle::new()) {
+            Ok(turned) => {
+                self.test_memory()?;
+                Ok(Some(turned == Turned::Still))
+            }
+            Err(fault) => {
+                self.node = None;
+                self.fail(fault)?;
+                Ok(None)
+            }
+        }
+    }
+}

@@ -1,0 +1,105 @@
+//! A device that starts: its store is loaded and settled, and a node stands over it.
+ghost use Rattle.std.specs.Prelude.{◌≡◌, [], IfOk, OnOk};
+ghost use Rattle.client_basic.specs.Bodies.{bundle_meaning};
+ghost use Rattle.outside.specs.HostTold.{host_told};
+ghost use Rattle.sync_store.specs.Ready.{IsReady};
+ghost use Rattle.world_devices.specs.Devices.{IsStarted, links_made};
+ghost use Rattle.world_devices.specs.Cited.{SentGrows};
+ghost use Rattle.world_devices.specs.Keeping.{IsQuiet, Keeps, KeepsOn};
+ghost use Rattle.world_devices.specs.declared.starting.StartFault.TheVariants as start_fault;
+
+use client_basic::Bundle;
+use outside::{Host, LINKS, MAX_JOURNAL, MemDisk, MemHost};
+use std::alloc::{AllocError, Global};
+use std::hash::RandomState;
+use sync_rules::laws::sent_grows;
+use sync_store::{LoadFault, Store, StoreFault};
+
+/// Why no node was started.
+#[derive(Clone, Copy, Debug, PartialEq, Eq)]
+pub(crate) enum StartFault {
+    /// No memory was found, or the files stand for no journal.
+    Memory,
+    /// A call on the disk failed.
+    DiskFault,
+}
+
+impl From<AllocError> for StartFault {
+    ghost from_gives = { λ _ e. e ≡ start_fault.Memory };
+
+    fn from(_: AllocError) -> StartFault {
+        StartFault::Memory
+    }
+}
+
+/// A host without links over a fresh disk with an empty store.
+pub(crate) fn begin(alloc: Global) -> Result<MemHost, StartFault>
+    ensures links { IfOk result (λ host. links_made host ≡ 0) }
+    ensures keeps { IfOk result (λ host. Keeps [] (host_told host)) }
+{
+    let Ok(disk) = MemDisk::new(alloc, Vec::new(alloc), Vec::new(alloc)) else {
+        return Err(StartFault::Memory);
+    };
+    let Ok(mut host) = MemHost::new(alloc, disk) else {
+        return Err(StartFault::Memory);
+    };
+    match Store::init(&mut host) {
+        Ok(()) => Ok(host),
+        Err(_) => Err(StartFault::DiskFault),
+    }
+}
+
+/// Dials all links of a host that has none: sessions take them in order.
+pub(crate) fn dial_all(host: &mut MemHost) -> Result<(), StartFault>
+    requires { links_made host.old ≡ 0 }
+    ensures dialled { OnOk result (links_made host.new ≡ LINKS) }
+    ensures quiet { OnOk result (IsQuiet (host_told host.new)) }
+    ensures files { (host_told host.new).files ≡ (host_told host.old).files }
+{
+    'links: for _link in 0..LINKS {
+        match host.dial("tcp:world") {
+            Ok(_) => {}
+            Err(_) => return Err(StartFault::Memory),
+        }
+    }
+    Ok(())
+}
+
+/// Loads the store of a host and settles it.
+pub(crate) fn load(
+    alloc: Global,
+    hasher: RandomState,
+    host: &mut MemHost,
+) -> Result<Store, StartFault>
+    ensures started { IfOk result (λ store. IsStarted store host.new) }
+    ensures links { (host_told host.new).links ≡ (host_told host.old).links }
+    ensures keeps { KeepsOn (host_told host.old) (host_told host.new) }
+{
+    match Store::load(alloc, hasher, host, &Bundle::new(), MAX_JOURNAL) {
+        Ok(store) => settle(store, host),
+        Err(LoadFault::DiskFault) => Err(StartFault::DiskFault),
+        Err(_) => Err(StartFault::Memory),
+    }
+}
+
+// Settles a store that was loaded.
+fn settle(store: Store, host: &mut MemHost) -> Result<Store, StartFault>
+    requires { IsReady bundle_meaning store (host_told host.old).files }
+    ensures started { IfOk result (λ store. IsStarted store host.new) }
+    ensures links { (host_told host.new).links ≡ (host_told host.old).links }
+    ensures keeps { KeepsOn (host_told host.old) (host_told host.new) }
+{
+    let mut store = store;
+    match store.settle(host, &Bundle::new()) {
+        Ok(()) => Ok(store),
+        Err(StoreFault::DiskFault) => Err(StartFault::DiskFault),
+        Err(_) => Err(StartFault::Memory),
+    }
+}
+
+/// The laws of the crates below that proofs of this crate rest on.
+pub(crate) fn cite_laws()
+    ensures { SentGrows }
+{
+    sent_grows();
+}

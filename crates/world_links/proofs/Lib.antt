@@ -1,0 +1,2 @@
+pub mod FlightLaws
+pub mod EndLaws

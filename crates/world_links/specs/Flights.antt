@@ -1,0 +1,33 @@
+-- The records that stand whole at the front of some bytes, each by its bytes.
+use Rattle.std.specs.Prelude.{ℕ, zero, suc, ◌+◌, List, [], ◌∷◌, length, take, drop, Option, Some, None}
+use Rattle.record_grammar.specs.declared.front.Front.{Front}
+use Rattle.record_grammar.specs.declared.front.Front.TheVariants as front
+use Rattle.record_grammar.specs.Reading.{front_in}
+
+-- the length of the record, of a known type or skipped, that stands whole at the front
+abbrev pub len_of : Front → Option ℕ
+len_of (front.Whole type_byte len) = Some (4 + len)
+len_of front.More = None
+len_of (front.Bad why) = None
+
+unfoldable pub first_len : List ℕ → Option ℕ
+first_len bytes = len_of (front_in bytes)
+
+-- the first record in front of the others
+abbrev pub in_front : List ℕ → Option ℕ → List (List ℕ) → List (List ℕ)
+in_front bytes None later = []
+in_front bytes (Some len) later = take len bytes ∷ later
+
+-- where the others begin
+abbrev pub len_or : Option ℕ → ℕ
+len_or None = 0
+len_or (Some len) = len
+
+-- the first n records, or as many as there are
+unfoldable pub first_records : ℕ → List ℕ → List (List ℕ)
+first_records zero bytes = []
+first_records (suc n) bytes = in_front bytes (first_len bytes) (first_records n (drop (len_or (first_len bytes)) bytes))
+
+-- the records that stand whole at the front, one behind the other
+unfoldable pub records_in : List ℕ → List (List ℕ)
+records_in bytes = first_records (length bytes) bytes

@@ -1,0 +1,4 @@
+pub mod Flights
+pub mod Moves
+pub mod Ends
+pub mod Links

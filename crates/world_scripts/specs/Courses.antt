@@ -1,0 +1,63 @@
+-- What a whole script says by itself.
+use Rattle.std.specs.Prelude.{ℕ, ◌+◌, ◌==◌, Bool, if◌then◌else◌, List, [], ◌∷◌, length, Option}
+use Rattle.std.specs.Prelude.{Some, None}
+use Rattle.world_scripts.specs.Cuts.{lines}
+use Rattle.world_scripts.specs.Forms.{line_in}
+use Rattle.world_scripts.specs.declared.step.Action.{Action}
+use Rattle.world_scripts.specs.declared.step.Line.{Line}
+use Rattle.world_scripts.specs.declared.step.Line.TheVariants as line
+
+-- what is to be done, each with the number of its line, up to the first line that is bad by itself;
+-- and the number of that line, if there is one
+pub record Course : Type 0 where
+  pub actions : List (ℕ × Action)
+  pub bad : Option ℕ
+
+-- nothing more is to be done, and no line is bad
+abbrev pub over : Course
+over = record { actions = []; bad = None }
+
+-- a line is bad
+abbrev pub bad_at : ℕ → Course
+bad_at number = record { actions = []; bad = Some number }
+
+-- a line that says this stands before a course
+abbrev pub after_line : Option Line → ℕ → Course → Course
+after_line (Some (line.Does action)) number course =
+    record { actions = (number, action) ∷ course.actions; bad = course.bad }
+after_line (Some (line.Devices n)) number course = bad_at number
+after_line None number course = bad_at number
+
+abbrev pub is_empty : List ℕ → Bool
+is_empty line = length line == 0
+
+-- the course of these lines, the first of which has this number. Empty lines are skipped and
+-- counted
+unfoldable pub course : ℕ → List (List ℕ) → Course
+course number [] = over
+course number (line ∷ lines) =
+    if is_empty line then course (number + 1) lines
+    else after_line (line_in line) number (course (number + 1) lines)
+
+-- a script says how many devices there are, and what follows is a course; or a line is bad
+pub data Opening : Type 0 where
+  Bad : ℕ → Opening
+  Opens : ℕ → Course → Opening
+
+-- a first line that says this stands before a course
+abbrev pub opening_by : Option Line → ℕ → Course → Opening
+opening_by (Some (line.Devices n)) number course = Opens n course
+opening_by (Some (line.Does action)) number course = Bad number
+opening_by None number course = Bad number
+
+-- the first line that is not empty says how many devices there are; where there is none, line 1 is
+-- bad
+unfoldable pub opening : ℕ → List (List ℕ) → Opening
+opening number [] = Bad 1
+opening number (line ∷ lines) =
+    if is_empty line then opening (number + 1) lines
+    else opening_by (line_in line) number (course (number + 1) lines)
+
+-- what a whole script says
+abbrev pub said : List ℕ → Opening
+said script = opening 1 (lines script)
