@@ -2,8 +2,8 @@
 use crate::stop::Stop;
 use record_grammar::encode_message;
 use std::alloc::{AllocError, Global};
+use sync_course::{MAX_OUTPUTS, PIECE_LEN};
 use sync_ids::{GroupDef, GroupId, Message, Record, group_id};
-use sync_node::{MOST_OUTS, RECEIVE_LEN};
 
 /// The bytes of a MESSAGE record beside its body.
 const BESIDE: usize = 44;
@@ -66,18 +66,15 @@ impl Messages {
     pub(crate) fn turns(&self) -> u32 {
         let all = self.plan.messages as usize;
         let most = match self.plan.way {
-            Way::Hear => RECEIVE_LEN
-                .checked_div(self.record_len())
-                .unwrap_or(0)
-                .max(1),
-            Way::Send => MOST_OUTS as usize,
+            Way::Hear => PIECE_LEN.checked_div(self.record_len()).unwrap_or(0).max(1),
+            Way::Send => MAX_OUTPUTS as usize,
         };
         (all / most).saturating_add(1).min(u32::MAX as usize) as u32
     }
 
     /// How many are heard whole in so many turns.
     fn heard_in(&self, turns: u32) -> u32 {
-        let bytes = RECEIVE_LEN.saturating_mul(turns as usize);
+        let bytes = PIECE_LEN.saturating_mul(turns as usize);
         let whole = bytes.checked_div(self.record_len()).unwrap_or(0);
         whole.min(self.plan.messages as usize) as u32
     }

@@ -11,8 +11,8 @@ use outside::Host;
 use session_core::take;
 use std::alloc::Global;
 use std::marker::Model;
+use sync_course::{MAX_OUTPUTS, PIECE_LEN};
 use sync_ids::{Record, records_are_within};
-use sync_node::{MOST_OUTS, RECEIVE_LEN};
 use sync_rules::{Batch, Clients, Entry};
 use sync_store::Store;
 
@@ -68,7 +68,7 @@ impl<H: Host + Drop, C: Clients + Drop> StoreSide<H, C> {
 
     /// Asks the link once, and leaves what came, so that its host keeps what a node's host keeps.
     pub(crate) fn hear(&mut self) -> Result<(), Stop> {
-        let mut buffer = vec![in self.alloc; 0u8; RECEIVE_LEN]?;
+        let mut buffer = vec![in self.alloc; 0u8; PIECE_LEN]?;
         self.host.recv(0, buffer.as_mut_slice());
         Ok(())
     }
@@ -95,7 +95,7 @@ impl<H: Host + Drop, C: Clients + Drop> StoreSide<H, C> {
     /// Commits and sends what is due now, at most as much as a node in one turn.
     pub(crate) fn send(&mut self) -> Result<(), Stop> {
         let now = self.host.now();
-        for _ in 0..MOST_OUTS {
+        for _ in 0..MAX_OUTPUTS {
             if !self.send_next(now)? {
                 return Ok(());
             }

@@ -6,9 +6,10 @@ use Rattle.sync_rules.specs.declared.entries.Level.TheVariants as level
 use Rattle.sync_rules.specs.declared.entries.Mode.TheVariants as mode_kind
 use Rattle.sync_rules.specs.Facts.{Held, Id, Row, is_level_shared, level_at, row_at}
 use Rattle.sync_rules.specs.Lists.{same_id, is_among}
-use Rattle.sync_rules.specs.Sessions.{first_id, ids_limit, is_author, is_ripe, is_sendable, offers_of, owed_to, send_of}
+use Rattle.sync_rules.specs.Sessions.{first_id, is_author, is_ripe, is_sendable, offers_of, owed_to, send_of}
 use Rattle.bench_session.specs.Posts.{facts_of, held_of}
 use Rattle.bench_session.proofs.Seeing.{all_pass, no_row_is, none_passes, shared_with_0}
+use Rattle.sync_ids.specs.declared.lists.TheConstants.{MAX_IDS}
 
 fails_last : (a : Bool) → (a && false) ≡ false
 fails_last true = refl
@@ -42,7 +43,7 @@ module _ (group : Id) (ids : List Id) where
   -- no message is owed
   pub none_owed : (contact : ℕ) → [] ≡ owed_to (facts_of group ids) contact
   none_owed contact =
-      sym (ap (take ids_limit) (none_passes (λ h. (row_at (facts_of group ids).rows contact h.id).owed) (λ h. ap (λ (r : Row). r.owed) (no_row_is contact h.id)) (map (held_of group) ids)))
+      sym (ap (take MAX_IDS) (none_passes (λ h. (row_at (facts_of group ids).rows contact h.id).owed) (λ h. ap (λ (r : Row). r.owed) (no_row_is contact h.id)) (map (held_of group) ids)))
 
   module _ (now : ℕ) where
     pub none_asked : (contact : ℕ) → None ≡ send_of (facts_of group ids) [] contact mode_kind.Interactive now
@@ -71,14 +72,14 @@ module _ (group : Id) (ids : List Id) where
 
     pub none_offered : (contact : ℕ) → nat_eq contact 0 ≡ false → [] ≡ offers_of (facts_of group ids) [] contact now
     none_offered contact other =
-        sym (ap (take ids_limit) (none_passes
+        sym (ap (take MAX_IDS) (none_passes
         (λ h. is_sendable (facts_of group ids) [] contact h && (not (row_at (facts_of group ids).rows contact h.id).asked && nat_le (row_at (facts_of group ids).rows contact h.id).expiry now))
         (λ h. ap (λ b. b && (not (row_at (facts_of group ids).rows contact h.id).asked && nat_le (row_at (facts_of group ids).rows contact h.id).expiry now)) (closed contact h other))
         (map (held_of group) ids)))
 
-    pub all_offered : (contact : ℕ) → true ≡ nat_eq contact 0 → take ids_limit ids ≡ offers_of (facts_of group ids) [] contact now
+    pub all_offered : (contact : ℕ) → true ≡ nat_eq contact 0 → take MAX_IDS ids ≡ offers_of (facts_of group ids) [] contact now
     all_offered contact first =
-        sym (ap (take ids_limit) (all_pass
+        sym (ap (take MAX_IDS) (all_pass
         (λ h. is_sendable (facts_of group ids) [] contact h && (not (row_at (facts_of group ids).rows contact h.id).asked && nat_le (row_at (facts_of group ids).rows contact h.id).expiry now))
         group ids
         (λ id among. (λ i. opened contact first id among i && (not (no_row_is contact id i).asked && nat_le (no_row_is contact id i).expiry now)) ∙ at_once)))

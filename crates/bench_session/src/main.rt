@@ -23,14 +23,15 @@ enum Step {
 
 const GROUP: GroupId = Fixed([7; 32]);
 
-/// The id of a message: its number, and then zeros.
+/// The id of a message: eight bytes that its number is mixed into, as evenly spread as a digest's,
+/// and then zeros.
 fn id_of(n: u32) -> MessageId {
+    let mut x = u64::from(n).wrapping_mul(0x9e37_79b9_7f4a_7c15);
+    x = (x ^ (x >> 30)).wrapping_mul(0xbf58_476d_1ce4_e5b9);
+    x = (x ^ (x >> 27)).wrapping_mul(0x94d0_49bb_1331_11eb);
+    let [a, b, c, d, e, f, g, h] = (x ^ (x >> 31)).to_le_bytes();
     let mut id = [0; 32];
-    let [a, b, c, d] = n.to_le_bytes();
-    id[0] = a;
-    id[1] = b;
-    id[2] = c;
-    id[3] = d;
+    [id[0], id[1], id[2], id[3], id[4], id[5], id[6], id[7]] = [a, b, c, d, e, f, g, h];
     Fixed(id)
 }
 

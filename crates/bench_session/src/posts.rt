@@ -1,7 +1,7 @@
 //! Messages that were written here, as a session sees them.
 ghost use Rattle.std.specs.Prelude.{◌≡◌, ◌<◌, ◌^◌, ◌&&◌, length, nat_eq, take, IfOk};
+ghost use Rattle.sync_ids.specs.declared.lists.TheConstants.{MAX_IDS};
 ghost use Rattle.sync_rules.specs.Lists.{same_id};
-ghost use Rattle.sync_rules.specs.Sessions.{ids_limit};
 
 use indexmap::IndexSet;
 use std::alloc::{AllocError, Global};
@@ -111,7 +111,7 @@ fn is_first(contact: u8) -> bool
 
 // The ids that one record has room for.
 fn front(alloc: Global, ids: &[MessageId]) -> Result<Vec<MessageId>, AllocError>
-    ensures { IfOk result (λ front. front.items ≡ take ids_limit ids.now) }
+    ensures { IfOk result (λ front. front.items ≡ take MAX_IDS ids.now) }
 {
     ids.iter().take(MAX_IDS).copied().collect(alloc)
 }

@@ -3,8 +3,9 @@ use Rattle.std.specs.Prelude.{ℕ, ◌+◌, Bool, not, cond, ◌&&◌, nat_le, L
 use Rattle.std.specs.List.{position_from}
 use Rattle.sync_rules.specs.declared.entries.Mode.{Mode}
 use Rattle.sync_rules.specs.Facts.{Id}
-use Rattle.sync_rules.specs.Sessions.{is_ripe, ids_limit}
+use Rattle.sync_rules.specs.Sessions.{is_ripe}
 use Rattle.retry_table.specs.Table.{Kept}
+use Rattle.sync_ids.specs.declared.lists.TheConstants.{MAX_IDS}
 
 -- the numbers, from the first one on, of those in a list that pass a test, in order
 abbrev pub numbers_where : {X : Type 0} → (X → Bool) → ℕ → List X → List ℕ
@@ -25,7 +26,7 @@ is_offered_at now kept = is_open kept && (not kept.row.asked && nat_le kept.row.
 
 -- the numbers that wait for our acknowledgement
 abbrev pub owed_in : List Kept → List ℕ
-owed_in rows = take ids_limit (numbers_where (λ kept. kept.row.owed) 0 rows)
+owed_in rows = take MAX_IDS (numbers_where (λ kept. kept.row.owed) 0 rows)
 
 -- the number of the message to be sent
 abbrev pub message_in : Mode → ℕ → List Kept → Option ℕ
@@ -33,8 +34,8 @@ message_in mode now rows = position_from (is_sent_at mode now) 0 rows
 
 -- the numbers to be offered
 abbrev pub offers_in : ℕ → List Kept → List ℕ
-offers_in now rows = take ids_limit (numbers_where (is_offered_at now) 0 rows)
+offers_in now rows = take MAX_IDS (numbers_where (is_offered_at now) 0 rows)
 
 -- the ids to be requested
 abbrev pub requests_in : List Id → List Id
-requests_in ids = take ids_limit ids
+requests_in ids = take MAX_IDS ids

@@ -1,8 +1,8 @@
 //! Writing a queue's places, and listing those that are due.
 ghost use Rattle.std.specs.Prelude.{◌≡◌, ◌^◌, ◌<◌, IfOk, length, slice_set, take};
-ghost use Rattle.sync_rules.specs.Sessions.{ids_limit};
 ghost use Rattle.due_tree.specs.Due.{is_due};
 ghost use Rattle.retry_table.specs.Due.{numbers_where};
+ghost use Rattle.sync_ids.specs.declared.lists.TheConstants.{MAX_IDS};
 
 use due_tree::DueTree;
 use std::alloc::{AllocError, Global};
@@ -26,7 +26,7 @@ pub(crate) fn put(queue: &mut DueTree, place: usize, number: Option<u64>)
 pub(crate) fn due_places(alloc: Global, queue: &DueTree, bound: u64) -> Result<Vec<u32>, AllocError>
     requires { length queue.now < 2 ^ 32 }
     ensures { IfOk result
-        (λ v. v.items ≡ take ids_limit (numbers_where (is_due bound) 0 queue.now)) }
+        (λ v. v.items ≡ take MAX_IDS (numbers_where (is_due bound) 0 queue.now)) }
 {
     let mut places = Vec::new(alloc);
     let mut from = 0;

@@ -1,4 +1,6 @@
 //! One command over a disk in memory.
+ghost use Rattle.std.specs.Prelude.{◌≡◌, []};
+ghost use Rattle.outside.specs.MemHost.{links_of};
 
 use crate::slow::{SlowSink, SlowSource, part_of};
 use anyhow::Result;
@@ -117,7 +119,9 @@ fn command<C: Clients>(
     host: MemHost,
     streams: (SlowSource, SlowSink, SlowSink),
     clients: &C,
-) -> Came {
+) -> Came
+    requires no_links { links_of host.disk ≡ [] }
+{
     let mut host = host;
     let (mut source, mut out, mut err) = streams;
     let status = run(

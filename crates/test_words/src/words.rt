@@ -6,7 +6,7 @@ use std::test::Fail;
 use sync_ids::{Fixed, GroupDef, GroupId, IdList, Message, MessageId, Nonce, Record, VersionList};
 use sync_rules::{Fate, Level, Origin, Refused};
 use sync_words::{
-    Command, LinkText, ReasonText, Status, WordsFault, bad_record_line, contact_line,
+    Command, LinkText, LinkWords, ReasonText, Status, WordsFault, bad_record_line, contact_line,
     contacts_line, damaged_line, device_line, group_line, inbox_line, inside_line,
     known_group_line, level_line, link_line, plain_line, posted_line, read_words, ready_line,
     record_line, refused_line, script_line, sessions_line, skipped_line, state_line, try_line,
@@ -63,7 +63,24 @@ fn show(alloc: Global, command: &Command) -> Result<String, Fail> {
             let id = id.to_hex(alloc)?;
             format!(in alloc; "body {id}")?
         }
+        Command::Sync(turns, quiet, links) => {
+            let links = show_links(alloc, links.as_slice())?;
+            format!(in alloc; "sync {turns}+{quiet}{links}")?
+        }
     })
+}
+
+fn show_links(alloc: Global, links: &[LinkWords]) -> Result<String, Fail> {
+    let mut all = String::new(alloc);
+    for link in links {
+        let (contact, mode, latency) = (link.contact, link.mode, link.latency);
+        write!(all, " {contact}+{mode:?}+{latency}+")?;
+        all.push_str(link.spec.as_str())?;
+        if link.has_nonce() {
+            all.push_str("+nonce")?;
+        }
+    }
+    Ok(all)
 }
 
 #[test]
@@ -82,7 +99,7 @@ fn words_of_commands(rt: HostRuntime) -> Result<(), Fail> {
         (&[], "usage 0"),
         (&[""], "usage 0"),
         (&["Try", "note", "d"], "usage 0"),
-        (&["sync"], "usage 0"),
+        (&["Sync"], "usage 0"),
         (&["-h"], "usage 0"),
         (&["try", "note", "d"], "try note+d"),
         (&["try", "-", ""], "try -+"),
@@ -142,6 +159,117 @@ fn words_of_commands(rt: HostRuntime) -> Result<(), Fail> {
     ];
     for (words, want) in cases {
         expect(&rt, alloc, words, want)?;
+    }
+    Ok(())
+}
+
+#[test]
+fn words_of_links(rt: HostRuntime) -> Result<(), Fail> {
+    let cases = [
+        ("sync", "usage 1"),
+        ("sync ", "usage 1"),
+        ("sync 0 1 0 batch 1 std", "usage 1"),
+        ("sync 1000001 1 0 batch 1 std", "usage 1"),
+        ("sync 01 1 0 batch 1 std", "usage 1"),
+        ("sync 1", "usage 2"),
+        ("sync 1 0 0 batch 1 std", "usage 2"),
+        ("sync 1 1000001 0 batch 1 std", "usage 2"),
+        ("sync 1 -1 0 batch 1 std", "usage 2"),
+        ("sync 1 1", "usage 3"),
+        ("sync 1 1 256 batch 1 std", "usage 3"),
+        ("sync 1 1 std", "usage 3"),
+        ("sync 1 1 0", "usage 4"),
+        ("sync 1 1 0 Batch 1 std", "usage 4"),
+        ("sync 1 1 0 batch", "usage 5"),
+        ("sync 1 1 0 batch 0 std", "usage 5"),
+        ("sync 1 1 0 batch 4294967296 std", "usage 5"),
+        ("sync 1 1 0 batch 1", "usage 6"),
+        ("sync 1 1 0 batch 1 ", "usage 6"),
+        ("sync 1 1 0 batch 1 stdin", "usage 6"),
+        ("sync 1 1 0 batch 1 std:x", "usage 6"),
+        ("sync 1 1 0 batch 1 tcp", "usage 6"),
+        ("sync 1 1 0 batch 1 tcp:", "usage 6"),
+        ("sync 1 1 0 batch 1 listen:", "usage 6"),
+        ("sync 1 1 0 batch 1 unix:", "usage 6"),
+        ("sync 1 1 0 batch 1 unixlisten:", "usage 6"),
+        ("sync 1 1 0 batch 1 TCP:x", "usage 6"),
+        ("sync 1 1 0 batch 1 xtcp:x", "usage 6"),
+        ("sync 1 1 0 batch 1 std x", "usage 7"),
+        ("sync 1 1 0 batch 1 std ", "usage 7"),
+        ("sync 1 1 0 batch 1 std 0", "usage 8"),
+        ("sync 1 1 0 batch 1 std 0 batch 0 std", "usage 9"),
+        ("sync 1 1 0 batch 1 std 0 batch 1", "usage 10"),
+        ("sync 1 1 0 batch 1 std 0 batch 1 std", "usage 10"),
+        (
+            "sync 1 1 0 batch 1 std 0 batch 1 tcp:x 0 batch 1 std 0",
+            "usage 14",
+        ),
+        (
+            "sync 1 1 0 batch 1 unix:x 0 batch 1 std 0 batch 1 std",
+            "usage 14",
+        ),
+        ("sync 10 1 0 batch 1000 std", "sync 10+1 0+Batch+1000+std"),
+        (
+            "sync 10 3 0 interactive 1000 tcp:x",
+            "sync 10+3 0+Interactive+1000+tcp:x+nonce",
+        ),
+        (
+            "sync 1000000 1 255 interactive 4294967295 unix:a",
+            "sync 1000000+1 255+Interactive+4294967295+unix:a+nonce",
+        ),
+        (
+            "sync 1 1000000 0 interactive 1 listen:a:1",
+            "sync 1+1000000 0+Interactive+1+listen:a:1",
+        ),
+        (
+            "sync 1 1 7 interactive 1 unixlisten:.",
+            "sync 1+1 7+Interactive+1+unixlisten:.",
+        ),
+        (
+            "sync 1 1 7 interactive 1 std 7 batch 2 tcp:-",
+            "sync 1+1 7+Interactive+1+std 7+Batch+2+tcp:-",
+        ),
+        (
+            "sync 1 1 7 batch 2 unix:b 7 batch 1 std",
+            "sync 1+1 7+Batch+2+unix:b 7+Batch+1+std",
+        ),
+    ];
+    for (line, want) in cases {
+        expect_line(&rt, rt.alloc(), line, want)?;
+    }
+    Ok(())
+}
+
+// The same for words that stand in a line, a space between each two.
+fn expect_line(rt: &impl Abort, alloc: Global, line: &str, want: &str) -> Result<(), Fail> {
+    let mut texts = Vec::new(alloc);
+    for word in line.split(' ') {
+        texts.push(String::from_str(alloc, word)?)?;
+    }
+    assert_eq!(rt; read(alloc, texts.as_slice())?.as_str(), want, "at {line}");
+    Ok(())
+}
+
+#[test]
+fn words_of_many_links(rt: HostRuntime) -> Result<(), Fail> {
+    let alloc = rt.alloc();
+    let (link, shown) = (" 0 batch 1 tcp:x", " 0+Batch+1+tcp:x");
+    for links in 1..9usize {
+        let words = format!(in alloc; "sync 1 1{}", repeated(alloc, link, links)?)?;
+        let want = format!(in alloc; "sync 1+1{}", repeated(alloc, shown, links)?)?;
+        expect_line(&rt, alloc, words.as_str(), want.as_str())?;
+    }
+    for (last, want) in [
+        (" 0 batch 1 tcp:x 0 batch 1 tcp:x", "usage 35"),
+        (" 0 batch 1 tcp:x x", "usage 35"),
+        (" 0 batch 1 tcp:x 0", "usage 35"),
+        (" 0 batch 1 ", "usage 34"),
+        (" 0 batch 1", "usage 34"),
+        (" 0 batch 0 tcp:x 0 batch 1 tcp:x", "usage 33"),
+        (" 0", "usage 32"),
+    ] {
+        let words = format!(in alloc; "sync 1 1{}{last}", repeated(alloc, link, 7)?)?;
+        expect_line(&rt, alloc, words.as_str(), want)?;
     }
     Ok(())
 }

@@ -1,0 +1,143 @@
+-- A device stays one behind each call of its node.
+use Rattle.std.proofs.Common.{◌≡◌, ℕ, ◌+◌, ◌≤◌, Bool, true, false, [], length}
+use Rattle.std.proofs.Common.{Result, Ok, Err, refl, sym, ap, ◌∙◌, arith}
+use Rattle.std.specs.Prelude.{OnOk, is_err}
+use Rattle.outside.specs.declared.limits.TheConstants.{LINKS}
+use Rattle.outside.specs.Links.{Links}
+use Rattle.outside.specs.Outside.{DiskRun, Outside}
+use Rattle.sync_rules.specs.Clients.{Meaning}
+use Rattle.sync_node.specs.declared.fault.NodeFault.{NodeFault}
+use Rattle.sync_node.specs.declared.fault.NodeFault.TheVariants as fault
+use Rattle.sync_node.specs.Node.{Answers, Attaches, KeepsJoined, MayRun, NodeValue, StaysClosed}
+use Rattle.sync_store.specs.Ready.{IsReady}
+use Rattle.sync_store.specs.Store.{StoreValue}
+use Rattle.test_links.specs.Device.{IsDevice}
+
+-- what an Ok leaves of a node: so many links more, and no fewer that were dialled
+record Grows (more : ℕ) (n n' : NodeValue) (o o' : Outside) : Type 0 where
+  pub longer : length n'.links ≡ length n.links + more
+  pub dialled : o.links.dialled ≤ o'.links.dialled
+
+-- a node that is closed
+closed_device : (clients : Meaning) (n' : NodeValue) (o' : Outside) (links : ℕ) (failed : Bool)
+    → failed ≡ true → n'.closed ≡ true → MayRun clients n' o' → IsDevice clients n' o' links failed
+closed_device clients n' o' links failed fails shut may = record {
+  same_closed = fails ∙ sym shut;
+  may = may;
+  counted = λ on. absurd (let no : true ≡ false = sym shut ∙ on in cc);
+  dialled = λ on. absurd (let no : true ≡ false = sym shut ∙ on in cc);
+}
+
+-- a call of a node that was not closed
+on_called : {T : Type 0} (clients : Meaning) (n n' : NodeValue) (o o' : Outside) (links more : ℕ)
+    (closed : Bool) (result : Result T NodeFault)
+    → IsDevice clients n o links closed
+    → n.closed ≡ false
+    → Answers result n'
+    → MayRun clients n' o'
+    → OnOk result (Grows more n n' o o')
+    → IsDevice clients n' o' (links + more) (is_err result)
+on_called clients n n' o o' links more closed (Ok x) device on answer may grows = record {
+  same_closed = sym answer;
+  may = may;
+  counted = λ _. omega (arith, device.counted on, grows.longer);
+  dialled = λ _. omega (arith, device.dialled on, grows.dialled);
+}
+on_called clients n n' o o' links more closed (Err fault.Memory) device on answer may grows =
+    closed_device clients n' o' _ true refl answer may
+on_called clients n n' o o' links more closed (Err fault.DiskFault) device on answer may grows =
+    closed_device clients n' o' _ true refl answer may
+on_called clients n n' o o' links more closed (Err fault.Full) device on answer may grows =
+    closed_device clients n' o' _ true refl answer may
+on_called clients n n' o o' links more closed (Err fault.Closed) device on answer may grows =
+    absurd answer
+
+-- any call
+called : {T H : Type 0} (clients : Meaning) (n n' : NodeValue) (host host' : H) (o o' : Outside)
+    (links more : ℕ) (closed : Bool) (result : Result T NodeFault)
+    → IsDevice clients n o links closed
+    → (n.closed ≡ true → StaysClosed n n' host host' result)
+    → (n.closed ≡ false → Answers result n')
+    → MayRun clients n' o'
+    → OnOk result (Grows more n n' o o')
+    → IsDevice clients n' o' (links + more) (is_err result)
+called clients n n' host host' o o' links more closed result device stays answer may grows =
+    elim n.closed as (λ b. n.closed ≡ b → IsDevice clients n' o' (links + more) (is_err result)) [
+      | true ↦ λ shut.
+          let same = stays shut in
+          closed_device clients n' o' _ (is_err result) (ap is_err same.answer)
+          (ap (λ (m : NodeValue). m.closed) same.same ∙ shut) may
+      | false ↦ λ on.
+          on_called clients n n' o o' links more closed result device on (answer on) may grows
+    ] refl
+
+kept : {T : Type 0} (clients : Meaning) (n n' : NodeValue) (o o' : Outside)
+    (result : Result T NodeFault)
+    → OnOk result (KeepsJoined clients n n' o o')
+    → OnOk result (Grows 0 n n' o o')
+kept clients n n' o o' (Ok x) keeps = record {
+  longer = omega (arith, keeps.same_number);
+  dialled = keeps.goes.links.dialled;
+}
+kept clients n n' o o' (Err f) keeps = tt
+
+attached : {T : Type 0} (clients : Meaning) (n n' : NodeValue) (o o' : Outside)
+    (result : Result T NodeFault)
+    → OnOk result (Attaches clients n n' o o')
+    → OnOk result (Grows 1 n n' o o')
+attached clients n n' o o' (Ok x) attaches = record {
+  longer = attaches.one_more;
+  dialled = attaches.goes.links.dialled;
+}
+attached clients n n' o o' (Err f) attaches = tt
+
+-- a device before, and what a call of its node says, give a device again
+pub device_kept : {T H : Type 0} (clients : Meaning) (n n' : NodeValue) (host host' : H)
+    (o o' : Outside) (links : ℕ) (closed failed : Bool) (result : Result T NodeFault)
+    → IsDevice clients n o links closed
+    → (n.closed ≡ true → StaysClosed n n' host host' result)
+    → (n.closed ≡ false → Answers result n')
+    → MayRun clients n' o'
+    → OnOk result (KeepsJoined clients n n' o o')
+    → failed ≡ is_err result
+    → IsDevice clients n' o' links failed
+device_kept clients n n' host host' o o' links closed failed result device stays answer may keeps is =
+    let same : links + 0 ≡ links = omega arith in
+    rw (is, ← same)
+    (called clients n n' host host' o o' links 0 closed result device stays answer may
+    (kept clients n n' o o' result keeps))
+
+-- the same of a call that begins a session on the next link
+pub device_attached : {T H : Type 0} (clients : Meaning) (n n' : NodeValue) (host host' : H)
+    (o o' : Outside) (links : ℕ) (closed failed : Bool) (result : Result T NodeFault)
+    → IsDevice clients n o links closed
+    → (n.closed ≡ true → StaysClosed n n' host host' result)
+    → (n.closed ≡ false → Answers result n')
+    → MayRun clients n' o'
+    → OnOk result (Attaches clients n n' o o')
+    → failed ≡ is_err result
+    → IsDevice clients n' o' (links + 1) failed
+device_attached clients n n' host host' o o' links closed failed result device stays answer may
+    attaches is =
+    rw is
+    (called clients n n' host host' o o' links 1 closed result device stays answer may
+    (attached clients n n' o o' result attaches))
+
+-- a node that was made over a store which was loaded once all links were dialled
+pub device_begun : (clients : Meaning) (n : NodeValue) (s : StoreValue) (first : ℕ)
+    (o o' : Outside)
+    → n ≡ record { store = s; first = first; links = []; closed = false }
+    → IsReady clients s o'.files
+    → DiskRun o o'
+    → o.links.dialled ≡ LINKS
+    → IsDevice clients n o' 0 false
+device_begun clients n s first o o' is ready run all = rw is (record {
+  same_closed = refl;
+  may = λ _. record {
+    ready = ready;
+    settled = λ some. absurd (omega arith);
+    dialled = omega arith;
+  };
+  counted = λ _. refl;
+  dialled = λ _. omega (arith, ap (λ (l : Links). l.dialled) run.same_links);
+})

@@ -1,0 +1,37 @@
+//! Plays the cases of its input over a host in memory, by the commands of a node, and prints what
+//! each run of `sync` came to: its status, its lines, what was sent on each link, and the files that
+//! it left. What it must print was made by `bench/run_model.py`, a node by plain scans that shares
+//! nothing with this one.
+//!
+//! A case is a line `case NAME` and lines of these forms:
+//!
+//! - `do WORDS`: a command that must come to its end; `input HEX` before it is its input.
+//! - `got LINK HEX`, `idle LINK N`, `end LINK N`, `fail LINK N`: answers of a link to come.
+//! - `clock N`, `nonce HEX`: a reading of the clock and a nonce to come.
+//! - `faildial K`, `failsend K`: the call of this number, from 0, fails.
+//! - `sync WORDS`: the run whose outcome is printed.
+//! - `stops WORDS`: the run is stopped at each call of the disk instead, and for each image that a
+//!   crash then leaves it is asked whether it opens to a journal that goes on from the old one and
+//!   holds each message that was acknowledged.
+#![tactic(auto)]
+
+mod case;
+mod command;
+mod stage;
+mod stops;
+
+use crate::case::Case;
+use anyhow::Result;
+use std::io;
+
+fn main(rt: HostRuntime) -> Result<()> {
+    let alloc = rt.alloc();
+    let text = io::read_to_string(alloc, rt.stdin())?;
+    let mut case = Case::new(alloc)?;
+    for line in text.as_str().split('\n') {
+        if !line.is_empty() && !line.starts_with('#') {
+            case.play(&rt, line)?;
+        }
+    }
+    Ok(())
+}
