@@ -1,4 +1,4 @@
-/* The writes and syncs of one post, and nothing else: bare_append FILE0 FILE1 <frames
+/* The writes and syncs of a store that gets some batches, and nothing else: bare_append FILE0 FILE1 <frames
  *
  * Each file that is there is synced. Then each frame of the input (its length in four bytes, its payload, a closed gate)
  * is added at the end of FILE0, whose last byte is the closed gate: written behind it and synced, then the gate opened
@@ -10,7 +10,7 @@
 #include <sys/stat.h>
 #include <unistd.h>
 
-enum { MOST = 1 << 18 };
+enum { MOST = 1 << 28 };
 
 static void check(int holds, const char *what)
 {

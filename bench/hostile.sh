@@ -1,9 +1,10 @@
 #!/bin/sh
 # Names that someone chose: a store of messages that arrived, each of which depends on 100 names of its own that nobody holds. The
 # chosen names meet under std's hasher of a fixed seed, as `fixed` below computes it; the others are random. Prints the least processor
-# time of RUNS (3) loads for FEW (5000) and MANY (20000) messages, and that of an OFFER of 1,536 such ids; the program takes it of
-# that step alone. The last lines are `ratio NAME VALUE`: chosen over random at FEW and at MANY messages, how much faster than
-# n log n the load of chosen names grows, and chosen over random for the OFFER.
+# time of RUNS (3) loads for FEW (5000) and MANY (20000) messages, and that of an OFFER of 1,536 such ids, and of an OFFER whose ids
+# share the one slot by which a session counts a list's ids; the program takes it of that step alone. The last lines are
+# `ratio NAME VALUE`: chosen over random at FEW and at MANY messages, how much faster than n log n the load of chosen names grows, and
+# chosen and of one slot over random for the OFFER.
 set -eu
 cd "$(dirname "$0")/.."
 (cd crates/bench_store && rt run -- load 50 200 1 >/dev/null)
@@ -39,7 +40,12 @@ def chosen_name(n):
     return random_name(n)[:24] + struct.pack("<Q", MULTIPLIER)
 
 
+def slot_name(n):
+    return bytes(2) + random_name(n)[2:]
+
+
 KINDS = {"random": random_name, "chosen": chosen_name}
+OFFERED = {**KINDS, "of one slot": slot_name}
 
 
 def payloads(count, name_of):
@@ -74,11 +80,11 @@ def step(folder, want, *words):
     return told._replace(seconds=int(told.err) / 1e6)
 
 
-def both(count, want, *words):
-    """The least time of a step over a store of so many messages with random names, and over one with chosen ones."""
+def each(kinds, count, want, *words):
+    """The least time of a step over a store of so many messages with names of each kind."""
     with tempfile.TemporaryDirectory(dir="/dev/shm") as top:
-        folders = [os.path.join(top, kind) for kind in KINDS]
-        ends = [write_store(folder, count, name_of) for folder, name_of in zip(folders, KINDS.values())]
+        folders = [os.path.join(top, kind) for kind in kinds]
+        ends = [write_store(folder, count, name_of) for folder, name_of in zip(folders, kinds.values())]
         asked = [lambda folder=folder, end=end: step(folder, want.format(end), *words) for folder, end in zip(folders, ends)]
         return [seconds for seconds, _ in least(runs, *asked)]
 
@@ -88,14 +94,15 @@ for kind, name_of in KINDS.items():
     print(f"{few} {kind} names have {hashes} hashes under the fixed seed")
 loads = {}
 for count in (few, many):
-    loads[count] = both(count, f"{count} held, 0 delivered, {{}} bytes\n", "file")
+    loads[count] = each(KINDS, count, f"{count} held, 0 delivered, {{}} bytes\n", "file")
     print("load, {} messages of {} names: random {:.3f} s, chosen {:.3f} s".format(count, NAMES, *loads[count]), flush=True)
 print(f"under the fixed seed the chosen names of {many} messages would be compared {(many * NAMES) ** 2 / 2:.0e} times in a load")
-offer = both(0, "1001 entries\n", "offer", str(ROUNDS))
-print("an OFFER of {} ids: random {:.0f} us, chosen {:.0f} us".format(IDS, *(time / ROUNDS * 1e6 for time in offer)))
+offer = each(OFFERED, 0, "1001 entries\n", "offer", str(ROUNDS))
+print("an OFFER of {} ids: random {:.0f} us, chosen {:.0f} us, of one slot {:.0f} us".format(IDS, *(time / ROUNDS * 1e6 for time in offer)))
 growth = loads[many][1] / loads[few][1] / (many * math.log2(many) / (few * math.log2(few)))
 for count, (random, chosen) in loads.items():
     print(f"ratio hostile_load_{count} {chosen / random:.2f}")
 print(f"ratio hostile_growth {growth:.2f}")
 print(f"ratio hostile_offer {offer[1] / offer[0]:.2f}")
+print(f"ratio hostile_slot {offer[2] / offer[0]:.2f}")
 PY

@@ -1,0 +1,311 @@
+#!/usr/bin/env python3
+"""Writes the cases of crates/test_runs: `run_cases.py >stdin`, and `run_model.py stdin >stdout` is what they must print.
+The named ones come first; then some that are drawn, the same each time."""
+import random
+
+from digests import group_id, message_id
+from run_model import record_bytes
+
+NOTES, THREADS, FEEDS = (group_id(name, 0, b'd') for name in (b'note', b'thread', b'feed'))
+ROW_8 = '0004000100 00090002aabb 00050010000102030405060708090a0b0c0d0e0f'.replace(' ', '')
+
+
+def say(*lines):
+    for line in lines:
+        print(line)
+
+
+def case(name, *lines):
+    say('case ' + name, *lines)
+
+
+def message(group, timestamp, body):
+    return record_bytes(1, group + timestamp.to_bytes(8, 'big') + body)
+
+
+def ids_record(kind, ids):
+    return record_bytes(kind, b''.join(ids))
+
+
+def some_ids(first, count):
+    return [message_id(NOTES, n, b'unknown') for n in range(first, first + count)]
+
+
+def group(name, gid, *levels):
+    say('do group %s 0 d' % name)
+    for contact, level in levels:
+        say('do share %d %s %s' % (contact, gid.hex(), level))
+
+
+def contacts(count):
+    for _ in range(count):
+        say('do contact')
+
+
+def post(gid, timestamp, body):
+    say('input ' + body.hex(), 'do post %s %d' % (gid.hex(), timestamp))
+    return message_id(gid, timestamp, body)
+
+
+def reply(parents, text):
+    return bytes([len(parents)]) + b''.join(parents) + text
+
+
+# ---- the named ones
+
+def one_contact(level='shared'):
+    contacts(1)
+    group('note', NOTES, (0, level))
+
+
+def named():
+    case('a posted message goes out on an empty link')
+    one_contact()
+    post(NOTES, 0, b'x')
+    say('end 0 1', 'sync 10 1 0 batch 1000 std')
+
+    case('two links to one contact, the lesser nonce is closed')
+    contacts(1)
+    say('nonce ' + '00' * 15 + '01', 'nonce ' + '00' * 15 + '02', 'idle 0 5', 'idle 1 5')
+    say('sync 5 1 0 interactive 1000 tcp:x 0 interactive 1000 tcp:y')
+
+    case('equal nonces, the first link is kept; another contact is left alone')
+    contacts(2)
+    say(*['nonce ' + '07' * 16] * 3, 'idle 0 9', 'idle 1 9', 'idle 2 9')
+    say('sync 9 2 0 interactive 1000 tcp:x 0 interactive 1000 unix:y 1 interactive 5 tcp:z')
+
+    case('a listening link has the nonce that it heard')
+    contacts(1)
+    say('nonce ' + '05' * 16, 'got 1 ' + record_bytes(5, b'\x09' * 16).hex(), 'idle 0 9', 'idle 1 9')
+    say('sync 9 1 0 interactive 1000 tcp:x 0 interactive 1000 listen:y')
+
+    case('versions without 0')
+    contacts(1)
+    say('got 0 0004000101', 'sync 5 1 0 batch 1000 std')
+
+    case('always idle, dialled and interactive')
+    contacts(1)
+    say('nonce 000102030405060708090a0b0c0d0e0f', 'idle 0 9', 'sync 10 3 0 interactive 1000 tcp:x')
+    say('nonce 000102030405060708090a0b0c0d0e0f', 'idle 0 9', 'sync 2 3 0 interactive 1000 tcp:x')
+
+    case('a dial that fails, and a nonce')
+    contacts(2)
+    say('faildial 0', 'sync 3 1 0 batch 1000 tcp:x')
+    say('faildial 1', 'sync 3 1 0 batch 1000 tcp:x 1 batch 1000 tcp:y')
+    say('nonce ' + '01' * 16, 'sync 3 1 0 interactive 9 tcp:x 1 interactive 9 unix:y 0 batch 9 std')
+    say('sync 3 1 0 batch 1 std 7 batch 1 unix:y')
+
+    case('calls that fail')
+    one_contact()
+    post(NOTES, 0, b'x')
+    say('fail 0 1', 'sync 3 1 0 batch 1000 std')
+    say('failsend 0', 'idle 0 3', 'sync 3 1 0 batch 1000 std')
+    say('failsend 1', 'idle 0 3', 'clock 5000', 'sync 3 1 0 batch 1000 std')
+    say('failsend 1', 'nonce ' + '02' * 16, 'sync 3 1 0 interactive 10 tcp:x')
+    say('fail 1 1', 'clock 1000000', 'end 0 1', 'sync 4 1 0 batch 9 std 0 batch 9 listen:x')
+
+    case('a group that is invisible, then visible, then shared with another')
+    contacts(2)
+    group('note', NOTES)
+    one = message(NOTES, 3, b'hello')
+    held = message_id(NOTES, 3, b'hello')
+    for record in (one, ids_record(0, [held]), ids_record(3, [held]), ids_record(2, [held])):
+        say('got 0 ' + record.hex())
+    say('end 0 1', 'sync 9 1 0 batch 1000 std')
+    say('do share 0 %s visible' % NOTES.hex(), 'do share 1 %s visible' % NOTES.hex())
+    say('got 0 ' + one.hex(), 'end 0 1', 'end 1 1', 'sync 9 1 0 batch 1000 std 1 batch 1000 listen:x')
+    say('do share 1 %s shared' % NOTES.hex(), 'end 0 1', 'end 1 1')
+    say('sync 9 1 1 batch 1000 std 0 batch 1000 listen:x')
+
+    case('ids that are not known')
+    one_contact()
+    for kind in (0, 3):
+        say('got 0 ' + ids_record(kind, some_ids(0, 5) + some_ids(2, 5)).hex())
+    say('end 0 1', 'sync 9 1 0 batch 1000 std')
+
+    case('1,536 offered ids and again; 1,000 are requested')
+    contacts(1)
+    offer = ids_record(2, some_ids(0, 1536)).hex()
+    say('got 0 ' + offer, 'got 0 ' + offer, 'sync 2 1 0 batch 1000 std')
+    say('idle 0 9', 'sync 9 1 0 interactive 1000 listen:x')
+
+    case('offered, requested, sent and acknowledged')
+    one_contact()
+    mine = post(NOTES, 1, b'mine')
+    theirs = message(NOTES, 2, b'theirs')
+    say('nonce ' + '03' * 16, 'got 0 0004000100', 'idle 0 1')
+    say('got 0 ' + (ids_record(3, [mine]) + ids_record(2, [message_id(NOTES, 2, b'theirs')])).hex())
+    say('got 0 ' + (ids_record(0, [mine]) + theirs).hex(), 'idle 0 3')
+    say('clock 1000', 'sync 9 2 0 interactive 30000 unix:p')
+
+    case('offered again later and later')
+    one_contact()
+    post(NOTES, 1, b'mine')
+    for now in (1000, 60999, 61000, 181000, 421000, 421001):
+        say('nonce ' + '03' * 16, 'idle 0 2', 'clock %d' % now, 'sync 1 1 0 interactive 30000 tcp:p')
+    say('idle 0 2', 'clock 18446744073709551615', 'sync 1 1 0 batch 4294967295 std')
+
+    case('more than 64 messages are due')
+    one_contact()
+    for n in range(70):
+        post(NOTES, n, b'%d' % n)
+    say('idle 0 9', 'sync 1 1 0 batch 1000 std', 'idle 0 9', 'clock 3000', 'sync 9 2 0 batch 1000 std')
+
+    case('599 replies before their root')
+    contacts(1)
+    group('thread', THREADS, (0, 'visible'))
+    root = reply([], b'root')
+    parent = message_id(THREADS, 0, root)
+    for n in range(599):
+        say('got 0 ' + message(THREADS, 1 + n, reply([parent], b'')).hex())
+    say('got 0 ' + message(THREADS, 0, root).hex(), 'end 0 1', 'sync 700 1 0 batch 1000 std')
+
+    case('the same message on two links of one turn')
+    contacts(2)
+    group('note', NOTES, (0, 'shared'), (1, 'shared'))
+    for link in (0, 1):
+        say('got %d ' % link + message(NOTES, 5, b'twice').hex(), 'end %d 1' % link)
+    say('sync 9 1 0 batch 10 std 1 batch 10 listen:x')
+
+    case('what one contact brings goes on to the other')
+    contacts(2)
+    group('thread', THREADS, (0, 'shared'), (1, 'shared'))
+    last, ids = [], []
+    for n in range(12):
+        body = reply(last, b'letters ' * 25)
+        say('got 0 ' + message(THREADS, n, body).hex())
+        last = [message_id(THREADS, n, body)]
+        ids += last
+    say('end 0 1', 'idle 1 14', 'got 1 ' + ids_record(3, ids).hex(), 'idle 1 2')
+    say('got 1 ' + ids_record(0, ids).hex(), 'idle 1 3', 'clock 1000')
+    say('sync 30 4 0 interactive 1000 listen:x 1 interactive 1000 listen:y')
+
+    case('a wrong reply makes those that wait for it invalid')
+    contacts(1)
+    group('thread', THREADS, (0, 'shared'))
+    bad = reply([], b'\xff')
+    second = reply([message_id(THREADS, 1, bad)], b'b')
+    third = reply([message_id(THREADS, 2, second)], b'c')
+    for time, body in ((3, third), (2, second), (1, bad)):
+        say('got 0 ' + message(THREADS, time, body).hex())
+    say('end 0 1', 'sync 9 1 0 batch 10 std')
+
+
+# ---- runs that are stopped at each call of the disk
+
+def stopped():
+    case('a run that sends is stopped')
+    one_contact()
+    post(NOTES, 0, b'x')
+    say('end 0 1', 'stops sync 10 1 0 batch 1000 std')
+
+    case('a run that takes, settles and acknowledges is stopped')
+    one_contact()
+    mine = post(NOTES, 1, b'mine')
+    say('nonce ' + '03' * 16, 'got 0 0004000100')
+    say('got 0 ' + (ids_record(3, [mine]) + message(NOTES, 2, b'theirs')).hex())
+    say('got 0 ' + ids_record(0, [mine]).hex(), 'idle 0 3', 'clock 1000')
+    say('stops sync 9 2 0 interactive 30000 unix:p')
+
+
+# ---- what ends a stream
+
+REFUSED = ['01', '0000c001', '00000000', '00000021', '00010028', '00018029', '00040000', '0004000b', '0005000f',
+           '00010029' + '00' * 32 + '8000000000000000' + '78', '0009c001']
+
+
+def endings():
+    for refused in REFUSED:
+        case('refused ' + refused[:8])
+        contacts(1)
+        say('got 0 0004000100' + refused, 'sync 3 1 0 batch 10 std')
+    for length in range(0, len(ROW_8), 2):
+        case('a stream of %d bytes' % (length // 2))
+        contacts(1)
+        if length:
+            say('got 0 ' + ROW_8[:length])
+        say('end 0 1', 'sync 4 1 0 interactive 10 listen:x')
+
+
+# ---- drawn ones
+
+class Drawn:
+    def __init__(self, seed):
+        self.draw = random.Random(seed)
+        self.known, self.contacts = [], self.draw.randint(1, 3)
+
+    def body(self, gid):
+        text = b'text %d' % self.draw.randint(0, 5) if self.draw.random() < 0.9 else b'\xff'
+        among = [id_ for g, id_ in self.known if g == gid]
+        if gid == THREADS:
+            return reply(self.draw.sample(among, min(len(among), self.draw.randint(0, 2))), text)
+        if gid == FEEDS:
+            return (self.draw.choice(among) if among and self.draw.random() < 0.7 else bytes(32)) + text
+        return text
+
+    def message(self):
+        gid = self.draw.choice([NOTES, THREADS, FEEDS])
+        timestamp, body = self.draw.randint(0, 30), self.body(gid)
+        self.known.append((gid, message_id(gid, timestamp, body)))
+        return message(gid, timestamp, body)
+
+    def record(self):
+        kind = self.draw.choice([0, 1, 1, 1, 1, 2, 3, 4, 5, 9])
+        if kind == 1:
+            return self.message()
+        if kind in (0, 2, 3):
+            ids = [id_ for _, id_ in self.known] + some_ids(0, 4)
+            return ids_record(kind, [self.draw.choice(ids) for _ in range(self.draw.randint(1, 6))])
+        if kind == 4:
+            return record_bytes(4, b'\x00\x02' if self.draw.random() < 0.9 else b'\x02')
+        return record_bytes(kind, bytes([self.draw.randint(0, 3)]) * 16)
+
+    def pieces(self, link):
+        stream = b''.join(self.record() for _ in range(self.draw.randint(0, 12)))
+        stream += self.draw.choice([b'', b'', b'', b'\x00\x04', b'\x01'])
+        while stream:
+            size = self.draw.randint(1, 120)
+            say('got %d %s' % (link, stream[:size].hex()))
+            stream = stream[size:]
+            if self.draw.random() < 0.3:
+                say('idle %d %d' % (link, self.draw.randint(1, 3)))
+        say(self.draw.choice(['end %d 1', 'idle %d 40', 'idle %d 40', 'fail %d 1']) % link)
+
+    def run(self):
+        links = self.draw.randint(1, 4)
+        words = ['sync %d %d' % (self.draw.randint(1, 40), self.draw.randint(1, 4))]
+        for link in range(links):
+            self.pieces(link)
+            say('nonce ' + '%02x' % self.draw.randint(0, 3) * 16)
+            spec = self.draw.choice(['tcp:h:1', 'unix:p', 'listen:h:1', 'unixlisten:p'])
+            mode = self.draw.choice(['interactive', 'interactive', 'batch'])
+            words.append('%d %s %d %s' % (self.draw.randrange(self.contacts), mode, self.draw.choice([1, 10, 100]), spec))
+        if self.draw.random() < 0.2:
+            say('failsend %d' % self.draw.randint(0, 12))
+        now = 0
+        for _ in range(self.draw.randint(1, 60)):
+            now += self.draw.choice([0, 1, 50, 1000])
+            say('clock %d' % now)
+        say(' '.join(words))
+
+    def play(self):
+        contacts(self.contacts)
+        for name, gid in (('note', NOTES), ('thread', THREADS), ('feed', FEEDS)):
+            if self.draw.random() < 0.9:
+                group(name, gid, *[(c, self.draw.choice(['shared', 'shared', 'visible', 'invisible']))
+                                   for c in range(self.contacts)])
+        for _ in range(self.draw.randint(1, 3)):
+            self.run()
+
+
+def main():
+    named()
+    stopped()
+    endings()
+    for seed in range(40):
+        case('drawn %d' % seed)
+        Drawn(seed).play()
+
+
+if __name__ == '__main__':
+    main()

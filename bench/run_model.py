@@ -1,0 +1,606 @@
+#!/usr/bin/env python3
+"""A node by plain scans, written from the protocol's pages alone (docs/PROTOCOL.md, docs/FORMATS.md), beside
+the proved one and sharing nothing with it: its digest is hashlib's, its rules look at whole lists.
+
+`run_model.py CASES` plays the cases of a file, as the program test_runs does, and prints what that program must
+print. What a case is stands in crates/test_runs/src/main.rt."""
+import hashlib
+import sys
+
+from digests import group_id, message_id
+from store_file import CLOSED, HEADER, OPEN
+
+MAX64 = 2**64 - 1
+
+
+# ---- clients
+
+def is_text(bytes_):
+    try:
+        bytes_.decode('utf-8')
+        return True
+    except UnicodeDecodeError:
+        return False
+
+
+def judge(kind, body):
+    """None for a refusal, else the dependencies and whether the message is shared on."""
+    if kind == b'note':
+        return ([], True) if is_text(body) else None
+    if kind == b'thread':
+        count = body[0]
+        ids = [body[1 + 32 * i:33 + 32 * i] for i in range(count)]
+        whole = len(body) >= 1 + 32 * count
+        if not whole or len(set(ids)) < count or not is_text(body[1 + 32 * count:]):
+            return None
+        return (ids, True)
+    if len(body) < 32 or not is_text(body[32:]):
+        return None
+    return ([] if body[:32] == bytes(32) else [body[:32]], False)
+
+
+class Held:
+    def __init__(self, group, timestamp, body, origin):
+        self.group, self.timestamp, self.body, self.origin = group, timestamp, body, origin
+        self.id = message_id(group, timestamp, body)
+
+
+class Row:
+    def __init__(self):
+        self.seen = self.owed = self.asked = False
+        self.tries = self.expiry = 0
+
+
+class Journal:
+    """What the batches of a journal come to."""
+
+    def __init__(self):
+        self.contacts = 0
+        self.groups = []
+        self.levels = {}
+        self.sessions = []
+        self.takes = {}
+        self.held = []
+        self.judged, self.invalid, self.delivered = set(), set(), []
+        self.rows = {}
+        self.wanted = {}
+
+    # ---- look-ups
+    def find(self, id_):
+        return next((h for h in self.held if h.id == id_), None)
+
+    def group(self, gid):
+        return next((g for g in self.groups if g[3] == gid), None)
+
+    def level(self, contact, gid):
+        return self.levels.get((contact, gid), 0)
+
+    def row(self, contact, id_):
+        return self.rows.setdefault((contact, id_), Row())
+
+    def wants(self, contact):
+        return self.wanted.setdefault(contact, [])
+
+    def answer(self, held):
+        return judge(self.group(held.group)[0], held.body)
+
+    # ---- entries
+    def apply(self, entry):
+        kind, rest = entry[0], entry[1:]
+        if kind == 'contact':
+            self.contacts += 1
+        elif kind == 'group':
+            name, major, descriptor = rest
+            self.groups.append((name, major, descriptor, group_id(name, major, descriptor)))
+        elif kind == 'level':
+            self.levels[(rest[0], rest[1])] = rest[2]
+        elif kind == 'session':
+            self.sessions.append(rest)
+        elif kind == 'take':
+            self.takes[rest[0]] = rest[1] + 1
+        elif kind in ('author', 'arrive'):
+            contact = None if kind == 'author' else self.sessions[rest[0]][1]
+            held = Held(*rest[-1], 'self' if contact is None else contact)
+            self.held.append(held)
+            for wants in self.wanted.values():
+                if held.id in wants:
+                    wants.remove(held.id)
+            if contact is not None:
+                row = self.row(contact, held.id)
+                row.seen = row.owed = True
+        elif kind == 'judged':
+            self.judged.add(rest[0])
+        elif kind == 'deliver':
+            self.delivered.append(rest[0])
+        elif kind == 'invalid':
+            self.invalid.add(rest[0])
+        elif kind == 'out':
+            self.put_out(*rest)
+        else:
+            session, id_ = rest
+            contact = self.sessions[session][1]
+            row = self.row(contact, id_)
+            if kind == 'again':
+                row.seen = row.owed = True
+            elif kind == 'seen':
+                row.seen = True
+            elif kind == 'asked':
+                row.asked, row.tries, row.expiry = True, 0, 0
+            elif kind == 'offered':
+                self.wants(contact).append(id_)
+
+    def put_out(self, session, now, what, ids):
+        contact, latency = self.sessions[session][1], self.sessions[session][3]
+        for id_ in ids:
+            row = self.row(contact, id_)
+            if what == 'acks':
+                row.owed = False
+            elif what == 'requests':
+                self.wants(contact).remove(id_)
+            else:
+                row.tries += 1
+                row.expiry = min(now + 2 * latency * 2**(row.tries - 1), MAX64)
+                if what == 'send':
+                    row.asked = False
+
+    # ---- settling
+    def step(self, held):
+        if held.id not in self.judged:
+            return ('judged', held.id)
+        if held.id in self.invalid or held.id in self.delivered:
+            return None
+        answer = self.answer(held)
+        if answer is None:
+            return ('invalid', held.id)
+        deps = [(d, self.find(d)) for d in answer[0]]
+        if any(d in self.invalid or (h and h.group != held.group) for d, h in deps):
+            return ('invalid', held.id)
+        if all(h and d in self.delivered for d, h in deps):
+            return ('deliver', held.id)
+        return None
+
+    def next_step(self):
+        for held in self.held:
+            step = self.step(held)
+            if step:
+                return step
+        return None
+
+    # ---- what a record is taken as
+    def taken(self, session, record):
+        contact = self.sessions[session][1]
+        kind = record[0]
+        if kind == 'message':
+            group, timestamp, body = record[1:]
+            if not self.group(group) or self.level(contact, group) == 0:
+                return []
+            id_ = message_id(group, timestamp, body)
+            held = self.find(id_)
+            if not held:
+                return [('arrive', session, record[1:])]
+            return [('again', session, id_)] if self.level(contact, held.group) else []
+        if kind in ('versions', 'priority', 'skipped'):
+            return []
+        entries, room = [], 1000 - len(self.wants(contact))
+        for id_ in dict.fromkeys(record[1]):
+            held = self.find(id_)
+            shown = held and self.level(contact, held.group)
+            if kind == 'ack':
+                if shown and not self.row(contact, id_).seen:
+                    entries.append(('seen', session, id_))
+            elif kind == 'request':
+                if shown:
+                    entries.append(('asked', session, id_))
+            elif held:
+                if shown:
+                    entries.append(('again', session, id_))
+            elif id_ not in self.wants(contact) and room > 0:
+                room -= 1
+                entries.append(('offered', session, id_))
+        return entries
+
+    # ---- what is due
+    def due(self, session, now):
+        _, contact, mode, _, _ = self.sessions[session]
+        owed = [h.id for h in self.held if self.row(contact, h.id).owed]
+        if owed:
+            return ('acks', owed[:1536])
+        if mode == 'interactive' and self.wants(contact):
+            return ('requests', self.wants(contact)[:1536])
+        sendable = [h for h in self.held
+                    if h.id in self.delivered and self.level(contact, h.group) == 2
+                    and not self.row(contact, h.id).seen and (h.origin == 'self' or self.answer(h)[1])]
+        for h in sendable:
+            row = self.row(contact, h.id)
+            if row.asked if mode == 'interactive' else row.expiry <= now:
+                return ('send', [h.id])
+        if mode == 'interactive':
+            ids = [h.id for h in sendable
+                   if not self.row(contact, h.id).asked and self.row(contact, h.id).expiry <= now]
+            if ids:
+                return ('offers', ids[:1536])
+        return None
+
+
+# ---- bytes of entries, of files and of records
+
+def message_bytes(message):
+    group, timestamp, body = message
+    return group + timestamp.to_bytes(8, 'big') + len(body).to_bytes(2, 'big') + body
+
+
+def entry_bytes(entry):
+    kind, rest = entry[0], entry[1:]
+    if kind == 'contact':
+        return bytes([1, rest[0]])
+    if kind == 'group':
+        name, major, descriptor = rest
+        return (bytes([2, len(name)]) + name + major.to_bytes(4, 'big') + len(descriptor).to_bytes(2, 'big')
+                + descriptor)
+    if kind == 'level':
+        return bytes([3, rest[0]]) + rest[1] + bytes([rest[2]])
+    if kind == 'session':
+        number, contact, mode, latency, nonce = rest
+        return (b'\x04' + number.to_bytes(4, 'big') + bytes([contact, 0 if mode == 'interactive' else 1])
+                + latency.to_bytes(4, 'big') + (b'\x00' if nonce is None else b'\x01' + nonce))
+    if kind == 'take':
+        return b'\x05' + rest[0].to_bytes(4, 'big') + rest[1].to_bytes(8, 'big')
+    if kind == 'author':
+        return b'\x06' + message_bytes(rest[0])
+    if kind == 'arrive':
+        return b'\x07' + rest[0].to_bytes(4, 'big') + message_bytes(rest[1])
+    if kind in ('judged', 'deliver', 'invalid'):
+        return bytes([{'judged': 8, 'deliver': 9, 'invalid': 10}[kind]]) + rest[0]
+    if kind in ('again', 'offered', 'seen', 'asked'):
+        tag = {'again': 11, 'offered': 12, 'seen': 13, 'asked': 14}[kind]
+        return bytes([tag]) + rest[0].to_bytes(4, 'big') + rest[1]
+    session, now, what, ids = rest
+    head = b'\x0f' + session.to_bytes(4, 'big') + now.to_bytes(8, 'big')
+    if what == 'send':
+        return head + b'\x03' + ids[0]
+    return head + bytes([{'acks': 0, 'requests': 1, 'offers': 2}[what]]) + len(ids).to_bytes(2, 'big') + b''.join(ids)
+
+
+def record_bytes(kind, payload):
+    return bytes([0, kind]) + len(payload).to_bytes(2, 'big') + payload
+
+
+REASONS = {'version': 'wrong version', 'long': 'too long', 'empty': 'empty id list', 'ragged': 'ragged id list',
+           'short': 'short message', 'body': 'body too long', 'time': 'bad timestamp', 'versions': 'bad versions',
+           'nonce': 'bad nonce'}
+
+
+def refused_header(kind, length):
+    if length > 49152:
+        return 'long'
+    if kind in (0, 2, 3):
+        return 'empty' if length == 0 else 'ragged' if length % 32 else None
+    if kind == 1:
+        return 'short' if length < 41 else 'body' if length > 32808 else None
+    if kind == 4:
+        return 'versions' if not 1 <= length <= 10 else None
+    if kind == 5:
+        return 'nonce' if length != 16 else None
+    return None
+
+
+def read_one(bytes_):
+    """('more',), ('bad', reason) or (record, number of bytes)."""
+    if not bytes_:
+        return ('more',)
+    if bytes_[0] != 0:
+        return ('bad', 'version')
+    if len(bytes_) < 4:
+        return ('more',)
+    kind, length = bytes_[1], int.from_bytes(bytes_[2:4], 'big')
+    reason = refused_header(kind, length)
+    if reason:
+        return ('bad', reason)
+    if len(bytes_) < 4 + length:
+        return ('more',)
+    payload = bytes_[4:4 + length]
+    if kind == 1:
+        timestamp = int.from_bytes(payload[32:40], 'big')
+        if timestamp >= 2**63:
+            return ('bad', 'time')
+        return (('message', payload[:32], timestamp, payload[40:]), 4 + length)
+    if kind in (0, 2, 3):
+        ids = [payload[i:i + 32] for i in range(0, length, 32)]
+        return (({0: 'ack', 2: 'offer', 3: 'request'}[kind], ids), 4 + length)
+    if kind == 4:
+        return (('versions', payload), 4 + length)
+    if kind == 5:
+        return (('priority', payload), 4 + length)
+    return (('skipped',), 4 + length)
+
+
+# ---- a store
+
+class Store:
+    def __init__(self):
+        self.journal = Journal()
+        self.file = HEADER + CLOSED
+
+    def write(self, batch):
+        payload = b''.join(entry_bytes(e) for e in batch)
+        self.file = self.file[:-1] + OPEN + len(payload).to_bytes(4, 'big') + payload + CLOSED
+
+    def commit(self, batch):
+        self.write(batch)
+        for entry in batch:
+            self.journal.apply(entry)
+
+    def settle(self):
+        while True:
+            batch = []
+            while len(batch) < 256:
+                step = self.journal.next_step()
+                if not step:
+                    break
+                self.journal.apply(step)
+                batch.append(step)
+            if not batch:
+                return
+            self.write(batch)
+
+
+# ---- a host and a run
+
+class Host:
+    def __init__(self):
+        self.answers = {}
+        self.readings, self.nonces = [], []
+        self.failing_dials, self.failing_sends = set(), set()
+        self.dials = self.sends = self.reads = 0
+        self.sent = []
+
+    def now(self):
+        if not self.readings:
+            return 0
+        at = self.readings[min(self.reads, len(self.readings) - 1)]
+        self.reads += 1
+        return at
+
+
+class Link:
+    def __init__(self, session, nonce):
+        self.session, self.nonce = session, nonce
+        self.rest, self.place, self.stands = b'', 0, 'going'
+
+
+class Run:
+    def __init__(self, store, host, turns, quiet, words):
+        self.store, self.host, self.turns, self.quiet, self.words = store, host, turns, quiet, words
+        self.links = []
+
+    def send(self, link, bytes_):
+        number = self.host.sends
+        self.host.sends += 1
+        if number in self.host.failing_sends:
+            self.host.sent[link] += bytes_[:len(bytes_) // 2]
+            return False
+        self.host.sent[link] += bytes_
+        return True
+
+    def dial(self):
+        nonces = []
+        for contact, mode, latency, spec in self.words:
+            number = self.host.dials
+            self.host.dials += 1
+            if number in self.host.failing_dials:
+                return None, len(nonces)
+            self.host.sent.append(b'')
+            nonce = None
+            if mode == 'interactive' and (spec.startswith('tcp:') or spec.startswith('unix:')):
+                if not self.host.nonces:
+                    return None, len(nonces)
+                nonce = self.host.nonces.pop(0)
+            nonces.append(nonce)
+        return nonces, None
+
+    def attach(self, nonces):
+        for i, (contact, mode, latency, _) in enumerate(self.words):
+            number = len(self.store.journal.sessions)
+            self.store.commit([('session', number, contact, mode, latency, nonces[i])])
+            link = Link(number, nonces[i])
+            greeting = [record_bytes(4, b'\x00')] + ([record_bytes(5, nonces[i])] if nonces[i] else [])
+            for bytes_ in greeting:
+                if not self.send(i, bytes_):
+                    link.stands = 'failed'
+                    break
+            self.links.append(link)
+
+    def take(self, link, record, place):
+        j = self.store.journal
+        s = link.session
+        self.store.commit([('take', s, j.takes.get(s, 0))] + j.taken(s, record))
+        self.store.settle()
+        if record[0] == 'priority' and link.nonce is None:
+            link.nonce = record[1]
+        if record[0] == 'versions' and 0 not in record[1]:
+            link.stands = 'no common version at %d' % place
+
+    def items(self, link):
+        while link.stands == 'going':
+            read = read_one(link.rest)
+            if read[0] == 'more':
+                return
+            if read[0] == 'bad':
+                link.stands = 'bad record at %d: %s' % (link.place, REASONS[read[1]])
+                return
+            record, length = read
+            place = link.place
+            link.rest, link.place = link.rest[length:], link.place + length
+            if record[0] != 'skipped':
+                self.take(link, record, place)
+
+    def hear(self, i, link):
+        """Whether the answer was Idle."""
+        script = self.host.answers.get(i, [])
+        answer = script.pop(0) if script else ('end',)
+        if answer[0] == 'idle':
+            return True
+        if answer[0] == 'fail':
+            link.stands = 'failed'
+        elif answer[0] == 'end':
+            read = read_one(link.rest)
+            if read[0] == 'bad':
+                link.stands = 'bad record at %d: %s' % (link.place, REASONS[read[1]])
+            else:
+                link.stands = 'clean' if not link.rest else 'ended inside a record at %d' % link.place
+        else:
+            link.rest += answer[1]
+            self.items(link)
+        return False
+
+    def put(self, i, link):
+        now, j, made = self.host.now(), self.store.journal, 0
+        while made < 64 and link.stands in ('going', 'clean'):
+            due = j.due(link.session, now)
+            if not due:
+                break
+            what, ids = due
+            if what == 'send':
+                h = j.find(ids[0])
+                bytes_ = record_bytes(1, h.group + h.timestamp.to_bytes(8, 'big') + h.body)
+            else:
+                bytes_ = record_bytes({'acks': 0, 'requests': 3, 'offers': 2}[what], b''.join(ids))
+            self.store.commit([('out', link.session, now, what, ids)])
+            made += 1
+            if not self.send(i, bytes_):
+                link.stands = 'failed'
+        return made
+
+    def close_redundant(self):
+        for contact in range(256):
+            known = [(i, l) for i, l in enumerate(self.links)
+                     if l.stands == 'going' and l.nonce is not None and self.words[i][0] == contact]
+            best = max((l.nonce for _, l in known), default=None)
+            kept = next((i for i, l in known if l.nonce == best), None)
+            for i, l in known:
+                if i != kept:
+                    l.stands = 'redundant'
+
+    def turn(self):
+        still = True
+        for i, link in enumerate(self.links):
+            if link.stands == 'going':
+                still = self.hear(i, link) and still
+            if link.stands in ('going', 'clean'):
+                still = self.put(i, link) == 0 and still
+        self.close_redundant()
+        return still
+
+    def play(self):
+        """The status and the error text."""
+        if any(w[0] >= self.store.journal.contacts for w in self.words):
+            return 4, 'refused: unknown contact\n'
+        nonces, failed = self.dial()
+        if nonces is None:
+            return 7, 'link %d: failed\n' % failed
+        self.store.settle()
+        self.attach(nonces)
+        still = made = 0
+        over = False
+        while made < self.turns and not over:
+            still = still + 1 if self.turn() else 0
+            made += 1
+            asked = any(l.stands == 'going' for l in self.links)
+            over = still > 0 and (not asked or self.quiet <= still)
+        lines = [{'going': 'quiet', 'clean': 'clean'}.get(l.stands, l.stands) if over or
+                 l.stands not in ('going', 'clean') else 'unfinished' for l in self.links]
+        bad = next((line for line in lines if line not in ('clean', 'quiet', 'redundant')), None)
+        status = 0 if bad is None else 7 if bad == 'failed' else 11 if bad == 'unfinished' else 9
+        return status, ''.join('link %d: %s\n' % (i, line) for i, line in enumerate(lines))
+
+
+# ---- the cases
+
+def short(bytes_):
+    return bytes_.hex() if len(bytes_) <= 120 else '%d %s' % (len(bytes_), hashlib.blake2b(bytes_, digest_size=32).hexdigest())
+
+
+class Cases:
+    def __init__(self, out):
+        self.out = out
+        self.store, self.host, self.input = Store(), Host(), b''
+
+    def line(self, line):
+        words = line.split(' ')
+        kind = words[0]
+        if kind == 'case':
+            self.store, self.host, self.input = Store(), Host(), b''
+            print(line, file=self.out)
+        elif kind == 'do':
+            self.do(words[1:])
+        elif kind == 'input':
+            self.input = bytes.fromhex(words[1])
+        elif kind == 'got':
+            self.host.answers.setdefault(int(words[1]), []).append(('got', bytes.fromhex(words[2])))
+        elif kind in ('idle', 'end', 'fail'):
+            self.host.answers.setdefault(int(words[1]), []).extend([(kind,)] * int(words[2]))
+        elif kind == 'clock':
+            self.host.readings.append(int(words[1]))
+        elif kind == 'nonce':
+            self.host.nonces.append(bytes.fromhex(words[1]))
+        elif kind == 'faildial':
+            self.host.failing_dials.add(int(words[1]))
+        elif kind == 'failsend':
+            self.host.failing_sends.add(int(words[1]))
+        elif kind == 'sync':
+            self.sync(words)
+        elif kind == 'stops':
+            self.stops(words[1:])
+
+    def do(self, words):
+        j = self.store.journal
+        self.store.settle()
+        if words[0] == 'contact':
+            self.store.commit([('contact', j.contacts)])
+        elif words[0] == 'group':
+            self.store.commit([('group', words[1].encode(), int(words[2]), words[3].encode())])
+        elif words[0] == 'share':
+            level = {'invisible': 0, 'visible': 1, 'shared': 2}[words[3]]
+            self.store.commit([('level', int(words[1]), bytes.fromhex(words[2]), level)])
+        elif words[0] == 'post':
+            self.store.commit([('author', (bytes.fromhex(words[1]), int(words[2]), self.input))])
+            self.store.settle()
+
+    def sync(self, words):
+        links = [(int(words[i]), words[i + 1], int(words[i + 2]), words[i + 3]) for i in range(3, len(words), 4)]
+        run = Run(self.store, self.host, int(words[1]), int(words[2]), links)
+        status, err = run.play()
+        print('status %d' % status, file=self.out)
+        self.out.write(err)
+        for i, sent in enumerate(self.host.sent):
+            if sent:
+                print('sent %d %s' % (i, short(sent)), file=self.out)
+        print('file %s' % short(self.store.file), file=self.out)
+        self.host = Host()
+
+
+    def stops(self, words):
+        """No image is apart; and was something acknowledged before the last call of the disk?"""
+        links = [(int(words[i]), words[i + 1], int(words[i + 2]), words[i + 3]) for i in range(3, len(words), 4)]
+        Run(self.store, self.host, int(words[1]), int(words[2]), links).play()
+        acked = any(kind == 0 for sent in self.host.sent for kind in kinds_of(sent))
+        print('stopped: 0 apart, acknowledged %s' % str(acked).lower(), file=self.out)
+        self.host = Host()
+
+
+def kinds_of(bytes_):
+    while bytes_:
+        yield bytes_[1]
+        bytes_ = bytes_[4 + int.from_bytes(bytes_[2:4], 'big'):]
+
+
+def main():
+    cases = Cases(sys.stdout)
+    for line in open(sys.argv[1], encoding='utf-8'):
+        line = line.rstrip('\n')
+        if line and not line.startswith('#'):
+            cases.line(line)
+
+
+if __name__ == '__main__':
+    main()

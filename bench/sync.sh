@@ -1,0 +1,192 @@
+#!/usr/bin/env bash
+# Times `bsp sync` between two processes over a Unix socket, each on a store of its own on a disk: 20,000 notes of 200 bytes,
+# and 2,000 of 32,000, from one store to one that has none. The time is from the dial to the last byte that the store that hears
+# writes, so the stillness that ends the run is not in it. In the same run come
+# - a bare program that makes the same writes and syncs as the store that hears (bench/bare_append.c), on its own file;
+# - `git fetch` of as many commits, each of a file with as many bytes, into a repository that has none.
+# What the store that hears has at the end is compared with what bench/store_file.py says, and the file of the bare program with
+# its file. Turns and messages a turn are read from the journals (bench/journal.py). Where `strace` is there, a tenth of the notes
+# go over once more under it, which tells how long each side waits for the other and for its disk.
+# MODE (batch) is that of the sessions, LATENCY (600000) theirs in milliseconds, so long that nothing is sent twice; RUNS (1) how
+# many runs are made, in turns with the others; PART (1) takes that part of the notes. In interactive mode a latency of 3000 is
+# enough, but an OFFER names 1,536 ids and a peer wants 1,000 at most: what it let fall is offered again once its time is over,
+# and the time doubles, so the run waits for that, and STILL (100) still turns may be too few.
+# The last lines are `ratio NAME VALUE`, of the least times.
+cd "$(dirname "$0")/.." || exit 1
+bsp=${BSP:-$PWD/crates/bsp/out/bsp}
+if [ ! -x "$bsp" ]; then (cd crates/bsp && rt run -- try note d <stdin >/dev/null) || exit 1; fi
+folder=$(mktemp -d) || exit 1
+trap 'rm -rf "$folder"' EXIT
+case $(stat -f -c %T "$folder") in
+tmpfs | ramfs) echo "$folder is in memory: set TMPDIR to a folder on a disk" && exit 1 ;;
+esac
+cc -O2 -o "$folder/bare_append" bench/bare_append.c || exit 1
+export MODE=${MODE:-batch} LATENCY=${LATENCY:-600000} STILL=${STILL:-100} PYTHONDONTWRITEBYTECODE=1 PYTHONPATH=bench
+python3 - "$bsp" "$folder" "${RUNS:-1}" "${PART:-1}" <<'PY'
+import os, re, shutil, subprocess, sys, time
+
+from journal import ACKS, OFFERS, SEND, entries, frames
+from store_file import Note, file_bytes
+
+bsp, folder, runs, part = sys.argv[1], sys.argv[2], int(sys.argv[3]), float(sys.argv[4])
+mode, latency, still = os.environ['MODE'], os.environ['LATENCY'], os.environ['STILL']
+CASES = (('small', 20_000, 200), ('large', 2_000, 32_000))
+MOST, HEAD = 1_800, 44  # seconds of a run; bytes of a MESSAGE record before its body
+START = file_bytes([])
+
+
+def expect(holds, what):
+    if not holds:
+        sys.exit(f'wrong: {what}')
+
+
+def put(name, content):
+    """A new folder with a store's file of this content, which is on its device."""
+    here = os.path.join(folder, name)
+    shutil.rmtree(here, ignore_errors=True)
+    os.mkdir(here)
+    with open(os.path.join(here, 'bsp.0'), 'wb') as file:
+        file.write(content)
+        file.flush()
+        os.fsync(file.fileno())
+    return here
+
+
+def content_of(here):
+    with open(os.path.join(here, 'bsp.0'), 'rb') as file:
+        return file.read()
+
+
+def begin(here, quiet, spec, before=()):
+    words = (*before, bsp, 'sync', '1000000', str(quiet), '0', mode, latency, spec)
+    return subprocess.Popen(words, cwd=here, stdin=subprocess.DEVNULL, stdout=subprocess.DEVNULL, stderr=subprocess.PIPE)
+
+
+def end(node, lines):
+    """Waits until a node ends by itself, and says how much of the processor it took."""
+    text = node.stderr.read().decode()
+    _, status, usage = os.wait4(node.pid, 0)
+    node.returncode = os.waitstatus_to_exitcode(status)
+    expect(node.returncode == 0 and text in lines, f'status {node.returncode}, {text!r}')
+    return usage.ru_utime + usage.ru_stime
+
+
+def exchange(notes, traces=('', '')):
+    """All notes go from one store to another: seconds on the clock and of each processor, the stores' files, and the begin."""
+    to, source = put('to', START), put('source', file_bytes(notes))
+    before = [('strace', '-f', '-qq', '-y', '-ttt', '-T', '-o', trace) if trace else () for trace in traces]
+    hears = begin(to, 1_000_000, 'unixlisten:../meet', before[0])
+    while not os.path.exists(os.path.join(folder, 'meet')):
+        expect(hears.poll() is None, 'nobody waits')
+        time.sleep(0.001)
+    start = time.time()
+    says = begin(source, still, 'unix:../meet', before[1])
+    said, heard = end(says, ('link 0: quiet\n',)), end(hears, ('link 0: clean\n',))
+    clock = os.path.getmtime(os.path.join(to, 'bsp.0')) - start
+    inbox = subprocess.run((bsp, 'inbox'), cwd=to, capture_output=True, check=True).stdout.decode().splitlines()
+    want = [note.inbox_line().strip().replace(' self ', ' 0 ') for note in notes]
+    expect(sorted(inbox) == sorted(want), 'the notes that came')
+    return clock, said, heard, content_of(to), content_of(source), start
+
+
+def bare(whole):
+    """The writes and syncs of the store that hears, behind what it began with."""
+    here = put('bare', START)
+    payloads = (payload for at, payload in frames(whole) if at >= len(START) - 1)
+    given = b''.join(len(payload).to_bytes(4, 'big') + payload + b'\0' for payload in payloads)
+    start = time.perf_counter()
+    words = (os.path.join(folder, 'bare_append'), 'bsp.0', 'bsp.1')
+    subprocess.run(words, cwd=here, input=given, check=True)
+    clock = time.perf_counter() - start
+    expect(content_of(here) == whole, 'the file of bare_append')
+    return clock
+
+
+def make_commits(notes):
+    """A repository with a commit for each note, whose one file is the note."""
+    here = os.path.join(folder, 'commits')
+    shutil.rmtree(here, ignore_errors=True)
+    subprocess.run(('git', 'init', '-q', '--bare', here), check=True)
+    fed = subprocess.Popen(('git', 'fast-import', '--quiet'), cwd=here, stdin=subprocess.PIPE)
+    for note in notes:
+        head = (f'commit refs/heads/main\ncommitter a <a> {note.time} +0000\ndata 0\ndeleteall\n'
+                f'M 644 inline note\ndata {len(note.body)}\n')
+        fed.stdin.write(head.encode() + note.body + b'\n')
+    fed.stdin.close()
+    expect(fed.wait() == 0, 'fast-import')
+    return here
+
+
+def fetch(source):
+    here = os.path.join(folder, 'fetched')
+    shutil.rmtree(here, ignore_errors=True)
+    subprocess.run(('git', 'init', '-q', '--bare', here), check=True)
+    start = time.perf_counter()
+    subprocess.run(('git', 'fetch', '-q', f'file://{source}', 'main'), cwd=here, check=True)
+    return time.perf_counter() - start
+
+
+def outs(content):
+    """How many messages each output of a session names, for each kind."""
+    told = {kind: [] for kind in (ACKS, OFFERS, SEND)}
+    for _, payload in frames(content):
+        for tag, rest in entries(payload):
+            if tag == 15 and rest[12] in told:
+                told[rest[12]].append(1 if rest[12] == SEND else rest[13] << 8 | rest[14])
+    return told
+
+
+def count_turns(name, notes, hears, says):
+    acks, given = outs(hears)[ACKS], outs(says)
+    print(f'{name}: {len(acks)} turns brought messages, {len(notes) / len(acks):.0f} of them a turn; '
+          f'{len(given[SEND])} messages sent, {len(given[OFFERS])} offers', flush=True)
+
+
+def waits(trace, since, until):
+    """Seconds between two times in which a side waited for the other, sent to it, and waited for its disk."""
+    told = {'peer': 0.0, 'sends': 0.0, 'disk': 0.0}
+    with open(trace, errors='replace') as lines:
+        for line in lines:
+            call = re.match(r'\d+ +([\d.]+) (\w+)\((.*)<([\d.]+)>$', line.rstrip())
+            if not call:
+                continue
+            at, name, rest, seconds = call.groups()
+            if not since <= float(at) <= until - float(seconds):
+                continue
+            if name in ('fsync', 'fdatasync'):
+                told['disk'] += float(seconds)
+            elif re.search(r'<(UNIX|socket)', rest):
+                told['sends' if name in ('write', 'writev', 'sendto', 'sendmsg') else 'peer'] += float(seconds)
+    return told
+
+
+def trace_waits(name, notes):
+    traces = [os.path.join(folder, side) for side in ('trace.hears', 'trace.says')]
+    clock, *_, start = exchange(notes, traces)
+    for side, trace in zip(('hears', 'says'), traces):
+        told = ', '.join(f'{seconds / clock:.0%} {what}' for what, seconds in waits(trace, start, start + clock).items())
+        print(f'{name}, {len(notes)} notes under strace, {clock:.1f} s: the side that {side}: {told}', flush=True)
+
+
+def measure(name, count, size):
+    notes = [Note(at, size) for at in range(max(1, round(count * part)))]
+    told, plain, fetched = [], [], []
+    commits = make_commits(notes)
+    for _ in range(runs):
+        told.append(exchange(notes))
+        plain.append(bare(told[-1][3]))
+        fetched.append(fetch(commits))
+    clock, said, heard, hears, says, _ = min(told)
+    plain, fetched = min(plain), min(fetched)
+    size_of_all = sum(HEAD + len(note.body) for note in notes)
+    print(f'{name}: {len(notes)} notes of {size} bytes in {clock:.2f} s, {size_of_all / clock / 1e6:.2f} MB a second; '
+          f'of the processor {heard:.2f} s to hear, {said:.2f} s to say', flush=True)
+    count_turns(name, notes, hears, says)
+    print(f'{name}: the same writes and syncs {plain:.2f} s, git fetch {fetched:.2f} s', flush=True)
+    if shutil.which('strace'):
+        trace_waits(name, notes[:max(1, len(notes) // 10)])
+    return [f'ratio sync_{name}_bare {clock / plain:.2f}', f'ratio sync_{name}_git {clock / fetched:.1f}']
+
+
+print('\n'.join(line for case in CASES for line in measure(*case)))
+PY
