@@ -72,10 +72,11 @@ fn play_messages<P: Print>(rt: &P, alloc: Global, tally: &mut Tally) -> Result<(
     play_case(rt, alloc, &order, &said, tally)
 }
 
-const WORDS: [(&str, Status, &[u8]); 10] = [
+const WORDS: [(&str, Status, &[u8]); 11] = [
     ("Try note d", Status::Usage, b"usage: word 0\n"),
     ("records x", Status::Usage, b"usage: word 1\n"),
-    ("sync", Status::Usage, b"usage: word 0\n"),
+    ("sync", Status::Usage, b"usage: word 1\n"),
+    ("synch", Status::Usage, b"usage: word 0\n"),
     ("try", Status::Usage, b"usage: word 1\n"),
     ("try  d", Status::Usage, b"usage: word 1\n"),
     ("try note", Status::Usage, b"usage: word 2\n"),
