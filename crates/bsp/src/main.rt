@@ -1,8 +1,7 @@
 //! The program `bsp`: a node of the Bramble Synchronisation Protocol.
 #![tactic(auto)]
 
-mod arguments;
-
+use arguments::words;
 use client_basic::Bundle;
 use outside::Sink;
 use outside_real::{FileHost, StdSink, StdSource};
@@ -13,7 +12,7 @@ use sync_top::{Outcome, report, run};
 fn main(rt: HostRuntime) -> ExitCode {
     let alloc = rt.alloc();
     let mut err = StdSink::new(rt.stderr());
-    let Ok(words) = arguments::words(&rt, alloc) else {
+    let Ok(words) = words(&rt, alloc) else {
         return out_of_memory(&mut err);
     };
     // A system that gives no random bytes has none to give for the tables.

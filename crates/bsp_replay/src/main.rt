@@ -1,8 +1,7 @@
 //! The program `bsp_replay`: plays a script of several devices, or a world that a seed makes.
 #![tactic(auto)]
 
-mod arguments;
-
+use arguments::words;
 use outside::{Sink, write_text};
 use outside_real::{StdSink, StdSource};
 use std::hash::RandomState;
@@ -13,7 +12,7 @@ use sync_world::replay;
 fn main(rt: HostRuntime) -> ExitCode {
     let alloc = rt.alloc();
     let mut err = StdSink::new(rt.stderr());
-    let Ok(words) = arguments::words(&rt, alloc) else {
+    let Ok(words) = words(&rt, alloc) else {
         return out_of_memory(&mut err);
     };
     // A system that gives no random bytes has none to give for the tables.

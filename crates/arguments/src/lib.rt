@@ -1,7 +1,9 @@
-//! The words of the command line.
+//! The words of the command line, for the programs of this repository.
+#![tactic(auto)]
+
 ghost use Rattle.std.specs.Prelude.{◌<◌, length, IfOk};
 ghost use Rattle.std.specs.String.{string_bytes};
-ghost use Rattle.bsp_replay.specs.Arguments.{IsWordOf};
+ghost use Rattle.arguments.specs.Arguments.{IsWordOf};
 
 use std::alloc::{AllocError, Global};
 use std::env::FillError;
