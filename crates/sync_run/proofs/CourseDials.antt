@@ -24,10 +24,11 @@ use Rattle.sync_words.specs.Links.{has_nonce}
 use Rattle.sync_run.specs.declared.dialling.Dialled.{Dialled}
 use Rattle.sync_run.specs.declared.run.Limits.{Limits}
 use Rattle.sync_run.specs.Causes.{FailsAlone, IsCaused, RunCaused}
-use Rattle.sync_run.specs.Courses.{HearsRun, RanToEnd, RunComes, WasBroken, WasFull, unheard}
+use Rattle.sync_run.specs.Courses.{HearsRun, RanToEnd, RunComes, WasBroken, WasFull, terms_of, unheard}
 use Rattle.sync_run.specs.Dialling.{AreDialled, Calms, DialsAll, MakesLinks}
 use Rattle.sync_run.specs.Parts.{RunBroken, RunEnded, RunFilled, RunsOver, sessions_from}
 use Rattle.sync_run.specs.Plans.{ArePlanned}
+use Rattle.sync_run.proofs.EndLaws.{course_by_heard}
 
 -- ---- sessions that words plan
 
@@ -120,6 +121,7 @@ module _ (clients : Meaning) (limits : Limits) (words : List LinkWords) (links :
     hears = hears_dialled words end.events o0 o1 o none makes end.told same;
     reads = end.reads;
     closes = end.closes;
+    by_heard = course_by_heard clients (terms_of limits j) (sessions_from (facts j).begun links) (facts j) end.events end.last end.course;
     quiet = end.quiet;
   }
 

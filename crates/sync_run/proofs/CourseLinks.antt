@@ -62,6 +62,7 @@ module _ (clients : Meaning) (limits : Limits) (words : List LinkWords) (j : Jou
     hears = hears_as ran.events o0 o1 o2 o3 first last ran.hears;
     reads = reads_as clients o2.files o3.files _ files ran.reads;
     closes = ran.closes;
+    by_heard = ran.by_heard;
     quiet = ran.quiet;
   }
 
@@ -118,7 +119,7 @@ reads_still clients two (Some old) (Some new) j is same began =
     let one : old ≡ two = cc in
     (new, refl, ap (stands clients) (same ∙ ap read_files one) ∙ began)
 
-no_links_made : (o o' : Outside) → o'.links ≡ o.links → MakesLinks [] o.links o'.links
+pub no_links_made : (o o' : Outside) → o'.links ≡ o.links → MakesLinks [] o.links o'.links
 no_links_made o o' same = record {
   grows = grow_same o.links o'.links same;
   dialled = (let plain : o.links.dialled ≡ o.links.dialled + 0 = omega arith in ap (λ (l : Links). l.dialled) same ∙ plain);

@@ -10,3 +10,5 @@ mod SafeEnds
 mod SafeTurns
 mod SafeRunning
 mod SafeFull
+mod LeavingLaws
+mod EndLaws

@@ -26,6 +26,7 @@ use Rattle.sync_words.specs.declared.links.LinkEnd.{LinkEnd}
 use Rattle.sync_words.specs.declared.outcome.Outcome.{Outcome}
 use Rattle.sync_words.specs.declared.outcome.Outcome.TheVariants as outcome
 use Rattle.sync_run.specs.declared.run.Limits.{Limits}
+use Rattle.sync_run.specs.Ends.{AllStandByHeard}
 use Rattle.sync_run.specs.Lines.{numbered}
 use Rattle.sync_run.specs.Plans.{ArePlanned}
 
@@ -53,8 +54,8 @@ pub record HearsRun (events : List Event) (old new : Outside) : Type 0 where
 abbrev pub HaveSpecs : List LinkWords → Outside → Type 0
 HaveSpecs words new = (links : List Link) → new.links.told ≡ Some links → IsFront (map (λ (l : Link). l.spec) links) (map (λ (w : LinkWords). w.spec) words)
 
--- The run came to its end: a whole course of the sessions of all words, whose closing the lines are. Where it was over nothing is due
--- on a link that is not closed, and what was heard was taken.
+-- The run came to its end: a whole course of the sessions of all words, whose closing the lines are. Each link stands by what was
+-- heard on it. Where the run was over nothing is due on a link that is not closed, and what was heard was taken.
 pub record RanToEnd (clients : Meaning) (limits : Limits) (words : List LinkWords) (begin : Journal) (old new : Outside) (ends : List LinkEnd) : Type 0 where
   pub sessions : List Session
   pub planned : ArePlanned (facts begin).begun words sessions
@@ -66,6 +67,7 @@ pub record RanToEnd (clients : Meaning) (limits : Limits) (words : List LinkWord
   pub hears : HearsRun events old new
   pub reads : ReadsAs clients new.files (begin ++ batches_of events)
   pub closes : ends ≡ numbered 0 (closing limits.quiet last)
+  pub by_heard : AllStandByHeard last
   pub quiet : is_over limits.quiet last ≡ true → EndsQuiet clients (terms_of limits begin) events last
 
 -- The run was broken off: the course of the sessions of all words, up to any place. Where a session had begun all links were made.

@@ -7,3 +7,5 @@ pub mod Parts
 pub mod Dialling
 pub mod SafeRuns
 pub mod Ran
+pub mod Leaving
+pub mod Ends

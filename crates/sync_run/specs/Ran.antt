@@ -12,6 +12,7 @@ use Rattle.sync_run.specs.declared.run.Limits.{Limits}
 use Rattle.sync_run.specs.Causes.{IsCaused}
 use Rattle.sync_run.specs.Courses.{ComesTo, HaveSpecs}
 use Rattle.sync_run.specs.Headline.{Headline, Rests, SentFull, SentWhole}
+use Rattle.sync_run.specs.Leaving.{LeavesLinks}
 
 -- a run that came to its end comes to its lines
 abbrev pub outcome_of : Result (List LinkEnd) Outcome → Outcome
@@ -33,3 +34,4 @@ pub record HasRun (clients : Meaning) (limits : Limits) (words : List LinkWords)
   pub told : (two : Two File) → old.files ≡ Some two → RanTold clients limits words two old new result
   pub specs : HaveSpecs words new
   pub caused : IsCaused words old new result
+  pub leaves : LeavesLinks words old new result

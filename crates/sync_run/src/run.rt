@@ -19,6 +19,7 @@ ghost use Rattle.sync_words.specs.Links.{AreLinks};
 ghost use Rattle.sync_run.specs.Causes.{FailsAlone, IsCaused, RunCaused};
 ghost use Rattle.sync_run.specs.Courses.{ComesTo, HaveSpecs, RunComes, TestsContacts};
 ghost use Rattle.sync_run.specs.Headline.{Headline, Rests, SentFull, SentWhole};
+ghost use Rattle.sync_run.specs.Leaving.{LeavesLinks};
 ghost use Rattle.sync_run.specs.Parts.{BreaksRun, FullRun, RunsOver, RunsSessions, sessions_from};
 ghost use Rattle.sync_run.specs.SafeRuns.{AllMayBegin, AreUnused, AttachesAll, IsKnown, RunsSafe};
 ghost use Rattle.sync_run.specs.SafeRuns.{SendsFull, SendsWhole, SessionsSafe, SessionsSent, WordsSafe};
@@ -50,9 +51,9 @@ pub struct Limits {
 /// their nonces, settles the journal, begins the sessions in order, and makes turns until the run is
 /// over or all were made. At the end every link is hung up.
 ///
-/// # Errors `NoStore`, `Damaged` and `Refused(UnknownContact)` leave the journal as it is; `Links`
-/// names the one link whose dial or nonce failed, and the journal is as it was; `Full`, `Memory` and
-/// `DiskFault` break the run off.
+/// # Errors `NoStore`, `Damaged` and `Refused(UnknownContact)` leave the journal as it is, and no link
+/// is made; `Links` names the one link whose dial or nonce failed, the journal is as it was, and
+/// nothing was sent or heard; `Full`, `Memory` and `DiskFault` break the run off.
 pub fn sync_links<H: Host, C: Clients>(
     alloc: Global,
     hasher: RandomState,
@@ -78,6 +79,7 @@ pub fn sync_links<H: Host, C: Clients>(
         result }
     ensures specs { HaveSpecs links.now (H.tells host.new) }
     ensures caused { IsCaused links.now (H.tells host.old) (H.tells host.new) result }
+    ensures leaves { LeavesLinks links.now (H.tells host.old) (H.tells host.new) result }
 {
     let store = load_store(alloc, hasher, host, clients)?;
     test_contacts(&store, links)?;
@@ -129,6 +131,7 @@ fn run_links<H: Host, C: Clients>(
         store.state.facts.begun (H.tells host.old) (H.tells host.new) }
     ensures specs { HaveSpecs words.now (H.tells host.new) }
     ensures caused { IsCaused words.now (H.tells host.old) (H.tells host.new) result }
+    ensures leaves { LeavesLinks words.now (H.tells host.old) (H.tells host.new) result }
     ensures comes { (j : Journal) → FitsWith (C.meaning clients.now) store (H.tells host.old).files j
         → RunComes (C.meaning clients.now) limits words.now j (H.tells host.old)
         (H.tells host.new) result }

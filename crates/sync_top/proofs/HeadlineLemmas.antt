@@ -1,5 +1,5 @@
 -- Each moment of a run of sessions is covered, also where memory was wanting before it began.
-use Rattle.std.proofs.Common.{◌≡◌, ℕ, ◌+◌, zero, suc, List, [], ◌∷◌, ◌++◌, length, append-nil, refl, sym, ap, ◌∙◌, subst, inl, inr, arith, Option, Some, None, Result}
+use Rattle.std.proofs.Common.{◌≡◌, ℕ, ◌+◌, List, [], ◌∷◌, ◌++◌, length, append-nil, refl, sym, ap, ◌∙◌, subst, inl, inr, arith, Some, Result}
 use Rattle.std.specs.Prelude.{slice_index_or}
 use Rattle.outside.specs.Files.{Two, File, read_files}
 use Rattle.outside.specs.Links.{Link, sent_of}
@@ -9,7 +9,7 @@ use Rattle.outside.specs.Streams.{Stream}
 use Rattle.sync_rules.specs.Clients.{Meaning}
 use Rattle.sync_rules.specs.Facts.{facts}
 use Rattle.entry_codec.specs.Standing.{journal, stands}
-use Rattle.sync_node.specs.Output.{Journal, output, sent_on}
+use Rattle.sync_node.specs.Output.{Journal, output}
 use Rattle.sync_words.specs.declared.command.Command.TheVariants as command
 use Rattle.sync_words.specs.declared.link_words.LinkWords.{LinkWords}
 use Rattle.sync_words.specs.declared.links.LinkEnd.{LinkEnd}
@@ -19,7 +19,8 @@ use Rattle.sync_words.specs.Reading.Asked.{Usage, Do}
 use Rattle.sync_run.specs.declared.run.Limits.{Limits}
 use Rattle.sync_run.specs.Causes.{IsCaused}
 use Rattle.sync_run.specs.Courses.{HaveSpecs}
-use Rattle.sync_run.specs.Headline.{Headline, HeadlineTold, StandsForRun}
+use Rattle.sync_run.specs.Headline.{Headline, StandsForRun}
+use Rattle.sync_run.specs.Leaving.{LeavesLinks}
 use Rattle.sync_run.specs.Ran.{HasRun, RanTold, outcome_of}
 use Rattle.sync_top.specs.Run.{AsksSync, Comes, Covered, DoesNothing}
 
@@ -78,7 +79,7 @@ covers clients (Do _) old new input input' out out' came unused comes = tt
 pub has_run : (clients : Meaning) (limits : Limits) (words given : List LinkWords) (old new : Outside) (result : Result (List LinkEnd) Outcome) (came : Outcome) → given ≡ words
     → came ≡ outcome_of result → Headline clients given old new
     → ((two : Two File) → old.files ≡ Some two → RanTold clients limits given two old new result) → HaveSpecs given new → IsCaused given old new result
-    → HasRun clients limits words old new came
-has_run clients limits words given old new result came same is headline told specs caused =
+    → LeavesLinks given old new result → HasRun clients limits words old new came
+has_run clients limits words given old new result came same is headline told specs caused leaves =
     subst (λ (w : List LinkWords). HasRun clients limits w old new came) same
-    (record { result = result; is = is; headline = headline; told = told; specs = specs; caused = caused })
+    (record { result = result; is = is; headline = headline; told = told; specs = specs; caused = caused; leaves = leaves })

@@ -4,3 +4,5 @@ pub mod StreamLemmas
 pub mod StateLemmas
 pub mod UndamagedLemmas
 pub mod HeadlineLemmas
+mod CompleteRuns
+mod CompleteLemmas

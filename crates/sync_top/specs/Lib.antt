@@ -4,3 +4,4 @@ pub mod Plays
 pub mod Run
 pub mod States
 pub mod Undamaged
+pub mod Complete

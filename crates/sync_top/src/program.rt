@@ -1,5 +1,6 @@
 // A command from its words to its status.
 ghost use Rattle.std.specs.Prelude.{◌≡◌};
+ghost use Rattle.sync_top.specs.Complete.{Complete};
 ghost use Rattle.sync_top.specs.Run.{AsksSync, Comes, Covered, KeepsHost, Ran, Reports};
 ghost use Rattle.sync_top.specs.States.{TellsWhole};
 ghost use Rattle.sync_top.specs.Undamaged.{NeverDamaged};
@@ -22,7 +23,9 @@ use sync_words::{Command, Outcome, Status, read_words};
 /// Runs the command that the words ask for: it reads `input`, writes its text to `out` and its
 /// line, if it has one, to `err`, and says what it came to. The words are those after the program's
 /// name; `hasher` is for the tables whose keys a stranger chooses. For the words of `sync` no link was
-/// made on the host. A failing `err` never changes the status.
+/// made on the host. A failing `err` never changes the status. Where the tests of a command hold, its
+/// files serve, there is room and no call fails, it is done, unless memory is wanting; but that for
+/// `try` and `records` the bytes decide, and for `sync` its course.
 pub fn run<H: Host, S: Source, W: Sink, E: Sink, C: Clients>(
     alloc: Global,
     hasher: RandomState,
@@ -44,6 +47,9 @@ pub fn run<H: Host, S: Source, W: Sink, E: Sink, C: Clients>(
     ensures host { KeepsHost (asks (texts words.now)) host.old host.new }
     ensures undamaged { NeverDamaged (C.meaning clients.now) (asks (texts words.now))
         (H.tells host.old) (H.tells host.new) }
+    ensures complete { Complete (C.meaning clients.now) (asks (texts words.now)) (H.tells host.old)
+        (H.tells host.new) (S.tells input.old) (S.tells input.new) (W.tells out.old)
+        (W.tells out.new) result }
 {
     // The law that the clause on the states rests on.
     play_says();

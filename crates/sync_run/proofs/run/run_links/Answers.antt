@@ -3,6 +3,7 @@ use Rattle.sync_run.proofs.CourseDials.{dialled_caused, dialled_comes, undialled
 use Rattle.sync_run.specs.declared.dialling.Dialled.{Dialled}
 use Rattle.sync_run.specs.Dialling.{AreDialled}
 use Rattle.sync_run.specs.SafeRuns.{AllMayBegin}
+use Rattle.sync_run.proofs.LeavingLaws.{dialled_leaves, undialled_leaves}
 use Rattle.sync_run.proofs.SafeBegin.{unused_calms}
 use Rattle.sync_run.proofs.SafeRunning.{fails_unsent, made_long, ready_calms, rests_at, rests_ready, specs_kept, specs_made, words_may, words_safe, words_unrun}
 use Rattle.sync_run.proofs.SafeFull.{fails_unfull, full_before}
@@ -84,3 +85,11 @@ returns-in-Ok-clause-sent_full g c = λ is.
 
 pub returns-in-Err-clause-sent_full : goal.returns-in-Err-clause-sent_full
 returns-in-Err-clause-sent_full g c = λ is. absurd (fails_unfull _ _ c.dial_failed.ensures is)
+
+pub returns-in-Ok-clause-leaves : goal.returns-in-Ok-clause-leaves
+returns-in-Ok-clause-leaves g c =
+    dialled_leaves c.args.words.now (g.H.Disk.tells c.args.host.now) (g.H.Disk.tells c.dial_all.new.host) (g.H.Disk.tells c.run_dialled.new.host) c.run_dialled.result c.run_dialled.ensures.caused
+
+pub returns-in-Err-clause-leaves : goal.returns-in-Err-clause-leaves
+returns-in-Err-clause-leaves g c =
+    undialled_leaves c.args.words.now _ (g.H.Disk.tells c.args.host.now) (g.H.Disk.tells c.dial_all.new.host) _ c.len.result _ c.in-Err.ensures.dials c.dial_failed.ensures

@@ -2,6 +2,7 @@ use Rattle.std.proofs.Common.{ap, ◌∙◌}
 use Rattle.outside.specs.Links.{Links}
 use Rattle.sync_node.specs.Going.{specs_of}
 use Rattle.sync_run.proofs.CourseLinks.{links_caused, links_come, refused_caused, refused_comes, unheld_caused, unheld_comes, unloaded_caused, unloaded_comes}
+use Rattle.sync_run.proofs.LeavingLaws.{leaves_as, leaves_same}
 use Rattle.sync_run.proofs.SafeCalm.{err_is}
 use Rattle.sync_run.proofs.SafeEnds.{headline_none}
 use Rattle.sync_run.proofs.SafeRunning.{at_rest_stills, headline_run, load_rests, rests_at, rests_fault, rests_ready, sent_run, specs_disk, specs_kept}
@@ -116,3 +117,20 @@ pub returns-clause-sent_full : goal.returns-clause-sent_full
 returns-clause-sent_full g c = λ two told is.
     full_run _ _ (g.H.Disk.tells c.args.host.now) (g.H.Disk.tells c.load_store.new.disk) (g.H.Disk.tells c.run_links-ended.new.host) (g.H.Disk.tells c.hang_up_all.new.host) c.load_store.ensures.run c.hang_up_all.ensures
     c.in_ok-store.ensures.loaded (c.run_links-ended.ensures.sent_full is) two told
+
+pub returns-in_err-store-clause-leaves : goal.returns-in_err-store-clause-leaves
+returns-in_err-store-clause-leaves g c =
+    leaves_same c.args.links.now (g.H.Disk.tells c.args.host.now) (g.H.Disk.tells c.load_store.new.disk) c.from_residual.result c.load_store.ensures.run.same_links
+
+pub returns-in_err-test_contacts-clause-leaves : goal.returns-in_err-test_contacts-clause-leaves
+returns-in_err-test_contacts-clause-leaves g c =
+    leaves_same c.args.links.now (g.H.Disk.tells c.args.host.now) (g.H.Disk.tells c.load_store.new.disk) c.from_residual-in_err-test_contacts.result c.load_store.ensures.run.same_links
+
+pub returns-in_err-dialled-clause-leaves : goal.returns-in_err-dialled-clause-leaves
+returns-in_err-dialled-clause-leaves g c =
+    leaves_same c.args.links.now (g.H.Disk.tells c.args.host.now) (g.H.Disk.tells c.load_store.new.disk) c.from_residual-in_err-dialled.result c.load_store.ensures.run.same_links
+
+pub returns-clause-leaves : goal.returns-clause-leaves
+returns-clause-leaves g c =
+    leaves_as c.args.links.now (g.H.Disk.tells c.args.host.now) (g.H.Disk.tells c.load_store.new.disk) (g.H.Disk.tells c.run_links-ended.new.host) (g.H.Disk.tells c.hang_up_all.new.host)
+    c.run_links-ended.result c.load_store.ensures.run.same_links c.hang_up_all.ensures.same_links c.run_links-ended.ensures.leaves

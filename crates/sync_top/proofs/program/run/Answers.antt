@@ -1,5 +1,6 @@
 use Rattle.sync_words.specs.Outcomes.{came_to}
 use Rattle.sync_words.specs.Reading.{asks, texts}
+use Rattle.sync_top.proofs.CompleteLemmas.{complete}
 use Rattle.sync_top.proofs.HeadlineLemmas.{covers}
 use Rattle.sync_top.proofs.StateLemmas.{reports_as, tells}
 use Rattle.sync_top.proofs.UndamagedLemmas.{undamaged}
@@ -30,3 +31,8 @@ returns-clause-headline g c =
     covers (g.C.Clients.meaning c.args.clients.now) (asks (texts c.args.words.now)) (g.H.Disk.tells c.args.host.now)
     (g.H.Disk.tells c.command.new.host) _ _ _ _ (came_to c.command.result) c.requires.unused
     c.command.ensures.comes
+
+pub returns-clause-complete : goal.returns-clause-complete
+returns-clause-complete g c =
+    complete (g.C.Clients.meaning c.args.clients.now) (asks (texts c.args.words.now)) _ _ _ _ _ _ _ _ (came_to c.command.result) _ c.command.ensures.comes
+    (reports_as c.of-outcome.result (came_to c.command.result) _ _ _ c.of-outcome.ensures c.report.ensures)

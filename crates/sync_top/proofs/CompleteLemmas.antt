@@ -1,0 +1,252 @@
+-- A command comes to what it should where nothing stands in its way: by what it came to, each other outcome has a cause.
+use Rattle.std.proofs.Common.{◌≡◌, ℕ, ◌+◌, ◌<◌, ◌≤◌, Bool, true, false, List, [], ◌∷◌, ◌++◌, length, take, le-ltb, lt-ltb, refl, sym, ◌∙◌, ap, subst, inl, inr, arith, Option, None, Some, is_some}
+use Rattle.std.specs.Prelude.{◌⊎◌, if◌then◌else◌, nat_lt}
+use Rattle.std.proofs.lemmas.List.{take_all}
+use Rattle.outside.specs.declared.limits.TheConstants.{MAX_JOURNAL}
+use Rattle.outside.specs.Faults.{Rose}
+use Rattle.outside.specs.Files.{Two, File, read_files}
+use Rattle.outside.specs.Outside.{Outside}
+use Rattle.outside.specs.Steps.{told_on}
+use Rattle.outside.specs.Streams.{IsIdle, Stream}
+use Rattle.record_grammar.specs.Stream.{ending}
+use Rattle.record_grammar.specs.declared.stream.Ending.{Ending}
+use Rattle.record_grammar.specs.declared.stream.Ending.TheVariants as ends
+use Rattle.record_grammar.specs.declared.stream.Item.{Item}
+use Rattle.sync_rules.specs.declared.entries.Entry.{Entry}
+use Rattle.sync_rules.specs.declared.states.Refused.TheVariants as refused
+use Rattle.sync_rules.specs.Clients.{Meaning}
+use Rattle.sync_rules.specs.Facts.{Facts, Id, facts, group_at}
+use Rattle.entry_codec.specs.Standing.{Standing, damaged, journal, no_store, stands}
+use Rattle.sync_store.specs.Begin.{has_open}
+use Rattle.sync_words.specs.declared.outcome.Outcome.{Outcome}
+use Rattle.sync_words.specs.declared.outcome.Outcome.TheVariants as outcome
+use Rattle.sync_words.specs.declared.status.Status.{Status}
+use Rattle.sync_words.specs.declared.status.Status.TheVariants as status
+use Rattle.sync_words.specs.Outcomes.{status_of}
+use Rattle.sync_words.specs.Reading.{Asked}
+use Rattle.sync_words.specs.Reading.Asked.{Usage, Do}
+use Rattle.sync_words.specs.declared.command.Command.{Command}
+use Rattle.sync_words.specs.declared.command.Command.TheVariants as command
+use Rattle.store_commands.specs.declared.commit.Settling.{Settling}
+use Rattle.store_commands.specs.declared.commit.Settling.TheVariants as settling
+use Rattle.store_commands.specs.declared.listing.Listing.TheVariants as listing
+use Rattle.store_commands.specs.Commit.{needed_by}
+use Rattle.store_commands.specs.Entries.{HasAdded}
+use Rattle.store_commands.specs.Init.{HasBegun}
+use Rattle.store_commands.specs.Plans.{Plan, adds, contact_plan, group_plan, level_plan, refuses}
+use Rattle.store_commands.specs.Post.{HasPosted, PostsBody}
+use Rattle.store_commands.specs.Show.{HasLooked}
+use Rattle.store_commands.specs.Shown.{Showing, body_shown, denies, listing_shown, shows}
+use Rattle.sync_node.specs.Courses.{ReadsAs}
+use Rattle.sync_top.specs.declared.input.TheConstants.{MAX_INPUT}
+use Rattle.sync_top.specs.Complete.{BytesDecide, ComesOut, Complete, HasRoom, MayAdd, MayPost, MayShow, NothingFails, Serves, status_at, status_by}
+use Rattle.sync_top.specs.Run.{Comes, ComesOfStore, ReadsStream, ReadsWhole, Reports, Streams, TriesClient, outcome_of}
+use Rattle.sync_top.proofs.CompleteRuns.{run_comes_out}
+
+-- ---- the bytes decide
+
+-- what an ending comes to, as a status
+status_same : (e : Ending) → status_of (outcome_of e) ≡ status_at e
+status_same ends.Clean = refl
+status_same (ends.Inside place) = refl
+status_same (ends.Bad place why) = refl
+
+test_by : (b : Bool) (x y : Status) → b ≡ false → (if b then x else y) ≡ y
+test_by false x y is = refl
+test_by true x y is = cc
+
+test_past : (b : Bool) (x y : Status) → b ≡ true → (if b then x else y) ≡ x
+test_past true x y is = refl
+test_past false x y is = cc
+
+one_past : (n : ℕ) → n ≡ MAX_INPUT + 1 → MAX_INPUT < n
+one_past n is = omega (arith, is)
+
+module _ (input input' out out' : Stream) where
+  -- an input that was read to its end
+  whole_decides : (read : List ℕ) (came : Outcome) → ReadsWhole input input' read → outcome_of (ending 0 (take MAX_INPUT read)) ≡ came → status_of came ≡ status_by read
+  whole_decides read came whole is =
+      let all : take MAX_INPUT read ≡ read = take_all MAX_INPUT read whole.within in
+      let few : nat_lt MAX_INPUT (length read) ≡ false = le-ltb MAX_INPUT (length read) whole.within in
+      sym (ap status_of is)
+      ∙ status_same (ending 0 (take MAX_INPUT read))
+      ∙ ap (λ (bytes : List ℕ). status_at (ending 0 bytes)) all
+      ∙ sym (test_by (nat_lt MAX_INPUT (length read)) status.TooMuch (status_at (ending 0 read)) few)
+
+  bytes_decide : (text : List ℕ) (came : Outcome) (told : List Item → List ℕ → Type 0) (r : ReadsStream told input input' out out' came)
+      → (Rose input.faults input'.faults → ⊥) → (Rose out.faults out'.faults → ⊥) → BytesDecide input input' (status_of came)
+  bytes_decide text outcome.Done told r source sink =
+      record { read = r.read; consumed = r.consumed; whole = inl (r.ended.0.at_end, r.ended.0.within); decides = whole_decides r.read outcome.Done r.ended.0 r.ended.1 }
+  bytes_decide text (outcome.Bad place why) told r source sink =
+      record { read = r.read; consumed = r.consumed; whole = inl (r.ended.0.at_end, r.ended.0.within); decides = whole_decides r.read (outcome.Bad place why) r.ended.0 r.ended.1 }
+  bytes_decide text (outcome.Inside place) told r source sink =
+      record { read = r.read; consumed = r.consumed; whole = inl (r.ended.0.at_end, r.ended.0.within); decides = whole_decides r.read (outcome.Inside place) r.ended.0 r.ended.1 }
+  bytes_decide text outcome.TooMuch told r source sink =
+      let past : MAX_INPUT < length r.read = one_past (length r.read) r.ended.0 in
+      let many : nat_lt MAX_INPUT (length r.read) ≡ true = lt-ltb MAX_INPUT (length r.read) past in
+      record {
+        read = r.read;
+        consumed = r.consumed;
+        whole = inr r.ended.0;
+        decides = sym (test_past (nat_lt MAX_INPUT (length r.read)) status.TooMuch (status_at (ending 0 r.read)) many);
+      }
+  bytes_decide text outcome.ReadFault told r source sink = absurd (source r.ended.0)
+  bytes_decide text outcome.WriteFault told r source sink = absurd (sink r.ended.0)
+  bytes_decide text _ told r source sink = absurd r.ended
+
+  streams_decide : (came : Outcome) (told : List Item → List ℕ → Type 0) → Streams told input input' out out' came → (Rose input.faults input'.faults → ⊥) → (Rose out.faults out'.faults → ⊥)
+      → BytesDecide input input' (status_of came) ⊎ (status_of came ≡ status.Memory)
+  streams_decide outcome.Memory told streams source sink = inr refl
+  streams_decide came told streams source sink = inl (bytes_decide [] came told streams source sink)
+
+  tries_decide : (clients : Meaning) (name descriptor : List ℕ) (o : Option ℕ) (came : Outcome) → is_some o ≡ true → TriesClient clients name descriptor o input input' out out' came
+      → (Rose input.faults input'.faults → ⊥) → (Rose out.faults out'.faults → ⊥) → BytesDecide input input' (status_of came) ⊎ (status_of came ≡ status.Memory)
+  tries_decide clients name descriptor None came known tries source sink = cc
+  tries_decide clients name descriptor (Some kind) came known tries source sink = streams_decide came _ tries source sink
+
+-- ---- commands of a store
+
+-- a journal that files stand for is the one that they stand for
+one_journal : (clients : Meaning) (files : Option (Two File)) (two : Two File) (j : List (List Entry)) (standing : Standing) → files ≡ Some two → ReadsAs clients files j
+    → stands clients (read_files two) ≡ standing → standing ≡ journal j
+one_journal clients files two j standing told reads is =
+    let both : Some reads.0 ≡ Some two = sym reads.1 ∙ told in
+    let same : reads.0 ≡ two = cc in
+    sym is ∙ ap (λ (t : Two File). stands clients (read_files t)) (sym same) ∙ reads.2
+
+module _ (clients : Meaning) (old new : Outside) (input input' out out' : Stream) (fails : NothingFails old new input input' out out') where
+  abbrev Done : Outcome → Type 0
+  Done came = (status_of came ≡ status.Done) ⊎ (status_of came ≡ status.Memory)
+
+  begun_done : (came : Outcome) → HasBegun old new out out' came → (two : Two File) → old.files ≡ Some two → has_open two ≡ false → Done came
+  begun_done outcome.Done did two told none = inl refl
+  begun_done outcome.WriteFault did two told none = absurd (fails.sink did.by.0)
+  begun_done outcome.DiskFault did two told none = absurd (fails.disk did.by.0)
+  begun_done outcome.Exists did two told none =
+      let now = told_on old new two did.run.same_told told in
+      absurd (let is : true ≡ false = sym (((did.told two told).ends now.0 now.1).0) ∙ none in cc)
+  begun_done _ did two told none = absurd did.by
+
+  added_done : (plan : Facts → Plan) (asked : Settling) (came : Outcome) → HasAdded clients plan asked old new out out' came → MayAdd clients plan old.files → Done came
+  added_done plan asked outcome.Done did may = inl refl
+  added_done plan asked outcome.Memory did may = inr refl
+  added_done plan asked outcome.WriteFault did may = absurd (fails.sink did.by)
+  added_done plan asked outcome.DiskFault did may = absurd (fails.disk did.by.0)
+  added_done plan asked outcome.NoStore did may =
+      let now = told_on old new may.stood.0 did.run.same_told may.stood.1 in
+      let is : no_store ≡ journal may.before = sym (((did.told may.stood.0 may.stood.1).ends now.0 now.1).0) ∙ may.stood.2 in
+      cc
+  added_done plan asked (outcome.Damaged place) did may =
+      let now = told_on old new may.stood.0 did.run.same_told may.stood.1 in
+      let is : damaged place.file place.at ≡ journal may.before = sym (((did.told may.stood.0 may.stood.1).ends now.0 now.1).0) ∙ may.stood.2 in
+      cc
+  added_done plan asked (outcome.Refused why) did may =
+      let now = told_on old new may.stood.0 did.run.same_told may.stood.1 in
+      let r = ((did.told may.stood.0 may.stood.1).ends now.0 now.1).0 in
+      let both : journal r.before ≡ journal may.before = sym r.stood ∙ may.stood.2 in
+      let same : r.before ≡ may.before = cc in
+      let is : refuses why ≡ adds may.entry = sym r.planned ∙ ap (λ (j : List (List Entry)). plan (facts j)) same ∙ may.planned in
+      cc
+  added_done plan asked outcome.Full did may =
+      let now = told_on old new may.stood.0 did.run.same_told may.stood.1 in
+      let full = (did.told may.stood.0 may.stood.1).ends now.0 now.1 in
+      let both : journal full.before ≡ journal may.before = sym full.stood ∙ may.stood.2 in
+      let same : full.before ≡ may.before = cc in
+      let is : adds full.entry ≡ adds may.entry = sym full.planned ∙ ap (λ (j : List (List Entry)). plan (facts j)) same ∙ may.planned in
+      let one : full.entry ≡ may.entry = cc in
+      let has : HasRoom clients full.before (full.entry ∷ []) =
+      subst (λ (j : List (List Entry)). HasRoom clients j (full.entry ∷ [])) (sym same) (subst (λ (e : Entry). HasRoom clients may.before (e ∷ [])) (sym one) may.room) in
+      let room : needed_by (full.before ++ full.leads.first) (full.entry ∷ []) ≤ MAX_JOURNAL = has full.leads.first full.leads.settles full.leads.settled in
+      absurd (omega (arith, room, full.leads.over))
+  added_done plan asked _ did may = absurd did.by
+
+  looked_done : (shown : Facts → Showing) (came : Outcome) → HasLooked clients shown old new out out' came → MayShow clients shown old.files → Done came
+  looked_done shown outcome.Done did may = inl refl
+  looked_done shown outcome.Memory did may = inr refl
+  looked_done shown outcome.WriteFault did may = absurd (fails.sink did.by)
+  looked_done shown outcome.DiskFault did may = absurd (fails.disk did.by.0)
+  looked_done shown outcome.NoStore did may =
+      let is : no_store ≡ journal may.of = sym (did.told may.stood.0 may.stood.1).ends ∙ may.stood.2 in
+      cc
+  looked_done shown (outcome.Damaged place) did may =
+      let is : damaged place.file place.at ≡ journal may.of = sym (did.told may.stood.0 may.stood.1).ends ∙ may.stood.2 in
+      cc
+  looked_done shown (outcome.Refused why) did may =
+      let r = (did.told may.stood.0 may.stood.1).ends in
+      let both : journal r.of ≡ journal may.of = sym r.stood ∙ may.stood.2 in
+      let same : r.of ≡ may.of = cc in
+      let is : denies why ≡ shows may.text = sym r.is ∙ ap (λ (j : List (List Entry)). shown (facts j)) same ∙ may.is in
+      cc
+  looked_done shown _ did may = absurd did.by
+
+  body_done : (group : Id) (timestamp : ℕ) (came : Outcome) → PostsBody clients group timestamp old new input input' out out' came → MayPost clients group timestamp old.files input input' → Done came
+  body_done group timestamp came did may = added_done _ settling.BeforeAndAfter came did.added (may.may_add did.body did.reads)
+
+  posted_done : (group : Id) (timestamp : ℕ) (came : Outcome) → HasPosted clients group timestamp old new input input' out out' came
+      → MayPost clients group timestamp old.files input input' → Done came
+  posted_done group timestamp outcome.NoStore did may =
+      let is : no_store ≡ journal may.before = sym (did.told may.stood.0 may.stood.1).ends ∙ may.stood.2 in
+      cc
+  posted_done group timestamp (outcome.Damaged place) did may =
+      let is : damaged place.file place.at ≡ journal may.before = sym (did.told may.stood.0 may.stood.1).ends ∙ may.stood.2 in
+      cc
+  posted_done group timestamp (outcome.Refused refused.UnknownGroup) did may =
+      let g = (did.told may.stood.0 may.stood.1).ends in
+      let both : journal g.of ≡ journal may.before = sym g.stood ∙ may.stood.2 in
+      let same : g.of ≡ may.before = cc in
+      let is : true ≡ false = sym may.known ∙ ap (λ (j : List (List Entry)). is_some (group_at (facts j).groups group)) (sym same) ∙ g.known in
+      cc
+  posted_done group timestamp outcome.ReadFault did may = absurd (fails.source did.by)
+  posted_done group timestamp outcome.DiskFault (inl did) may = absurd (fails.disk did.by.0)
+  posted_done group timestamp outcome.DiskFault (inr did) may = absurd (fails.disk did.added.by.0)
+  posted_done group timestamp outcome.Memory did may = inr refl
+  posted_done group timestamp came did may = body_done group timestamp came did may
+
+  -- a command of a store, which may have wanted for memory before it began
+  store_done : (did : Outcome → Type 0) (came : Outcome) → (did came → Done came) → ComesOfStore did old new input input' out out' came → Done came
+  store_done did came done (inl so) = done so
+  store_done did came done (inr none) = inr (ap status_of none.0)
+
+-- ---- all commands
+
+-- what each command comes to
+command_comes_out : (clients : Meaning) (asked : Command) (old new : Outside) (input input' out out' : Stream) (came : Outcome)
+    → Comes clients (Do asked) old new input input' out out' came → Serves clients asked old new input input' → NothingFails old new input input' out out'
+    → ComesOut clients asked old new input input' (status_of came) ⊎ (status_of came ≡ status.Memory)
+command_comes_out clients (command.Try name descriptor) old new input input' out out' came comes serves fails =
+    tries_decide input input' out out' clients name descriptor (clients.kind_of name 0) came serves comes fails.source fails.sink
+command_comes_out clients command.Records old new input input' out out' came comes serves fails = streams_decide input input' out out' came _ comes fails.source fails.sink
+command_comes_out clients command.Init old new input input' out out' came comes serves fails =
+    store_done clients old new input input' out out' fails (λ (o : Outcome). HasBegun old new out out' o × IsIdle input input') came (λ did. begun_done clients old new input input' out out' fails came did.0 serves.0 serves.1 serves.2) comes
+command_comes_out clients command.Contact old new input input' out out' came comes serves fails =
+    store_done clients old new input input' out out' fails (λ (o : Outcome). HasAdded clients contact_plan settling.Before old new out out' o × IsIdle input input') came (λ did. added_done clients old new input input' out out' fails contact_plan settling.Before came did.0 serves) comes
+command_comes_out clients (command.Group name major descriptor) old new input input' out out' came comes serves fails =
+    store_done clients old new input input' out out' fails (λ (o : Outcome). HasAdded clients (λ f. group_plan clients f (record { name = name; major = major; descriptor = descriptor })) settling.Before old new out out' o × IsIdle input input') came
+    (λ did. added_done clients old new input input' out out' fails (λ f. group_plan clients f (record { name = name; major = major; descriptor = descriptor })) settling.Before came did.0 serves) comes
+command_comes_out clients (command.Share contact group level) old new input input' out out' came comes serves fails =
+    store_done clients old new input input' out out' fails (λ (o : Outcome). HasAdded clients (λ f. level_plan f contact group level) settling.Before old new out out' o × IsIdle input input') came
+    (λ did. added_done clients old new input input' out out' fails (λ f. level_plan f contact group level) settling.Before came did.0 serves) comes
+command_comes_out clients (command.Post group timestamp) old new input input' out out' came comes serves fails =
+    store_done clients old new input input' out out' fails (λ (o : Outcome). HasPosted clients group timestamp old new input input' out out' o) came (λ did. posted_done clients old new input input' out out' fails group timestamp came did serves) comes
+command_comes_out clients command.Show old new input input' out out' came comes serves fails =
+    store_done clients old new input input' out out' fails (λ (o : Outcome). HasLooked clients (listing_shown listing.Store) old new out out' o × IsIdle input input') came (λ did. looked_done clients old new input input' out out' fails (listing_shown listing.Store) came did.0 serves) comes
+command_comes_out clients command.Inbox old new input input' out out' came comes serves fails =
+    store_done clients old new input input' out out' fails (λ (o : Outcome). HasLooked clients (listing_shown listing.Inbox) old new out out' o × IsIdle input input') came (λ did. looked_done clients old new input input' out out' fails (listing_shown listing.Inbox) came did.0 serves) comes
+command_comes_out clients (command.Body id) old new input input' out out' came comes serves fails =
+    store_done clients old new input input' out out' fails (λ (o : Outcome). HasLooked clients (body_shown id) old new out out' o × IsIdle input input') came (λ did. looked_done clients old new input input' out out' fails (body_shown id) came did.0 serves) comes
+command_comes_out clients (command.Sync turns quiet links) old new input input' out out' came comes serves fails =
+    elim comes [
+      | inl did ↦ run_comes_out clients (record { turns = turns; quiet = quiet }) links old new fails.disk fails.links came did.0 serves
+      | inr none ↦ inr (ap status_of none.0)
+    ]
+
+comes_out : (clients : Meaning) (words : Asked) (old new : Outside) (input input' out out' : Stream) (came : Outcome) → Comes clients words old new input input' out out' came
+    → Complete clients words old new input input' out out' (status_of came)
+comes_out clients (Usage place) old new input input' out out' came comes = tt
+comes_out clients (Do asked) old new input input' out out' came comes = command_comes_out clients asked old new input input' out out' came comes
+
+-- the status that was given is that of the outcome
+pub complete : (clients : Meaning) (words : Asked) (old new : Outside) (input input' out out' err err' : Stream) (came : Outcome) (given : Status)
+    → Comes clients words old new input input' out out' came → Reports came err err' given → Complete clients words old new input input' out out' given
+complete clients words old new input input' out out' err err' came given comes reports =
+    subst (Complete clients words old new input input' out out') (sym reports.0) (comes_out clients words old new input input' out out' came comes)

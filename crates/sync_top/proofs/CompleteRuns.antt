@@ -1,0 +1,178 @@
+-- A run of sessions comes to what its course decides: each other outcome has a cause.
+use Rattle.std.proofs.Common.{◌≡◌, ℕ, zero, suc, ◌≤◌, Bool, true, false, List, [], ◌∷◌, ◌++◌, refl, sym, ◌∙◌, ap, subst, inl, inr, arith, Some, Result, Ok, Err}
+use Rattle.std.specs.Prelude.{◌⊎◌, slice_get, map, ◌||◌}
+use Rattle.std.specs.List.{list_any}
+use Rattle.outside.specs.declared.limits.TheConstants.{MAX_JOURNAL}
+use Rattle.outside.specs.Faults.{Rose}
+use Rattle.outside.specs.Files.{read_files}
+use Rattle.outside.specs.Outside.{Outside}
+use Rattle.record_grammar.specs.Stream.{ending, records, records_of}
+use Rattle.record_grammar.specs.declared.stream.Ending.TheVariants as ends
+use Rattle.record_grammar.specs.declared.stream.Item.{Item}
+use Rattle.record_grammar.specs.declared.stream.Item.TheVariants as item
+use Rattle.sync_ids.specs.declared.records.Record.{Record}
+use Rattle.sync_rules.specs.declared.entries.Entry.{Entry}
+use Rattle.sync_rules.specs.Clients.{Meaning}
+use Rattle.sync_rules.specs.Facts.{facts}
+use Rattle.entry_codec.specs.Standing.{Standing, damaged, journal, no_store, stands}
+use Rattle.sync_course.specs.declared.ends.LinkEnd as link_end
+use Rattle.sync_course.specs.declared.ends.LinkEnd.TheVariants as end
+use Rattle.sync_course.specs.Closing.{line_for}
+use Rattle.sync_course.specs.Events.{batches_of}
+use Rattle.sync_course.specs.Links.{Link, closes}
+use Rattle.sync_course.specs.Turns.{is_over}
+use Rattle.sync_node.specs.Courses.{ReadsAs}
+use Rattle.store_commands.specs.Commit.{needed_by}
+use Rattle.sync_words.specs.declared.error_lines.LinkText.{LinkText}
+use Rattle.sync_words.specs.declared.error_lines.LinkText.TheVariants as text
+use Rattle.sync_words.specs.declared.link_words.LinkWords.{LinkWords}
+use Rattle.sync_words.specs.declared.links.LinkEnd.{LinkEnd}
+use Rattle.sync_words.specs.declared.outcome.Outcome.{Outcome}
+use Rattle.sync_words.specs.declared.outcome.Outcome.TheVariants as outcome
+use Rattle.sync_words.specs.declared.status.Status.{Status}
+use Rattle.sync_words.specs.declared.status.Status.TheVariants as status
+use Rattle.sync_words.specs.Outcomes.{first_bad, link_status, links_status, status_of}
+use Rattle.sync_run.specs.declared.run.Limits.{Limits}
+use Rattle.sync_run.specs.Causes.{FailuresRose, IsCaused}
+use Rattle.sync_run.specs.Courses.{ComesTo, RanToEnd, WasFull, is_unknown}
+use Rattle.sync_run.specs.Ends.{LacksVersion, StandsByHeard}
+use Rattle.sync_run.specs.Lines.{numbered, text_of}
+use Rattle.sync_run.specs.Ran.{HasRun, outcome_of}
+use Rattle.sync_top.specs.Complete.{AllHeardWell, CourseDecides, HeardWell, MaySync, is_unfailed}
+
+-- ---- the status of links
+
+-- links that all ended well
+all_done : (lines : List LinkEnd) → ((i : ℕ) (e : LinkEnd) → slice_get lines i ≡ Some e → link_status e.ending ≡ status.Done) → links_status lines ≡ status.Done
+all_done [] each = refl
+all_done (e ∷ lines) each =
+    ap (λ (s : Status). first_bad s (links_status lines)) (each zero e refl) ∙ all_done lines (λ i x at. each (suc i) x at)
+
+first_unfailed : (s t : Status) → is_unfailed s ≡ true → is_unfailed t ≡ true → is_unfailed (first_bad s t) ≡ true
+first_unfailed status.Done t first rest = rest
+first_unfailed status.BadStream t first rest = refl
+first_unfailed status.TurnsUsed t first rest = refl
+first_unfailed s t first rest = cc
+
+text_unfailed : (t : LinkText) → (t ≡ text.Failed → ⊥) → is_unfailed (link_status t) ≡ true
+text_unfailed text.Failed fails = absurd (fails refl)
+text_unfailed text.Clean fails = refl
+text_unfailed text.Quiet fails = refl
+text_unfailed text.Redundant fails = refl
+text_unfailed text.Unfinished fails = refl
+text_unfailed (text.Inside place) fails = refl
+text_unfailed (text.Bad place why) fails = refl
+text_unfailed (text.NoVersion place) fails = refl
+
+all_unfailed : (lines : List LinkEnd) → ((i : ℕ) (e : LinkEnd) → slice_get lines i ≡ Some e → e.ending ≡ text.Failed → ⊥) → is_unfailed (links_status lines) ≡ true
+all_unfailed [] each = refl
+all_unfailed (e ∷ lines) each =
+    first_unfailed (link_status e.ending) (links_status lines) (text_unfailed e.ending (each zero e refl)) (all_unfailed lines (λ i x at. each (suc i) x at))
+
+-- ---- links on which all was heard well
+
+-- the line of this place is that of a link of it
+pub record IsLineOf (over : Bool) (links : List Link) (i : ℕ) (e : LinkEnd) : Type 0 where
+  pub link : Link
+  pub there : slice_get links i ≡ Some link
+  pub is : e.ending ≡ text_of (line_for over link.stands)
+
+line_of_link : (over : Bool) (k : ℕ) (links : List Link) (i : ℕ) (e : LinkEnd) → slice_get (numbered k (map (λ (l : Link). line_for over l.stands) links)) i ≡ Some e → IsLineOf over links i e
+line_of_link over k [] i e at = cc
+line_of_link over k (x ∷ links) zero e at =
+    let is : record { link = k; ending = text_of (line_for over x.stands) } ≡ e = cc in
+    record { link = x; there = refl; is = ap (λ (l : LinkEnd). l.ending) (sym is) }
+line_of_link over k (x ∷ links) (suc i) e at =
+    let rest = line_of_link over (suc k) links i e at in
+    record { link = rest.link; there = rest.there; is = rest.is }
+
+-- a VERSIONS among the records heard
+any_front : (front : List Item) (place : ℕ) (r : Record) (behind : List Item) → closes r ≡ true → list_any closes (records_of (front ++ item.One place r ∷ behind)) ≡ true
+unfolding records_of
+any_front [] place r behind is = ap (λ (b : Bool). b || list_any closes (records_of behind)) is
+any_front (item.One at x ∷ front) place r behind is = or_true (closes x) (any_front front place r behind is)
+  where
+    or_true : (b : Bool) → list_any closes (records_of (front ++ item.One place r ∷ behind)) ≡ true → (b || list_any closes (records_of (front ++ item.One place r ∷ behind))) ≡ true
+    or_true true rest = refl
+    or_true false rest = rest
+any_front (item.Skipped at type_byte len ∷ front) place r behind is = any_front front place r behind is
+
+lacks_none : (place : ℕ) (heard : List ℕ) → LacksVersion place heard → list_any closes (records heard) ≡ false → ⊥
+lacks_none place heard lacks none =
+    let some : list_any closes (records heard) ≡ true = ap (λ (its : List Item). list_any closes (records_of its)) lacks.stands ∙ any_front lacks.before place lacks.read lacks.behind lacks.closes_it in
+    let both : true ≡ false = sym some ∙ none in
+    cc
+
+-- the line of a link of a run that is over, which did not fail
+line_done : (stands : link_end.LinkEnd) (heard : List ℕ) → StandsByHeard stands heard → HeardWell heard → (text_of (line_for true stands) ≡ text.Failed → ⊥)
+    → link_status (text_of (line_for true stands)) ≡ status.Done
+line_done end.Going heard by well fails = refl
+line_done end.Clean heard by well fails = refl
+line_done end.Redundant heard by well fails = refl
+line_done (end.Inside place) heard by well fails = let both : ends.Inside place ≡ ends.Clean = sym by ∙ well.whole in cc
+line_done (end.Bad place why) heard by well fails = let both : ends.Bad place why ≡ ends.Clean = sym by ∙ well.whole in cc
+line_done (end.NoVersion place) heard by well fails = absurd (lacks_none place heard by well.versions)
+line_done end.Failed heard by well fails = absurd (fails refl)
+
+module _ (clients : Meaning) (limits : Limits) (words : List LinkWords) (old new : Outside) (disk : Rose old.disk_faults new.disk_faults → ⊥)
+    (links : (link : ℕ) → Rose (old.links.faults link) (new.links.faults link) → ⊥) where
+  abbrev ComesOut : Outcome → Type 0
+  ComesOut came = CourseDecides clients limits words old new (status_of came) ⊎ (status_of came ≡ status.Memory)
+
+  unfailed : (lines : List LinkEnd) → FailuresRose old new lines → (i : ℕ) (e : LinkEnd) → slice_get lines i ≡ Some e → e.ending ≡ text.Failed → ⊥
+  unfailed lines caused i e at failed = links e.link (caused i e at failed)
+
+  module _ (begin : List (List Entry)) (lines : List LinkEnd) (caused : FailuresRose old new lines) (ran : RanToEnd clients limits words begin old new lines) where
+    ran_done : is_over limits.quiet ran.last ≡ true → AllHeardWell ran.last → links_status lines ≡ status.Done
+    ran_done over well =
+        all_done lines (λ i e at.
+        let closed : slice_get (numbered 0 (map (λ (l : Link). line_for (is_over limits.quiet ran.last) l.stands) ran.last.links)) i ≡ Some e =
+        subst (λ (ls : List LinkEnd). slice_get ls i ≡ Some e) ran.closes at in
+        let line = line_of_link (is_over limits.quiet ran.last) 0 ran.last.links i e closed in
+        let is : e.ending ≡ text_of (line_for true line.link.stands) = line.is ∙ ap (λ (b : Bool). text_of (line_for b line.link.stands)) over in
+        ap link_status is
+        ∙ line_done line.link.stands line.link.heard (ran.by_heard i line.link line.there) (well i line.link line.there) (λ failed. unfailed lines caused i e at (is ∙ failed)))
+
+    course_decides : ReadsAs clients old.files begin → CourseDecides clients limits words old new (links_status lines)
+    course_decides stood = record {
+      begin = begin;
+      stood = stood;
+      ends = lines;
+      ran = ran;
+      decides = refl;
+      unfailed = all_unfailed lines (unfailed lines caused);
+      is_done = ran_done;
+    }
+
+  module _ (may : MaySync clients limits words old new) where
+    abbrev stood : Standing
+    stood = stands clients (read_files may.stood.0)
+
+    same_begin : (j : List (List Entry)) → stood ≡ journal j → j ≡ may.begin
+    same_begin j is = let both : journal j ≡ journal may.begin = sym is ∙ may.stood.2 in cc
+
+    result_comes : (r : Result (List LinkEnd) Outcome) (came : Outcome) → came ≡ outcome_of r → IsCaused words old new r → ComesTo clients limits words stood old new r → ComesOut came
+    result_comes (Ok lines) came is caused comes =
+        let ran : RanToEnd clients limits words may.begin old new lines =
+        subst (λ (j : List (List Entry)). RanToEnd clients limits words j old new lines) (same_begin comes.begin comes.began) comes.has in
+        subst ComesOut (sym is) (inl (course_decides may.begin lines caused ran may.stood))
+    result_comes (Err (outcome.Links lines)) came is caused comes = absurd (links caused.link caused.rose)
+    result_comes (Err outcome.DiskFault) came is caused comes = absurd (disk caused)
+    result_comes (Err outcome.Memory) came is caused comes = inr (ap status_of is)
+    result_comes (Err outcome.NoStore) came is caused comes = let both : no_store ≡ journal may.begin = sym comes ∙ may.stood.2 in cc
+    result_comes (Err (outcome.Damaged place)) came is caused comes =
+        let both : damaged place.file place.at ≡ journal may.begin = sym comes ∙ may.stood.2 in cc
+    result_comes (Err (outcome.Refused why)) came is caused comes =
+        let unknown : is_unknown (facts may.begin) words ≡ true =
+        subst (λ (j : List (List Entry)). is_unknown (facts j) words ≡ true) (same_begin comes.1.begin comes.1.began) comes.1.tested in
+        let both : true ≡ false = sym unknown ∙ may.known in
+        cc
+    result_comes (Err outcome.Full) came is caused comes =
+        let full : WasFull clients limits words may.begin old new =
+        subst (λ (j : List (List Entry)). WasFull clients limits words j old new) (same_begin comes.begin comes.began) comes.has in
+        let room : needed_by (may.begin ++ batches_of full.run.events) full.batch ≤ MAX_JOURNAL = may.room full.run full.batch full.next full.steps in
+        absurd (omega (arith, room, full.over))
+    result_comes (Err _) came is caused comes = absurd caused
+
+  pub run_comes_out : (came : Outcome) → HasRun clients limits words old new came → MaySync clients limits words old new → ComesOut came
+  run_comes_out came did may = result_comes may did.result came did.is did.caused (did.told may.stood.0 may.stood.1).comes

@@ -1,0 +1,161 @@
+-- Completeness: a command whose tests hold, whose files serve and which has room is done where no call fails, unless memory is
+-- wanting; but that the bytes decide for `try` and `records`, and the course for `sync`.
+use Rattle.std.specs.Prelude.{◌≡◌, ◌⊎◌, ℕ, ◌+◌, ◌≤◌, Bool, true, false, if◌then◌else◌, nat_lt, List, [], ◌∷◌, ◌++◌, length, Option, Some, is_some, slice_get}
+use Rattle.std.specs.Io.KnownBytes.{Consumes, IsAtEnd}
+use Rattle.std.specs.List.{list_any}
+use Rattle.outside.specs.declared.limits.TheConstants.{MAX_JOURNAL}
+use Rattle.outside.specs.Faults.{Rose}
+use Rattle.outside.specs.Files.{Two, File}
+use Rattle.outside.specs.Outside.{Outside}
+use Rattle.outside.specs.Streams.{Stream}
+use Rattle.record_grammar.specs.Stream.{ending, records}
+use Rattle.record_grammar.specs.declared.stream.Ending.{Ending}
+use Rattle.record_grammar.specs.declared.stream.Ending.TheVariants as ends
+use Rattle.sync_rules.specs.declared.entries.Entry.{Entry}
+use Rattle.sync_rules.specs.Clients.{Meaning}
+use Rattle.sync_rules.specs.Facts.{Facts, Id, after_batches, facts, group_at}
+use Rattle.sync_rules.specs.Legal.{AllSettling}
+use Rattle.sync_rules.specs.Steps.{IsSettled}
+use Rattle.sync_store.specs.Begin.{has_open}
+use Rattle.sync_course.specs.Events.{Commit, batches_of}
+use Rattle.sync_course.specs.Links.{Link, closes}
+use Rattle.sync_course.specs.Turns.{Place, RunStep, is_over}
+use Rattle.sync_node.specs.Courses.{ReadsAs}
+use Rattle.sync_words.specs.declared.command.Command.{Command}
+use Rattle.sync_words.specs.declared.command.Command.TheVariants as command
+use Rattle.sync_words.specs.declared.link_words.LinkWords.{LinkWords}
+use Rattle.sync_words.specs.declared.links.LinkEnd.{LinkEnd}
+use Rattle.sync_words.specs.declared.status.Status.{Status}
+use Rattle.sync_words.specs.declared.status.Status.TheVariants as status
+use Rattle.sync_words.specs.Outcomes.{links_status}
+use Rattle.sync_words.specs.Reading.{Asked}
+use Rattle.sync_words.specs.Reading.Asked.{Usage, Do}
+use Rattle.store_commands.specs.declared.listing.Listing.TheVariants as listing
+use Rattle.store_commands.specs.Commit.{needed_by}
+use Rattle.store_commands.specs.Plans.{Plan, adds, contact_plan, group_plan, level_plan, post_plan}
+use Rattle.store_commands.specs.Post.{IsBody, message_of}
+use Rattle.store_commands.specs.Shown.{Showing, body_shown, listing_shown, shows}
+use Rattle.sync_run.specs.declared.run.Limits.{Limits}
+use Rattle.sync_run.specs.Courses.{RanToEnd, WasBroken, is_unknown, terms_of}
+use Rattle.sync_top.specs.declared.input.TheConstants.{MAX_INPUT}
+
+-- ---- nothing stands in the way
+
+-- no count of faults rose
+pub record NothingFails (old new : Outside) (input input' out out' : Stream) : Type 0 where
+  pub disk : Rose old.disk_faults new.disk_faults → ⊥
+  pub links : (link : ℕ) → Rose (old.links.faults link) (new.links.faults link) → ⊥
+  pub source : Rose input.faults input'.faults → ⊥
+  pub sink : Rose out.faults out'.faults → ⊥
+
+-- behind a journal, however it is settled, there is room for a batch
+abbrev pub HasRoom : Meaning → List (List Entry) → List Entry → Type 0
+HasRoom clients j batch =
+    (first : List (List Entry)) → AllSettling clients (facts j) first → IsSettled clients (after_batches (facts j) first)
+    → needed_by (j ++ first) batch ≤ MAX_JOURNAL
+
+-- the files as they read stand for a journal to which the command plans to add an entry, and there is room for it
+pub record MayAdd (clients : Meaning) (plan : Facts → Plan) (files : Option (Two File)) : Type 0 where
+  pub before : List (List Entry)
+  pub entry : Entry
+  pub stood : ReadsAs clients files before
+  pub planned : plan (facts before) ≡ adds entry
+  pub room : HasRoom clients before (entry ∷ [])
+
+-- the files stand for a journal that knows the group, and the message of the body that is read may be added
+pub record MayPost (clients : Meaning) (group : Id) (timestamp : ℕ) (files : Option (Two File)) (input input' : Stream) : Type 0 where
+  pub before : List (List Entry)
+  pub stood : ReadsAs clients files before
+  pub known : is_some (group_at (facts before).groups group) ≡ true
+  pub may_add : (body : List ℕ) → IsBody input input' body → MayAdd clients (λ f. post_plan clients f (message_of group timestamp body)) files
+
+-- the files stand for a journal of which the command has a text to show
+pub record MayShow (clients : Meaning) (shown : Facts → Showing) (files : Option (Two File)) : Type 0 where
+  pub of : List (List Entry)
+  pub text : List ℕ
+  pub stood : ReadsAs clients files of
+  pub is : shown (facts of) ≡ shows text
+
+-- The files stand for a journal in which each contact of the words is known, and there is room for each batch that comes next in a
+-- course over what was heard.
+pub record MaySync (clients : Meaning) (limits : Limits) (words : List LinkWords) (old new : Outside) : Type 0 where
+  pub begin : List (List Entry)
+  pub stood : ReadsAs clients old.files begin
+  pub known : is_unknown (facts begin) words ≡ false
+  pub room : (was : WasBroken clients limits words begin old new) (batch : List Entry) (next : Place)
+      → RunStep clients (terms_of limits begin) was.last (Commit batch) next → needed_by (begin ++ batches_of was.events) batch ≤ MAX_JOURNAL
+
+-- the tests of a command hold, the files as they read serve it, and there is room
+abbrev pub Serves : Meaning → Command → (old new : Outside) → (input input' : Stream) → Type 0
+Serves clients (command.Try name descriptor) old new input input' = is_some (clients.kind_of name 0) ≡ true
+Serves clients command.Records old new input input' = Unit {0}
+Serves clients command.Init old new input input' = (two : Two File) × (old.files ≡ Some two) × (has_open two ≡ false)
+Serves clients command.Contact old new input input' = MayAdd clients contact_plan old.files
+Serves clients (command.Group name major descriptor) old new input input' =
+    MayAdd clients (λ f. group_plan clients f (record { name = name; major = major; descriptor = descriptor })) old.files
+Serves clients (command.Share contact group level) old new input input' = MayAdd clients (λ f. level_plan f contact group level) old.files
+Serves clients (command.Post group timestamp) old new input input' = MayPost clients group timestamp old.files input input'
+Serves clients command.Show old new input input' = MayShow clients (listing_shown listing.Store) old.files
+Serves clients command.Inbox old new input input' = MayShow clients (listing_shown listing.Inbox) old.files
+Serves clients (command.Body id) old new input input' = MayShow clients (body_shown id) old.files
+Serves clients (command.Sync turns quiet links) old new input input' = MaySync clients (record { turns = turns; quiet = quiet }) links old new
+
+-- ---- what it then comes to
+
+-- by how a stream ends
+abbrev pub status_at : Ending → Status
+status_at ends.Clean = status.Done
+status_at (ends.Inside place) = status.BadStream
+status_at (ends.Bad place why) = status.BadStream
+
+-- by the bytes of an input: they are too many, or it is how they end
+abbrev pub status_by : List ℕ → Status
+status_by read = if nat_lt MAX_INPUT (length read) then status.TooMuch else status_at (ending 0 read)
+
+-- The bytes decide that were read: the whole input, or its first bytes, one more than the greatest length.
+pub record BytesDecide (input input' : Stream) (given : Status) : Type 0 where
+  pub read : List ℕ
+  pub consumed : Consumes input.bytes input'.bytes read
+  pub whole : (IsAtEnd input'.bytes × (length read ≤ MAX_INPUT)) ⊎ (length read ≡ MAX_INPUT + 1)
+  pub decides : given ≡ status_by read
+
+-- whole records were heard, and each VERSIONS among them has the version of this node
+pub record HeardWell (heard : List ℕ) : Type 0 where
+  pub whole : ending 0 heard ≡ ends.Clean
+  pub versions : list_any closes (records heard) ≡ false
+
+abbrev pub AllHeardWell : Place → Type 0
+AllHeardWell p = (i : ℕ) (link : Link) → slice_get p.links i ≡ Some link → HeardWell link.heard
+
+-- a status that a course has none of whose links failed
+abbrev pub is_unfailed : Status → Bool
+is_unfailed status.Done = true
+is_unfailed status.BadStream = true
+is_unfailed status.TurnsUsed = true
+is_unfailed given = false
+
+-- The course decides, by how it closes its links; and all is done where it was over within its turns, and what was heard on each
+-- link was heard well.
+pub record CourseDecides (clients : Meaning) (limits : Limits) (words : List LinkWords) (old new : Outside) (given : Status) : Type 0 where
+  pub begin : List (List Entry)
+  pub stood : ReadsAs clients old.files begin
+  pub ends : List LinkEnd
+  pub ran : RanToEnd clients limits words begin old new ends
+  pub decides : given ≡ links_status ends
+  pub unfailed : is_unfailed given ≡ true
+  pub is_done : is_over limits.quiet ran.last ≡ true → AllHeardWell ran.last → given ≡ status.Done
+
+-- what it is that a command comes to, if memory is not wanting
+abbrev pub ComesOut : Meaning → Command → (old new : Outside) → (input input' : Stream) → Status → Type 0
+ComesOut clients (command.Try name descriptor) old new input input' given = BytesDecide input input' given
+ComesOut clients command.Records old new input input' given = BytesDecide input input' given
+ComesOut clients (command.Sync turns quiet links) old new input input' given = CourseDecides clients (record { turns = turns; quiet = quiet }) links old new given
+ComesOut clients asked old new input input' given = given ≡ status.Done
+
+-- Completeness: where the tests of a command hold, its files serve, there is room, and no call fails, it comes to what it should, or
+-- memory was wanting.
+abbrev pub Complete : Meaning → Asked → (old new : Outside) → (input input' out out' : Stream) → Status → Type 0
+Complete clients (Usage place) old new input input' out out' given = Unit {0}
+Complete clients (Do asked) old new input input' out out' given =
+    Serves clients asked old new input input' → NothingFails old new input input' out out'
+    → ComesOut clients asked old new input input' given ⊎ (given ≡ status.Memory)
