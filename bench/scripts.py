@@ -140,4 +140,5 @@ def main(task):
             out.write(line.encode() + b'\n')
 
 
-main(sys.argv[1])
+if __name__ == '__main__':
+    main(sys.argv[1])
