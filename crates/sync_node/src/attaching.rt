@@ -60,8 +60,8 @@ pub(crate) fn attach_on<H: Host, C: Clients>(
     ensures run { LinksGo links.old.items links.new.items (H.tells host.old)
         (H.tells host.new) }
     ensures limit { store.new.limit ≡ store.old.limit }
-    ensures as_before { IsErrOf result Fault.Full → StaysSame (C.meaning clients.now) store.old store.new
-        (H.tells host.old) (H.tells host.new) }
+    ensures as_before { IsErrOf result Fault.Full → StaysSame (C.meaning clients.now) store.old
+        store.new (H.tells host.old) (H.tells host.new) }
     ensures full { IsErrOf result Fault.Full → FullStart (C.meaning clients.now) session store.old
         store.new (H.tells host.old) (H.tells host.new) }
     ensures fault { IsErrOf result Fault.DiskFault → Rose (H.tells host.old).disk_faults
@@ -107,8 +107,8 @@ fn start<H: Host, C: Clients>(
         → Rose ((H.tells host.old).links.faults number)
         ((H.tells host.new).links.faults number)) }
     ensures limit { store.new.limit ≡ store.old.limit }
-    ensures as_before { IsErrOf result Fault.Full → StaysSame (C.meaning clients.now) store.old store.new
-        (H.tells host.old) (H.tells host.new) }
+    ensures as_before { IsErrOf result Fault.Full → StaysSame (C.meaning clients.now) store.old
+        store.new (H.tells host.old) (H.tells host.new) }
     ensures full { IsErrOf result Fault.Full → FullStart (C.meaning clients.now) session store.old
         store.new (H.tells host.old) (H.tells host.new) }
     ensures fault { IsErrOf result Fault.DiskFault → Rose (H.tells host.old).disk_faults
@@ -145,8 +145,8 @@ fn greet<H: Host>(host: &mut H, number: u8, link: &mut Link, versions: &[u8], pr
     ensures run { LinkGoes number link.old link.new (H.tells host.old) (H.tells host.new) }
     ensures told { GreetsAsCourse number link.old link.new (H.tells host.old)
         (H.tells host.new) }
-    ensures greets { Greets number (versions.now ++ priority.now) link.old link.new (H.tells host.old)
-        (H.tells host.new) }
+    ensures greets { Greets number (versions.now ++ priority.now) link.old link.new (H.tells
+        host.old) (H.tells host.new) }
 {
     cite_laws();
     send_on(host, number, link, versions);

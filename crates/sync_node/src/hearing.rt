@@ -59,8 +59,8 @@ pub(crate) fn receive_on<H: Host, C: Clients>(
         store.old store.new (H.tells host.old) (H.tells host.new)) }
     ensures stays { OnErr result (StaysSafe (C.meaning clients.now) number [] link.old store.old
         store.new (H.tells host.old) (H.tells host.new)) }
-    ensures sent { IsErrOf result Fault.Full → StopsSent (C.meaning clients.now) number [] link.old store.old
-        store.new (H.tells host.old) (H.tells host.new) }
+    ensures sent { IsErrOf result Fault.Full → StopsSent (C.meaning clients.now) number [] link.old
+        store.old store.new (H.tells host.old) (H.tells host.new) }
     ensures run { LinkGoes number link.old link.new (H.tells host.old) (H.tells host.new) }
     ensures limit { store.new.limit ≡ store.old.limit }
     ensures full { length buffer.old ≡ PIECE_LEN → IsErrOf result Fault.Full → HearsFull
@@ -115,8 +115,8 @@ fn take_piece<H: Host, C: Clients>(
         store.old store.new (H.tells host.old) (H.tells host.new)) }
     ensures stays { OnErr result (StaysSafe (C.meaning clients.now) number piece.old link.old
         store.old store.new (H.tells host.old) (H.tells host.new)) }
-    ensures sent { IsErrOf result Fault.Full → StopsSent (C.meaning clients.now) number piece.old link.old
-        store.old store.new (H.tells host.old) (H.tells host.new) }
+    ensures sent { IsErrOf result Fault.Full → StopsSent (C.meaning clients.now) number piece.old
+        link.old store.old store.new (H.tells host.old) (H.tells host.new) }
     ensures run { LinkGoes number link.old link.new (H.tells host.old) (H.tells host.new) }
     ensures limit { store.new.limit ≡ store.old.limit }
     ensures full { IsErrOf result Fault.Full → NextFull (C.meaning clients.now) number piece.old
@@ -159,8 +159,8 @@ fn take_next<H: Host, C: Clients>(
         link.new store.old store.new (H.tells host.old) (H.tells host.new)) }
     ensures stays { OnErr result (StaysSafe (C.meaning clients.now) number piece.old link.old
         store.old store.new (H.tells host.old) (H.tells host.new)) }
-    ensures sent { IsErrOf result Fault.Full → StopsSent (C.meaning clients.now) number piece.old link.old
-        store.old store.new (H.tells host.old) (H.tells host.new) }
+    ensures sent { IsErrOf result Fault.Full → StopsSent (C.meaning clients.now) number piece.old
+        link.old store.old store.new (H.tells host.old) (H.tells host.new) }
     ensures run { LinkGoes number link.old link.new (H.tells host.old) (H.tells host.new) }
     ensures limit { store.new.limit ≡ store.old.limit }
     ensures full { IsErrOf result Fault.Full → NextFull (C.meaning clients.now) number piece.old
@@ -226,8 +226,8 @@ fn take_one<H: Host, C: Clients>(
         (H.tells host.old) (H.tells host.new) }
     ensures run { Goes (H.tells host.old) (H.tells host.new) }
     ensures limit { store.new.limit ≡ store.old.limit }
-    ensures as_before { IsErrOf result Fault.Full → StaysSame (C.meaning clients.now) store.old store.new
-        (H.tells host.old) (H.tells host.new) }
+    ensures as_before { IsErrOf result Fault.Full → StaysSame (C.meaning clients.now) store.old
+        store.new (H.tells host.old) (H.tells host.new) }
     ensures full { IsErrOf result Fault.Full → TakesFull (C.meaning clients.now)
         session.now.number rec store.old store.new (H.tells host.old) (H.tells host.new) }
     ensures fault { IsErrOf result Fault.DiskFault → Rose (H.tells host.old).disk_faults

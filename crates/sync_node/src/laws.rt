@@ -31,9 +31,9 @@ pub fn joined_links_have_read<H: Host>()
 {}
 
 /// End: a run that is safe, wherever it was broken off, leaves files that stand for a journal which
-/// suits it and has all that was sent, now and at each moment since it began, unless a moment is one
-/// from before the run. To hang up keeps it safe, also over a closed store, and further sessions may
-/// be planned that did not begin.
+/// suits it and has all that was sent, now and at each moment since it began, unless a moment is
+/// one from before the run. To hang up keeps it safe, also over a closed store, and further
+/// sessions may be planned that did not begin.
 pub fn runs_end<H: Host>()
     ensures hung_up { HangUpsStaySafe H H.tells }
     ensures plans { PlansWiden H H.tells }

@@ -75,8 +75,8 @@ pub(crate) fn commit<H: Host, C: Clients>(
     ensures run { Goes (H.tells host.old) (H.tells host.new) }
     ensures numbers { IsStore store.new }
     ensures limit { store.new.limit ≡ store.old.limit }
-    ensures as_before { IsErrOf result Fault.Full → StaysSame (C.meaning clients.now) store.old store.new
-        (H.tells host.old) (H.tells host.new) }
+    ensures as_before { IsErrOf result Fault.Full → StaysSame (C.meaning clients.now) store.old
+        store.new (H.tells host.old) (H.tells host.new) }
     ensures full { IsErrOf result Fault.Full → IsOver (C.meaning clients.now) batch store.old
         store.new (H.tells host.old) (H.tells host.new) }
     ensures fault { IsErrOf result Fault.DiskFault → Rose (H.tells host.old).disk_faults

@@ -56,8 +56,8 @@ pub(crate) fn turn_all<H: Host, C: Clients>(
         → OnErr result (LinksSafe (C.meaning clients.now) first links.old store.old store.new
         (H.tells host.old) (H.tells host.new)) }
     ensures sent { (first : ℕ) → AreAttached first links.old store.old.state.facts
-        → IsErrOf result Fault.Full → LinksSent (C.meaning clients.now) first links.old store.old store.new
-        (H.tells host.old) (H.tells host.new) }
+        → IsErrOf result Fault.Full → LinksSent (C.meaning clients.now) first links.old store.old
+        store.new (H.tells host.old) (H.tells host.new) }
     ensures run { LinksGo links.old links.new (H.tells host.old) (H.tells host.new) }
     ensures limit { store.new.limit ≡ store.old.limit }
     ensures full { (first : ℕ) → AreAttached first links.old store.old.state.facts
@@ -103,8 +103,8 @@ fn turn_each<H: Host, C: Clients>(
         → OnErr result (LinksSafe (C.meaning clients.now) first links.old store.old store.new
         (H.tells host.old) (H.tells host.new)) }
     ensures sent { (first : ℕ) → AreAttached first links.old store.old.state.facts
-        → IsErrOf result Fault.Full → LinksSent (C.meaning clients.now) first links.old store.old store.new
-        (H.tells host.old) (H.tells host.new) }
+        → IsErrOf result Fault.Full → LinksSent (C.meaning clients.now) first links.old store.old
+        store.new (H.tells host.old) (H.tells host.new) }
     ensures run { LinksGo links.old links.new (H.tells host.old) (H.tells host.new) }
     ensures limit { store.new.limit ≡ store.old.limit }
     ensures full { (first : ℕ) → AreAttached first links.old store.old.state.facts
@@ -153,8 +153,8 @@ fn turn_link<H: Host, C: Clients>(
         store.old store.new (H.tells host.old) (H.tells host.new)) }
     ensures stays { OnErr result (StaysSafe (C.meaning clients.now) number [] link.old store.old
         store.new (H.tells host.old) (H.tells host.new)) }
-    ensures sent { IsErrOf result Fault.Full → StopsSent (C.meaning clients.now) number [] link.old store.old
-        store.new (H.tells host.old) (H.tells host.new) }
+    ensures sent { IsErrOf result Fault.Full → StopsSent (C.meaning clients.now) number [] link.old
+        store.old store.new (H.tells host.old) (H.tells host.new) }
     ensures run { LinkGoes number link.old link.new (H.tells host.old) (H.tells host.new) }
     ensures limit { store.new.limit ≡ store.old.limit }
     ensures full { length buffer.old ≡ PIECE_LEN → IsErrOf result Fault.Full → HearsFull
@@ -197,8 +197,8 @@ fn hear_now<H: Host, C: Clients>(
         store.old store.new (H.tells host.old) (H.tells host.new)) }
     ensures stays { OnErr result (StaysSafe (C.meaning clients.now) number [] link.old store.old
         store.new (H.tells host.old) (H.tells host.new)) }
-    ensures sent { IsErrOf result Fault.Full → StopsSent (C.meaning clients.now) number [] link.old store.old
-        store.new (H.tells host.old) (H.tells host.new) }
+    ensures sent { IsErrOf result Fault.Full → StopsSent (C.meaning clients.now) number [] link.old
+        store.old store.new (H.tells host.old) (H.tells host.new) }
     ensures run { LinkGoes number link.old link.new (H.tells host.old) (H.tells host.new) }
     ensures limit { store.new.limit ≡ store.old.limit }
     ensures full { length buffer.old ≡ PIECE_LEN → IsErrOf result Fault.Full → HearsFull
@@ -239,8 +239,8 @@ fn send_now<H: Host, C: Clients>(
         store.old store.new (H.tells host.old) (H.tells host.new)) }
     ensures stays { OnErr result (StaysSafe (C.meaning clients.now) number [] link.old store.old
         store.new (H.tells host.old) (H.tells host.new)) }
-    ensures sent { IsErrOf result Fault.Full → StopsSent (C.meaning clients.now) number [] link.old store.old
-        store.new (H.tells host.old) (H.tells host.new) }
+    ensures sent { IsErrOf result Fault.Full → StopsSent (C.meaning clients.now) number [] link.old
+        store.old store.new (H.tells host.old) (H.tells host.new) }
     ensures run { LinkGoes number link.old link.new (H.tells host.old) (H.tells host.new) }
     ensures limit { store.new.limit ≡ store.old.limit }
     ensures full { IsErrOf result Fault.Full → SendsFull (C.meaning clients.now) number link.old

@@ -1,7 +1,7 @@
-//! The command `sync`: sessions of a store over up to eight links, from its load to the lines of the
-//! links (BSP, "Sync modes"). Whatever the links bring, whatever call fails and whenever the device
-//! stops, its store opens to a legal journal that extends the old one and has every byte that was
-//! sent.
+//! The command `sync`: sessions of a store over up to eight links, from its load to the lines of
+//! the links (BSP, "Sync modes"). Whatever the links bring, whatever call fails and whenever the
+//! device stops, its store opens to a legal journal that extends the old one and has every byte
+//! that was sent.
 //!
 //! - `run`: the command.
 //! - `dialling`: links are dialled and nonces drawn, before anything is committed.

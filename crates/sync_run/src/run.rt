@@ -22,7 +22,8 @@ ghost use Rattle.sync_run.specs.Headline.{Headline, Rests, SentFull, SentWhole};
 ghost use Rattle.sync_run.specs.Leaving.{LeavesLinks};
 ghost use Rattle.sync_run.specs.Parts.{BreaksRun, FullRun, RunsOver, RunsSessions, sessions_from};
 ghost use Rattle.sync_run.specs.SafeRuns.{AllMayBegin, AreUnused, AttachesAll, IsKnown, RunsSafe};
-ghost use Rattle.sync_run.specs.SafeRuns.{SendsFull, SendsWhole, SessionsSafe, SessionsSent, WordsSafe};
+ghost use Rattle.sync_run.specs.SafeRuns.{SendsFull, SendsWhole, SessionsSafe, SessionsSent};
+ghost use Rattle.sync_run.specs.SafeRuns.{WordsSafe};
 
 use crate::closing::{close, failed_alone};
 use crate::dialling::{Dialled, dial_all, hang_up_all};
@@ -46,14 +47,14 @@ pub struct Limits {
     pub quiet: u32,
 }
 
-/// Runs a session on each of these links, 1 to 8 of them, over a host on which no link was made, and
-/// answers how the links ended. It loads the store, tests the contacts, dials the links and draws
-/// their nonces, settles the journal, begins the sessions in order, and makes turns until the run is
-/// over or all were made. At the end every link is hung up.
+/// Runs a session on each of these links, 1 to 8 of them, over a host on which no link was made,
+/// and answers how the links ended. It loads the store, tests the contacts, dials the links and
+/// draws their nonces, settles the journal, begins the sessions in order, and makes turns until the
+/// run is over or all were made. At the end every link is hung up.
 ///
-/// # Errors `NoStore`, `Damaged` and `Refused(UnknownContact)` leave the journal as it is, and no link
-/// is made; `Links` names the one link whose dial or nonce failed, the journal is as it was, and
-/// nothing was sent or heard; `Full`, `Memory` and `DiskFault` break the run off.
+/// # Errors `NoStore`, `Damaged` and `Refused(UnknownContact)` leave the journal as it is, and no
+/// link is made; `Links` names the one link whose dial or nonce failed, the journal is as it was,
+/// and nothing was sent or heard; `Full`, `Memory` and `DiskFault` break the run off.
 pub fn sync_links<H: Host, C: Clients>(
     alloc: Global,
     hasher: RandomState,
@@ -132,8 +133,8 @@ fn run_links<H: Host, C: Clients>(
     ensures specs { HaveSpecs words.now (H.tells host.new) }
     ensures caused { IsCaused words.now (H.tells host.old) (H.tells host.new) result }
     ensures leaves { LeavesLinks words.now (H.tells host.old) (H.tells host.new) result }
-    ensures comes { (j : Journal) → FitsWith (C.meaning clients.now) store (H.tells host.old).files j
-        → RunComes (C.meaning clients.now) limits words.now j (H.tells host.old)
+    ensures comes { (j : Journal) → FitsWith (C.meaning clients.now) store (H.tells host.old).files
+        j → RunComes (C.meaning clients.now) limits words.now j (H.tells host.old)
         (H.tells host.new) result }
 {
     match dial_all(host, words, dialled) {
@@ -174,8 +175,8 @@ fn run_dialled<H: Host, C: Clients>(
         store.state.facts.begun (H.tells host.old) (H.tells host.new) }
     ensures run { Goes (H.tells host.old) (H.tells host.new) }
     ensures caused { RunCaused (H.tells host.old) (H.tells host.new) result }
-    ensures course { (j : Journal) → FitsWith (C.meaning clients.now) store (H.tells host.old).files j
-        → RunsOver (C.meaning clients.now) limits (sessions_from (facts j).begun links.now) j
+    ensures course { (j : Journal) → FitsWith (C.meaning clients.now) store (H.tells host.old).files
+        j → RunsOver (C.meaning clients.now) limits (sessions_from (facts j).begun links.now) j
         (H.tells host.old) (H.tells host.new) result }
 {
     // The law of what stands at the end of a run that is over.
@@ -215,8 +216,8 @@ fn run_node<H: Host, C: Clients>(
         (H.tells host.old) (H.tells host.new)) }
     ensures safe { SessionsSafe (C.meaning clients.now) links.now node.old node.new
         (H.tells host.old) (H.tells host.new) }
-    ensures sent { IsErrOf result NodeFault.Full → SessionsSent (C.meaning clients.now) node.old node.new
-        (H.tells host.old) (H.tells host.new) }
+    ensures sent { IsErrOf result NodeFault.Full → SessionsSent (C.meaning clients.now) node.old
+        node.new (H.tells host.old) (H.tells host.new) }
     ensures stays { StaysReady (C.meaning clients.now) node.new (H.tells host.new) result }
     ensures run { Goes (H.tells host.old) (H.tells host.new) }
     ensures cause { FailByCause node.old.links node.new.links (H.tells host.old)

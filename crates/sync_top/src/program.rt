@@ -22,10 +22,10 @@ use sync_words::{Command, Outcome, Status, read_words};
 
 /// Runs the command that the words ask for: it reads `input`, writes its text to `out` and its
 /// line, if it has one, to `err`, and says what it came to. The words are those after the program's
-/// name; `hasher` is for the tables whose keys a stranger chooses. For the words of `sync` no link was
-/// made on the host. A failing `err` never changes the status. Where the tests of a command hold, its
-/// files serve, there is room and no call fails, it is done, unless memory is wanting; but that for
-/// `try` and `records` the bytes decide, and for `sync` its course.
+/// name; `hasher` is for the tables whose keys a stranger chooses. For the words of `sync` no link
+/// was made on the host. A failing `err` never changes the status. Where the tests of a command
+/// hold, its files serve, there is room and no call fails, it is done, unless memory is wanting;
+/// but that for `try` and `records` the bytes decide, and for `sync` its course.
 pub fn run<H: Host, S: Source, W: Sink, E: Sink, C: Clients>(
     alloc: Global,
     hasher: RandomState,
