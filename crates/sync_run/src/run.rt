@@ -52,8 +52,9 @@ pub struct Limits {
 /// draws their nonces, settles the journal, begins the sessions in order, and makes turns until the
 /// run is over or all were made. At the end every link is hung up.
 ///
-/// # Errors `NoStore`, `Damaged` and `Refused(UnknownContact)` leave the journal as it is, and no
-/// link is made; `Links` names the one link whose dial or nonce failed, the journal is as it was,
+/// # Errors
+/// `NoStore`, `Damaged` and `Refused(UnknownContact)` leave the journal as it is, and no link is
+/// made; `Links` names the one link whose dial or nonce failed, the journal is as it was,
 /// and nothing was sent or heard; `Full`, `Memory` and `DiskFault` break the run off.
 pub fn sync_links<H: Host, C: Clients>(
     alloc: Global,
