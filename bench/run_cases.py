@@ -6,7 +6,7 @@ import random
 from digests import group_id, message_id
 from run_model import record_bytes
 
-NOTES, THREADS, FEEDS = (group_id(name, 0, b'd') for name in (b'note', b'thread', b'feed'))
+NOTES, THREADS, FEEDS, CYCLE = (group_id(name, 0, b'd') for name in (b'note', b'thread', b'feed', b'cycle'))
 ROW_8 = '0004000100 00090002aabb 00050010000102030405060708090a0b0c0d0e0f'.replace(' ', '')
 
 
@@ -193,6 +193,17 @@ def named():
 
 # ---- runs that are stopped at each call of the disk
 
+def crossed():
+    case('two messages that wait for each other stay pending, and the runs are done')
+    contacts(2)
+    say('crossed %s %s' % (message_id(CYCLE, 1, b'a').hex(), message_id(CYCLE, 2, b'b').hex()))
+    group('cycle', CYCLE, (0, 'shared'), (1, 'shared'))
+    both = ROW_8[:10] + message(CYCLE, 1, b'a').hex() + message(CYCLE, 2, b'b').hex()
+    say('got 0 ' + both, 'idle 0 3', 'idle 1 3')
+    say('sync 9 2 0 batch 1000 std 1 batch 1000 tcp:x', 'states')
+    say('got 0 ' + both, 'clock 900000', 'clock 900000', 'sync 9 2 0 interactive 1000 std 1 interactive 1000 listen:x', 'states')
+
+
 def stopped():
     case('a run that sends is stopped')
     one_contact()
@@ -300,6 +311,7 @@ class Drawn:
 
 def main():
     named()
+    crossed()
     stopped()
     endings()
     for seed in range(40):

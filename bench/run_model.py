@@ -64,6 +64,7 @@ class Journal:
         self.judged, self.invalid, self.delivered = set(), set(), []
         self.rows = {}
         self.wanted = {}
+        self.crossed = None
 
     # ---- look-ups
     def find(self, id_):
@@ -82,7 +83,13 @@ class Journal:
         return self.wanted.setdefault(contact, [])
 
     def answer(self, held):
+        if self.crossed:
+            return [self.crossed[held.timestamp == 1]], True
         return judge(self.group(held.group)[0], held.body)
+
+    def state(self, held):
+        return ('delivered' if held.id in self.delivered else 'invalid' if held.id in self.invalid else
+                'pending' if held.id in self.judged else 'unknown')
 
     # ---- entries
     def apply(self, entry):
@@ -533,6 +540,11 @@ class Cases:
             print(line, file=self.out)
         elif kind == 'do':
             self.do(words[1:])
+        elif kind == 'crossed':
+            self.store.journal.crossed = [bytes.fromhex(w) for w in words[1:]]
+        elif kind == 'states':
+            for h in self.store.journal.held:
+                print('message %s %s %s' % (h.id.hex(), h.group.hex(), self.store.journal.state(h)), file=self.out)
         elif kind == 'input':
             self.input = bytes.fromhex(words[1])
         elif kind == 'got':

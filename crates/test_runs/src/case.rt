@@ -1,10 +1,12 @@
 //! A case: the files as they stand, and what is to come of the next run.
 
 use crate::command::{Came, command};
+use crate::crossed::Crossed;
 use crate::stage::{Stage, copy_of, decoded};
 use crate::stops::play_stops;
 use anyhow::{Context, Result};
 use bramble_hash::Blake2b;
+use client_basic::Bundle;
 use outside::{LINKS, MemDisk};
 use std::alloc::Global;
 
@@ -18,6 +20,7 @@ pub(crate) struct Case {
     disk: MemDisk,
     input: Vec<u8>,
     prepared: Vec<String>,
+    crossed: Option<Crossed>,
 }
 
 // A disk without files.
@@ -33,16 +36,21 @@ impl Case {
             disk: blank(alloc)?,
             input: Vec::new(alloc),
             prepared: Vec::new(alloc),
+            crossed: None,
         })
     }
 
     /// Plays a line.
     pub(crate) fn play<P: Print>(&mut self, rt: &P, line: &str) -> Result<()> {
+        if line == "states" {
+            return self.tell_states(rt);
+        }
         let (kind, rest) = line.split_once(' ').context("a line of one word")?;
         match kind {
             "case" => self.begin(rt, line),
             "do" => self.obey(rt, rest),
             "input" => self.set_input(rest),
+            "crossed" => self.set_clients(rest),
             "sync" => self.run(rt, line),
             "stops" => self.stop(rt, rest),
             _ => self.prepare(line),
@@ -51,12 +59,18 @@ impl Case {
 
     fn begin<P: Print>(&mut self, rt: &P, line: &str) -> Result<()> {
         self.disk = blank(self.alloc)?;
+        self.crossed = None;
         println!(rt; "{line}")?;
         self.obey(rt, "init")
     }
 
     fn set_input(&mut self, digits: &str) -> Result<()> {
         self.input = decoded(self.alloc, digits)?;
+        Ok(())
+    }
+
+    fn set_clients(&mut self, ids: &str) -> Result<()> {
+        self.crossed = Some(Crossed::of(ids)?);
         Ok(())
     }
 
@@ -83,7 +97,11 @@ impl Case {
     fn came(&mut self, words: &str) -> Result<Came> {
         let alloc = self.alloc;
         let input = std::mem::replace(&mut self.input, Vec::new(alloc));
-        let came = command(alloc, words, self.stage()?, input)?;
+        let stage = self.stage()?;
+        let came = match &self.crossed {
+            Some(clients) => command(alloc, words, stage, input, clients)?,
+            None => command(alloc, words, stage, input, &Bundle::new())?,
+        };
         self.disk = copy_of(alloc, came.host.disk())?;
         self.prepared = Vec::new(alloc);
         Ok(came)
@@ -93,6 +111,17 @@ impl Case {
         let came = self.came(words)?;
         if came.status != 0 {
             println!(rt; "{words}: status {}", came.status)?;
+        }
+        Ok(())
+    }
+
+    // The lines of `show` that tell of messages.
+    fn tell_states<P: Print>(&mut self, rt: &P) -> Result<()> {
+        let shown = String::from_utf8(self.came("show")?.out)?;
+        for line in shown.as_str().split('\n') {
+            if line.starts_with("message ") {
+                println!(rt; "{line}")?;
+            }
         }
         Ok(())
     }

@@ -2,10 +2,10 @@
 
 use crate::stage::Stage;
 use anyhow::Result;
-use client_basic::Bundle;
 use outside::{MemHost, MemRandom, MemSink, MemSource};
 use std::alloc::{AllocError, Global};
 use std::hash::RandomState;
+use sync_rules::Clients;
 use sync_top::run;
 
 /// What a command came to: its status, what it wrote to both outputs, and the host.
@@ -17,8 +17,14 @@ pub(crate) struct Came {
     pub(crate) host: MemHost,
 }
 
-/// Runs the command of these words, with single spaces between them.
-pub(crate) fn command(alloc: Global, words: &str, stage: Stage, input: Vec<u8>) -> Result<Came> {
+/// Runs the command of these words, with single spaces between them, for these clients.
+pub(crate) fn command<C: Clients>(
+    alloc: Global,
+    words: &str,
+    stage: Stage,
+    input: Vec<u8>,
+    clients: &C,
+) -> Result<Came> {
     let hasher = RandomState::new(&MemRandom(0))?;
     let words = words_of(alloc, words)?;
     let mut host = stage.into_host();
@@ -33,7 +39,7 @@ pub(crate) fn command(alloc: Global, words: &str, stage: Stage, input: Vec<u8>) 
         &mut source,
         &mut out,
         &mut err,
-        &Bundle::new(),
+        clients,
     );
     Ok(Came {
         status: status.number(),

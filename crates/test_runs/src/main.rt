@@ -9,7 +9,10 @@
 //! - `got LINK HEX`, `idle LINK N`, `end LINK N`, `fail LINK N`: answers of a link to come.
 //! - `clock N`, `nonce HEX`: a reading of the clock and a nonce to come.
 //! - `faildial K`, `failsend K`: the call of this number, from 0, fails.
+//! - `crossed ID ID`: from now on there is a client of every group, for which a message of time 1
+//!   depends on the second of these ids, and any other one on the first.
 //! - `sync WORDS`: the run whose outcome is printed.
+//! - `states`: the state of each held message is printed, as `show` does.
 //! - `stops WORDS`: the run is stopped at each call of the disk instead, and for each image that a
 //!   crash then leaves it is asked whether it opens to a journal that goes on from the old one and
 //!   holds each message that was acknowledged.
@@ -17,6 +20,7 @@
 
 mod case;
 mod command;
+mod crossed;
 mod stage;
 mod stops;
 

@@ -4,6 +4,7 @@ use crate::case::Case;
 use crate::command::{Came, command};
 use crate::stage::Stage;
 use anyhow::{Context, Result};
+use client_basic::Bundle;
 use outside::{LINKS, MemDisk, Pick};
 use record_grammar::{Found, read_one};
 use std::alloc::Global;
@@ -21,7 +22,7 @@ struct Tally {
 /// Stops the run of these words at each call that it makes, and prints whether an image was apart,
 /// and whether something was acknowledged before some stop.
 pub(crate) fn play_stops<P: Print>(rt: &P, alloc: Global, case: &Case, words: &str) -> Result<()> {
-    let whole = command(alloc, words, case.stage()?, Vec::new(alloc))?;
+    let whole = command(alloc, words, case.stage()?, Vec::new(alloc), &Bundle::new())?;
     let calls = whole.host.disk().calls();
     let mut tally = Tally {
         apart: 0,
@@ -41,7 +42,7 @@ pub(crate) fn play_stops<P: Print>(rt: &P, alloc: Global, case: &Case, words: &s
 fn stop_at(alloc: Global, case: &Case, words: &str, call: u64, tally: &mut Tally) -> Result<()> {
     let mut stage = case.stage()?;
     stage.stop_at(call);
-    let came = command(alloc, words, stage, Vec::new(alloc))?;
+    let came = command(alloc, words, stage, Vec::new(alloc), &Bundle::new())?;
     for pick in PICKS {
         if !is_sound(alloc, case, &came, pick, tally)? {
             tally.apart = tally.apart.saturating_add(1);
@@ -60,7 +61,13 @@ fn is_sound(
 ) -> Result<bool> {
     let image = came.host.disk().image(pick)?;
     let goes_on = goes_on(case.file(), &image);
-    let shown = command(alloc, "show", Stage::over(alloc, image)?, Vec::new(alloc))?;
+    let shown = command(
+        alloc,
+        "show",
+        Stage::over(alloc, image)?,
+        Vec::new(alloc),
+        &Bundle::new(),
+    )?;
     let text = String::from_utf8(shown.out)?;
     let mut holds = true;
     for link in 0..LINKS {
