@@ -22,6 +22,7 @@ use std::io::Read;
 
 // One read takes at most so many bytes, and there are at most so many reads.
 const PIECE_LEN: usize = 65_536;
+
 const MAX_READS: usize = 65_536;
 
 fn main(rt: HostRuntime) -> Result<()> {
