@@ -1,9 +1,10 @@
 #!/usr/bin/env bash
 # Times `bsp_replay`: `gen 7 COUNT` with 5,000 and 20,000 posts, a ring of eight devices in which each device writes 250 messages
 # and all 2,000 come to each, and the peak of memory of `gen 7 100000` for each post. Prints the least processor time of RUNS (3)
-# runs; what each prints is compared with what it must. The last lines are `memory gen VALUE`, bytes for each post of a world of two
-# devices, of which each holds all, `ratio gen VALUE`, how much faster than linear the time grows between the two counts, and
-# `ratio ring VALUE`, the time that a message takes to come to a device of the ring over that in the generated world.
+# runs; what each prints is compared with what it must. The last lines are `memory gen VALUE`, bytes for each post of a world of
+# two devices, of which each holds all; `ratio gen VALUE`, how much faster than linear the time grows between the two counts, which
+# is to be at most 1.2; and `ratio ring VALUE`, the time that a message takes to come to a device of the ring over that in the
+# generated world.
 cd "$(dirname "$0")/.." || exit 1
 replay=${REPLAY:-$PWD/crates/bsp_replay/out/bsp_replay}
 if [ ! -x "$replay" ]; then (cd crates/bsp_replay && rt run -- gen 7 200 >/dev/null) || exit 1; fi
@@ -50,9 +51,10 @@ with tempfile.TemporaryDirectory(dir='/dev/shm') as folder:
     (few, _), (many, _), (round_, _) = least(runs, lambda: generated(FEW), lambda: generated(MANY), play_ring)
 _, memory, *_ = generated(MOST)
 print(f'gen 7 {FEW}: {few:.3f} s; gen 7 {MANY}: {many:.3f} s, {many / MANY * 1e6:.0f} us a post')
-print(f'a ring of {DEVICES} with {DEVICES * EACH} messages: {round_:.3f} s, {round_ / EACH / DEVICES ** 2 * 1e6:.0f} us a message and device')
+step, ring_step = many / MANY / 2, round_ / EACH / DEVICES ** 2
+print(f'a ring of {DEVICES} with {DEVICES * EACH} messages: {round_:.3f} s, {ring_step * 1e6:.0f} us a message and device')
 print(f'gen 7 {MOST}: {memory / 2 ** 20:.0f} MiB')
 print(f'memory gen {memory / MOST:.0f}')
 print(f'ratio gen {many / few / (MANY / FEW):.3f}')
-print(f'ratio ring {(round_ / EACH / DEVICES ** 2) / (many / MANY / 2):.2f}')
+print(f'ratio ring {ring_step / step:.2f}')
 PY

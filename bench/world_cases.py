@@ -38,8 +38,8 @@ PICKS = ('old', 'new', 'zero', 'ones')
 def ordinary():
     case('a note goes by offer, request, message and ack', *HELLO, 'link 0 1 interactive 1000', 'rest 10')
     case('the same, and one device is shown', *HELLO, 'link 0 1 interactive 1000', 'rest 10', 'show 1')
-    case('the same, and both are shown, one of them twice', 'devices 2', *SHOWN, *HELLO[1:], 'link 0 1 interactive 1000', 'rest 10',
-         'show 1', end='')
+    case('the same, and both are shown, one of them twice', 'devices 2', *SHOWN, *HELLO[1:], 'link 0 1 interactive 1000',
+         'rest 10', 'show 1', end='')
     text = 'letters ' * 250
     posts = [f'post 0 0 {n} {n - 1 if n else "-"} {text}' for n in range(40)]
     case('40 replies over two links', 'devices 3', *groups('thread', 3), *shares((0, 1), (1, 2)), *posts,
@@ -78,17 +78,17 @@ def stops():
                  'post 0 0 5 - hello', 'show 0')
     for pick in PICKS:
         for call in range(5):
-            case(f'a group and a level are stopped at call {call}, {pick}', 'devices 2', f'stop 0 {call} {pick}', 'group 0 note d',
-                 f'stop 1 {call} {pick}', 'group 1 note d', 'show 0', 'show 1')
-            case(f'a level is stopped at call {call}, {pick}', *groups_of_two(), f'stop 0 {call} {pick}', 'share 0 1 0 visible',
-                 'show 0')
+            case(f'a group and a level are stopped at call {call}, {pick}', 'devices 2', f'stop 0 {call} {pick}',
+                 'group 0 note d', f'stop 1 {call} {pick}', 'group 1 note d', 'show 0', 'show 1')
+            case(f'a level is stopped at call {call}, {pick}', *groups_of_two(), f'stop 0 {call} {pick}',
+                 'share 0 1 0 visible', 'show 0')
             case(f'a link is stopped at call {call}, {pick}, where it is dialled', *HELLO, f'stop 0 {call} {pick}',
                  'link 0 1 batch 1000', 'rest 5', *SHOWN)
             case(f'a link is stopped at call {call}, {pick}, where it is waited for', *HELLO, f'stop 1 {call} {pick}',
                  'link 0 1 batch 1000', 'rest 5', 'link 0 1 batch 1000', 'rest 5', *SHOWN)
     for call in range(0, 40, 3):
-        case(f'a rest is stopped at call {call}', *HELLO, 'link 0 1 interactive 1000', f'stop 1 {call} {PICKS[call % 4]}', 'rest 9',
-             'link 0 1 interactive 10', 'clock 9000', 'rest 20', *SHOWN)
+        case(f'a rest is stopped at call {call}', *HELLO, 'link 0 1 interactive 1000', f'stop 1 {call} {PICKS[call % 4]}',
+             'rest 9', 'link 0 1 interactive 10', 'clock 9000', 'rest 20', *SHOWN)
     case('a second stop takes the place of the first', *PAIR, 'stop 0 0 old', 'stop 0 9 old', 'post 0 0 5 - hello')
     case('a stop that is far away', *PAIR, 'stop 0 18446744073709551615 old', 'post 0 0 5 - hello')
     case('a stop is for one device', *PAIR, 'stop 1 0 old', 'post 0 0 5 - hello')
@@ -98,7 +98,8 @@ def stops():
     case('a post that was stopped has its label', *THREAD, 'stop 0 1 old', 'post 0 0 5 - lost', 'post 0 0 6 - kept',
          'post 0 0 7 1 reply', 'show 0')
     case('a reply to a post that was stopped', *THREAD, 'stop 0 1 old', 'post 0 0 5 - lost', 'post 0 0 6 0 reply')
-    case('the post that was stopped, again', *THREAD, 'stop 0 1 old', 'post 0 0 5 - lost', 'post 0 0 5 - lost', 'post 0 0 6 0 reply')
+    case('the post that was stopped, again', *THREAD, 'stop 0 1 old', 'post 0 0 5 - lost', 'post 0 0 5 - lost',
+         'post 0 0 6 0 reply')
     case('a group that was stopped has its label', 'devices 2', 'stop 0 1 old', 'group 0 note d', 'group 1 note d',
          'share 1 0 0 shared', 'group 0 note d', 'post 0 0 5 - hello')
     case('a group that was stopped is lacked', 'devices 2', 'stop 0 1 old', 'group 0 note d', 'post 0 0 5 - hello')
@@ -111,8 +112,8 @@ def groups_of_two():
 def links():
     case('swapped', *PAIR, 'post 0 0 5 - one', 'post 0 0 6 - two', 'link 0 1 batch 1000', 'turn 0', 'carry 0 0', 'swap 0 0',
          'carry 0 0', 'turn 1', 'show 1')
-    case('a reply before its parent', *THREAD, 'post 0 0 5 - one', 'post 0 0 6 0 two', 'link 0 1 batch 1000', 'turn 0', 'carry 0 0',
-         'swap 0 0', 'carry 0 0', 'turn 1', 'show 1', 'carry 0 0')
+    case('a reply before its parent', *THREAD, 'post 0 0 5 - one', 'post 0 0 6 0 two', 'link 0 1 batch 1000', 'turn 0',
+         'carry 0 0', 'swap 0 0', 'carry 0 0', 'turn 1', 'show 1', 'carry 0 0')
     case('the reply and then its parent', *THREAD, 'post 0 0 5 - one', 'post 0 0 6 0 two', 'link 0 1 batch 1000', 'turn 0',
          'carry 0 0', 'swap 0 0', 'carry 0 0', 'turn 1', 'carry 0 0', 'turn 1', 'show 1')
     case('what was given is heard after a cut', *SENT, 'carry 0 0', 'carry 0 0', 'cut 0', 'turn 1', 'turn 1', 'show 1')
@@ -127,7 +128,8 @@ def links():
     case('a link that was closed is cut', *HELLO, 'link 0 1 interactive 1000', 'link 0 1 interactive 1000', 'turn 0', 'cut 0')
     case('the other link is not', *HELLO, 'link 0 1 interactive 1000', 'link 0 1 interactive 1000', 'turn 0', 'cut 1')
     case('links both ways', *HELLO, 'link 0 1 interactive 1000', 'link 1 0 interactive 1000', 'rest 20', *SHOWN)
-    case('batch and interactive', *HELLO, 'link 0 1 batch 1000', 'link 1 0 interactive 7', 'post 1 0 5 - other', 'rest 20', *SHOWN)
+    case('batch and interactive', *HELLO, 'link 0 1 batch 1000', 'link 1 0 interactive 7', 'post 1 0 5 - other', 'rest 20',
+         *SHOWN)
     eight = [f'link 0 1 batch {n}' for n in range(1, 9)]
     case('eight links', *HELLO, *eight, 'rest 9', *SHOWN)
     case('a ninth link', *HELLO, *eight, 'link 1 0 batch 9')
@@ -136,8 +138,8 @@ def links():
     case('a device that had a link makes turns', *SENT, 'cut 0', 'stop 1 0 old', 'rest 1', 'post 1 0 5 - mine', 'show 1')
     case('a visible group is not sent on', 'devices 3', *groups('note', 3), *shares((0, 1)), *shares((1, 2), level='visible'),
          'post 0 0 5 - hello', 'link 0 1 batch 9', 'link 1 2 batch 9', 'rest 9', 'share 1 2 0 shared', 'rest 9', 'show 2')
-    case('a feed is not sent on', 'devices 3', *groups('feed', 3), *shares((0, 1), (1, 2)), 'post 0 0 5 - one', 'post 0 0 6 0 two',
-         'link 0 1 interactive 9', 'link 1 2 interactive 9', 'rest 20', 'show 1', 'show 2')
+    case('a feed is not sent on', 'devices 3', *groups('feed', 3), *shares((0, 1), (1, 2)), 'post 0 0 5 - one',
+         'post 0 0 6 0 two', 'link 0 1 interactive 9', 'link 1 2 interactive 9', 'rest 20', 'show 1', 'show 2')
     case('an invisible group is not taken', 'devices 2', *groups('note', 2), 'share 0 1 0 shared', 'post 0 0 5 - hello',
          'link 0 1 batch 9', 'rest 9', 'show 1')
     large = ['x' * 32_768, 'y' * 30_000, 'z' * 32_000]
@@ -190,9 +192,9 @@ def refusals():
     bad('a second cut', [*LINKED, 'cut 0'], 'cut 0')
     bad('a cut after a restart', [*LINKED, 'restart 1'], 'cut 0')
     bad('a cut of no link', LINKED, 'cut 1')
-    for line in ('group 2 note d', 'share 2 0 0 shared', 'share 0 2 0 shared', 'share 0 1 1 shared', 'post 2 0 5 - x', 'post 0 1 5 - x',
-                 'link 2 0 batch 9', 'link 0 2 batch 9', 'turn 2', 'turn 7', 'stop 2 0 old', 'restart 2', 'show 2',
-                 'post 0 18446744073709551615 5 - x', 'cut 18446744073709551615', 'carry 18446744073709551615 0'):
+    for line in ('group 2 note d', 'share 2 0 0 shared', 'share 0 2 0 shared', 'share 0 1 1 shared', 'post 2 0 5 - x',
+                 'post 0 1 5 - x', 'link 2 0 batch 9', 'link 0 2 batch 9', 'turn 2', 'turn 7', 'stop 2 0 old', 'restart 2',
+                 'show 2', 'post 0 18446744073709551615 5 - x', 'cut 18446744073709551615', 'carry 18446744073709551615 0'):
         bad(line, LINKED, line)
     many = ['devices 2', *[f'group 0 note {n}' for n in range(1024)]]
     bad('a group too many', many, 'group 0 note more')
@@ -205,23 +207,26 @@ def refusals():
 
 
 def forms():
-    lines = ['turn', 'turn ', 'turn 0 ', 'turn  0', ' turn 0', 'turn 0 0', 'turn\t0', 'turn 0\r', 'turn 00', 'turn 01', 'turn +0', 'turn 8',
-             'turn 18446744073709551616', 'Turn 0', 'walk 0', ' ', '#', 'devices 2', 'group 0 note', 'group 0 note ', 'group 0 chat d',
-             'group 0 note d e', 'share 0 1 0', 'share 0 1 0 open', 'post 0 0 5 -', 'post 0 0 5 - ', 'post 0 0 5  x', 'post 0 0 5 0, x',
-             'post 0 0 5 -1 x', 'post 0 0 9223372036854775808 - x', 'link 0 1 batch 0', 'link 0 1 batch 4294967296', 'link 0 1 fast 9',
-             'link 0 1 batch', 'carry 0', 'carry 0 0 0', 'cut', 'clock', 'clock 18446744073709551616', 'stop 0 0', 'stop 0 0 any',
-             'stop 0 18446744073709551616 old', 'restart', 'rest 0', 'rest 1000001', 'rest', 'show', b'post 0 0 6 - \xff',
-             b'group 0 note \xc3', b'\xff', b'\xef\xbb\xbfturn 0']
+    lines = ['turn', 'turn ', 'turn 0 ', 'turn  0', ' turn 0', 'turn 0 0', 'turn\t0', 'turn 0\r', 'turn 00', 'turn 01',
+             'turn +0', 'turn 8', 'turn 18446744073709551616', 'Turn 0', 'walk 0', ' ', '#', 'devices 2', 'group 0 note',
+             'group 0 note ', 'group 0 chat d', 'group 0 note d e', 'share 0 1 0', 'share 0 1 0 open', 'post 0 0 5 -',
+             'post 0 0 5 - ', 'post 0 0 5  x', 'post 0 0 5 0, x', 'post 0 0 5 -1 x', 'post 0 0 9223372036854775808 - x',
+             'link 0 1 batch 0', 'link 0 1 batch 4294967296', 'link 0 1 fast 9', 'link 0 1 batch', 'carry 0', 'carry 0 0 0',
+             'cut', 'clock', 'clock 18446744073709551616', 'stop 0 0', 'stop 0 0 any', 'stop 0 18446744073709551616 old',
+             'restart', 'rest 0', 'rest 1000001', 'rest', 'show', b'post 0 0 6 - \xff', b'group 0 note \xc3', b'\xff',
+             b'\xef\xbb\xbfturn 0']
     for place, line in enumerate(lines):
         bad(f'form {place}', LINKED, line)
     case('no script')
     case('a script of empty lines', '', '', '')
     case('a script of spaces', ' ')
-    for first in ('turn 0', 'devices', 'devices 1', 'devices 9', 'devices 02', 'devices 2 ', 'devices 2\r', 'Devices 2', b'\xff'):
-        case('a first line that is another', '', '', first, 'turn 0')
+    for place, first in enumerate(['turn 0', 'devices', 'devices 1', 'devices 9', 'devices 02', 'devices 2 ', 'devices 2\r',
+                                  'Devices 2', b'\xff']):
+        case(f'first line {place}', '', '', first, 'turn 0')
     case('devices alone', 'devices 8', end='')
     case('empty lines are counted', '', *PAIR[:1], '', *PAIR[1:], '', '', 'turn 9')
-    case('texts with spaces', *PAIR, 'post 0 0 5 -  ', 'post 0 0 5 -  two  spaces ', b'post 0 0 5 - \xe2\x82\xac\r', 'show 0', end='')
+    case('texts with spaces', *PAIR, 'post 0 0 5 -  ', 'post 0 0 5 -  two  spaces ', b'post 0 0 5 - \xe2\x82\xac\r', 'show 0',
+         end='')
     case('a word that is not plain', 'devices 2', b'group 0 note \xc3\xa9', 'show 0')
     case('the longest script', 'devices 2', how='longest')
     case('a script that is too long', 'devices 2', how='too long')
@@ -229,8 +234,9 @@ def forms():
 
 
 def words():
-    for asked in ('gen', 'gen 7', 'gen x 5', 'gen x', 'gen 7 0', 'gen 7 x', 'gen 7 100001', 'gen 7 5 x', 'gen 7 5 6 7', 'Gen 7 5', 'x', 'gen  7',
-                  'gen 18446744073709551616 5', 'gen 07 5', 'gen 7 05', 'gen -1 5', 'gen 7 18446744073709551617'):
+    for asked in ('gen', 'gen 7', 'gen x 5', 'gen x', 'gen 7 0', 'gen 7 x', 'gen 7 100001', 'gen 7 5 x', 'gen 7 5 6 7',
+                  'Gen 7 5', 'x', 'gen  7', 'gen 18446744073709551616 5', 'gen 07 5', 'gen 7 05', 'gen -1 5',
+                  'gen 7 18446744073709551617'):
         case(f'words: {asked}', *PAIR, words=asked)
     for asked in ('gen 7 200', 'gen 0 1', 'gen 18446744073709551615 101', 'gen 1 100'):
         case(f'words: {asked}', 'this is not read', words=asked)

@@ -8,13 +8,12 @@ with it: nodes are those of run_model.py, scripts are read by scripts.py, a disk
 What a case is stands in crates/test_worlds/src/main.rt. Where a case's name ends with `checked`, what holds of all devices is
 looked for behind each step.
 """
-import os
 import re
 import sys
 
 from digests import group_id, message_id
 from journal import entries, frames
-from run_model import Host, Journal, Link, Run, Store, entry_bytes, judge, message_bytes, record_bytes
+from run_model import Host, Journal, Link, Run, Store, entry_bytes, judge, record_bytes
 from scripts import generated, has_form, is_number
 from store_file import CLOSED, HEADER, OPEN
 
