@@ -19,9 +19,13 @@ pub struct World {
 }
 
 impl Model for World {
+    ghost use Rattle.std.specs.Coded.{codes};
     ghost use Rattle.sync_world.specs.declared.stage.Stage.{Stage};
+    ghost use Rattle.world_devices.specs.Devices.{device_code};
 
     ghost Value = { Stage };
+
+    ghost coded = { Prim.hlevel (codes, device_code) };
 
     ghost view = { λ w. w.stage };
 }
