@@ -1,1 +1,4 @@
 pub mod MovingLaws
+pub mod PlayingLemmas
+pub mod PrintLemmas
+pub mod ShowLemmas

@@ -1,6 +1,8 @@
 //! What the words ask for.
-ghost use Rattle.std.specs.Prelude.{◌≤◌, IfOk};
-ghost use Rattle.sync_world.specs.Asking.{IsWithin};
+ghost use Rattle.std.specs.Prelude.{◌≡◌, IfOk};
+ghost use Rattle.sync_words.specs.Reading.{texts};
+ghost use Rattle.sync_world.specs.Asking.{IsWithin, answer_of, asks, count_asked, wants};
+ghost use Rattle.sync_world.specs.Asking.{world_asked};
 
 use sync_words::{Outcome, number};
 use world_scripts::MAX_POSTS;
@@ -17,7 +19,8 @@ pub(crate) enum Asked {
 /// Reads the words: none, or `gen SEED COUNT`. The first wrong word is named, or the number of
 /// words where one is missing.
 pub(crate) fn read_words(words: &[String]) -> Result<Asked, Outcome>
-    ensures { IfOk result IsWithin }
+    ensures asked { result ≡ answer_of (asks (texts words.now)) }
+    ensures within { IfOk result IsWithin }
 {
     let [name, rest @ ..] = words else {
         return Ok(Asked::Script);
@@ -25,26 +28,46 @@ pub(crate) fn read_words(words: &[String]) -> Result<Asked, Outcome>
     if name.as_str() != "gen" {
         return Err(Outcome::Usage(0));
     }
-    let seed = number_at(rest, 0, u64::MAX)?;
-    let count = number_at(rest, 1, u64::from(MAX_POSTS))?;
-    if count == 0 {
-        return Err(Outcome::Usage(2));
-    }
-    if rest.len() > 2 {
-        return Err(Outcome::Usage(3));
-    }
-    Ok(Asked::Generated(seed, count as u32))
+    read_world(rest)
 }
 
-// The number that stands at this place behind the first word.
-fn number_at(words: &[String], place: usize, most: u64) -> Result<u64, Outcome>
-    ensures { IfOk result (λ n. n ≤ most) }
+// Reads the words behind `gen`.
+fn read_world(words: &[String]) -> Result<Asked, Outcome>
+    ensures asked { result ≡ answer_of (world_asked (texts words.now)) }
+    ensures within { IfOk result IsWithin }
 {
-    let Some(word) = words.get(place) else {
-        return Err(Outcome::Usage(words.len() + 1));
+    let [word, rest @ ..] = words else {
+        return Err(Outcome::Usage(1));
     };
-    match number(word.as_str(), most) {
-        Some(n) => Ok(n),
-        None => Err(Outcome::Usage(place + 1)),
+    match number(word.as_str(), u64::MAX) {
+        Some(seed) => read_count(seed, rest),
+        None => Err(Outcome::Usage(1)),
+    }
+}
+
+// Reads the words behind the seed.
+fn read_count(seed: u64, words: &[String]) -> Result<Asked, Outcome>
+    ensures asked { result ≡ answer_of (count_asked seed (texts words.now)) }
+    ensures within { IfOk result IsWithin }
+{
+    let [word, rest @ ..] = words else {
+        return Err(Outcome::Usage(2));
+    };
+    match number(word.as_str(), u64::from(MAX_POSTS)) {
+        Some(count) if count > 0 => read_end(Asked::Generated(seed, count as u32), rest),
+        _ => Err(Outcome::Usage(2)),
+    }
+}
+
+// Behind the count no word is left.
+fn read_end(asked: Asked, words: &[String]) -> Result<Asked, Outcome>
+    requires { IsWithin asked }
+    ensures asked { result ≡ answer_of (wants asked 3 (texts words.now)) }
+    ensures within { IfOk result IsWithin }
+{
+    if words.is_empty() {
+        Ok(asked)
+    } else {
+        Err(Outcome::Usage(3))
     }
 }

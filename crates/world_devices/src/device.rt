@@ -1,5 +1,5 @@
 //! The device and its calls.
-ghost use Rattle.std.specs.Prelude.{◌≡◌, ◌≤◌, true, IsErrOf, MatchOption};
+ghost use Rattle.std.specs.Prelude.{◌≡◌, ◌≤◌, true, IsErrOf, MatchOption, option_copied, option_map};
 ghost use Rattle.outside.specs.HostTold.{host_told};
 ghost use Rattle.sync_rules.specs.Legal.{suits_nonce};
 ghost use Rattle.world_devices.specs.Devices.{DeviceKeeps, IsReadyStore, MayAdd, links_made};
@@ -86,7 +86,9 @@ impl Device {
     }
 
     /// Its store; `None` only after a call of it failed.
-    pub fn store(&self) -> Option<&Store> {
+    pub fn store(&self) -> Option<&Store>
+        ensures { option_copied result ≡ option_map (λ n. n.store) self.now.node }
+    {
         match &self.node {
             Some(node) => Some(node.store()),
             None => None,

@@ -1,0 +1,52 @@
+-- What is printed of a world that was played.
+use Rattle.std.proofs.Common.{◌≡◌, refl, sym, subst, ◌∙◌, Result, Ok, Err}
+use Rattle.std.specs.Result.{IsErrAnd}
+use Rattle.outside.specs.Streams.{Stream, IsIdle}
+use Rattle.sync_words.specs.Outcomes.{came_to}
+use Rattle.sync_words.specs.declared.outcome.Outcome.{Outcome}
+use Rattle.sync_words.specs.declared.outcome.Outcome.TheVariants as outcome
+use Rattle.sync_world.specs.Playing.{ScriptComes}
+use Rattle.sync_world.specs.Asking.{Wanted, Wrong, Wants, answer_of}
+use Rattle.sync_world.specs.Replay.{PlaysOut, Prints, Replays}
+use Rattle.sync_world.specs.declared.player.Player.{Player}
+use Rattle.world_scripts.specs.Courses.{Opening, Bad, Opens}
+
+pub idle : (s : Stream) → IsIdle s s
+idle s = record { same = refl; same_faults = refl }
+
+-- a world that was not played to its end prints nothing
+pub unplayed : (what : Opening) (came : Outcome) (out : Stream) → ScriptComes what (Err came) → PlaysOut what out out came
+unplayed (Bad line) outcome.Done out comes = absurd comes
+unplayed (Opens devices course) outcome.Done out comes = absurd comes
+unplayed (Bad line) outcome.WriteFault out comes = absurd comes
+unplayed (Opens devices course) outcome.WriteFault out comes = absurd comes
+unplayed what outcome.Memory out comes = idle out
+unplayed what (outcome.Usage place) out comes = (comes, idle out)
+unplayed what outcome.NoStore out comes = (comes, idle out)
+unplayed what outcome.Exists out comes = (comes, idle out)
+unplayed what (outcome.Refused why) out comes = (comes, idle out)
+unplayed what (outcome.Damaged place) out comes = (comes, idle out)
+unplayed what outcome.DiskFault out comes = (comes, idle out)
+unplayed what (outcome.Links ends) out comes = (comes, idle out)
+unplayed what outcome.ReadFault out comes = (comes, idle out)
+unplayed what (outcome.Bad place why) out comes = (comes, idle out)
+unplayed what (outcome.Inside place) out comes = (comes, idle out)
+unplayed what outcome.Full out comes = (comes, idle out)
+unplayed what outcome.TooMuch out comes = (comes, idle out)
+unplayed what (outcome.BadScript line) out comes = (comes, idle out)
+
+-- a world that was played to its end is printed
+pub played : (what : Opening) (to : Player) (came : Outcome) (out out' : Stream) → ScriptComes what (Ok to) → Prints to out out' came → PlaysOut what out out' came
+played what to outcome.Done out out' comes prints = record { to = to; played = comes; printed = prints }
+played what to outcome.WriteFault out out' comes prints = record { to = to; played = comes; printed = prints }
+played what to outcome.Memory out out' comes prints = prints
+played what to _ out out' comes prints = absurd prints
+
+-- words that were not read
+pub misread : (words : Wanted) (result : Result (Unit {0}) Outcome) (came : Outcome) (input out : Stream) → IsErrAnd result (λ o. o ≡ came) → Err came ≡ answer_of words
+    → Replays words input input out out (came_to result)
+misread words (Ok u) came input out is asked = absurd is
+misread (Wrong place) (Err o) came input out is asked =
+    let named : came ≡ outcome.Usage place = cc in
+    subst (λ (p : Outcome). Replays (Wrong place) input input out out p) (sym (is ∙ named)) (refl, idle input, idle out)
+misread (Wants what) (Err o) came input out is asked = absurd cc

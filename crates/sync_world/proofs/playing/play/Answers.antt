@@ -1,0 +1,8 @@
+use Rattle.sync_words.specs.Reading.{texts}
+use Rattle.sync_world.proofs.PrintLemmas.{misread}
+use Rattle.sync_world.specs.Asking.{asks}
+use Rattle.sync_world.proofs.playing.play.Goals as goal
+
+pub returns-in_err-read_words : goal.returns-in_err-read_words
+returns-in_err-read_words g c =
+    misread (asks (texts c.args.words.now)) c.from_residual.result c.in_err-read_words.field-0.0 _ _ c.from_residual.ensures.1 c.in_err-read_words.ensures.asked

@@ -1,0 +1,13 @@
+-- What a step makes of a world.
+use Rattle.std.specs.Prelude.{◌≡◌, Some, None, Result, Err}
+use Rattle.sync_world.specs.Moving.{LeavesDevices, LinksBecome, fault_after}
+use Rattle.sync_world.specs.declared.stage.Stage.{Stage}
+use Rattle.world_devices.specs.declared.stop.StepFault.{StepFault}
+use Rattle.world_scripts.specs.declared.step.WorldStep.{WorldStep}
+
+-- a step was made of a world and answered so
+pub record HasStepped (made : WorldStep) (old new : Stage) (result : Result (Unit {0}) StepFault) : Type 0 where
+  pub for_good : (fault : StepFault) → old.fault ≡ Some fault → (result ≡ Err fault) × (new ≡ old)
+  pub fault : old.fault ≡ None → new.fault ≡ fault_after result
+  pub links : old.fault ≡ None → LinksBecome made old.links.items new.links.items result
+  pub devices : old.fault ≡ None → LeavesDevices made old.devices.items new.devices.items
