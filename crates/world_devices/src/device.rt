@@ -1,12 +1,18 @@
 //! The device and its calls.
-ghost use Rattle.std.specs.Prelude.{◌≡◌, ◌≤◌, true, IsErrOf, MatchOption, option_copied, option_map};
+ghost use Rattle.std.specs.Prelude.{◌≡◌, ◌≤◌, true, is_some, IsErrOf, MatchOption};
+ghost use Rattle.std.specs.Prelude.{None, OnErr, OnOk, option_copied, option_map};
 ghost use Rattle.outside.specs.HostTold.{host_told};
 ghost use Rattle.sync_rules.specs.Legal.{suits_nonce};
 ghost use Rattle.world_devices.specs.Devices.{DeviceKeeps, IsReadyStore, MayAdd, links_made};
 ghost use Rattle.world_devices.specs.Keeping.{StandsLegal};
+ghost use Rattle.world_devices.specs.Linking.{DeviceLinksStand, IsUnlinked};
+ghost use Rattle.world_devices.specs.Linking.{KeepsLinks, LinksBy, LinksByAttach, LinksByPlan};
+ghost use Rattle.world_devices.specs.Linking.{LinksByTurn, asks, end_at, is_shut};
 ghost use Rattle.world_devices.specs.Refusals.{IsNotRefused, RefusedBy, refuses_contact};
 ghost use Rattle.world_devices.specs.Refusals.{refuses_group, refuses_level, refuses_link};
 ghost use Rattle.world_devices.specs.Refusals.{refuses_message};
+ghost use Rattle.world_devices.specs.Brought.{IsSilent, sent_by};
+ghost use Rattle.world_devices.specs.Running.{DeviceRuns, IsStill, LeavesOn};
 
 use crate::starting::{StartFault, begin, cite_laws, dial_all, load};
 use crate::stop::{Ran, StepFault, Stop};
@@ -103,6 +109,15 @@ impl Device {
         standing_is_legal();
     }
 
+    /// Where it runs: its store has the facts of the journal that its files hold; the session of
+    /// each of its links is in that journal, and on each link that is not closed on this side all
+    /// output of the session was sent; a link that it has not had brings nothing. It does nothing.
+    pub fn links_stand(&self)
+        ensures { DeviceLinksStand self.now }
+    {
+        let _links = self.links;
+    }
+
     // Its store where it runs; its journal is settled, as it is between any two calls.
     fn ready(&self) -> Option<&Store>
         ensures { MatchOption result (Unit {0}) (λ store. IsReadyStore self.now.node store.now) }
@@ -122,7 +137,12 @@ impl Device {
 
     /// Its time, in milliseconds, until it is set anew.
     pub fn set_clock(&mut self, at: u64) -> Result<(), AllocError>
-        ensures { DeviceKeeps self.old self.new }
+        ensures keeps { DeviceKeeps self.old self.new }
+        ensures runs { DeviceRuns self.old self.new }
+        ensures links { KeepsLinks self.old self.new }
+        ensures node { self.new.node ≡ self.old.node }
+        ensures clock { OnOk result (self.new.clock ≡ at) }
+        ensures files { (host_told self.new.host).files ≡ (host_told self.old.host).files }
     {
         self.host.set_clock(at)?;
         self.clock = at;
@@ -132,7 +152,11 @@ impl Device {
     /// Its disk stops at the call of this number from now on, counted from 0; it then crashes to
     /// this image. That takes the place of an earlier stop.
     pub fn stop_at(&mut self, calls: u64, pick: Pick)
-        ensures { DeviceKeeps self.old self.new }
+        ensures keeps { DeviceKeeps self.old self.new }
+        ensures runs { DeviceRuns self.old self.new }
+        ensures links { KeepsLinks self.old self.new }
+        ensures node { self.new.node ≡ self.old.node }
+        ensures files { (host_told self.new.host).files ≡ (host_told self.old.host).files }
     {
         self.host.fail_none();
         self.stop = None;
@@ -145,8 +169,12 @@ impl Device {
     /// It is started again over its files.
     pub fn restart(&mut self) -> Result<(), StepFault>
         ensures keeps { DeviceKeeps self.old self.new }
+        ensures runs { DeviceRuns self.old self.new }
+        ensures running { OnOk result (is_some self.new.node ≡ true) }
+        ensures links { OnOk result (IsUnlinked self.new) }
         ensures unrefused { IsNotRefused result }
     {
+        cite_laws();
         self.node = None;
         self.host.restart()?;
         match self.start() {
@@ -159,8 +187,14 @@ impl Device {
     // Loads the store and sets a node on it, and dials all links that it may get: sessions take
     // them in order.
     fn start(&mut self) -> Result<(), StartFault>
-        requires { links_made self.old.host ≡ 0 }
-        ensures { DeviceKeeps self.old self.new }
+        requires links { links_made self.old.host ≡ 0 }
+        requires silent { IsSilent self.old.host }
+        ensures keeps { DeviceKeeps self.old self.new }
+        ensures leaves { LeavesOn (host_told self.old.host) (host_told self.new.host) }
+        ensures still { is_some self.new.node ≡ true → IsStill self.new.host }
+        ensures running { OnOk result (is_some self.new.node ≡ true) }
+        ensures links { OnOk result (IsUnlinked self.new) }
+        ensures idle { OnErr result (self.new.node ≡ None) }
     {
         self.node = None;
         self.links = 0;
@@ -173,7 +207,12 @@ impl Device {
 
     // A call on the disk failed: it stopped there, or there was no memory for that call.
     fn break_off(&mut self) -> Result<(), StepFault>
+        requires { self.old.node ≡ None }
         ensures keeps { DeviceKeeps self.old self.new }
+        ensures leaves { LeavesOn (host_told self.old.host) (host_told self.new.host) }
+        ensures still { is_some self.new.node ≡ true → IsStill self.new.host }
+        ensures running { OnOk result (is_some self.new.node ≡ true) }
+        ensures links { OnOk result (IsUnlinked self.new) }
         ensures unrefused { IsNotRefused result }
     {
         let made = self.host.disk().calls();
@@ -186,6 +225,10 @@ impl Device {
     // It begins anew over this image of its files.
     fn crash(&mut self, pick: Pick) -> Result<(), StepFault>
         ensures keeps { DeviceKeeps self.old self.new }
+        ensures leaves { LeavesOn (host_told self.old.host) (host_told self.new.host) }
+        ensures still { is_some self.new.node ≡ true → IsStill self.new.host }
+        ensures running { OnOk result (is_some self.new.node ≡ true) }
+        ensures links { OnOk result (IsUnlinked self.new) }
         ensures unrefused { IsNotRefused result }
     {
         self.node = None;
@@ -199,7 +242,12 @@ impl Device {
 
     // A call of its node failed: where its disk stopped it crashes.
     fn fail(&mut self, fault: NodeFault) -> Result<(), StepFault>
+        requires { self.old.node ≡ None }
         ensures keeps { DeviceKeeps self.old self.new }
+        ensures leaves { LeavesOn (host_told self.old.host) (host_told self.new.host) }
+        ensures still { is_some self.new.node ≡ true → IsStill self.new.host }
+        ensures running { OnOk result (is_some self.new.node ≡ true) }
+        ensures links { OnOk result (IsUnlinked self.new) }
         ensures unrefused { IsNotRefused result }
     {
         match fault {
@@ -226,6 +274,9 @@ impl Device {
     // Adds the next contact.
     fn add_contact(&mut self) -> Result<Ran, StepFault>
         ensures keeps { DeviceKeeps self.old self.new }
+        ensures runs { DeviceRuns self.old self.new }
+        ensures running { OnOk result (is_some self.new.node ≡ true) }
+        ensures links { LinksBy result self.old self.new }
         ensures refused { RefusedBy (refuses_contact self.old.node) result }
         ensures same { IsErrOf result StepFault.Refused → self.new ≡ self.old }
     {
@@ -241,6 +292,9 @@ impl Device {
     /// Adds a group.
     pub fn add_group(&mut self, def: GroupDef) -> Result<Ran, StepFault>
         ensures keeps { DeviceKeeps self.old self.new }
+        ensures runs { DeviceRuns self.old self.new }
+        ensures running { OnOk result (is_some self.new.node ≡ true) }
+        ensures links { LinksBy result self.old self.new }
         ensures refused { RefusedBy (refuses_group self.old.node def) result }
         ensures same { IsErrOf result StepFault.Refused → self.new ≡ self.old }
     {
@@ -261,6 +315,9 @@ impl Device {
         level: Level,
     ) -> Result<Ran, StepFault>
         ensures keeps { DeviceKeeps self.old self.new }
+        ensures runs { DeviceRuns self.old self.new }
+        ensures running { OnOk result (is_some self.new.node ≡ true) }
+        ensures links { LinksBy result self.old self.new }
         ensures refused { RefusedBy (refuses_level self.old.node contact group.now) result }
         ensures same { IsErrOf result StepFault.Refused → self.new ≡ self.old }
     {
@@ -276,6 +333,9 @@ impl Device {
     /// Writes a message.
     pub fn author(&mut self, message: Message) -> Result<Ran, StepFault>
         ensures keeps { DeviceKeeps self.old self.new }
+        ensures runs { DeviceRuns self.old self.new }
+        ensures running { OnOk result (is_some self.new.node ≡ true) }
+        ensures links { LinksBy result self.old self.new }
         ensures refused { RefusedBy (refuses_message self.old.node message) result }
         ensures same { IsErrOf result StepFault.Refused → self.new ≡ self.old }
     {
@@ -293,6 +353,9 @@ impl Device {
     fn add(&mut self, entry: Entry) -> Result<Ran, StepFault>
         requires { MayAdd self.old.node entry }
         ensures keeps { DeviceKeeps self.old self.new }
+        ensures runs { DeviceRuns self.old self.new }
+        ensures running { OnOk result (is_some self.new.node ≡ true) }
+        ensures links { LinksBy result self.old self.new }
         ensures unrefused { IsNotRefused result }
     {
         cite_laws();
@@ -322,6 +385,9 @@ impl Device {
         requires latency { 1 ≤ plan.now.latency }
         requires nonce { suits_nonce plan.now.mode nonce ≡ true }
         ensures keeps { DeviceKeeps self.old self.new }
+        ensures runs { DeviceRuns self.old self.new }
+        ensures running { OnOk result (is_some self.new.node ≡ true) }
+        ensures links { LinksByAttach plan.now.contact result self.old self.new }
         ensures refused { RefusedBy (refuses_link self.old.node self.old.links
             plan.now.contact) result }
         ensures same { IsErrOf result StepFault.Refused → self.new ≡ self.old }
@@ -332,6 +398,7 @@ impl Device {
         if self.links as usize >= LINKS || u32::from(plan.contact) >= store.contacts() {
             return Err(StepFault::Refused);
         }
+        cite_laws();
         let session = store.sessions();
         let Some(node) = &mut self.node else {
             return Err(StepFault::Memory);
@@ -351,7 +418,9 @@ impl Device {
     }
 
     /// Whether a link is still asked.
-    pub fn is_asked(&self, link: u8) -> bool {
+    pub fn is_asked(&self, link: u8) -> bool
+        ensures { result ≡ asks (end_at self.now link) }
+    {
         match &self.node {
             Some(node) if link < self.links => node.ending(link) == LinkEnd::Going,
             _ => false,
@@ -359,7 +428,9 @@ impl Device {
     }
 
     /// Whether a link was closed on this side.
-    pub fn is_closed(&self, link: u8) -> bool {
+    pub fn is_closed(&self, link: u8) -> bool
+        ensures { result ≡ is_shut (end_at self.now link) }
+    {
         match &self.node {
             Some(node) if link < self.links => {
                 !matches!(node.ending(link), LinkEnd::Going | LinkEnd::Clean)
@@ -368,26 +439,35 @@ impl Device {
         }
     }
 
-    /// Plans what a link is to answer next.
+    /// Plans what a link is to answer next. A link that it has not had is left.
     pub fn plan(&mut self, link: u8, answer: Answer) -> Result<(), AllocError>
-        ensures { DeviceKeeps self.old self.new }
+        ensures keeps { DeviceKeeps self.old self.new }
+        ensures runs { DeviceRuns self.old self.new }
+        ensures links { LinksByPlan link answer result self.old self.new }
+        ensures files { (host_told self.new.host).files ≡ (host_told self.old.host).files }
     {
-        if (link as usize) < LINKS {
+        if link < self.links {
             self.host.script(link, answer)?;
         }
         Ok(())
     }
 
     /// The bytes that were sent on a link since the device was started.
-    pub fn sent(&self, link: u8) -> &[u8] {
+    pub fn sent(&self, link: u8) -> &[u8]
+        ensures { result.now ≡ sent_by self.now.host link }
+    {
         self.host.sent(link)
     }
 
     /// Makes a turn. Answers whether all links were still, or nothing where the device crashed.
     pub fn turn(&mut self) -> Result<Option<bool>, StepFault>
         ensures keeps { DeviceKeeps self.old self.new }
+        ensures runs { DeviceRuns self.old self.new }
+        ensures running { OnOk result (is_some self.new.node ≡ true) }
+        ensures links { LinksByTurn result self.old self.new }
         ensures unrefused { IsNotRefused result }
     {
+        cite_laws();
         let Some(node) = &mut self.node else {
             return Err(StepFault::Memory);
         };
