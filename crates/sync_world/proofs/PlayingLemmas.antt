@@ -3,7 +3,7 @@ use Rattle.std.proofs.Common.{◌≡◌, ℕ, List, [], ◌∷◌, ◌++◌, app
 use Rattle.std.specs.Result.{IsErrAnd}
 use Rattle.sync_words.specs.declared.outcome.Outcome.{Outcome}
 use Rattle.sync_words.specs.declared.outcome.Outcome.TheVariants as outcome
-use Rattle.sync_world.specs.Playing.{IsFirst, Acts, Does, Done, StopsAt, Comes, ActsAt, came_unread, course_of}
+use Rattle.sync_world.specs.Playing.{IsFirst, Acts, Does, Done, StopsAt, Comes, ActsAt, came_at, came_unread, course_of}
 use Rattle.sync_world.specs.declared.player.Player.{Player}
 use Rattle.world_devices.specs.declared.stop.StepFault.{StepFault}
 use Rattle.world_devices.specs.declared.stop.StepFault.TheVariants as fault
@@ -80,6 +80,13 @@ module _ (devices : ℕ) (course left : Course) (now : Player) (plays : Playing 
   stopped line it left' next outcome.Full is acts = record { line = line; stops = stops_at line it left' next fault.Full is acts }
   stopped line it left' next outcome.Memory is acts = tt
   stopped line it left' next _ is acts = absurd acts
+
+-- an action that answered a fault
+pub acts_at : (line : ℕ) (it : Action) (old new : Player) (why : StepFault) (came : Outcome) → came ≡ came_at line why → Acts it old new (Err why)
+    → ActsAt line it old new (Err came)
+acts_at line it old new fault.Refused came is acts = subst (λ (o : Outcome). ActsAt line it old new (Err o)) (sym is) (refl, acts)
+acts_at line it old new fault.Full came is acts = subst (λ (o : Outcome). ActsAt line it old new (Err o)) (sym is) acts
+acts_at line it old new fault.Memory came is acts = subst (λ (o : Outcome). ActsAt line it old new (Err o)) (sym is) tt
 
 -- what is left behind the action of a line that was read
 pub goes_some : (old new : Course) (read : Option (ℕ × Action)) (line : ℕ) (it : Action) → read ≡ Some (line, it) → Goes old (Ok read) new → old ≡ behind line it new

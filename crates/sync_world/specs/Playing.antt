@@ -104,6 +104,12 @@ ActsAt line it old new (Err outcome.Full) = Acts it old new (Err fault.Full)
 ActsAt line it old new (Err outcome.Memory) = Unit {0}
 ActsAt line it old new (Err _) = ⊥
 
+-- what the fault of the action of a line comes to
+abbrev pub came_at : (line : ℕ) → StepFault → Outcome
+came_at line fault.Refused = outcome.BadScript line
+came_at line fault.Full = outcome.Full
+came_at line fault.Memory = outcome.Memory
+
 -- what a line comes to that was not read
 abbrev pub came_unread : ScriptFault → Outcome
 came_unread (unread.BadLine line) = outcome.BadScript line

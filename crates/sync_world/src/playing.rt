@@ -4,7 +4,7 @@ ghost use Rattle.sync_words.specs.Outcomes.{came_to};
 ghost use Rattle.sync_words.specs.Reading.{texts};
 ghost use Rattle.sync_world.specs.Asking.{asks};
 ghost use Rattle.sync_world.specs.Playing.{ActsAt, Comes, ScriptComes};
-ghost use Rattle.sync_world.specs.Playing.{came_unread, made_by};
+ghost use Rattle.sync_world.specs.Playing.{came_at, came_unread, made_by};
 ghost use Rattle.sync_world.specs.Replay.{OfScript, PlaysOut, Replayed, Replays};
 ghost use Rattle.world_scripts.specs.Courses.{said};
 
@@ -162,9 +162,18 @@ fn act(player: &mut Player, line: u32, action: Action) -> Result<(), Outcome>
 {
     match player.act(&action) {
         Ok(()) => Ok(()),
-        Err(StepFault::Memory) => Err(Outcome::Memory),
-        Err(StepFault::Full) => Err(Outcome::Full),
-        Err(StepFault::Refused) => Err(Outcome::BadScript(u64::from(line))),
+        Err(fault) => Err(ended_by(line, fault)),
+    }
+}
+
+// What a fault of the action of a line comes to.
+fn ended_by(line: u32, fault: StepFault) -> Outcome
+    ensures { result ≡ came_at line fault }
+{
+    match fault {
+        StepFault::Memory => Outcome::Memory,
+        StepFault::Full => Outcome::Full,
+        StepFault::Refused => Outcome::BadScript(u64::from(line)),
     }
 }
 
