@@ -55,12 +55,6 @@ with_failing h failing stop = record { files = refl; told = refl; heard = refl; 
 pub same_failing : (h h' : MemHostValue) (failing : List ℕ) (stop : Option ℕ) → h' ≡ record h { disk = record h.disk { failing = failing; stop = stop } } → SameAs h h'
 same_failing h h' failing stop is = subst (λ (x : MemHostValue). SameAs h x) (sym is) (with_failing h failing stop)
 
-with_stop : (h : MemHostValue) (stop : Option ℕ) → SameAs h (record h { disk = record h.disk { stop = stop } })
-with_stop h stop = record { files = refl; told = refl; heard = refl; clock = refl; moments = λ t m w. w; dialled = refl }
-
-pub same_stop : (h h' : MemHostValue) (stop : Option ℕ) → h' ≡ record h { disk = record h.disk { stop = stop } } → SameAs h h'
-same_stop h h' stop is = subst (λ (x : MemHostValue). SameAs h x) (sym is) (with_stop h stop)
-
 tells_equal : (h h' : MemHostValue) → h' ≡ h → SameAs h h'
 tells_equal h h' is = subst (λ (x : MemHostValue). SameAs h x) (sym is) (record { files = refl; told = refl; heard = refl; clock = refl; moments = λ t m w. w; dialled = refl })
 
@@ -201,9 +195,6 @@ scripts_clocked h h' clock (Err e) ok err = ap (λ (x : MemHostValue). x.scripts
 pub scripts_failing : (h h' : MemHostValue) (failing : List ℕ) (stop : Option ℕ) → h' ≡ record h { disk = record h.disk { failing = failing; stop = stop } } → h'.scripts ≡ h.scripts
 scripts_failing h h' failing stop is = ap (λ (x : MemHostValue). x.scripts) is
 
-pub scripts_stop : (h h' : MemHostValue) (stop : Option ℕ) → h' ≡ record h { disk = record h.disk { stop = stop } } → h'.scripts ≡ h.scripts
-scripts_stop h h' stop is = ap (λ (x : MemHostValue). x.scripts) is
-
 abbrev unplanned : List Planned
 unplanned = []
 
@@ -225,3 +216,15 @@ silent_linked h h' same silent = record {
       let plans : plans_of h'.scripts ≡ plans_of h.scripts = cc in
       ap (λ (p : ℕ → List Planned). p link) plans ∙ silent.plans link;
 }
+
+-- ---- a call that is to fail
+
+pub fails_same : (h h' : MemHostValue) (call : ℕ) (result : Result (Unit {0}) AllocError) → OnOk result (h' ≡ record h { disk = record h.disk { failing = h.disk.failing ++ call ∷ [] } }) → OnErr result (h' ≡ h)
+    → SameAs h h'
+fails_same h h' call (Ok u) ok err = same_failing h h' (h.disk.failing ++ call ∷ []) h.disk.stop ok
+fails_same h h' call (Err e) ok err = tells_equal h h' err
+
+pub fails_scripts : (h h' : MemHostValue) (call : ℕ) (result : Result (Unit {0}) AllocError) → OnOk result (h' ≡ record h { disk = record h.disk { failing = h.disk.failing ++ call ∷ [] } }) → OnErr result (h' ≡ h)
+    → h'.scripts ≡ h.scripts
+fails_scripts h h' call (Ok u) ok err = ap (λ (x : MemHostValue). x.scripts) ok
+fails_scripts h h' call (Err e) ok err = ap (λ (x : MemHostValue). x.scripts) err

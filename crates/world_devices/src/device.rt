@@ -149,9 +149,12 @@ impl Device {
         Ok(())
     }
 
-    /// Its disk stops at the call of this number from now on, counted from 0; it then crashes to
+    /// The call of its disk of this number from now on, counted from 0, fails; it then crashes to
     /// this image. That takes the place of an earlier stop.
-    pub fn stop_at(&mut self, calls: u64, pick: Pick)
+    ///
+    /// # Errors
+    /// For want of memory: then no stop is left.
+    pub fn stop_at(&mut self, calls: u64, pick: Pick) -> Result<(), AllocError>
         ensures keeps { DeviceKeeps self.old self.new }
         ensures runs { DeviceRuns self.old self.new }
         ensures links { KeepsLinks self.old self.new }
@@ -161,9 +164,10 @@ impl Device {
         self.host.fail_none();
         self.stop = None;
         if let Some(call) = self.host.disk().calls().checked_add(calls) {
-            self.host.stop_at(call);
+            self.host.fail_at(call)?;
             self.stop = Some(Stop { call, pick });
         }
+        Ok(())
     }
 
     /// It is started again over its files.
