@@ -1,5 +1,5 @@
 -- What a store lets be added may follow its journal, where that is settled.
-use Rattle.std.proofs.Common.{◌≡◌, ℕ, ◌<◌, Bool, true, false, List, [], ◌∷◌, length, refl, sym, ap, ◌∙◌, subst, Option, Some, None, Result, Ok, Err}
+use Rattle.std.proofs.Common.{◌≡◌, ℕ, ◌<◌, true, false, [], ◌∷◌, length, refl, sym, ap, ◌∙◌, subst, Option, Some, None, Result, Ok, Err}
 use Rattle.std.specs.Prelude.{nat_lt, is_none, is_some, if◌then◌else◌}
 use Rattle.std.specs.List.{list_all}
 use borrow.Author.Tests.{ltb-true}

@@ -1,9 +1,8 @@
 -- What links bring stays, whatever of it is heard.
-use Rattle.std.proofs.Common.{◌≡◌, ◌≢◌, ◌⊎◌, ℕ, ◌+◌, ◌<◌, ◌≤◌, List, [], ◌∷◌, ◌++◌, length, take, drop, refl, sym, ap, ◌∙◌, subst, inl, inr, arith, append-nil, append_assoc, Option, Some, None, slice_index, slice_index_or, zero, suc}
+use Rattle.std.proofs.Common.{◌≡◌, ◌≢◌, ◌⊎◌, ℕ, ◌<◌, ◌≤◌, List, [], ◌∷◌, ◌++◌, length, take, drop, refl, sym, ap, ◌∙◌, subst, inl, inr, arith, append-nil, append_assoc, Some, None, slice_index, slice_index_or, zero, suc}
 use Rattle.std.proofs.lemmas.Bool.{cases_eq, cases_lt}
 use Rattle.std.proofs.lemmas.Grind.{flat_map-append}
 use Rattle.std.proofs.lemmas.List.{take-append-drop}
-use Rattle.std.specs.Option.{option_map}
 use Rattle.outside.specs.Links.{Answered, HeardOn, Planned, Reply, piece, pause, close, failure, got, idle, ended, hear_failure, hear_reply, changed_at, nothing_heard}
 use Rattle.outside.specs.Planned.{UsesPlan, pieces, plan_after, reply_to}
 use Rattle.outside.specs.Runs.{changed_at_other, changed_at_same, heard_bytes, reply_bytes}

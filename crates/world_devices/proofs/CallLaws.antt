@@ -1,9 +1,9 @@
 -- What a call of a device comes to: how its journal goes on, and what its links bring.
-use Rattle.std.proofs.Common.{◌≡◌, ◌⊎◌, ℕ, zero, suc, ◌+◌, ◌-◌, ◌<◌, ◌≤◌, Bool, true, false, cond, ◌&&◌, nat_eq, nat_le, nat_lt, List, [], ◌∷◌, ◌++◌, length, refl, sym, ap, ◌∙◌, subst, inl, inr, arith, append-nil, append_assoc, Option, Some, None, is_some, Result, Ok, Err, OnOk, OnErr}
+use Rattle.std.proofs.Common.{◌≡◌, ◌⊎◌, ℕ, ◌+◌, ◌-◌, ◌<◌, Bool, true, false, cond, nat_eq, nat_le, nat_lt, List, [], ◌∷◌, ◌++◌, length, refl, sym, ap, ◌∙◌, subst, inl, inr, arith, append-nil, append_assoc, Option, Some, None, is_some, Result, Ok, Err, OnOk, OnErr}
 use Rattle.std.proofs.lemmas.Bool.{and_from, cases_lt, le-leb, lt-ltb}
-use Rattle.outside.specs.Files.{Two, File, IsImage, read_files}
+use Rattle.outside.specs.Files.{read_files}
 use Rattle.outside.specs.Outside.{Outside}
-use Rattle.outside.specs.Runs.{Told, answers_at, heard_bytes}
+use Rattle.outside.specs.Runs.{answers_at, heard_bytes}
 use Rattle.outside.specs.HostTold.{host_told}
 use Rattle.outside.specs.MemHost.{MemHostValue, plans_of}
 use Rattle.client_basic.specs.Bodies.{bundle_meaning}
@@ -11,13 +11,12 @@ use Rattle.record_grammar.specs.Laws.{FrontsHaveFronts}
 use Rattle.record_grammar.specs.Stream.{items, parsed, records, records_of}
 use Rattle.sync_ids.specs.declared.records.Record.{Record}
 use Rattle.entry_codec.specs.Standing.{stands, journal}
-use Rattle.entry_codec.specs.StandingLaws.{StandingIsLegal}
 use Rattle.sync_course.specs.Events.{Event}
 use Rattle.sync_course.specs.Events as events
 use Rattle.sync_rules.specs.declared.entries.Session.{Session}
 use Rattle.sync_rules.specs.Elements.{In, In-append_left}
 use Rattle.sync_rules.specs.Facts.{Facts, after_all, facts, session_at}
-use Rattle.sync_node.specs.Courses.{AllRead, BreaksBeginning, BreaksTurn, Begins, MakesTurn, is_still}
+use Rattle.sync_node.specs.Courses.{AllRead, BreaksBeginning, BreaksTurn, Begins, MakesTurn}
 use Rattle.std.specs.Option.{option_map}
 use Rattle.std.proofs.lemmas.Bool.{eq-eqb}
 use Rattle.std.specs.List.{AllByRecursion}
@@ -62,7 +61,7 @@ use Rattle.world_devices.proofs.BroughtLaws.{told_brings, told_heard}
 use Rattle.world_devices.proofs.HostLaws.{crash_images, files_anew, silent_linked, silent_on, told_host}
 use Rattle.world_devices.proofs.KeepLaws.{begin_now, safe_now}
 use Rattle.world_devices.proofs.LeaveLaws.{comes_still, leave_adding, leave_held, leave_safe, leave_same, leave_settling, still_fits}
-use Rattle.world_devices.proofs.RunningLaws.{BringsAll, HasJournal, LeadsAdding, journal_of, open_of}
+use Rattle.world_devices.proofs.RunningLaws.{BringsAll, LeadsAdding, journal_of, open_of}
 
 -- ---- calls that leave the files
 

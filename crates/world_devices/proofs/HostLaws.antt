@@ -1,14 +1,14 @@
 -- What a host in memory tells, over its own calls.
-use Rattle.std.proofs.Common.{◌≡◌, ℕ, zero, suc, ◌<◌, List, [], ◌∷◌, ◌++◌, length, refl, sym, ap, ◌∙◌, subst, arith, Option, Some, None, Result, Ok, Err, OnOk, OnErr, replicate, slice_index, slice_index_or}
+use Rattle.std.proofs.Common.{◌≡◌, ℕ, zero, suc, List, [], ◌∷◌, ◌++◌, length, refl, sym, ap, ◌∙◌, subst, arith, Option, Some, None, Result, Ok, Err, OnOk, OnErr, replicate, slice_index, slice_index_or}
 use Rattle.std.specs.declared.alloc.AllocError.{AllocError}
 use Rattle.outside.specs.declared.failed.Failed.{Failed}
 use Rattle.outside.specs.Disk.{Becomes}
 use Rattle.outside.specs.Files.{Two, File, IsImage, settled}
 use Rattle.outside.specs.Host.{Dials}
 use Rattle.outside.specs.Links.{Answered, Link, Links, HeardOn}
-use Rattle.outside.specs.Outside.{Outside, Moment}
+use Rattle.outside.specs.Outside.{Outside}
 use Rattle.outside.specs.Runs.{Told, answers_at, heard_bytes, others_dial, sent_at}
-use Rattle.outside.specs.MemDisk.{Change, hosted, MemDiskValue, Kept, kept_after, changed, both_kept, disk_files, files_of, with_call, fresh, links_after, answers_after}
+use Rattle.outside.specs.MemDisk.{Change, hosted, MemDiskValue, Kept, kept_after, changed, both_kept, disk_files, files_of, fresh, links_after, answers_after}
 use Rattle.outside.specs.MemHost.{MemHostValue, Readings, Crashes, fresh_host, plans_of}
 use Rattle.outside.specs.declared.limits.TheConstants.{LINKS}
 use Rattle.world_devices.specs.Brought.{IsSilent, brought_on, planned_bytes}
@@ -17,7 +17,6 @@ use Rattle.outside.specs.declared.pick.Pick.{Pick}
 use Rattle.outside.specs.Links.{Planned}
 use Rattle.sync_store.specs.Begin.{Begins}
 use Rattle.client_basic.specs.Bodies.{bundle_meaning}
-use Rattle.world_devices.specs.Devices.{links_made}
 use Rattle.world_devices.specs.Keeping.{GoOnFrom, IsQuiet, Keeps, KeepsOn, TellsSame}
 use Rattle.world_devices.proofs.KeepLaws.{keeps_same, settled_only}
 

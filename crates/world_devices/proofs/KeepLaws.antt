@@ -1,11 +1,11 @@
 -- Journals that go on, over each call of a device.
-use Rattle.std.proofs.Common.{◌≡◌, ◌⊎◌, ℕ, ◌+◌, ◌≤◌, false, List, [], ◌∷◌, ◌++◌, length, refl, sym, ap, ◌∙◌, subst, inl, inr, arith, append-nil, length-append, Option, Some, None, Result, Ok, slice_index_or}
+use Rattle.std.proofs.Common.{◌≡◌, ℕ, ◌+◌, ◌≤◌, false, List, [], ◌∷◌, ◌++◌, length, refl, sym, ap, ◌∙◌, subst, inl, inr, arith, append-nil, length-append, Option, Some, slice_index_or}
 use Rattle.std.specs.List.{flat_map}
 use Rattle.std.proofs.lemmas.Grind.{flat_map-append}
 use Rattle.std.proofs.lemmas.List.{ext_get_or}
-use Rattle.outside.specs.Files.{Two, File, IsFileImage, IsImage, read_files, settled}
-use Rattle.outside.specs.Links.{Link, Links, HeardOn, sent_of}
-use Rattle.outside.specs.Outside.{Outside, Moment, IsNow, MomentsAre}
+use Rattle.outside.specs.Files.{Two, File, IsFileImage, read_files, settled}
+use Rattle.outside.specs.Links.{Link, HeardOn, sent_of}
+use Rattle.outside.specs.Outside.{Outside, Moment}
 use Rattle.outside.specs.Runs.{IsFront, Told, answers_at, front_then, front_same, heard_bytes, sent_at}
 use Rattle.frame_journal.specs.Gates.{AnyImage}
 use Rattle.client_basic.specs.Bodies.{bundle_meaning}
@@ -19,13 +19,13 @@ use Rattle.sync_rules.specs.Legal.{Legal}
 use Rattle.sync_rules.specs.Output.{sent}
 use Rattle.sync_store.specs.Store.{StoreValue}
 use Rattle.sync_store.specs.Fitting.{Fits}
-use Rattle.sync_store.specs.Moments.{IsBetween, JournalMoment, Leads}
-use Rattle.sync_node.specs.Adding.{AddsAtMost, AddsOne}
+use Rattle.sync_store.specs.Moments.{IsBetween, Leads}
+use Rattle.sync_node.specs.Adding.{AddsAtMost}
 use Rattle.sync_node.specs.declared.link.Link.{Link as NodeLink}
 use Rattle.sync_node.specs.Joined.{HasTaken, IsJoined, IsUnused, Joined}
 use Rattle.sync_node.specs.Node.{Attaches, KeepsJoined, KeepsSafe, NodeValue, PlansSafe}
 use Rattle.sync_node.specs.Output.{AreOutput, heard_on, output, sent_on}
-use Rattle.sync_node.specs.Safe.{Begin, IsCovered, IsCoveredNow, IsEarly, Safe, read_now}
+use Rattle.sync_node.specs.Safe.{Begin, IsCovered, IsCoveredNow, Safe, read_now}
 use Rattle.world_devices.specs.Cited.{SentGrows}
 use Rattle.world_devices.specs.Keeping.{GoOnFrom, IsQuiet, IsSafeRun, Journal, Keeps, KeepsOn, TellsSame}
 

@@ -1,6 +1,6 @@
 -- What the calls of a device may leave goes on from the journal before, and takes only what its links bring.
-use Rattle.std.proofs.Common.{◌≡◌, ◌⊎◌, ℕ, zero, suc, ◌+◌, ◌≤◌, ◌<◌, true, false, List, [], ◌∷◌, ◌++◌, length, refl, sym, ap, ◌∙◌, subst, inl, inr, arith, append-nil, append_assoc, Option, Some, None, is_some, slice_get}
-use Rattle.outside.specs.Files.{Two, File, IsFileImage, IsImage, NothingPending, read_files, settled}
+use Rattle.std.proofs.Common.{◌≡◌, ℕ, zero, suc, ◌+◌, ◌≤◌, true, List, [], ◌∷◌, ◌++◌, refl, sym, ap, ◌∙◌, subst, inl, inr, append-nil, append_assoc, Some, None, is_some, slice_get}
+use Rattle.outside.specs.Files.{Two, File, IsFileImage, IsImage, NothingPending, read_files}
 use Rattle.outside.specs.Links.{sent_of}
 use Rattle.outside.specs.Outside.{Outside, Moment}
 use Rattle.outside.specs.Runs.{Told}
@@ -22,15 +22,15 @@ use Rattle.sync_rules.specs.Legal.{AllSettling, IsSettlingBatch}
 use Rattle.sync_rules.specs.StepLaws.{next_is_settling}
 use Rattle.sync_store.specs.Store.{StoreValue}
 use Rattle.sync_store.specs.Fitting.{Fits}
-use Rattle.sync_store.specs.Moments.{IsBetween, JournalMoment, Leads}
+use Rattle.sync_store.specs.Moments.{IsBetween, Leads}
 use Rattle.sync_node.specs.Adding.{AddsAtMost, IsPlain}
 use Rattle.sync_node.specs.Output.{heard_on}
-use Rattle.sync_node.specs.Safe.{Begin, IsCovered, Safe}
+use Rattle.sync_node.specs.Safe.{Safe}
 use Rattle.sync_node.specs.Suits.{AllSuit, IsOfRun, Suits}
 use Rattle.world_laws.specs.Worlds.{AllHeard, IsHeard}
 use Rattle.world_devices.specs.Devices.{DeviceValue}
 use Rattle.world_devices.specs.Keeping.{Journal}
-use Rattle.world_devices.specs.Running.{ComesFrom, GoOnHearing, Holds, IsStill, LeavesOn, MayLeave, Reads}
+use Rattle.world_devices.specs.Running.{ComesFrom, GoOnHearing, Holds, IsStill, LeavesOn, MayLeave}
 use Rattle.world_devices.proofs.KeepLaws.{begin_now, settled_only}
 
 -- ---- what batches take

@@ -1,5 +1,5 @@
 -- What keeps a device running.
-use Rattle.std.proofs.Common.{◌≡◌, ℕ, ◌+◌, ◌≤◌, false, List, [], ◌∷◌, length, refl, sym, ap, ◌∙◌, subst, arith, Option, Some, None, Result, Ok, Err, OnOk, OnErr}
+use Rattle.std.proofs.Common.{◌≡◌, ℕ, ◌+◌, ◌≤◌, false, List, [], ◌∷◌, refl, sym, ap, ◌∙◌, subst, arith, Option, Some, None, Result, Ok, Err, OnOk, OnErr}
 use Rattle.outside.specs.Files.{Two, File}
 use Rattle.outside.specs.Links.{Link, HeardOn}
 use Rattle.outside.specs.Outside.{Outside}
@@ -22,7 +22,7 @@ use Rattle.sync_store.specs.Ready.{IsReady}
 use Rattle.sync_store.specs.Refusals.{contact_answer, group_answer, level_answer, post_answer}
 use Rattle.sync_node.specs.Adding.{IsPlain}
 use Rattle.world_devices.specs.Brought.{IsSilent, brought_on}
-use Rattle.sync_node.specs.Node.{Attaches, IsNode, KeepsJoined, KeepsSafe, NodeValue, MayRun, MayGoOn, PlansSafe}
+use Rattle.sync_node.specs.Node.{Attaches, IsNode, KeepsJoined, KeepsSafe, NodeValue, MayRun, PlansSafe}
 use Rattle.frame_journal.specs.Gates.{AnyImage}
 use Rattle.sync_rules.specs.declared.entries.Session.{Session}
 use Rattle.sync_store.specs.Fitting.{Fits}

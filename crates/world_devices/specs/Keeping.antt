@@ -1,7 +1,6 @@
 -- What a device keeps: whatever a crash leaves of its files stands for a journal that goes on from each earlier one.
-use Rattle.std.specs.Prelude.{◌≡◌, ℕ, ◌≤◌, List, [], length, Option, Some}
+use Rattle.std.specs.Prelude.{◌≡◌, ℕ, List, [], length, Some}
 use Rattle.outside.specs.Files.{Two, File, IsImage}
-use Rattle.outside.specs.Links.{Link, HeardOn}
 use Rattle.outside.specs.Outside.{Outside, Moment}
 use Rattle.outside.specs.Runs.{IsFront, answers_at}
 use Rattle.client_basic.specs.Bodies.{bundle_meaning}

@@ -1,10 +1,8 @@
 -- What calls of a device do to its links.
-use Rattle.std.specs.Prelude.{◌≡◌, ◌⊎◌, ℕ, ◌+◌, ◌<◌, ◌≤◌, Bool, true, false, not, List, [], ◌++◌, length, Option, Some, None, is_some, slice_get, Result, Ok, Err, MatchOption, OnOk}
+use Rattle.std.specs.Prelude.{◌≡◌, ◌⊎◌, ℕ, ◌+◌, ◌<◌, ◌≤◌, Bool, true, false, not, [], ◌++◌, length, Option, Some, None, is_some, slice_get, Result, Ok, Err}
 use Rattle.std.specs.List.{AllByRecursion}
 use Rattle.std.specs.Option.{option_map}
 use Rattle.std.specs.declared.alloc.AllocError.{AllocError}
-use Rattle.outside.specs.HostTold.{host_told}
-use Rattle.outside.specs.MemHost.{MemHostValue}
 use Rattle.outside.specs.declared.answer.Answer.{Answer}
 use Rattle.client_basic.specs.Bodies.{bundle_meaning}
 use Rattle.entry_codec.specs.Spelling.{IsEntry}

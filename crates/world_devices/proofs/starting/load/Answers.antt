@@ -1,4 +1,3 @@
-use Rattle.std.proofs.Common.{refl}
 use Rattle.outside.specs.HostTold.{host_told}
 use Rattle.world_devices.proofs.HostLaws.{told_host}
 use Rattle.world_devices.proofs.LeaveLaws.{leave_looks}

@@ -1,4 +1,4 @@
-use Rattle.std.proofs.Common.{◌≡◌, ◌+◌, ◌≤◌, ◌∷◌, [], Some, ap, refl, sym, subst, ◌∙◌, arith}
+use Rattle.std.proofs.Common.{[], ap, refl, sym, ◌∙◌}
 use Rattle.outside.specs.HostTold.{host_told}
 use Rattle.world_devices.specs.Devices.{DeviceValue}
 use Rattle.world_devices.proofs.CallLaws.{add_leaves, keeps_links, links_seen, plain_batch, plain_of, ready_still, runs_by, runs_files, runs_none}

@@ -1,8 +1,8 @@
-use Rattle.std.proofs.Common.{◌≡◌, ◌+◌, ◌≤◌, ◌∷◌, [], Some, ap, refl, sym, subst, ◌∙◌, arith}
+use Rattle.std.proofs.Common.{[], ap, refl, sym, ◌∙◌, arith}
 use Rattle.outside.specs.HostTold.{host_told}
 use Rattle.world_devices.specs.Devices.{DeviceValue}
 use Rattle.sync_store.specs.Store.{StoreValue}
-use Rattle.world_devices.proofs.CallLaws.{adds_link, adds_seen, attach_leaves, brings_begun, brings_unbegun, of_node, ready_store, ready_still, runs_by, runs_files, runs_none}
+use Rattle.world_devices.proofs.CallLaws.{adds_link, adds_seen, attach_leaves, brings_begun, brings_unbegun, of_node, ready_store, ready_still, runs_by, runs_none}
 use Rattle.world_devices.proofs.RunningLaws.{attach_keeps, attached_running, keeps_seen, running_of}
 use Rattle.world_devices.proofs.device.Device.attach.Goals as goal
 

@@ -1,4 +1,4 @@
-use Rattle.std.proofs.Common.{◌≡◌, ◌≤◌, [], ap, refl, sym, subst, ◌∙◌, arith}
+use Rattle.std.proofs.Common.{[], ap}
 use Rattle.outside.specs.HostTold.{host_told}
 use Rattle.world_devices.specs.Devices.{DeviceValue}
 use Rattle.world_devices.proofs.CallLaws.{crash_leaves, leaves_seen}

@@ -1,4 +1,4 @@
-use Rattle.std.proofs.Common.{ap, refl, subst, ◌∙◌, arith}
+use Rattle.std.proofs.Common.{ap, refl, ◌∙◌, arith}
 use Rattle.outside.specs.HostTold.{host_told}
 use Rattle.world_devices.specs.Devices.{DeviceValue}
 use Rattle.world_devices.proofs.CallLaws.{brings_other, own_scripts, plans_one, plans_seen, runs_files, runs_none}

@@ -1,4 +1,4 @@
-use Rattle.std.proofs.Common.{◌≡◌, ◌≤◌, [], Some, ap, refl, sym, subst, ◌∙◌, arith}
+use Rattle.std.proofs.Common.{[], ap, refl}
 use Rattle.outside.specs.HostTold.{host_told}
 use Rattle.world_devices.specs.Devices.{DeviceValue}
 use Rattle.world_devices.proofs.CallLaws.{brings_broken, brings_turned, keeps_links, links_seen, of_node, ready_still, runs_by, runs_files, turn_leaves}
