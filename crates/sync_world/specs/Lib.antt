@@ -1,3 +1,5 @@
 pub mod Asking
 pub mod Beginning
+pub mod Cited
 pub mod Moving
+pub mod Shown
