@@ -1,12 +1,18 @@
 //! The device and its calls.
-ghost use Rattle.std.specs.Prelude.{◌≡◌, ◌≤◌, true, IsErrOf, MatchOption};
+ghost use Rattle.std.specs.Prelude.{◌≡◌, ◌≤◌, true, is_some, IfOk, IsErrOf, MatchOption};
+ghost use Rattle.std.specs.Prelude.{OnOk};
 ghost use Rattle.outside.specs.HostTold.{host_told};
 ghost use Rattle.sync_rules.specs.Legal.{suits_nonce};
 ghost use Rattle.world_devices.specs.Devices.{DeviceKeeps, IsReadyStore, MayAdd, links_made};
 ghost use Rattle.world_devices.specs.Keeping.{StandsLegal};
+ghost use Rattle.world_devices.specs.Linking.{DeviceLinksStand, IsNewDevice, IsUnlinked};
+ghost use Rattle.world_devices.specs.Linking.{KeepsLinks, LinksBy, LinksByAttach, LinksByPlan};
+ghost use Rattle.world_devices.specs.Linking.{LinksByTurn, asks, end_at, is_shut, store_of};
 ghost use Rattle.world_devices.specs.Refusals.{IsNotRefused, RefusedBy, refuses_contact};
 ghost use Rattle.world_devices.specs.Refusals.{refuses_group, refuses_level, refuses_link};
 ghost use Rattle.world_devices.specs.Refusals.{refuses_message};
+ghost use Rattle.world_devices.specs.Brought.{sent_by};
+ghost use Rattle.world_devices.specs.Running.{DeviceRuns};
 
 use crate::starting::{StartFault, begin, cite_laws, dial_all, load};
 use crate::stop::{Ran, StepFault, Stop};
@@ -63,7 +69,9 @@ impl Device {
         hasher: RandomState,
         contacts: u8,
         clock: u64,
-    ) -> Result<Device, StepFault> {
+    ) -> Result<Device, StepFault>
+        ensures { IfOk result (IsNewDevice contacts clock) }
+    {
         let Ok(host) = begin(alloc) else {
             return Err(StepFault::Memory);
         };
@@ -86,7 +94,10 @@ impl Device {
     }
 
     /// Its store; `None` only after a call of it failed.
-    pub fn store(&self) -> Option<&Store> {
+    pub fn store(&self) -> Option<&Store>
+        ensures { MatchOption result (store_of self.now.node ≡ None)
+            (λ store. store_of self.now.node ≡ Some store.now) }
+    {
         match &self.node {
             Some(node) => Some(node.store()),
             None => None,
@@ -99,6 +110,15 @@ impl Device {
     {
         let _links = self.links;
         standing_is_legal();
+    }
+
+    /// Where it runs: its store has the facts of the journal that its files hold; the session of
+    /// each of its links is in that journal, and on each link that is not closed on this side all
+    /// output of the session was sent; a link that it has not had brings nothing. It does nothing.
+    pub fn links_stand(&self)
+        ensures { DeviceLinksStand self.now }
+    {
+        let _links = self.links;
     }
 
     // Its store where it runs; its journal is settled, as it is between any two calls.
@@ -120,7 +140,11 @@ impl Device {
 
     /// Its time, in milliseconds, until it is set anew.
     pub fn set_clock(&mut self, at: u64) -> Result<(), AllocError>
-        ensures { DeviceKeeps self.old self.new }
+        ensures keeps { DeviceKeeps self.old self.new }
+        ensures runs { DeviceRuns self.old self.new }
+        ensures links { KeepsLinks self.old self.new }
+        ensures node { self.new.node ≡ self.old.node }
+        ensures clock { OnOk result (self.new.clock ≡ at) }
     {
         self.host.set_clock(at)?;
         self.clock = at;
@@ -130,7 +154,10 @@ impl Device {
     /// Its disk stops at the call of this number from now on, counted from 0; it then crashes to
     /// this image. That takes the place of an earlier stop.
     pub fn stop_at(&mut self, calls: u64, pick: Pick)
-        ensures { DeviceKeeps self.old self.new }
+        ensures keeps { DeviceKeeps self.old self.new }
+        ensures runs { DeviceRuns self.old self.new }
+        ensures links { KeepsLinks self.old self.new }
+        ensures node { self.new.node ≡ self.old.node }
     {
         self.host.fail_none();
         self.stop = None;
@@ -143,6 +170,9 @@ impl Device {
     /// It is started again over its files.
     pub fn restart(&mut self) -> Result<(), StepFault>
         ensures keeps { DeviceKeeps self.old self.new }
+        ensures runs { DeviceRuns self.old self.new }
+        ensures running { OnOk result (is_some self.new.node ≡ true) }
+        ensures links { OnOk result (IsUnlinked self.new) }
         ensures unrefused { IsNotRefused result }
     {
         self.node = None;
@@ -224,6 +254,9 @@ impl Device {
     // Adds the next contact.
     fn add_contact(&mut self) -> Result<Ran, StepFault>
         ensures keeps { DeviceKeeps self.old self.new }
+        ensures runs { DeviceRuns self.old self.new }
+        ensures running { OnOk result (is_some self.new.node ≡ true) }
+        ensures links { LinksBy result self.old self.new }
         ensures refused { RefusedBy (refuses_contact self.old.node) result }
         ensures same { IsErrOf result StepFault.Refused → self.new ≡ self.old }
     {
@@ -239,6 +272,9 @@ impl Device {
     /// Adds a group.
     pub fn add_group(&mut self, def: GroupDef) -> Result<Ran, StepFault>
         ensures keeps { DeviceKeeps self.old self.new }
+        ensures runs { DeviceRuns self.old self.new }
+        ensures running { OnOk result (is_some self.new.node ≡ true) }
+        ensures links { LinksBy result self.old self.new }
         ensures refused { RefusedBy (refuses_group self.old.node def) result }
         ensures same { IsErrOf result StepFault.Refused → self.new ≡ self.old }
     {
@@ -259,6 +295,9 @@ impl Device {
         level: Level,
     ) -> Result<Ran, StepFault>
         ensures keeps { DeviceKeeps self.old self.new }
+        ensures runs { DeviceRuns self.old self.new }
+        ensures running { OnOk result (is_some self.new.node ≡ true) }
+        ensures links { LinksBy result self.old self.new }
         ensures refused { RefusedBy (refuses_level self.old.node contact group.now) result }
         ensures same { IsErrOf result StepFault.Refused → self.new ≡ self.old }
     {
@@ -274,6 +313,9 @@ impl Device {
     /// Writes a message.
     pub fn author(&mut self, message: Message) -> Result<Ran, StepFault>
         ensures keeps { DeviceKeeps self.old self.new }
+        ensures runs { DeviceRuns self.old self.new }
+        ensures running { OnOk result (is_some self.new.node ≡ true) }
+        ensures links { LinksBy result self.old self.new }
         ensures refused { RefusedBy (refuses_message self.old.node message) result }
         ensures same { IsErrOf result StepFault.Refused → self.new ≡ self.old }
     {
@@ -291,6 +333,9 @@ impl Device {
     fn add(&mut self, entry: Entry) -> Result<Ran, StepFault>
         requires { MayAdd self.old.node entry }
         ensures keeps { DeviceKeeps self.old self.new }
+        ensures runs { DeviceRuns self.old self.new }
+        ensures running { OnOk result (is_some self.new.node ≡ true) }
+        ensures links { LinksBy result self.old self.new }
         ensures unrefused { IsNotRefused result }
     {
         cite_laws();
@@ -320,6 +365,9 @@ impl Device {
         requires latency { 1 ≤ plan.now.latency }
         requires nonce { suits_nonce plan.now.mode nonce ≡ true }
         ensures keeps { DeviceKeeps self.old self.new }
+        ensures runs { DeviceRuns self.old self.new }
+        ensures running { OnOk result (is_some self.new.node ≡ true) }
+        ensures links { LinksByAttach plan.now.contact result self.old self.new }
         ensures refused { RefusedBy (refuses_link self.old.node self.old.links
             plan.now.contact) result }
         ensures same { IsErrOf result StepFault.Refused → self.new ≡ self.old }
@@ -349,7 +397,9 @@ impl Device {
     }
 
     /// Whether a link is still asked.
-    pub fn is_asked(&self, link: u8) -> bool {
+    pub fn is_asked(&self, link: u8) -> bool
+        ensures { result ≡ asks (end_at self.now link) }
+    {
         match &self.node {
             Some(node) if link < self.links => node.ending(link) == LinkEnd::Going,
             _ => false,
@@ -357,7 +407,9 @@ impl Device {
     }
 
     /// Whether a link was closed on this side.
-    pub fn is_closed(&self, link: u8) -> bool {
+    pub fn is_closed(&self, link: u8) -> bool
+        ensures { result ≡ is_shut (end_at self.now link) }
+    {
         match &self.node {
             Some(node) if link < self.links => {
                 !matches!(node.ending(link), LinkEnd::Going | LinkEnd::Clean)
@@ -366,24 +418,31 @@ impl Device {
         }
     }
 
-    /// Plans what a link is to answer next.
+    /// Plans what a link is to answer next. A link that it has not had is left.
     pub fn plan(&mut self, link: u8, answer: Answer) -> Result<(), AllocError>
-        ensures { DeviceKeeps self.old self.new }
+        ensures keeps { DeviceKeeps self.old self.new }
+        ensures runs { DeviceRuns self.old self.new }
+        ensures links { LinksByPlan link answer result self.old self.new }
     {
-        if (link as usize) < LINKS {
+        if link < self.links && (link as usize) < LINKS {
             self.host.script(link, answer)?;
         }
         Ok(())
     }
 
     /// The bytes that were sent on a link since the device was started.
-    pub fn sent(&self, link: u8) -> &[u8] {
+    pub fn sent(&self, link: u8) -> &[u8]
+        ensures { result.now ≡ sent_by self.now.host link }
+    {
         self.host.sent(link)
     }
 
     /// Makes a turn. Answers whether all links were still, or nothing where the device crashed.
     pub fn turn(&mut self) -> Result<Option<bool>, StepFault>
         ensures keeps { DeviceKeeps self.old self.new }
+        ensures runs { DeviceRuns self.old self.new }
+        ensures running { OnOk result (is_some self.new.node ≡ true) }
+        ensures links { LinksByTurn result self.old self.new }
         ensures unrefused { IsNotRefused result }
     {
         let Some(node) = &mut self.node else {

@@ -1,0 +1,134 @@
+-- What calls of a device do to its links.
+use Rattle.std.specs.Prelude.{◌≡◌, ◌⊎◌, ℕ, ◌+◌, ◌<◌, ◌≤◌, Bool, true, false, not, List, [], ◌++◌, length, Option, Some, None, is_some, slice_get, Result, Ok, Err, MatchOption, OnOk}
+use Rattle.std.specs.Option.{option_map}
+use Rattle.std.specs.declared.alloc.AllocError.{AllocError}
+use Rattle.outside.specs.HostTold.{host_told}
+use Rattle.outside.specs.MemHost.{MemHostValue}
+use Rattle.outside.specs.declared.answer.Answer.{Answer}
+use Rattle.client_basic.specs.Bodies.{bundle_meaning}
+use Rattle.sync_course.specs.declared.ends.LinkEnd.{LinkEnd}
+use Rattle.sync_course.specs.Links.{is_going, is_sent_to}
+use Rattle.sync_rules.specs.Facts.{facts, session_at}
+use Rattle.sync_rules.specs.Legal.{Legal}
+use Rattle.sync_store.specs.Store.{StoreValue}
+use Rattle.sync_node.specs.declared.link.Link.{Link}
+use Rattle.sync_node.specs.Node.{NodeValue}
+use Rattle.sync_node.specs.Output.{output}
+use Rattle.world_laws.specs.Worlds.{HasSession}
+use Rattle.world_devices.specs.Brought.{brought_on, bytes_of, sent_by}
+use Rattle.world_devices.specs.Devices.{DeviceValue}
+use Rattle.world_devices.specs.Keeping.{Journal}
+use Rattle.world_devices.specs.Running.{Holds}
+use Rattle.world_devices.specs.declared.stop.Ran.{Ran}
+use Rattle.world_devices.specs.declared.stop.Ran.TheVariants as ran
+use Rattle.world_devices.specs.declared.stop.StepFault.{StepFault}
+
+-- ---- what a device that runs has
+
+-- the number of its node's first session, and how many links the node has
+abbrev pub first_of : Option NodeValue → Option ℕ
+first_of node = option_map (λ (n : NodeValue). n.first) node
+
+abbrev pub number_of : Option NodeValue → Option ℕ
+number_of node = option_map (λ (n : NodeValue). length n.links) node
+
+abbrev pub store_of : Option NodeValue → Option StoreValue
+store_of node = option_map (λ (n : NodeValue). n.store) node
+
+-- how a link stands, where the device runs and has it
+abbrev pub end_in : Option NodeValue → ℕ → Option LinkEnd
+end_in None link = None
+end_in (Some n) link = option_map (λ (l : Link). l.end) (slice_get n.links link)
+
+abbrev pub end_at : DeviceValue → ℕ → Option LinkEnd
+end_at d link = end_in d.node link
+
+-- a link that is still asked, and one that was closed on this side
+abbrev pub asks : Option LinkEnd → Bool
+asks None = false
+asks (Some stands) = is_going stands
+
+abbrev pub is_shut : Option LinkEnd → Bool
+is_shut None = false
+is_shut (Some stands) = not (is_sent_to stands)
+
+-- ---- what calls leave of links
+
+-- the device goes on with the links that it had, and each brings what it brought
+pub record KeepsLinks (old new : DeviceValue) : Type 0 where
+  pub same_first : first_of new.node ≡ first_of old.node
+  pub same_number : number_of new.node ≡ number_of old.node
+  pub same_links : new.links ≡ old.links
+  pub brings : (link : ℕ) → brought_on new.host link ≡ brought_on old.host link
+
+-- it has no links
+pub record IsUnlinked (d : DeviceValue) : Type 0 where
+  pub none : d.links ≡ 0
+  pub unlinked : number_of d.node ≡ Some 0
+
+-- by what came of a call
+abbrev pub LinksBy : Result Ran StepFault → DeviceValue → DeviceValue → Type 0
+LinksBy (Ok ran.Done) old new = KeepsLinks old new
+LinksBy (Ok ran.Crashed) old new = IsUnlinked new
+LinksBy (Err fault) old new = Unit {0}
+
+-- by what a turn answers
+abbrev pub LinksByTurn : Result (Option Bool) StepFault → DeviceValue → DeviceValue → Type 0
+LinksByTurn (Ok (Some still)) old new = KeepsLinks old new
+LinksByTurn (Ok None) old new = IsUnlinked new
+LinksByTurn (Err fault) old new = Unit {0}
+
+-- a session with this contact began on one link more, behind the others, on which nothing is heard yet
+pub record AddsLink (contact session : ℕ) (old new : DeviceValue) : Type 0 where
+  pub same_first : first_of new.node ≡ first_of old.node
+  pub number : number_of new.node ≡ Some (old.links + 1)
+  pub one_more : new.links ≡ old.links + 1
+  pub numbered : option_map (λ (n : NodeValue). n.first + old.links) old.node ≡ Some session
+  pub brings : (link : ℕ) → brought_on new.host link ≡ brought_on old.host link
+  pub quiet : brought_on new.host old.links ≡ []
+  pub begun : (j : Journal) → Holds j new.host → HasSession j session contact
+
+abbrev pub LinksByAttach : ℕ → Result (Option ℕ) StepFault → DeviceValue → DeviceValue → Type 0
+LinksByAttach contact (Ok (Some session)) old new = AddsLink contact session old new
+LinksByAttach contact (Ok None) old new = IsUnlinked new
+LinksByAttach contact (Err fault) old new = Unit {0}
+
+-- one of its links is to bring the bytes of this answer too
+pub record PlansMore (link : ℕ) (answer : Answer) (old new : DeviceValue) : Type 0 where
+  pub same_node : new.node ≡ old.node
+  pub same_links : new.links ≡ old.links
+  pub here : link < old.links → brought_on new.host link ≡ brought_on old.host link ++ bytes_of answer
+  pub others : (i : ℕ) → (i ≡ link → ⊥) ⊎ (old.links ≤ link) → brought_on new.host i ≡ brought_on old.host i
+
+-- where there was no memory all is as before
+abbrev pub LinksByPlan : ℕ → Answer → Result (Unit {0}) AllocError → DeviceValue → DeviceValue → Type 0
+LinksByPlan link answer (Ok _) old new = PlansMore link answer old new
+LinksByPlan link answer (Err _) old new = new ≡ old
+
+-- ---- what stands on the links
+
+-- Of a device that runs and holds a journal: its store has the facts of the journal. The session of each link is in the journal;
+-- on a link that is not closed on this side all output of its session was sent. A link that it has not had brings nothing.
+pub record LinksStand (n : NodeValue) (d : DeviceValue) (j : Journal) : Type 0 where
+  pub facts_are : n.store.state.facts ≡ facts j
+  pub legal : Legal bundle_meaning j
+  pub counted : d.links ≡ length n.links
+  pub known : (link : ℕ) (l : Link) → slice_get n.links link ≡ Some l → session_at (facts j).sessions (n.first + link) ≡ Some l.session
+  pub sent : (link : ℕ) (l : Link) → slice_get n.links link ≡ Some l → is_sent_to l.end ≡ true → sent_by d.host link ≡ output j (n.first + link)
+  pub unused : (link : ℕ) → d.links ≤ link → brought_on d.host link ≡ []
+
+pub record DeviceLinksStand (d : DeviceValue) : Type 0 where
+  pub each : (n : NodeValue) → d.node ≡ Some n → (j : Journal) → Holds j d.host → LinksStand n d j
+
+-- ---- a new device
+
+-- it runs, and holds a journal with so many contacts and no message; it has no links, and this time
+pub record IsNewDevice (contacts clock : ℕ) (d : DeviceValue) : Type 0 where
+  pub runs : is_some d.node ≡ true
+  pub whole : Journal
+  pub holds : Holds whole d.host
+  pub legal : Legal bundle_meaning whole
+  pub empty : (facts whole).held ≡ []
+  pub contacts_are : (facts whole).contacts ≡ contacts
+  pub unlinked : IsUnlinked d
+  pub clock_is : d.clock ≡ clock

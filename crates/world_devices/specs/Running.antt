@@ -1,0 +1,56 @@
+-- How the journal of a device goes on in a call, and which records it takes.
+use Rattle.std.specs.Prelude.{◌≡◌, ℕ, ◌+◌, ◌-◌, Bool, true, cond, ◌&&◌, nat_le, nat_lt, List, [], ◌++◌, length, Option, Some, None, is_some}
+use Rattle.outside.specs.Files.{Two, File, IsImage, read_files}
+use Rattle.outside.specs.HostTold.{host_told}
+use Rattle.outside.specs.MemHost.{MemHostValue}
+use Rattle.record_grammar.specs.Stream.{records}
+use Rattle.sync_ids.specs.declared.records.Record.{Record}
+use Rattle.client_basic.specs.Bodies.{bundle_meaning}
+use Rattle.entry_codec.specs.Standing.{stands, journal}
+use Rattle.sync_rules.specs.Facts.{facts}
+use Rattle.sync_rules.specs.Legal.{GoesOn}
+use Rattle.sync_node.specs.Node.{NodeValue}
+use Rattle.world_laws.specs.Worlds.{AllHeard}
+use Rattle.world_devices.specs.Brought.{brought_on}
+use Rattle.world_devices.specs.Devices.{DeviceValue}
+use Rattle.world_devices.specs.Keeping.{Journal}
+
+-- ---- the journal
+
+-- whatever a crash leaves of the files now stands for this journal
+pub record Holds (j : Journal) (host : MemHostValue) : Type 0 where
+  pub each : (two : Two File) → (host_told host).files ≡ Some two → (left : Two (List ℕ)) → IsImage two left → stands bundle_meaning left ≡ journal j
+
+-- the files as they read stand for this journal
+pub record Reads (j : Journal) (host : MemHostValue) : Type 0 where
+  pub each : (two : Two File) → (host_told host).files ≡ Some two → stands bundle_meaning (read_files two) ≡ journal j
+
+-- ---- the records that it may take
+
+-- the session is that of one of the node's links
+abbrev pub is_session_of : NodeValue → ℕ → Bool
+is_session_of n session = nat_le n.first session && nat_lt session (n.first + length n.links)
+
+abbrev pub records_of : Option NodeValue → MemHostValue → ℕ → List Record
+records_of None host session = []
+records_of (Some n) host session = cond (is_session_of n session) (records (brought_on host (session - n.first))) []
+
+-- the records that a session of a device may take now: those that its link brings
+abbrev pub records_for : DeviceValue → ℕ → List Record
+records_for d session = records_of d.node d.host session
+
+-- ---- a call
+
+-- The journal of a device went on, behind j: by batches that may follow, each record that they take being one of `heard`. The
+-- files as they read stand for it, and where the device runs whatever a crash leaves of them does.
+pub record ComesFrom (heard : ℕ → List Record) (j : Journal) (new : DeviceValue) : Type 0 where
+  pub more : Journal
+  pub allowed : GoesOn bundle_meaning (facts j) more
+  pub all_heard : AllHeard heard (facts j) more
+  pub reads : Reads (j ++ more) new.host
+  pub holds : is_some new.node ≡ true → Holds (j ++ more) new.host
+
+-- a call of a device: from each journal that its files held, its journal went on, and each record that it took is one that its
+-- links brought by then
+pub record DeviceRuns (old new : DeviceValue) : Type 0 where
+  pub comes : (j : Journal) → Holds j old.host → ComesFrom (records_for old) j new
