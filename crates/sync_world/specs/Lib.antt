@@ -1,2 +1,4 @@
 pub mod Asking
+pub mod Cited
 pub mod Moving
+pub mod Shown

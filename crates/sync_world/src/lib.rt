@@ -11,6 +11,7 @@
 #![tactic(auto)]
 
 mod asking;
+mod laws;
 mod naming;
 mod player;
 mod playing;

@@ -1,0 +1,22 @@
+-- The laws of the crates below that the proofs of this one rest on.
+use Rattle.std.specs.Prelude.{ℕ, Bool, List}
+use Rattle.record_grammar.specs.Laws.{FrontsHaveFronts, SpelledRecordsAreStreams, SpellingsReadBack}
+use Rattle.sync_rules.specs.Clients.{Meaning}
+use Rattle.sync_rules.specs.Naming.{MessageIdsAreWhole}
+use Rattle.world_laws.specs.Moves.{Move, world_after}
+use Rattle.world_laws.specs.Theorem.{IsNewWorld, IsSoundWorld}
+use Rattle.world_laws.specs.Worlds.{AreSteps, IsStep, World, last_of}
+
+-- what spellings are read as, and how long the ids of messages are
+pub record RecordLaws : Type 0 where
+  pub read_back : SpellingsReadBack
+  pub streams : SpelledRecordsAreStreams
+  pub fronts : FrontsHaveFronts
+  pub whole : MessageIdsAreWhole
+
+-- what steps of a world keep, and that moves are steps
+pub record WorldLaws : Type 0 where
+  pub new : (clients : Meaning) (w : World) → IsNewWorld clients w → IsSoundWorld clients w
+  pub steps : (clients : Meaning) (w : World) (worlds : List World) → IsSoundWorld clients w → AreSteps clients w worlds
+      → IsSoundWorld clients (last_of w worlds)
+  pub moves : (clients : Meaning) (w : World) (move : Move) (near : Bool) (link : ℕ) → IsStep clients w (world_after move near link w)

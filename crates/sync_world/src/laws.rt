@@ -1,0 +1,24 @@
+//! The laws of the crates below that proofs of this crate rest on.
+ghost use Rattle.sync_world.specs.Cited.{RecordLaws, WorldLaws};
+
+use record_grammar::{fronts_have_fronts, spelled_records_are_streams, spellings_read_back};
+use sync_ids::message_ids_are_whole;
+use world_laws::{moves, steps_keep};
+
+/// What spellings are read as, and how long the ids of messages are.
+pub(crate) fn cite_records()
+    ensures { RecordLaws }
+{
+    spellings_read_back();
+    spelled_records_are_streams();
+    fronts_have_fronts();
+    message_ids_are_whole();
+}
+
+/// What steps of a world of several devices keep, and that moves are steps.
+pub(crate) fn cite_worlds()
+    ensures { WorldLaws }
+{
+    steps_keep();
+    moves();
+}
