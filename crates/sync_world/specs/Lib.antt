@@ -3,3 +3,4 @@ pub mod Beginning
 pub mod Cited
 pub mod Moving
 pub mod Shown
+pub mod Standing

@@ -1,5 +1,5 @@
 -- The links of a world of bytes, shown as the links of a world of records: of which the theorem of many devices speaks.
-use Rattle.std.specs.Prelude.{◌≡◌, ◌⊎◌, ℕ, ◌-◌, ◌==◌, ◌||◌, ◌&&◌, Bool, true, false, if◌then◌else◌, nat_eq, List, [], ◌∷◌, ◌++◌, map, Option, Some, None}
+use Rattle.std.specs.Prelude.{◌≡◌, ◌⊎◌, ℕ, ◌-◌, ◌==◌, ◌||◌, ◌&&◌, Bool, true, false, if◌then◌else◌, nat_eq, nat_lt, List, [], ◌∷◌, ◌++◌, map, Option, Some, None}
 use Rattle.std.specs.List.{AllByRecursion}
 use Rattle.sync_ids.specs.declared.records.Record.{Record}
 use Rattle.sync_ids.specs.Records.{IsRecord}
@@ -182,4 +182,4 @@ pub record IsGivenAt (d session : ℕ) (xs : List RecordLink) (r : Record) : Typ
 
 -- the records among the bytes that were heard on the links of a run, by session: the first link has the session `first`
 abbrev pub heard_in_run : ℕ → (ℕ → List ℕ) → ℕ → List Record
-heard_in_run first heard session = records (heard (session - first))
+heard_in_run first heard session = if nat_lt session first then [] else records (heard (session - first))
