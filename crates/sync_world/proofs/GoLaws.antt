@@ -19,7 +19,11 @@ use Rattle.world_laws.specs.Worlds.{Journal, World, journal_at, journal_in}
 use Rattle.world_devices.specs.Brought.{brought_on}
 use Rattle.world_devices.specs.Cited.{SentGrows}
 use Rattle.world_devices.specs.Devices.{DeviceValue}
-use Rattle.world_devices.specs.Linking.{IsUnlinked, KeepsLinks, number_of}
+use Rattle.world_devices.specs.Linking.{IsUnlinked, KeepsLinks, LinksBy, number_of}
+use Rattle.world_devices.specs.declared.stop.Ran.{Ran}
+use Rattle.world_devices.specs.declared.stop.Ran.TheVariants as ran
+use Rattle.world_devices.specs.declared.stop.StepFault.{StepFault}
+use Rattle.world_devices.specs.declared.stop.StepFault.TheVariants as fault
 use Rattle.world_devices.specs.Running.{ComesFrom, DeviceRuns, Holds, Reads, is_session_of, records_for, records_of}
 use Rattle.world_links.specs.Ends.{EndValue, input_of}
 use Rattle.world_links.specs.Links.{cut, detached, left_at, left_by, side_of, with_flight}
@@ -27,12 +31,13 @@ use Rattle.world_links.specs.declared.moves.Side.TheVariants as side
 use Rattle.world_links.specs.declared.link.Link.{Link}
 use Rattle.sync_world.specs.Cited.{RecordLaws}
 use Rattle.sync_world.specs.Shown.{IsGivenAt, MovesShown, MovesTo, Reaches, ShowsLinks, ShownAt, heard_by, left_link, world_of}
-use Rattle.sync_world.specs.Standing.{AllWired, ArePlaced, AreRead, AreUp, AreWired, IsShown, IsUp, IsWired, LeadsOn, own_end, place_in, place_on, session_on}
+use Rattle.sync_world.specs.Staging.{after_ran}
+use Rattle.sync_world.specs.Standing.{AllWired, ArePlaced, AreRead, AreUp, AreWired, IsShown, IsUp, IsWired, LeadsOn, is_fatal, own_end, place_in, place_on, session_on}
 use Rattle.sync_world.proofs.HearLaws.{given_front_records}
 use Rattle.sync_world.proofs.ReachLaws.{reaches_none, reaches_then}
 use Rattle.sync_world.proofs.RunLaws.{given_heard, journal_set_other, journal_set_own, left_reached, links_same, run_reached}
 use Rattle.sync_world.proofs.ShownMoves.{shown_all_left, shown_at}
-use Rattle.sync_world.proofs.WireLaws.{AllMove, EndMoves, LinkMoves, all_map, all_placed, all_wired, eqb_not, get_cases, get_set, get_within, kept_wired, link_stays, own_far, own_is, own_near, own_none, placed_end, set_length, some_same}
+use Rattle.sync_world.proofs.WireLaws.{AllMove, EndMoves, LinkMoves, all_map, all_placed, all_wired, eqb_not, get_cases, get_set, get_within, kept_wired, link_stays, own_far, own_is, own_near, own_none, placed_end, set_back, set_length, some_same}
 
 -- ---- journals
 
@@ -327,3 +332,23 @@ crashed_leads laws w devices links d old new s is runs running unlinked =
             (s.wired e other there));
       };
     }
+
+-- ---- what a call of a device answers
+
+pub call_failed : RecordLaws → (w : World) (devices : List DeviceValue) (links : List Link) (d : ℕ) (old new : DeviceValue) (e : StepFault) → IsShown w devices links
+    → slice_get devices d ≡ Some old → DeviceRuns old new → (e ≡ fault.Refused → new ≡ old)
+    → LeadsOn w (is_fatal {A = Unit {0}} (Err e)) (slice_set devices d new) links
+call_failed laws w devices links d old new fault.Refused s is runs same =
+    subst (λ (ds : List DeviceValue). LeadsOn w false ds links) (sym (set_back devices d old new is (same refl))) (stays w devices links s)
+call_failed laws w devices links d old new fault.Full s is runs same = failed_leads laws w devices links links d old new s is runs
+call_failed laws w devices links d old new fault.Memory s is runs same = failed_leads laws w devices links links d old new s is runs
+
+pub call_came : RecordLaws → SentGrows → (w : World) (devices : List DeviceValue) (links : List Link) (d : ℕ) (old new : DeviceValue) (came : Ran) → IsShown w devices links
+    → slice_get devices d ≡ Some old → DeviceRuns old new → is_some new.node ≡ true → LinksBy (Ok came) old new
+    → LeadsOn w false (slice_set devices d new) (after_ran came d links)
+call_came laws grows w devices links d old new ran.Done s is runs running keeps = kept_leads laws grows w devices links d old new s is runs running keeps
+call_came laws grows w devices links d old new ran.Crashed s is runs running unlinked = crashed_leads laws w devices links d old new s is runs running unlinked
+
+-- nothing was done
+pub same_leads : (w : World) (fatal : Bool) (devices : List DeviceValue) (links : List Link) → IsShown w devices links → LeadsOn w fatal devices links
+same_leads w fatal devices links s = read_at_all w fatal devices links (stays w devices links s)

@@ -9,3 +9,5 @@ pub mod OutputLaws
 pub mod WireLaws
 pub mod GoLaws
 pub mod WorldLaws
+pub mod PlanLaws
+pub mod LinkLaws
