@@ -6,3 +6,4 @@ pub mod HearLaws
 pub mod RunLaws
 pub mod FirstLaws
 pub mod OutputLaws
+pub mod BecomeLaws
