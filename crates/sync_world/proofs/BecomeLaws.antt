@@ -1,5 +1,5 @@
 -- What links show after a step of a world in bytes that is a move or a cut.
-use Rattle.std.proofs.Common.{◌≡◌, ℕ, Bool, true, false, if◌then◌else◌, List, refl, sym, ap, subst, Option, Some, None, Result, Ok, Err}
+use Rattle.std.proofs.Common.{◌≡◌, ℕ, Bool, true, false, if◌then◌else◌, List, refl, sym, subst, Option, Some, None, Result, Ok, Err}
 use Rattle.std.specs.Prelude.{slice_get, slice_set}
 use Rattle.sync_rules.specs.Clients.{Meaning}
 use Rattle.world_devices.specs.declared.stop.StepFault.{StepFault}
