@@ -6,3 +6,6 @@ pub mod HearLaws
 pub mod RunLaws
 pub mod FirstLaws
 pub mod OutputLaws
+pub mod ShownRuns
+pub mod SoundLaws
+pub mod BecomeLaws

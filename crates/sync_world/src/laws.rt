@@ -3,9 +3,11 @@ ghost use Rattle.sync_world.specs.Cited.{RecordLaws, WorldLaws};
 
 use record_grammar::{fronts_have_fronts, spelled_records_are_streams, spellings_read_back};
 use sync_ids::message_ids_are_whole;
+use sync_rules::laws::sent_grows;
 use world_laws::{moves, steps_keep};
 
-/// What spellings are read as, and how long the ids of messages are.
+/// What spellings are read as, how long the ids of messages are, and that what a session sends only
+/// grows.
 pub(crate) fn cite_records()
     ensures { RecordLaws }
 {
@@ -13,6 +15,7 @@ pub(crate) fn cite_records()
     spelled_records_are_streams();
     fronts_have_fronts();
     message_ids_are_whole();
+    sent_grows();
 }
 
 /// What steps of a world of several devices keep, and that moves are steps.
