@@ -9,3 +9,6 @@ pub mod OutputLaws
 pub mod ShownRuns
 pub mod SoundLaws
 pub mod BecomeLaws
+pub mod LoopLaws
+pub mod WireLaws
+pub mod TurnLaws

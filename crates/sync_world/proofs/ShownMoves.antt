@@ -132,10 +132,14 @@ shown_emptied l x s = record { near = end_emptied l.near x.near s.near; far = en
 
 left_cases : (a b : Bool) (l : Link) (x : RecordLink) → ShowsLink l x
     → ShowsLink (left_at (if a then Some side.Near else if b then Some side.Far else None) l) (if a || b then emptied x else x)
-left_cases true b l x s = record { near = record { device = s.near.device; session = s.near.session; flight = refl; given = s.near.given; flight_within = tt; given_within = s.near.given_within };
-  far = end_emptied l.far x.far s.far }
-left_cases false true l x s = record { near = end_emptied l.near x.near s.near;
-  far = record { device = s.far.device; session = s.far.session; flight = refl; given = s.far.given; flight_within = tt; given_within = s.far.given_within } }
+left_cases true b l x s = record {
+  near = record { device = s.near.device; session = s.near.session; flight = refl; given = s.near.given; flight_within = tt; given_within = s.near.given_within };
+  far = end_emptied l.far x.far s.far;
+}
+left_cases false true l x s = record {
+  near = end_emptied l.near x.near s.near;
+  far = record { device = s.far.device; session = s.far.session; flight = refl; given = s.far.given; flight_within = tt; given_within = s.far.given_within };
+}
 left_cases false false l x s = s
 
 pub shown_left : (d : ℕ) (l : Link) (x : RecordLink) → ShowsLink l x → ShowsLink (left_by d l) (left_link d x)

@@ -94,7 +94,7 @@ sound_linked laws clients js ls d e two s = record {
   links = s.links ++ record { near = new_end d; far = new_end e } ∷ [];
   shown = shown_linked d e ls s.links s.shown;
   sound = reaches_sound laws clients (world_of js s.links) (world_of js (s.links ++ record { near = new_end d; far = new_end e } ∷ []))
-  (linked_reached clients d e js s.links two) s.sound;
+      (linked_reached clients d e js s.links two) s.sound;
 }
 
 -- where a device starts anew with the journal that it had
@@ -116,8 +116,8 @@ sound_runs laws clients d js ls ls' j heard within adds given runs s =
       links = made.after;
       shown = made.shown;
       sound = reaches_sound laws clients (world_of js s.links) (world_of (slice_set js d j) made.after)
-      (run_reached clients d js s.links made.after j adds.more heard within adds.goes_on adds.allowed adds.all_heard
-      (λ session r inside. heard_stays d j session s.links made.after r made.runs (given s.links s.shown session r inside)) made.runs) s.sound;
+          (run_reached clients d js s.links made.after j adds.more heard within adds.goes_on adds.allowed adds.all_heard
+          (λ session r inside. heard_stays d j session s.links made.after r made.runs (given s.links s.shown session r inside)) made.runs) s.sound;
     }
 
 -- where it adds what its run heard

@@ -4,3 +4,4 @@ pub mod Cited
 pub mod Moving
 pub mod Shown
 pub mod Standing
+pub mod Turning
