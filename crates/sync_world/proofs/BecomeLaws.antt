@@ -51,8 +51,8 @@ pub move_becomes_shown : WorldLaws → (clients : Meaning) (how : Move) (d i : �
     → Becomes (link_moved how d (slice_get old i)) i old new result → ShowsLinks old xs → MovesShown clients new xs
 move_becomes_shown laws clients how d i old new result xs becomes s =
     becomes_shown clients (link_moved how d (slice_get old i)) i old new result xs (shown_stays clients old xs s) (λ m is.
-        let moves = moved_link how d (slice_get old i) m is in
-        subst (λ (l : Link). MovesShown clients (slice_set old i l) xs) moves.is (move_shown laws clients how moves.from i old xs moves.link moves.was s)) becomes
+    let moves = moved_link how d (slice_get old i) m is in
+    subst (λ (l : Link). MovesShown clients (slice_set old i l) xs) moves.is (move_shown laws clients how moves.from i old xs moves.link moves.was s)) becomes
 
 -- ---- cuts
 
@@ -73,5 +73,5 @@ pub cut_becomes_shown : WorldLaws → (clients : Meaning) (i : ℕ) (old new : L
     → Becomes (link_cut (slice_get old i)) i old new result → ShowsLinks old xs → MovesShown clients new xs
 cut_becomes_shown laws clients i old new result xs becomes s =
     becomes_shown clients (link_cut (slice_get old i)) i old new result xs (shown_stays clients old xs s) (λ m is.
-        let made = cut_link (slice_get old i) m is in
-        subst (λ (l : Link). MovesShown clients (slice_set old i l) xs) made.is (cut_shown laws clients i old xs made.link made.was s)) becomes
+    let made = cut_link (slice_get old i) m is in
+    subst (λ (l : Link). MovesShown clients (slice_set old i l) xs) made.is (cut_shown laws clients i old xs made.link made.was s)) becomes

@@ -12,3 +12,5 @@ pub mod BecomeLaws
 pub mod LoopLaws
 pub mod WireLaws
 pub mod TurnLaws
+pub mod GoLaws
+pub mod WorldLaws

@@ -195,7 +195,7 @@ looked_end laws rs more e x seen within was s = record {
   device = s.device;
   session = s.session;
   flight = looked_flight laws rs more e within was
-  ∙ (ap (λ (l : List (List ℕ)). l ++ map spelling more) s.flight ∙ sym (map-append spelling x.flight more));
+      ∙ (ap (λ (l : List (List ℕ)). l ++ map spelling more) s.flight ∙ sym (map-append spelling x.flight more));
   given = s.given;
   flight_within = all_append x.flight more s.flight_within (all_behind rs more within);
   given_within = s.given_within;

@@ -5,3 +5,4 @@ pub mod Moving
 pub mod Shown
 pub mod Standing
 pub mod Turning
+pub mod Staging

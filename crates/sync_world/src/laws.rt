@@ -1,5 +1,6 @@
 //! The laws of the crates below that proofs of this crate rest on.
 ghost use Rattle.sync_world.specs.Cited.{RecordLaws, WorldLaws};
+ghost use Rattle.world_devices.specs.Cited.{SentGrows};
 
 use record_grammar::{fronts_have_fronts, spelled_records_are_streams, spellings_read_back};
 use sync_ids::message_ids_are_whole;
@@ -24,4 +25,15 @@ pub(crate) fn cite_worlds()
 {
     steps_keep();
     moves();
+}
+
+/// The laws of steps and of records, and that what a session sends only grows.
+pub(crate) fn cite_laws()
+    ensures records { RecordLaws }
+    ensures worlds { WorldLaws }
+    ensures grows { SentGrows }
+{
+    cite_records();
+    cite_worlds();
+    sent_grows();
 }

@@ -1,11 +1,14 @@
 //! The devices of a world and the links between them, and what steps do to these.
 ghost use Rattle.std.specs.Prelude.{◌≡◌, ◌≢◌, ◌≤◌, true, Err, IfOk, None, Some, slice_get};
 ghost use Rattle.sync_world.specs.Beginning.{IsNewWorld};
+ghost use Rattle.sync_world.specs.Staging.{after_ran};
+ghost use Rattle.sync_world.specs.Standing.{Goes, is_fatal};
 ghost use Rattle.sync_rules.specs.Legal.{suits_nonce};
 ghost use Rattle.sync_world.specs.Moving.{Becomes, BecomesOne, LeavesDevices, LinksBecome};
 ghost use Rattle.sync_world.specs.Moving.{fault_after, link_cut, link_moved};
 ghost use Rattle.world_devices.specs.declared.stop.StepFault.{StepFault};
 
+use crate::laws::cite_laws;
 use crate::naming::{contact_for, group_def, nonce_for};
 use crate::posting::{body_of, ids_of};
 use crate::turning::{carry_all, leave_all, look_all, plan_all};
@@ -73,6 +76,7 @@ impl Stage {
     /// Makes a step. After `Refused` the world is as before; after `Memory` or `Full` it answers
     /// that fault for good.
     pub fn step(&mut self, step: &WorldStep) -> Result<(), StepFault>
+        ensures goes { self.old.fault ≡ None → Goes (is_fatal result) self.old self.new }
         ensures for_good { (fault : StepFault) → self.old.fault ≡ Some fault
             → (result ≡ Err fault) × (self.new ≡ self.old) }
         ensures fault { self.old.fault ≡ None → self.new.fault ≡ fault_after result }
@@ -96,6 +100,7 @@ impl Stage {
         ensures links { LinksBecome step.now self.old.links.items self.new.links.items result }
         ensures devices { LeavesDevices step.now self.old.devices.items self.new.devices.items }
         ensures fault { self.new.fault ≡ self.old.fault }
+        ensures goes { Goes (is_fatal result) self.old self.new }
     {
         match step {
             WorldStep::Group(d, kind, descriptor) => {
@@ -123,7 +128,8 @@ impl Stage {
 // What devices do by themselves.
 impl Stage {
     fn add_group(&mut self, d: u8, kind: u8, descriptor: &str) -> Result<(), StepFault>
-        ensures { self.new.fault ≡ self.old.fault }
+        ensures fault { self.new.fault ≡ self.old.fault }
+        ensures goes { Goes (is_fatal result) self.old self.new }
     {
         let def = group_def(self.alloc, kind, descriptor)?;
         if d as usize >= self.devices.len() {
@@ -137,7 +143,8 @@ impl Stage {
     }
 
     fn share(&mut self, d: u8, e: u8, group: u64, level: Level) -> Result<(), StepFault>
-        ensures { self.new.fault ≡ self.old.fault }
+        ensures fault { self.new.fault ≡ self.old.fault }
+        ensures goes { Goes (is_fatal result) self.old self.new }
     {
         if d == e || e as usize >= self.devices.len() {
             return Err(StepFault::Refused);
@@ -163,7 +170,8 @@ impl Stage {
         parents: &Labels,
         text: &[u8],
     ) -> Result<(), StepFault>
-        ensures { self.new.fault ≡ self.old.fault }
+        ensures fault { self.new.fault ≡ self.old.fault }
+        ensures goes { Goes (is_fatal result) self.old self.new }
     {
         let message = self.message_of(group, time, parents, text)?;
         let id = id_of(&message);
@@ -203,7 +211,8 @@ impl Stage {
     }
 
     fn set_clock(&mut self, at: u64) -> Result<(), StepFault>
-        ensures { self.new.fault ≡ self.old.fault }
+        ensures fault { self.new.fault ≡ self.old.fault }
+        ensures goes { Goes (is_fatal result) self.old self.new }
     {
         'devices: for d in 0..self.devices.len() {
             let device = &mut self.devices[d];
@@ -213,7 +222,8 @@ impl Stage {
     }
 
     fn stop(&mut self, d: u8, calls: u64, pick: Pick) -> Result<(), StepFault>
-        ensures { self.new.fault ≡ self.old.fault }
+        ensures fault { self.new.fault ≡ self.old.fault }
+        ensures goes { Goes (is_fatal result) self.old self.new }
     {
         if d as usize >= self.devices.len() {
             return Err(StepFault::Refused);
@@ -224,7 +234,8 @@ impl Stage {
     }
 
     fn restart(&mut self, d: u8) -> Result<(), StepFault>
-        ensures { self.new.fault ≡ self.old.fault }
+        ensures fault { self.new.fault ≡ self.old.fault }
+        ensures goes { Goes (is_fatal result) self.old self.new }
     {
         if d as usize >= self.devices.len() {
             return Err(StepFault::Refused);
@@ -237,6 +248,7 @@ impl Stage {
 
     // What came of a call of a device: where it crashed it has its links no more.
     fn came(&mut self, d: u8, ran: Ran)
+        ensures links { self.new.links.items ≡ after_ran ran d self.old.links.items }
         ensures devices { self.new.devices.items ≡ self.old.devices.items }
         ensures fault { self.new.fault ≡ self.old.fault }
     {
@@ -249,7 +261,8 @@ impl Stage {
 // What goes over links.
 impl Stage {
     fn link(&mut self, d: u8, e: u8, mode: Mode, latency: u32) -> Result<(), StepFault>
-        ensures { self.new.fault ≡ self.old.fault }
+        ensures fault { self.new.fault ≡ self.old.fault }
+        ensures goes { Goes (is_fatal result) self.old self.new }
     {
         if d == e || latency == 0 || !self.has_room(d) || !self.has_room(e) {
             return Err(StepFault::Refused);
@@ -310,7 +323,8 @@ impl Stage {
 
     // A turn of a device. Answers whether all its links were still, or nothing where it crashed.
     fn turn(&mut self, d: u8) -> Result<Option<bool>, StepFault>
-        ensures { self.new.fault ≡ self.old.fault }
+        ensures fault { self.new.fault ≡ self.old.fault }
+        ensures goes { Goes (is_fatal result) self.old self.new }
     {
         if d as usize >= self.devices.len() {
             return Err(StepFault::Refused);
@@ -331,6 +345,7 @@ impl Stage {
         ensures links { Becomes (link_moved how d (slice_get self.old.links.items link)) link
             self.old.links.items self.new.links.items result }
         ensures fault { self.new.fault ≡ self.old.fault }
+        ensures goes { Goes (is_fatal result) self.old self.new }
     {
         if link >= self.links.len() as u64 {
             return Err(StepFault::Refused);
@@ -343,6 +358,7 @@ impl Stage {
         ensures links { Becomes (link_cut (slice_get self.old.links.items link)) link
             self.old.links.items self.new.links.items result }
         ensures fault { self.new.fault ≡ self.old.fault }
+        ensures goes { Goes (is_fatal result) self.old self.new }
     {
         if link >= self.links.len() as u64 {
             return Err(StepFault::Refused);
@@ -351,7 +367,8 @@ impl Stage {
     }
 
     fn rest(&mut self, rounds: u32) -> Result<(), StepFault>
-        ensures { self.new.fault ≡ self.old.fault }
+        ensures fault { self.new.fault ≡ self.old.fault }
+        ensures goes { Goes (is_fatal result) self.old self.new }
     {
         if rounds == 0 || u64::from(rounds) > MAX_ROUNDS {
             return Err(StepFault::Refused);
@@ -368,7 +385,8 @@ impl Stage {
     // A turn of each device that has had a link since it was started, and then all that is in
     // flight arrives.
     fn round(&mut self) -> Result<Round, StepFault>
-        ensures { self.new.fault ≡ self.old.fault }
+        ensures fault { self.new.fault ≡ self.old.fault }
+        ensures goes { Goes (is_fatal result) self.old self.new }
     {
         let mut still = true;
         'devices: for d in 0..MAX_DEVICES as u8 {
