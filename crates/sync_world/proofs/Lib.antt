@@ -6,7 +6,12 @@ pub mod HearLaws
 pub mod RunLaws
 pub mod FirstLaws
 pub mod OutputLaws
+pub mod ShownRuns
+pub mod SoundLaws
+pub mod BecomeLaws
+pub mod LoopLaws
 pub mod WireLaws
+pub mod TurnLaws
 pub mod GoLaws
 pub mod WorldLaws
 pub mod PlanLaws

@@ -1,5 +1,5 @@
 -- What is in flight after a look at what a device sent.
-use Rattle.std.proofs.Common.{◌≡◌, ℕ, zero, suc, ◌+◌, ◌*◌, ◌^◌, ◌==◌, ◌-◌, ◌<◌, ◌≤◌, min, Bool, true, false, if◌then◌else◌, List, [], ◌∷◌, ◌++◌, map, length, take, drop, refl, sym, ◌∙◌, ap, subst, arith, Option, Some, None, append_assoc, append-nil, length-append, length-drop, length-take, take_at, drop_at}
+use Rattle.std.proofs.Common.{◌≡◌, ℕ, zero, suc, ◌+◌, ◌*◌, ◌^◌, ◌==◌, ◌-◌, ◌≤◌, min, Bool, true, false, if◌then◌else◌, List, [], ◌∷◌, ◌++◌, map, length, take, drop, refl, sym, ◌∙◌, ap, subst, arith, Option, Some, None, length-append, length-drop, length-take, take_at, drop_at}
 use Rattle.std.specs.Prelude.{nat_lt}
 use Rattle.std.specs.List.{AllByRecursion}
 use Rattle.std.proofs.lemmas.Grind.{flat_map-append}
@@ -12,9 +12,8 @@ use Rattle.record_grammar.specs.declared.front.Kind.{Kind}
 use Rattle.record_grammar.specs.declared.front.Kind.TheVariants as kind
 use Rattle.record_grammar.specs.declared.front.Reason.{Reason}
 use Rattle.record_grammar.specs.declared.front.Reason.TheVariants as reason
-use Rattle.record_grammar.specs.declared.reading.Found.{Found}
 use Rattle.record_grammar.specs.declared.reading.Found.TheVariants as found
-use Rattle.record_grammar.specs.Reading.{decided_by, decided_header, decided_payload, decided_rest, found_at, found_in, found_payload, front_in, kind_of, refused_length, timestamp_in}
+use Rattle.record_grammar.specs.Reading.{decided_by, decided_payload, decided_rest, found_at, found_in, found_payload, front_in, kind_of, refused_length, timestamp_in}
 use Rattle.record_grammar.specs.Spelling.{spelled, spelling}
 use Rattle.entry_codec.specs.Spelling.{IsEntry, IsNonce}
 use Rattle.sync_rules.specs.declared.entries.Entry.{Entry}
@@ -196,7 +195,7 @@ looked_end laws rs more e x seen within was s = record {
   device = s.device;
   session = s.session;
   flight = looked_flight laws rs more e within was
-  ∙ (ap (λ (l : List (List ℕ)). l ++ map spelling more) s.flight ∙ sym (map-append spelling x.flight more));
+      ∙ (ap (λ (l : List (List ℕ)). l ++ map spelling more) s.flight ∙ sym (map-append spelling x.flight more));
   given = s.given;
   flight_within = all_append x.flight more s.flight_within (all_behind rs more within);
   given_within = s.given_within;

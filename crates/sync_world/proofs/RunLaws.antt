@@ -1,6 +1,6 @@
 -- A device that runs, as a step of a world.
 use Rattle.std.proofs.Common.{◌≡◌, ◌⊎◌, ℕ, zero, suc, ◌<◌, ◌==◌, ◌&&◌, ◌||◌, Bool, true, false, if◌then◌else◌, List, [], ◌∷◌, ◌++◌, map, length, refl, sym, ◌∙◌, ap, subst, inl, inr, arith, eq-eqb, eqb-true, Option, Some, None, append-nil}
-use Rattle.std.specs.Prelude.{nat_eq, slice_get, slice_set}
+use Rattle.std.specs.Prelude.{nat_eq, slice_set}
 use Rattle.std.proofs.lemmas.Bool.{and_from, and_parts, false≢true}
 use Rattle.sync_ids.specs.declared.records.Record.{Record}
 use Rattle.sync_rules.specs.declared.entries.Entry.{Entry}
@@ -308,14 +308,20 @@ pub run_reached : (clients : Meaning) (d : ℕ) (js : List Journal) (xs ys : Lis
 run_reached clients d js xs ys j more heard within goes_on allowed all_heard given links =
     let own : journal_in (slice_set js d j) d ≡ j = journal_set_own js d j within in
     reaches_one clients (world_of js xs) (world_of (slice_set js d j) ys)
-    (inl (d, device_runs clients d (world_of js xs) (world_of (slice_set js d j) ys) more heard (own ∙ goes_on) allowed (journal_set_other js d j) all_heard given
-    (subst (λ (k : Journal). LinksRun d k xs ys) (sym own) links)))
+    (inl (
+      d,
+      device_runs clients d (world_of js xs) (world_of (slice_set js d j) ys) more heard (own ∙ goes_on) allowed (journal_set_other js d j) all_heard given
+          (subst (λ (k : Journal). LinksRun d k xs ys) (sym own) links),
+    ))
 
 -- a device that starts anew with the journal that it had: it has no link any more
 pub left_reached : (clients : Meaning) (d : ℕ) (js : List Journal) (xs : List RecordLink) → MovesTo clients (world_of js xs) (world_of js (map (left_link d) xs))
 left_reached clients d js xs = record {
   reached = reaches_one clients (world_of js xs) (world_of js (map (left_link d) xs))
-  (inl (d, device_runs clients d (world_of js xs) (world_of js (map (left_link d) xs)) [] (λ session. []) (sym (append-nil (journal_in js d))) tt (λ e other. refl) tt
-  (λ session r inside. absurd inside) (links_left d (journal_in js d) xs)));
+      (inl (
+        d,
+        device_runs clients d (world_of js xs) (world_of js (map (left_link d) xs)) [] (λ session. []) (sym (append-nil (journal_in js d))) tt (λ e other. refl) tt
+            (λ session r inside. absurd inside) (links_left d (journal_in js d) xs),
+      ));
   journals = refl;
 }

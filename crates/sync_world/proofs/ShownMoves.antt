@@ -1,5 +1,5 @@
 -- What a link shows after a move, after a cut, and after all in flight arrived.
-use Rattle.std.proofs.Common.{◌≡◌, ℕ, zero, suc, ◌==◌, ◌||◌, Bool, true, false, if◌then◌else◌, List, [], ◌∷◌, ◌++◌, map, length, refl, sym, ◌∙◌, ap, subst, Option, Some, None, append-nil}
+use Rattle.std.proofs.Common.{◌≡◌, ℕ, zero, suc, ◌==◌, ◌||◌, Bool, true, false, if◌then◌else◌, List, [], ◌∷◌, ◌++◌, map, length, refl, sym, ◌∙◌, ap, subst, Some, None, append-nil}
 use Rattle.std.specs.Prelude.{slice_get, slice_set}
 use Rattle.std.specs.List.{AllByRecursion}
 use Rattle.std.proofs.lemmas.Grind.{flat_map-append}
@@ -15,7 +15,7 @@ use Rattle.world_links.specs.Ends.{EndValue, new_end as byte_end}
 use Rattle.world_links.specs.Links.{all_carried, cut, given_too, joined, left_at, left_by, moved, with_flight}
 use Rattle.world_links.specs.Moves.{flight_after as bytes_after, given_by as bytes_given}
 use Rattle.world_laws.specs.Moves.{Cut, flight_after, given_by, link_after, links_after, other_after, sender_after}
-use Rattle.world_laws.specs.Worlds.{End, Link as RecordLink, link_in, new_end}
+use Rattle.world_laws.specs.Worlds.{End, Link as RecordLink, new_end}
 use Rattle.sync_world.specs.Shown.{ShownAt, ShowsEnd, ShowsLink, ShowsLinks, carried, emptied, emptied_end, given_more, is_near, left_link, move_of}
 
 -- ---- records
@@ -132,10 +132,14 @@ shown_emptied l x s = record { near = end_emptied l.near x.near s.near; far = en
 
 left_cases : (a b : Bool) (l : Link) (x : RecordLink) → ShowsLink l x
     → ShowsLink (left_at (if a then Some side.Near else if b then Some side.Far else None) l) (if a || b then emptied x else x)
-left_cases true b l x s = record { near = record { device = s.near.device; session = s.near.session; flight = refl; given = s.near.given; flight_within = tt; given_within = s.near.given_within };
-  far = end_emptied l.far x.far s.far }
-left_cases false true l x s = record { near = end_emptied l.near x.near s.near;
-  far = record { device = s.far.device; session = s.far.session; flight = refl; given = s.far.given; flight_within = tt; given_within = s.far.given_within } }
+left_cases true b l x s = record {
+  near = record { device = s.near.device; session = s.near.session; flight = refl; given = s.near.given; flight_within = tt; given_within = s.near.given_within };
+  far = end_emptied l.far x.far s.far;
+}
+left_cases false true l x s = record {
+  near = end_emptied l.near x.near s.near;
+  far = record { device = s.far.device; session = s.far.session; flight = refl; given = s.far.given; flight_within = tt; given_within = s.far.given_within };
+}
 left_cases false false l x s = s
 
 pub shown_left : (d : ℕ) (l : Link) (x : RecordLink) → ShowsLink l x → ShowsLink (left_by d l) (left_link d x)

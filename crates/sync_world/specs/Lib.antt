@@ -5,4 +5,5 @@ pub mod Codes
 pub mod Moving
 pub mod Shown
 pub mod Standing
+pub mod Turning
 pub mod Staging

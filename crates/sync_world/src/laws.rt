@@ -7,7 +7,8 @@ use sync_ids::message_ids_are_whole;
 use sync_rules::laws::sent_grows;
 use world_laws::{moves, steps_keep};
 
-/// What spellings are read as, and how long the ids of messages are.
+/// What spellings are read as, how long the ids of messages are, and that what a session sends only
+/// grows.
 pub(crate) fn cite_records()
     ensures { RecordLaws }
 {
@@ -15,6 +16,7 @@ pub(crate) fn cite_records()
     spelled_records_are_streams();
     fronts_have_fronts();
     message_ids_are_whole();
+    sent_grows();
 }
 
 /// What steps of a world of several devices keep, and that moves are steps.
