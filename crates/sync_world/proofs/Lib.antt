@@ -16,3 +16,6 @@ pub mod GoLaws
 pub mod WorldLaws
 pub mod PlanLaws
 pub mod LinkLaws
+pub mod LookGo
+pub mod StepLaws
+pub mod MoveGo

@@ -1,7 +1,8 @@
 //! The devices of a world and the links between them, and what steps do to these.
-ghost use Rattle.std.specs.Prelude.{◌≡◌, ◌≢◌, ◌≤◌, true, Err, IfOk, None, Some, slice_get};
+ghost use Rattle.std.specs.Prelude.{◌≡◌, ◌≢◌, ◌≤◌, ℕ, true, Err, IfOk, None, Some, length, slice_get};
 ghost use Rattle.sync_world.specs.Beginning.{IsNewWorld};
-ghost use Rattle.sync_world.specs.Staging.{after_ran};
+ghost use Rattle.sync_world.specs.Staging.{HasFreshEnd, IsDone, after_ran, attached_at};
+ghost use Rattle.world_laws.specs.Worlds as W;
 ghost use Rattle.sync_world.specs.Standing.{Goes, IsWorld, is_fatal};
 ghost use Rattle.sync_rules.specs.Legal.{suits_nonce};
 ghost use Rattle.sync_world.specs.Moving.{Becomes, BecomesOne, LeavesDevices, LinksBecome};
@@ -132,6 +133,7 @@ impl Stage {
         ensures fault { self.new.fault ≡ self.old.fault }
         ensures goes { Goes (is_fatal result) self.old self.new }
     {
+        cite_laws();
         let def = group_def(self.alloc, kind, descriptor)?;
         if d as usize >= self.devices.len() {
             return Err(StepFault::Refused);
@@ -147,6 +149,7 @@ impl Stage {
         ensures fault { self.new.fault ≡ self.old.fault }
         ensures goes { Goes (is_fatal result) self.old self.new }
     {
+        cite_laws();
         if d == e || e as usize >= self.devices.len() {
             return Err(StepFault::Refused);
         }
@@ -174,6 +177,7 @@ impl Stage {
         ensures fault { self.new.fault ≡ self.old.fault }
         ensures goes { Goes (is_fatal result) self.old self.new }
     {
+        cite_laws();
         let message = self.message_of(group, time, parents, text)?;
         let id = id_of(&message);
         self.posts.reserve(1)?;
@@ -215,6 +219,7 @@ impl Stage {
         ensures fault { self.new.fault ≡ self.old.fault }
         ensures goes { Goes (is_fatal result) self.old self.new }
     {
+        cite_laws();
         'devices: for d in 0..self.devices.len() {
             let device = &mut self.devices[d];
             device.set_clock(at)?;
@@ -226,6 +231,7 @@ impl Stage {
         ensures fault { self.new.fault ≡ self.old.fault }
         ensures goes { Goes (is_fatal result) self.old self.new }
     {
+        cite_laws();
         if d as usize >= self.devices.len() {
             return Err(StepFault::Refused);
         }
@@ -238,6 +244,7 @@ impl Stage {
         ensures fault { self.new.fault ≡ self.old.fault }
         ensures goes { Goes (is_fatal result) self.old self.new }
     {
+        cite_laws();
         if d as usize >= self.devices.len() {
             return Err(StepFault::Refused);
         }
@@ -253,8 +260,9 @@ impl Stage {
         ensures devices { self.new.devices.items ≡ self.old.devices.items }
         ensures fault { self.new.fault ≡ self.old.fault }
     {
-        if ran == Ran::Crashed {
-            leave_all(d, self.links.as_mut_slice());
+        match ran {
+            Ran::Done => {}
+            Ran::Crashed => leave_all(d, self.links.as_mut_slice()),
         }
     }
 }
@@ -265,6 +273,7 @@ impl Stage {
         ensures fault { self.new.fault ≡ self.old.fault }
         ensures goes { Goes (is_fatal result) self.old self.new }
     {
+        cite_laws();
         if d == e || latency == 0 || !self.has_room(d) || !self.has_room(e) {
             return Err(StepFault::Refused);
         }
@@ -295,7 +304,7 @@ impl Stage {
         }
     }
 
-    // Begins a session of a device on a link.
+    // Begins a session of a device on a link, and looks at what it sent.
     fn attach(
         &mut self,
         d: u8,
@@ -305,8 +314,15 @@ impl Stage {
     ) -> Result<Ran, StepFault>
         requires latency { 1 ≤ plan.now.latency }
         requires nonce { suits_nonce plan.now.mode nonce ≡ true }
-        ensures { self.new.fault ≡ self.old.fault }
+        ensures fault { self.new.fault ≡ self.old.fault }
+        ensures goes { (far : ℕ) → plan.now.contact ≡ W.contact_for d far
+            → HasFreshEnd d far link self.old.links.items
+            → Goes (is_fatal result) self.old self.new }
+        ensures fresh { (k far : ℕ) → k ≢ d → HasFreshEnd k far link self.old.links.items
+            → IsDone result → HasFreshEnd k far link self.new.links.items }
+        ensures devices { length self.new.devices.items ≡ length self.old.devices.items }
     {
+        cite_laws();
         if d as usize >= self.devices.len() {
             return Err(StepFault::Refused);
         }
@@ -316,9 +332,11 @@ impl Stage {
             self.came(d, Ran::Crashed);
             return Ok(Ran::Crashed);
         };
+        device.links_stand();
         if link < self.links.len() {
-            attach_end(d, at, session, device.sent(at), &mut self.links[link])?;
+            begin_on(d, at, session, &mut self.links[link]);
         }
+        look_all(device, d, self.links.as_mut_slice())?;
         Ok(Ran::Done)
     }
 
@@ -327,6 +345,7 @@ impl Stage {
         ensures fault { self.new.fault ≡ self.old.fault }
         ensures goes { Goes (is_fatal result) self.old self.new }
     {
+        cite_laws();
         if d as usize >= self.devices.len() {
             return Err(StepFault::Refused);
         }
@@ -336,6 +355,7 @@ impl Stage {
             leave_all(d, self.links.as_mut_slice());
             return Ok(None);
         };
+        device.links_stand();
         look_all(device, d, self.links.as_mut_slice())?;
         Ok(Some(still))
     }
@@ -348,6 +368,7 @@ impl Stage {
         ensures fault { self.new.fault ≡ self.old.fault }
         ensures goes { Goes (is_fatal result) self.old self.new }
     {
+        cite_laws();
         if link >= self.links.len() as u64 {
             return Err(StepFault::Refused);
         }
@@ -361,6 +382,7 @@ impl Stage {
         ensures fault { self.new.fault ≡ self.old.fault }
         ensures goes { Goes (is_fatal result) self.old self.new }
     {
+        cite_laws();
         if link >= self.links.len() as u64 {
             return Err(StepFault::Refused);
         }
@@ -410,6 +432,7 @@ impl Stage {
 // What a device's session with another one is to be.
 fn plan_for(d: u8, e: u8, mode: Mode, latency: u32) -> Plan
     requires { e ≢ d }
+    ensures contact { result.contact ≡ W.contact_for d e }
     ensures mode { result.mode ≡ mode }
     ensures latency { result.latency ≡ latency }
 {
@@ -420,20 +443,15 @@ fn plan_for(d: u8, e: u8, mode: Mode, latency: u32) -> Plan
     }
 }
 
-// A device has a link under this number, and what it sent there is in flight.
-fn attach_end(d: u8, at: u8, session: u32, sent: &[u8], link: &mut Link) -> Result<(), StepFault> {
+// A device has a link under this number, and this session began on it.
+fn begin_on(d: u8, at: u8, session: u32, link: &mut Link)
+    ensures { link.new ≡ attached_at d at session link.old }
+{
     match link.side_of(d) {
-        Some(Side::Near) => {
-            link.near.attach(at, session);
-            link.near.look(sent, link.is_cut)?;
-        }
-        Some(Side::Far) => {
-            link.far.attach(at, session);
-            link.far.look(sent, link.is_cut)?;
-        }
+        Some(Side::Near) => link.near.attach(at, session),
+        Some(Side::Far) => link.far.attach(at, session),
         None => {}
     }
-    Ok(())
 }
 
 // The first records in flight on a link from a device move.
