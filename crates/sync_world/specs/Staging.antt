@@ -86,6 +86,11 @@ attached_from number session (Some from) l = with_end from (begun_end number ses
 abbrev pub attached_at : ℕ → ℕ → ℕ → Link → Link
 attached_at d number session l = attached_from number session (side_of d l) l
 
+-- several links, where the one at a place begins
+abbrev pub begun_with : ℕ → ℕ → ℕ → ℕ → Option Link → List Link → List Link
+begun_with d number session i None links = links
+begun_with d number session i (Some l) links = slice_set links i (attached_at d number session l)
+
 -- the end of a device at a link with another one, on which no session began yet
 pub record HasFreshEnd (d far i : ℕ) (links : List Link) : Type 0 where
   pub link : Link

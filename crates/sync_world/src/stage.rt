@@ -1,7 +1,7 @@
 //! The devices of a world and the links between them, and what steps do to these.
-ghost use Rattle.std.specs.Prelude.{◌≡◌, ◌≢◌, ◌≤◌, ℕ, true, Err, IfOk, None, Some, length, slice_get};
+ghost use Rattle.std.specs.Prelude.{◌≡◌, ◌≢◌, ◌<◌, ◌≤◌, ℕ, true, Err, IfOk, None, Some, length, slice_get};
 ghost use Rattle.sync_world.specs.Beginning.{IsNewWorld};
-ghost use Rattle.sync_world.specs.Staging.{HasFreshEnd, IsDone, after_ran, attached_at};
+ghost use Rattle.sync_world.specs.Staging.{HasFreshEnd, IsDone, after_ran, attached_at, begun_with};
 ghost use Rattle.world_laws.specs.Worlds as W;
 ghost use Rattle.sync_world.specs.Standing.{Goes, IsWorld, is_fatal};
 ghost use Rattle.sync_rules.specs.Legal.{suits_nonce};
@@ -113,7 +113,7 @@ impl Stage {
                 self.post(*d, *group, *time, parents, text.as_slice())
             }
             WorldStep::Link(d, e, mode, latency) => self.link(*d, *e, *mode, *latency),
-            WorldStep::Turn(d) => self.turn(*d).map(|_| ()),
+            WorldStep::Turn(d) => self.turn_once(*d),
             WorldStep::Carry(link, d) => self.move_first(*link, *d, Move::Carry),
             WorldStep::Lose(link, d) => self.move_first(*link, *d, Move::Lose),
             WorldStep::Repeat(link, d) => self.move_first(*link, *d, Move::Repeat),
@@ -277,19 +277,36 @@ impl Stage {
         if d == e || latency == 0 || !self.has_room(d) || !self.has_room(e) {
             return Err(StepFault::Refused);
         }
-        let link = self.links.len();
-        self.links.push(Link::new(self.alloc, d, e))?;
+        let link = self.dial(d, e)?;
         let near = plan_for(d, e, mode, latency);
-        if self.attach(d, link, &near, nonce_for(mode, link))? == Ran::Crashed {
-            return Ok(());
+        match self.attach(d, link, &near, nonce_for(mode, link))? {
+            Ran::Crashed => return Ok(()),
+            Ran::Done => {}
         }
         let far = plan_for(e, d, mode, latency);
         self.attach(e, link, &far, None)?;
         Ok(())
     }
 
+    // A link more, between two devices. Answers its number.
+    fn dial(&mut self, d: u8, e: u8) -> Result<usize, StepFault>
+        requires two { d ≢ e }
+        requires near { d < length self.old.devices.items }
+        requires far { e < length self.old.devices.items }
+        ensures fault { self.new.fault ≡ self.old.fault }
+        ensures goes { Goes (is_fatal result) self.old self.new }
+        ensures fresh { IfOk result (λ link. HasFreshEnd d e link self.new.links.items) }
+        ensures other { IfOk result (λ link. HasFreshEnd e d link self.new.links.items) }
+    {
+        let link = self.links.len();
+        self.links.push(Link::new(self.alloc, d, e))?;
+        Ok(link)
+    }
+
     // Whether a device may have a further link.
-    fn has_room(&self, d: u8) -> bool {
+    fn has_room(&self, d: u8) -> bool
+        ensures { result ≡ true → d < length self.now.devices.items }
+    {
         match self.devices.get(d as usize) {
             Some(device) => (device.links() as usize) < LINKS,
             None => false,
@@ -333,11 +350,18 @@ impl Stage {
             return Ok(Ran::Crashed);
         };
         device.links_stand();
-        if link < self.links.len() {
-            begin_on(d, at, session, &mut self.links[link]);
-        }
+        begin_at(d, at, session, link, self.links.as_mut_slice());
         look_all(device, d, self.links.as_mut_slice())?;
         Ok(Ran::Done)
+    }
+
+    // A turn of a device.
+    fn turn_once(&mut self, d: u8) -> Result<(), StepFault>
+        ensures fault { self.new.fault ≡ self.old.fault }
+        ensures goes { Goes (is_fatal result) self.old self.new }
+    {
+        let _still = self.turn(d)?;
+        Ok(())
     }
 
     // A turn of a device. Answers whether all its links were still, or nothing where it crashed.
@@ -440,6 +464,15 @@ fn plan_for(d: u8, e: u8, mode: Mode, latency: u32) -> Plan
         contact: contact_for(d, e),
         mode,
         latency,
+    }
+}
+
+// A device has the link at this place under a number, and this session began on it.
+fn begin_at(d: u8, at: u8, session: u32, link: usize, links: &mut [Link])
+    ensures { links.new ≡ begun_with d at session link (slice_get links.old link) links.old }
+{
+    if link < links.len() {
+        begin_on(d, at, session, &mut links[link]);
     }
 }
 

@@ -4,3 +4,6 @@ use Rattle.sync_world.proofs.stage.Stage.set_clock.Goals as goal
 
 pub set_clock-requires : goal.set_clock-requires
 set_clock-requires c = ?
+
+pub loop-devices-preserved : goal.loop-devices-preserved
+loop-devices-preserved c = ?
