@@ -14,3 +14,4 @@ pub mod WireLaws
 pub mod TurnLaws
 pub mod GoLaws
 pub mod WorldLaws
+pub mod CarryLaws
