@@ -19,7 +19,11 @@ use Rattle.world_laws.specs.Worlds.{Journal, World, journal_at, journal_in}
 use Rattle.world_devices.specs.Brought.{brought_on}
 use Rattle.world_devices.specs.Cited.{SentGrows}
 use Rattle.world_devices.specs.Devices.{DeviceValue}
-use Rattle.world_devices.specs.Linking.{IsUnlinked, KeepsLinks, number_of}
+use Rattle.world_devices.specs.Linking.{IsUnlinked, KeepsLinks, LinksBy, number_of}
+use Rattle.world_devices.specs.declared.stop.Ran.{Ran}
+use Rattle.world_devices.specs.declared.stop.Ran.TheVariants as ran
+use Rattle.world_devices.specs.declared.stop.StepFault.{StepFault}
+use Rattle.world_devices.specs.declared.stop.StepFault.TheVariants as fault
 use Rattle.world_devices.specs.Running.{ComesFrom, DeviceRuns, Holds, Reads, is_session_of, records_for, records_of}
 use Rattle.world_links.specs.Ends.{EndValue, input_of}
 use Rattle.world_links.specs.Links.{cut, detached, left_at, left_by, side_of, with_flight}
@@ -27,12 +31,13 @@ use Rattle.world_links.specs.declared.moves.Side.TheVariants as side
 use Rattle.world_links.specs.declared.link.Link.{Link}
 use Rattle.sync_world.specs.Cited.{RecordLaws}
 use Rattle.sync_world.specs.Shown.{IsGivenAt, MovesShown, MovesTo, Reaches, ShowsLinks, ShownAt, heard_by, left_link, world_of}
-use Rattle.sync_world.specs.Standing.{AllWired, ArePlaced, AreRead, AreUp, AreWired, IsShown, IsUp, IsWired, LeadsOn, own_end, place_in, place_on, session_on}
+use Rattle.sync_world.specs.Staging.{after_ran}
+use Rattle.sync_world.specs.Standing.{AllWired, ArePlaced, AreRead, AreUp, AreWired, IsShown, IsUp, IsWired, LeadsOn, is_fatal, own_end, place_in, place_on, session_on}
 use Rattle.sync_world.proofs.HearLaws.{given_front_records}
 use Rattle.sync_world.proofs.ReachLaws.{reaches_none, reaches_then}
 use Rattle.sync_world.proofs.RunLaws.{given_heard, journal_set_other, journal_set_own, left_reached, links_same, run_reached}
 use Rattle.sync_world.proofs.ShownMoves.{shown_all_left, shown_at}
-use Rattle.sync_world.proofs.WireLaws.{AllMove, EndMoves, LinkMoves, all_map, all_placed, all_wired, eqb_not, get_cases, get_set, get_within, kept_wired, link_stays, own_far, own_is, own_near, own_none, placed_end, set_length, some_same}
+use Rattle.sync_world.proofs.WireLaws.{AllMove, EndMoves, LinkMoves, all_map, all_placed, all_wired, eqb_not, get_cases, get_set, get_within, kept_wired, link_stays, own_far, own_is, own_near, own_none, placed_end, set_back, set_length, some_same}
 
 -- ---- journals
 
@@ -150,7 +155,7 @@ seat_heard laws w devices links d old n s is running session r own inside =
             own = shown.shown.near.device ∙ near.1;
             on = shown.shown.near.session ∙ (ap (λ (e : EndValue). e.session) near.0 ∙ on);
             inside = given_front_records laws seat.link.near shown.link.near (brought_on old.host (session - n.first)) r shown.shown.near
-                (subst (λ (e : EndValue). IsFront (brought_on old.host (session - n.first)) e.given) (sym near.0) front) inside;
+            (subst (λ (e : EndValue). IsFront (brought_on old.host (session - n.first)) e.given) (sym near.0) front) inside;
           }
       | inr far ↦
           record {
@@ -161,7 +166,7 @@ seat_heard laws w devices links d old n s is running session r own inside =
             own = shown.shown.far.device ∙ far.1.0;
             on = shown.shown.far.session ∙ (ap (λ (e : EndValue). e.session) far.0 ∙ on);
             inside = given_front_records laws seat.link.far shown.link.far (brought_on old.host (session - n.first)) r shown.shown.far
-                (subst (λ (e : EndValue). IsFront (brought_on old.host (session - n.first)) e.given) (sym far.0) front) inside;
+            (subst (λ (e : EndValue). IsFront (brought_on old.host (session - n.first)) e.given) (sym far.0) front) inside;
           }
     ] in
     given_heard d session w.links r given
@@ -195,7 +200,7 @@ device_ran laws w devices links d old new s is runs =
     record {
       journal = journal_at w d ++ comes.more;
       reached = run_reached bundle_meaning d w.journals w.links w.links (journal_at w d ++ comes.more) comes.more (records_for old) within refl comes.allowed comes.all_heard
-          (λ session r inside. node_heard laws w devices links d old old.node s is refl session r inside) (links_same d (journal_at w d ++ comes.more) w.links);
+      (λ session r inside. node_heard laws w devices links d old old.node s is refl session r inside) (links_same d (journal_at w d ++ comes.more) w.links);
       reads = comes.reads;
       holds = comes.holds;
       legal = legal-append bundle_meaning (journal_at w d) comes.more up.legal comes.allowed;
@@ -237,7 +242,7 @@ kept_leads laws grows w devices links d old new s is runs running keeps =
         shown = s.shown;
         placed = subst (λ (n : ℕ). ArePlaced n links) (sym (set_length devices d new)) s.placed;
         wired = wired_set w.journals devices links links d ran.journal new within
-            (kept_wired grows ran.journal (journal_at w d) d old new links ran.legal ran.extends keeps (s.wired d old is)) (λ e other apart there. s.wired e other there);
+        (kept_wired grows ran.journal (journal_at w d) d old new links ran.legal ran.extends keeps (s.wired d old is)) (λ e other apart there. s.wired e other there);
       };
     }
 
@@ -313,17 +318,37 @@ crashed_leads laws w devices links d old new s is runs running unlinked =
     record {
       after = world_of (slice_set w.journals d ran.journal) (map (left_link d) w.links);
       reached = reaches_then bundle_meaning w (world_of (slice_set w.journals d ran.journal) w.links) (world_of (slice_set w.journals d ran.journal) (map (left_link d) w.links)) ran.reached
-          left.reached;
+      left.reached;
       read = up_read (slice_set w.journals d ran.journal) (slice_set devices d new) ups;
       shown = λ same. record {
         up = ups;
         shown = shown_all_left d links w.links s.shown;
         placed = subst (λ (n : ℕ). ArePlaced n (map (left_by d) links)) (sym (set_length devices d new)) (placed_left d (length devices) links s.placed);
         wired = wired_set w.journals devices links (map (left_by d) links) d ran.journal new within
-            (unlinked_wired ran.journal d new (map (left_by d) links) unlinked
-            (λ i l there. let from = map_from (left_by d) links i l there in sym (ap (place_on d) from.is) ∙ left_place d from.link))
-            (λ e other apart there.
+        (unlinked_wired ran.journal d new (map (left_by d) links) unlinked
+        (λ i l there. let from = map_from (left_by d) links i l there in sym (ap (place_on d) from.is) ∙ left_place d from.link))
+        (λ e other apart there.
             all_wired (journal_in w.journals e) e (length devices) other links (map (left_by d) links) (all_map e (left_by d) links (λ l. left_moves e d l apart)) s.placed
             (s.wired e other there));
       };
     }
+
+-- ---- what a call of a device answers
+
+pub call_failed : RecordLaws → (w : World) (devices : List DeviceValue) (links : List Link) (d : ℕ) (old new : DeviceValue) (e : StepFault) → IsShown w devices links
+    → slice_get devices d ≡ Some old → DeviceRuns old new → (e ≡ fault.Refused → new ≡ old)
+    → LeadsOn w (is_fatal {A = Unit {0}} (Err e)) (slice_set devices d new) links
+call_failed laws w devices links d old new fault.Refused s is runs same =
+    subst (λ (ds : List DeviceValue). LeadsOn w false ds links) (sym (set_back devices d old new is (same refl))) (stays w devices links s)
+call_failed laws w devices links d old new fault.Full s is runs same = failed_leads laws w devices links links d old new s is runs
+call_failed laws w devices links d old new fault.Memory s is runs same = failed_leads laws w devices links links d old new s is runs
+
+pub call_came : RecordLaws → SentGrows → (w : World) (devices : List DeviceValue) (links : List Link) (d : ℕ) (old new : DeviceValue) (came : Ran) → IsShown w devices links
+    → slice_get devices d ≡ Some old → DeviceRuns old new → is_some new.node ≡ true → LinksBy (Ok came) old new
+    → LeadsOn w false (slice_set devices d new) (after_ran came d links)
+call_came laws grows w devices links d old new ran.Done s is runs running keeps = kept_leads laws grows w devices links d old new s is runs running keeps
+call_came laws grows w devices links d old new ran.Crashed s is runs running unlinked = crashed_leads laws w devices links d old new s is runs running unlinked
+
+-- nothing was done
+pub same_leads : (w : World) (fatal : Bool) (devices : List DeviceValue) (links : List Link) → IsShown w devices links → LeadsOn w fatal devices links
+same_leads w fatal devices links s = read_at_all w fatal devices links (stays w devices links s)

@@ -15,3 +15,5 @@ pub mod TurnLaws
 pub mod GoLaws
 pub mod WorldLaws
 pub mod CarryLaws
+pub mod PlanLaws
+pub mod LinkLaws

@@ -1,7 +1,7 @@
 -- What stays of the wiring of ends where links change.
 use Rattle.std.proofs.Common.{◌≡◌, ◌⊎◌, ℕ, zero, suc, ◌+◌, ◌<◌, ◌≤◌, ◌==◌, Bool, true, false, if◌then◌else◌, List, [], ◌∷◌, ◌++◌, map, length, drop, refl, sym, ◌∙◌, ap, subst, inl, inr, arith, append_assoc, append-nil, Option, Some, None}
 use Rattle.std.proofs.lemmas.Bool.{cases_eq, eq-eqb, eqb-true, ne_eqb, false≢true}
-use Rattle.std.specs.Prelude.{slice_get, slice_set}
+use Rattle.std.specs.Prelude.{slice_get, slice_index_or, slice_set}
 use Rattle.std.specs.Option.{option_map}
 use Rattle.outside.specs.Runs.{IsFront}
 use Rattle.sync_node.specs.Node.{NodeValue}
@@ -45,6 +45,21 @@ set_length (y ∷ xs) (suc i) x = ap suc (set_length xs i x)
 
 pub some_same : {A : Type 0} (x y : A) → ◌≡◌ {A = Option A} (Some x) (Some y) → x ≡ y
 some_same x y same = cc
+
+pub get_at : {A : Type 0} (xs : List A) (i : ℕ) (x : A) → i < length xs → x ≡ slice_index_or xs i x → slice_get xs i ≡ Some x
+get_at [] i x within is = absurd (omega arith)
+get_at (y ∷ xs) zero x within is = ap (λ z. Some z) (sym is)
+get_at (y ∷ xs) (suc i) x within is = get_at xs i x (omega (arith, within)) is
+
+pub set_back : {A : Type 0} (xs : List A) (i : ℕ) (x y : A) → slice_get xs i ≡ Some x → y ≡ x → slice_set xs i y ≡ xs
+set_back [] i x y is same = refl
+set_back (z ∷ xs) zero x y is same = ap (λ t. t ∷ xs) (same ∙ sym (some_same z x is))
+set_back (z ∷ xs) (suc i) x y is same = ap (λ t. z ∷ t) (set_back xs i x y is same)
+
+pub set_again : {A : Type 0} (xs : List A) (i : ℕ) (x y : A) → slice_set (slice_set xs i x) i y ≡ slice_set xs i y
+set_again [] i x y = refl
+set_again (z ∷ xs) zero x y = refl
+set_again (z ∷ xs) (suc i) x y = ap (λ t. z ∷ t) (set_again xs i x y)
 
 -- what stands in a list in which one place was set: the new one, or what stood there
 pub get_cases : {A : Type 0} (xs : List A) (i k : ℕ) (x y : A) → slice_get (slice_set xs i x) k ≡ Some y
@@ -136,7 +151,7 @@ drop_more (suc n) (x ∷ xs) more within = drop_more n xs more (omega (arith, wi
 
 same_wired : (j : Journal) (device : DeviceValue) (cut cut' : Bool) (e e' : EndValue) (a : ℕ) → SameEnd e e' → e.heard ≤ length e.given → (cut' ≡ false → cut ≡ false)
     → IsWired j device cut e a → IsWired j device cut' e' a
-same_wired j device cut cut' e e' a same within open w = record {
+same_wired j device cut cut' e e' a same within uncut_was w = record {
   below = w.below;
   session = same.session ∙ w.session;
   brought =
@@ -145,7 +160,7 @@ same_wired j device cut cut' e e' a same within open w = record {
       ap (λ (g : List ℕ). brought_on device.host a ++ g) input ∙ (sym (append_assoc (brought_on device.host a) (input_of e) same.more)
       ∙ (ap (λ (g : List ℕ). g ++ same.more) w.brought ∙ sym same.given));
   seen = λ uncut number on.
-      subst (λ (n : ℕ). SeenBy j number n) (sym same.seen) (w.seen (open uncut) number (sym same.session ∙ on));
+      subst (λ (n : ℕ). SeenBy j number n) (sym same.seen) (w.seen (uncut_was uncut) number (sym same.session ∙ on));
 }
 
 record Moved (k : ℕ) (l l' : Link) (e' : EndValue) : Type 0 where
@@ -243,7 +258,7 @@ pub end_stays : (k : ℕ) (e : EndValue) → EndMoves k e e
 end_stays k e = record { device = refl; within = λ within. within; own = λ own. same_end e }
 
 pub link_stays : (k : ℕ) (l : Link) → LinkMoves k l l
-link_stays k l = record { near = end_stays k l.near; far = end_stays k l.far; cut = λ open. open }
+link_stays k l = record { near = end_stays k l.near; far = end_stays k l.far; cut = λ uncut. uncut }
 
 pub all_stay : (k : ℕ) (ls : List Link) → AllMove k ls ls
 all_stay k [] = tt
@@ -280,6 +295,47 @@ all_wired j k count device xs ys all placed w = record {
 
 -- ---- one link set, of which an end of the device changed
 
+record WasAt (d : ℕ) (ls : List Link) (n : ℕ) (m : Link) : Type 0 where
+  link : Link
+  stands : slice_get ls n ≡ Some link
+  place : place_on d link ≡ place_on d m
+
+was_at : (d : ℕ) (ls : List Link) (i : ℕ) (l l' : Link) (n : ℕ) (m : Link) → slice_get ls i ≡ Some l → place_on d l' ≡ place_on d l
+    → slice_get (slice_set ls i l') n ≡ Some m → WasAt d ls n m
+was_at d ls i l l' n m is place there =
+    elim (get_cases ls i n l' m there) [
+      | inl (same, new) ↦ record {
+        link = l;
+        stands = ap (slice_get ls) same ∙ is;
+        place = sym place ∙ ap (place_on d) new;
+      }
+      | inr (other, old) ↦ record { link = m; stands = old; place = refl }
+    ]
+
+pub set_once : (j : Journal) (d : ℕ) (device : DeviceValue) (ls : List Link) (i : ℕ) (l l' : Link) → slice_get ls i ≡ Some l → place_on d l' ≡ place_on d l → AreWired j d device ls
+    → (n k : ℕ) (m m' : Link) (a : ℕ) → slice_get (slice_set ls i l') n ≡ Some m → slice_get (slice_set ls i l') k ≡ Some m' → place_on d m ≡ Some a → place_on d m' ≡ Some a → n ≡ k
+set_once j d device ls i l l' is place w n k m m' a there there' here here' =
+    let first = was_at d ls i l l' n m is place there in
+    let second = was_at d ls i l l' k m' is place there' in
+    w.once n k first.link second.link a first.stands second.stands (first.place ∙ here) (second.place ∙ here')
+
+pub set_seat : (j : Journal) (d : ℕ) (device : DeviceValue) (ls : List Link) (i : ℕ) (l l' : Link) → slice_get ls i ≡ Some l → place_on d l' ≡ place_on d l → AreWired j d device ls
+    → (a : ℕ) → a < device.links → IsSeated d (slice_set ls i l') a
+set_seat j d device ls i l l' is place w a below =
+    let seat = w.all a below in
+    elim (cases_eq seat.number i) [
+      | inl same ↦
+          let there : slice_get ls i ≡ Some seat.link = subst (λ (n : ℕ). slice_get ls n ≡ Some seat.link) same seat.stands in
+          let link : l ≡ seat.link = some_same l seat.link (sym is ∙ there) in
+          record {
+            number = i;
+            link = l';
+            stands = get_set ls i l' (get_within ls i l is);
+            here = place ∙ subst (λ (z : Link). place_on d z ≡ Some a) (sym link) seat.here;
+          }
+      | inr other ↦ record { number = seat.number; link = seat.link; stands = get_other ls i seat.number l' other ∙ seat.stands; here = seat.here }
+    ]
+
 pub set_wired : (j : Journal) (d : ℕ) (device : DeviceValue) (ls : List Link) (i : ℕ) (l l' : Link) → slice_get ls i ≡ Some l → place_on d l' ≡ place_on d l
     → LinkWired j d device l' → AreWired j d device ls → AreWired j d device (slice_set ls i l')
 set_wired j d device ls i l l' is place wired w = record {
@@ -290,42 +346,9 @@ set_wired j d device ls i l l' is place wired w = record {
             subst (λ (z : Link). IsWired j device z.is_cut e a) new (wired e a own' here)
         | inr (other, old) ↦ w.each n m e a old own here
       ];
-  once = λ n n' m m' a there there' here here'.
-      let first = was_at d ls i l l' n m is place there in
-      let second = was_at d ls i l l' n' m' is place there' in
-      w.once n n' first.link second.link a first.stands second.stands (first.place ∙ here) (second.place ∙ here');
-  all = λ a below.
-      let seat = w.all a below in
-      elim (cases_eq seat.number i) [
-        | inl same ↦
-            let there : slice_get ls i ≡ Some seat.link = subst (λ (n : ℕ). slice_get ls n ≡ Some seat.link) same seat.stands in
-            let link : l ≡ seat.link = some_same l seat.link (sym is ∙ there) in
-            record {
-              number = i;
-              link = l';
-              stands = get_set ls i l' (get_within ls i l is);
-              here = place ∙ subst (λ (z : Link). place_on d z ≡ Some a) (sym link) seat.here;
-            }
-        | inr other ↦ record { number = seat.number; link = seat.link; stands = get_other ls i seat.number l' other ∙ seat.stands; here = seat.here }
-      ];
+  once = set_once j d device ls i l l' is place w;
+  all = set_seat j d device ls i l l' is place w;
 }
-where
-  record WasAt (d : ℕ) (ls : List Link) (n : ℕ) (m : Link) : Type 0 where
-    link : Link
-    stands : slice_get ls n ≡ Some link
-    place : place_on d link ≡ place_on d m
-
-  was_at : (d : ℕ) (ls : List Link) (i : ℕ) (l l' : Link) (n : ℕ) (m : Link) → slice_get ls i ≡ Some l → place_on d l' ≡ place_on d l
-      → slice_get (slice_set ls i l') n ≡ Some m → WasAt d ls n m
-  was_at d ls i l l' n m is place there =
-      elim (get_cases ls i n l' m there) [
-        | inl (same, new) ↦ record {
-          link = l;
-          stands = ap (slice_get ls) same ∙ is;
-          place = sym place ∙ ap (place_on d) new;
-        }
-        | inr (other, old) ↦ record { link = m; stands = old; place = refl }
-      ]
 
 -- ---- the device changes
 

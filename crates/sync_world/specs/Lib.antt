@@ -1,6 +1,7 @@
 pub mod Asking
 pub mod Beginning
 pub mod Cited
+pub mod Codes
 pub mod Moving
 pub mod Shown
 pub mod Standing

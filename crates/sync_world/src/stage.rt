@@ -2,7 +2,7 @@
 ghost use Rattle.std.specs.Prelude.{◌≡◌, ◌≢◌, ◌≤◌, true, Err, IfOk, None, Some, slice_get};
 ghost use Rattle.sync_world.specs.Beginning.{IsNewWorld};
 ghost use Rattle.sync_world.specs.Staging.{after_ran};
-ghost use Rattle.sync_world.specs.Standing.{Goes, is_fatal};
+ghost use Rattle.sync_world.specs.Standing.{Goes, IsWorld, is_fatal};
 ghost use Rattle.sync_rules.specs.Legal.{suits_nonce};
 ghost use Rattle.sync_world.specs.Moving.{Becomes, BecomesOne, LeavesDevices, LinksBecome};
 ghost use Rattle.sync_world.specs.Moving.{fault_after, link_cut, link_moved};
@@ -58,6 +58,7 @@ impl Stage {
         requires least { 2 ≤ devices }
         requires most { devices ≤ 8 }
         ensures new { IfOk result (IsNewWorld devices) }
+        ensures world { IfOk result IsWorld }
     {
         let mut all = Vec::new(alloc);
         'devices: for _device in 0..devices {

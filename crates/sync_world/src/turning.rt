@@ -2,6 +2,7 @@
 ghost use Rattle.std.specs.Prelude.{◌≡◌, IfOk, OnOk, map};
 ghost use Rattle.std.specs.List.{list_any};
 ghost use Rattle.sync_world.specs.Shown.{arrived};
+ghost use Rattle.sync_world.specs.Staging.{PlansAll, PlansEnd, PlansLink, SameFiles};
 ghost use Rattle.sync_world.specs.Turning.{is_moving, look_at, look_link, shut_at};
 ghost use Rattle.world_links.specs.Links.{left_by};
 
@@ -14,19 +15,33 @@ pub(crate) fn plan_all(
     device: &mut Device,
     number: u8,
     links: &mut [Link],
-) -> Result<(), AllocError> {
-    for link in links.iter_mut() {
-        match link.side_of(number) {
-            Some(Side::Near) => plan(device, &mut link.near, link.is_cut)?,
-            Some(Side::Far) => plan(device, &mut link.far, link.is_cut)?,
-            None => {}
-        }
+) -> Result<(), AllocError>
+    ensures files { SameFiles device.old device.new }
+    ensures planned { OnOk result (PlansAll number device.old device.new links.old links.new) }
+{
+    'links: for i in 0..links.len() {
+        plan_on(device, number, &mut links[i])?;
     }
     Ok(())
 }
 
+// Plans what a link is to answer at the end of this device.
+fn plan_on(device: &mut Device, number: u8, link: &mut Link) -> Result<(), AllocError>
+    ensures files { SameFiles device.old device.new }
+    ensures planned { OnOk result (PlansLink number device.old device.new link.old link.new) }
+{
+    match link.side_of(number) {
+        Some(Side::Near) => plan(device, &mut link.near, link.is_cut),
+        Some(Side::Far) => plan(device, &mut link.far, link.is_cut),
+        None => Ok(()),
+    }
+}
+
 // Plans what a link is to answer at this end, where it is still asked there.
-fn plan(device: &mut Device, end: &mut End, is_cut: bool) -> Result<(), AllocError> {
+fn plan(device: &mut Device, end: &mut End, is_cut: bool) -> Result<(), AllocError>
+    ensures files { SameFiles device.old device.new }
+    ensures planned { OnOk result (PlansEnd device.old device.new end.old end.new) }
+{
     match end.at() {
         Some(at) if device.is_asked(at) => {
             let answer = end.answer(is_cut)?;
