@@ -14,6 +14,7 @@ pub mod WireLaws
 pub mod TurnLaws
 pub mod GoLaws
 pub mod WorldLaws
+pub mod CarryLaws
 pub mod PlanLaws
 pub mod LinkLaws
 pub mod LookGo

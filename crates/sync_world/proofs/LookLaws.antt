@@ -189,7 +189,7 @@ looked_flight laws rs more e within seen =
     ap (λ (bytes : List ℕ). e.flight ++ records_in bytes) behind
     ∙ ap (λ (l : List (List ℕ)). e.flight ++ l) (spelled_records_in laws more (all_behind rs more within))
 
-looked_end : RecordLaws → (rs more : List Record) (e : EndValue) (x : End) (seen : ℕ) → AllByRecursion IsRecord (rs ++ more) → e.seen ≡ length (spelled rs) → ShowsEnd e x
+pub looked_end : RecordLaws → (rs more : List Record) (e : EndValue) (x : End) (seen : ℕ) → AllByRecursion IsRecord (rs ++ more) → e.seen ≡ length (spelled rs) → ShowsEnd e x
     → ShowsEnd (record e { flight = flight_behind false (spelled (rs ++ more)) e; seen = seen }) (record x { flight = x.flight ++ more })
 looked_end laws rs more e x seen within was s = record {
   device = s.device;

@@ -41,7 +41,7 @@ links_like (l ∷ ls) (m ∷ ms) (x ∷ xs) like s = (link_like l m x like.0 s.0
 pub end_stays : (d : ℕ) (j : Journal) (other : ℕ) (e : EndValue) (x : End) → ShowsEnd e x → ShownEndRuns d j other e x
 end_stays d j other e x s = record { after = x; shown = s; runs = end_same d j other x }
 
-sent_on_end : (d : ℕ) (j : Journal) (other number : ℕ) (more before : List Record) (e : EndValue) (x : End) → e.device ≡ d → e.session ≡ Some number
+pub sent_on_end : (d : ℕ) (j : Journal) (other number : ℕ) (more before : List Record) (e : EndValue) (x : End) → e.device ≡ d → e.session ≡ Some number
     → sent j number ≡ before ++ more → ShowsEnd e x → EndRuns d j other x (record x { flight = x.flight ++ more })
 sent_on_end d j other number more before e x own on parts s =
     end_sends d j other number more x (s.device ∙ own) (s.session ∙ on) (λ r inside. subst (In r) (sym parts) (In-append_right r before more inside))

@@ -1,5 +1,5 @@
 -- What becomes of a link by a look at what a device sent on it, and where all in flight on it arrives.
-use Rattle.std.specs.Prelude.{ℕ, Bool, true, false, ◌||◌, if◌then◌else◌, List, Option, Some, None}
+use Rattle.std.specs.Prelude.{ℕ, Bool, true, false, ◌||◌, if◌then◌else◌, Option, Some, None}
 use Rattle.world_devices.specs.Brought.{sent_by}
 use Rattle.world_devices.specs.Devices.{DeviceValue}
 use Rattle.world_devices.specs.Linking.{end_at, is_shut}
