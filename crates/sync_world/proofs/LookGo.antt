@@ -25,7 +25,7 @@ looked_with laws w devices links d device None s is stand node =
 looked_with laws w devices links d device (Some n) s is stand node =
     let up = s.up.each d device is in
     let stands = stand.each n node (journal_at w d) up.holds in
-    let runs = looks_run laws d (journal_at w d) n device links w.links node stands (s.wired d device is) s.shown in
+    let runs = looks_run laws d (journal_at w d) n device node stands links w.links (s.wired d device is) s.shown in
     record {
       after = world_of w.journals runs.after;
       reached = ran_links d w.journals w.links runs.after runs.runs;
@@ -41,9 +41,9 @@ looked_with laws w devices links d device (Some n) s is stand node =
                   let one : device ≡ other = let e : ◌≡◌ {A = Option DeviceValue} (Some device) (Some other) = sym is ∙ here in cc in
                   subst (λ (i : ℕ). AreWired (journal_in w.journals i) i other (map (look_link d device) links)) (sym own)
                   (subst (λ (x : DeviceValue). AreWired (journal_in w.journals d) d x (map (look_link d device) links)) one
-                  (looks_wired laws d (journal_at w d) n device links node stands (s.wired d device is)))
+                  (looks_wired laws d (journal_at w d) n device node stands links (s.wired d device is)))
               | inr apart ↦
-                  all_wired (journal_in w.journals k) k (length devices) other links (map (look_link d device) links) (looks_others k d apart device links) s.placed (s.wired k other there)
+                  all_wired (journal_in w.journals k) k (length devices) other links (map (look_link d device) links) (looks_others k d device links apart) s.placed (s.wired k other there)
             ];
       };
     }

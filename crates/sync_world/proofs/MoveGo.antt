@@ -8,7 +8,7 @@ use Rattle.world_devices.specs.declared.stop.StepFault.TheVariants as fault
 use Rattle.world_laws.specs.Worlds.{World}
 use Rattle.world_links.specs.Ends.{EndValue}
 use Rattle.world_links.specs.Links.{cut, end_of, given_too, joined, moved, side_of, with_flight}
-use Rattle.world_links.specs.Moves.{is_possible}
+use Rattle.world_links.specs.Moves.{flight_after, given_by, is_possible}
 use Rattle.world_links.specs.declared.link.Link.{Link}
 use Rattle.world_links.specs.declared.moves.Move.{Move}
 use Rattle.world_links.specs.declared.moves.Side.{Side}
@@ -35,8 +35,8 @@ flight_moves k e rs = record {
 }
 
 moved_moves : (k : ℕ) (how : Move) (from : Side) (l : Link) → LinkMoves k l (moved how from l)
-moved_moves k how side.Near l = record { near = flight_moves k l.near _; far = given_moves k l.far _; cut = λ uncut. uncut }
-moved_moves k how side.Far l = record { near = given_moves k l.near _; far = flight_moves k l.far _; cut = λ uncut. uncut }
+moved_moves k how side.Near l = record { near = flight_moves k l.near (flight_after how l.near.flight); far = given_moves k l.far (given_by how l.near.flight); cut = λ uncut. uncut }
+moved_moves k how side.Far l = record { near = given_moves k l.near (given_by how l.far.flight); far = flight_moves k l.far (flight_after how l.far.flight); cut = λ uncut. uncut }
 
 cut_moves : (k : ℕ) (l : Link) → LinkMoves k l (cut l)
 cut_moves k l = record { near = flight_moves k l.near []; far = flight_moves k l.far []; cut = λ no. cc }

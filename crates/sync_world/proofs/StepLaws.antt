@@ -1,7 +1,7 @@
 -- The steps of a stage, as its functions make them: by a device that stands at an index.
 use Rattle.std.proofs.Common.{◌≡◌, ◌⊎◌, ℕ, zero, suc, ◌<◌, ◌==◌, if◌then◌else◌, Bool, true, false, List, [], ◌∷◌, ◌++◌, map, length, refl, sym, ◌∙◌, ap, subst, inl, inr, arith, Option, Some, None, is_some, Result, Ok, Err}
 use Rattle.std.proofs.lemmas.Bool.{eq-eqb, ne_eqb}
-use Rattle.std.specs.Prelude.{slice_get, slice_index_or, slice_set}
+use Rattle.std.specs.Prelude.{IsErrAnd, slice_get, slice_index_or, slice_set}
 use Rattle.world_devices.specs.Cited.{SentGrows}
 use Rattle.world_devices.specs.Devices.{DeviceValue}
 use Rattle.world_devices.specs.Linking.{AddsLink, DeviceLinksStand, IsUnlinked, KeepsLinks, LinksBy}
@@ -36,9 +36,26 @@ pub goes_none : (a : Stage) → Goes false a a
 goes_none a = λ w s. stays w a.devices.items a.links.items s
 
 pub unrefused_same : {A : Type 0} (e : StepFault) (old new : A) → IsNotRefused {A = Unit {0}} (Err e) → e ≡ fault.Refused → new ≡ old
-unrefused_same fault.Refused old new no is = absurd no
-unrefused_same fault.Full old new no is = cc
-unrefused_same fault.Memory old new no is = cc
+unrefused_same fault.Refused old new kept is = absurd kept
+unrefused_same fault.Full old new kept is = cc
+unrefused_same fault.Memory old new kept is = cc
+
+fatal_same : {A B : Type 0} (e : StepFault) → is_fatal {A = A} (Err e) ≡ is_fatal {A = B} (Err e)
+fatal_same fault.Refused = refl
+fatal_same fault.Full = refl
+fatal_same fault.Memory = refl
+
+-- an error that was handed on
+handed_on : {A : Type 0} (r : Result A StepFault) (e : StepFault) → IsErrAnd r (λ y. y ≡ e) → is_fatal {A = Unit {0}} (Err e) ≡ is_fatal r
+handed_on (Ok a) e is = absurd is
+handed_on (Err y) e is = fatal_same e ∙ ap (λ (x : StepFault). is_fatal (Err x)) (sym is)
+
+pub leads_err : {A : Type 0} (r : Result A StepFault) (e : StepFault) (w : World) (devices : List DeviceValue) (links : List Link) → IsErrAnd r (λ y. y ≡ e)
+    → LeadsOn w (is_fatal {A = Unit {0}} (Err e)) devices links → LeadsOn w (is_fatal r) devices links
+leads_err r e w devices links is leads = subst (λ (f : Bool). LeadsOn w f devices links) (handed_on r e is) leads
+
+pub leads_links : (w : World) (f : Bool) (devices : List DeviceValue) (links links' : List Link) → links' ≡ links → LeadsOn w f devices links → LeadsOn w f devices links'
+leads_links w f devices links links' same leads = subst (λ (ls : List Link). LeadsOn w f devices ls) (sym same) leads
 
 -- ---- one device at an index
 
@@ -141,7 +158,7 @@ pub fresh_stays : (k far d a session i : ℕ) (device : DeviceValue) (ls : List 
     → HasFreshEnd k far i (map (look_link d device) (begun_with d a session i (slice_get ls i) ls))
 fresh_stays k far d a session i device ls apart f =
     fresh_moves k far i (begun_with d a session i (slice_get ls i) ls) (map (look_link d device) (begun_with d a session i (slice_get ls i) ls))
-    (looks_others k d apart device (begun_with d a session i (slice_get ls i) ls))
+    (looks_others k d device (begun_with d a session i (slice_get ls i) ls) apart)
     (fresh_moves k far i ls (begun_with d a session i (slice_get ls i) ls) (begun_all k d a session i ls (slice_get ls i) apart refl) f)
 
 -- the ends of a link that was just made
@@ -209,7 +226,7 @@ module _ (laws : RecordLaws) (grows : SentGrows) (devices : List DeviceValue) (l
   mid_there = get_set devices d mid within
 
   pub turn_fails : (e : StepFault) → IsNotRefused {A = Unit {0}} (Err e) → (links' : List Link) (w : World) → IsShown w devices links → LeadsOn w true (slice_set devices d new) links'
-  turn_fails e no links' w s =
+  turn_fails e kept links' w s =
       subst (λ (ds : List DeviceValue). LeadsOn w true ds links') (set_again devices d mid new)
       (failed_leads laws w (slice_set devices d mid) planned links' d mid new (plans w devices there s) mid_there runs)
 
@@ -232,7 +249,10 @@ module _ (laws : RecordLaws) (grows : SentGrows) (devices : List DeviceValue) (l
       leads_then w false (slice_set devices d new) (slice_set devices d new) planned (map (look_link d new) planned) kept
       (λ v shown. looked_leads laws v (slice_set devices d new) planned d new shown (get_set devices d new within) stand)
 
+pub plans_from : (d : ℕ) (old new : DeviceValue) (ls ms ns : List Link) → ms ≡ ls → PlansAll d old new ms ns → PlansAll d old new ls ns
+plans_from d old new ls ms ns same plans = λ w devices is s. plans w devices is (subst (λ (x : List Link). IsShown w devices x) (sym same) s)
+
 pub fatal_is : (e : StepFault) → IsNotRefused {A = Unit {0}} (Err e) → true ≡ is_fatal {A = Unit {0}} (Err e)
-fatal_is fault.Refused no = absurd no
-fatal_is fault.Full no = refl
-fatal_is fault.Memory no = refl
+fatal_is fault.Refused kept = absurd kept
+fatal_is fault.Full kept = refl
+fatal_is fault.Memory kept = refl

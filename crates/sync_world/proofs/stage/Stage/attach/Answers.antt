@@ -19,33 +19,33 @@ pub returns-in_err-session-clause-goes : goal.returns-in_err-session-clause-goes
 returns-in_err-session-clause-goes c =
     let within : c.args.d < length c.args.self.now.devices.items = omega arith in
     let laws = c.cite_laws.ensures in
-    λ far same fresh w s. fails_leads laws.records laws.grows c.args.self.now.devices.items c.args.self.now.links.items c.args.d c.index_mut.result.now c.attach.new.self within
-        c.index_mut.ensures.value c.attach.ensures.runs c.in_err-session.field-0 (λ is. c.in_err-session.ensures.same is) w s
+    λ far same fresh w s. fails_leads laws.records laws.grows c.args.self.now.devices.items c.args.self.now.links.items c.args.d c.index_mut-device.result.now c.attach.new.self within
+        c.index_mut-device.ensures.value c.attach.ensures.runs c.in_err-session.field-0.0 (λ is. c.in_err-session.ensures.same is) w s
 
 pub returns-in_err-look_all-clause-goes : goal.returns-in_err-look_all-clause-goes
 returns-in_err-look_all-clause-goes c =
     let within : c.args.d < length c.args.self.now.devices.items = omega arith in
     let laws = c.cite_laws.ensures in
-    λ far same fresh w s. ends_leads laws.records laws.grows c.args.self.now.devices.items c.args.self.now.links.items c.args.d c.index_mut.result.now c.attach.new.self within
-        c.index_mut.ensures.value c.attach.ensures.runs _ w s
+    λ far same fresh w s. ends_leads laws.records laws.grows c.args.self.now.devices.items c.args.self.now.links.items c.args.d c.index_mut-device.result.now c.attach.new.self within
+        c.index_mut-device.ensures.value c.attach.ensures.runs _ w s
 
 pub returns-clause-goes : goal.returns-clause-goes
 returns-clause-goes c =
     let within : c.args.d < length c.args.self.now.devices.items = omega arith in
     let laws = c.cite_laws.ensures in
-    λ far same fresh w s. subst (λ ls. LeadsOn w false _ ls) (sym (began_is c.args.self.now.links.items c.begin_at.new.links c.look_all.new.links c.args.d c.links.result c.index_mut.result.now.links c.in-Some.session c.args.link c.attach.new.self
-        fresh.link c.links.ensures c.begin_at.ensures c.in_ok-look_all.ensures fresh.stands))
-        (begins_leads laws.records laws.grows c.args.self.now.devices.items c.args.self.now.links.items c.args.d c.index_mut.result.now c.attach.new.self within
-        c.index_mut.ensures.value c.attach.ensures.runs far c.args.link c.in-Some.session c.args.plan.now.contact c.in_ok-session.ensures.running c.in_ok-session.ensures.links same c.links_stand.ensures fresh w s)
+    λ far same fresh w s. subst (λ ls. LeadsOn w false _ ls) (sym (began_is c.args.self.now.links.items c.begin_at.new.links c.look_all.new.links c.args.d c.links-at.result c.index_mut-device.result.now.links c.in-Some.session c.args.link c.attach.new.self
+        fresh.link c.links-at.ensures c.begin_at.ensures c.in_ok-look_all.ensures fresh.stands))
+        (begins_leads laws.records laws.grows c.args.self.now.devices.items c.args.self.now.links.items c.args.d c.index_mut-device.result.now c.attach.new.self within
+        c.index_mut-device.ensures.value c.attach.ensures.runs far c.args.link c.in-Some.session c.args.plan.now.contact c.in_ok-session.ensures.running c.in_ok-session.ensures.links same c.links_stand.ensures fresh w s)
 
 pub returns-in_default-clause-goes : goal.returns-in_default-clause-goes
 returns-in_default-clause-goes c =
     let within : c.args.d < length c.args.self.now.devices.items = omega arith in
     let laws = c.cite_laws.ensures in
-    λ far same fresh w s. gone_goes laws.records laws.grows c.args.self.now.devices.items c.args.self.now.links.items c.args.d c.index_mut.result.now c.attach.new.self within
-        c.index_mut.ensures.value c.attach.ensures.runs c.in_ok-session.ensures.running c.in_ok-session.ensures.links _ _ c.came.ensures.devices c.came.ensures.links w s
+    λ far same fresh w s. gone_goes laws.records laws.grows c.args.self.now.devices.items c.args.self.now.links.items c.args.d c.index_mut-device.result.now c.attach.new.self within
+        c.index_mut-device.ensures.value c.attach.ensures.runs c.in_ok-session.ensures.running c.in_ok-session.ensures.links _ _ c.came.ensures.devices c.came.ensures.links w s
 
 pub returns-clause-fresh : goal.returns-clause-fresh
 returns-clause-fresh c = λ k far apart fresh done.
     subst (λ ls. HasFreshEnd k far c.args.link ls) (sym (c.in_ok-look_all.ensures ∙ ap (λ ls. map (look_link c.args.d c.attach.new.self) ls) c.begin_at.ensures))
-    (fresh_stays k far c.args.d c.links.result c.in-Some.session c.args.link c.attach.new.self c.args.self.now.links.items apart fresh)
+    (fresh_stays k far c.args.d c.links-at.result c.in-Some.session c.args.link c.attach.new.self c.args.self.now.links.items apart fresh)

@@ -13,5 +13,5 @@ pub returns-clause-goes : goal.returns-clause-goes
 returns-clause-goes c =
     let within : c.args.d < length c.args.self.now.devices.items = omega arith in
     let made = c.stop_at.ensures in
-    λ w s. quiet_leads c.cite_laws.ensures.records c.cite_laws.ensures.grows c.args.self.now.devices.items c.args.self.now.links.items c.args.d c.index_mut.result.now c.stop_at.new.self within
-        c.index_mut.ensures.value made.runs made.links made.node w s
+    λ w s. quiet_leads c.cite_laws.ensures.records c.cite_laws.ensures.grows c.args.self.now.devices.items c.args.self.now.links.items c.args.d c.index_mut-device.result.now c.stop_at.new.self within
+        c.index_mut-device.ensures.value made.runs made.links made.node w s
