@@ -1,15 +1,17 @@
 -- What a host in memory tells, over its own calls.
-use Rattle.std.proofs.Common.{◌≡◌, ℕ, zero, suc, ◌<◌, List, [], ◌∷◌, ◌++◌, length, refl, sym, ap, ◌∙◌, subst, arith, Option, Some, None, Result, Ok, Err, OnOk, OnErr, slice_index}
+use Rattle.std.proofs.Common.{◌≡◌, ℕ, zero, suc, ◌<◌, List, [], ◌∷◌, ◌++◌, length, refl, sym, ap, ◌∙◌, subst, arith, Option, Some, None, Result, Ok, Err, OnOk, OnErr, replicate, slice_index, slice_index_or}
 use Rattle.std.specs.declared.alloc.AllocError.{AllocError}
 use Rattle.outside.specs.declared.failed.Failed.{Failed}
 use Rattle.outside.specs.Disk.{Becomes}
 use Rattle.outside.specs.Files.{Two, File, IsImage, settled}
 use Rattle.outside.specs.Host.{Dials}
-use Rattle.outside.specs.Links.{Link, Links, HeardOn}
+use Rattle.outside.specs.Links.{Answered, Link, Links, HeardOn}
 use Rattle.outside.specs.Outside.{Outside, Moment}
-use Rattle.outside.specs.Runs.{Told, answers_at, others_dial, sent_at}
+use Rattle.outside.specs.Runs.{Told, answers_at, heard_bytes, others_dial, sent_at}
 use Rattle.outside.specs.MemDisk.{Change, hosted, MemDiskValue, Kept, kept_after, changed, both_kept, disk_files, files_of, with_call, fresh, links_after, answers_after}
-use Rattle.outside.specs.MemHost.{MemHostValue, Readings, Crashes, fresh_host}
+use Rattle.outside.specs.MemHost.{MemHostValue, Readings, Crashes, fresh_host, plans_of}
+use Rattle.outside.specs.declared.limits.TheConstants.{LINKS}
+use Rattle.world_devices.specs.Brought.{IsSilent, brought_on, planned_bytes}
 use Rattle.outside.specs.HostTold.{host_told, heard_on}
 use Rattle.outside.specs.declared.pick.Pick.{Pick}
 use Rattle.outside.specs.Links.{Planned}
@@ -53,12 +55,6 @@ with_failing h failing stop = record { files = refl; told = refl; heard = refl; 
 pub same_failing : (h h' : MemHostValue) (failing : List ℕ) (stop : Option ℕ) → h' ≡ record h { disk = record h.disk { failing = failing; stop = stop } } → SameAs h h'
 same_failing h h' failing stop is = subst (λ (x : MemHostValue). SameAs h x) (sym is) (with_failing h failing stop)
 
-with_stop : (h : MemHostValue) (stop : Option ℕ) → SameAs h (record h { disk = record h.disk { stop = stop } })
-with_stop h stop = record { files = refl; told = refl; heard = refl; clock = refl; moments = λ t m w. w; dialled = refl }
-
-pub same_stop : (h h' : MemHostValue) (stop : Option ℕ) → h' ≡ record h { disk = record h.disk { stop = stop } } → SameAs h h'
-same_stop h h' stop is = subst (λ (x : MemHostValue). SameAs h x) (sym is) (with_stop h stop)
-
 tells_equal : (h h' : MemHostValue) → h' ≡ h → SameAs h h'
 tells_equal h h' is = subst (λ (x : MemHostValue). SameAs h x) (sym is) (record { files = refl; told = refl; heard = refl; clock = refl; moments = λ t m w. w; dialled = refl })
 
@@ -86,26 +82,30 @@ hosted_same : (two : Two Kept) (calls : List Change) → kept_after two (calls +
 hosted_same two [] = refl
 hosted_same two (c ∷ calls) = hosted_same (changed two c) calls
 
+pub files_anew : (h h' : MemHostValue) → h' ≡ fresh_host h.disk → (host_told h').files ≡ (host_told h).files
+files_anew h h' is = ap (λ (x : MemHostValue). (host_told x).files) is ∙ ap (λ (k : Two Kept). Some (files_of k)) (hosted_same (both_kept h.disk.start) h.disk.calls)
+
 pub keeps_anew : (h h' : MemHostValue) → h' ≡ fresh_host h.disk → KeepsOn (host_told h) (host_told h')
-keeps_anew h h' is =
-    keeps_same (host_told h) (host_told h')
-    (ap (λ (x : MemHostValue). (host_told x).files) is ∙ ap (λ (k : Two Kept). Some (files_of k)) (hosted_same (both_kept h.disk.start) h.disk.calls))
+keeps_anew h h' is = keeps_same (host_told h) (host_told h') (files_anew h h' is)
+
+-- what has all that a crash may leave, the host behind it has
+module _ (P : Two (List ℕ) → Type 0) where
+  pub crash_images : (pick : Pick) (h h' : MemHostValue) → Crashes pick h h' → ((left : Two (List ℕ)) → IsImage (files_of (disk_files h.disk)) left → P left)
+      → (two : Two File) → (host_told h').files ≡ Some two → (left : Two (List ℕ)) → IsImage two left → P left
+  crash_images pick h h' crashes each two is left image =
+      let start = crashes.disk.start in
+      let went : P start = each start crashes.image in
+      let anew : h' ≡ fresh_host (fresh start) = crashes.anew ∙ ap fresh_host crashes.pictured.fresh in
+      let only : Some (record { first = settled start.first; second = settled start.second }) ≡ Some two = sym (ap (λ (x : MemHostValue). (host_told x).files) anew) ∙ is in
+      let same : record { first = settled start.first; second = settled start.second } ≡ two = cc in
+      let there : IsImage (record { first = settled start.first; second = settled start.second }) left = subst (λ (t : Two File). IsImage t left) (sym same) image in
+      let first = settled_only start.first left.first there.first in
+      let second = settled_only start.second left.second there.second in
+      let is_start : start ≡ left = (λ i. record { first = sym first i; second = sym second i }) in
+      subst (λ (l : Two (List ℕ)). P l) is_start went
 
 pub keeps_crash : (pick : Pick) (h h' : MemHostValue) → Crashes pick h h' → KeepsOn (host_told h) (host_told h')
-keeps_crash pick h h' crashes j k =
-    let start = crashes.disk.start in
-    let went : GoOnFrom j start = k.each (files_of (disk_files h.disk)) refl start crashes.image in
-    let anew : h' ≡ fresh_host (fresh start) = crashes.anew ∙ ap fresh_host crashes.pictured.fresh in
-    record {
-      each = λ two is left image.
-          let only : Some (record { first = settled start.first; second = settled start.second }) ≡ Some two = sym (ap (λ (x : MemHostValue). (host_told x).files) anew) ∙ is in
-          let same : record { first = settled start.first; second = settled start.second } ≡ two = cc in
-          let there : IsImage (record { first = settled start.first; second = settled start.second }) left = subst (λ (t : Two File). IsImage t left) (sym same) image in
-          let first = settled_only start.first left.first there.first in
-          let second = settled_only start.second left.second there.second in
-          let is_start : start ≡ left = (λ i. record { first = sym first i; second = sym second i }) in
-          subst (λ (l : Two (List ℕ)). GoOnFrom j l) is_start went;
-    }
+keeps_crash pick h h' crashes j k = record { each = crash_images (GoOnFrom j) pick h h' crashes (λ left image. k.each (files_of (disk_files h.disk)) refl left image) }
 
 -- ---- a store that was begun
 
@@ -158,3 +158,73 @@ quiet_same o o' same quiet = record {
   sent = λ link. ap (λ (l : Links). sent_at l.told link) same ∙ quiet.sent link;
   heard = λ link. ap (λ (l : Links). answers_at l.heard link) same ∙ quiet.heard link;
 }
+
+-- ---- what links bring
+
+heard_of : (h h' : MemHostValue) (link : ℕ) → (host_told h').links.heard ≡ (host_told h).links.heard → heard_bytes (answers_at (host_told h').links.heard link) ≡ heard_bytes (answers_at (host_told h).links.heard link)
+heard_of h h' link same = ap (λ (t : Option (List HeardOn)). heard_bytes (answers_at t link)) same
+
+-- of a link whose plan and whose answers are the same
+pub brings_same : (h h' : MemHostValue) (link : ℕ) → (host_told h').links.heard ≡ (host_told h).links.heard → plans_of h'.scripts link ≡ plans_of h.scripts link → brought_on h' link ≡ brought_on h link
+brings_same h h' link heard plan =
+    ap (λ (l : List ℕ). l ++ planned_bytes (plans_of h'.scripts link)) (heard_of h h' link heard)
+    ∙ ap (λ (p : List Planned). heard_bytes (answers_at (host_told h).links.heard link) ++ planned_bytes p) plan
+
+pub brings_on : (h h' : MemHostValue) (link : ℕ) → TellsSame (host_told h) (host_told h') → h'.scripts ≡ h.scripts → brought_on h' link ≡ brought_on h link
+brings_on h h' link same scripts = brings_same h h' link same.heard (ap (λ (s : List (List Planned)). plans_of s link) scripts)
+
+pub brings_linked : (h h' : MemHostValue) (link : ℕ) → (host_told h').links ≡ (host_told h).links → brought_on h' link ≡ brought_on h link
+brings_linked h h' link same =
+    let both : Some (plans_of h'.scripts) ≡ Some (plans_of h.scripts) = ap (λ (l : Links). l.planned) same in
+    let plans : plans_of h'.scripts ≡ plans_of h.scripts = cc in
+    brings_same h h' link (ap (λ (l : Links). l.heard) same) (ap (λ (p : ℕ → List Planned). p link) plans)
+
+-- where nothing is planned and nothing was heard, nothing is brought
+pub brings_none : (h : MemHostValue) (link : ℕ) → IsSilent h → IsQuiet (host_told h) → brought_on h link ≡ []
+brings_none h link silent quiet =
+    ap (λ (a : List Answered). heard_bytes a ++ planned_bytes (plans_of h.scripts link)) (quiet.heard link)
+    ∙ ap planned_bytes (silent.plans link)
+
+clock_scripts : (h h' : MemHostValue) (clock : Readings) → h' ≡ record h { clock = clock } → h'.scripts ≡ h.scripts
+clock_scripts h h' clock is = ap (λ (x : MemHostValue). x.scripts) is
+
+pub scripts_clocked : (h h' : MemHostValue) (clock : Readings) (result : Result (Unit {0}) AllocError) → OnOk result (h' ≡ record h { clock = clock }) → OnErr result (h' ≡ h) → h'.scripts ≡ h.scripts
+scripts_clocked h h' clock (Ok u) ok err = clock_scripts h h' clock ok
+scripts_clocked h h' clock (Err e) ok err = ap (λ (x : MemHostValue). x.scripts) err
+
+pub scripts_failing : (h h' : MemHostValue) (failing : List ℕ) (stop : Option ℕ) → h' ≡ record h { disk = record h.disk { failing = failing; stop = stop } } → h'.scripts ≡ h.scripts
+scripts_failing h h' failing stop is = ap (λ (x : MemHostValue). x.scripts) is
+
+abbrev unplanned : List Planned
+unplanned = []
+
+no_plan : (n link : ℕ) → slice_index_or (replicate n unplanned) link unplanned ≡ unplanned
+no_plan zero link = refl
+no_plan (suc n) zero = refl
+no_plan (suc n) (suc link) = no_plan n link
+
+pub silent_fresh : (h : MemHostValue) (disk : MemDiskValue) → h ≡ fresh_host disk → IsSilent h
+silent_fresh h disk is = subst (λ (x : MemHostValue). IsSilent x) (sym is) (record { plans = λ link. no_plan LINKS link })
+
+pub silent_on : (h h' : MemHostValue) → h'.scripts ≡ h.scripts → IsSilent h → IsSilent h'
+silent_on h h' same silent = record { plans = λ link. ap (λ (s : List (List Planned)). plans_of s link) same ∙ silent.plans link }
+
+pub silent_linked : (h h' : MemHostValue) → (host_told h').links ≡ (host_told h).links → IsSilent h → IsSilent h'
+silent_linked h h' same silent = record {
+  plans = λ link.
+      let both : Some (plans_of h'.scripts) ≡ Some (plans_of h.scripts) = ap (λ (l : Links). l.planned) same in
+      let plans : plans_of h'.scripts ≡ plans_of h.scripts = cc in
+      ap (λ (p : ℕ → List Planned). p link) plans ∙ silent.plans link;
+}
+
+-- ---- a call that is to fail
+
+pub fails_same : (h h' : MemHostValue) (call : ℕ) (result : Result (Unit {0}) AllocError) → OnOk result (h' ≡ record h { disk = record h.disk { failing = h.disk.failing ++ call ∷ [] } }) → OnErr result (h' ≡ h)
+    → SameAs h h'
+fails_same h h' call (Ok u) ok err = same_failing h h' (h.disk.failing ++ call ∷ []) h.disk.stop ok
+fails_same h h' call (Err e) ok err = tells_equal h h' err
+
+pub fails_scripts : (h h' : MemHostValue) (call : ℕ) (result : Result (Unit {0}) AllocError) → OnOk result (h' ≡ record h { disk = record h.disk { failing = h.disk.failing ++ call ∷ [] } }) → OnErr result (h' ≡ h)
+    → h'.scripts ≡ h.scripts
+fails_scripts h h' call (Ok u) ok err = ap (λ (x : MemHostValue). x.scripts) ok
+fails_scripts h h' call (Err e) ok err = ap (λ (x : MemHostValue). x.scripts) err

@@ -90,7 +90,7 @@ keeps_adding batch j0 s s' o o' two is fits leads j k =
 -- ---- runs
 
 -- a run that begins now with this journal
-abbrev begin_now : ℕ → Outside → Two File → Journal → Begin
+abbrev pub begin_now : ℕ → Outside → Two File → Journal → Begin
 begin_now first o two j0 = record { files = two; sent = sent_of o.links.told; clock = o.clock; journal = j0; first = first }
 
 -- it is safe where what was sent is output of the journal
@@ -124,7 +124,7 @@ told_twice o told told' = let both : Some told.two ≡ Some told'.two = sym told
 fits_told : (s : StoreValue) (j : Journal) (o : Outside) (told told' : Told o) → Fits bundle_meaning s j told.two → Fits bundle_meaning s j told'.two
 fits_told s j o told told' fits = subst (λ (t : Two File). Fits bundle_meaning s j t) (told_twice o told told') fits
 
-safe_now : (n : NodeValue) (o : Outside) (told : Told o) (j0 : Journal) → Fits bundle_meaning n.store j0 told.two → (run : IsSafeRun n o) → Safe bundle_meaning (begin_now n.first o told.two j0) run.plans n.store o
+pub safe_now : (n : NodeValue) (o : Outside) (told : Told o) (j0 : Journal) → Fits bundle_meaning n.store j0 told.two → (run : IsSafeRun n o) → Safe bundle_meaning (begin_now n.first o told.two j0) run.plans n.store o
 safe_now n o told j0 fits run =
     safe_from n.first run.plans n.store o told j0 (λ told'. (fits_told n.store j0 o told told' fits, has_output n o told j0 fits run))
 

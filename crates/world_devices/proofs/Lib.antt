@@ -1,4 +1,7 @@
+pub mod BroughtLaws
 pub mod AllowedLaws
 pub mod KeepLaws
+pub mod LeaveLaws
 pub mod HostLaws
 pub mod RunningLaws
+pub mod CallLaws

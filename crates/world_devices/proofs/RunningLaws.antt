@@ -21,7 +21,8 @@ use Rattle.sync_store.specs.Store.{StoreValue}
 use Rattle.sync_store.specs.Ready.{IsReady}
 use Rattle.sync_store.specs.Refusals.{contact_answer, group_answer, level_answer, post_answer}
 use Rattle.sync_node.specs.Adding.{IsPlain}
-use Rattle.sync_node.specs.Node.{Attaches, KeepsJoined, KeepsSafe, NodeValue, MayRun, MayGoOn, PlansSafe}
+use Rattle.world_devices.specs.Brought.{IsSilent, brought_on}
+use Rattle.sync_node.specs.Node.{Attaches, IsNode, KeepsJoined, KeepsSafe, NodeValue, MayRun, MayGoOn, PlansSafe}
 use Rattle.frame_journal.specs.Gates.{AnyImage}
 use Rattle.sync_rules.specs.declared.entries.Session.{Session}
 use Rattle.sync_store.specs.Fitting.{Fits}
@@ -33,7 +34,7 @@ use Rattle.world_devices.specs.Cited.{SentGrows}
 use Rattle.world_devices.specs.Devices.{IsDevice, IsReadyStore, IsRunning, IsStarted, MayAdd, MayBeRunning, links_made}
 use Rattle.world_devices.specs.Keeping.{IsQuiet, Journal, Keeps, KeepsOn, TellsSame}
 use Rattle.world_devices.proofs.KeepLaws.{keeps_adding, keeps_attaching, keeps_looks, keeps_same, keeps_settling, keeps_turning, run_added, run_attached, run_begun, run_on, run_turned}
-use Rattle.world_devices.proofs.HostLaws.{keeps_anew, keeps_crash, told_host}
+use Rattle.world_devices.proofs.HostLaws.{brings_linked, brings_none, keeps_anew, keeps_crash, told_host}
 use Rattle.world_devices.proofs.AllowedLaws.{contact_allowed, group_allowed, level_allowed, author_allowed}
 
 -- over the same files, with as many links at least, a node may go on
@@ -48,24 +49,30 @@ may_on n o o' files dialled may = λ unclosed.
 
 -- ---- calls that tell the same
 
-pub running_on : (n : NodeValue) (h h' : MemHostValue) (links : ℕ) → TellsSame (host_told h) (host_told h') → IsRunning n h links → IsRunning n h' links
-running_on n h h' links same running = record {
+-- of links that it has not had the plans are the same
+abbrev pub BringsSame : ℕ → MemHostValue → MemHostValue → Type 0
+BringsSame links h h' = (link : ℕ) → links ≤ link → brought_on h' link ≡ brought_on h link
+
+pub running_on : (n : NodeValue) (h h' : MemHostValue) (links : ℕ) → TellsSame (host_told h) (host_told h') → BringsSame links h h' → IsRunning n h links → IsRunning n h' links
+running_on n h h' links same brings running = record {
   unclosed = running.unclosed;
   runs = run_on n (host_told h) (host_told h') same running.runs;
   may = may_on n (host_told h) (host_told h') same.files same.dialled running.may;
   linked = running.linked;
   dialled = omega (arith, same.dialled, running.dialled);
+  attached = running.attached;
+  unused = λ link past. brings link past ∙ running.unused link past;
 }
 
-maybe_on : (o : Option NodeValue) (h h' : MemHostValue) (links : ℕ) → TellsSame (host_told h) (host_told h') → MayBeRunning o h links → MayBeRunning o h' links
-maybe_on None h h' links same running = tt
-maybe_on (Some n) h h' links same running = running_on n h h' links same running
+maybe_on : (o : Option NodeValue) (h h' : MemHostValue) (links : ℕ) → TellsSame (host_told h) (host_told h') → BringsSame links h h' → MayBeRunning o h links → MayBeRunning o h' links
+maybe_on None h h' links same brings running = tt
+maybe_on (Some n) h h' links same brings running = running_on n h h' links same brings running
 
 pub keeps_told : (h h' : MemHostValue) → TellsSame (host_told h) (host_told h') → KeepsOn (host_told h) (host_told h')
 keeps_told h h' same = keeps_same (host_told h) (host_told h') same.files
 
-pub device_on : (o : Option NodeValue) (h h' : MemHostValue) (links : ℕ) → TellsSame (host_told h) (host_told h') → IsDevice o h links → IsDevice o h' links
-device_on o h h' links same device = (maybe_on o h h' links same device.0, keeps_told h h' same [] device.1)
+pub device_on : (o : Option NodeValue) (h h' : MemHostValue) (links : ℕ) → TellsSame (host_told h) (host_told h') → BringsSame links h h' → IsDevice o h links → IsDevice o h' links
+device_on o h h' links same brings device = (maybe_on o h h' links same brings device.0, keeps_told h h' same [] device.1, device.2)
 
 pub running_of : (o : Option NodeValue) (n : NodeValue) (h : MemHostValue) (links : ℕ) → o ≡ Some n → MayBeRunning o h links → IsRunning n h links
 running_of o n h links is running = subst (λ (x : Option NodeValue). MayBeRunning x h links) is running
@@ -75,16 +82,20 @@ pub record HasJournal (s : StoreValue) (h : MemHostValue) : Type 0 where
   pub whole : Journal
   pub fits : Fits bundle_meaning s whole (told_host h).two
 
-journal_of : (s : StoreValue) (h : MemHostValue) → IsReady bundle_meaning s (host_told h).files → HasJournal s h
+pub journal_of : (s : StoreValue) (h : MemHostValue) → IsReady bundle_meaning s (host_told h).files → HasJournal s h
 journal_of s h ready = let fit = ready.fits (told_host h).two (told_host h).files_are in record { whole = fit.0; fits = fit.1 }
 
-open_of : (n : NodeValue) (h : MemHostValue) (links : ℕ) → IsRunning n h links → IsReady bundle_meaning n.store (host_told h).files
+pub open_of : (n : NodeValue) (h : MemHostValue) (links : ℕ) → IsRunning n h links → IsReady bundle_meaning n.store (host_told h).files
 open_of n h links running = (running.may running.unclosed).ready
+
+-- on every link the same is brought
+abbrev pub BringsAll : MemHostValue → MemHostValue → Type 0
+BringsAll h h' = (link : ℕ) → brought_on h' link ≡ brought_on h link
 
 -- a node over a store that was loaded and settled
 pub begins_running : (n : NodeValue) (s : StoreValue) (h : MemHostValue) → n ≡ record { store = s; first = s.state.facts.begun; links = []; closed = false }
-    → IsStarted s h → LINKS ≤ links_made h → IsQuiet (host_told h) → IsRunning n h 0
-begins_running n s h is started dialled quiet =
+    → IsStarted s h → LINKS ≤ links_made h → IsQuiet (host_told h) → IsSilent h → IsRunning n h 0
+begins_running n s h is started dialled quiet silent =
     let P : NodeValue → Type 0 = λ m. IsRunning m h 0 in
     let has = journal_of s h started.ready in
     subst P (sym is) (record {
@@ -93,17 +104,21 @@ begins_running n s h is started dialled quiet =
       may = λ _. record { ready = started.ready; settled = λ _. started.settled; dialled = omega (arith) };
       linked = refl;
       dialled = dialled;
+      attached = record { few = omega arith; attached = λ _. record { begun = omega arith; each = λ number l there. cc } };
+      unused = λ link _. brings_none h link silent quiet;
     })
 
 -- a session began on one link more
 pub attached_running : (session : Session) (n n' : NodeValue) (h h' : MemHostValue) (links : ℕ) → MayRun bundle_meaning n' (host_told h') → n'.closed ≡ false
-    → Attaches bundle_meaning n n' (host_told h) (host_told h') → PlansSafe bundle_meaning session n n' (host_told h) (host_told h') → IsRunning n h links → IsRunning n' h' (links + 1)
-attached_running session n n' h h' links may unclosed attaches safe running = record {
+    → Attaches bundle_meaning n n' (host_told h) (host_told h') → PlansSafe bundle_meaning session n n' (host_told h) (host_told h') → IsNode n' → BringsAll h h' → IsRunning n h links → IsRunning n' h' (links + 1)
+attached_running session n n' h h' links may unclosed attaches safe is_node brings running = record {
   unclosed = unclosed;
   runs = run_attached session n n' (host_told h) (host_told h') attaches safe running.runs;
   may = may;
   linked = omega (arith, running.linked, attaches.one_more);
   dialled = omega (arith, running.dialled, attaches.goes.links.dialled);
+  attached = is_node;
+  unused = λ link past. brings link ∙ running.unused link (omega (arith, past));
 }
 
 pub attach_keeps : (session : Session) (n n' : NodeValue) (h h' : MemHostValue) (links : ℕ) → PlansSafe bundle_meaning session n n' (host_told h) (host_told h') → IsRunning n h links
@@ -114,13 +129,15 @@ attach_keeps session n n' h h' links safe running =
 
 -- a turn was made
 pub turned_running : (n n' : NodeValue) (h h' : MemHostValue) (links : ℕ) → MayRun bundle_meaning n' (host_told h') → n'.closed ≡ false
-    → KeepsJoined bundle_meaning n n' (host_told h) (host_told h') → KeepsSafe bundle_meaning n n' (host_told h) (host_told h') → IsRunning n h links → IsRunning n' h' links
-turned_running n n' h h' links may unclosed joined safe running = record {
+    → KeepsJoined bundle_meaning n n' (host_told h) (host_told h') → KeepsSafe bundle_meaning n n' (host_told h) (host_told h') → IsNode n' → BringsAll h h' → IsRunning n h links → IsRunning n' h' links
+turned_running n n' h h' links may unclosed joined safe is_node brings running = record {
   unclosed = unclosed;
   runs = run_turned n n' (host_told h) (host_told h') joined safe running.runs;
   may = may;
   linked = running.linked ∙ sym joined.same_number;
   dialled = omega (arith, running.dialled, joined.goes.links.dialled);
+  attached = is_node;
+  unused = λ link past. brings link ∙ running.unused link past;
 }
 
 pub turn_keeps : (n n' : NodeValue) (h h' : MemHostValue) (links : ℕ) → KeepsSafe bundle_meaning n n' (host_told h) (host_told h') → IsRunning n h links → KeepsOn (host_told h) (host_told h')
@@ -135,8 +152,8 @@ LeadsAdding batch n n' h h' =
     → Leads bundle_meaning (AddsAtMost bundle_meaning j batch) (AddsAtMost bundle_meaning j batch) n'.store (host_told h) (host_told h')
 
 pub added_running : SentGrows → (batch : List Entry) (n n' : NodeValue) (h h' : MemHostValue) (links : ℕ) → MayRun bundle_meaning n' (host_told h') → n'.closed ≡ false
-    → KeepsJoined bundle_meaning n n' (host_told h) (host_told h') → LeadsAdding batch n n' h h' → IsRunning n h links → IsRunning n' h' links
-added_running grows batch n n' h h' links may unclosed joined leads running =
+    → KeepsJoined bundle_meaning n n' (host_told h) (host_told h') → LeadsAdding batch n n' h h' → IsNode n' → (host_told h').links ≡ (host_told h).links → IsRunning n h links → IsRunning n' h' links
+added_running grows batch n n' h h' links may unclosed joined leads is_node same running =
     let has = journal_of n.store h (open_of n h links running) in
     record {
       unclosed = unclosed;
@@ -145,6 +162,8 @@ added_running grows batch n n' h h' links may unclosed joined leads running =
       may = may;
       linked = running.linked ∙ sym joined.same_number;
       dialled = omega (arith, running.dialled, joined.goes.links.dialled);
+      attached = is_node;
+      unused = λ link past. brings_linked h h' link same ∙ running.unused link past;
     }
 
 pub add_keeps : (batch : List Entry) (n n' : NodeValue) (h h' : MemHostValue) (links : ℕ) → LeadsAdding batch n n' h h' → IsRunning n h links → KeepsOn (host_told h) (host_told h')

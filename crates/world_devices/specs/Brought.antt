@@ -1,5 +1,5 @@
 -- What a link of a host brings in all: what was heard on it, and what is planned on it.
-use Rattle.std.specs.Prelude.{ℕ, List, [], ◌∷◌, ◌++◌}
+use Rattle.std.specs.Prelude.{◌≡◌, ℕ, List, [], ◌∷◌, ◌++◌}
 use Rattle.outside.specs.Links.{Planned, piece}
 use Rattle.outside.specs.Runs.{answers_at, heard_bytes, sent_at}
 use Rattle.outside.specs.HostTold.{host_told}
@@ -16,6 +16,10 @@ planned_bytes (_ ∷ rest) = planned_bytes rest
 -- all bytes that a link brings: those heard on it, and behind them those that are planned on it
 abbrev pub brought_on : MemHostValue → ℕ → List ℕ
 brought_on host link = heard_bytes (answers_at (host_told host).links.heard link) ++ planned_bytes (plans_of host.scripts link)
+
+-- nothing is planned on any link
+pub record IsSilent (host : MemHostValue) : Type 0 where
+  pub plans : (link : ℕ) → plans_of host.scripts link ≡ []
 
 -- the bytes that were sent on a link
 abbrev pub sent_by : MemHostValue → ℕ → List ℕ

@@ -12,7 +12,8 @@ use Rattle.sync_rules.specs.Steps.{IsSettled}
 use Rattle.sync_store.specs.Store.{StoreValue}
 use Rattle.sync_store.specs.Ready.{IsReady}
 use Rattle.sync_node.specs.Adding.{IsPlain}
-use Rattle.sync_node.specs.Node.{NodeValue, node_code, MayRun}
+use Rattle.sync_node.specs.Node.{IsNode, NodeValue, node_code, MayRun}
+use Rattle.world_devices.specs.Brought.{brought_on}
 use Rattle.world_devices.specs.Keeping.{IsSafeRun, Keeps, KeepsOn}
 use Rattle.world_devices.specs.declared.stop.Stop.{Stop}
 use Rattle.world_devices.specs.contracts.stop.Stop as stop
@@ -41,22 +42,25 @@ pub record IsStarted (s : StoreValue) (host : MemHostValue) : Type 0 where
   pub ready : IsReady bundle_meaning s (host_told host).files
   pub settled : IsSettled bundle_meaning s.state.facts
 
--- the node may go on and its run is safe, its links are those that the device has had, and its host has all links that it may get
+-- the node may go on and its run is safe, its links are those that the device has had, and its host has all links that it may get;
+-- of these, one that the device has not had brings nothing
 pub record IsRunning (n : NodeValue) (host : MemHostValue) (links : ℕ) : Type 0 where
   pub unclosed : n.closed ≡ false
   pub runs : IsSafeRun n (host_told host)
   pub may : MayRun bundle_meaning n (host_told host)
   pub linked : links ≡ length n.links
   pub dialled : LINKS ≤ links_made host
+  pub attached : IsNode n
+  pub unused : (link : ℕ) → links ≤ link → brought_on host link ≡ []
 
 -- the same where the device runs
 abbrev pub MayBeRunning : Option NodeValue → MemHostValue → ℕ → Type 0
 MayBeRunning None host links = Unit {0}
 MayBeRunning (Some n) host links = IsRunning n host links
 
--- what a device always keeps: whatever a crash leaves of its files stands for a journal
+-- what a device always keeps: whatever a crash leaves of its files stands for a journal; and it has had no more links than it may get
 abbrev pub IsDevice : Option NodeValue → MemHostValue → ℕ → Type 0
-IsDevice node host links = MayBeRunning node host links × Keeps [] (host_told host)
+IsDevice node host links = MayBeRunning node host links × Keeps [] (host_told host) × (links ≤ LINKS)
 
 -- a call of a device: whatever a crash may leave then stands for a journal that goes on from each that it went on from before
 abbrev pub DeviceKeeps : DeviceValue → DeviceValue → Type 0

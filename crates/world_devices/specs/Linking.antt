@@ -1,11 +1,13 @@
 -- What calls of a device do to its links.
 use Rattle.std.specs.Prelude.{◌≡◌, ◌⊎◌, ℕ, ◌+◌, ◌<◌, ◌≤◌, Bool, true, false, not, List, [], ◌++◌, length, Option, Some, None, is_some, slice_get, Result, Ok, Err, MatchOption, OnOk}
+use Rattle.std.specs.List.{AllByRecursion}
 use Rattle.std.specs.Option.{option_map}
 use Rattle.std.specs.declared.alloc.AllocError.{AllocError}
 use Rattle.outside.specs.HostTold.{host_told}
 use Rattle.outside.specs.MemHost.{MemHostValue}
 use Rattle.outside.specs.declared.answer.Answer.{Answer}
 use Rattle.client_basic.specs.Bodies.{bundle_meaning}
+use Rattle.entry_codec.specs.Spelling.{IsEntry}
 use Rattle.sync_course.specs.declared.ends.LinkEnd.{LinkEnd}
 use Rattle.sync_course.specs.Links.{is_going, is_sent_to}
 use Rattle.sync_rules.specs.Facts.{facts, session_at}
@@ -107,11 +109,13 @@ LinksByPlan link answer (Err _) old new = new ≡ old
 
 -- ---- what stands on the links
 
--- Of a device that runs and holds a journal: its store has the facts of the journal. The session of each link is in the journal;
+-- Of a device that runs and holds a journal: its store has the facts of the journal, whose entries are within
+-- their limits. The session of each link is in the journal;
 -- on a link that is not closed on this side all output of its session was sent. A link that it has not had brings nothing.
 pub record LinksStand (n : NodeValue) (d : DeviceValue) (j : Journal) : Type 0 where
   pub facts_are : n.store.state.facts ≡ facts j
   pub legal : Legal bundle_meaning j
+  pub within : AllByRecursion (λ batch. AllByRecursion IsEntry batch) j
   pub counted : d.links ≡ length n.links
   pub known : (link : ℕ) (l : Link) → slice_get n.links link ≡ Some l → session_at (facts j).sessions (n.first + link) ≡ Some l.session
   pub sent : (link : ℕ) (l : Link) → slice_get n.links link ≡ Some l → is_sent_to l.end ≡ true → sent_by d.host link ≡ output j (n.first + link)

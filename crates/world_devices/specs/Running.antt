@@ -1,6 +1,7 @@
 -- How the journal of a device goes on in a call, and which records it takes.
 use Rattle.std.specs.Prelude.{◌≡◌, ℕ, ◌+◌, ◌-◌, Bool, true, cond, ◌&&◌, nat_le, nat_lt, List, [], ◌++◌, length, Option, Some, None, is_some}
 use Rattle.outside.specs.Files.{Two, File, IsImage, read_files}
+use Rattle.outside.specs.Outside.{Outside}
 use Rattle.outside.specs.HostTold.{host_told}
 use Rattle.outside.specs.MemHost.{MemHostValue}
 use Rattle.record_grammar.specs.Stream.{records}
@@ -38,6 +39,26 @@ records_of (Some n) host session = cond (is_session_of n session) (records (brou
 -- the records that a session of a device may take now: those that its link brings
 abbrev pub records_for : DeviceValue → ℕ → List Record
 records_for d session = records_of d.node d.host session
+
+-- ---- what a crash may leave
+
+-- files that stand for a journal which went on from this one, each record that it took being one of these
+pub record GoOnHearing (heard : ℕ → List Record) (j : Journal) (files : Two (List ℕ)) : Type 0 where
+  pub more : Journal
+  pub all_heard : AllHeard heard (facts j) more
+  pub stands_for : stands bundle_meaning files ≡ journal (j ++ more)
+
+-- whatever a crash leaves now
+pub record MayLeave (heard : ℕ → List Record) (j : Journal) (o : Outside) : Type 0 where
+  pub each : (two : Two File) → o.files ≡ Some two → (left : Two (List ℕ)) → IsImage two left → GoOnHearing heard j left
+
+-- from whatever journal, hearing whatever: what may be left afterwards might have been left before, or took no record more
+abbrev pub LeavesOn : Outside → Outside → Type 0
+LeavesOn o o' = (heard : ℕ → List Record) (j : Journal) → MayLeave heard j o → MayLeave heard j o'
+
+-- a crash leaves the files as they read
+pub record IsStill (host : MemHostValue) : Type 0 where
+  pub each : (two : Two File) → (host_told host).files ≡ Some two → (left : Two (List ℕ)) → IsImage two left → left ≡ read_files two
 
 -- ---- a call
 

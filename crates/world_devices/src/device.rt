@@ -1,18 +1,18 @@
 //! The device and its calls.
-ghost use Rattle.std.specs.Prelude.{◌≡◌, ◌≤◌, true, is_some, IfOk, IsErrOf, MatchOption};
-ghost use Rattle.std.specs.Prelude.{OnOk};
+ghost use Rattle.std.specs.Prelude.{◌≡◌, ◌≤◌, true, is_some, IsErrOf, MatchOption};
+ghost use Rattle.std.specs.Prelude.{None, OnErr, OnOk};
 ghost use Rattle.outside.specs.HostTold.{host_told};
 ghost use Rattle.sync_rules.specs.Legal.{suits_nonce};
 ghost use Rattle.world_devices.specs.Devices.{DeviceKeeps, IsReadyStore, MayAdd, links_made};
 ghost use Rattle.world_devices.specs.Keeping.{StandsLegal};
-ghost use Rattle.world_devices.specs.Linking.{DeviceLinksStand, IsNewDevice, IsUnlinked};
+ghost use Rattle.world_devices.specs.Linking.{DeviceLinksStand, IsUnlinked};
 ghost use Rattle.world_devices.specs.Linking.{KeepsLinks, LinksBy, LinksByAttach, LinksByPlan};
 ghost use Rattle.world_devices.specs.Linking.{LinksByTurn, asks, end_at, is_shut, store_of};
 ghost use Rattle.world_devices.specs.Refusals.{IsNotRefused, RefusedBy, refuses_contact};
 ghost use Rattle.world_devices.specs.Refusals.{refuses_group, refuses_level, refuses_link};
 ghost use Rattle.world_devices.specs.Refusals.{refuses_message};
-ghost use Rattle.world_devices.specs.Brought.{sent_by};
-ghost use Rattle.world_devices.specs.Running.{DeviceRuns};
+ghost use Rattle.world_devices.specs.Brought.{IsSilent, sent_by};
+ghost use Rattle.world_devices.specs.Running.{DeviceRuns, IsStill, LeavesOn};
 
 use crate::starting::{StartFault, begin, cite_laws, dial_all, load};
 use crate::stop::{Ran, StepFault, Stop};
@@ -69,9 +69,7 @@ impl Device {
         hasher: RandomState,
         contacts: u8,
         clock: u64,
-    ) -> Result<Device, StepFault>
-        ensures { IfOk result (IsNewDevice contacts clock) }
-    {
+    ) -> Result<Device, StepFault> {
         let Ok(host) = begin(alloc) else {
             return Err(StepFault::Memory);
         };
@@ -145,26 +143,32 @@ impl Device {
         ensures links { KeepsLinks self.old self.new }
         ensures node { self.new.node ≡ self.old.node }
         ensures clock { OnOk result (self.new.clock ≡ at) }
+        ensures files { (host_told self.new.host).files ≡ (host_told self.old.host).files }
     {
         self.host.set_clock(at)?;
         self.clock = at;
         Ok(())
     }
 
-    /// Its disk stops at the call of this number from now on, counted from 0; it then crashes to
+    /// The call of its disk of this number from now on, counted from 0, fails; it then crashes to
     /// this image. That takes the place of an earlier stop.
-    pub fn stop_at(&mut self, calls: u64, pick: Pick)
+    ///
+    /// # Errors
+    /// For want of memory: then no stop is left.
+    pub fn stop_at(&mut self, calls: u64, pick: Pick) -> Result<(), AllocError>
         ensures keeps { DeviceKeeps self.old self.new }
         ensures runs { DeviceRuns self.old self.new }
         ensures links { KeepsLinks self.old self.new }
         ensures node { self.new.node ≡ self.old.node }
+        ensures files { (host_told self.new.host).files ≡ (host_told self.old.host).files }
     {
         self.host.fail_none();
         self.stop = None;
         if let Some(call) = self.host.disk().calls().checked_add(calls) {
-            self.host.stop_at(call);
+            self.host.fail_at(call)?;
             self.stop = Some(Stop { call, pick });
         }
+        Ok(())
     }
 
     /// It is started again over its files.
@@ -175,6 +179,7 @@ impl Device {
         ensures links { OnOk result (IsUnlinked self.new) }
         ensures unrefused { IsNotRefused result }
     {
+        cite_laws();
         self.node = None;
         self.host.restart()?;
         match self.start() {
@@ -187,8 +192,14 @@ impl Device {
     // Loads the store and sets a node on it, and dials all links that it may get: sessions take
     // them in order.
     fn start(&mut self) -> Result<(), StartFault>
-        requires { links_made self.old.host ≡ 0 }
-        ensures { DeviceKeeps self.old self.new }
+        requires links { links_made self.old.host ≡ 0 }
+        requires silent { IsSilent self.old.host }
+        ensures keeps { DeviceKeeps self.old self.new }
+        ensures leaves { LeavesOn (host_told self.old.host) (host_told self.new.host) }
+        ensures still { is_some self.new.node ≡ true → IsStill self.new.host }
+        ensures running { OnOk result (is_some self.new.node ≡ true) }
+        ensures links { OnOk result (IsUnlinked self.new) }
+        ensures idle { OnErr result (self.new.node ≡ None) }
     {
         self.node = None;
         self.links = 0;
@@ -201,7 +212,12 @@ impl Device {
 
     // A call on the disk failed: it stopped there, or there was no memory for that call.
     fn break_off(&mut self) -> Result<(), StepFault>
+        requires { self.old.node ≡ None }
         ensures keeps { DeviceKeeps self.old self.new }
+        ensures leaves { LeavesOn (host_told self.old.host) (host_told self.new.host) }
+        ensures still { is_some self.new.node ≡ true → IsStill self.new.host }
+        ensures running { OnOk result (is_some self.new.node ≡ true) }
+        ensures links { OnOk result (IsUnlinked self.new) }
         ensures unrefused { IsNotRefused result }
     {
         let made = self.host.disk().calls();
@@ -214,6 +230,10 @@ impl Device {
     // It begins anew over this image of its files.
     fn crash(&mut self, pick: Pick) -> Result<(), StepFault>
         ensures keeps { DeviceKeeps self.old self.new }
+        ensures leaves { LeavesOn (host_told self.old.host) (host_told self.new.host) }
+        ensures still { is_some self.new.node ≡ true → IsStill self.new.host }
+        ensures running { OnOk result (is_some self.new.node ≡ true) }
+        ensures links { OnOk result (IsUnlinked self.new) }
         ensures unrefused { IsNotRefused result }
     {
         self.node = None;
@@ -227,7 +247,12 @@ impl Device {
 
     // A call of its node failed: where its disk stopped it crashes.
     fn fail(&mut self, fault: NodeFault) -> Result<(), StepFault>
+        requires { self.old.node ≡ None }
         ensures keeps { DeviceKeeps self.old self.new }
+        ensures leaves { LeavesOn (host_told self.old.host) (host_told self.new.host) }
+        ensures still { is_some self.new.node ≡ true → IsStill self.new.host }
+        ensures running { OnOk result (is_some self.new.node ≡ true) }
+        ensures links { OnOk result (IsUnlinked self.new) }
         ensures unrefused { IsNotRefused result }
     {
         match fault {
@@ -378,6 +403,7 @@ impl Device {
         if self.links as usize >= LINKS || u32::from(plan.contact) >= store.contacts() {
             return Err(StepFault::Refused);
         }
+        cite_laws();
         let session = store.sessions();
         let Some(node) = &mut self.node else {
             return Err(StepFault::Memory);
@@ -423,8 +449,9 @@ impl Device {
         ensures keeps { DeviceKeeps self.old self.new }
         ensures runs { DeviceRuns self.old self.new }
         ensures links { LinksByPlan link answer result self.old self.new }
+        ensures files { (host_told self.new.host).files ≡ (host_told self.old.host).files }
     {
-        if link < self.links && (link as usize) < LINKS {
+        if link < self.links {
             self.host.script(link, answer)?;
         }
         Ok(())
@@ -445,6 +472,7 @@ impl Device {
         ensures links { LinksByTurn result self.old self.new }
         ensures unrefused { IsNotRefused result }
     {
+        cite_laws();
         let Some(node) = &mut self.node else {
             return Err(StepFault::Memory);
         };

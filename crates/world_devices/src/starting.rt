@@ -4,14 +4,19 @@ ghost use Rattle.client_basic.specs.Bodies.{bundle_meaning};
 ghost use Rattle.outside.specs.HostTold.{host_told};
 ghost use Rattle.sync_store.specs.Ready.{IsReady};
 ghost use Rattle.world_devices.specs.Devices.{IsStarted, links_made};
-ghost use Rattle.world_devices.specs.Cited.{SentGrows};
+ghost use Rattle.world_devices.specs.Brought.{IsSilent};
+ghost use Rattle.world_devices.specs.Cited.{CitedLaws};
 ghost use Rattle.world_devices.specs.Keeping.{IsQuiet, Keeps, KeepsOn};
+ghost use Rattle.world_devices.specs.Running.{Holds, LeavesOn};
 ghost use Rattle.world_devices.specs.declared.starting.StartFault.TheVariants as start_fault;
 
 use client_basic::Bundle;
+use entry_codec::laws::standing_is_legal;
 use outside::{Host, LINKS, MAX_JOURNAL, MemDisk, MemHost};
+use record_grammar::fronts_have_fronts;
 use std::alloc::{AllocError, Global};
 use std::hash::RandomState;
+use sync_node::laws::joined_links_have_read;
 use sync_rules::laws::sent_grows;
 use sync_store::{LoadFault, Store, StoreFault};
 
@@ -36,6 +41,8 @@ impl From<AllocError> for StartFault {
 pub(crate) fn begin(alloc: Global) -> Result<MemHost, StartFault>
     ensures links { IfOk result (λ host. links_made host ≡ 0) }
     ensures keeps { IfOk result (λ host. Keeps [] (host_told host)) }
+    ensures holds { IfOk result (Holds []) }
+    ensures silent { IfOk result IsSilent }
 {
     let Ok(disk) = MemDisk::new(alloc, Vec::new(alloc), Vec::new(alloc)) else {
         return Err(StartFault::Memory);
@@ -55,6 +62,7 @@ pub(crate) fn dial_all(host: &mut MemHost) -> Result<(), StartFault>
     ensures dialled { OnOk result (links_made host.new ≡ LINKS) }
     ensures quiet { OnOk result (IsQuiet (host_told host.new)) }
     ensures files { (host_told host.new).files ≡ (host_told host.old).files }
+    ensures scripts { host.new.scripts ≡ host.old.scripts }
 {
     'links: for _link in 0..LINKS {
         match host.dial("tcp:world") {
@@ -74,6 +82,7 @@ pub(crate) fn load(
     ensures started { IfOk result (λ store. IsStarted store host.new) }
     ensures links { (host_told host.new).links ≡ (host_told host.old).links }
     ensures keeps { KeepsOn (host_told host.old) (host_told host.new) }
+    ensures leaves { LeavesOn (host_told host.old) (host_told host.new) }
 {
     match Store::load(alloc, hasher, host, &Bundle::new(), MAX_JOURNAL) {
         Ok(store) => settle(store, host),
@@ -88,6 +97,7 @@ fn settle(store: Store, host: &mut MemHost) -> Result<Store, StartFault>
     ensures started { IfOk result (λ store. IsStarted store host.new) }
     ensures links { (host_told host.new).links ≡ (host_told host.old).links }
     ensures keeps { KeepsOn (host_told host.old) (host_told host.new) }
+    ensures leaves { LeavesOn (host_told host.old) (host_told host.new) }
 {
     let mut store = store;
     match store.settle(host, &Bundle::new()) {
@@ -99,7 +109,10 @@ fn settle(store: Store, host: &mut MemHost) -> Result<Store, StartFault>
 
 /// The laws of the crates below that proofs of this crate rest on.
 pub(crate) fn cite_laws()
-    ensures { SentGrows }
+    ensures { CitedLaws }
 {
     sent_grows();
+    standing_is_legal();
+    fronts_have_fronts();
+    joined_links_have_read::<MemHost>();
 }

@@ -1,14 +1,16 @@
-use Rattle.std.proofs.Common.{refl, ◌∙◌, arith}
+use Rattle.std.proofs.Common.{ap, refl, ◌∙◌, arith}
+use Rattle.outside.specs.MemHost.{MemHostValue}
 use Rattle.outside.specs.HostTold.{host_told}
 use Rattle.world_devices.proofs.HostLaws.{quiet_dialled, quiet_none, told_host}
 use Rattle.world_devices.proofs.starting.dial_all.Goals as goal
 
 pub links-init : goal.links-init
-links-init c = record { made = c.requires; quiet = quiet_none (host_told c.args.host.now) (told_host c.args.host.now) c.requires; files = refl }
+links-init c = record { made = c.requires; quiet = quiet_none (host_told c.args.host.now) (told_host c.args.host.now) c.requires; files = refl; scripts = refl }
 
 pub links-preserved : goal.links-preserved
 links-preserved c = record {
   made = omega (arith, c.in-Ok.ensures.links.made.1, c.links.invariant.made);
   quiet = quiet_dialled _ _ (host_told c.links.host) (host_told c.dial.new.self) c.in-Ok.ensures.links c.links.invariant.quiet;
   files = c.dial.ensures.call.same_files ∙ c.links.invariant.files;
+  scripts = ap (λ (h : MemHostValue). h.scripts) c.dial.ensures.makes.rest ∙ c.links.invariant.scripts;
 }

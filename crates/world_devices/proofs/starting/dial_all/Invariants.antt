@@ -9,4 +9,5 @@ invariant-links l = record {
   made : links_made l.host ≡ l._link;
   quiet : IsQuiet (host_told l.host);
   files : (host_told l.host).files ≡ (host_told l.initial.host).files;
+  scripts : l.host.scripts ≡ l.initial.host.scripts;
 }

@@ -1,3 +1,7 @@
+use Rattle.std.proofs.Common.{refl}
+use Rattle.outside.specs.HostTold.{host_told}
+use Rattle.world_devices.proofs.HostLaws.{told_host}
+use Rattle.world_devices.proofs.LeaveLaws.{leave_looks}
 use Rattle.world_devices.proofs.RunningLaws.{load_keeps}
 use Rattle.world_devices.proofs.starting.load.Goals as goal
 
@@ -9,3 +13,13 @@ returns-in-Err-DiskFault-clause-keeps c = load_keeps c.args.host.now c.load.new.
 
 pub returns-in-Err-clause-keeps : goal.returns-in-Err-clause-keeps
 returns-in-Err-clause-keeps c = load_keeps c.args.host.now c.load.new.disk c.load.ensures.any_moment
+
+pub returns-in-Ok-clause-leaves : goal.returns-in-Ok-clause-leaves
+returns-in-Ok-clause-leaves c = λ heard j k.
+    c.settle.ensures.leaves heard j (leave_looks (host_told c.args.host.now) (host_told c.load.new.disk) (told_host c.args.host.now).two (told_host c.args.host.now).files_are c.load.ensures.any_moment heard j k)
+
+pub returns-in-Err-DiskFault-clause-leaves : goal.returns-in-Err-DiskFault-clause-leaves
+returns-in-Err-DiskFault-clause-leaves c = leave_looks (host_told c.args.host.now) (host_told c.load.new.disk) (told_host c.args.host.now).two (told_host c.args.host.now).files_are c.load.ensures.any_moment
+
+pub returns-in-Err-clause-leaves : goal.returns-in-Err-clause-leaves
+returns-in-Err-clause-leaves c = leave_looks (host_told c.args.host.now) (host_told c.load.new.disk) (told_host c.args.host.now).two (told_host c.args.host.now).files_are c.load.ensures.any_moment

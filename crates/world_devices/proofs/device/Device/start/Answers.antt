@@ -1,45 +1,51 @@
-use Rattle.std.proofs.Common.{◌≡◌, ◌≤◌, [], ap, ◌∙◌, arith}
+use Rattle.std.proofs.Common.{◌≡◌, ◌≤◌, [], ap, refl, sym, subst, ◌∙◌, arith}
 use Rattle.outside.specs.HostTold.{host_told}
+use Rattle.world_devices.specs.Devices.{DeviceValue}
 use Rattle.outside.specs.Links.{Links}
 use Rattle.outside.specs.declared.limits.TheConstants.{LINKS}
-use Rattle.world_devices.specs.Devices.{DeviceValue, links_made}
-use Rattle.world_devices.proofs.HostLaws.{clock_same, quiet_same}
+use Rattle.world_devices.specs.Devices.{links_made}
+use Rattle.world_devices.proofs.CallLaws.{leaves_seen, ready_still, silent_seen, silent_started, start_leaves}
+use Rattle.world_devices.proofs.HostLaws.{clock_same, quiet_same, scripts_clocked}
 use Rattle.world_devices.proofs.RunningLaws.{begins_running, keeps_seen, quiet_told, start_keeps}
 use Rattle.world_devices.proofs.device.Device.start.Goals as goal
 
 pub invariant_of-self-in_err-store : goal.invariant_of-self-in_err-store
-invariant_of-self-in_err-store c = (
-  tt,
-  start_keeps c.self.inside.host c.dial_all.new.host c.set_clock.new.self c.load.new.host c.dial_all.ensures.files
-      (clock_same c.dial_all.new.host c.set_clock.new.self _ c.set_clock.result c.set_clock.ensures.ok c.set_clock.ensures.err) c.load.ensures.keeps [] c.self.invariant.1,
-)
-
-pub returns-in_err-store : goal.returns-in_err-store
-returns-in_err-store c = keeps_seen c.self.inside.host c.args.self.now.host (host_told c.load.new.host) (ap (λ (d : DeviceValue). d.host) c.self.view_is) (start_keeps c.self.inside.host c.dial_all.new.host c.set_clock.new.self c.load.new.host c.dial_all.ensures.files
-    (clock_same c.dial_all.new.host c.set_clock.new.self _ c.set_clock.result c.set_clock.ensures.ok c.set_clock.ensures.err) c.load.ensures.keeps)
+invariant_of-self-in_err-store c = (tt, start_keeps c.self.inside.host c.dial_all.new.host c.set_clock.new.self c.load.new.host c.dial_all.ensures.files (clock_same c.dial_all.new.host c.set_clock.new.self _ c.set_clock.result c.set_clock.ensures.ok c.set_clock.ensures.err) c.load.ensures.keeps [] c.self.invariant.1, omega arith)
 
 pub invariant_of-self-in_err-new : goal.invariant_of-self-in_err-new
-invariant_of-self-in_err-new c = (
-  tt,
-  start_keeps c.self.inside.host c.dial_all.new.host c.set_clock.new.self c.load.new.host c.dial_all.ensures.files
-      (clock_same c.dial_all.new.host c.set_clock.new.self _ c.set_clock.result c.set_clock.ensures.ok c.set_clock.ensures.err) c.load.ensures.keeps [] c.self.invariant.1,
-)
+invariant_of-self-in_err-new c = (tt, start_keeps c.self.inside.host c.dial_all.new.host c.set_clock.new.self c.load.new.host c.dial_all.ensures.files (clock_same c.dial_all.new.host c.set_clock.new.self _ c.set_clock.result c.set_clock.ensures.ok c.set_clock.ensures.err) c.load.ensures.keeps [] c.self.invariant.1, omega arith)
 
-pub returns-in_err-new : goal.returns-in_err-new
-returns-in_err-new c = keeps_seen c.self.inside.host c.args.self.now.host (host_told c.load.new.host) (ap (λ (d : DeviceValue). d.host) c.self.view_is) (start_keeps c.self.inside.host c.dial_all.new.host c.set_clock.new.self c.load.new.host c.dial_all.ensures.files
-    (clock_same c.dial_all.new.host c.set_clock.new.self _ c.set_clock.result c.set_clock.ensures.ok c.set_clock.ensures.err) c.load.ensures.keeps)
+pub returns-in_err-store-clause-keeps : goal.returns-in_err-store-clause-keeps
+returns-in_err-store-clause-keeps c = keeps_seen c.self.inside.host c.args.self.now.host (host_told c.load.new.host) (ap (λ (d : DeviceValue). d.host) c.self.view_is) (start_keeps c.self.inside.host c.dial_all.new.host c.set_clock.new.self c.load.new.host c.dial_all.ensures.files (clock_same c.dial_all.new.host c.set_clock.new.self _ c.set_clock.result c.set_clock.ensures.ok c.set_clock.ensures.err) c.load.ensures.keeps)
+
+pub returns-in_err-store-clause-leaves : goal.returns-in_err-store-clause-leaves
+returns-in_err-store-clause-leaves c = leaves_seen c.self.inside.host c.args.self.now.host (host_told c.load.new.host) (ap (λ (d : DeviceValue). d.host) c.self.view_is) (start_leaves c.self.inside.host c.dial_all.new.host c.set_clock.new.self c.load.new.host c.dial_all.ensures.files (clock_same c.dial_all.new.host c.set_clock.new.self _ c.set_clock.result c.set_clock.ensures.ok c.set_clock.ensures.err) c.load.ensures.leaves)
+
+pub returns-in_err-new-clause-keeps : goal.returns-in_err-new-clause-keeps
+returns-in_err-new-clause-keeps c = keeps_seen c.self.inside.host c.args.self.now.host (host_told c.load.new.host) (ap (λ (d : DeviceValue). d.host) c.self.view_is) (start_keeps c.self.inside.host c.dial_all.new.host c.set_clock.new.self c.load.new.host c.dial_all.ensures.files (clock_same c.dial_all.new.host c.set_clock.new.self _ c.set_clock.result c.set_clock.ensures.ok c.set_clock.ensures.err) c.load.ensures.keeps)
+
+pub returns-in_err-new-clause-leaves : goal.returns-in_err-new-clause-leaves
+returns-in_err-new-clause-leaves c = leaves_seen c.self.inside.host c.args.self.now.host (host_told c.load.new.host) (ap (λ (d : DeviceValue). d.host) c.self.view_is) (start_leaves c.self.inside.host c.dial_all.new.host c.set_clock.new.self c.load.new.host c.dial_all.ensures.files (clock_same c.dial_all.new.host c.set_clock.new.self _ c.set_clock.result c.set_clock.ensures.ok c.set_clock.ensures.err) c.load.ensures.leaves)
+
+pub returns-clause-keeps : goal.returns-clause-keeps
+returns-clause-keeps c = keeps_seen c.self.inside.host c.args.self.now.host (host_told c.load.new.host) (ap (λ (d : DeviceValue). d.host) c.self.view_is) (start_keeps c.self.inside.host c.dial_all.new.host c.set_clock.new.self c.load.new.host c.dial_all.ensures.files (clock_same c.dial_all.new.host c.set_clock.new.self _ c.set_clock.result c.set_clock.ensures.ok c.set_clock.ensures.err) c.load.ensures.keeps)
+
+pub returns-clause-leaves : goal.returns-clause-leaves
+returns-clause-leaves c = leaves_seen c.self.inside.host c.args.self.now.host (host_told c.load.new.host) (ap (λ (d : DeviceValue). d.host) c.self.view_is) (start_leaves c.self.inside.host c.dial_all.new.host c.set_clock.new.self c.load.new.host c.dial_all.ensures.files (clock_same c.dial_all.new.host c.set_clock.new.self _ c.set_clock.result c.set_clock.ensures.ok c.set_clock.ensures.err) c.load.ensures.leaves)
+
+pub returns-clause-still : goal.returns-clause-still
+returns-clause-still c = λ _. ready_still c.in_ok-store.store c.load.new.host c.in_ok-store.ensures.started.ready
 
 pub invariant_of-self-2 : goal.invariant_of-self-2
 invariant_of-self-2 c =
     let loaded : links_made c.load.new.host ≡ links_made c.set_clock.new.self = ap (λ (l : Links). l.dialled) c.load.ensures.links in
     let same = clock_same c.dial_all.new.host c.set_clock.new.self _ c.set_clock.result c.set_clock.ensures.ok c.set_clock.ensures.err in
     let dialled : LINKS ≤ links_made c.load.new.host = omega (arith, loaded, same.dialled, c.in_ok-dial_all.ensures.dialled) in
-    let quiet = quiet_same (host_told c.set_clock.new.self) (host_told c.load.new.host) c.load.ensures.links (quiet_told (host_told c.dial_all.new.host) (host_told c.set_clock.new.self) same c.in_ok-dial_all.ensures.quiet) in (
-      begins_running c.in_ok-new.field-0 c.in_ok-store.store c.load.new.host c.in_ok-new.ensures c.in_ok-store.ensures.started dialled quiet,
-      start_keeps c.self.inside.host c.dial_all.new.host c.set_clock.new.self c.load.new.host c.dial_all.ensures.files
-          (clock_same c.dial_all.new.host c.set_clock.new.self _ c.set_clock.result c.set_clock.ensures.ok c.set_clock.ensures.err) c.load.ensures.keeps [] c.self.invariant.1,
+    let quiet = quiet_same (host_told c.set_clock.new.self) (host_told c.load.new.host) c.load.ensures.links (quiet_told (host_told c.dial_all.new.host) (host_told c.set_clock.new.self) same c.in_ok-dial_all.ensures.quiet) in
+    let silent = silent_started c.self.inside.host c.dial_all.new.host c.set_clock.new.self c.load.new.host c.dial_all.ensures.scripts
+    (scripts_clocked c.dial_all.new.host c.set_clock.new.self _ c.set_clock.result c.set_clock.ensures.ok c.set_clock.ensures.err) c.load.ensures.links
+    (silent_seen c.self.inside.host c.args.self.now.host (ap (λ (d : DeviceValue). d.host) c.self.view_is) c.requires.silent) in (
+      begins_running c.in_ok-new.field-0 c.in_ok-store.store c.load.new.host c.in_ok-new.ensures c.in_ok-store.ensures.started dialled quiet silent,
+      start_keeps c.self.inside.host c.dial_all.new.host c.set_clock.new.self c.load.new.host c.dial_all.ensures.files (clock_same c.dial_all.new.host c.set_clock.new.self _ c.set_clock.result c.set_clock.ensures.ok c.set_clock.ensures.err) c.load.ensures.keeps [] c.self.invariant.1,
+      omega arith,
     )
-
-pub returns : goal.returns
-returns c = keeps_seen c.self.inside.host c.args.self.now.host (host_told c.load.new.host) (ap (λ (d : DeviceValue). d.host) c.self.view_is) (start_keeps c.self.inside.host c.dial_all.new.host c.set_clock.new.self c.load.new.host c.dial_all.ensures.files
-    (clock_same c.dial_all.new.host c.set_clock.new.self _ c.set_clock.result c.set_clock.ensures.ok c.set_clock.ensures.err) c.load.ensures.keeps)
