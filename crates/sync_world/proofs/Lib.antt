@@ -17,3 +17,4 @@ pub mod WorldLaws
 pub mod CarryLaws
 pub mod PlanLaws
 pub mod LinkLaws
+pub mod RestLaws
