@@ -352,3 +352,7 @@ call_came laws grows w devices links d old new ran.Crashed s is runs running unl
 -- nothing was done
 pub same_leads : (w : World) (fatal : Bool) (devices : List DeviceValue) (links : List Link) → IsShown w devices links → LeadsOn w fatal devices links
 same_leads w fatal devices links s = read_at_all w fatal devices links (stays w devices links s)
+
+-- nothing was done to devices, and all fails
+pub read_only : (w : World) (devices : List DeviceValue) (links links' : List Link) → IsShown w devices links → LeadsOn w true devices links'
+read_only w devices links links' s = record { after = w; reached = reaches_none bundle_meaning w; read = up_read w.journals devices s.up; shown = λ same. cc }

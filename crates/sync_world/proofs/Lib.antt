@@ -18,3 +18,6 @@ pub mod CarryLaws
 pub mod PlanLaws
 pub mod LinkLaws
 pub mod RestLaws
+pub mod LookGo
+pub mod StepLaws
+pub mod MoveGo

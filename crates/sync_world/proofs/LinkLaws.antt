@@ -115,7 +115,7 @@ record Begun (d a session : ℕ) (l l' : Link) : Type 0 where
   heard : end.heard ≡ 0
   moves : (k : ℕ) → (k ≡ d → ⊥) → LinkMoves k l l'
 
-begun_moves : (k d a session : ℕ) (e : EndValue) → e.device ≡ d → (k ≡ d → ⊥) → EndMoves k e (begun_end a session e)
+pub begun_moves : (k d a session : ℕ) (e : EndValue) → e.device ≡ d → (k ≡ d → ⊥) → EndMoves k e (begun_end a session e)
 begun_moves k d a session e is apart = record { device = refl; within = λ was. was; own = λ own. absurd (apart (sym own ∙ is)) }
 
 begun_at : (d a session : ℕ) (l : Link) (from : Side) → side_of d l ≡ Some from → (end_of from l).at ≡ None → (end_of from l).heard ≡ 0

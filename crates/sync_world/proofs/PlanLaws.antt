@@ -1,11 +1,10 @@
 -- Plans of what links are to answer: what was shown is shown still.
-use Rattle.std.proofs.Common.{◌≡◌, ◌⊎◌, ℕ, zero, suc, ◌<◌, ◌≤◌, ◌==◌, Bool, true, false, if◌then◌else◌, List, [], ◌∷◌, ◌++◌, length, drop, take, refl, sym, ◌∙◌, ap, subst, inl, inr, arith, append_assoc, append-nil, Option, Some, None, is_some}
+use Rattle.std.proofs.Common.{◌≡◌, ◌⊎◌, ℕ, zero, suc, ◌+◌, ◌<◌, ◌≤◌, ◌==◌, Bool, true, false, if◌then◌else◌, List, [], ◌∷◌, ◌++◌, length, drop, take, refl, sym, ◌∙◌, ap, subst, inl, inr, arith, append_assoc, append-nil, Option, Some, None, is_some}
 use Rattle.std.proofs.lemmas.Bool.{cases_eq, eqb-true}
 use Rattle.std.proofs.lemmas.List.{take-append-drop}
 use Rattle.std.specs.Prelude.{slice_get, slice_set}
 use Rattle.std.specs.Option.{option_map}
 use Rattle.outside.specs.Files.{Two, File}
-use Rattle.outside.specs.Links.{Planned}
 use Rattle.outside.specs.Planned.{pieces}
 use Rattle.outside.specs.Script.{planned_of}
 use Rattle.outside.specs.declared.answer.Answer.{Answer}
@@ -73,7 +72,7 @@ plans_at a old new e e' asked cut here is more input rest within = record {
 
 -- ---- one link
 
-near_own : (d : ℕ) (l : Link) → side_of d l ≡ Some side.Near → l.near.device ≡ d
+pub near_own : (d : ℕ) (l : Link) → side_of d l ≡ Some side.Near → l.near.device ≡ d
 near_own d l is =
     elim (l.near.device == d) as (λ b. (l.near.device == d) ≡ b → (if b then Some side.Near else if l.far.device == d then Some side.Far else None) ≡ Some side.Near → l.near.device ≡ d) [
       | true ↦ λ near e. eqb-true l.near.device d near
@@ -81,7 +80,7 @@ near_own d l is =
           elim (l.far.device == d) as (λ b. (if b then Some side.Far else None) ≡ Some side.Near → l.near.device ≡ d) [ | true ↦ λ no. cc | false ↦ λ no. cc ] e
     ] refl is
 
-far_own : (d : ℕ) (l : Link) → side_of d l ≡ Some side.Far → (l.far.device ≡ d) × (l.near.device ≡ d → ⊥)
+pub far_own : (d : ℕ) (l : Link) → side_of d l ≡ Some side.Far → (l.far.device ≡ d) × (l.near.device ≡ d → ⊥)
 far_own d l is =
     elim (l.near.device == d) as (λ b. (l.near.device == d) ≡ b → (if b then Some side.Near else if l.far.device == d then Some side.Far else None) ≡ Some side.Far → (l.far.device ≡ d) × (l.near.device ≡ d → ⊥)) [
       | true ↦ λ near e. cc
@@ -167,7 +166,7 @@ link_back (y ∷ xs) (suc i) x is = ap (λ (zs : List RecordLink). y ∷ zs) (li
 same_session : (old new : DeviceValue) (a : ℕ) → new.node ≡ old.node → session_on new a ≡ session_on old a
 same_session old new a same = ap (λ (o : Option NodeValue). option_map (λ (n : NodeValue). n.first + a) o) same
 
-holds_same : (j : Journal) (old new : DeviceValue) → SameFiles old new → Holds j old.host → Holds j new.host
+pub holds_same : (j : Journal) (old new : DeviceValue) → SameFiles old new → Holds j old.host → Holds j new.host
 holds_same j old new files holds = record { each = λ two told left image. holds.each two (sym files ∙ told) left image }
 
 up_same : (j : Journal) (old new : DeviceValue) → SameFiles old new → new.node ≡ old.node → new.links ≡ old.links → IsUp j old → IsUp j new

@@ -1,5 +1,5 @@
 -- What the parts of a step do to devices and links.
-use Rattle.std.specs.Prelude.{◌≡◌, ◌⊎◌, ℕ, ◌<◌, ◌≤◌, Bool, true, false, if◌then◌else◌, List, [], ◌∷◌, ◌++◌, map, length, drop, take, Option, Some, None, slice_get, slice_set}
+use Rattle.std.specs.Prelude.{◌≡◌, ◌⊎◌, ℕ, ◌<◌, ◌≤◌, Bool, true, false, if◌then◌else◌, List, [], ◌∷◌, ◌++◌, map, length, drop, take, Option, Some, None, Result, Ok, Err, slice_get, slice_set}
 use Rattle.outside.specs.HostTold.{host_told}
 use Rattle.world_devices.specs.Brought.{brought_on}
 use Rattle.world_devices.specs.Devices.{DeviceValue}
@@ -86,6 +86,11 @@ attached_from number session (Some from) l = with_end from (begun_end number ses
 abbrev pub attached_at : ℕ → ℕ → ℕ → Link → Link
 attached_at d number session l = attached_from number session (side_of d l) l
 
+-- several links, where the one at a place begins
+abbrev pub begun_with : ℕ → ℕ → ℕ → ℕ → Option Link → List Link → List Link
+begun_with d number session i None links = links
+begun_with d number session i (Some l) links = slice_set links i (attached_at d number session l)
+
 -- the end of a device at a link with another one, on which no session began yet
 pub record HasFreshEnd (d far i : ℕ) (links : List Link) : Type 0 where
   pub link : Link
@@ -96,3 +101,9 @@ pub record HasFreshEnd (d far i : ℕ) (links : List Link) : Type 0 where
   pub unplaced : (end_of from link).at ≡ None
   pub unheard : (end_of from link).heard ≡ 0
   pub far_is : (end_of (other from) link).device ≡ far
+
+-- the call was made, and the device did not crash in it
+abbrev pub IsDone : {E : Type 0} → Result Ran E → Type 0
+IsDone (Ok ran.Done) = Unit {0}
+IsDone (Ok ran.Crashed) = ⊥
+IsDone (Err fault) = ⊥

@@ -1,8 +1,10 @@
 //! The devices of a world and the links between them, and what steps do to these.
-ghost use Rattle.std.specs.Prelude.{◌≡◌, ◌≢◌, ◌≤◌, true, Err, IfOk, None, OnOk, Some, map, slice_get};
+ghost use Rattle.std.specs.Prelude.{◌≡◌, ◌≢◌, ◌<◌, ◌≤◌, ℕ, true, Err, IfOk, None, OnOk, Some};
+ghost use Rattle.std.specs.Prelude.{length, map, slice_get};
 ghost use Rattle.sync_world.specs.Beginning.{IsNewWorld};
 ghost use Rattle.sync_world.specs.Shown.{arrived};
-ghost use Rattle.sync_world.specs.Staging.{after_ran};
+ghost use Rattle.sync_world.specs.Staging.{HasFreshEnd, IsDone, after_ran, attached_at, begun_with};
+ghost use Rattle.world_laws.specs.Worlds as W;
 ghost use Rattle.sync_world.specs.Standing.{Goes, IsWorld, is_fatal};
 ghost use Rattle.sync_rules.specs.Legal.{suits_nonce};
 ghost use Rattle.sync_world.specs.Moving.{Becomes, BecomesOne, LeavesDevices, LinksBecome};
@@ -113,7 +115,7 @@ impl Stage {
                 self.post(*d, *group, *time, parents, text.as_slice())
             }
             WorldStep::Link(d, e, mode, latency) => self.link(*d, *e, *mode, *latency),
-            WorldStep::Turn(d) => self.turn(*d).map(|_| ()),
+            WorldStep::Turn(d) => self.turn_once(*d),
             WorldStep::Carry(link, d) => self.move_first(*link, *d, Move::Carry),
             WorldStep::Lose(link, d) => self.move_first(*link, *d, Move::Lose),
             WorldStep::Repeat(link, d) => self.move_first(*link, *d, Move::Repeat),
@@ -133,6 +135,7 @@ impl Stage {
         ensures fault { self.new.fault ≡ self.old.fault }
         ensures goes { Goes (is_fatal result) self.old self.new }
     {
+        cite_laws();
         let def = group_def(self.alloc, kind, descriptor)?;
         if d as usize >= self.devices.len() {
             return Err(StepFault::Refused);
@@ -148,6 +151,7 @@ impl Stage {
         ensures fault { self.new.fault ≡ self.old.fault }
         ensures goes { Goes (is_fatal result) self.old self.new }
     {
+        cite_laws();
         if d == e || e as usize >= self.devices.len() {
             return Err(StepFault::Refused);
         }
@@ -175,6 +179,7 @@ impl Stage {
         ensures fault { self.new.fault ≡ self.old.fault }
         ensures goes { Goes (is_fatal result) self.old self.new }
     {
+        cite_laws();
         let message = self.message_of(group, time, parents, text)?;
         let id = id_of(&message);
         self.posts.reserve(1)?;
@@ -216,6 +221,7 @@ impl Stage {
         ensures fault { self.new.fault ≡ self.old.fault }
         ensures goes { Goes (is_fatal result) self.old self.new }
     {
+        cite_laws();
         'devices: for d in 0..self.devices.len() {
             let device = &mut self.devices[d];
             device.set_clock(at)?;
@@ -227,6 +233,7 @@ impl Stage {
         ensures fault { self.new.fault ≡ self.old.fault }
         ensures goes { Goes (is_fatal result) self.old self.new }
     {
+        cite_laws();
         if d as usize >= self.devices.len() {
             return Err(StepFault::Refused);
         }
@@ -239,6 +246,7 @@ impl Stage {
         ensures fault { self.new.fault ≡ self.old.fault }
         ensures goes { Goes (is_fatal result) self.old self.new }
     {
+        cite_laws();
         if d as usize >= self.devices.len() {
             return Err(StepFault::Refused);
         }
@@ -254,8 +262,9 @@ impl Stage {
         ensures devices { self.new.devices.items ≡ self.old.devices.items }
         ensures fault { self.new.fault ≡ self.old.fault }
     {
-        if ran == Ran::Crashed {
-            leave_all(d, self.links.as_mut_slice());
+        match ran {
+            Ran::Done => {}
+            Ran::Crashed => leave_all(d, self.links.as_mut_slice()),
         }
     }
 }
@@ -266,22 +275,40 @@ impl Stage {
         ensures fault { self.new.fault ≡ self.old.fault }
         ensures goes { Goes (is_fatal result) self.old self.new }
     {
+        cite_laws();
         if d == e || latency == 0 || !self.has_room(d) || !self.has_room(e) {
             return Err(StepFault::Refused);
         }
-        let link = self.links.len();
-        self.links.push(Link::new(self.alloc, d, e))?;
+        let link = self.dial(d, e)?;
         let near = plan_for(d, e, mode, latency);
-        if self.attach(d, link, &near, nonce_for(mode, link))? == Ran::Crashed {
-            return Ok(());
+        match self.attach(d, link, &near, nonce_for(mode, link))? {
+            Ran::Crashed => return Ok(()),
+            Ran::Done => {}
         }
         let far = plan_for(e, d, mode, latency);
         self.attach(e, link, &far, None)?;
         Ok(())
     }
 
+    // A link more, between two devices. Answers its number.
+    fn dial(&mut self, d: u8, e: u8) -> Result<usize, StepFault>
+        requires two { d ≢ e }
+        requires near { d < length self.old.devices.items }
+        requires far { e < length self.old.devices.items }
+        ensures fault { self.new.fault ≡ self.old.fault }
+        ensures goes { Goes (is_fatal result) self.old self.new }
+        ensures fresh { IfOk result (λ link. HasFreshEnd d e link self.new.links.items) }
+        ensures other { IfOk result (λ link. HasFreshEnd e d link self.new.links.items) }
+    {
+        let link = self.links.len();
+        self.links.push(Link::new(self.alloc, d, e))?;
+        Ok(link)
+    }
+
     // Whether a device may have a further link.
-    fn has_room(&self, d: u8) -> bool {
+    fn has_room(&self, d: u8) -> bool
+        ensures { result ≡ true → d < length self.now.devices.items }
+    {
         match self.devices.get(d as usize) {
             Some(device) => (device.links() as usize) < LINKS,
             None => false,
@@ -296,7 +323,7 @@ impl Stage {
         }
     }
 
-    // Begins a session of a device on a link.
+    // Begins a session of a device on a link, and looks at what it sent.
     fn attach(
         &mut self,
         d: u8,
@@ -306,8 +333,15 @@ impl Stage {
     ) -> Result<Ran, StepFault>
         requires latency { 1 ≤ plan.now.latency }
         requires nonce { suits_nonce plan.now.mode nonce ≡ true }
-        ensures { self.new.fault ≡ self.old.fault }
+        ensures fault { self.new.fault ≡ self.old.fault }
+        ensures goes { (far : ℕ) → plan.now.contact ≡ W.contact_for d far
+            → HasFreshEnd d far link self.old.links.items
+            → Goes (is_fatal result) self.old self.new }
+        ensures fresh { (k far : ℕ) → k ≢ d → HasFreshEnd k far link self.old.links.items
+            → IsDone result → HasFreshEnd k far link self.new.links.items }
+        ensures devices { length self.new.devices.items ≡ length self.old.devices.items }
     {
+        cite_laws();
         if d as usize >= self.devices.len() {
             return Err(StepFault::Refused);
         }
@@ -317,10 +351,19 @@ impl Stage {
             self.came(d, Ran::Crashed);
             return Ok(Ran::Crashed);
         };
-        if link < self.links.len() {
-            attach_end(d, at, session, device.sent(at), &mut self.links[link])?;
-        }
+        device.links_stand();
+        begin_at(d, at, session, link, self.links.as_mut_slice());
+        look_all(device, d, self.links.as_mut_slice())?;
         Ok(Ran::Done)
+    }
+
+    // A turn of a device.
+    fn turn_once(&mut self, d: u8) -> Result<(), StepFault>
+        ensures fault { self.new.fault ≡ self.old.fault }
+        ensures goes { Goes (is_fatal result) self.old self.new }
+    {
+        let _still = self.turn(d)?;
+        Ok(())
     }
 
     // A turn of a device. Answers whether all its links were still, or nothing where it crashed.
@@ -328,6 +371,7 @@ impl Stage {
         ensures fault { self.new.fault ≡ self.old.fault }
         ensures goes { Goes (is_fatal result) self.old self.new }
     {
+        cite_laws();
         if d as usize >= self.devices.len() {
             return Err(StepFault::Refused);
         }
@@ -337,6 +381,7 @@ impl Stage {
             leave_all(d, self.links.as_mut_slice());
             return Ok(None);
         };
+        device.links_stand();
         look_all(device, d, self.links.as_mut_slice())?;
         Ok(Some(still))
     }
@@ -349,6 +394,7 @@ impl Stage {
         ensures fault { self.new.fault ≡ self.old.fault }
         ensures goes { Goes (is_fatal result) self.old self.new }
     {
+        cite_laws();
         if link >= self.links.len() as u64 {
             return Err(StepFault::Refused);
         }
@@ -362,6 +408,7 @@ impl Stage {
         ensures fault { self.new.fault ≡ self.old.fault }
         ensures goes { Goes (is_fatal result) self.old self.new }
     {
+        cite_laws();
         if link >= self.links.len() as u64 {
             return Err(StepFault::Refused);
         }
@@ -430,6 +477,7 @@ impl Stage {
 // What a device's session with another one is to be.
 fn plan_for(d: u8, e: u8, mode: Mode, latency: u32) -> Plan
     requires { e ≢ d }
+    ensures contact { result.contact ≡ W.contact_for d e }
     ensures mode { result.mode ≡ mode }
     ensures latency { result.latency ≡ latency }
 {
@@ -440,20 +488,24 @@ fn plan_for(d: u8, e: u8, mode: Mode, latency: u32) -> Plan
     }
 }
 
-// A device has a link under this number, and what it sent there is in flight.
-fn attach_end(d: u8, at: u8, session: u32, sent: &[u8], link: &mut Link) -> Result<(), StepFault> {
+// A device has the link at this place under a number, and this session began on it.
+fn begin_at(d: u8, at: u8, session: u32, link: usize, links: &mut [Link])
+    ensures { links.new ≡ begun_with d at session link (slice_get links.old link) links.old }
+{
+    if link < links.len() {
+        begin_on(d, at, session, &mut links[link]);
+    }
+}
+
+// A device has a link under this number, and this session began on it.
+fn begin_on(d: u8, at: u8, session: u32, link: &mut Link)
+    ensures { link.new ≡ attached_at d at session link.old }
+{
     match link.side_of(d) {
-        Some(Side::Near) => {
-            link.near.attach(at, session);
-            link.near.look(sent, link.is_cut)?;
-        }
-        Some(Side::Far) => {
-            link.far.attach(at, session);
-            link.far.look(sent, link.is_cut)?;
-        }
+        Some(Side::Near) => link.near.attach(at, session),
+        Some(Side::Far) => link.far.attach(at, session),
         None => {}
     }
-    Ok(())
 }
 
 // The first records in flight on a link from a device move.
