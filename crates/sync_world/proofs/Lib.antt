@@ -17,6 +17,7 @@ pub mod WorldLaws
 pub mod CarryLaws
 pub mod PlanLaws
 pub mod LinkLaws
+pub mod RestLaws
 pub mod LookGo
 pub mod StepLaws
 pub mod MoveGo

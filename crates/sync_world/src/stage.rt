@@ -1,6 +1,8 @@
 //! The devices of a world and the links between them, and what steps do to these.
-ghost use Rattle.std.specs.Prelude.{◌≡◌, ◌≢◌, ◌<◌, ◌≤◌, ℕ, true, Err, IfOk, None, Some, length, slice_get};
+ghost use Rattle.std.specs.Prelude.{◌≡◌, ◌≢◌, ◌<◌, ◌≤◌, ℕ, true, Err, IfOk, None, OnOk, Some};
+ghost use Rattle.std.specs.Prelude.{length, map, slice_get};
 ghost use Rattle.sync_world.specs.Beginning.{IsNewWorld};
+ghost use Rattle.sync_world.specs.Shown.{arrived};
 ghost use Rattle.sync_world.specs.Staging.{HasFreshEnd, IsDone, after_ran, attached_at, begun_with};
 ghost use Rattle.world_laws.specs.Worlds as W;
 ghost use Rattle.sync_world.specs.Standing.{Goes, IsWorld, is_fatal};
@@ -14,7 +16,7 @@ use crate::naming::{contact_for, group_def, nonce_for};
 use crate::posting::{body_of, ids_of};
 use crate::turning::{carry_all, leave_all, look_all, plan_all};
 use outside::{LINKS, Pick};
-use std::alloc::Global;
+use std::alloc::{AllocError, Global};
 use std::hash::RandomState;
 use sync_ids::{Message, MessageId, Nonce, group_id};
 use sync_node::Plan;
@@ -435,21 +437,40 @@ impl Stage {
         ensures fault { self.new.fault ≡ self.old.fault }
         ensures goes { Goes (is_fatal result) self.old self.new }
     {
+        cite_laws();
         let mut still = true;
         'devices: for d in 0..MAX_DEVICES as u8 {
-            if self.has_links(d) {
-                match self.turn(d)? {
-                    Some(quiet) => still = still && quiet,
-                    None => return Ok(Round::Crashed),
-                }
+            match self.turn_if_linked(d)? {
+                Some(quiet) => still &= quiet,
+                None => return Ok(Round::Crashed),
             }
         }
-        let carried = carry_all(self.links.as_mut_slice())?;
+        let carried = self.arrive()?;
         Ok(if still && !carried {
             Round::Still
         } else {
             Round::Moving
         })
+    }
+
+    // A turn of a device that has had a link since it was started; another one is still.
+    fn turn_if_linked(&mut self, d: u8) -> Result<Option<bool>, StepFault>
+        ensures fault { self.new.fault ≡ self.old.fault }
+        ensures goes { Goes (is_fatal result) self.old self.new }
+    {
+        if !self.has_links(d) {
+            return Ok(Some(true));
+        }
+        self.turn(d)
+    }
+
+    // All that is in flight on links arrives. Answers whether that was anything.
+    fn arrive(&mut self) -> Result<bool, AllocError>
+        ensures links { OnOk result (self.new.links.items ≡ map arrived self.old.links.items) }
+        ensures devices { self.new.devices.items ≡ self.old.devices.items }
+        ensures fault { self.new.fault ≡ self.old.fault }
+    {
+        carry_all(self.links.as_mut_slice())
     }
 }
 

@@ -7,7 +7,7 @@ ghost use Rattle.sync_world.specs.Turning.{is_moving, look_at, look_link, shut_a
 ghost use Rattle.world_links.specs.Links.{left_by};
 
 use std::alloc::AllocError;
-use world_devices::{Device, StepFault};
+use world_devices::Device;
 use world_links::{End, Link, Side};
 
 /// Plans what each link of a device is to answer in its next turn.
@@ -102,7 +102,7 @@ pub(crate) fn leave_all(number: u8, links: &mut [Link])
 
 /// All that is in flight on links that are not cut arrives, of each link first what the end sent
 /// that dialled. Answers whether that was anything. It fails only for want of memory.
-pub(crate) fn carry_all(links: &mut [Link]) -> Result<bool, StepFault>
+pub(crate) fn carry_all(links: &mut [Link]) -> Result<bool, AllocError>
     ensures some { IfOk result (λ some. some ≡ list_any is_moving links.old) }
     ensures carried { OnOk result (links.new ≡ map arrived links.old) }
 {
