@@ -1,5 +1,5 @@
 -- The steps of a stage, as its functions make them: by a device that stands at an index.
-use Rattle.std.proofs.Common.{◌≡◌, ◌⊎◌, ℕ, zero, suc, ◌<◌, ◌==◌, if◌then◌else◌, Bool, true, false, List, [], ◌∷◌, ◌++◌, map, length, refl, sym, ◌∙◌, ap, subst, inl, inr, arith, Option, Some, None, is_some, Result, Ok, Err}
+use Rattle.std.proofs.Common.{◌≡◌, ◌⊎◌, ℕ, zero, suc, ◌<◌, ◌==◌, if◌then◌else◌, Bool, true, false, List, [], ◌∷◌, ◌++◌, map, length, take, drop, length-map, refl, sym, ◌∙◌, ap, subst, inl, inr, arith, Option, Some, None, is_some, Result, Ok, Err}
 use Rattle.std.proofs.lemmas.Bool.{eq-eqb, ne_eqb}
 use Rattle.std.specs.Prelude.{IsErrAnd, slice_get, slice_index_or, slice_set}
 use Rattle.world_devices.specs.Cited.{SentGrows}
@@ -40,19 +40,39 @@ unrefused_same fault.Refused old new kept is = absurd kept
 unrefused_same fault.Full old new kept is = cc
 unrefused_same fault.Memory old new kept is = cc
 
-fatal_same : {A B : Type 0} (e : StepFault) → is_fatal {A = A} (Err e) ≡ is_fatal {A = B} (Err e)
-fatal_same fault.Refused = refl
-fatal_same fault.Full = refl
-fatal_same fault.Memory = refl
-
 -- an error that was handed on
-handed_on : {A : Type 0} (r : Result A StepFault) (e : StepFault) → IsErrAnd r (λ y. y ≡ e) → is_fatal {A = Unit {0}} (Err e) ≡ is_fatal r
-handed_on (Ok a) e is = absurd is
-handed_on (Err y) e is = fatal_same e ∙ ap (λ (x : StepFault). is_fatal (Err x)) (sym is)
+handed_on : (A : Type 0) (r : Result A StepFault) (e : StepFault) → IsErrAnd r (λ y. y ≡ e) → is_fatal {A = Unit {0}} (Err e) ≡ is_fatal r
+handed_on A (Ok a) e is = absurd is
+handed_on A (Err fault.Refused) e is = ap (λ (x : StepFault). is_fatal {A = Unit {0}} (Err x)) (sym is)
+handed_on A (Err fault.Full) e is = ap (λ (x : StepFault). is_fatal {A = Unit {0}} (Err x)) (sym is)
+handed_on A (Err fault.Memory) e is = ap (λ (x : StepFault). is_fatal {A = Unit {0}} (Err x)) (sym is)
 
 pub leads_err : {A : Type 0} (r : Result A StepFault) (e : StepFault) (w : World) (devices : List DeviceValue) (links : List Link) → IsErrAnd r (λ y. y ≡ e)
     → LeadsOn w (is_fatal {A = Unit {0}} (Err e)) devices links → LeadsOn w (is_fatal r) devices links
-leads_err r e w devices links is leads = subst (λ (f : Bool). LeadsOn w f devices links) (handed_on r e is) leads
+leads_err {A} r e w devices links is leads = subst (λ (f : Bool). LeadsOn w f devices links) (handed_on A r e is) leads
+
+-- a slice that was written, with as many elements
+pub written : (len : ℕ) (new old : List Link) → length new ≡ length old → len ≡ length old → take len (new ++ drop (length new) old) ≡ new
+written zero [] [] same is = refl
+written (suc n) [] [] same is = absurd (omega (arith, is))
+written n [] (y ∷ old) same is = absurd (omega (arith, same))
+written n (x ∷ new) [] same is = absurd (omega (arith, same))
+written zero (x ∷ new) (y ∷ old) same is = absurd (omega (arith, is))
+written (suc n) (x ∷ new) (y ∷ old) same is = ap (λ (l : List Link). x ∷ l) (written n new old (omega (arith, same)) (omega (arith, is)))
+
+-- a slice that was written once, and then looked at
+pub written_twice : (len d : ℕ) (device : DeviceValue) (old new last mid : List Link) → length new ≡ length old → len ≡ length old
+    → mid ≡ take len (new ++ drop (length new) old) → last ≡ map (look_link d device) mid
+    → take len (last ++ drop (length last) (take len (new ++ drop (length new) old))) ≡ map (look_link d device) new
+written_twice len d device old new last mid same is mid_is last_is =
+    let first : take len (new ++ drop (length new) old) ≡ new = written len new old same is in
+    let now : last ≡ map (look_link d device) new = last_is ∙ ap (λ (ls : List Link). map (look_link d device) ls) (mid_is ∙ first) in
+    let long : length last ≡ length new = ap length now ∙ length-map new (look_link d device) in
+    ap (λ (ls : List Link). take len (last ++ drop (length last) ls)) first ∙ (written len last new long (is ∙ sym same) ∙ now)
+
+pub leads_both : (w : World) (ds ds' : List DeviceValue) (ls ls' : List Link) → ds' ≡ ds → ls' ≡ ls → LeadsOn w false ds ls → LeadsOn w false ds' ls'
+leads_both w ds ds' ls ls' devices links leads =
+    subst (λ (x : List DeviceValue). LeadsOn w false x ls') (sym devices) (subst (λ (x : List Link). LeadsOn w false ds x) (sym links) leads)
 
 pub leads_links : (w : World) (f : Bool) (devices : List DeviceValue) (links links' : List Link) → links' ≡ links → LeadsOn w f devices links → LeadsOn w f devices links'
 leads_links w f devices links links' same leads = subst (λ (ls : List Link). LeadsOn w f devices ls) (sym same) leads
@@ -192,6 +212,11 @@ began_is ls ls' ls'' d at n session i device l same begun looked is =
     looked ∙ ap (λ (x : List Link). map (look_link d device) x)
     (begun ∙ (ap (λ (o : Option Link). begun_with d at session i o ls) is ∙ ap (λ (a : ℕ). slice_set ls i (attached_at d a session l)) same))
 
+pub fatal_is : (e : StepFault) → IsNotRefused {A = Unit {0}} (Err e) → true ≡ is_fatal {A = Unit {0}} (Err e)
+fatal_is fault.Refused kept = absurd kept
+fatal_is fault.Full kept = refl
+fatal_is fault.Memory kept = refl
+
 -- ---- a turn: plans, and the call
 
 read_same : (w : World) (devices : List DeviceValue) (links : List Link) (d : ℕ) (new : DeviceValue) → IsShown w devices links → Reads (journal_at w d) new.host
@@ -225,10 +250,12 @@ module _ (laws : RecordLaws) (grows : SentGrows) (devices : List DeviceValue) (l
   mid_there : slice_get (slice_set devices d mid) d ≡ Some mid
   mid_there = get_set devices d mid within
 
-  pub turn_fails : (e : StepFault) → IsNotRefused {A = Unit {0}} (Err e) → (links' : List Link) (w : World) → IsShown w devices links → LeadsOn w true (slice_set devices d new) links'
+  pub turn_fails : (e : StepFault) → IsNotRefused {A = Unit {0}} (Err e) → (links' : List Link) (w : World) → IsShown w devices links
+      → LeadsOn w (is_fatal {A = Unit {0}} (Err e)) (slice_set devices d new) links'
   turn_fails e kept links' w s =
-      subst (λ (ds : List DeviceValue). LeadsOn w true ds links') (set_again devices d mid new)
-      (failed_leads laws w (slice_set devices d mid) planned links' d mid new (plans w devices there s) mid_there runs)
+      subst (λ (f : Bool). LeadsOn w f (slice_set devices d new) links') (fatal_is e kept)
+      (subst (λ (ds : List DeviceValue). LeadsOn w true ds links') (set_again devices d mid new)
+      (failed_leads laws w (slice_set devices d mid) planned links' d mid new (plans w devices there s) mid_there runs))
 
   pub turn_ends : (links' : List Link) (w : World) → IsShown w devices links → LeadsOn w true (slice_set devices d new) links'
   turn_ends links' w s =
@@ -252,7 +279,3 @@ module _ (laws : RecordLaws) (grows : SentGrows) (devices : List DeviceValue) (l
 pub plans_from : (d : ℕ) (old new : DeviceValue) (ls ms ns : List Link) → ms ≡ ls → PlansAll d old new ms ns → PlansAll d old new ls ns
 plans_from d old new ls ms ns same plans = λ w devices is s. plans w devices is (subst (λ (x : List Link). IsShown w devices x) (sym same) s)
 
-pub fatal_is : (e : StepFault) → IsNotRefused {A = Unit {0}} (Err e) → true ≡ is_fatal {A = Unit {0}} (Err e)
-fatal_is fault.Refused kept = absurd kept
-fatal_is fault.Full kept = refl
-fatal_is fault.Memory kept = refl

@@ -238,7 +238,7 @@ impl Stage {
             return Err(StepFault::Refused);
         }
         let device = &mut self.devices[d as usize];
-        device.stop_at(calls, pick);
+        device.stop_at(calls, pick)?;
         Ok(())
     }
 
@@ -252,7 +252,7 @@ impl Stage {
         }
         let device = &mut self.devices[d as usize];
         device.restart()?;
-        leave_all(d, self.links.as_mut_slice());
+        self.came(d, Ran::Crashed);
         Ok(())
     }
 
@@ -378,7 +378,7 @@ impl Stage {
         let device = &mut self.devices[d as usize];
         plan_all(device, d, self.links.as_mut_slice())?;
         let Some(still) = device.turn()? else {
-            leave_all(d, self.links.as_mut_slice());
+            self.came(d, Ran::Crashed);
             return Ok(None);
         };
         device.links_stand();

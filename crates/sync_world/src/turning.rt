@@ -1,5 +1,5 @@
 //! A device's turn on the links of a world.
-ghost use Rattle.std.specs.Prelude.{◌≡◌, IfOk, OnOk, map};
+ghost use Rattle.std.specs.Prelude.{◌≡◌, IfOk, OnOk, length, map};
 ghost use Rattle.std.specs.List.{list_any};
 ghost use Rattle.sync_world.specs.Shown.{arrived};
 ghost use Rattle.sync_world.specs.Staging.{PlansAll, PlansEnd, PlansLink, SameFiles};
@@ -17,6 +17,7 @@ pub(crate) fn plan_all(
     links: &mut [Link],
 ) -> Result<(), AllocError>
     ensures files { SameFiles device.old device.new }
+    ensures number { length links.new ≡ length links.old }
     ensures planned { OnOk result (PlansAll number device.old device.new links.old links.new) }
 {
     'links: for i in 0..links.len() {

@@ -2,12 +2,6 @@ use Rattle.std.proofs.Common.{inr, sym, ◌∙◌}
 use Rattle.sync_world.proofs.PlanLaws.{plans_at}
 use Rattle.sync_world.proofs.turning.plan.Goals as goal
 
-pub is_asked-requires : goal.is_asked-requires
-is_asked-requires c = ?
-
-pub plan-requires : goal.plan-requires
-plan-requires c = ?
-
 pub returns-in_ok-plan-in-Some-clause-planned : goal.returns-in_ok-plan-in-Some-clause-planned
 returns-in_ok-plan-in-Some-clause-planned c =
     inr (plans_at c.in-Some.at c.args.device.now c.plan.new.self c.args.end.now c.hear.new.self c.in_ok-answer-in-Some.answer c.args.is_cut (sym c.at.ensures ∙ c.in-Some.is) c.in_ok-answer-in-Some.ensures

@@ -1,3 +1,4 @@
+use Rattle.std.proofs.Common.{◌≡◌, length}
 use Rattle.sync_world.specs.Staging.{PlansAll, SameFiles}
 use Rattle.sync_world.proofs.turning.plan_all.Given as goal
 
@@ -5,5 +6,6 @@ use Rattle.sync_world.proofs.turning.plan_all.Given as goal
 abbrev pub invariant-links : goal.invariant-links
 invariant-links l = record {
   files : SameFiles l.initial.device l.device;
+  number : length l.links ≡ length l.initial.links;
   planned : PlansAll l.number l.initial.device l.device l.initial.links l.links;
 }

@@ -4,9 +4,6 @@ use Rattle.sync_world.proofs.GoLaws.{same_leads}
 use Rattle.sync_world.proofs.StepLaws.{leads_err, came_goes, ends_leads, fails_leads}
 use Rattle.sync_world.proofs.stage.Stage.add_group.Goals as goal
 
-pub add_group-requires : goal.add_group-requires
-add_group-requires c = ?
-
 pub returns-in_err-def-clause-goes : goal.returns-in_err-def-clause-goes
 returns-in_err-def-clause-goes c = λ w s. same_leads w _ _ _ s
 

@@ -7,12 +7,6 @@ use Rattle.sync_world.proofs.GoLaws.{same_leads}
 use Rattle.sync_world.proofs.StepLaws.{began_is, begins_leads, ends_leads, fails_leads, fresh_stays, gone_goes, leads_err, leads_links}
 use Rattle.sync_world.proofs.stage.Stage.attach.Goals as goal
 
-pub attach-requires-clause-stub : goal.attach-requires-clause-stub
-attach-requires-clause-stub c = ?
-
-pub links_stand-requires : goal.links_stand-requires
-links_stand-requires c = ?
-
 pub returns-then-d-len-clause-goes : goal.returns-then-d-len-clause-goes
 returns-then-d-len-clause-goes c = λ far same fresh w s. same_leads w _ _ _ s
 

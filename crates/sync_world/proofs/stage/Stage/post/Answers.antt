@@ -4,9 +4,6 @@ use Rattle.sync_world.proofs.GoLaws.{same_leads}
 use Rattle.sync_world.proofs.StepLaws.{leads_err, came_goes, fails_leads}
 use Rattle.sync_world.proofs.stage.Stage.post.Goals as goal
 
-pub author-requires : goal.author-requires
-author-requires c = ?
-
 pub returns-in_err-ran-clause-goes : goal.returns-in_err-ran-clause-goes
 returns-in_err-ran-clause-goes c =
     let within : c.args.d < length c.args.self.now.devices.items = omega arith in

@@ -1,11 +1,7 @@
-use Rattle.std.proofs.Common.{◌<◌, false, length, map, arith, ap, ◌∙◌}
-use Rattle.world_links.specs.Links.{left_by}
+use Rattle.std.proofs.Common.{◌<◌, false, length, arith}
 use Rattle.sync_world.proofs.GoLaws.{same_leads}
-use Rattle.sync_world.proofs.StepLaws.{fails_leads, leads_err, leads_links, gone_leads, unrefused_same}
+use Rattle.sync_world.proofs.StepLaws.{fails_leads, gone_goes, leads_err, unrefused_same}
 use Rattle.sync_world.proofs.stage.Stage.restart.Goals as goal
-
-pub restart-requires : goal.restart-requires
-restart-requires c = ?
 
 pub returns-then-d-len-clause-goes : goal.returns-then-d-len-clause-goes
 returns-then-d-len-clause-goes c = λ w s. same_leads w _ _ _ s
@@ -21,5 +17,5 @@ pub returns-clause-goes : goal.returns-clause-goes
 returns-clause-goes c =
     let within : c.args.d < length c.args.self.now.devices.items = omega arith in
     let laws = c.cite_laws.ensures in
-    λ w s. leads_links w false _ (map (left_by c.args.d) c.args.self.now.links.items) _ (c.leave_all.ensures ∙ ap (λ ls. map (left_by c.args.d) ls) c.as_mut_slice.ensures.value)
-        (gone_leads laws.records laws.grows c.args.self.now.devices.items c.args.self.now.links.items c.args.d c.index_mut-device.result.now c.restart.new.self within c.index_mut-device.ensures.value c.restart.ensures.runs c.in_ok-restart.ensures.running c.in_ok-restart.ensures.links w s)
+    λ w s. gone_goes laws.records laws.grows c.args.self.now.devices.items c.args.self.now.links.items c.args.d c.index_mut-device.result.now c.restart.new.self within c.index_mut-device.ensures.value c.restart.ensures.runs
+        c.in_ok-restart.ensures.running c.in_ok-restart.ensures.links _ _ c.came.ensures.devices c.came.ensures.links w s

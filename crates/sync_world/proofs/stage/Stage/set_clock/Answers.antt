@@ -5,9 +5,6 @@ use Rattle.sync_world.proofs.GoLaws.{leads_then}
 use Rattle.sync_world.proofs.WireLaws.{set_length}
 use Rattle.sync_world.proofs.stage.Stage.set_clock.Goals as goal
 
-pub set_clock-requires : goal.set_clock-requires
-set_clock-requires c = ?
-
 pub devices-preserved : goal.devices-preserved
 devices-preserved c =
     let within : c.devices.d < length c.devices.self.devices.items = omega (arith, c.devices.invariant.number) in
@@ -30,4 +27,4 @@ returns-in_err-set_clock-clause-goes c =
         c.set_clock.new.self within c.index_mut-device.ensures.value c.set_clock.ensures.runs _ v shown))
 
 pub returns-clause-goes : goal.returns-clause-goes
-returns-clause-goes c = c.after-devices.invariant.goes
+returns-clause-goes c = c.devices.invariant.goes

@@ -4,9 +4,6 @@ use Rattle.sync_world.proofs.GoLaws.{same_leads}
 use Rattle.sync_world.proofs.StepLaws.{leads_err, came_goes, fails_leads}
 use Rattle.sync_world.proofs.stage.Stage.share.Goals as goal
 
-pub set_level-requires : goal.set_level-requires
-set_level-requires c = ?
-
 pub returns-in_err-ran-clause-goes : goal.returns-in_err-ran-clause-goes
 returns-in_err-ran-clause-goes c =
     let within : c.args.d < length c.args.self.now.devices.items = omega arith in
