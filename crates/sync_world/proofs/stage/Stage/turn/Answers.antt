@@ -15,38 +15,38 @@ pub returns-in_err-plan_all-clause-goes : goal.returns-in_err-plan_all-clause-go
 returns-in_err-plan_all-clause-goes c =
     let within : c.args.d < length c.args.self.now.devices.items = omega arith in
     λ w s. leads_err _ fault.Memory w _ _ c.from_residual.ensures.1
-        (plan_fails c.args.self.now.devices.items c.args.self.now.links.items _ c.args.d c.index_mut-device.result.now c.plan_all.new.device within c.index_mut-device.ensures.value c.plan_all.ensures.files w s)
+    (plan_fails c.args.self.now.devices.items c.args.self.now.links.items _ c.args.d c.index_mut-device.result.now c.plan_all.new.device within c.index_mut-device.ensures.value c.plan_all.ensures.files w s)
 
 pub returns-in_err-still-clause-goes : goal.returns-in_err-still-clause-goes
 returns-in_err-still-clause-goes c =
     let within : c.args.d < length c.args.self.now.devices.items = omega arith in
     let laws = c.cite_laws.ensures in
     λ w s. leads_err _ c.in_err-still.field-0.0 w _ _ c.from_residual-in_err-still.ensures.1
-        (turn_fails laws.records laws.grows c.args.self.now.devices.items c.args.self.now.links.items c.plan_all.new.links c.args.d c.index_mut-device.result.now c.plan_all.new.device c.turn.new.self within
-        c.index_mut-device.ensures.value (plans_from c.args.d c.index_mut-device.result.now c.plan_all.new.device _ _ _ c.as_mut_slice.ensures.value c.in_ok-plan_all.ensures.planned) c.turn.ensures.runs c.in_err-still.field-0.0 c.in_err-still.ensures.unrefused _ w s)
+    (turn_fails laws.records laws.grows c.args.self.now.devices.items c.args.self.now.links.items c.plan_all.new.links c.args.d c.index_mut-device.result.now c.plan_all.new.device c.turn.new.self within
+    c.index_mut-device.ensures.value (plans_from c.args.d c.index_mut-device.result.now c.plan_all.new.device _ _ _ c.as_mut_slice.ensures.value c.in_ok-plan_all.ensures.planned) c.turn.ensures.runs c.in_err-still.field-0.0 c.in_err-still.ensures.unrefused _ w s)
 
 pub returns-in_default-clause-goes : goal.returns-in_default-clause-goes
 returns-in_default-clause-goes c =
     let within : c.args.d < length c.args.self.now.devices.items = omega arith in
     let laws = c.cite_laws.ensures in
     λ w s. leads_both w _ _ _ _ c.came.ensures.devices (c.came.ensures.links ∙ ap (λ ls. map (left_by c.args.d) ls)
-        (written c.args.self.now.links.len c.plan_all.new.links c.args.self.now.links.items (c.plan_all.ensures.number ∙ ap length c.as_mut_slice.ensures.value) (omega arith)))
-        (turn_crashes laws.records laws.grows c.args.self.now.devices.items c.args.self.now.links.items c.plan_all.new.links c.args.d c.index_mut-device.result.now c.plan_all.new.device c.turn.new.self within
-        c.index_mut-device.ensures.value (plans_from c.args.d c.index_mut-device.result.now c.plan_all.new.device _ _ _ c.as_mut_slice.ensures.value c.in_ok-plan_all.ensures.planned) c.turn.ensures.runs c.in_ok-still.ensures.running (turn_gone c.in_ok-still.field-0 c.plan_all.new.device c.turn.new.self (none_of c.in_ok-still.field-0 (λ x e. c.in_default.not-Some x e)) c.in_ok-still.ensures.links) w s)
+    (written c.args.self.now.links.len c.plan_all.new.links c.args.self.now.links.items (c.plan_all.ensures.number ∙ ap length c.as_mut_slice.ensures.value) (omega arith)))
+    (turn_crashes laws.records laws.grows c.args.self.now.devices.items c.args.self.now.links.items c.plan_all.new.links c.args.d c.index_mut-device.result.now c.plan_all.new.device c.turn.new.self within
+    c.index_mut-device.ensures.value (plans_from c.args.d c.index_mut-device.result.now c.plan_all.new.device _ _ _ c.as_mut_slice.ensures.value c.in_ok-plan_all.ensures.planned) c.turn.ensures.runs c.in_ok-still.ensures.running (turn_gone c.in_ok-still.field-0 c.plan_all.new.device c.turn.new.self (none_of c.in_ok-still.field-0 (λ x e. c.in_default.not-Some x e)) c.in_ok-still.ensures.links) w s)
 
 pub returns-in_err-look_all-clause-goes : goal.returns-in_err-look_all-clause-goes
 returns-in_err-look_all-clause-goes c =
     let within : c.args.d < length c.args.self.now.devices.items = omega arith in
     let laws = c.cite_laws.ensures in
     λ w s. leads_err _ fault.Memory w _ _ c.from_residual-in_err-look_all.ensures.1 (turn_ends laws.records laws.grows c.args.self.now.devices.items c.args.self.now.links.items c.plan_all.new.links c.args.d c.index_mut-device.result.now c.plan_all.new.device c.turn.new.self within
-        c.index_mut-device.ensures.value (plans_from c.args.d c.index_mut-device.result.now c.plan_all.new.device _ _ _ c.as_mut_slice.ensures.value c.in_ok-plan_all.ensures.planned) c.turn.ensures.runs _ w s)
+    c.index_mut-device.ensures.value (plans_from c.args.d c.index_mut-device.result.now c.plan_all.new.device _ _ _ c.as_mut_slice.ensures.value c.in_ok-plan_all.ensures.planned) c.turn.ensures.runs _ w s)
 
 pub returns-clause-goes : goal.returns-clause-goes
 returns-clause-goes c =
     let within : c.args.d < length c.args.self.now.devices.items = omega arith in
     let laws = c.cite_laws.ensures in
     λ w s. leads_links w false _ (map (look_link c.args.d c.turn.new.self) c.plan_all.new.links) _
-        (written_twice c.args.self.now.links.len c.args.d c.turn.new.self c.args.self.now.links.items c.plan_all.new.links c.look_all.new.links c.as_mut_slice-2.result.now (c.plan_all.ensures.number ∙ ap length c.as_mut_slice.ensures.value) (omega arith)
-        c.as_mut_slice-2.ensures.value c.in_ok-look_all.ensures)
-        (turn_leads laws.records laws.grows c.args.self.now.devices.items c.args.self.now.links.items c.plan_all.new.links c.args.d c.index_mut-device.result.now c.plan_all.new.device c.turn.new.self within
-        c.index_mut-device.ensures.value (plans_from c.args.d c.index_mut-device.result.now c.plan_all.new.device _ _ _ c.as_mut_slice.ensures.value c.in_ok-plan_all.ensures.planned) c.turn.ensures.runs c.in_ok-still.ensures.running (turn_kept c.in_ok-still.field-0 c.in-Some.still c.plan_all.new.device c.turn.new.self c.in-Some.is c.in_ok-still.ensures.links) c.links_stand.ensures w s)
+    (written_twice c.args.self.now.links.len c.args.d c.turn.new.self c.args.self.now.links.items c.plan_all.new.links c.look_all.new.links c.as_mut_slice-2.result.now (c.plan_all.ensures.number ∙ ap length c.as_mut_slice.ensures.value) (omega arith)
+    c.as_mut_slice-2.ensures.value c.in_ok-look_all.ensures)
+    (turn_leads laws.records laws.grows c.args.self.now.devices.items c.args.self.now.links.items c.plan_all.new.links c.args.d c.index_mut-device.result.now c.plan_all.new.device c.turn.new.self within
+    c.index_mut-device.ensures.value (plans_from c.args.d c.index_mut-device.result.now c.plan_all.new.device _ _ _ c.as_mut_slice.ensures.value c.in_ok-plan_all.ensures.planned) c.turn.ensures.runs c.in_ok-still.ensures.running (turn_kept c.in_ok-still.field-0 c.in-Some.still c.plan_all.new.device c.turn.new.self c.in-Some.is c.in_ok-still.ensures.links) c.links_stand.ensures w s)
