@@ -5,3 +5,4 @@ pub mod LeaveLaws
 pub mod HostLaws
 pub mod RunningLaws
 pub mod CallLaws
+pub mod NewLaws

@@ -124,6 +124,22 @@ pub record DeviceLinksStand (d : DeviceValue) : Type 0 where
 
 -- ---- a new device
 
+-- a store whose journal has so many contacts and no message
+pub record IsBare (contacts : ℕ) (s : StoreValue) : Type 0 where
+  pub empty : s.state.facts.held ≡ []
+  pub counted : s.state.facts.contacts ≡ contacts
+
+-- so is that of a device that runs
+abbrev pub IsBareIn : ℕ → Option NodeValue → Type 0
+IsBareIn contacts None = ⊥
+IsBareIn contacts (Some n) = IsBare contacts n.store
+
+-- what stands where a call was done and no stop fell in it
+abbrev pub WhenDone : Result Ran StepFault → Type 0 → Type 0
+WhenDone (Ok ran.Done) P = P
+WhenDone (Ok ran.Crashed) P = Unit {0}
+WhenDone (Err fault) P = Unit {0}
+
 -- it runs, and holds a journal with so many contacts and no message; it has no links, and this time
 pub record IsNewDevice (contacts clock : ℕ) (d : DeviceValue) : Type 0 where
   pub runs : is_some d.node ≡ true

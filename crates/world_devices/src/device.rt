@@ -1,18 +1,21 @@
 //! The device and its calls.
-ghost use Rattle.std.specs.Prelude.{◌≡◌, ◌≤◌, true, is_some, IsErrOf, MatchOption};
+ghost use Rattle.std.specs.Prelude.{◌≡◌, ◌+◌, ◌≤◌, ℕ, [], true, is_some, IfOk, IsErrOf};
+ghost use Rattle.std.specs.Prelude.{MatchOption};
 ghost use Rattle.std.specs.Prelude.{None, OnErr, OnOk, option_copied, option_map};
 ghost use Rattle.outside.specs.HostTold.{host_told};
 ghost use Rattle.sync_rules.specs.Legal.{suits_nonce};
+ghost use Rattle.sync_rules.specs.declared.entries.Entry.TheVariants as entry_kind;
 ghost use Rattle.world_devices.specs.Devices.{DeviceKeeps, IsReadyStore, MayAdd, links_made};
 ghost use Rattle.world_devices.specs.Keeping.{StandsLegal};
-ghost use Rattle.world_devices.specs.Linking.{DeviceLinksStand, IsUnlinked};
+ghost use Rattle.world_devices.specs.Linking.{DeviceLinksStand, IsBareIn, IsNewDevice, IsUnlinked};
+ghost use Rattle.world_devices.specs.Linking.{WhenDone};
 ghost use Rattle.world_devices.specs.Linking.{KeepsLinks, LinksBy, LinksByAttach, LinksByPlan};
 ghost use Rattle.world_devices.specs.Linking.{LinksByTurn, asks, end_at, is_shut};
 ghost use Rattle.world_devices.specs.Refusals.{IsNotRefused, RefusedBy, refuses_contact};
 ghost use Rattle.world_devices.specs.Refusals.{refuses_group, refuses_level, refuses_link};
 ghost use Rattle.world_devices.specs.Refusals.{refuses_message};
 ghost use Rattle.world_devices.specs.Brought.{IsSilent, sent_by};
-ghost use Rattle.world_devices.specs.Running.{DeviceRuns, IsStill, LeavesOn};
+ghost use Rattle.world_devices.specs.Running.{DeviceRuns, Holds, IsStill, LeavesOn};
 
 use crate::starting::{StartFault, begin, cite_laws, dial_all, load};
 use crate::stop::{Ran, StepFault, Stop};
@@ -69,7 +72,9 @@ impl Device {
         hasher: RandomState,
         contacts: u8,
         clock: u64,
-    ) -> Result<Device, StepFault> {
+    ) -> Result<Device, StepFault>
+        ensures { IfOk result (IsNewDevice contacts clock) }
+    {
         let Ok(host) = begin(alloc) else {
             return Err(StepFault::Memory);
         };
@@ -85,10 +90,23 @@ impl Device {
         if device.start().is_err() {
             return Err(StepFault::Memory);
         }
-        for _added in 0..contacts {
-            device.add_contact()?;
+        'contacts: for _added in 0..contacts {
+            match device.add_contact()? {
+                Ran::Done => {}
+                // No stop is armed, so none falls.
+                Ran::Crashed => return Err(StepFault::Memory),
+            }
         }
+        device.new_stands();
         Ok(device)
+    }
+
+    // What a device is that has so many contacts, no message and no links. It does nothing.
+    fn new_stands(&self)
+        ensures { (contacts : ℕ) → IsBareIn contacts self.now.node → IsUnlinked self.now
+            → IsNewDevice contacts self.now.clock self.now }
+    {
+        let _links = self.links;
     }
 
     /// Its store; `None` only after a call of it failed.
@@ -199,6 +217,8 @@ impl Device {
         ensures running { OnOk result (is_some self.new.node ≡ true) }
         ensures links { OnOk result (IsUnlinked self.new) }
         ensures idle { OnErr result (self.new.node ≡ None) }
+        ensures bare { Holds [] self.old.host → OnOk result (IsBareIn 0 self.new.node) }
+        ensures clock { self.new.clock ≡ self.old.clock }
     {
         self.node = None;
         self.links = 0;
@@ -218,6 +238,7 @@ impl Device {
         ensures running { OnOk result (is_some self.new.node ≡ true) }
         ensures links { OnOk result (IsUnlinked self.new) }
         ensures unrefused { IsNotRefused result }
+        ensures clock { self.new.clock ≡ self.old.clock }
     {
         let made = self.host.disk().calls();
         match self.stop {
@@ -234,6 +255,7 @@ impl Device {
         ensures running { OnOk result (is_some self.new.node ≡ true) }
         ensures links { OnOk result (IsUnlinked self.new) }
         ensures unrefused { IsNotRefused result }
+        ensures clock { self.new.clock ≡ self.old.clock }
     {
         self.node = None;
         self.stop = None;
@@ -253,6 +275,7 @@ impl Device {
         ensures running { OnOk result (is_some self.new.node ≡ true) }
         ensures links { OnOk result (IsUnlinked self.new) }
         ensures unrefused { IsNotRefused result }
+        ensures clock { self.new.clock ≡ self.old.clock }
     {
         match fault {
             NodeFault::DiskFault => self.break_off(),
@@ -283,6 +306,9 @@ impl Device {
         ensures links { LinksBy result self.old self.new }
         ensures refused { RefusedBy (refuses_contact self.old.node) result }
         ensures same { IsErrOf result StepFault.Refused → self.new ≡ self.old }
+        ensures bare { (contacts : ℕ) → IsBareIn contacts self.old.node
+            → WhenDone result (IsBareIn (contacts + 1) self.new.node) }
+        ensures clock { self.new.clock ≡ self.old.clock }
     {
         let Some(store) = self.ready() else {
             return Err(StepFault::Memory);
@@ -361,6 +387,10 @@ impl Device {
         ensures running { OnOk result (is_some self.new.node ≡ true) }
         ensures links { LinksBy result self.old self.new }
         ensures unrefused { IsNotRefused result }
+        ensures bare { (contacts number : ℕ) → entry ≡ entry_kind.Contact number
+            → IsBareIn contacts self.old.node
+            → WhenDone result (IsBareIn (contacts + 1) self.new.node) }
+        ensures clock { self.new.clock ≡ self.old.clock }
     {
         cite_laws();
         let batch = Batch::single(self.alloc, entry)?;

@@ -1,5 +1,5 @@
 //! A device that starts: its store is loaded and settled, and a node stands over it.
-ghost use Rattle.std.specs.Prelude.{◌≡◌, [], IfOk, OnOk};
+ghost use Rattle.std.specs.Prelude.{◌≡◌, ℕ, [], IfOk, OnOk};
 ghost use Rattle.client_basic.specs.Bodies.{bundle_meaning};
 ghost use Rattle.outside.specs.HostTold.{host_told};
 ghost use Rattle.sync_store.specs.Ready.{IsReady};
@@ -7,6 +7,7 @@ ghost use Rattle.world_devices.specs.Devices.{IsStarted, links_made};
 ghost use Rattle.world_devices.specs.Brought.{IsSilent};
 ghost use Rattle.world_devices.specs.Cited.{CitedLaws};
 ghost use Rattle.world_devices.specs.Keeping.{IsQuiet, Keeps, KeepsOn};
+ghost use Rattle.world_devices.specs.Linking.{IsBare};
 ghost use Rattle.world_devices.specs.Running.{Holds, LeavesOn};
 ghost use Rattle.world_devices.specs.declared.starting.StartFault.TheVariants as start_fault;
 
@@ -17,6 +18,7 @@ use record_grammar::fronts_have_fronts;
 use std::alloc::{AllocError, Global};
 use std::hash::RandomState;
 use sync_node::laws::joined_links_have_read;
+use sync_rules::growth::settling_leaves;
 use sync_rules::laws::sent_grows;
 use sync_store::{LoadFault, Store, StoreFault};
 
@@ -83,6 +85,7 @@ pub(crate) fn load(
     ensures links { (host_told host.new).links ≡ (host_told host.old).links }
     ensures keeps { KeepsOn (host_told host.old) (host_told host.new) }
     ensures leaves { LeavesOn (host_told host.old) (host_told host.new) }
+    ensures bare { Holds [] host.old → IfOk result (IsBare 0) }
 {
     match Store::load(alloc, hasher, host, &Bundle::new(), MAX_JOURNAL) {
         Ok(store) => settle(store, host),
@@ -98,7 +101,9 @@ fn settle(store: Store, host: &mut MemHost) -> Result<Store, StartFault>
     ensures links { (host_told host.new).links ≡ (host_told host.old).links }
     ensures keeps { KeepsOn (host_told host.old) (host_told host.new) }
     ensures leaves { LeavesOn (host_told host.old) (host_told host.new) }
+    ensures bare { (contacts : ℕ) → IsBare contacts store → IfOk result (IsBare contacts) }
 {
+    cite_laws();
     let mut store = store;
     match store.settle(host, &Bundle::new()) {
         Ok(()) => Ok(store),
@@ -115,4 +120,5 @@ pub(crate) fn cite_laws()
     standing_is_legal();
     fronts_have_fronts();
     joined_links_have_read::<MemHost>();
+    settling_leaves();
 }

@@ -2,6 +2,7 @@ use Rattle.outside.specs.HostTold.{host_told}
 use Rattle.world_devices.proofs.HostLaws.{told_host}
 use Rattle.world_devices.proofs.LeaveLaws.{leave_looks}
 use Rattle.world_devices.proofs.RunningLaws.{load_keeps}
+use Rattle.world_devices.proofs.NewLaws.{bare_loaded}
 use Rattle.world_devices.proofs.starting.load.Goals as goal
 
 pub returns-in-Ok-clause-keeps : goal.returns-in-Ok-clause-keeps
@@ -22,3 +23,7 @@ returns-in-Err-DiskFault-clause-leaves c = leave_looks (host_told c.args.host.no
 
 pub returns-in-Err-clause-leaves : goal.returns-in-Err-clause-leaves
 returns-in-Err-clause-leaves c = leave_looks (host_told c.args.host.now) (host_told c.load.new.disk) (told_host c.args.host.now).two (told_host c.args.host.now).files_are c.load.ensures.any_moment
+
+pub returns-in-Ok-clause-bare : goal.returns-in-Ok-clause-bare
+returns-in-Ok-clause-bare c = λ holds.
+    c.settle.ensures.bare 0 (bare_loaded c.args.host.now c.in-Ok.store holds (c.in-Ok.ensures.answer (told_host c.args.host.now).two (told_host c.args.host.now).files_are))

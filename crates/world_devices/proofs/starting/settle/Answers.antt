@@ -1,5 +1,6 @@
 use Rattle.world_devices.proofs.RunningLaws.{settle_keeps}
 use Rattle.world_devices.proofs.CallLaws.{settle_leaves}
+use Rattle.world_devices.proofs.NewLaws.{bare_settled}
 use Rattle.world_devices.proofs.starting.settle.Goals as goal
 
 pub returns-in-Ok-clause-keeps : goal.returns-in-Ok-clause-keeps
@@ -25,3 +26,8 @@ returns-in-Err-DiskFault-clause-leaves c =
 pub returns-clause-leaves : goal.returns-clause-leaves
 returns-clause-leaves c =
     settle_leaves c.args.store c.settle.new.self c.settle.result c.args.host.now c.settle.new.disk c.requires (c.settle.ensures.settled c.requires.still_open)
+
+pub returns-in-Ok-clause-bare : goal.returns-in-Ok-clause-bare
+returns-in-Ok-clause-bare c = λ contacts bare.
+    let settled = c.settle.ensures.settled c.requires.still_open in
+    bare_settled c.cite_laws.ensures.settling contacts c.args.store c.settle.new.self settled.more settled.comes.settling settled.comes.facts bare

@@ -1,3 +1,4 @@
+use Rattle.std.proofs.Common.{refl}
 use Rattle.world_devices.proofs.CallLaws.{runs_none}
 use Rattle.world_devices.proofs.RunningLaws.{may_add_contact}
 use Rattle.world_devices.proofs.device.Device.add_contact.Goals as goal
@@ -10,3 +11,6 @@ returns-in_default-clause-runs c = runs_none c.args.self.now
 
 pub returns-in-Err-clause-runs : goal.returns-in-Err-clause-runs
 returns-in-Err-clause-runs c = runs_none c.args.self.now
+
+pub returns-in-Ok-clause-bare : goal.returns-in-Ok-clause-bare
+returns-in-Ok-clause-bare c = λ contacts bare. c.add.ensures.bare contacts c.in-Ok.number refl bare

@@ -1,4 +1,4 @@
-use Rattle.std.proofs.Common.{◌≡◌, ◌≤◌, [], ap, arith}
+use Rattle.std.proofs.Common.{◌≡◌, ◌≤◌, ◌∙◌, [], ap, arith, subst, sym}
 use Rattle.outside.specs.HostTold.{host_told}
 use Rattle.world_devices.specs.Devices.{DeviceValue}
 use Rattle.outside.specs.Links.{Links}
@@ -7,6 +7,11 @@ use Rattle.world_devices.specs.Devices.{links_made}
 use Rattle.world_devices.proofs.CallLaws.{leaves_seen, ready_still, silent_seen, silent_started, start_leaves}
 use Rattle.world_devices.proofs.HostLaws.{clock_same, quiet_same, scripts_clocked}
 use Rattle.world_devices.proofs.RunningLaws.{begins_running, keeps_seen, quiet_told, start_keeps}
+use Rattle.outside.specs.MemHost.{MemHostValue}
+use Rattle.sync_node.specs.Node.{NodeValue}
+use Rattle.world_devices.specs.Linking.{IsBare}
+use Rattle.world_devices.specs.Running.{Holds}
+use Rattle.world_devices.proofs.NewLaws.{holds_on}
 use Rattle.world_devices.proofs.device.Device.start.Goals as goal
 
 pub invariant_of-self-in_err-store : goal.invariant_of-self-in_err-store
@@ -49,3 +54,10 @@ invariant_of-self-2 c =
       start_keeps c.self.inside.host c.dial_all.new.host c.set_clock.new.self c.load.new.host c.dial_all.ensures.files (clock_same c.dial_all.new.host c.set_clock.new.self _ c.set_clock.result c.set_clock.ensures.ok c.set_clock.ensures.err) c.load.ensures.keeps [] c.self.invariant.1,
       omega arith,
     )
+
+pub returns-clause-bare : goal.returns-clause-bare
+returns-clause-bare c = λ holds.
+    let seen : Holds [] c.self.inside.host = subst (λ (h : MemHostValue). Holds [] h) (sym (ap (λ (d : DeviceValue). d.host) c.self.view_is)) holds in
+    let same = clock_same c.dial_all.new.host c.set_clock.new.self _ c.set_clock.result c.set_clock.ensures.ok c.set_clock.ensures.err in
+    let on : Holds [] c.set_clock.new.self = holds_on [] c.self.inside.host c.set_clock.new.self (same.files ∙ c.dial_all.ensures.files) seen in
+    subst (λ (n : NodeValue). IsBare 0 n.store) (sym c.in_ok-new.ensures) (c.in_ok-store.ensures.bare on)

@@ -1,0 +1,7 @@
+use Rattle.std.proofs.Common.{◌≡◌}
+use Rattle.world_devices.specs.Linking.{IsBareIn, IsUnlinked}
+use Rattle.world_devices.proofs.device.Device.new.Given as goal
+
+-- so many contacts were added
+abbrev pub invariant-contacts : goal.invariant-contacts
+invariant-contacts l = record { bare : IsBareIn l._added l.device.node; unlinked : IsUnlinked l.device; clock : l.device.clock ≡ l.clock }
