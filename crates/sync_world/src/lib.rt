@@ -8,8 +8,8 @@
 //! - `naming`: what devices, groups and messages of a world are called.
 //! - `posting`: the body of a post.
 //! - `turning`: a device's turn, and rounds of turns.
-//! - `playing`, `player`, `asking`: scripts played, the world with what is to be printed of it, and what
-//!   the words ask for.
+//! - `playing`, `player`, `asking`: scripts played, the world with what is to be printed of it, and
+//!   what the words ask for.
 #![tactic(auto)]
 
 mod asking;
