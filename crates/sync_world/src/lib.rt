@@ -12,6 +12,7 @@
 #![tactic(auto)]
 
 mod asking;
+mod laws;
 mod naming;
 mod player;
 mod playing;

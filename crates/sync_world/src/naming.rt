@@ -1,6 +1,7 @@
 //! What the devices, groups and links of a world are called.
 ghost use Rattle.std.specs.Prelude.{◌≡◌, ◌≢◌, true};
 ghost use Rattle.sync_rules.specs.Legal.{suits_nonce};
+ghost use Rattle.world_laws.specs.Worlds as W;
 
 use std::alloc::Global;
 use sync_ids::{Fixed, GroupDef, Nonce};
@@ -11,6 +12,7 @@ use world_scripts::{FEED, NOTE, THREAD};
 /// The contact that a device has for another one: there is one for each other device, in order.
 pub(crate) fn contact_for(device: u8, other: u8) -> u8
     requires { other ≢ device }
+    ensures { result ≡ W.contact_for device other }
 {
     if other < device { other } else { other - 1 }
 }

@@ -1,16 +1,22 @@
 //! The devices of a world and the links between them, and what steps do to these.
-ghost use Rattle.std.specs.Prelude.{◌≡◌, ◌≢◌, ◌≤◌, true, Err, IfOk, None, Some, slice_get};
+ghost use Rattle.std.specs.Prelude.{◌≡◌, ◌≢◌, ◌<◌, ◌≤◌, ℕ, true, Err, IfOk, None, OnOk, Some};
+ghost use Rattle.std.specs.Prelude.{length, map, slice_get};
 ghost use Rattle.sync_world.specs.Beginning.{IsNewWorld};
+ghost use Rattle.sync_world.specs.Shown.{arrived};
+ghost use Rattle.sync_world.specs.Staging.{HasFreshEnd, IsDone, after_ran, attached_at, begun_with};
+ghost use Rattle.world_laws.specs.Worlds as W;
+ghost use Rattle.sync_world.specs.Standing.{Goes, IsWorld, is_fatal};
 ghost use Rattle.sync_rules.specs.Legal.{suits_nonce};
 ghost use Rattle.sync_world.specs.Moving.{Becomes, BecomesOne, LeavesDevices, LinksBecome};
 ghost use Rattle.sync_world.specs.Moving.{fault_after, link_cut, link_moved};
 ghost use Rattle.world_devices.specs.declared.stop.StepFault.{StepFault};
 
+use crate::laws::cite_laws;
 use crate::naming::{contact_for, group_def, nonce_for};
 use crate::posting::{body_of, ids_of};
 use crate::turning::{carry_all, leave_all, look_all, plan_all};
 use outside::{LINKS, Pick};
-use std::alloc::Global;
+use std::alloc::{AllocError, Global};
 use std::hash::RandomState;
 use sync_ids::{Message, MessageId, Nonce, group_id};
 use sync_node::Plan;
@@ -55,6 +61,7 @@ impl Stage {
         requires least { 2 ≤ devices }
         requires most { devices ≤ 8 }
         ensures new { IfOk result (IsNewWorld devices) }
+        ensures world { IfOk result IsWorld }
     {
         let mut all = Vec::new(alloc);
         'devices: for _device in 0..devices {
@@ -73,6 +80,7 @@ impl Stage {
     /// Makes a step. After `Refused` the world is as before; after `Memory` or `Full` it answers
     /// that fault for good.
     pub fn step(&mut self, step: &WorldStep) -> Result<(), StepFault>
+        ensures goes { self.old.fault ≡ None → Goes (is_fatal result) self.old self.new }
         ensures for_good { (fault : StepFault) → self.old.fault ≡ Some fault
             → (result ≡ Err fault) × (self.new ≡ self.old) }
         ensures fault { self.old.fault ≡ None → self.new.fault ≡ fault_after result }
@@ -96,6 +104,7 @@ impl Stage {
         ensures links { LinksBecome step.now self.old.links.items self.new.links.items result }
         ensures devices { LeavesDevices step.now self.old.devices.items self.new.devices.items }
         ensures fault { self.new.fault ≡ self.old.fault }
+        ensures goes { Goes (is_fatal result) self.old self.new }
     {
         match step {
             WorldStep::Group(d, kind, descriptor) => {
@@ -106,7 +115,7 @@ impl Stage {
                 self.post(*d, *group, *time, parents, text.as_slice())
             }
             WorldStep::Link(d, e, mode, latency) => self.link(*d, *e, *mode, *latency),
-            WorldStep::Turn(d) => self.turn(*d).map(|_| ()),
+            WorldStep::Turn(d) => self.turn_once(*d),
             WorldStep::Carry(link, d) => self.move_first(*link, *d, Move::Carry),
             WorldStep::Lose(link, d) => self.move_first(*link, *d, Move::Lose),
             WorldStep::Repeat(link, d) => self.move_first(*link, *d, Move::Repeat),
@@ -123,8 +132,10 @@ impl Stage {
 // What devices do by themselves.
 impl Stage {
     fn add_group(&mut self, d: u8, kind: u8, descriptor: &str) -> Result<(), StepFault>
-        ensures { self.new.fault ≡ self.old.fault }
+        ensures fault { self.new.fault ≡ self.old.fault }
+        ensures goes { Goes (is_fatal result) self.old self.new }
     {
+        cite_laws();
         let def = group_def(self.alloc, kind, descriptor)?;
         if d as usize >= self.devices.len() {
             return Err(StepFault::Refused);
@@ -137,8 +148,10 @@ impl Stage {
     }
 
     fn share(&mut self, d: u8, e: u8, group: u64, level: Level) -> Result<(), StepFault>
-        ensures { self.new.fault ≡ self.old.fault }
+        ensures fault { self.new.fault ≡ self.old.fault }
+        ensures goes { Goes (is_fatal result) self.old self.new }
     {
+        cite_laws();
         if d == e || e as usize >= self.devices.len() {
             return Err(StepFault::Refused);
         }
@@ -163,8 +176,10 @@ impl Stage {
         parents: &Labels,
         text: &[u8],
     ) -> Result<(), StepFault>
-        ensures { self.new.fault ≡ self.old.fault }
+        ensures fault { self.new.fault ≡ self.old.fault }
+        ensures goes { Goes (is_fatal result) self.old self.new }
     {
+        cite_laws();
         let message = self.message_of(group, time, parents, text)?;
         let id = id_of(&message);
         self.posts.reserve(1)?;
@@ -203,8 +218,10 @@ impl Stage {
     }
 
     fn set_clock(&mut self, at: u64) -> Result<(), StepFault>
-        ensures { self.new.fault ≡ self.old.fault }
+        ensures fault { self.new.fault ≡ self.old.fault }
+        ensures goes { Goes (is_fatal result) self.old self.new }
     {
+        cite_laws();
         'devices: for d in 0..self.devices.len() {
             let device = &mut self.devices[d];
             device.set_clock(at)?;
@@ -213,35 +230,41 @@ impl Stage {
     }
 
     fn stop(&mut self, d: u8, calls: u64, pick: Pick) -> Result<(), StepFault>
-        ensures { self.new.fault ≡ self.old.fault }
+        ensures fault { self.new.fault ≡ self.old.fault }
+        ensures goes { Goes (is_fatal result) self.old self.new }
     {
+        cite_laws();
         if d as usize >= self.devices.len() {
             return Err(StepFault::Refused);
         }
         let device = &mut self.devices[d as usize];
-        device.stop_at(calls, pick);
+        device.stop_at(calls, pick)?;
         Ok(())
     }
 
     fn restart(&mut self, d: u8) -> Result<(), StepFault>
-        ensures { self.new.fault ≡ self.old.fault }
+        ensures fault { self.new.fault ≡ self.old.fault }
+        ensures goes { Goes (is_fatal result) self.old self.new }
     {
+        cite_laws();
         if d as usize >= self.devices.len() {
             return Err(StepFault::Refused);
         }
         let device = &mut self.devices[d as usize];
         device.restart()?;
-        leave_all(d, self.links.as_mut_slice());
+        self.came(d, Ran::Crashed);
         Ok(())
     }
 
     // What came of a call of a device: where it crashed it has its links no more.
     fn came(&mut self, d: u8, ran: Ran)
+        ensures links { self.new.links.items ≡ after_ran ran d self.old.links.items }
         ensures devices { self.new.devices.items ≡ self.old.devices.items }
         ensures fault { self.new.fault ≡ self.old.fault }
     {
-        if ran == Ran::Crashed {
-            leave_all(d, self.links.as_mut_slice());
+        match ran {
+            Ran::Done => {}
+            Ran::Crashed => leave_all(d, self.links.as_mut_slice()),
         }
     }
 }
@@ -249,24 +272,43 @@ impl Stage {
 // What goes over links.
 impl Stage {
     fn link(&mut self, d: u8, e: u8, mode: Mode, latency: u32) -> Result<(), StepFault>
-        ensures { self.new.fault ≡ self.old.fault }
+        ensures fault { self.new.fault ≡ self.old.fault }
+        ensures goes { Goes (is_fatal result) self.old self.new }
     {
+        cite_laws();
         if d == e || latency == 0 || !self.has_room(d) || !self.has_room(e) {
             return Err(StepFault::Refused);
         }
-        let link = self.links.len();
-        self.links.push(Link::new(self.alloc, d, e))?;
+        let link = self.dial(d, e)?;
         let near = plan_for(d, e, mode, latency);
-        if self.attach(d, link, &near, nonce_for(mode, link))? == Ran::Crashed {
-            return Ok(());
+        match self.attach(d, link, &near, nonce_for(mode, link))? {
+            Ran::Crashed => return Ok(()),
+            Ran::Done => {}
         }
         let far = plan_for(e, d, mode, latency);
         self.attach(e, link, &far, None)?;
         Ok(())
     }
 
+    // A link more, between two devices. Answers its number.
+    fn dial(&mut self, d: u8, e: u8) -> Result<usize, StepFault>
+        requires two { d ≢ e }
+        requires near { d < length self.old.devices.items }
+        requires far { e < length self.old.devices.items }
+        ensures fault { self.new.fault ≡ self.old.fault }
+        ensures goes { Goes (is_fatal result) self.old self.new }
+        ensures fresh { IfOk result (λ link. HasFreshEnd d e link self.new.links.items) }
+        ensures other { IfOk result (λ link. HasFreshEnd e d link self.new.links.items) }
+    {
+        let link = self.links.len();
+        self.links.push(Link::new(self.alloc, d, e))?;
+        Ok(link)
+    }
+
     // Whether a device may have a further link.
-    fn has_room(&self, d: u8) -> bool {
+    fn has_room(&self, d: u8) -> bool
+        ensures { result ≡ true → d < length self.now.devices.items }
+    {
         match self.devices.get(d as usize) {
             Some(device) => (device.links() as usize) < LINKS,
             None => false,
@@ -281,7 +323,7 @@ impl Stage {
         }
     }
 
-    // Begins a session of a device on a link.
+    // Begins a session of a device on a link, and looks at what it sent.
     fn attach(
         &mut self,
         d: u8,
@@ -291,8 +333,15 @@ impl Stage {
     ) -> Result<Ran, StepFault>
         requires latency { 1 ≤ plan.now.latency }
         requires nonce { suits_nonce plan.now.mode nonce ≡ true }
-        ensures { self.new.fault ≡ self.old.fault }
+        ensures fault { self.new.fault ≡ self.old.fault }
+        ensures goes { (far : ℕ) → plan.now.contact ≡ W.contact_for d far
+            → HasFreshEnd d far link self.old.links.items
+            → Goes (is_fatal result) self.old self.new }
+        ensures fresh { (k far : ℕ) → k ≢ d → HasFreshEnd k far link self.old.links.items
+            → IsDone result → HasFreshEnd k far link self.new.links.items }
+        ensures devices { length self.new.devices.items ≡ length self.old.devices.items }
     {
+        cite_laws();
         if d as usize >= self.devices.len() {
             return Err(StepFault::Refused);
         }
@@ -302,25 +351,37 @@ impl Stage {
             self.came(d, Ran::Crashed);
             return Ok(Ran::Crashed);
         };
-        if link < self.links.len() {
-            attach_end(d, at, session, device.sent(at), &mut self.links[link])?;
-        }
+        device.links_stand();
+        begin_at(d, at, session, link, self.links.as_mut_slice());
+        look_all(device, d, self.links.as_mut_slice())?;
         Ok(Ran::Done)
+    }
+
+    // A turn of a device.
+    fn turn_once(&mut self, d: u8) -> Result<(), StepFault>
+        ensures fault { self.new.fault ≡ self.old.fault }
+        ensures goes { Goes (is_fatal result) self.old self.new }
+    {
+        let _still = self.turn(d)?;
+        Ok(())
     }
 
     // A turn of a device. Answers whether all its links were still, or nothing where it crashed.
     fn turn(&mut self, d: u8) -> Result<Option<bool>, StepFault>
-        ensures { self.new.fault ≡ self.old.fault }
+        ensures fault { self.new.fault ≡ self.old.fault }
+        ensures goes { Goes (is_fatal result) self.old self.new }
     {
+        cite_laws();
         if d as usize >= self.devices.len() {
             return Err(StepFault::Refused);
         }
         let device = &mut self.devices[d as usize];
         plan_all(device, d, self.links.as_mut_slice())?;
         let Some(still) = device.turn()? else {
-            leave_all(d, self.links.as_mut_slice());
+            self.came(d, Ran::Crashed);
             return Ok(None);
         };
+        device.links_stand();
         look_all(device, d, self.links.as_mut_slice())?;
         Ok(Some(still))
     }
@@ -331,7 +392,9 @@ impl Stage {
         ensures links { Becomes (link_moved how d (slice_get self.old.links.items link)) link
             self.old.links.items self.new.links.items result }
         ensures fault { self.new.fault ≡ self.old.fault }
+        ensures goes { Goes (is_fatal result) self.old self.new }
     {
+        cite_laws();
         if link >= self.links.len() as u64 {
             return Err(StepFault::Refused);
         }
@@ -343,7 +406,9 @@ impl Stage {
         ensures links { Becomes (link_cut (slice_get self.old.links.items link)) link
             self.old.links.items self.new.links.items result }
         ensures fault { self.new.fault ≡ self.old.fault }
+        ensures goes { Goes (is_fatal result) self.old self.new }
     {
+        cite_laws();
         if link >= self.links.len() as u64 {
             return Err(StepFault::Refused);
         }
@@ -351,7 +416,8 @@ impl Stage {
     }
 
     fn rest(&mut self, rounds: u32) -> Result<(), StepFault>
-        ensures { self.new.fault ≡ self.old.fault }
+        ensures fault { self.new.fault ≡ self.old.fault }
+        ensures goes { Goes (is_fatal result) self.old self.new }
     {
         if rounds == 0 || u64::from(rounds) > MAX_ROUNDS {
             return Err(StepFault::Refused);
@@ -368,29 +434,50 @@ impl Stage {
     // A turn of each device that has had a link since it was started, and then all that is in
     // flight arrives.
     fn round(&mut self) -> Result<Round, StepFault>
-        ensures { self.new.fault ≡ self.old.fault }
+        ensures fault { self.new.fault ≡ self.old.fault }
+        ensures goes { Goes (is_fatal result) self.old self.new }
     {
+        cite_laws();
         let mut still = true;
         'devices: for d in 0..MAX_DEVICES as u8 {
-            if self.has_links(d) {
-                match self.turn(d)? {
-                    Some(quiet) => still = still && quiet,
-                    None => return Ok(Round::Crashed),
-                }
+            match self.turn_if_linked(d)? {
+                Some(quiet) => still &= quiet,
+                None => return Ok(Round::Crashed),
             }
         }
-        let carried = carry_all(self.links.as_mut_slice())?;
+        let carried = self.arrive()?;
         Ok(if still && !carried {
             Round::Still
         } else {
             Round::Moving
         })
     }
+
+    // A turn of a device that has had a link since it was started; another one is still.
+    fn turn_if_linked(&mut self, d: u8) -> Result<Option<bool>, StepFault>
+        ensures fault { self.new.fault ≡ self.old.fault }
+        ensures goes { Goes (is_fatal result) self.old self.new }
+    {
+        if !self.has_links(d) {
+            return Ok(Some(true));
+        }
+        self.turn(d)
+    }
+
+    // All that is in flight on links arrives. Answers whether that was anything.
+    fn arrive(&mut self) -> Result<bool, AllocError>
+        ensures links { OnOk result (self.new.links.items ≡ map arrived self.old.links.items) }
+        ensures devices { self.new.devices.items ≡ self.old.devices.items }
+        ensures fault { self.new.fault ≡ self.old.fault }
+    {
+        carry_all(self.links.as_mut_slice())
+    }
 }
 
 // What a device's session with another one is to be.
 fn plan_for(d: u8, e: u8, mode: Mode, latency: u32) -> Plan
     requires { e ≢ d }
+    ensures contact { result.contact ≡ W.contact_for d e }
     ensures mode { result.mode ≡ mode }
     ensures latency { result.latency ≡ latency }
 {
@@ -401,20 +488,24 @@ fn plan_for(d: u8, e: u8, mode: Mode, latency: u32) -> Plan
     }
 }
 
-// A device has a link under this number, and what it sent there is in flight.
-fn attach_end(d: u8, at: u8, session: u32, sent: &[u8], link: &mut Link) -> Result<(), StepFault> {
+// A device has the link at this place under a number, and this session began on it.
+fn begin_at(d: u8, at: u8, session: u32, link: usize, links: &mut [Link])
+    ensures { links.new ≡ begun_with d at session link (slice_get links.old link) links.old }
+{
+    if link < links.len() {
+        begin_on(d, at, session, &mut links[link]);
+    }
+}
+
+// A device has a link under this number, and this session began on it.
+fn begin_on(d: u8, at: u8, session: u32, link: &mut Link)
+    ensures { link.new ≡ attached_at d at session link.old }
+{
     match link.side_of(d) {
-        Some(Side::Near) => {
-            link.near.attach(at, session);
-            link.near.look(sent, link.is_cut)?;
-        }
-        Some(Side::Far) => {
-            link.far.attach(at, session);
-            link.far.look(sent, link.is_cut)?;
-        }
+        Some(Side::Near) => link.near.attach(at, session),
+        Some(Side::Far) => link.far.attach(at, session),
         None => {}
     }
-    Ok(())
 }
 
 // The first records in flight on a link from a device move.

@@ -1,6 +1,7 @@
 //! The world and its steps.
 ghost use Rattle.std.specs.Prelude.{◌≡◌, ◌≤◌, Err, IfOk, None, Some};
 ghost use Rattle.sync_world.specs.Beginning.{IsNewWorld};
+ghost use Rattle.sync_world.specs.Standing.{IsManyDevices};
 ghost use Rattle.sync_world.specs.Moving.{LeavesDevices, LinksBecome, fault_after};
 ghost use Rattle.world_devices.specs.declared.stop.StepFault.{StepFault};
 
@@ -9,6 +10,7 @@ use std::alloc::Global;
 use std::hash::RandomState;
 use std::marker::Model;
 use world_devices::{Device, StepFault};
+use world_laws::many_devices;
 use world_scripts::WorldStep;
 
 /// Several devices and the links between them. Each device has a contact for each other one.
@@ -19,15 +21,19 @@ pub struct World {
 }
 
 impl Model for World {
-    ghost use Rattle.std.specs.Coded.{codes};
     ghost use Rattle.sync_world.specs.declared.stage.Stage.{Stage};
-    ghost use Rattle.world_devices.specs.Devices.{device_code};
+
+    ghost use Rattle.sync_world.specs.Codes.{stage_code};
 
     ghost Value = { Stage };
 
-    ghost coded = { Prim.hlevel (codes, device_code) };
+    ghost coded = { stage_code };
+
+    ghost use Rattle.sync_world.specs.Standing.{IsWorld};
 
     ghost view = { λ w. w.stage };
+
+    ghost invariant = { λ w. IsWorld w.stage };
 }
 
 impl World {
@@ -39,7 +45,9 @@ impl World {
         requires least { 2 ≤ devices }
         requires most { devices ≤ 8 }
         ensures new { IfOk result (IsNewWorld devices) }
+        ensures many { IfOk result (λ world. IsManyDevices world.devices.items) }
     {
+        many_devices();
         Ok(World {
             stage: Stage::new(alloc, hasher, devices)?,
         })
@@ -52,8 +60,23 @@ impl World {
         self.stage.devices.as_slice()
     }
 
+    /// Many devices: there is a journal for each device, for which its files as they read stand.
+    /// Each journal is legal; what a device counts as seen by another one is held by that other;
+    /// each held message was written by some device; and where a session is at rest all that is to
+    /// reach its contact is held there. So it is at any time, whatever the steps before answered.
+    /// It does nothing.
+    pub fn many_devices_stand(&self)
+        ensures { IsManyDevices self.now.devices.items }
+    {
+        let _fault = self.stage.fault;
+        many_devices();
+    }
+
     /// Makes a step. After `Refused` the world is as before; after `Memory` or `Full` it answers
-    /// that fault for good.
+    /// that fault for good. Whatever it answers, there is then a journal for each device, for which
+    /// its files as they read stand; each is legal, what a device counts as seen by another one is
+    /// held by that other, each held message was written by some device, and where a session is at
+    /// rest all that is to reach its contact is held there.
     pub fn step(&mut self, step: &WorldStep) -> Result<(), StepFault>
         ensures for_good { (fault : StepFault) → self.old.fault ≡ Some fault
             → (result ≡ Err fault) × (self.new ≡ self.old) }
@@ -62,7 +85,9 @@ impl World {
             self.new.links.items result }
         ensures devices { self.old.fault ≡ None → LeavesDevices step.now self.old.devices.items
             self.new.devices.items }
+        ensures many { IsManyDevices self.new.devices.items }
     {
+        many_devices();
         self.stage.step(step)
     }
 }

@@ -1,5 +1,5 @@
 //! An end of a link.
-ghost use Rattle.std.specs.Prelude.{◌≡◌, [], None, Some, IfOk, OnErr, OnOk, drop, length, take};
+ghost use Rattle.std.specs.Prelude.{◌≡◌, ◌≤◌, [], None, Some, IfOk, OnErr, OnOk, drop, length, take};
 ghost use Rattle.outside.specs.Script.{planned_of};
 ghost use Rattle.world_links.specs.Ends.{answer_to, flight_behind, input_of, new_end};
 ghost use Rattle.world_links.specs.Links.{given_too};
@@ -109,6 +109,7 @@ impl End {
     pub fn hear(&mut self)
         ensures input { input_of self.new ≡ drop PIECE_LEN (input_of self.old) }
         ensures rest { self.new ≡ record self.old { heard = self.new.heard } }
+        ensures within { self.new.heard ≤ length self.new.given }
     {
         let left = self.given.len() - self.heard;
         self.heard += left.min(PIECE_LEN);

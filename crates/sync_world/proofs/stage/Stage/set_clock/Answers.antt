@@ -1,0 +1,30 @@
+use Rattle.std.proofs.Common.{◌<◌, false, length, arith, ap, Err, ◌∙◌}
+use Rattle.world_devices.specs.declared.stop.StepFault.TheVariants as fault
+use Rattle.sync_world.proofs.StepLaws.{ends_leads, goes_then, leads_err, quiet_leads}
+use Rattle.sync_world.proofs.GoLaws.{leads_then}
+use Rattle.sync_world.proofs.WireLaws.{set_length}
+use Rattle.sync_world.proofs.stage.Stage.set_clock.Goals as goal
+
+pub devices-preserved : goal.devices-preserved
+devices-preserved c =
+    let within : c.devices.d < length c.devices.self.devices.items = omega (arith, c.devices.invariant.number) in
+    let laws = c.cite_laws.ensures in
+    let made = c.set_clock.ensures in
+    record {
+      fault = c.devices.invariant.fault;
+      number = set_length c.devices.self.devices.items c.devices.d c.set_clock.new.self ∙ c.devices.invariant.number;
+      goes = λ w s. leads_then w false c.devices.self.devices.items _ c.devices.self.links.items _ (c.devices.invariant.goes w s)
+          (λ v shown. quiet_leads laws.records laws.grows c.devices.self.devices.items c.devices.self.links.items c.devices.d c.index_mut-device.result.now
+          c.set_clock.new.self within c.index_mut-device.ensures.value made.runs made.links made.node v shown);
+    }
+
+pub returns-in_err-set_clock-clause-goes : goal.returns-in_err-set_clock-clause-goes
+returns-in_err-set_clock-clause-goes c =
+    let within : c.devices.d < length c.devices.self.devices.items = omega (arith, c.devices.invariant.number) in
+    let laws = c.cite_laws.ensures in
+    λ w s. leads_err _ fault.Memory w _ _ c.from_residual.ensures.1 (leads_then w _ c.devices.self.devices.items _ c.devices.self.links.items _ (c.devices.invariant.goes w s)
+        (λ v shown. ends_leads laws.records laws.grows c.devices.self.devices.items c.devices.self.links.items c.devices.d c.index_mut-device.result.now
+        c.set_clock.new.self within c.index_mut-device.ensures.value c.set_clock.ensures.runs _ v shown))
+
+pub returns-clause-goes : goal.returns-clause-goes
+returns-clause-goes c = c.devices.invariant.goes

@@ -1,0 +1,29 @@
+use Rattle.std.proofs.Common.{◌<◌, length, arith, ap, Err}
+use Rattle.world_devices.specs.declared.stop.StepFault.TheVariants as fault
+use Rattle.sync_world.proofs.GoLaws.{same_leads}
+use Rattle.sync_world.proofs.StepLaws.{leads_err, came_goes, fails_leads}
+use Rattle.sync_world.proofs.stage.Stage.share.Goals as goal
+
+pub returns-in_err-ran-clause-goes : goal.returns-in_err-ran-clause-goes
+returns-in_err-ran-clause-goes c =
+    let within : c.args.d < length c.args.self.now.devices.items = omega arith in
+    let laws = c.cite_laws.ensures in
+    λ w s. leads_err _ c.in_err-ran.field-0.0 w _ _ c.from_residual-in_err-ran.ensures.1 (fails_leads laws.records laws.grows c.args.self.now.devices.items c.args.self.now.links.items c.args.d c.index_mut-device.result.now c.set_level.new.self within c.index_mut-device.ensures.value c.set_level.ensures.runs c.in_err-ran.field-0.0 (λ is. c.in_err-ran.ensures.same (ap (λ y. Err y) is)) w s)
+
+pub returns-clause-goes : goal.returns-clause-goes
+returns-clause-goes c =
+    let within : c.args.d < length c.args.self.now.devices.items = omega arith in
+    let laws = c.cite_laws.ensures in
+    λ w s. came_goes laws.records laws.grows c.args.self.now.devices.items c.args.self.now.links.items c.args.d c.index_mut-device.result.now c.set_level.new.self within c.index_mut-device.ensures.value c.set_level.ensures.runs c.in_ok-ran.ran c.in_ok-ran.ensures.running c.in_ok-ran.ensures.links _ _ c.came.ensures.devices c.came.ensures.links w s
+
+pub returns-then-d-e-clause-goes : goal.returns-then-d-e-clause-goes
+returns-then-d-e-clause-goes c = λ w s. same_leads w _ _ _ s
+
+pub returns-in_default-clause-goes : goal.returns-in_default-clause-goes
+returns-in_default-clause-goes c = λ w s. same_leads w _ _ _ s
+
+pub returns-in_err-group_def-clause-goes : goal.returns-in_err-group_def-clause-goes
+returns-in_err-group_def-clause-goes c = λ w s. same_leads w _ _ _ s
+
+pub returns-then-d-len-clause-goes : goal.returns-then-d-len-clause-goes
+returns-then-d-len-clause-goes c = λ w s. same_leads w _ _ _ s

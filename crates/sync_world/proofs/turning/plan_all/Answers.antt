@@ -1,0 +1,18 @@
+use Rattle.std.proofs.Common.{◌<◌, length, refl, arith, ◌∙◌}
+use Rattle.sync_world.proofs.PlanLaws.{plan_on, plans_none, plans_then}
+use Rattle.sync_world.proofs.WireLaws.{get_at, set_length}
+use Rattle.sync_world.proofs.turning.plan_all.Goals as goal
+
+pub links-init : goal.links-init
+links-init c = record { files = refl; number = refl; planned = plans_none c.args.number c.args.device.now c.args.links.now }
+
+pub links-preserved : goal.links-preserved
+links-preserved c =
+    let within : c.links.i < length c.links.links = omega arith in
+    record {
+      files = c.plan_on.ensures.files ∙ c.links.invariant.files;
+      number = set_length c.links.links c.links.i c.plan_on.new.link ∙ c.links.invariant.number;
+      planned = plans_then c.args.number c.args.device.now c.links.device c.plan_on.new.device c.args.links.now c.links.links _ c.links.invariant.planned
+          (plan_on c.args.number c.links.i c.links.device c.plan_on.new.device c.links.links c.index-links-i.result c.plan_on.new.link (get_at c.links.links c.links.i c.index-links-i.result within c.index-links-i.is)
+          c.plan_on.ensures.files c.in_ok-plan_on.ensures.planned);
+    }
