@@ -29,6 +29,7 @@ use Rattle.sync_run.specs.Dialling.{AreDialled, Calms, DialsAll, MakesLinks}
 use Rattle.sync_run.specs.Parts.{RunBroken, RunEnded, RunFilled, RunsOver, sessions_from}
 use Rattle.sync_run.specs.Plans.{ArePlanned}
 use Rattle.sync_run.proofs.EndLaws.{course_by_heard}
+use Rattle.sync_run.proofs.HeardLaws.{course_told}
 
 -- ---- sessions that words plan
 
@@ -122,6 +123,9 @@ module _ (clients : Meaning) (limits : Limits) (words : List LinkWords) (links :
     reads = end.reads;
     closes = end.closes;
     by_heard = course_by_heard clients (terms_of limits j) (sessions_from (facts j).begun links) (facts j) end.events end.last end.course;
+    as_told =
+        course_told clients (terms_of limits j) (sessions_from (facts j).begun links) (facts j) end.events end.last o0 o end.course (all_made ∙ sym all_planned)
+        (hears_dialled words end.events o0 o1 o none makes end.told same).heard;
     quiet = end.quiet;
   }
 

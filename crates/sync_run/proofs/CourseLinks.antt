@@ -18,7 +18,7 @@ use Rattle.sync_store.specs.Fitting.{Fits, FitsSome}
 use Rattle.sync_store.specs.Store.{StoreValue}
 use Rattle.sync_course.specs.Events.{Event, GrowsBy, RoseIf, has_failure, heard_after, readings_of}
 use Rattle.sync_node.specs.Courses.{FitsWith, ReadsAs}
-use Rattle.sync_node.specs.Output.{Journal}
+use Rattle.sync_node.specs.Output.{Journal, heard_on}
 use Rattle.store_commands.specs.Load.{HasFacts, IsLoaded, LoadedBy}
 use Rattle.sync_words.specs.declared.link_words.LinkWords.{LinkWords}
 use Rattle.sync_words.specs.declared.links.LinkEnd.{LinkEnd}
@@ -63,6 +63,7 @@ module _ (clients : Meaning) (limits : Limits) (words : List LinkWords) (j : Jou
     reads = reads_as clients o2.files o3.files _ files ran.reads;
     closes = ran.closes;
     by_heard = ran.by_heard;
+    as_told = λ i link at heard told. ran.as_told i link at heard (ap (λ (l : Links). l.heard) (sym last) ∙ told) ∙ ap (λ (l : Links). heard_on l i) (sym last);
     quiet = ran.quiet;
   }
 

@@ -12,3 +12,4 @@ mod SafeRunning
 mod SafeFull
 mod LeavingLaws
 mod EndLaws
+mod HeardLaws

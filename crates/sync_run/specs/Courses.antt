@@ -26,7 +26,7 @@ use Rattle.sync_words.specs.declared.links.LinkEnd.{LinkEnd}
 use Rattle.sync_words.specs.declared.outcome.Outcome.{Outcome}
 use Rattle.sync_words.specs.declared.outcome.Outcome.TheVariants as outcome
 use Rattle.sync_run.specs.declared.run.Limits.{Limits}
-use Rattle.sync_run.specs.Ends.{AllStandByHeard}
+use Rattle.sync_run.specs.Ends.{AllHeardAsTold, AllStandByHeard}
 use Rattle.sync_run.specs.Lines.{numbered}
 use Rattle.sync_run.specs.Plans.{ArePlanned}
 
@@ -68,6 +68,7 @@ pub record RanToEnd (clients : Meaning) (limits : Limits) (words : List LinkWord
   pub reads : ReadsAs clients new.files (begin ++ batches_of events)
   pub closes : ends ≡ numbered 0 (closing limits.quiet last)
   pub by_heard : AllStandByHeard last
+  pub as_told : AllHeardAsTold last new
   pub quiet : is_over limits.quiet last ≡ true → EndsQuiet clients (terms_of limits begin) events last
 
 -- The run was broken off: the course of the sessions of all words, up to any place. Where a session had begun all links were made.

@@ -142,6 +142,7 @@ module _ (clients : Meaning) (limits : Limits) (words : List LinkWords) (old new
       decides = refl;
       unfailed = all_unfailed lines (unfailed lines caused);
       is_done = ran_done;
+      is_done_as_told = λ over told. ran_done over (λ i link at. subst HeardWell (sym (ran.as_told i link at told.0 told.1)) (told.2 i));
     }
 
   module _ (may : MaySync clients limits words old new) where

@@ -6,6 +6,7 @@ use Rattle.std.specs.List.{list_any}
 use Rattle.outside.specs.declared.limits.TheConstants.{MAX_JOURNAL}
 use Rattle.outside.specs.Faults.{Rose}
 use Rattle.outside.specs.Files.{Two, File}
+use Rattle.outside.specs.Links.{HeardOn}
 use Rattle.outside.specs.Outside.{Outside}
 use Rattle.outside.specs.Streams.{Stream}
 use Rattle.record_grammar.specs.Stream.{ending, records}
@@ -21,6 +22,7 @@ use Rattle.sync_course.specs.Events.{Commit, batches_of}
 use Rattle.sync_course.specs.Links.{Link, closes}
 use Rattle.sync_course.specs.Turns.{Place, RunStep, is_over}
 use Rattle.sync_node.specs.Courses.{ReadsAs}
+use Rattle.sync_node.specs.Output.{heard_on}
 use Rattle.sync_words.specs.declared.command.Command.{Command}
 use Rattle.sync_words.specs.declared.command.Command.TheVariants as command
 use Rattle.sync_words.specs.declared.link_words.LinkWords.{LinkWords}
@@ -127,6 +129,10 @@ pub record HeardWell (heard : List ℕ) : Type 0 where
 abbrev pub AllHeardWell : Place → Type 0
 AllHeardWell p = (i : ℕ) (link : Link) → slice_get p.links i ≡ Some link → HeardWell link.heard
 
+-- the host tells what each link heard, and it was heard well
+abbrev pub AllToldWell : Outside → Type 0
+AllToldWell o = (heard : List HeardOn) × (o.links.heard ≡ Some heard) × ((i : ℕ) → HeardWell (heard_on o.links i))
+
 -- a status that a course has none of whose links failed
 abbrev pub is_unfailed : Status → Bool
 is_unfailed status.Done = true
@@ -134,8 +140,8 @@ is_unfailed status.BadStream = true
 is_unfailed status.TurnsUsed = true
 is_unfailed given = false
 
--- The course decides, by how it closes its links; and all is done where it was over within its turns, and what was heard on each
--- link was heard well.
+-- The course decides, by how it closes its links; and all is done where it was over within its turns, and each link heard well, by
+-- the course's last place or by what the host tells.
 pub record CourseDecides (clients : Meaning) (limits : Limits) (words : List LinkWords) (old new : Outside) (given : Status) : Type 0 where
   pub begin : List (List Entry)
   pub stood : ReadsAs clients old.files begin
@@ -144,6 +150,7 @@ pub record CourseDecides (clients : Meaning) (limits : Limits) (words : List Lin
   pub decides : given ≡ links_status ends
   pub unfailed : is_unfailed given ≡ true
   pub is_done : is_over limits.quiet ran.last ≡ true → AllHeardWell ran.last → given ≡ status.Done
+  pub is_done_as_told : is_over limits.quiet ran.last ≡ true → AllToldWell new → given ≡ status.Done
 
 -- what it is that a command comes to, if memory is not wanting
 abbrev pub ComesOut : Meaning → Command → (old new : Outside) → (input input' : Stream) → Status → Type 0
