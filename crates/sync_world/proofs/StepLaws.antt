@@ -1,13 +1,15 @@
 -- The steps of a stage, as its functions make them: by a device that stands at an index.
-use Rattle.std.proofs.Common.{◌≡◌, ◌⊎◌, ℕ, zero, suc, ◌<◌, ◌==◌, if◌then◌else◌, Bool, true, false, List, [], ◌∷◌, ◌++◌, map, length, take, drop, length-map, refl, sym, ◌∙◌, ap, subst, inl, inr, arith, Option, Some, None, is_some, Result, Ok, Err}
+use Rattle.std.proofs.Common.{◌≡◌, ◌⊎◌, ℕ, zero, suc, ◌<◌, ◌==◌, if◌then◌else◌, Bool, true, false, List, [], ◌∷◌, ◌++◌, map, length, take, drop, refl, sym, ◌∙◌, ap, subst, inl, inr, arith, Option, Some, None, is_some, Result, Ok, Err}
 use Rattle.std.proofs.lemmas.Bool.{eq-eqb, ne_eqb}
+use Rattle.std.proofs.lemmas.List.{length-map}
 use Rattle.std.specs.Prelude.{IsErrAnd, slice_get, slice_index_or, slice_set}
 use Rattle.world_devices.specs.Cited.{SentGrows}
 use Rattle.world_devices.specs.Devices.{DeviceValue}
-use Rattle.world_devices.specs.Linking.{AddsLink, DeviceLinksStand, IsUnlinked, KeepsLinks, LinksBy}
+use Rattle.world_devices.specs.Linking.{AddsLink, DeviceLinksStand, IsUnlinked, KeepsLinks, LinksBy, LinksByAttach, LinksByTurn}
 use Rattle.world_devices.specs.Refusals.{IsNotRefused}
 use Rattle.world_devices.specs.Running.{DeviceRuns, Reads}
 use Rattle.world_devices.specs.declared.stop.Ran.{Ran}
+use Rattle.world_devices.specs.declared.stop.Ran.TheVariants as ran
 use Rattle.world_devices.specs.declared.stop.StepFault.{StepFault}
 use Rattle.world_devices.specs.declared.stop.StepFault.TheVariants as fault
 use Rattle.world_laws.specs.Worlds.{World, contact_for, journal_at}
@@ -16,7 +18,7 @@ use Rattle.world_links.specs.declared.moves.Side.{Side}
 use Rattle.world_links.specs.declared.moves.Side.TheVariants as side
 use Rattle.world_links.specs.declared.link.Link.{Link}
 use Rattle.sync_world.specs.Cited.{RecordLaws}
-use Rattle.sync_world.specs.Staging.{HasFreshEnd, PlansAll, SameFiles, after_ran, attached_at, attached_from, begun_with, new_link}
+use Rattle.sync_world.specs.Staging.{HasFreshEnd, IsDone, PlansAll, SameFiles, after_ran, attached_at, attached_from, begun_with, new_link}
 use Rattle.sync_world.specs.Standing.{AreRead, Goes, IsShown, LeadsOn, is_fatal}
 use Rattle.sync_world.specs.Turning.{look_link}
 use Rattle.sync_world.specs.declared.stage.Stage.{Stage}
@@ -206,12 +208,6 @@ far_fresh d e ls two = record {
   far_is = refl;
 }
 
-pub began_is : (ls ls' ls'' : List Link) (d at n session i : ℕ) (device : DeviceValue) (l : Link) → at ≡ n → ls' ≡ begun_with d at session i (slice_get ls i) ls
-    → ls'' ≡ map (look_link d device) ls' → slice_get ls i ≡ Some l → ls'' ≡ map (look_link d device) (slice_set ls i (attached_at d n session l))
-began_is ls ls' ls'' d at n session i device l same begun looked is =
-    looked ∙ ap (λ (x : List Link). map (look_link d device) x)
-    (begun ∙ (ap (λ (o : Option Link). begun_with d at session i o ls) is ∙ ap (λ (a : ℕ). slice_set ls i (attached_at d a session l)) same))
-
 pub fatal_is : (e : StepFault) → IsNotRefused {A = Unit {0}} (Err e) → true ≡ is_fatal {A = Unit {0}} (Err e)
 fatal_is fault.Refused kept = absurd kept
 fatal_is fault.Full kept = refl
@@ -279,3 +275,53 @@ module _ (laws : RecordLaws) (grows : SentGrows) (devices : List DeviceValue) (l
 pub plans_from : (d : ℕ) (old new : DeviceValue) (ls ms ns : List Link) → ms ≡ ls → PlansAll d old new ms ns → PlansAll d old new ls ns
 plans_from d old new ls ms ns same plans = λ w devices is s. plans w devices is (subst (λ (x : List Link). IsShown w devices x) (sym same) s)
 
+-- ---- by what a call answered
+
+pub none_of : {A : Type 0} (o : Option A) → ((x : A) → o ≡ Some x → ⊥) → o ≡ None
+none_of None not = refl
+none_of (Some x) not = absurd (not x refl)
+
+pub turn_kept : (o : Option Bool) (still : Bool) (old new : DeviceValue) → o ≡ Some still → LinksByTurn (Ok o) old new → KeepsLinks old new
+turn_kept o still old new is by = subst (λ (x : Option Bool). LinksByTurn (Ok x) old new) is by
+
+pub turn_gone : (o : Option Bool) (old new : DeviceValue) → o ≡ None → LinksByTurn (Ok o) old new → IsUnlinked new
+turn_gone o old new is by = subst (λ (x : Option Bool). LinksByTurn (Ok x) old new) is by
+
+pub attach_added : (contact : ℕ) (o : Option ℕ) (session : ℕ) (old new : DeviceValue) → o ≡ Some session → LinksByAttach contact (Ok o) old new → AddsLink contact session old new
+attach_added contact o session old new is by = subst (λ (x : Option ℕ). LinksByAttach contact (Ok x) old new) is by
+
+pub attach_gone : (contact : ℕ) (o : Option ℕ) (old new : DeviceValue) → o ≡ None → LinksByAttach contact (Ok o) old new → IsUnlinked new
+attach_gone contact o old new is by = subst (λ (x : Option ℕ). LinksByAttach contact (Ok x) old new) is by
+
+-- ---- a link that begins, as it was written
+
+begun_length : (d at session i : ℕ) (o : Option Link) (ls : List Link) → length (begun_with d at session i o ls) ≡ length ls
+begun_length d at session i None ls = refl
+begun_length d at session i (Some l) ls = set_length ls i (attached_at d at session l)
+
+pub begun_written : (len d at session i : ℕ) (device : DeviceValue) (items slice begun mid last : List Link) → slice ≡ items → len ≡ length items
+    → begun ≡ begun_with d at session i (slice_get slice i) slice → mid ≡ take len (begun ++ drop (length begun) items) → last ≡ map (look_link d device) mid
+    → take len (last ++ drop (length last) (take len (begun ++ drop (length begun) items))) ≡ map (look_link d device) (begun_with d at session i (slice_get items i) items)
+begun_written len d at session i device items slice begun mid last same is begins mid_is last_is =
+    let here : begun ≡ begun_with d at session i (slice_get items i) items = begins ∙ ap (λ (ls : List Link). begun_with d at session i (slice_get ls i) ls) same in
+    let long : length begun ≡ length items = ap length here ∙ begun_length d at session i (slice_get items i) items in
+    written_twice len d device items begun last mid long is mid_is last_is ∙ ap (λ (ls : List Link). map (look_link d device) ls) here
+
+pub begun_to : (ls : List Link) (d at n session i : ℕ) (device : DeviceValue) (l : Link) → at ≡ n → slice_get ls i ≡ Some l
+    → map (look_link d device) (begun_with d at session i (slice_get ls i) ls) ≡ map (look_link d device) (slice_set ls i (attached_at d n session l))
+begun_to ls d at n session i device l same is =
+    ap (λ (x : List Link). map (look_link d device) x)
+    (ap (λ (o : Option Link). begun_with d at session i o ls) is ∙ ap (λ (a : ℕ). slice_set ls i (attached_at d a session l)) same)
+
+-- ---- a link more
+
+pub near_pushed : (d e n : ℕ) (ls ls' : List Link) → n ≡ length ls → ls' ≡ ls ++ new_link d e ∷ [] → HasFreshEnd d e n ls'
+near_pushed d e n ls ls' is pushed =
+    subst (λ (x : List Link). HasFreshEnd d e n x) (sym pushed) (subst (λ (k : ℕ). HasFreshEnd d e k (ls ++ new_link d e ∷ [])) (sym is) (near_fresh d e ls))
+
+pub far_pushed : (d e n : ℕ) (ls ls' : List Link) → (d ≡ e → ⊥) → n ≡ length ls → ls' ≡ ls ++ new_link d e ∷ [] → HasFreshEnd e d n ls'
+far_pushed d e n ls ls' two is pushed =
+    subst (λ (x : List Link). HasFreshEnd e d n x) (sym pushed) (subst (λ (k : ℕ). HasFreshEnd e d k (ls ++ new_link d e ∷ [])) (sym is) (far_fresh d e ls two))
+
+pub was_done : (r : Ran) → r ≡ ran.Done → IsDone {E = StepFault} (Ok r)
+was_done r is = subst (λ (x : Ran). IsDone {E = StepFault} (Ok x)) (sym is) tt

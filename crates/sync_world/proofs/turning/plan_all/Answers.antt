@@ -1,6 +1,8 @@
 use Rattle.std.proofs.Common.{◌<◌, length, refl, arith, ◌∙◌}
+use Rattle.std.proofs.lemmas.Option.{slice_get-get_or}
+use Rattle.std.specs.Prelude.{slice_index_or}
 use Rattle.sync_world.proofs.PlanLaws.{plan_on, plans_none, plans_then}
-use Rattle.sync_world.proofs.WireLaws.{get_at, set_length}
+use Rattle.sync_world.proofs.WireLaws.{set_length}
 use Rattle.sync_world.proofs.turning.plan_all.Goals as goal
 
 pub links-init : goal.links-init
@@ -13,6 +15,6 @@ links-preserved c =
       files = c.plan_on.ensures.files ∙ c.links.invariant.files;
       number = set_length c.links.links c.links.i c.plan_on.new.link ∙ c.links.invariant.number;
       planned = plans_then c.args.number c.args.device.now c.links.device c.plan_on.new.device c.args.links.now c.links.links _ c.links.invariant.planned
-          (plan_on c.args.number c.links.i c.links.device c.plan_on.new.device c.links.links c.index-links-i.result c.plan_on.new.link (get_at c.links.links c.links.i c.index-links-i.result within c.index-links-i.is)
+          (plan_on c.args.number c.links.i c.links.device c.plan_on.new.device c.links.links (slice_index_or c.links.links c.links.i c.index-links-i.result) c.plan_on.new.link (slice_get-get_or c.links.links c.links.i c.index-links-i.result within)
           c.plan_on.ensures.files c.in_ok-plan_on.ensures.planned);
     }

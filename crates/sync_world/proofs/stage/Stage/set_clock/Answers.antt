@@ -1,9 +1,12 @@
-use Rattle.std.proofs.Common.{◌<◌, false, length, arith, ap, Err, ◌∙◌}
+use Rattle.std.proofs.Common.{◌<◌, false, length, arith, refl, ◌∙◌}
 use Rattle.world_devices.specs.declared.stop.StepFault.TheVariants as fault
-use Rattle.sync_world.proofs.StepLaws.{ends_leads, goes_then, leads_err, quiet_leads}
+use Rattle.sync_world.proofs.StepLaws.{ends_leads, goes_none, leads_err, quiet_leads}
 use Rattle.sync_world.proofs.GoLaws.{leads_then}
 use Rattle.sync_world.proofs.WireLaws.{set_length}
 use Rattle.sync_world.proofs.stage.Stage.set_clock.Goals as goal
+
+pub devices-init : goal.devices-init
+devices-init c = record { fault = refl; number = refl; goes = goes_none c.args.self.now }
 
 pub devices-preserved : goal.devices-preserved
 devices-preserved c =

@@ -5,7 +5,7 @@ use Rattle.world_links.specs.Links.{left_by}
 use Rattle.sync_world.specs.Standing.{LeadsOn}
 use Rattle.sync_world.specs.Turning.{look_link}
 use Rattle.sync_world.proofs.GoLaws.{same_leads}
-use Rattle.sync_world.proofs.StepLaws.{leads_both, leads_err, leads_links, plan_fails, plans_from, turn_crashes, turn_ends, turn_fails, turn_leads, written, written_twice}
+use Rattle.sync_world.proofs.StepLaws.{leads_both, none_of, turn_gone, turn_kept, leads_err, leads_links, plan_fails, plans_from, turn_crashes, turn_ends, turn_fails, turn_leads, written, written_twice}
 use Rattle.sync_world.proofs.stage.Stage.turn.Goals as goal
 
 pub returns-then-d-len-clause-goes : goal.returns-then-d-len-clause-goes
@@ -32,7 +32,7 @@ returns-in_default-clause-goes c =
     λ w s. leads_both w _ _ _ _ c.came.ensures.devices (c.came.ensures.links ∙ ap (λ ls. map (left_by c.args.d) ls)
         (written c.args.self.now.links.len c.plan_all.new.links c.args.self.now.links.items (c.plan_all.ensures.number ∙ ap length c.as_mut_slice.ensures.value) (omega arith)))
         (turn_crashes laws.records laws.grows c.args.self.now.devices.items c.args.self.now.links.items c.plan_all.new.links c.args.d c.index_mut-device.result.now c.plan_all.new.device c.turn.new.self within
-        c.index_mut-device.ensures.value (plans_from c.args.d c.index_mut-device.result.now c.plan_all.new.device _ _ _ c.as_mut_slice.ensures.value c.in_ok-plan_all.ensures.planned) c.turn.ensures.runs c.in_ok-still.ensures.running c.in_ok-still.ensures.links w s)
+        c.index_mut-device.ensures.value (plans_from c.args.d c.index_mut-device.result.now c.plan_all.new.device _ _ _ c.as_mut_slice.ensures.value c.in_ok-plan_all.ensures.planned) c.turn.ensures.runs c.in_ok-still.ensures.running (turn_gone c.in_ok-still.field-0 c.plan_all.new.device c.turn.new.self (none_of c.in_ok-still.field-0 (λ x e. c.in_default.not-Some x e)) c.in_ok-still.ensures.links) w s)
 
 pub returns-in_err-look_all-clause-goes : goal.returns-in_err-look_all-clause-goes
 returns-in_err-look_all-clause-goes c =
@@ -49,4 +49,4 @@ returns-clause-goes c =
         (written_twice c.args.self.now.links.len c.args.d c.turn.new.self c.args.self.now.links.items c.plan_all.new.links c.look_all.new.links c.as_mut_slice-2.result.now (c.plan_all.ensures.number ∙ ap length c.as_mut_slice.ensures.value) (omega arith)
         c.as_mut_slice-2.ensures.value c.in_ok-look_all.ensures)
         (turn_leads laws.records laws.grows c.args.self.now.devices.items c.args.self.now.links.items c.plan_all.new.links c.args.d c.index_mut-device.result.now c.plan_all.new.device c.turn.new.self within
-        c.index_mut-device.ensures.value (plans_from c.args.d c.index_mut-device.result.now c.plan_all.new.device _ _ _ c.as_mut_slice.ensures.value c.in_ok-plan_all.ensures.planned) c.turn.ensures.runs c.in_ok-still.ensures.running c.in_ok-still.ensures.links c.links_stand.ensures w s)
+        c.index_mut-device.ensures.value (plans_from c.args.d c.index_mut-device.result.now c.plan_all.new.device _ _ _ c.as_mut_slice.ensures.value c.in_ok-plan_all.ensures.planned) c.turn.ensures.runs c.in_ok-still.ensures.running (turn_kept c.in_ok-still.field-0 c.in-Some.still c.plan_all.new.device c.turn.new.self c.in-Some.is c.in_ok-still.ensures.links) c.links_stand.ensures w s)

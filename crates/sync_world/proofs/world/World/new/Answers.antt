@@ -1,0 +1,7 @@
+use Rattle.sync_world.proofs.WorldLaws.{many_of}
+use Rattle.sync_world.proofs.world.World.new.Goals as goal
+
+pub returns-clause-many : goal.returns-clause-many
+returns-clause-many c =
+    let laws = c.many_devices.ensures in
+    many_of laws.sound laws.seen laws.written laws.rest c.in_ok-new.field-0 c.in_ok-new.ensures.world
