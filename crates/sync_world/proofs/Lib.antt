@@ -1,1 +1,2 @@
 pub mod MovingLaws
+pub mod RefusingLaws
