@@ -7,7 +7,7 @@ use Rattle.world_devices.specs.Devices.{DeviceKeeps, DeviceValue}
 use Rattle.world_scripts.specs.Labels.{Pair, labelled}
 use Rattle.world_scripts.specs.declared.step.WorldStep.{WorldStep}
 use Rattle.world_scripts.specs.declared.step.WorldStep.TheVariants as step
-use Rattle.sync_world.specs.declared.world.World.{World as Stage}
+use Rattle.sync_world.specs.declared.stage.Stage.{Stage}
 use Rattle.sync_world.specs.Posting.{message_of}
 
 -- as many devices as before, and whatever a crash may leave of each then stands for a journal that goes on from those before

@@ -1,4 +1,5 @@
 pub mod Asking
+pub mod Beginning
 pub mod Leaving
 pub mod Moving
 pub mod Naming

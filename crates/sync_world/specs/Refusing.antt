@@ -13,7 +13,7 @@ use Rattle.world_scripts.specs.Labels.{Pair}
 use Rattle.world_scripts.specs.declared.step.WorldStep.{WorldStep}
 use Rattle.world_scripts.specs.declared.step.WorldStep.TheVariants as step
 use Rattle.world_scripts.specs.declared.step.TheConstants.{MAX_ROUNDS}
-use Rattle.sync_world.specs.declared.world.World.{World as Stage}
+use Rattle.sync_world.specs.declared.stage.Stage.{Stage}
 use Rattle.sync_world.specs.Moving.{link_cut, link_moved}
 use Rattle.sync_world.specs.Naming.{group_of}
 use Rattle.sync_world.specs.Posting.{message_of}

@@ -3,6 +3,7 @@
 //! disks stop at any call. A world makes the same calls on nodes and stores as a program does.
 //!
 //! - `world`: the world and its steps.
+//! - `stage`: its devices and links, and what each step does to these.
 //! - `naming`: what devices, groups and messages of a world are called.
 //! - `posting`: the body of a post.
 //! - `turning`: a device's turn, and rounds of turns.
@@ -15,6 +16,7 @@ mod naming;
 mod player;
 mod playing;
 mod posting;
+mod stage;
 mod turning;
 mod world;
 

@@ -1,48 +1,29 @@
 //! The world and its steps.
-ghost use Rattle.std.specs.Prelude.{◌≡◌, ◌≢◌, ◌≤◌, true, Err, None, Some, slice_get};
-ghost use Rattle.sync_rules.specs.Legal.{suits_nonce};
-ghost use Rattle.sync_world.specs.Moving.{Becomes, BecomesOne, LeavesDevices, LinksBecome};
-ghost use Rattle.sync_world.specs.Moving.{fault_after, link_cut, link_moved};
+ghost use Rattle.std.specs.Prelude.{◌≡◌, ◌≤◌, Err, IfOk, None, Some};
+ghost use Rattle.sync_world.specs.Beginning.{IsNewWorld};
+ghost use Rattle.sync_world.specs.Moving.{LeavesDevices, LinksBecome, fault_after};
 ghost use Rattle.world_devices.specs.declared.stop.StepFault.{StepFault};
 
-use crate::naming::{contact_for, group_def, nonce_for};
-use crate::posting::{body_of, ids_of};
-use crate::turning::{carry_all, leave_all, look_all, plan_all};
-use outside::{LINKS, Pick};
+use crate::stage::Stage;
 use std::alloc::Global;
 use std::hash::RandomState;
-use sync_ids::{Message, MessageId, Nonce, group_id};
-use sync_node::Plan;
-use sync_rules::{Level, Mode, id_of};
-use world_devices::{Device, Ran, StepFault};
-use world_links::{Link, Move, Side};
-use world_scripts::{
-    GroupLabels, Labels, MAX_DEVICES, MAX_ROUNDS, WorldStep, are_made, suits_kind,
-};
-
-// The time at which a world begins, in milliseconds.
-const FIRST_CLOCK: u64 = 1_000;
+use std::marker::Model;
+use world_devices::{Device, StepFault};
+use world_scripts::WorldStep;
 
 /// Several devices and the links between them. Each device has a contact for each other one.
+/// Contracts see the stage on which its steps are made.
 #[derive(Drop)]
 pub struct World {
-    alloc: Global,
-    devices: Vec<Device>,
-    links: Vec<Link>,
-    groups: GroupLabels,
-    posts: Vec<MessageId>,
-    fault: Option<StepFault>,
+    stage: Stage,
 }
 
-// What became of a round.
-#[derive(Clone, Copy, Debug, PartialEq, Eq)]
-enum Round {
-    // Something came, was sent or was carried.
-    Moving,
-    // Nothing was.
-    Still,
-    // A disk stopped in it.
-    Crashed,
+impl Model for World {
+    ghost use Rattle.sync_world.specs.declared.stage.Stage.{Stage};
+
+    ghost Value = { Stage };
+
+    ghost view = { λ w. w.stage };
 }
 
 impl World {
@@ -53,24 +34,18 @@ impl World {
     pub fn new(alloc: Global, hasher: RandomState, devices: u8) -> Result<World, StepFault>
         requires least { 2 ≤ devices }
         requires most { devices ≤ 8 }
+        ensures new { IfOk result (IsNewWorld devices) }
     {
-        let mut all = Vec::new(alloc);
-        for _device in 0..devices {
-            all.push(Device::new(alloc, hasher, devices - 1, FIRST_CLOCK)?)?;
-        }
         Ok(World {
-            alloc,
-            devices: all,
-            links: Vec::new(alloc),
-            groups: GroupLabels::new(alloc),
-            posts: Vec::new(alloc),
-            fault: None,
+            stage: Stage::new(alloc, hasher, devices)?,
         })
     }
 
     /// The devices, by their numbers.
-    pub fn devices(&self) -> &[Device] {
-        self.devices.as_slice()
+    pub fn devices(&self) -> &[Device]
+        ensures { result.now ≡ self.now.devices.items }
+    {
+        self.stage.devices.as_slice()
     }
 
     /// Makes a step. After `Refused` the world is as before; after `Memory` or `Full` it answers
@@ -84,363 +59,6 @@ impl World {
         ensures devices { self.old.fault ≡ None → LeavesDevices step.now self.old.devices.items
             self.new.devices.items }
     {
-        if let Some(fault) = self.fault {
-            return Err(fault);
-        }
-        let made = self.make(step);
-        match made {
-            Ok(()) | Err(StepFault::Refused) => {}
-            Err(fault) => self.fault = Some(fault),
-        }
-        made
+        self.stage.step(step)
     }
-
-    fn make(&mut self, step: &WorldStep) -> Result<(), StepFault>
-        ensures links { LinksBecome step.now self.old.links.items self.new.links.items result }
-        ensures devices { LeavesDevices step.now self.old.devices.items self.new.devices.items }
-        ensures fault { self.new.fault ≡ self.old.fault }
-    {
-        match step {
-            WorldStep::Group(d, kind, descriptor) => {
-                self.add_group(*d, *kind, descriptor.as_str())
-            }
-            WorldStep::Share(d, e, group, level) => self.share(*d, *e, *group, *level),
-            WorldStep::Post(d, group, time, parents, text) => {
-                self.post(*d, *group, *time, parents, text.as_slice())
-            }
-            WorldStep::Link(d, e, mode, latency) => self.link(*d, *e, *mode, *latency),
-            WorldStep::Turn(d) => self.turn(*d).map(|_| ()),
-            WorldStep::Carry(link, d) => self.move_first(*link, *d, Move::Carry),
-            WorldStep::Lose(link, d) => self.move_first(*link, *d, Move::Lose),
-            WorldStep::Repeat(link, d) => self.move_first(*link, *d, Move::Repeat),
-            WorldStep::Swap(link, d) => self.move_first(*link, *d, Move::Swap),
-            WorldStep::Cut(link) => self.cut(*link),
-            WorldStep::Clock(at) => self.set_clock(*at),
-            WorldStep::Stop(d, calls, pick) => self.stop(*d, *calls, *pick),
-            WorldStep::Restart(d) => self.restart(*d),
-            WorldStep::Rest(rounds) => self.rest(*rounds),
-        }
-    }
-}
-
-// What devices do by themselves.
-impl World {
-    fn add_group(&mut self, d: u8, kind: u8, descriptor: &str) -> Result<(), StepFault>
-        ensures { self.new.fault ≡ self.old.fault }
-    {
-        let def = group_def(self.alloc, kind, descriptor)?;
-        if d as usize >= self.devices.len() {
-            return Err(StepFault::Refused);
-        }
-        let device = &mut self.devices[d as usize];
-        let ran = device.add_group(def)?;
-        self.groups.label(self.alloc, kind, descriptor)?;
-        self.came(d, ran);
-        Ok(())
-    }
-
-    fn share(&mut self, d: u8, e: u8, group: u64, level: Level) -> Result<(), StepFault>
-        ensures { self.new.fault ≡ self.old.fault }
-    {
-        if d == e || e as usize >= self.devices.len() {
-            return Err(StepFault::Refused);
-        }
-        let Some((kind, descriptor)) = self.groups.get(group) else {
-            return Err(StepFault::Refused);
-        };
-        let id = group_id(&group_def(self.alloc, kind, descriptor)?);
-        if d as usize >= self.devices.len() {
-            return Err(StepFault::Refused);
-        }
-        let device = &mut self.devices[d as usize];
-        let ran = device.set_level(contact_for(d, e), &id, level)?;
-        self.came(d, ran);
-        Ok(())
-    }
-
-    fn post(
-        &mut self,
-        d: u8,
-        group: u64,
-        time: u64,
-        parents: &Labels,
-        text: &[u8],
-    ) -> Result<(), StepFault>
-        ensures { self.new.fault ≡ self.old.fault }
-    {
-        let message = self.message_of(group, time, parents, text)?;
-        let id = id_of(&message);
-        self.posts.reserve(1)?;
-        if d as usize >= self.devices.len() {
-            return Err(StepFault::Refused);
-        }
-        let device = &mut self.devices[d as usize];
-        let ran = device.author(message)?;
-        self.posts.push(id)?;
-        self.came(d, ran);
-        Ok(())
-    }
-
-    // The message of a post; it is refused where the labels do not suit it.
-    fn message_of(
-        &self,
-        group: u64,
-        time: u64,
-        parents: &Labels,
-        text: &[u8],
-    ) -> Result<Message, StepFault> {
-        let Some((kind, descriptor)) = self.groups.get(group) else {
-            return Err(StepFault::Refused);
-        };
-        let posts = self.posts.as_slice();
-        if text.is_empty() || !are_made(parents, posts.len() as u64) || !suits_kind(kind, parents) {
-            return Err(StepFault::Refused);
-        }
-        let id = group_id(&group_def(self.alloc, kind, descriptor)?);
-        let ids = ids_of(self.alloc, posts, parents.as_slice())?;
-        let body = body_of(self.alloc, kind, ids.as_slice(), text)?;
-        match Message::new(id, time, body) {
-            Ok(message) => Ok(message),
-            Err(_) => Err(StepFault::Refused),
-        }
-    }
-
-    fn set_clock(&mut self, at: u64) -> Result<(), StepFault>
-        ensures { self.new.fault ≡ self.old.fault }
-    {
-        'devices: for d in 0..self.devices.len() {
-            let device = &mut self.devices[d];
-            device.set_clock(at)?;
-        }
-        Ok(())
-    }
-
-    fn stop(&mut self, d: u8, calls: u64, pick: Pick) -> Result<(), StepFault>
-        ensures { self.new.fault ≡ self.old.fault }
-    {
-        if d as usize >= self.devices.len() {
-            return Err(StepFault::Refused);
-        }
-        let device = &mut self.devices[d as usize];
-        device.stop_at(calls, pick);
-        Ok(())
-    }
-
-    fn restart(&mut self, d: u8) -> Result<(), StepFault>
-        ensures { self.new.fault ≡ self.old.fault }
-    {
-        if d as usize >= self.devices.len() {
-            return Err(StepFault::Refused);
-        }
-        let device = &mut self.devices[d as usize];
-        device.restart()?;
-        leave_all(d, self.links.as_mut_slice());
-        Ok(())
-    }
-
-    // What came of a call of a device: where it crashed it has its links no more.
-    fn came(&mut self, d: u8, ran: Ran)
-        ensures devices { self.new.devices.items ≡ self.old.devices.items }
-        ensures fault { self.new.fault ≡ self.old.fault }
-    {
-        if ran == Ran::Crashed {
-            leave_all(d, self.links.as_mut_slice());
-        }
-    }
-}
-
-// What goes over links.
-impl World {
-    fn link(&mut self, d: u8, e: u8, mode: Mode, latency: u32) -> Result<(), StepFault>
-        ensures { self.new.fault ≡ self.old.fault }
-    {
-        if d == e || latency == 0 || !self.has_room(d) || !self.has_room(e) {
-            return Err(StepFault::Refused);
-        }
-        let link = self.links.len();
-        self.links.push(Link::new(self.alloc, d, e))?;
-        let near = plan_for(d, e, mode, latency);
-        if self.attach(d, link, &near, nonce_for(mode, link))? == Ran::Crashed {
-            return Ok(());
-        }
-        let far = plan_for(e, d, mode, latency);
-        self.attach(e, link, &far, None)?;
-        Ok(())
-    }
-
-    // Whether a device may have a further link.
-    fn has_room(&self, d: u8) -> bool {
-        match self.devices.get(d as usize) {
-            Some(device) => (device.links() as usize) < LINKS,
-            None => false,
-        }
-    }
-
-    // Whether a device has had a link since it was started.
-    fn has_links(&self, d: u8) -> bool {
-        match self.devices.get(d as usize) {
-            Some(device) => device.links() > 0,
-            None => false,
-        }
-    }
-
-    // Begins a session of a device on a link.
-    fn attach(
-        &mut self,
-        d: u8,
-        link: usize,
-        plan: &Plan,
-        nonce: Option<Nonce>,
-    ) -> Result<Ran, StepFault>
-        requires latency { 1 ≤ plan.now.latency }
-        requires nonce { suits_nonce plan.now.mode nonce ≡ true }
-        ensures { self.new.fault ≡ self.old.fault }
-    {
-        if d as usize >= self.devices.len() {
-            return Err(StepFault::Refused);
-        }
-        let device = &mut self.devices[d as usize];
-        let at = device.links();
-        let Some(session) = device.attach(plan, nonce)? else {
-            self.came(d, Ran::Crashed);
-            return Ok(Ran::Crashed);
-        };
-        if link < self.links.len() {
-            attach_end(d, at, session, device.sent(at), &mut self.links[link])?;
-        }
-        Ok(Ran::Done)
-    }
-
-    // A turn of a device. Answers whether all its links were still, or nothing where it crashed.
-    fn turn(&mut self, d: u8) -> Result<Option<bool>, StepFault>
-        ensures { self.new.fault ≡ self.old.fault }
-    {
-        if d as usize >= self.devices.len() {
-            return Err(StepFault::Refused);
-        }
-        let device = &mut self.devices[d as usize];
-        plan_all(device, d, self.links.as_mut_slice())?;
-        let Some(still) = device.turn()? else {
-            leave_all(d, self.links.as_mut_slice());
-            return Ok(None);
-        };
-        look_all(device, d, self.links.as_mut_slice())?;
-        Ok(Some(still))
-    }
-
-    // The first records in flight from a device move.
-    fn move_first(&mut self, link: u64, d: u8, how: Move) -> Result<(), StepFault>
-        ensures devices { self.new.devices.items ≡ self.old.devices.items }
-        ensures links { Becomes (link_moved how d (slice_get self.old.links.items link)) link
-            self.old.links.items self.new.links.items result }
-        ensures fault { self.new.fault ≡ self.old.fault }
-    {
-        if link >= self.links.len() as u64 {
-            return Err(StepFault::Refused);
-        }
-        move_on(&mut self.links[link as usize], d, how)
-    }
-
-    fn cut(&mut self, link: u64) -> Result<(), StepFault>
-        ensures devices { self.new.devices.items ≡ self.old.devices.items }
-        ensures links { Becomes (link_cut (slice_get self.old.links.items link)) link
-            self.old.links.items self.new.links.items result }
-        ensures fault { self.new.fault ≡ self.old.fault }
-    {
-        if link >= self.links.len() as u64 {
-            return Err(StepFault::Refused);
-        }
-        cut_link(&mut self.links[link as usize])
-    }
-
-    fn rest(&mut self, rounds: u32) -> Result<(), StepFault>
-        ensures { self.new.fault ≡ self.old.fault }
-    {
-        if rounds == 0 || u64::from(rounds) > MAX_ROUNDS {
-            return Err(StepFault::Refused);
-        }
-        'rounds: for _round in 0..rounds {
-            match self.round()? {
-                Round::Moving => {}
-                Round::Still | Round::Crashed => return Ok(()),
-            }
-        }
-        Ok(())
-    }
-
-    // A turn of each device that has had a link since it was started, and then all that is in
-    // flight arrives.
-    fn round(&mut self) -> Result<Round, StepFault>
-        ensures { self.new.fault ≡ self.old.fault }
-    {
-        let mut still = true;
-        'devices: for d in 0..MAX_DEVICES as u8 {
-            if self.has_links(d) {
-                match self.turn(d)? {
-                    Some(quiet) => still = still && quiet,
-                    None => return Ok(Round::Crashed),
-                }
-            }
-        }
-        let carried = carry_all(self.links.as_mut_slice())?;
-        Ok(if still && !carried {
-            Round::Still
-        } else {
-            Round::Moving
-        })
-    }
-}
-
-// What a device's session with another one is to be.
-fn plan_for(d: u8, e: u8, mode: Mode, latency: u32) -> Plan
-    requires { e ≢ d }
-    ensures mode { result.mode ≡ mode }
-    ensures latency { result.latency ≡ latency }
-{
-    Plan {
-        contact: contact_for(d, e),
-        mode,
-        latency,
-    }
-}
-
-// A device has a link under this number, and what it sent there is in flight.
-fn attach_end(d: u8, at: u8, session: u32, sent: &[u8], link: &mut Link) -> Result<(), StepFault> {
-    match link.side_of(d) {
-        Some(Side::Near) => {
-            link.near.attach(at, session);
-            link.near.look(sent, link.is_cut)?;
-        }
-        Some(Side::Far) => {
-            link.far.attach(at, session);
-            link.far.look(sent, link.is_cut)?;
-        }
-        None => {}
-    }
-    Ok(())
-}
-
-// The first records in flight on a link from a device move.
-fn move_on(link: &mut Link, d: u8, how: Move) -> Result<(), StepFault>
-    ensures { BecomesOne (link_moved how d (Some link.old)) link.old link.new result }
-{
-    let Some(side) = link.side_of(d) else {
-        return Err(StepFault::Refused);
-    };
-    if link.make(how, side)? {
-        Ok(())
-    } else {
-        Err(StepFault::Refused)
-    }
-}
-
-// Cuts a link that is not cut.
-fn cut_link(link: &mut Link) -> Result<(), StepFault>
-    ensures { BecomesOne (link_cut (Some link.old)) link.old link.new result }
-{
-    if link.is_cut {
-        return Err(StepFault::Refused);
-    }
-    link.cut();
-    Ok(())
 }

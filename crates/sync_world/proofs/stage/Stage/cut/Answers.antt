@@ -1,7 +1,7 @@
 use Rattle.std.proofs.Common.{◌<◌, length, arith}
 use Rattle.sync_world.specs.Moving.{link_cut}
 use Rattle.sync_world.proofs.MovingLaws.{becomes_at}
-use Rattle.sync_world.proofs.world.World.cut.Goals as goal
+use Rattle.sync_world.proofs.stage.Stage.cut.Goals as goal
 
 pub returns-clause-links : goal.returns-clause-links
 returns-clause-links c =

@@ -1,7 +1,7 @@
 use Rattle.std.proofs.Common.{◌<◌, length, arith}
 use Rattle.sync_world.specs.Moving.{link_moved}
 use Rattle.sync_world.proofs.MovingLaws.{becomes_at}
-use Rattle.sync_world.proofs.world.World.move_first.Goals as goal
+use Rattle.sync_world.proofs.stage.Stage.move_first.Goals as goal
 
 pub returns-clause-links : goal.returns-clause-links
 returns-clause-links c =

@@ -1,5 +1,5 @@
 use Rattle.std.proofs.Common.{◌≡◌}
-use Rattle.sync_world.proofs.world.World.set_clock.Given as goal
+use Rattle.sync_world.proofs.stage.Stage.set_clock.Given as goal
 
 abbrev pub invariant-devices : goal.invariant-devices
 invariant-devices l = l.self.fault ≡ l.initial.self.fault

@@ -1,5 +1,5 @@
 use Rattle.std.proofs.Common.{◌≡◌}
-use Rattle.sync_world.proofs.world.World.rest.Given as goal
+use Rattle.sync_world.proofs.stage.Stage.rest.Given as goal
 
 abbrev pub invariant-rounds : goal.invariant-rounds
 invariant-rounds l = l.self.fault ≡ l.initial.self.fault
