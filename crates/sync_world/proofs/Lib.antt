@@ -1,2 +1,3 @@
 pub mod MovingLaws
 pub mod RefusingLaws
+pub mod PostingLaws

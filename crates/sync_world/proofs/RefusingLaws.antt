@@ -1,14 +1,13 @@
 -- Steps that are refused, and devices that go on, over plain values.
 use Rattle.std.proofs.Common.{◌≡◌, ◌≢◌, ℕ, zero, suc, ◌+◌, ◌<◌, ◌≤◌, Bool, true, false, ◌||◌, List, [], ◌∷◌, length, refl, sym, ap, ◌∙◌, subst, arith, Option, Some, None, Result, Ok, Err}
 use Rattle.std.specs.Prelude.{slice_get, slice_index_or, slice_set}
-use Rattle.sync_ids.specs.Values.{GroupValue, MessageValue}
 use Rattle.world_devices.specs.declared.stop.StepFault.{StepFault}
 use Rattle.world_devices.specs.declared.stop.StepFault.TheVariants as fault
 use Rattle.world_devices.specs.Devices.{DeviceKeeps, DeviceValue}
-use Rattle.world_devices.specs.Refusals.{RefusedBy, refuses_group}
+use Rattle.world_devices.specs.Refusals.{RefusedBy}
 use Rattle.sync_world.specs.Leaving.{DevicesKeep, LeavesAllBut}
-use Rattle.sync_world.specs.Naming.{IsMade, group_of}
-use Rattle.sync_world.specs.Refusing.{is_missing_or, refuses_to_add}
+use Rattle.sync_world.specs.Naming.{IsMade}
+use Rattle.sync_world.specs.Refusing.{refuses_with}
 
 -- ---- lists
 
@@ -46,9 +45,6 @@ set_length (z ∷ xs) (suc i) y = ap suc (set_length xs i y)
 
 -- ---- answers
 
-abbrev Done : Type 0
-Done = Result (Unit {0}) StepFault
-
 pub memory_any : {A : Type 0} (b : Bool) → RefusedBy {A = A} b (Err fault.Memory)
 memory_any true = tt
 memory_any false = tt
@@ -68,6 +64,33 @@ same_fault true fault.Memory by = tt
 same_fault false fault.Refused by = by
 same_fault false fault.Full by = tt
 same_fault false fault.Memory by = tt
+
+pub same_ok : {A B : Type 0} (b : Bool) (x : A) (y : B) → RefusedBy b (Ok x) → RefusedBy b (Ok y)
+same_ok true x y by = by
+same_ok false x y by = tt
+
+-- the same answers
+pub by_same : {A : Type 0} (b b' : Bool) (r : Result A StepFault) → b' ≡ b → RefusedBy b r → RefusedBy b' r
+by_same b b' r same by = subst (λ (x : Bool). RefusedBy x r) (sym same) by
+
+module _ {A : Type 0} (test : A → DeviceValue → Bool) where
+  pub with_none : {B : Type 0} (o : Option A) (device : Option DeviceValue) (f : StepFault) → IsMade o (Err f) → RefusedBy {A = B} (refuses_with test o device) (Err f)
+  with_none None device fault.Refused made = tt
+  with_none None device fault.Full made = made
+  with_none None device fault.Memory made = tt
+  with_none (Some v) device fault.Refused made = absurd made
+  with_none (Some v) device fault.Full made = absurd made
+  with_none (Some v) device fault.Memory made = memory_any (refuses_with test (Some v) device)
+
+  pub with_missing : (o : Option A) (device : Option DeviceValue) → device ≡ None → refuses_with test o device ≡ true
+  with_missing None device missing = refl
+  with_missing (Some v) None missing = refl
+  with_missing (Some v) (Some d) missing = absurd (cc missing)
+
+  pub with_both : (o : Option A) (device : Option DeviceValue) (v : A) (d : DeviceValue) → IsMade o (Ok v) → device ≡ Some d → refuses_with test o device ≡ test v d
+  with_both None device v d made there = absurd made
+  with_both (Some w) None v d made there = absurd (cc there)
+  with_both (Some w) (Some x) v d made there = let at : x ≡ d = cc in cc (made, at)
 
 -- ---- devices that go on
 

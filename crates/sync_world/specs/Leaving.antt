@@ -1,5 +1,5 @@
 -- What a step leaves of the devices and of the labels.
-use Rattle.std.specs.Prelude.{◌≡◌, ◌≢◌, ℕ, true, false, Bool, List, [], ◌∷◌, ◌++◌, length, Option, Some, None, Result, Ok, Err, slice_get}
+use Rattle.std.specs.Prelude.{◌≡◌, ◌≢◌, ℕ, List, [], ◌∷◌, ◌++◌, Option, Some, None, Result, Ok, Err, slice_get}
 use Rattle.sync_ids.specs.Values.{MessageValue}
 use Rattle.sync_ids.specs.Ids.{message_id_of}
 use Rattle.world_devices.specs.declared.stop.StepFault.{StepFault}
@@ -46,17 +46,6 @@ abbrev pub posts_after : WorldStep → Result (Unit {0}) StepFault → List Pair
 posts_after (step.Post d group time parents text) (Ok done) groups posts = with_post (message_of groups posts group time parents text) posts
 posts_after _ _ groups posts = posts
 
--- a step in which a device may add to its journal
-abbrev pub may_fill : WorldStep → Bool
-may_fill (step.Carry link d) = false
-may_fill (step.Lose link d) = false
-may_fill (step.Repeat link d) = false
-may_fill (step.Swap link d) = false
-may_fill (step.Cut link) = false
-may_fill (step.Clock at) = false
-may_fill (step.Stop d calls pick) = false
-may_fill _ = true
-
 -- the same devices, links, labels and fault
 pub record IsSame (old new : Stage) : Type 0 where
   pub devices : new.devices.items ≡ old.devices.items
@@ -64,3 +53,23 @@ pub record IsSame (old new : Stage) : Type 0 where
   pub groups : new.groups ≡ old.groups
   pub posts : new.posts.items ≡ old.posts.items
   pub fault : new.fault ≡ old.fault
+
+-- what a step leaves of the devices and of the labels
+pub record Leaves (made : WorldStep) (result : Result (Unit {0}) StepFault) (old new : Stage) : Type 0 where
+  pub keeps : DevicesKeep old.devices.items new.devices.items
+  pub others : LeavesOthers made old.devices.items new.devices.items
+  pub groups : new.groups ≡ groups_after made result old.groups
+  pub posts : new.posts.items ≡ posts_after made result old.groups old.posts.items
+
+-- the same of a call of one device in the middle of a step, which leaves the labels
+pub record LeavesOne (d : ℕ) (old new : Stage) : Type 0 where
+  pub keeps : DevicesKeep old.devices.items new.devices.items
+  pub others : LeavesAllBut d old.devices.items new.devices.items
+  pub groups : new.groups ≡ old.groups
+  pub posts : new.posts.items ≡ old.posts.items
+
+-- the same of calls of any devices
+pub record LeavesLabels (old new : Stage) : Type 0 where
+  pub keeps : DevicesKeep old.devices.items new.devices.items
+  pub groups : new.groups ≡ old.groups
+  pub posts : new.posts.items ≡ old.posts.items

@@ -1,6 +1,6 @@
 //! The body of a post.
 ghost use Rattle.std.specs.Prelude.{◌≡◌, ◌≤◌, IfOk, length};
-ghost use Rattle.sync_world.specs.Posting.{body_of, ids_of};
+ghost use Rattle.sync_world.specs.Posting.{body_of, head_of, ids_of};
 
 use std::alloc::{AllocError, Global};
 use sync_ids::MessageId;
@@ -21,17 +21,26 @@ pub(crate) fn body_of(
     requires { length parents.now ≤ MAX_DEPS }
     ensures { IfOk result (λ body. body.items ≡ body_of kind parents.now text.now) }
 {
-    let mut body = Vec::new(alloc);
-    match kind {
-        THREAD => body.push(parents.len() as u8)?,
-        FEED if parents.is_empty() => body.extend_from_slice(&NO_ID)?,
-        _ => {}
-    }
+    let mut body = head_of(alloc, kind, parents)?;
     'parents: for parent in parents {
         body.extend_from_slice(parent.as_bytes())?;
     }
     body.extend_from_slice(text)?;
     Ok(body)
+}
+
+// What stands before the ids in such a body.
+fn head_of(alloc: Global, kind: u8, parents: &[MessageId]) -> Result<Vec<u8>, AllocError>
+    requires { length parents.now ≤ MAX_DEPS }
+    ensures { IfOk result (λ head. head.items ≡ head_of kind parents.now) }
+{
+    let mut head = Vec::new(alloc);
+    match kind {
+        THREAD => head.push(parents.len() as u8)?,
+        FEED if parents.is_empty() => head.extend_from_slice(&NO_ID)?,
+        _ => {}
+    }
+    Ok(head)
 }
 
 /// The ids of the posts of these labels, all of which were made.

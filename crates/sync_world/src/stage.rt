@@ -1,9 +1,16 @@
 //! The devices of a world and the links between them, and what steps do to these.
-ghost use Rattle.std.specs.Prelude.{◌≡◌, ◌≢◌, ◌≤◌, true, Err, IfOk, None, Some, slice_get};
+ghost use Rattle.std.specs.Prelude.{◌≡◌, ◌≢◌, ◌≤◌, true, Err, IfOk, IsErrOf, None, Some, is_none};
+ghost use Rattle.std.specs.Prelude.{slice_get};
 ghost use Rattle.sync_world.specs.Beginning.{IsNewWorld};
 ghost use Rattle.sync_rules.specs.Legal.{suits_nonce};
 ghost use Rattle.sync_world.specs.Moving.{Becomes, BecomesOne, LeavesDevices, LinksBecome};
 ghost use Rattle.sync_world.specs.Moving.{fault_after, link_cut, link_moved};
+ghost use Rattle.sync_world.specs.Leaving.{IsSame, Leaves, LeavesLabels, LeavesOne};
+ghost use Rattle.sync_world.specs.Naming.{IsMade, contact_for};
+ghost use Rattle.sync_world.specs.Posting.{message_of};
+ghost use Rattle.sync_world.specs.Refusing.{KnowContacts, has_links, has_room, refuses};
+ghost use Rattle.sync_world.specs.Refusing.{refuses_to_attach};
+ghost use Rattle.world_devices.specs.Refusals.{IsNotRefused, RefusedBy};
 ghost use Rattle.world_devices.specs.declared.stop.StepFault.{StepFault};
 
 use crate::naming::{contact_for, group_def, nonce_for};
@@ -80,6 +87,11 @@ impl Stage {
             self.new.links.items result }
         ensures devices { self.old.fault ≡ None → LeavesDevices step.now self.old.devices.items
             self.new.devices.items }
+        ensures refused { self.old.fault ≡ None → KnowContacts self.old.devices.items
+            → RefusedBy (refuses step.now self.old) result }
+        ensures same { self.old.fault ≡ None → KnowContacts self.old.devices.items
+            → IsErrOf result StepFault.Refused → IsSame self.old self.new }
+        ensures leaves { self.old.fault ≡ None → Leaves step.now result self.old self.new }
     {
         if let Some(fault) = self.fault {
             return Err(fault);
@@ -95,6 +107,11 @@ impl Stage {
     fn make(&mut self, step: &WorldStep) -> Result<(), StepFault>
         ensures links { LinksBecome step.now self.old.links.items self.new.links.items result }
         ensures devices { LeavesDevices step.now self.old.devices.items self.new.devices.items }
+        ensures refused { KnowContacts self.old.devices.items
+            → RefusedBy (refuses step.now self.old) result }
+        ensures same { KnowContacts self.old.devices.items → IsErrOf result StepFault.Refused
+            → IsSame self.old self.new }
+        ensures leaves { Leaves step.now result self.old self.new }
         ensures fault { self.new.fault ≡ self.old.fault }
     {
         match step {
@@ -106,7 +123,10 @@ impl Stage {
                 self.post(*d, *group, *time, parents, text.as_slice())
             }
             WorldStep::Link(d, e, mode, latency) => self.link(*d, *e, *mode, *latency),
-            WorldStep::Turn(d) => self.turn(*d).map(|_| ()),
+            WorldStep::Turn(d) => {
+                self.turn(*d)?;
+                Ok(())
+            }
             WorldStep::Carry(link, d) => self.move_first(*link, *d, Move::Carry),
             WorldStep::Lose(link, d) => self.move_first(*link, *d, Move::Lose),
             WorldStep::Repeat(link, d) => self.move_first(*link, *d, Move::Repeat),
@@ -123,7 +143,10 @@ impl Stage {
 // What devices do by themselves.
 impl Stage {
     fn add_group(&mut self, d: u8, kind: u8, descriptor: &str) -> Result<(), StepFault>
-        ensures { self.new.fault ≡ self.old.fault }
+        ensures fault { self.new.fault ≡ self.old.fault }
+        ensures refused { RefusedBy (refuses (WorldStep.Group d kind descriptor.now) self.old) result }
+        ensures same { IsErrOf result StepFault.Refused → IsSame self.old self.new }
+        ensures leaves { Leaves (WorldStep.Group d kind descriptor.now) result self.old self.new }
     {
         let def = group_def(self.alloc, kind, descriptor)?;
         if d as usize >= self.devices.len() {
@@ -137,7 +160,10 @@ impl Stage {
     }
 
     fn share(&mut self, d: u8, e: u8, group: u64, level: Level) -> Result<(), StepFault>
-        ensures { self.new.fault ≡ self.old.fault }
+        ensures fault { self.new.fault ≡ self.old.fault }
+        ensures refused { KnowContacts self.old.devices.items → RefusedBy (refuses (WorldStep.Share d e group level) self.old) result }
+        ensures same { KnowContacts self.old.devices.items → IsErrOf result StepFault.Refused → IsSame self.old self.new }
+        ensures leaves { Leaves (WorldStep.Share d e group level) result self.old self.new }
     {
         if d == e || e as usize >= self.devices.len() {
             return Err(StepFault::Refused);
@@ -163,7 +189,10 @@ impl Stage {
         parents: &Labels,
         text: &[u8],
     ) -> Result<(), StepFault>
-        ensures { self.new.fault ≡ self.old.fault }
+        ensures fault { self.new.fault ≡ self.old.fault }
+        ensures refused { RefusedBy (refuses (WorldStep.Post d group time parents.now text.now) self.old) result }
+        ensures same { IsErrOf result StepFault.Refused → IsSame self.old self.new }
+        ensures leaves { Leaves (WorldStep.Post d group time parents.now text.now) result self.old self.new }
     {
         let message = self.message_of(group, time, parents, text)?;
         let id = id_of(&message);
@@ -185,7 +214,10 @@ impl Stage {
         time: u64,
         parents: &Labels,
         text: &[u8],
-    ) -> Result<Message, StepFault> {
+    ) -> Result<Message, StepFault>
+        ensures { IsMade (message_of self.now.groups self.now.posts.items group time parents.now
+            text.now) result }
+    {
         let Some((kind, descriptor)) = self.groups.get(group) else {
             return Err(StepFault::Refused);
         };
@@ -203,7 +235,10 @@ impl Stage {
     }
 
     fn set_clock(&mut self, at: u64) -> Result<(), StepFault>
-        ensures { self.new.fault ≡ self.old.fault }
+        ensures fault { self.new.fault ≡ self.old.fault }
+        ensures refused { RefusedBy (refuses (WorldStep.Clock at) self.old) result }
+        ensures same { IsErrOf result StepFault.Refused → IsSame self.old self.new }
+        ensures leaves { Leaves (WorldStep.Clock at) result self.old self.new }
     {
         'devices: for d in 0..self.devices.len() {
             let device = &mut self.devices[d];
@@ -213,7 +248,10 @@ impl Stage {
     }
 
     fn stop(&mut self, d: u8, calls: u64, pick: Pick) -> Result<(), StepFault>
-        ensures { self.new.fault ≡ self.old.fault }
+        ensures fault { self.new.fault ≡ self.old.fault }
+        ensures refused { RefusedBy (refuses (WorldStep.Stop d calls pick) self.old) result }
+        ensures same { IsErrOf result StepFault.Refused → IsSame self.old self.new }
+        ensures leaves { Leaves (WorldStep.Stop d calls pick) result self.old self.new }
     {
         if d as usize >= self.devices.len() {
             return Err(StepFault::Refused);
@@ -224,7 +262,10 @@ impl Stage {
     }
 
     fn restart(&mut self, d: u8) -> Result<(), StepFault>
-        ensures { self.new.fault ≡ self.old.fault }
+        ensures fault { self.new.fault ≡ self.old.fault }
+        ensures refused { RefusedBy (refuses (WorldStep.Restart d) self.old) result }
+        ensures same { IsErrOf result StepFault.Refused → IsSame self.old self.new }
+        ensures leaves { Leaves (WorldStep.Restart d) result self.old self.new }
     {
         if d as usize >= self.devices.len() {
             return Err(StepFault::Refused);
@@ -239,6 +280,8 @@ impl Stage {
     fn came(&mut self, d: u8, ran: Ran)
         ensures devices { self.new.devices.items ≡ self.old.devices.items }
         ensures fault { self.new.fault ≡ self.old.fault }
+        ensures groups { self.new.groups ≡ self.old.groups }
+        ensures posts { self.new.posts.items ≡ self.old.posts.items }
     {
         if ran == Ran::Crashed {
             leave_all(d, self.links.as_mut_slice());
@@ -249,9 +292,15 @@ impl Stage {
 // What goes over links.
 impl Stage {
     fn link(&mut self, d: u8, e: u8, mode: Mode, latency: u32) -> Result<(), StepFault>
-        ensures { self.new.fault ≡ self.old.fault }
+        ensures fault { self.new.fault ≡ self.old.fault }
+        ensures refused { KnowContacts self.old.devices.items → RefusedBy (refuses (WorldStep.Link d e mode latency) self.old) result }
+        ensures same { KnowContacts self.old.devices.items → IsErrOf result StepFault.Refused → IsSame self.old self.new }
+        ensures leaves { Leaves (WorldStep.Link d e mode latency) result self.old self.new }
     {
-        if d == e || latency == 0 || !self.has_room(d) || !self.has_room(e) {
+        if d == e || latency == 0 {
+            return Err(StepFault::Refused);
+        }
+        if !self.has_room(d) || !self.has_room(e) {
             return Err(StepFault::Refused);
         }
         let link = self.links.len();
@@ -266,7 +315,9 @@ impl Stage {
     }
 
     // Whether a device may have a further link.
-    fn has_room(&self, d: u8) -> bool {
+    fn has_room(&self, d: u8) -> bool
+        ensures { result ≡ has_room (slice_get self.now.devices.items d) }
+    {
         match self.devices.get(d as usize) {
             Some(device) => (device.links() as usize) < LINKS,
             None => false,
@@ -274,7 +325,9 @@ impl Stage {
     }
 
     // Whether a device has had a link since it was started.
-    fn has_links(&self, d: u8) -> bool {
+    fn has_links(&self, d: u8) -> bool
+        ensures { result ≡ has_links (slice_get self.now.devices.items d) }
+    {
         match self.devices.get(d as usize) {
             Some(device) => device.links() > 0,
             None => false,
@@ -291,7 +344,11 @@ impl Stage {
     ) -> Result<Ran, StepFault>
         requires latency { 1 ≤ plan.now.latency }
         requires nonce { suits_nonce plan.now.mode nonce ≡ true }
-        ensures { self.new.fault ≡ self.old.fault }
+        ensures fault { self.new.fault ≡ self.old.fault }
+        ensures refused { RefusedBy (refuses_to_attach plan.now.contact
+            (slice_get self.old.devices.items d)) result }
+        ensures same { IsErrOf result StepFault.Refused → IsSame self.old self.new }
+        ensures leaves { LeavesOne d self.old self.new }
     {
         if d as usize >= self.devices.len() {
             return Err(StepFault::Refused);
@@ -310,7 +367,10 @@ impl Stage {
 
     // A turn of a device. Answers whether all its links were still, or nothing where it crashed.
     fn turn(&mut self, d: u8) -> Result<Option<bool>, StepFault>
-        ensures { self.new.fault ≡ self.old.fault }
+        ensures fault { self.new.fault ≡ self.old.fault }
+        ensures refused { RefusedBy (is_none (slice_get self.old.devices.items d)) result }
+        ensures same { IsErrOf result StepFault.Refused → IsSame self.old self.new }
+        ensures leaves { LeavesOne d self.old self.new }
     {
         if d as usize >= self.devices.len() {
             return Err(StepFault::Refused);
@@ -331,6 +391,8 @@ impl Stage {
         ensures links { Becomes (link_moved how d (slice_get self.old.links.items link)) link
             self.old.links.items self.new.links.items result }
         ensures fault { self.new.fault ≡ self.old.fault }
+        ensures groups { self.new.groups ≡ self.old.groups }
+        ensures posts { self.new.posts.items ≡ self.old.posts.items }
     {
         if link >= self.links.len() as u64 {
             return Err(StepFault::Refused);
@@ -343,6 +405,8 @@ impl Stage {
         ensures links { Becomes (link_cut (slice_get self.old.links.items link)) link
             self.old.links.items self.new.links.items result }
         ensures fault { self.new.fault ≡ self.old.fault }
+        ensures groups { self.new.groups ≡ self.old.groups }
+        ensures posts { self.new.posts.items ≡ self.old.posts.items }
     {
         if link >= self.links.len() as u64 {
             return Err(StepFault::Refused);
@@ -351,7 +415,10 @@ impl Stage {
     }
 
     fn rest(&mut self, rounds: u32) -> Result<(), StepFault>
-        ensures { self.new.fault ≡ self.old.fault }
+        ensures fault { self.new.fault ≡ self.old.fault }
+        ensures refused { RefusedBy (refuses (WorldStep.Rest rounds) self.old) result }
+        ensures same { IsErrOf result StepFault.Refused → IsSame self.old self.new }
+        ensures leaves { Leaves (WorldStep.Rest rounds) result self.old self.new }
     {
         if rounds == 0 || u64::from(rounds) > MAX_ROUNDS {
             return Err(StepFault::Refused);
@@ -368,7 +435,9 @@ impl Stage {
     // A turn of each device that has had a link since it was started, and then all that is in
     // flight arrives.
     fn round(&mut self) -> Result<Round, StepFault>
-        ensures { self.new.fault ≡ self.old.fault }
+        ensures fault { self.new.fault ≡ self.old.fault }
+        ensures unrefused { IsNotRefused result }
+        ensures leaves { LeavesLabels self.old self.new }
     {
         let mut still = true;
         'devices: for d in 0..MAX_DEVICES as u8 {
@@ -391,6 +460,7 @@ impl Stage {
 // What a device's session with another one is to be.
 fn plan_for(d: u8, e: u8, mode: Mode, latency: u32) -> Plan
     requires { e ≢ d }
+    ensures contact { result.contact ≡ contact_for d e }
     ensures mode { result.mode ≡ mode }
     ensures latency { result.latency ≡ latency }
 {

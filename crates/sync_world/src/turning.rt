@@ -1,4 +1,6 @@
 //! A device's turn on the links of a world.
+ghost use Rattle.world_devices.specs.Devices.{DeviceKeeps};
+ghost use Rattle.world_devices.specs.Refusals.{IsNotRefused};
 
 use std::alloc::AllocError;
 use world_devices::{Device, StepFault};
@@ -9,8 +11,10 @@ pub(crate) fn plan_all(
     device: &mut Device,
     number: u8,
     links: &mut [Link],
-) -> Result<(), AllocError> {
-    for link in links.iter_mut() {
+) -> Result<(), AllocError>
+    ensures { DeviceKeeps device.old device.new }
+{
+    'links: for link in links.iter_mut() {
         match link.side_of(number) {
             Some(Side::Near) => plan(device, &mut link.near, link.is_cut)?,
             Some(Side::Far) => plan(device, &mut link.far, link.is_cut)?,
@@ -21,7 +25,9 @@ pub(crate) fn plan_all(
 }
 
 // Plans what a link is to answer at this end, where it is still asked there.
-fn plan(device: &mut Device, end: &mut End, is_cut: bool) -> Result<(), AllocError> {
+fn plan(device: &mut Device, end: &mut End, is_cut: bool) -> Result<(), AllocError>
+    ensures { DeviceKeeps device.old device.new }
+{
     match end.at() {
         Some(at) if device.is_asked(at) => {
             let answer = end.answer(is_cut)?;
@@ -66,7 +72,9 @@ pub(crate) fn leave_all(number: u8, links: &mut [Link]) {
 
 /// All that is in flight on links that are not cut arrives, of each link first what the end sent
 /// that dialled. Answers whether that was anything.
-pub(crate) fn carry_all(links: &mut [Link]) -> Result<bool, StepFault> {
+pub(crate) fn carry_all(links: &mut [Link]) -> Result<bool, StepFault>
+    ensures { IsNotRefused result }
+{
     let mut some = false;
     for link in links.iter_mut() {
         if !link.is_cut {
