@@ -1,3 +1,3 @@
 pub mod MovingLaws
-pub mod RefusingLaws
 pub mod PostingLaws
+pub mod RefusingLaws

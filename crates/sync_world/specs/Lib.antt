@@ -5,3 +5,4 @@ pub mod Moving
 pub mod Naming
 pub mod Posting
 pub mod Refusing
+pub mod Codes

@@ -5,7 +5,7 @@ ghost use Rattle.sync_world.specs.Beginning.{IsNewWorld};
 ghost use Rattle.sync_rules.specs.Legal.{suits_nonce};
 ghost use Rattle.sync_world.specs.Moving.{Becomes, BecomesOne, LeavesDevices, LinksBecome};
 ghost use Rattle.sync_world.specs.Moving.{fault_after, link_cut, link_moved};
-ghost use Rattle.sync_world.specs.Leaving.{IsSame, Leaves, LeavesLabels, LeavesOne};
+ghost use Rattle.sync_world.specs.Leaving.{IsSame};
 ghost use Rattle.sync_world.specs.Naming.{IsMade, contact_for};
 ghost use Rattle.sync_world.specs.Posting.{message_of};
 ghost use Rattle.sync_world.specs.Refusing.{KnowContacts, has_links, has_room, refuses};
@@ -91,7 +91,6 @@ impl Stage {
             → RefusedBy (refuses step.now self.old) result }
         ensures same { self.old.fault ≡ None → KnowContacts self.old.devices.items
             → IsErrOf result StepFault.Refused → IsSame self.old self.new }
-        ensures leaves { self.old.fault ≡ None → Leaves step.now result self.old self.new }
     {
         if let Some(fault) = self.fault {
             return Err(fault);
@@ -111,7 +110,6 @@ impl Stage {
             → RefusedBy (refuses step.now self.old) result }
         ensures same { KnowContacts self.old.devices.items → IsErrOf result StepFault.Refused
             → IsSame self.old self.new }
-        ensures leaves { Leaves step.now result self.old self.new }
         ensures fault { self.new.fault ≡ self.old.fault }
     {
         match step {
@@ -146,7 +144,6 @@ impl Stage {
         ensures fault { self.new.fault ≡ self.old.fault }
         ensures refused { RefusedBy (refuses (WorldStep.Group d kind descriptor.now) self.old) result }
         ensures same { IsErrOf result StepFault.Refused → IsSame self.old self.new }
-        ensures leaves { Leaves (WorldStep.Group d kind descriptor.now) result self.old self.new }
     {
         let def = group_def(self.alloc, kind, descriptor)?;
         if d as usize >= self.devices.len() {
@@ -163,7 +160,6 @@ impl Stage {
         ensures fault { self.new.fault ≡ self.old.fault }
         ensures refused { KnowContacts self.old.devices.items → RefusedBy (refuses (WorldStep.Share d e group level) self.old) result }
         ensures same { KnowContacts self.old.devices.items → IsErrOf result StepFault.Refused → IsSame self.old self.new }
-        ensures leaves { Leaves (WorldStep.Share d e group level) result self.old self.new }
     {
         if d == e || e as usize >= self.devices.len() {
             return Err(StepFault::Refused);
@@ -192,7 +188,6 @@ impl Stage {
         ensures fault { self.new.fault ≡ self.old.fault }
         ensures refused { RefusedBy (refuses (WorldStep.Post d group time parents.now text.now) self.old) result }
         ensures same { IsErrOf result StepFault.Refused → IsSame self.old self.new }
-        ensures leaves { Leaves (WorldStep.Post d group time parents.now text.now) result self.old self.new }
     {
         let message = self.message_of(group, time, parents, text)?;
         let id = id_of(&message);
@@ -238,7 +233,6 @@ impl Stage {
         ensures fault { self.new.fault ≡ self.old.fault }
         ensures refused { RefusedBy (refuses (WorldStep.Clock at) self.old) result }
         ensures same { IsErrOf result StepFault.Refused → IsSame self.old self.new }
-        ensures leaves { Leaves (WorldStep.Clock at) result self.old self.new }
     {
         'devices: for d in 0..self.devices.len() {
             let device = &mut self.devices[d];
@@ -251,7 +245,6 @@ impl Stage {
         ensures fault { self.new.fault ≡ self.old.fault }
         ensures refused { RefusedBy (refuses (WorldStep.Stop d calls pick) self.old) result }
         ensures same { IsErrOf result StepFault.Refused → IsSame self.old self.new }
-        ensures leaves { Leaves (WorldStep.Stop d calls pick) result self.old self.new }
     {
         if d as usize >= self.devices.len() {
             return Err(StepFault::Refused);
@@ -265,7 +258,6 @@ impl Stage {
         ensures fault { self.new.fault ≡ self.old.fault }
         ensures refused { RefusedBy (refuses (WorldStep.Restart d) self.old) result }
         ensures same { IsErrOf result StepFault.Refused → IsSame self.old self.new }
-        ensures leaves { Leaves (WorldStep.Restart d) result self.old self.new }
     {
         if d as usize >= self.devices.len() {
             return Err(StepFault::Refused);
@@ -295,7 +287,6 @@ impl Stage {
         ensures fault { self.new.fault ≡ self.old.fault }
         ensures refused { KnowContacts self.old.devices.items → RefusedBy (refuses (WorldStep.Link d e mode latency) self.old) result }
         ensures same { KnowContacts self.old.devices.items → IsErrOf result StepFault.Refused → IsSame self.old self.new }
-        ensures leaves { Leaves (WorldStep.Link d e mode latency) result self.old self.new }
     {
         if d == e || latency == 0 {
             return Err(StepFault::Refused);
@@ -348,7 +339,6 @@ impl Stage {
         ensures refused { RefusedBy (refuses_to_attach plan.now.contact
             (slice_get self.old.devices.items d)) result }
         ensures same { IsErrOf result StepFault.Refused → IsSame self.old self.new }
-        ensures leaves { LeavesOne d self.old self.new }
     {
         if d as usize >= self.devices.len() {
             return Err(StepFault::Refused);
@@ -370,7 +360,6 @@ impl Stage {
         ensures fault { self.new.fault ≡ self.old.fault }
         ensures refused { RefusedBy (is_none (slice_get self.old.devices.items d)) result }
         ensures same { IsErrOf result StepFault.Refused → IsSame self.old self.new }
-        ensures leaves { LeavesOne d self.old self.new }
     {
         if d as usize >= self.devices.len() {
             return Err(StepFault::Refused);
@@ -418,7 +407,6 @@ impl Stage {
         ensures fault { self.new.fault ≡ self.old.fault }
         ensures refused { RefusedBy (refuses (WorldStep.Rest rounds) self.old) result }
         ensures same { IsErrOf result StepFault.Refused → IsSame self.old self.new }
-        ensures leaves { Leaves (WorldStep.Rest rounds) result self.old self.new }
     {
         if rounds == 0 || u64::from(rounds) > MAX_ROUNDS {
             return Err(StepFault::Refused);
@@ -437,7 +425,6 @@ impl Stage {
     fn round(&mut self) -> Result<Round, StepFault>
         ensures fault { self.new.fault ≡ self.old.fault }
         ensures unrefused { IsNotRefused result }
-        ensures leaves { LeavesLabels self.old self.new }
     {
         let mut still = true;
         'devices: for d in 0..MAX_DEVICES as u8 {
@@ -472,7 +459,9 @@ fn plan_for(d: u8, e: u8, mode: Mode, latency: u32) -> Plan
 }
 
 // A device has a link under this number, and what it sent there is in flight.
-fn attach_end(d: u8, at: u8, session: u32, sent: &[u8], link: &mut Link) -> Result<(), StepFault> {
+fn attach_end(d: u8, at: u8, session: u32, sent: &[u8], link: &mut Link) -> Result<(), StepFault>
+    ensures { IsNotRefused result }
+{
     match link.side_of(d) {
         Some(Side::Near) => {
             link.near.attach(at, session);

@@ -1,5 +1,4 @@
 //! A device's turn on the links of a world.
-ghost use Rattle.world_devices.specs.Devices.{DeviceKeeps};
 ghost use Rattle.world_devices.specs.Refusals.{IsNotRefused};
 
 use std::alloc::AllocError;
@@ -11,10 +10,8 @@ pub(crate) fn plan_all(
     device: &mut Device,
     number: u8,
     links: &mut [Link],
-) -> Result<(), AllocError>
-    ensures { DeviceKeeps device.old device.new }
-{
-    'links: for link in links.iter_mut() {
+) -> Result<(), AllocError> {
+    for link in links.iter_mut() {
         match link.side_of(number) {
             Some(Side::Near) => plan(device, &mut link.near, link.is_cut)?,
             Some(Side::Far) => plan(device, &mut link.far, link.is_cut)?,
@@ -25,9 +22,7 @@ pub(crate) fn plan_all(
 }
 
 // Plans what a link is to answer at this end, where it is still asked there.
-fn plan(device: &mut Device, end: &mut End, is_cut: bool) -> Result<(), AllocError>
-    ensures { DeviceKeeps device.old device.new }
-{
+fn plan(device: &mut Device, end: &mut End, is_cut: bool) -> Result<(), AllocError> {
     match end.at() {
         Some(at) if device.is_asked(at) => {
             let answer = end.answer(is_cut)?;

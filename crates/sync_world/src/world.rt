@@ -20,8 +20,11 @@ pub struct World {
 
 impl Model for World {
     ghost use Rattle.sync_world.specs.declared.stage.Stage.{Stage};
+    ghost use Rattle.sync_world.specs.Codes.{stage_code};
 
     ghost Value = { Stage };
+
+    ghost coded = { stage_code };
 
     ghost view = { λ w. w.stage };
 }

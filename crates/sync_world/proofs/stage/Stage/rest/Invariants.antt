@@ -1,9 +1,5 @@
 use Rattle.std.proofs.Common.{◌≡◌}
-use Rattle.sync_world.specs.Leaving.{LeavesLabels}
 use Rattle.sync_world.proofs.stage.Stage.rest.Given as goal
 
 abbrev pub invariant-rounds : goal.invariant-rounds
-invariant-rounds l = record {
-  fault : l.self.fault ≡ l.initial.self.fault;
-  leaves : LeavesLabels l.initial.self l.self;
-}
+invariant-rounds l = l.self.fault ≡ l.initial.self.fault

@@ -1,9 +1,5 @@
 use Rattle.std.proofs.Common.{◌≡◌}
-use Rattle.sync_world.specs.Leaving.{LeavesLabels}
 use Rattle.sync_world.proofs.stage.Stage.round.Given as goal
 
 abbrev pub invariant-devices : goal.invariant-devices
-invariant-devices l = record {
-  fault : l.self.fault ≡ l.initial.self.fault;
-  leaves : LeavesLabels l.initial.self l.self;
-}
+invariant-devices l = l.self.fault ≡ l.initial.self.fault
