@@ -5,7 +5,7 @@ use Rattle.sync_world.proofs.stage.Stage.attach.Goals as goal
 
 pub returns-in_err-session-clause-refused : goal.returns-in_err-session-clause-refused
 returns-in_err-session-clause-refused c =
-    let by : RefusedBy (refuses_link c.index_mut-device.result.now.node c.index_mut-device.result.now.links c.args.plan.now.contact) c.from_residual-in_err-session.result = search rules in
+    let by : RefusedBy (refuses_link c.index_mut-device.result.now.node c.index_mut-device.result.now.links c.args.plan.now.contact) c.from_residual.result = search rules in
     by_same (refuses_link c.index_mut-device.result.now.node c.index_mut-device.result.now.links c.args.plan.now.contact) _ _
     (attach_at c.args.plan.now.contact (slice_get c.args.self.now.devices.items c.args.d) c.index_mut-device.result.now (get_at c.args.self.now.devices.items c.args.d c.index_mut-device.result.now (omega arith) c.index_mut-device.ensures.value)) by
 
