@@ -1,2 +1,3 @@
 pub mod MovingLaws
+pub mod PostingLaws
 pub mod RefusingLaws

@@ -6,7 +6,8 @@ ghost use Rattle.sync_rules.specs.Legal.{suits_nonce};
 ghost use Rattle.sync_world.specs.Moving.{Becomes, BecomesOne, LeavesDevices, LinksBecome};
 ghost use Rattle.sync_world.specs.Moving.{fault_after, link_cut, link_moved};
 ghost use Rattle.sync_world.specs.Leaving.{IsSame};
-ghost use Rattle.sync_world.specs.Naming.{contact_for};
+ghost use Rattle.sync_world.specs.Naming.{IsMade, contact_for};
+ghost use Rattle.sync_world.specs.Posting.{message_of};
 ghost use Rattle.sync_world.specs.Refusing.{KnowContacts, has_links, has_room, refuses};
 ghost use Rattle.sync_world.specs.Refusing.{refuses_to_attach};
 ghost use Rattle.world_devices.specs.Refusals.{IsNotRefused, RefusedBy};
@@ -179,6 +180,8 @@ impl Stage {
         text: &[u8],
     ) -> Result<(), StepFault>
         ensures fault { self.new.fault ≡ self.old.fault }
+        ensures refused { RefusedBy (refuses (WorldStep.Post d group time parents.now text.now)
+            self.old) result }
         ensures same { IsErrOf result StepFault.Refused → IsSame self.old self.new }
     {
         let message = self.message_of(group, time, parents, text)?;
@@ -201,7 +204,10 @@ impl Stage {
         time: u64,
         parents: &Labels,
         text: &[u8],
-    ) -> Result<Message, StepFault> {
+    ) -> Result<Message, StepFault>
+        ensures { IsMade (message_of self.now.groups self.now.posts.items group time parents.now
+            text.now) result }
+    {
         let Some((kind, descriptor)) = self.groups.get(group) else {
             return Err(StepFault::Refused);
         };
