@@ -1,6 +1,6 @@
 -- The body of a post, and the ids of its parents, one behind the other.
 use Rattle.std.proofs.Common.{◌≡◌, ℕ, List, [], ◌∷◌, ◌++◌, refl, sym, ap, ◌∙◌, ◌≤◌, zero, suc, length, drop, subst, arith, append-nil, append_assoc, Option, Some, None, eqb-true}
-use Rattle.std.specs.Prelude.{◌<◌, ◌==◌, ◌&&◌, Bool, true, false, not, if◌then◌else◌, nat_le, Result, Ok, Err, IsErrOf}
+use Rattle.std.specs.Prelude.{◌<◌, ◌==◌, ◌&&◌, Bool, true, false, not, if◌then◌else◌, nat_le, Result, Err, IsErrOf}
 use Rattle.std.specs.Prelude.{flat_map, option_to_list, slice_get}
 use Rattle.std.proofs.lemmas.Bool.{leb-true, lt-leb}
 use Rattle.std.proofs.lemmas.List.{length-append}
@@ -10,7 +10,6 @@ use Rattle.sync_ids.specs.declared.message.MessageFault.{MessageFault}
 use Rattle.sync_ids.specs.declared.message.MessageFault.TheVariants as message
 use Rattle.sync_ids.specs.declared.message.TheConstants.{MAX_BODY, MAX_TIMESTAMP}
 use Rattle.sync_rules.specs.declared.limits.TheConstants.{MAX_DEPS}
-use Rattle.world_devices.specs.declared.stop.StepFault.{StepFault}
 use Rattle.world_devices.specs.declared.stop.StepFault.TheVariants as fault
 use Rattle.world_scripts.specs.Labels.{Pair, are_made, has_twice, suits_kind}
 use Rattle.world_scripts.specs.declared.step.TheConstants.{NOTE, THREAD, FEED}

@@ -1,4 +1,4 @@
-use Rattle.std.proofs.Common.{rules, ◌≡◌, ◌≤◌, ◌<◌, ◌++◌, [], ◌∷◌, length, arith, None, Some, slice_get, slice_index_or}
+use Rattle.std.proofs.Common.{rules, ◌≡◌, ◌≤◌, ◌<◌, ◌++◌, [], ◌∷◌, length, slice_get, slice_index_or}
 use Rattle.sync_world.proofs.PostingLaws.{none_comes, some_comes}
 use Rattle.sync_world.proofs.RefusingLaws.{get_at, get_past}
 use Rattle.sync_world.proofs.posting.add_post.Goals as goal

@@ -1,4 +1,4 @@
-use Rattle.std.proofs.Common.{rules, ◌≡◌, ◌++◌, sym, ◌∙◌, arith}
+use Rattle.std.proofs.Common.{rules, ◌≡◌, ◌++◌, ◌∙◌, arith}
 use Rattle.sync_world.proofs.PostingLaws.{body_is}
 use Rattle.sync_world.proofs.posting.body_of.Goals as goal
 

@@ -1,4 +1,4 @@
-use Rattle.std.proofs.Common.{rules, ◌≡◌, ◌≤◌, true, length, sym, ◌∙◌, Some, slice_get}
+use Rattle.std.proofs.Common.{rules, ◌≡◌, ◌≤◌, true, length}
 use Rattle.world_scripts.specs.Labels.{suits_kind}
 use Rattle.sync_world.specs.Posting.{body_of, ids_of}
 use Rattle.sync_world.proofs.PostingLaws.{body_some, ids_fit, over, unfit_refused}

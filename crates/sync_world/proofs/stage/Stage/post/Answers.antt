@@ -1,4 +1,4 @@
-use Rattle.std.proofs.Common.{rules, ◌≡◌, ◌<◌, length, true, arith, Some, slice_get, Ok}
+use Rattle.std.proofs.Common.{rules, true, arith, slice_get}
 use Rattle.world_devices.specs.Devices.{DeviceValue}
 use Rattle.world_devices.specs.Refusals.{RefusedBy, refuses_message}
 use Rattle.sync_ids.specs.Values.{MessageValue}
