@@ -155,7 +155,7 @@ seat_heard laws w devices links d old n s is running session r own inside =
             own = shown.shown.near.device ∙ near.1;
             on = shown.shown.near.session ∙ (ap (λ (e : EndValue). e.session) near.0 ∙ on);
             inside = given_front_records laws seat.link.near shown.link.near (brought_on old.host (session - n.first)) r shown.shown.near
-            (subst (λ (e : EndValue). IsFront (brought_on old.host (session - n.first)) e.given) (sym near.0) front) inside;
+                (subst (λ (e : EndValue). IsFront (brought_on old.host (session - n.first)) e.given) (sym near.0) front) inside;
           }
       | inr far ↦
           record {
@@ -166,7 +166,7 @@ seat_heard laws w devices links d old n s is running session r own inside =
             own = shown.shown.far.device ∙ far.1.0;
             on = shown.shown.far.session ∙ (ap (λ (e : EndValue). e.session) far.0 ∙ on);
             inside = given_front_records laws seat.link.far shown.link.far (brought_on old.host (session - n.first)) r shown.shown.far
-            (subst (λ (e : EndValue). IsFront (brought_on old.host (session - n.first)) e.given) (sym far.0) front) inside;
+                (subst (λ (e : EndValue). IsFront (brought_on old.host (session - n.first)) e.given) (sym far.0) front) inside;
           }
     ] in
     given_heard d session w.links r given
@@ -200,7 +200,7 @@ device_ran laws w devices links d old new s is runs =
     record {
       journal = journal_at w d ++ comes.more;
       reached = run_reached bundle_meaning d w.journals w.links w.links (journal_at w d ++ comes.more) comes.more (records_for old) within refl comes.allowed comes.all_heard
-      (λ session r inside. node_heard laws w devices links d old old.node s is refl session r inside) (links_same d (journal_at w d ++ comes.more) w.links);
+          (λ session r inside. node_heard laws w devices links d old old.node s is refl session r inside) (links_same d (journal_at w d ++ comes.more) w.links);
       reads = comes.reads;
       holds = comes.holds;
       legal = legal-append bundle_meaning (journal_at w d) comes.more up.legal comes.allowed;
@@ -242,7 +242,7 @@ kept_leads laws grows w devices links d old new s is runs running keeps =
         shown = s.shown;
         placed = subst (λ (n : ℕ). ArePlaced n links) (sym (set_length devices d new)) s.placed;
         wired = wired_set w.journals devices links links d ran.journal new within
-        (kept_wired grows ran.journal (journal_at w d) d old new links ran.legal ran.extends keeps (s.wired d old is)) (λ e other apart there. s.wired e other there);
+            (kept_wired grows ran.journal (journal_at w d) d old new links ran.legal ran.extends keeps (s.wired d old is)) (λ e other apart there. s.wired e other there);
       };
     }
 
@@ -318,16 +318,16 @@ crashed_leads laws w devices links d old new s is runs running unlinked =
     record {
       after = world_of (slice_set w.journals d ran.journal) (map (left_link d) w.links);
       reached = reaches_then bundle_meaning w (world_of (slice_set w.journals d ran.journal) w.links) (world_of (slice_set w.journals d ran.journal) (map (left_link d) w.links)) ran.reached
-      left.reached;
+          left.reached;
       read = up_read (slice_set w.journals d ran.journal) (slice_set devices d new) ups;
       shown = λ same. record {
         up = ups;
         shown = shown_all_left d links w.links s.shown;
         placed = subst (λ (n : ℕ). ArePlaced n (map (left_by d) links)) (sym (set_length devices d new)) (placed_left d (length devices) links s.placed);
         wired = wired_set w.journals devices links (map (left_by d) links) d ran.journal new within
-        (unlinked_wired ran.journal d new (map (left_by d) links) unlinked
-        (λ i l there. let from = map_from (left_by d) links i l there in sym (ap (place_on d) from.is) ∙ left_place d from.link))
-        (λ e other apart there.
+            (unlinked_wired ran.journal d new (map (left_by d) links) unlinked
+            (λ i l there. let from = map_from (left_by d) links i l there in sym (ap (place_on d) from.is) ∙ left_place d from.link))
+            (λ e other apart there.
             all_wired (journal_in w.journals e) e (length devices) other links (map (left_by d) links) (all_map e (left_by d) links (λ l. left_moves e d l apart)) s.placed
             (s.wired e other there));
       };

@@ -55,7 +55,7 @@ new_place : (k d e : ℕ) → place_on k (new_link d e) ≡ None
 new_place k d e =
     elim (d == k) as (λ b. place_in (if b then Some (byte_end d) else if e == k then Some (byte_end e) else None) ≡ None) [
       | true ↦ refl
-      | false ↦ elim (e == k) as (λ b. place_in (if b then Some (byte_end e) else None) ≡ None) [ | true ↦ refl | false ↦ refl ]
+      | false ↦ elim (e == k) as (λ b. place_in (if b then Some (byte_end e) else None) ≡ None) [ true ↦ refl | false ↦ refl ]
     ]
 
 new_wired : (j : Journal) (k d e : ℕ) (device : DeviceValue) (ls : List Link) → AreWired j k device ls → AreWired j k device (ls ++ new_link d e ∷ [])
@@ -282,18 +282,18 @@ attached_leads laws grows w devices links d far i session contact old new s is r
     record {
       after = world_of (slice_set w.journals d ran.journal) (slice_set w.links i shows.link);
       reached = reaches_then bundle_meaning w (world_of (slice_set w.journals d ran.journal) w.links) (world_of (slice_set w.journals d ran.journal) (slice_set w.links i shows.link)) ran.reached
-      (ran_links d (slice_set w.journals d ran.journal) w.links (slice_set w.links i shows.link) links_run);
+          (ran_links d (slice_set w.journals d ran.journal) w.links (slice_set w.links i shows.link) links_run);
       read = up_read (slice_set w.journals d ran.journal) (slice_set devices d new) ups;
       shown = λ unharmed. record {
         up = ups;
         shown = shown_set links w.links i (with_end fresh.from (begun_end old.links session (end_of fresh.from fresh.link)) fresh.link) shows.link shows.shown s.shown;
         placed = subst (λ (n : ℕ). ArePlaced n (slice_set links i (with_end fresh.from (begun_end old.links session (end_of fresh.from fresh.link)) fresh.link))) (sym (set_length devices d new))
-        (all_placed (suc d) (length devices) links (slice_set links i (with_end fresh.from (begun_end old.links session (end_of fresh.from fresh.link)) fresh.link))
-        (all_set (suc d) i links fresh.link (with_end fresh.from (begun_end old.links session (end_of fresh.from fresh.link)) fresh.link) fresh.stands (begun.moves (suc d) (λ e. omega arith))) s.placed);
+            (all_placed (suc d) (length devices) links (slice_set links i (with_end fresh.from (begun_end old.links session (end_of fresh.from fresh.link)) fresh.link))
+            (all_set (suc d) i links fresh.link (with_end fresh.from (begun_end old.links session (end_of fresh.from fresh.link)) fresh.link) fresh.stands (begun.moves (suc d) (λ e. omega arith))) s.placed);
         wired = wired_set w.journals devices links (slice_set links i (with_end fresh.from (begun_end old.links session (end_of fresh.from fresh.link)) fresh.link)) d ran.journal new within
-        (begun_wired grows ran.journal (journal_at w d) d session contact old new links i fresh.link (with_end fresh.from (begun_end old.links session (end_of fresh.from fresh.link)) fresh.link) ran.legal
-        ran.extends adds fresh.stands begun (s.wired d old is))
-        (λ e x apart there.
+            (begun_wired grows ran.journal (journal_at w d) d session contact old new links i fresh.link (with_end fresh.from (begun_end old.links session (end_of fresh.from fresh.link)) fresh.link) ran.legal
+            ran.extends adds fresh.stands begun (s.wired d old is))
+            (λ e x apart there.
             all_wired (journal_in w.journals e) e (length devices) x links (slice_set links i (with_end fresh.from (begun_end old.links session (end_of fresh.from fresh.link)) fresh.link))
             (all_set e i links fresh.link (with_end fresh.from (begun_end old.links session (end_of fresh.from fresh.link)) fresh.link) fresh.stands (begun.moves e apart)) s.placed (s.wired e x there));
       };

@@ -77,7 +77,7 @@ near_own d l is =
     elim (l.near.device == d) as (λ b. (l.near.device == d) ≡ b → (if b then Some side.Near else if l.far.device == d then Some side.Far else None) ≡ Some side.Near → l.near.device ≡ d) [
       | true ↦ λ near e. eqb-true l.near.device d near
       | false ↦ λ near e.
-          elim (l.far.device == d) as (λ b. (if b then Some side.Far else None) ≡ Some side.Near → l.near.device ≡ d) [ | true ↦ λ no. cc | false ↦ λ no. cc ] e
+          elim (l.far.device == d) as (λ b. (if b then Some side.Far else None) ≡ Some side.Near → l.near.device ≡ d) [ true ↦ λ no. cc | false ↦ λ no. cc ] e
     ] refl is
 
 pub far_own : (d : ℕ) (l : Link) → side_of d l ≡ Some side.Far → (l.far.device ≡ d) × (l.near.device ≡ d → ⊥)
@@ -245,7 +245,7 @@ shown_on w devices links d a i old new l l' is there files p s =
       up = up_device w.journals devices d new s.up (up_same (journal_at w d) old new files p.brings.same_node p.brings.same_links (s.up.each d old is));
       shown = subst (λ (xs : List RecordLink). ShowsLinks (slice_set links i l') xs) (link_back w.links i at.link at.stands) (shown_set links w.links i l' at.link (p.shows at.link at.shown) s.shown);
       placed = subst (λ (n : ℕ). ArePlaced n (slice_set links i l')) (sym (set_length devices d new))
-      (all_placed (suc d) (length devices) links (slice_set links i l') (all_set (suc d) i links l l' there (p.moves (suc d) (λ same. omega arith))) s.placed);
+          (all_placed (suc d) (length devices) links (slice_set links i l') (all_set (suc d) i links l l' there (p.moves (suc d) (λ same. omega arith))) s.placed);
       wired = λ e other got.
           elim (get_cases devices d e new other got) [
             | inl (same, here) ↦

@@ -115,7 +115,7 @@ begun_world contacts clock s all unlinked =
       start = world_of b.journals [];
       new = first_new bundle_meaning b.journals b.new;
       stands = subst (λ (ls : List Link). LeadsOn (world_of b.journals []) (is_harmed s.fault) s.devices.items ls) (sym unlinked)
-      (same_leads (world_of b.journals []) (is_harmed s.fault) s.devices.items [] shown);
+          (same_leads (world_of b.journals []) (is_harmed s.fault) s.devices.items [] shown);
     }
 
 pub all_one_more : (contacts clock : ℕ) (xs : List DeviceValue) (x : DeviceValue) → AllByRecursion (IsNewDevice contacts clock) xs → IsNewDevice contacts clock x

@@ -22,7 +22,6 @@ pub struct World {
 
 impl Model for World {
     ghost use Rattle.sync_world.specs.declared.stage.Stage.{Stage};
-
     ghost use Rattle.sync_world.specs.Codes.{stage_code};
 
     ghost Value = { Stage };

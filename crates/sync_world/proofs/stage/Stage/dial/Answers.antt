@@ -12,7 +12,7 @@ returns-in_err-push-clause-goes c = λ w s. leads_err _ fault.Memory w _ _ c.fro
 pub returns-clause-goes : goal.returns-clause-goes
 returns-clause-goes c =
     λ w s. leads_links w false _ (c.args.self.now.links.items ++ new_link c.args.d c.args.e ∷ []) _ (c.in_ok-push.ensures.items ∙ ap (λ l. c.args.self.now.links.items ++ l ∷ []) c.new.ensures)
-        (linked_leads w c.args.self.now.devices.items c.args.self.now.links.items c.args.d c.args.e s c.requires.two c.requires.near c.requires.far)
+    (linked_leads w c.args.self.now.devices.items c.args.self.now.links.items c.args.d c.args.e s c.requires.two c.requires.near c.requires.far)
 
 pub returns-clause-fresh : goal.returns-clause-fresh
 returns-clause-fresh c =

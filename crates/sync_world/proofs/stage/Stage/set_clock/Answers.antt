@@ -26,8 +26,8 @@ returns-in_err-set_clock-clause-goes c =
     let within : c.devices.d < length c.devices.self.devices.items = omega (arith, c.devices.invariant.number) in
     let laws = c.cite_laws.ensures in
     λ w s. leads_err _ fault.Memory w _ _ c.from_residual.ensures.1 (leads_then w _ c.devices.self.devices.items _ c.devices.self.links.items _ (c.devices.invariant.goes w s)
-        (λ v shown. ends_leads laws.records laws.grows c.devices.self.devices.items c.devices.self.links.items c.devices.d c.index_mut-device.result.now
-        c.set_clock.new.self within c.index_mut-device.ensures.value c.set_clock.ensures.runs _ v shown))
+    (λ v shown. ends_leads laws.records laws.grows c.devices.self.devices.items c.devices.self.links.items c.devices.d c.index_mut-device.result.now
+    c.set_clock.new.self within c.index_mut-device.ensures.value c.set_clock.ensures.runs _ v shown))
 
 pub returns-clause-goes : goal.returns-clause-goes
 returns-clause-goes c = c.devices.invariant.goes
