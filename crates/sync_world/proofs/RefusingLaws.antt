@@ -3,7 +3,7 @@ use Rattle.std.proofs.Common.{◌≡◌, ◌≢◌, ℕ, zero, suc, ◌+◌, ◌
 use Rattle.std.specs.Prelude.{slice_get, slice_index_or, slice_set}
 use Rattle.world_devices.specs.declared.stop.StepFault.{StepFault}
 use Rattle.world_devices.specs.declared.stop.StepFault.TheVariants as fault
-use Rattle.std.specs.Prelude.{◌==◌, not, is_none, is_some, nat_le, nat_lt, if◌then◌else◌}
+use Rattle.std.specs.Prelude.{IsErrOf, ◌==◌, not, is_none, is_some, nat_le, nat_lt, if◌then◌else◌}
 use Rattle.std.proofs.lemmas.Bool.{lt-ltb, lt-leb, ltb-false, ltb-true, ne_eqb}
 use Rattle.outside.specs.declared.limits.TheConstants.{LINKS}
 use Rattle.sync_ids.specs.Values.{GroupValue}
@@ -204,3 +204,21 @@ nots true false first second = absurd (cc second)
 pub link_open : (d e latency : ℕ) (a b : Bool) → d ≢ e → latency ≢ 0 → a ≡ true → b ≡ true → ((d == e) || ((latency == 0) || (not a || not b))) ≡ false
 link_open d e latency a b other some first second =
     or_false (d == e) (latency == 0) (not a || not b) (ne_eqb d e other) (ne_eqb latency 0 some) ∙ nots a b first second
+
+pub never : {A : Type 0} (r : Result A StepFault) → RefusedBy false r → IsErrOf r fault.Refused → ⊥
+never (Ok a) by is = is
+never (Err fault.Refused) by is = by
+never (Err fault.Full) by is = absurd (cc is)
+never (Err fault.Memory) by is = absurd (cc is)
+
+-- a fault that is not refused is none in any answer
+pub err_passes : {A B : Type 0} (e : StepFault) (r : Result B StepFault) → r ≡ Err e → RefusedBy {A = A} false (Err e) → RefusedBy false r
+err_passes {A} {B} fault.Refused r is by = absurd by
+err_passes {A} {B} fault.Full r is by = subst (λ (x : Result B StepFault). RefusedBy false x) (sym is) tt
+err_passes {A} {B} fault.Memory r is by = subst (λ (x : Result B StepFault). RefusedBy false x) (sym is) tt
+
+-- the far device of a link, too, is asked to attach and may
+pub far_allowed : (ds ds' : List DeviceValue) (d e : ℕ) → KnowContacts ds → d ≢ e → d < length ds → e < length ds → has_room (slice_get ds e) ≡ true → slice_get ds' e ≡ slice_get ds e
+    → refuses_to_attach (contact_for e d) (slice_get ds' e) ≡ false
+far_allowed ds ds' d e known other first second room same =
+    ap (λ (o : Option DeviceValue). refuses_to_attach (contact_for e d) o) same ∙ attach_allowed ds e d known (λ is. other (sym is)) second first room

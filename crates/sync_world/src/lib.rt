@@ -4,6 +4,7 @@
 //!
 //! - `world`: the world and its steps.
 //! - `stage`: its devices and links, and what each step does to these.
+//! - `laws`: the laws of the crates below that proofs rest on.
 //! - `naming`: what devices, groups and messages of a world are called.
 //! - `posting`: the body of a post.
 //! - `turning`: a device's turn, and rounds of turns.

@@ -94,6 +94,10 @@ impl Stage {
             self.new.links.items result }
         ensures devices { self.old.fault ≡ None → LeavesDevices step.now self.old.devices.items
             self.new.devices.items }
+        ensures refused { self.old.fault ≡ None → KnowContacts self.old.devices.items
+            → RefusedBy (refuses step.now self.old) result }
+        ensures same { self.old.fault ≡ None → KnowContacts self.old.devices.items
+            → IsErrOf result StepFault.Refused → IsSame self.old self.new }
     {
         if let Some(fault) = self.fault {
             return Err(fault);
@@ -111,6 +115,10 @@ impl Stage {
         ensures devices { LeavesDevices step.now self.old.devices.items self.new.devices.items }
         ensures fault { self.new.fault ≡ self.old.fault }
         ensures goes { Goes (is_fatal result) self.old self.new }
+        ensures refused { KnowContacts self.old.devices.items
+            → RefusedBy (refuses step.now self.old) result }
+        ensures same { KnowContacts self.old.devices.items → IsErrOf result StepFault.Refused
+            → IsSame self.old self.new }
     {
         match step {
             WorldStep::Group(d, kind, descriptor) => {
@@ -329,6 +337,8 @@ impl Stage {
         ensures goes { Goes (is_fatal result) self.old self.new }
         ensures fresh { IfOk result (λ link. HasFreshEnd d e link self.new.links.items) }
         ensures other { IfOk result (λ link. HasFreshEnd e d link self.new.links.items) }
+        ensures devices { self.new.devices.items ≡ self.old.devices.items }
+        ensures unrefused { IsNotRefused result }
     {
         let link = self.links.len();
         self.links.push(Link::new(self.alloc, d, e))?;
@@ -376,6 +386,8 @@ impl Stage {
         ensures refused { RefusedBy (refuses_to_attach plan.now.contact
             (slice_get self.old.devices.items d)) result }
         ensures same { IsErrOf result StepFault.Refused → IsSame self.old self.new }
+        ensures others { (k : ℕ) → k ≢ d
+            → slice_get self.new.devices.items k ≡ slice_get self.old.devices.items k }
     {
         cite_laws();
         if d as usize >= self.devices.len() {
