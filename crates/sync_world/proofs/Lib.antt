@@ -24,3 +24,6 @@ pub mod RestLaws
 pub mod LookGo
 pub mod StepLaws
 pub mod MoveGo
+
+pub mod PostingLaws
+pub mod RefusingLaws

@@ -11,3 +11,8 @@ pub mod Shown
 pub mod Standing
 pub mod Turning
 pub mod Staging
+
+pub mod Leaving
+pub mod Naming
+pub mod Posting
+pub mod Refusing

@@ -1,6 +1,6 @@
 //! The devices of a world and the links between them, and what steps do to these.
-ghost use Rattle.std.specs.Prelude.{◌≡◌, ◌≢◌, ◌<◌, ◌≤◌, ℕ, true, Err, IfOk, None, OnOk, Some};
-ghost use Rattle.std.specs.Prelude.{length, map, slice_get};
+ghost use Rattle.std.specs.Prelude.{◌≡◌, ◌≢◌, ◌<◌, ◌≤◌, ℕ, true, Err, IfOk, IsErrOf, None, OnOk, Some};
+ghost use Rattle.std.specs.Prelude.{is_none, length, map, slice_get};
 ghost use Rattle.sync_world.specs.Beginning.{IsNewWorld};
 ghost use Rattle.sync_world.specs.Shown.{arrived};
 ghost use Rattle.sync_world.specs.Staging.{HasFreshEnd, IsDone, after_ran, attached_at, begun_with};
@@ -9,6 +9,12 @@ ghost use Rattle.sync_world.specs.Standing.{Goes, IsWorld, is_fatal};
 ghost use Rattle.sync_rules.specs.Legal.{suits_nonce};
 ghost use Rattle.sync_world.specs.Moving.{Becomes, BecomesOne, LeavesDevices, LinksBecome};
 ghost use Rattle.sync_world.specs.Moving.{fault_after, link_cut, link_moved};
+ghost use Rattle.sync_world.specs.Leaving.{IsSame};
+ghost use Rattle.sync_world.specs.Naming.{IsMade};
+ghost use Rattle.sync_world.specs.Posting.{message_of};
+ghost use Rattle.sync_world.specs.Refusing.{KnowContacts, has_links, has_room, refuses};
+ghost use Rattle.sync_world.specs.Refusing.{refuses_to_attach};
+ghost use Rattle.world_devices.specs.Refusals.{IsNotRefused, RefusedBy};
 ghost use Rattle.world_devices.specs.declared.stop.StepFault.{StepFault};
 
 use crate::laws::cite_laws;
@@ -88,6 +94,10 @@ impl Stage {
             self.new.links.items result }
         ensures devices { self.old.fault ≡ None → LeavesDevices step.now self.old.devices.items
             self.new.devices.items }
+        ensures refused { self.old.fault ≡ None → KnowContacts self.old.devices.items
+            → RefusedBy (refuses step.now self.old) result }
+        ensures same { self.old.fault ≡ None → KnowContacts self.old.devices.items
+            → IsErrOf result StepFault.Refused → IsSame self.old self.new }
     {
         if let Some(fault) = self.fault {
             return Err(fault);
@@ -105,6 +115,10 @@ impl Stage {
         ensures devices { LeavesDevices step.now self.old.devices.items self.new.devices.items }
         ensures fault { self.new.fault ≡ self.old.fault }
         ensures goes { Goes (is_fatal result) self.old self.new }
+        ensures refused { KnowContacts self.old.devices.items
+            → RefusedBy (refuses step.now self.old) result }
+        ensures same { KnowContacts self.old.devices.items → IsErrOf result StepFault.Refused
+            → IsSame self.old self.new }
     {
         match step {
             WorldStep::Group(d, kind, descriptor) => {
@@ -134,6 +148,8 @@ impl Stage {
     fn add_group(&mut self, d: u8, kind: u8, descriptor: &str) -> Result<(), StepFault>
         ensures fault { self.new.fault ≡ self.old.fault }
         ensures goes { Goes (is_fatal result) self.old self.new }
+        ensures refused { RefusedBy (refuses (WorldStep.Group d kind descriptor.now) self.old) result }
+        ensures same { IsErrOf result StepFault.Refused → IsSame self.old self.new }
     {
         cite_laws();
         let def = group_def(self.alloc, kind, descriptor)?;
@@ -150,6 +166,10 @@ impl Stage {
     fn share(&mut self, d: u8, e: u8, group: u64, level: Level) -> Result<(), StepFault>
         ensures fault { self.new.fault ≡ self.old.fault }
         ensures goes { Goes (is_fatal result) self.old self.new }
+        ensures refused { KnowContacts self.old.devices.items
+            → RefusedBy (refuses (WorldStep.Share d e group level) self.old) result }
+        ensures same { KnowContacts self.old.devices.items → IsErrOf result StepFault.Refused
+            → IsSame self.old self.new }
     {
         cite_laws();
         if d == e || e as usize >= self.devices.len() {
@@ -178,6 +198,9 @@ impl Stage {
     ) -> Result<(), StepFault>
         ensures fault { self.new.fault ≡ self.old.fault }
         ensures goes { Goes (is_fatal result) self.old self.new }
+        ensures refused { RefusedBy (refuses (WorldStep.Post d group time parents.now text.now)
+            self.old) result }
+        ensures same { IsErrOf result StepFault.Refused → IsSame self.old self.new }
     {
         cite_laws();
         let message = self.message_of(group, time, parents, text)?;
@@ -200,7 +223,10 @@ impl Stage {
         time: u64,
         parents: &Labels,
         text: &[u8],
-    ) -> Result<Message, StepFault> {
+    ) -> Result<Message, StepFault>
+        ensures { IsMade (message_of self.now.groups self.now.posts.items group time parents.now
+            text.now) result }
+    {
         let Some((kind, descriptor)) = self.groups.get(group) else {
             return Err(StepFault::Refused);
         };
@@ -220,6 +246,8 @@ impl Stage {
     fn set_clock(&mut self, at: u64) -> Result<(), StepFault>
         ensures fault { self.new.fault ≡ self.old.fault }
         ensures goes { Goes (is_fatal result) self.old self.new }
+        ensures refused { RefusedBy (refuses (WorldStep.Clock at) self.old) result }
+        ensures same { IsErrOf result StepFault.Refused → IsSame self.old self.new }
     {
         cite_laws();
         'devices: for d in 0..self.devices.len() {
@@ -232,6 +260,8 @@ impl Stage {
     fn stop(&mut self, d: u8, calls: u64, pick: Pick) -> Result<(), StepFault>
         ensures fault { self.new.fault ≡ self.old.fault }
         ensures goes { Goes (is_fatal result) self.old self.new }
+        ensures refused { RefusedBy (refuses (WorldStep.Stop d calls pick) self.old) result }
+        ensures same { IsErrOf result StepFault.Refused → IsSame self.old self.new }
     {
         cite_laws();
         if d as usize >= self.devices.len() {
@@ -245,6 +275,8 @@ impl Stage {
     fn restart(&mut self, d: u8) -> Result<(), StepFault>
         ensures fault { self.new.fault ≡ self.old.fault }
         ensures goes { Goes (is_fatal result) self.old self.new }
+        ensures refused { RefusedBy (refuses (WorldStep.Restart d) self.old) result }
+        ensures same { IsErrOf result StepFault.Refused → IsSame self.old self.new }
     {
         cite_laws();
         if d as usize >= self.devices.len() {
@@ -261,6 +293,8 @@ impl Stage {
         ensures links { self.new.links.items ≡ after_ran ran d self.old.links.items }
         ensures devices { self.new.devices.items ≡ self.old.devices.items }
         ensures fault { self.new.fault ≡ self.old.fault }
+        ensures groups { self.new.groups ≡ self.old.groups }
+        ensures posts { self.new.posts.items ≡ self.old.posts.items }
     {
         match ran {
             Ran::Done => {}
@@ -274,6 +308,10 @@ impl Stage {
     fn link(&mut self, d: u8, e: u8, mode: Mode, latency: u32) -> Result<(), StepFault>
         ensures fault { self.new.fault ≡ self.old.fault }
         ensures goes { Goes (is_fatal result) self.old self.new }
+        ensures refused { KnowContacts self.old.devices.items
+            → RefusedBy (refuses (WorldStep.Link d e mode latency) self.old) result }
+        ensures same { KnowContacts self.old.devices.items → IsErrOf result StepFault.Refused
+            → IsSame self.old self.new }
     {
         cite_laws();
         if d == e || latency == 0 || !self.has_room(d) || !self.has_room(e) {
@@ -299,6 +337,8 @@ impl Stage {
         ensures goes { Goes (is_fatal result) self.old self.new }
         ensures fresh { IfOk result (λ link. HasFreshEnd d e link self.new.links.items) }
         ensures other { IfOk result (λ link. HasFreshEnd e d link self.new.links.items) }
+        ensures devices { self.new.devices.items ≡ self.old.devices.items }
+        ensures unrefused { IsNotRefused result }
     {
         let link = self.links.len();
         self.links.push(Link::new(self.alloc, d, e))?;
@@ -307,7 +347,8 @@ impl Stage {
 
     // Whether a device may have a further link.
     fn has_room(&self, d: u8) -> bool
-        ensures { result ≡ true → d < length self.now.devices.items }
+        ensures within { result ≡ true → d < length self.now.devices.items }
+        ensures exact { result ≡ has_room (slice_get self.now.devices.items d) }
     {
         match self.devices.get(d as usize) {
             Some(device) => (device.links() as usize) < LINKS,
@@ -316,7 +357,9 @@ impl Stage {
     }
 
     // Whether a device has had a link since it was started.
-    fn has_links(&self, d: u8) -> bool {
+    fn has_links(&self, d: u8) -> bool
+        ensures { result ≡ has_links (slice_get self.now.devices.items d) }
+    {
         match self.devices.get(d as usize) {
             Some(device) => device.links() > 0,
             None => false,
@@ -340,6 +383,11 @@ impl Stage {
         ensures fresh { (k far : ℕ) → k ≢ d → HasFreshEnd k far link self.old.links.items
             → IsDone result → HasFreshEnd k far link self.new.links.items }
         ensures devices { length self.new.devices.items ≡ length self.old.devices.items }
+        ensures refused { RefusedBy (refuses_to_attach plan.now.contact
+            (slice_get self.old.devices.items d)) result }
+        ensures same { IsErrOf result StepFault.Refused → IsSame self.old self.new }
+        ensures others { (k : ℕ) → k ≢ d
+            → slice_get self.new.devices.items k ≡ slice_get self.old.devices.items k }
     {
         cite_laws();
         if d as usize >= self.devices.len() {
@@ -361,6 +409,8 @@ impl Stage {
     fn turn_once(&mut self, d: u8) -> Result<(), StepFault>
         ensures fault { self.new.fault ≡ self.old.fault }
         ensures goes { Goes (is_fatal result) self.old self.new }
+        ensures refused { RefusedBy (refuses (WorldStep.Turn d) self.old) result }
+        ensures same { IsErrOf result StepFault.Refused → IsSame self.old self.new }
     {
         let _still = self.turn(d)?;
         Ok(())
@@ -370,6 +420,8 @@ impl Stage {
     fn turn(&mut self, d: u8) -> Result<Option<bool>, StepFault>
         ensures fault { self.new.fault ≡ self.old.fault }
         ensures goes { Goes (is_fatal result) self.old self.new }
+        ensures refused { RefusedBy (is_none (slice_get self.old.devices.items d)) result }
+        ensures same { IsErrOf result StepFault.Refused → IsSame self.old self.new }
     {
         cite_laws();
         if d as usize >= self.devices.len() {
@@ -393,6 +445,8 @@ impl Stage {
             self.old.links.items self.new.links.items result }
         ensures fault { self.new.fault ≡ self.old.fault }
         ensures goes { Goes (is_fatal result) self.old self.new }
+        ensures groups { self.new.groups ≡ self.old.groups }
+        ensures posts { self.new.posts.items ≡ self.old.posts.items }
     {
         cite_laws();
         if link >= self.links.len() as u64 {
@@ -407,6 +461,8 @@ impl Stage {
             self.old.links.items self.new.links.items result }
         ensures fault { self.new.fault ≡ self.old.fault }
         ensures goes { Goes (is_fatal result) self.old self.new }
+        ensures groups { self.new.groups ≡ self.old.groups }
+        ensures posts { self.new.posts.items ≡ self.old.posts.items }
     {
         cite_laws();
         if link >= self.links.len() as u64 {
@@ -418,6 +474,8 @@ impl Stage {
     fn rest(&mut self, rounds: u32) -> Result<(), StepFault>
         ensures fault { self.new.fault ≡ self.old.fault }
         ensures goes { Goes (is_fatal result) self.old self.new }
+        ensures refused { RefusedBy (refuses (WorldStep.Rest rounds) self.old) result }
+        ensures same { IsErrOf result StepFault.Refused → IsSame self.old self.new }
     {
         if rounds == 0 || u64::from(rounds) > MAX_ROUNDS {
             return Err(StepFault::Refused);
@@ -436,6 +494,7 @@ impl Stage {
     fn round(&mut self) -> Result<Round, StepFault>
         ensures fault { self.new.fault ≡ self.old.fault }
         ensures goes { Goes (is_fatal result) self.old self.new }
+        ensures unrefused { IsNotRefused result }
     {
         cite_laws();
         let mut still = true;
@@ -457,6 +516,7 @@ impl Stage {
     fn turn_if_linked(&mut self, d: u8) -> Result<Option<bool>, StepFault>
         ensures fault { self.new.fault ≡ self.old.fault }
         ensures goes { Goes (is_fatal result) self.old self.new }
+        ensures unrefused { IsNotRefused result }
     {
         if !self.has_links(d) {
             return Ok(Some(true));

@@ -1,10 +1,12 @@
-use Rattle.std.proofs.Common.{◌<◌, false, length, map, arith, ap, subst, sym, Err, ◌∙◌}
+use Rattle.std.proofs.Common.{◌<◌, false, length, map, arith, ap, subst, sym, Err, ◌∙◌, rules, slice_get}
 use Rattle.std.specs.Prelude.{slice_set}
 use Rattle.world_devices.specs.declared.stop.StepFault.TheVariants as fault
 use Rattle.sync_world.specs.Staging.{HasFreshEnd, attached_at}
 use Rattle.sync_world.specs.Turning.{look_link}
 use Rattle.sync_world.proofs.GoLaws.{same_leads}
 use Rattle.sync_world.proofs.StepLaws.{attach_added, attach_gone, begins_leads, begun_to, begun_written, none_of, ends_leads, fails_leads, fresh_stays, gone_goes, leads_err, leads_links}
+use Rattle.world_devices.specs.Refusals.{RefusedBy, refuses_link}
+use Rattle.sync_world.proofs.RefusingLaws.{attach_at, by_same, get_at, was_allowed}
 use Rattle.sync_world.proofs.stage.Stage.attach.Goals as goal
 
 pub returns-then-d-len-clause-goes : goal.returns-then-d-len-clause-goes
@@ -50,3 +52,19 @@ returns-clause-fresh c =
     c.as_mut_slice.ensures.value (omega arith) c.begin_at.ensures c.as_mut_slice-2.ensures.value c.in_ok-look_all.ensures in
     λ k far apart fresh done. subst (λ ls. HasFreshEnd k far c.args.link ls) (sym last)
     (fresh_stays k far c.args.d c.links-at.result c.in-Some.session c.args.link c.attach.new.self c.args.self.now.links.items apart fresh)
+
+pub returns-in_err-session-clause-refused : goal.returns-in_err-session-clause-refused
+returns-in_err-session-clause-refused c =
+    let by : RefusedBy (refuses_link c.index_mut-device.result.now.node c.index_mut-device.result.now.links c.args.plan.now.contact) c.from_residual.result = search rules in
+    by_same (refuses_link c.index_mut-device.result.now.node c.index_mut-device.result.now.links c.args.plan.now.contact) _ _
+    (attach_at c.args.plan.now.contact (slice_get c.args.self.now.devices.items c.args.d) c.index_mut-device.result.now (get_at c.args.self.now.devices.items c.args.d c.index_mut-device.result.now (omega arith) c.index_mut-device.ensures.value)) by
+
+pub returns-in_default-clause-refused : goal.returns-in_default-clause-refused
+returns-in_default-clause-refused c =
+    by_same false _ _
+    (attach_at c.args.plan.now.contact (slice_get c.args.self.now.devices.items c.args.d) c.index_mut-device.result.now (get_at c.args.self.now.devices.items c.args.d c.index_mut-device.result.now (omega arith) c.index_mut-device.ensures.value) ∙ was_allowed (refuses_link c.index_mut-device.result.now.node c.index_mut-device.result.now.links c.args.plan.now.contact) _ c.in_ok-session.ensures.refused) tt
+
+pub returns-clause-refused : goal.returns-clause-refused
+returns-clause-refused c =
+    by_same false _ _
+    (attach_at c.args.plan.now.contact (slice_get c.args.self.now.devices.items c.args.d) c.index_mut-device.result.now (get_at c.args.self.now.devices.items c.args.d c.index_mut-device.result.now (omega arith) c.index_mut-device.ensures.value) ∙ was_allowed (refuses_link c.index_mut-device.result.now.node c.index_mut-device.result.now.links c.args.plan.now.contact) _ c.in_ok-session.ensures.refused) tt

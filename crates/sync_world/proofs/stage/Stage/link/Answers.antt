@@ -1,4 +1,4 @@
-use Rattle.std.proofs.Common.{ℕ, ◌≡◌, false, sym}
+use Rattle.std.proofs.Common.{ℕ, ◌≡◌, ◌∙◌, ◌<◌, length, false, true, ap, sym, arith, slice_get, subst}
 use Rattle.world_devices.specs.declared.stop.Ran.{Ran}
 use Rattle.sync_world.proofs.GoLaws.{same_leads}
 use Rattle.sync_world.proofs.RestLaws.{goes_then, passed_on}

@@ -1,6 +1,8 @@
-use Rattle.std.proofs.Common.{◌<◌, false, length, arith}
+use Rattle.std.proofs.Common.{◌<◌, false, length, arith, rules}
 use Rattle.sync_world.proofs.GoLaws.{same_leads}
 use Rattle.sync_world.proofs.StepLaws.{fails_leads, gone_goes, leads_err, unrefused_same}
+use Rattle.world_devices.specs.Refusals.{RefusedBy}
+use Rattle.sync_world.proofs.RefusingLaws.{by_same, found}
 use Rattle.sync_world.proofs.stage.Stage.restart.Goals as goal
 
 pub returns-then-d-len-clause-goes : goal.returns-then-d-len-clause-goes
@@ -19,3 +21,11 @@ returns-clause-goes c =
     let laws = c.cite_laws.ensures in
     λ w s. gone_goes laws.records laws.grows c.args.self.now.devices.items c.args.self.now.links.items c.args.d c.index_mut-device.result.now c.restart.new.self within c.index_mut-device.ensures.value c.restart.ensures.runs
     c.in_ok-restart.ensures.running c.in_ok-restart.ensures.links _ _ c.came.ensures.devices c.came.ensures.links w s
+
+pub returns-in_err-restart-clause-refused : goal.returns-in_err-restart-clause-refused
+returns-in_err-restart-clause-refused c =
+    let by : RefusedBy false c.from_residual.result = search rules in
+    by_same false _ _ (found c.args.self.now.devices.items c.args.d c.index_mut-device.result.now (omega arith) c.index_mut-device.ensures.value) by
+
+pub returns-clause-refused : goal.returns-clause-refused
+returns-clause-refused c = by_same false _ _ (found c.args.self.now.devices.items c.args.d c.index_mut-device.result.now (omega arith) c.index_mut-device.ensures.value) tt

@@ -1,7 +1,10 @@
-use Rattle.std.proofs.Common.{◌<◌, length, arith, ap, Err}
+use Rattle.std.proofs.Common.{◌<◌, length, arith, ap, Err, rules, ◌≡◌, true, Some, slice_get, Ok}
 use Rattle.world_devices.specs.declared.stop.StepFault.TheVariants as fault
 use Rattle.sync_world.proofs.GoLaws.{same_leads}
 use Rattle.sync_world.proofs.StepLaws.{leads_err, came_goes, fails_leads}
+use Rattle.world_devices.specs.Refusals.{RefusedBy, refuses_level}
+use Rattle.sync_world.specs.Refusing.{group_labelled, lacks, refuses_with}
+use Rattle.sync_world.proofs.RefusingLaws.{by_same, done_same, get_at, get_past, labelled_made, share_past, share_refused, with_missing}
 use Rattle.sync_world.proofs.stage.Stage.share.Goals as goal
 
 pub returns-in_err-ran-clause-goes : goal.returns-in_err-ran-clause-goes
@@ -27,3 +30,26 @@ returns-in_err-group_def-clause-goes c = λ w s. same_leads w _ _ _ s
 
 pub returns-then-d-len-clause-goes : goal.returns-then-d-len-clause-goes
 returns-then-d-len-clause-goes c = λ w s. same_leads w _ _ _ s
+
+pub returns-then-d-len-clause-refused : goal.returns-then-d-len-clause-refused
+returns-then-d-len-clause-refused c known =
+    by_same true _ _
+    (share_past c.args.self.now.devices.items c.args.d c.args.e (refuses_with lacks (group_labelled (slice_get c.args.self.now.groups c.args.group)) (slice_get c.args.self.now.devices.items c.args.d))
+    (with_missing lacks (group_labelled (slice_get c.args.self.now.groups c.args.group)) (slice_get c.args.self.now.devices.items c.args.d)
+    (get_past c.args.self.now.devices.items c.args.d (omega arith)))) tt
+
+pub returns-in_err-ran-clause-refused : goal.returns-in_err-ran-clause-refused
+returns-in_err-ran-clause-refused c known =
+    let by : RefusedBy (refuses_level c.index_mut-device.result.now.node c.contact_for.result c.group_id-id.result) c.from_residual-in_err-ran.result = search rules in
+    by_same (refuses_level c.index_mut-device.result.now.node c.contact_for.result c.group_id-id.result) _ _
+    (share_refused c.args.self.now.devices.items c.args.d c.args.e c.contact_for.result c.group_id-id.result (group_labelled (slice_get c.args.self.now.groups c.args.group)) c.in_ok-group_def.field-0 c.index_mut-device.result.now known c.if-d-e.false (omega arith) (omega arith) c.contact_for.ensures c.group_id-id.ensures
+    (labelled_made (slice_get c.args.self.now.groups c.args.group) c.in-Some.kind c.in-Some.descriptor.now c.in_ok-group_def.field-0 c.in-Some.ensures c.in_ok-group_def.ensures)
+    (get_at c.args.self.now.devices.items c.args.d c.index_mut-device.result.now (omega arith) c.index_mut-device.ensures.value)) by
+
+pub returns-clause-refused : goal.returns-clause-refused
+returns-clause-refused c known =
+    by_same (refuses_level c.index_mut-device.result.now.node c.contact_for.result c.group_id-id.result) _ _
+    (share_refused c.args.self.now.devices.items c.args.d c.args.e c.contact_for.result c.group_id-id.result (group_labelled (slice_get c.args.self.now.groups c.args.group)) c.in_ok-group_def.field-0 c.index_mut-device.result.now known c.if-d-e.false (omega arith) (omega arith) c.contact_for.ensures c.group_id-id.ensures
+    (labelled_made (slice_get c.args.self.now.groups c.args.group) c.in-Some.kind c.in-Some.descriptor.now c.in_ok-group_def.field-0 c.in-Some.ensures c.in_ok-group_def.ensures)
+    (get_at c.args.self.now.devices.items c.args.d c.index_mut-device.result.now (omega arith) c.index_mut-device.ensures.value))
+    (done_same (refuses_level c.index_mut-device.result.now.node c.contact_for.result c.group_id-id.result) c.in_ok-ran.ran tt c.in_ok-ran.ensures.refused)

@@ -1,7 +1,8 @@
-use Rattle.std.proofs.Common.{◌<◌, length, arith}
+use Rattle.std.proofs.Common.{◌<◌, length, arith, false}
 use Rattle.sync_world.proofs.GoLaws.{same_leads}
 use Rattle.world_devices.specs.declared.stop.StepFault.TheVariants as fault
 use Rattle.sync_world.proofs.StepLaws.{ends_leads, leads_err, quiet_leads}
+use Rattle.sync_world.proofs.RefusingLaws.{by_same, found}
 use Rattle.sync_world.proofs.stage.Stage.stop.Goals as goal
 
 pub returns-then-d-len-clause-goes : goal.returns-then-d-len-clause-goes
@@ -20,3 +21,6 @@ returns-in_err-stop_at-clause-goes c =
     let laws = c.cite_laws.ensures in
     λ w s. leads_err _ fault.Memory w _ _ c.from_residual.ensures.1 (ends_leads laws.records laws.grows c.args.self.now.devices.items c.args.self.now.links.items c.args.d c.index_mut-device.result.now c.stop_at.new.self within
     c.index_mut-device.ensures.value c.stop_at.ensures.runs _ w s)
+
+pub returns-clause-refused : goal.returns-clause-refused
+returns-clause-refused c = by_same false _ _ (found c.args.self.now.devices.items c.args.d c.index_mut-device.result.now (omega arith) c.index_mut-device.ensures.value) tt

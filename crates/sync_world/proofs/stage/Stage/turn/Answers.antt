@@ -1,4 +1,4 @@
-use Rattle.std.proofs.Common.{◌≡◌, ◌<◌, false, length, map, take, drop, arith, ap, subst, sym, ◌∙◌, ◌++◌}
+use Rattle.std.proofs.Common.{◌≡◌, ◌<◌, false, length, map, take, drop, arith, ap, subst, sym, ◌∙◌, ◌++◌, rules}
 use Rattle.std.specs.Prelude.{slice_set}
 use Rattle.world_devices.specs.declared.stop.StepFault.TheVariants as fault
 use Rattle.world_links.specs.Links.{left_by}
@@ -6,6 +6,8 @@ use Rattle.sync_world.specs.Standing.{LeadsOn}
 use Rattle.sync_world.specs.Turning.{look_link}
 use Rattle.sync_world.proofs.GoLaws.{same_leads}
 use Rattle.sync_world.proofs.StepLaws.{leads_both, none_of, turn_gone, turn_kept, leads_err, leads_links, plan_fails, plans_from, turn_crashes, turn_ends, turn_fails, turn_leads, written, written_twice}
+use Rattle.world_devices.specs.Refusals.{RefusedBy}
+use Rattle.sync_world.proofs.RefusingLaws.{by_same, found}
 use Rattle.sync_world.proofs.stage.Stage.turn.Goals as goal
 
 pub returns-then-d-len-clause-goes : goal.returns-then-d-len-clause-goes
@@ -50,3 +52,14 @@ returns-clause-goes c =
     c.as_mut_slice-2.ensures.value c.in_ok-look_all.ensures)
     (turn_leads laws.records laws.grows c.args.self.now.devices.items c.args.self.now.links.items c.plan_all.new.links c.args.d c.index_mut-device.result.now c.plan_all.new.device c.turn.new.self within
     c.index_mut-device.ensures.value (plans_from c.args.d c.index_mut-device.result.now c.plan_all.new.device _ _ _ c.as_mut_slice.ensures.value c.in_ok-plan_all.ensures.planned) c.turn.ensures.runs c.in_ok-still.ensures.running (turn_kept c.in_ok-still.field-0 c.in-Some.still c.plan_all.new.device c.turn.new.self c.in-Some.is c.in_ok-still.ensures.links) c.links_stand.ensures w s)
+
+pub returns-in_err-still-clause-refused : goal.returns-in_err-still-clause-refused
+returns-in_err-still-clause-refused c =
+    let by : RefusedBy false c.from_residual-in_err-still.result = search rules in
+    by_same false _ _ (found c.args.self.now.devices.items c.args.d c.index_mut-device.result.now (omega arith) c.index_mut-device.ensures.value) by
+
+pub returns-in_default-clause-refused : goal.returns-in_default-clause-refused
+returns-in_default-clause-refused c = by_same false _ _ (found c.args.self.now.devices.items c.args.d c.index_mut-device.result.now (omega arith) c.index_mut-device.ensures.value) tt
+
+pub returns-clause-refused : goal.returns-clause-refused
+returns-clause-refused c = by_same false _ _ (found c.args.self.now.devices.items c.args.d c.index_mut-device.result.now (omega arith) c.index_mut-device.ensures.value) tt
