@@ -24,6 +24,5 @@ pub mod RestLaws
 pub mod LookGo
 pub mod StepLaws
 pub mod MoveGo
-
 pub mod PostingLaws
 pub mod RefusingLaws

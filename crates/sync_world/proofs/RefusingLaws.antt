@@ -1,4 +1,5 @@
 -- Steps that are refused, over plain values.
+use Rattle.std.specs.Result.{IsErrAnd}
 use Rattle.std.proofs.Common.{◌≡◌, ◌≢◌, ℕ, zero, suc, ◌+◌, ◌-◌, ◌<◌, ◌≤◌, Bool, true, false, ◌||◌, List, [], ◌∷◌, length, refl, sym, ap, ◌∙◌, subst, arith, Option, Some, None, Result, Ok, Err}
 use Rattle.std.specs.Prelude.{slice_get, slice_index_or, slice_set}
 use Rattle.world_devices.specs.declared.stop.StepFault.{StepFault}
@@ -206,16 +207,20 @@ link_open d e latency a b other some first second =
     or_false (d == e) (latency == 0) (not a || not b) (ne_eqb d e other) (ne_eqb latency 0 some) ∙ nots a b first second
 
 pub never : {A : Type 0} (r : Result A StepFault) → RefusedBy false r → IsErrOf r fault.Refused → ⊥
-never (Ok a) by is = is
+never (Ok a) by is = absurd (cc is)
 never (Err fault.Refused) by is = by
 never (Err fault.Full) by is = absurd (cc is)
 never (Err fault.Memory) by is = absurd (cc is)
 
 -- a fault that is not refused is none in any answer
-pub err_passes : {A B : Type 0} (e : StepFault) (r : Result B StepFault) → r ≡ Err e → RefusedBy {A = A} false (Err e) → RefusedBy false r
-err_passes {A} {B} fault.Refused r is by = absurd by
-err_passes {A} {B} fault.Full r is by = subst (λ (x : Result B StepFault). RefusedBy false x) (sym is) tt
-err_passes {A} {B} fault.Memory r is by = subst (λ (x : Result B StepFault). RefusedBy false x) (sym is) tt
+same_unrefused : (A B : Type 0) (e : StepFault) → RefusedBy {A = A} false (Err e) → RefusedBy {A = B} false (Err e)
+same_unrefused A B fault.Refused by = by
+same_unrefused A B fault.Full by = by
+same_unrefused A B fault.Memory by = by
+
+pub err_passes : (A B : Type 0) (e : StepFault) (r : Result B StepFault) → IsErrAnd r (λ x. x ≡ e) → RefusedBy {A = A} false (Err e) → RefusedBy false r
+err_passes A B e (Ok x) is by = absurd is
+err_passes A B e (Err x) is by = subst (λ (y : StepFault). RefusedBy {A = B} false (Err y)) (sym is) (same_unrefused A B e by)
 
 -- the far device of a link, too, is asked to attach and may
 pub far_allowed : (ds ds' : List DeviceValue) (d e : ℕ) → KnowContacts ds → d ≢ e → d < length ds → e < length ds → has_room (slice_get ds e) ≡ true → slice_get ds' e ≡ slice_get ds e

@@ -11,7 +11,6 @@ pub mod Shown
 pub mod Standing
 pub mod Turning
 pub mod Staging
-
 pub mod Leaving
 pub mod Naming
 pub mod Posting

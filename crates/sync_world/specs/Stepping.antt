@@ -1,6 +1,9 @@
 -- What a step makes of a world.
 use Rattle.std.specs.Prelude.{◌≡◌, Some, None, Result, Err}
 use Rattle.sync_world.specs.Moving.{LeavesDevices, LinksBecome, fault_after}
+use Rattle.sync_world.specs.Refusing.{KnowContacts, refuses}
+use Rattle.sync_world.specs.Standing.{IsManyDevices}
+use Rattle.world_devices.specs.Refusals.{RefusedBy}
 use Rattle.sync_world.specs.declared.stage.Stage.{Stage}
 use Rattle.world_devices.specs.declared.stop.StepFault.{StepFault}
 use Rattle.world_scripts.specs.declared.step.WorldStep.{WorldStep}
@@ -11,3 +14,5 @@ pub record HasStepped (made : WorldStep) (old new : Stage) (result : Result (Uni
   pub fault : old.fault ≡ None → new.fault ≡ fault_after result
   pub links : old.fault ≡ None → LinksBecome made old.links.items new.links.items result
   pub devices : old.fault ≡ None → LeavesDevices made old.devices.items new.devices.items
+  pub many : IsManyDevices new.devices.items
+  pub refused : old.fault ≡ None → KnowContacts old.devices.items → RefusedBy (refuses made old) result

@@ -1,7 +1,10 @@
 //! The world and its steps.
-ghost use Rattle.std.specs.Prelude.{◌≡◌, ◌≤◌, Err, IfOk, None, Some};
+ghost use Rattle.std.specs.Prelude.{◌≡◌, ◌≤◌, Err, IfOk, IsErrOf, None, Some};
 ghost use Rattle.sync_world.specs.Beginning.{IsNewWorld};
+ghost use Rattle.sync_world.specs.Leaving.{IsSame};
+ghost use Rattle.sync_world.specs.Refusing.{KnowContacts, refuses};
 ghost use Rattle.sync_world.specs.Standing.{IsManyDevices};
+ghost use Rattle.world_devices.specs.Refusals.{RefusedBy};
 ghost use Rattle.sync_world.specs.Moving.{LeavesDevices, LinksBecome, fault_after};
 ghost use Rattle.world_devices.specs.declared.stop.StepFault.{StepFault};
 
@@ -76,6 +79,9 @@ impl World {
     /// its files as they read stand; each is legal, what a device counts as seen by another one is
     /// held by that other, each held message was written by some device, and where a session is at
     /// rest all that is to reach its contact is held there.
+    ///
+    /// `Refused` comes exactly where the rules of worlds refuse the step (`refuses`), but for want
+    /// of memory, where each device knows a contact for each other one, as in a new world.
     pub fn step(&mut self, step: &WorldStep) -> Result<(), StepFault>
         ensures for_good { (fault : StepFault) → self.old.fault ≡ Some fault
             → (result ≡ Err fault) × (self.new ≡ self.old) }
@@ -85,6 +91,10 @@ impl World {
         ensures devices { self.old.fault ≡ None → LeavesDevices step.now self.old.devices.items
             self.new.devices.items }
         ensures many { IsManyDevices self.new.devices.items }
+        ensures refused { self.old.fault ≡ None → KnowContacts self.old.devices.items
+            → RefusedBy (refuses step.now self.old) result }
+        ensures same { self.old.fault ≡ None → KnowContacts self.old.devices.items
+            → IsErrOf result StepFault.Refused → IsSame self.old self.new }
     {
         many_devices();
         self.stage.step(step)

@@ -14,11 +14,11 @@ returns-in_err-round-clause-goes c =
     passed_on Round _ c.args.self.now c.round.new.self c.from_residual.result c.in_err-round.field-0.0 c.from_residual.ensures.1
     (goes_then _ c.args.self.now c.rounds.self c.round.new.self c.rounds.invariant.goes c.in_err-round.ensures.goes)
 
-pub returns-in-Still : goal.returns-in-Still
-returns-in-Still c = record {
-  fault = c.in_ok-round.ensures.fault ∙ c.rounds.invariant.fault;
-  goes = goes_then false c.args.self.now c.rounds.self c.round.new.self c.rounds.invariant.goes c.in_ok-round.ensures.goes;
-}
+pub returns-in-Still-clause-fault : goal.returns-in-Still-clause-fault
+returns-in-Still-clause-fault c = c.in_ok-round.ensures.fault ∙ c.rounds.invariant.fault
+
+pub returns-in-Still-clause-goes : goal.returns-in-Still-clause-goes
+returns-in-Still-clause-goes c = goes_then false c.args.self.now c.rounds.self c.round.new.self c.rounds.invariant.goes c.in_ok-round.ensures.goes
 
 pub rounds-preserved : goal.rounds-preserved
 rounds-preserved c = record {
