@@ -1,5 +1,6 @@
 //! The devices of a world and the links between them, and what steps do to these.
-ghost use Rattle.std.specs.Prelude.{◌≡◌, ◌≢◌, ◌<◌, ◌≤◌, ℕ, true, Err, IfOk, IsErrOf, None, OnOk, Some};
+ghost use Rattle.std.specs.Prelude.{◌≡◌, ◌≢◌, ◌<◌, ◌≤◌, ℕ, true, Err, IfOk, IsErrOf, None};
+ghost use Rattle.std.specs.Prelude.{OnOk, Some};
 ghost use Rattle.std.specs.Prelude.{is_none, length, map, slice_get};
 ghost use Rattle.sync_world.specs.Beginning.{IsNewWorld};
 ghost use Rattle.sync_world.specs.Shown.{arrived};
@@ -148,7 +149,8 @@ impl Stage {
     fn add_group(&mut self, d: u8, kind: u8, descriptor: &str) -> Result<(), StepFault>
         ensures fault { self.new.fault ≡ self.old.fault }
         ensures goes { Goes (is_fatal result) self.old self.new }
-        ensures refused { RefusedBy (refuses (WorldStep.Group d kind descriptor.now) self.old) result }
+        ensures refused { RefusedBy (refuses (WorldStep.Group d kind descriptor.now) self.old)
+            result }
         ensures same { IsErrOf result StepFault.Refused → IsSame self.old self.new }
     {
         cite_laws();
