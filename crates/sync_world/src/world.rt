@@ -81,7 +81,7 @@ impl World {
     /// rest all that is to reach its contact is held there.
     ///
     /// `Refused` comes exactly where the rules of worlds refuse the step (`refuses`), but for want
-    /// of memory, where each device knows a contact for each other one, as in a new world.
+    /// of memory: in a world each of whose devices knows a contact for each other one.
     pub fn step(&mut self, step: &WorldStep) -> Result<(), StepFault>
         ensures for_good { (fault : StepFault) → self.old.fault ≡ Some fault
             → (result ≡ Err fault) × (self.new ≡ self.old) }
