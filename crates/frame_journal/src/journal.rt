@@ -123,9 +123,9 @@ impl Journal {
     }
 
     /// Adds a frame at the closed gate, in four calls of the disk. `framed` is the payload's length
-    /// in four bytes, big-endian, the payload of 1 to `MAX_FRAME` bytes, and a zero byte. At each moment
-    /// the frames are those before or those with the new one whole; after `Ok` every crash leaves
-    /// it.
+    /// in four bytes, big-endian, the payload of 1 to `MAX_FRAME` bytes, and a zero byte. At each
+    /// moment the frames are those before or those with the new one whole; after `Ok` every crash
+    /// leaves it.
     pub fn append<D: Disk>(&mut self, disk: &mut D, framed: &[u8]) -> Result<(), DiskFault>
         requires framed { IsFramed framed.now }
         requires room { self.old.end + length framed.now ≤ MAX_JOURNAL }

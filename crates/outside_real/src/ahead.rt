@@ -44,8 +44,8 @@ impl Ahead {
         n
     }
 
-    /// Forgets the bytes before place `at`, or all where none was read ahead from there on; says the
-    /// place of the next byte to be read ahead.
+    /// Forgets the bytes before place `at`, or all where none was read ahead from there on; says
+    /// the place of the next byte to be read ahead.
     pub fn begin_at(&mut self, at: u64) -> u64 {
         let had = self.bytes.len();
         let kept = if at < self.at || at - self.at >= had as u64 {

@@ -24,8 +24,8 @@ ghost use Rattle.sync_course.specs.Paths.{Path};
 ghost use Rattle.sync_course.specs.Quiet.{EndsQuiet};
 ghost use Rattle.sync_course.specs.RunLaws.{pending_at};
 ghost use Rattle.sync_course.specs.Suits.{AllSuit, heard_on, IsCounted};
-ghost use Rattle.sync_course.specs.Turns.{Broken, Course, first_place, is_over, Place, RunStep, Terms};
-ghost use Rattle.sync_course.specs.Turns.{with_spot};
+ghost use Rattle.sync_course.specs.Turns.{Broken, Course, first_place, is_over, Place};
+ghost use Rattle.sync_course.specs.Turns.{RunStep, Terms, with_spot};
 
 use crate::ends::{LinkEnd, LinkLine};
 use record_grammar::{fronts_have_fronts, records_join, streams_go_on};

@@ -1,7 +1,8 @@
 //! The words of the links of a command.
 ghost use Rattle.std.specs.Prelude.{◌≡◌, ◌+◌, ◌^◌, ◌<◌, drop, IfErr, IfOk};
 ghost use Rattle.sync_words.specs.Links.{has_nonce, has_std, AreLinks, IsLink};
-ghost use Rattle.sync_words.specs.Reading.{has_ended, texts, ReadsLink, ReadsLinks, StopsLink, StopsLinks};
+ghost use Rattle.sync_words.specs.Reading.{has_ended, texts, ReadsLink, ReadsLinks};
+ghost use Rattle.sync_words.specs.Reading.{StopsLink, StopsLinks};
 
 use crate::command::{MAX_CONTACT, WordsFault};
 use crate::reading::{is_left_at, mode_at, number_at, positive_at, spec_at};

@@ -1,6 +1,6 @@
 -- What calls on devices and links lead to.
-use Rattle.std.proofs.Common.{◌≡◌, ◌⊎◌, ℕ, zero, suc, ◌+◌, ◌-◌, ◌<◌, ◌≤◌, ◌==◌, Bool, true, false, cond, if◌then◌else◌, List, [], ◌∷◌, ◌++◌, map, length, drop, refl, sym, ◌∙◌, ap, subst, inl, inr, arith, append_assoc, append-nil, Option, Some, None, is_some, Result, Ok, Err}
-use Rattle.std.proofs.lemmas.Bool.{and_parts, cases_eq, eqb-true, leb-true, ltb-true}
+use Rattle.std.proofs.Common.{◌≡◌, ℕ, zero, suc, ◌+◌, ◌-◌, ◌<◌, ◌≤◌, ◌==◌, Bool, true, false, cond, if◌then◌else◌, List, [], ◌∷◌, ◌++◌, map, length, refl, sym, ◌∙◌, ap, subst, inl, inr, arith, append-nil, Option, Some, None, is_some, Ok, Err}
+use Rattle.std.proofs.lemmas.Bool.{and_parts, eqb-true, leb-true, ltb-true}
 use Rattle.std.specs.Prelude.{nat_le, nat_lt, slice_get, slice_set}
 use Rattle.std.specs.Option.{option_map}
 use Rattle.outside.specs.Files.{read_files}
@@ -24,20 +24,20 @@ use Rattle.world_devices.specs.declared.stop.Ran.{Ran}
 use Rattle.world_devices.specs.declared.stop.Ran.TheVariants as ran
 use Rattle.world_devices.specs.declared.stop.StepFault.{StepFault}
 use Rattle.world_devices.specs.declared.stop.StepFault.TheVariants as fault
-use Rattle.world_devices.specs.Running.{ComesFrom, DeviceRuns, Holds, Reads, is_session_of, records_for, records_of}
+use Rattle.world_devices.specs.Running.{DeviceRuns, Holds, Reads, is_session_of, records_for, records_of}
 use Rattle.world_links.specs.Ends.{EndValue, input_of}
-use Rattle.world_links.specs.Links.{cut, detached, left_at, left_by, side_of, with_flight}
+use Rattle.world_links.specs.Links.{cut, detached, left_at, left_by, with_flight}
 use Rattle.world_links.specs.declared.moves.Side.TheVariants as side
 use Rattle.world_links.specs.declared.link.Link.{Link}
 use Rattle.sync_world.specs.Cited.{RecordLaws}
-use Rattle.sync_world.specs.Shown.{IsGivenAt, MovesShown, MovesTo, Reaches, ShowsLinks, ShownAt, heard_by, left_link, world_of}
+use Rattle.sync_world.specs.Shown.{IsGivenAt, MovesShown, Reaches, heard_by, left_link, world_of}
 use Rattle.sync_world.specs.Staging.{after_ran}
-use Rattle.sync_world.specs.Standing.{AllWired, ArePlaced, AreRead, AreUp, AreWired, IsShown, IsUp, IsWired, LeadsOn, is_fatal, own_end, place_in, place_on, session_on}
+use Rattle.sync_world.specs.Standing.{AllWired, ArePlaced, AreRead, AreUp, AreWired, IsShown, IsUp, LeadsOn, is_fatal, place_in, place_on}
 use Rattle.sync_world.proofs.HearLaws.{given_front_records}
 use Rattle.sync_world.proofs.ReachLaws.{reaches_none, reaches_then}
 use Rattle.sync_world.proofs.RunLaws.{given_heard, journal_set_other, journal_set_own, left_reached, links_same, run_reached}
 use Rattle.sync_world.proofs.ShownMoves.{shown_all_left, shown_at}
-use Rattle.sync_world.proofs.WireLaws.{AllMove, EndMoves, LinkMoves, all_map, all_placed, all_wired, eqb_not, get_cases, get_set, get_within, kept_wired, link_stays, own_far, own_is, own_near, own_none, placed_end, set_back, set_length, some_same}
+use Rattle.sync_world.proofs.WireLaws.{AllMove, EndMoves, LinkMoves, all_map, all_placed, all_wired, eqb_not, get_cases, get_within, kept_wired, link_stays, own_far, own_is, own_near, own_none, placed_end, set_back, set_length, some_same}
 
 -- ---- journals
 

@@ -26,3 +26,9 @@ pub mod StepLaws
 pub mod MoveGo
 pub mod PostingLaws
 pub mod RefusingLaws
+pub mod CountLaws
+pub mod ContactLaws
+pub mod ToldLaws
+pub mod DoingLaws
+pub mod TurningLaws
+pub mod RoundLaws

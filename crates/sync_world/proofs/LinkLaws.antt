@@ -1,18 +1,13 @@
 -- Two devices are linked, and a session begins at an end.
-use Rattle.std.proofs.Common.{◌≡◌, ◌⊎◌, ℕ, zero, suc, ◌+◌, ◌<◌, ◌≤◌, ◌==◌, Bool, true, false, if◌then◌else◌, List, [], ◌∷◌, ◌++◌, length, drop, refl, sym, ◌∙◌, ap, subst, inl, inr, arith, append-nil, length-append, Option, Some, None, is_some}
+use Rattle.std.proofs.Common.{◌≡◌, ◌⊎◌, ℕ, zero, suc, ◌<◌, ◌==◌, Bool, true, false, if◌then◌else◌, List, [], ◌∷◌, ◌++◌, length, drop, refl, sym, ◌∙◌, ap, subst, inl, inr, arith, append-nil, Option, Some, None, is_some}
 use Rattle.std.proofs.lemmas.Bool.{cases_eq}
 use Rattle.std.specs.Prelude.{slice_get, slice_set}
-use Rattle.std.specs.Option.{option_map}
 use Rattle.client_basic.specs.Bodies.{bundle_meaning}
-use Rattle.record_grammar.specs.Spelling.{spelled}
 use Rattle.sync_ids.specs.declared.records.Record.{Record}
-use Rattle.sync_node.specs.Node.{NodeValue}
-use Rattle.sync_rules.specs.Elements.{In}
 use Rattle.sync_rules.specs.Facts.{Extends}
 use Rattle.sync_rules.specs.Legal.{Legal}
 use Rattle.sync_rules.specs.Output.{sent}
-use Rattle.world_laws.specs.Worlds.{HasSession, Journal, Link as RecordLink, World, contact_for, journal_at, journal_in, link_in, new_end}
-use Rattle.world_devices.specs.Brought.{brought_on}
+use Rattle.world_laws.specs.Worlds.{HasSession, Journal, Link as RecordLink, World, contact_for, journal_at, journal_in, new_end}
 use Rattle.world_devices.specs.Cited.{SentGrows}
 use Rattle.world_devices.specs.Devices.{DeviceValue}
 use Rattle.world_devices.specs.Linking.{AddsLink}
@@ -23,9 +18,9 @@ use Rattle.world_links.specs.declared.link.Link.{Link}
 use Rattle.world_links.specs.declared.moves.Side.{Side}
 use Rattle.world_links.specs.declared.moves.Side.TheVariants as side
 use Rattle.sync_world.specs.Cited.{RecordLaws}
-use Rattle.sync_world.specs.Shown.{LinkRuns, LinksRun, MovesTo, Reaches, ShowsEnd, ShowsLink, world_of}
+use Rattle.sync_world.specs.Shown.{LinkRuns, LinksRun, Reaches, ShowsEnd, ShowsLink, world_of}
 use Rattle.sync_world.specs.Staging.{HasFreshEnd, attached_at, attached_from, begun_end, new_link, with_end}
-use Rattle.sync_world.specs.Standing.{ArePlaced, AreUp, AreWired, IsPlaced, IsSeated, IsShown, IsUp, IsWired, LeadsOn, SeenBy, own_end, place_in, place_on, session_on}
+use Rattle.sync_world.specs.Standing.{ArePlaced, AreWired, IsPlaced, IsShown, IsUp, IsWired, LeadsOn, own_end, place_in, place_on}
 use Rattle.sync_world.proofs.GoLaws.{device_ran, up_read, up_set, wired_set}
 use Rattle.sync_world.proofs.LookLaws.{shown_attached}
 use Rattle.sync_world.proofs.PlanLaws.{far_own, near_own}

@@ -1,10 +1,9 @@
 -- Plans of what links are to answer: what was shown is shown still.
-use Rattle.std.proofs.Common.{◌≡◌, ◌⊎◌, ℕ, zero, suc, ◌+◌, ◌<◌, ◌≤◌, ◌==◌, Bool, true, false, if◌then◌else◌, List, [], ◌∷◌, ◌++◌, length, drop, take, refl, sym, ◌∙◌, ap, subst, inl, inr, arith, append_assoc, append-nil, Option, Some, None, is_some}
-use Rattle.std.proofs.lemmas.Bool.{cases_eq, eqb-true}
+use Rattle.std.proofs.Common.{◌≡◌, ℕ, zero, suc, ◌+◌, ◌<◌, ◌≤◌, ◌==◌, Bool, true, false, if◌then◌else◌, List, [], ◌∷◌, ◌++◌, length, drop, take, refl, sym, ◌∙◌, ap, subst, inl, inr, arith, append_assoc, append-nil, Option, Some, None, is_some}
+use Rattle.std.proofs.lemmas.Bool.{eqb-true}
 use Rattle.std.proofs.lemmas.List.{take-append-drop}
 use Rattle.std.specs.Prelude.{slice_get, slice_set}
 use Rattle.std.specs.Option.{option_map}
-use Rattle.outside.specs.Files.{Two, File}
 use Rattle.outside.specs.Planned.{pieces}
 use Rattle.outside.specs.Script.{planned_of}
 use Rattle.outside.specs.declared.answer.Answer.{Answer}
@@ -22,11 +21,11 @@ use Rattle.world_links.specs.declared.link.Link.{Link}
 use Rattle.world_links.specs.declared.moves.Side.{Side}
 use Rattle.world_links.specs.declared.moves.Side.TheVariants as side
 use Rattle.sync_world.specs.Shown.{ShowsLink, ShowsLinks}
-use Rattle.sync_world.specs.Staging.{Brings, HearsMore, PlansAll, PlansAt, PlansEnd, PlansLink, PlansSide, SameFiles, with_end}
+use Rattle.sync_world.specs.Staging.{Brings, HearsMore, PlansAll, PlansAt, PlansLink, SameFiles, with_end}
 use Rattle.sync_world.specs.Standing.{ArePlaced, AreUp, AreWired, IsShown, IsUp, IsWired, SeenBy, own_end, place_in, place_on, session_on}
 use Rattle.sync_world.proofs.LookLaws.{shown_same}
 use Rattle.sync_world.proofs.ShownMoves.{shown_at, shown_set}
-use Rattle.sync_world.proofs.WireLaws.{EndMoves, LinkMoves, LinkWired, all_placed, all_set, all_wired, end_stays, eqb_not, get_cases, get_set, get_within, own_far, own_is, own_near, set_again, set_back, set_length, set_once, set_seat, some_same}
+use Rattle.sync_world.proofs.WireLaws.{EndMoves, LinkMoves, all_placed, all_set, all_wired, end_stays, eqb_not, get_cases, get_set, get_within, own_far, own_near, set_again, set_back, set_length, set_once, set_seat, some_same}
 
 -- ---- bytes
 

@@ -1,5 +1,5 @@
 -- Messages counted one by one, and lines added device by device.
-use Rattle.std.proofs.Common.{◌≡◌, ℕ, zero, suc, ◌+◌, List, [], ◌∷◌, take, length, refl, sym, ap, subst, ◌∙◌, add-one, arith, Option, Some, None}
+use Rattle.std.proofs.Common.{◌≡◌, ℕ, zero, suc, ◌+◌, List, [], ◌∷◌, take, sym, ap, ◌∙◌, add-one, arith, Option, Some}
 use Rattle.std.specs.Prelude.{option_map, slice_get}
 use Rattle.sync_rules.specs.Facts.{Facts, Held}
 use Rattle.sync_rules.specs.Steps.{fate_held}

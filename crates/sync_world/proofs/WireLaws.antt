@@ -3,21 +3,19 @@ use Rattle.std.proofs.Common.{◌≡◌, ◌⊎◌, ℕ, zero, suc, ◌+◌, ◌
 use Rattle.std.proofs.lemmas.Bool.{cases_eq, eq-eqb, eqb-true, ne_eqb, false≢true}
 use Rattle.std.specs.Prelude.{slice_get, slice_index_or, slice_set}
 use Rattle.std.specs.Option.{option_map}
-use Rattle.outside.specs.Runs.{IsFront}
 use Rattle.sync_node.specs.Node.{NodeValue}
 use Rattle.sync_rules.specs.Facts.{Extends}
 use Rattle.sync_rules.specs.Legal.{Legal}
 use Rattle.client_basic.specs.Bodies.{bundle_meaning}
-use Rattle.sync_rules.specs.Output.{sent}
 use Rattle.sync_ids.specs.declared.records.Record.{Record}
-use Rattle.world_laws.specs.Worlds.{Journal, journal_in}
+use Rattle.world_laws.specs.Worlds.{Journal}
 use Rattle.world_devices.specs.Brought.{brought_on}
 use Rattle.world_devices.specs.Cited.{SentGrows}
 use Rattle.world_devices.specs.Devices.{DeviceValue}
-use Rattle.world_devices.specs.Linking.{IsUnlinked, KeepsLinks, first_of}
+use Rattle.world_devices.specs.Linking.{KeepsLinks, first_of}
 use Rattle.world_links.specs.Ends.{EndValue, input_of}
 use Rattle.world_links.specs.declared.link.Link.{Link}
-use Rattle.sync_world.specs.Standing.{ArePlaced, AreWired, IsPlaced, IsSeated, IsWired, SeenBy, own_end, place_in, place_on, session_on}
+use Rattle.sync_world.specs.Standing.{ArePlaced, AreWired, IsPlaced, IsSeated, IsWired, SeenBy, own_end, place_in, place_on}
 
 -- ---- lists
 

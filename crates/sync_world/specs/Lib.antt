@@ -15,3 +15,5 @@ pub mod Leaving
 pub mod Naming
 pub mod Posting
 pub mod Refusing
+pub mod Doing
+pub mod Parts

@@ -1,13 +1,12 @@
 -- Where the rules of worlds refuse a step.
 use Rattle.std.specs.Prelude.{◌≡◌, ℕ, ◌+◌, ◌≤◌, ◌==◌, ◌||◌, not, Bool, true, false, nat_lt, is_none, List, length, Option, Some, None, slice_get}
 use Rattle.outside.specs.declared.limits.TheConstants.{LINKS}
-use Rattle.sync_ids.specs.Values.{GroupValue, MessageValue}
+use Rattle.sync_ids.specs.Values.{GroupValue}
 use Rattle.sync_ids.specs.Ids.{group_id_of}
 use Rattle.sync_rules.specs.Facts.{group_at}
 use Rattle.sync_node.specs.Node.{NodeValue}
 use Rattle.world_devices.specs.Devices.{DeviceValue}
 use Rattle.world_devices.specs.Refusals.{by_facts, facts_of, refuses_group, refuses_link, refuses_message}
-use Rattle.world_links.specs.declared.link.Link.{Link}
 use Rattle.world_links.specs.declared.moves.Move.TheVariants as move
 use Rattle.world_scripts.specs.Labels.{Pair}
 use Rattle.world_scripts.specs.declared.step.WorldStep.{WorldStep}

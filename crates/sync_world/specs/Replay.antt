@@ -10,24 +10,34 @@ use Rattle.sync_words.specs.declared.outcome.Outcome.TheVariants as outcome
 use Rattle.sync_words.specs.declared.status.Status.{Status}
 use Rattle.sync_world.specs.Asking.{Wanted, Wrong, Wants}
 use Rattle.sync_world.specs.Playing.{ScriptComes, made_by}
-use Rattle.sync_world.specs.Showing.{player_lines}
+use Rattle.sync_world.specs.Showing.{journal_lines, player_lines}
+use Rattle.sync_world.specs.Standing.{AreManyDevices}
 use Rattle.sync_world.specs.declared.asking.Asked.TheVariants as asked
 use Rattle.sync_world.specs.declared.player.Player.{Player}
+use Rattle.world_laws.specs.Worlds.{Journal}
 use Rattle.world_scripts.specs.Courses.{Opening, said}
 use Rattle.world_scripts.specs.declared.script.TheConstants.{MAX_SCRIPT}
 
 -- ---- what is printed
 
+-- What is to be printed of a world: its devices have such journals as the promises on many devices speak of, each of them runs,
+-- and the text is the lines that these journals make.
+pub record IsText (p : Player) (text : List ℕ) : Type 0 where
+  pub journals : List Journal
+  pub many : AreManyDevices journals p.world.devices.items
+  pub run : player_lines p ≡ Some text
+  pub is : text ≡ journal_lines p.shown journals p.devices
+
 -- all that is to be printed of a world was written
 pub record PrintsAll (p : Player) (out out' : Stream) : Type 0 where
   pub text : List ℕ
-  pub is : player_lines p ≡ Some text
+  pub is : IsText p text
   pub appended : Appends out.bytes out'.bytes text
 
 -- a write failed, and a front of it was written
 pub record PrintsFront (p : Player) (out out' : Stream) : Type 0 where
   pub text : List ℕ
-  pub is : player_lines p ≡ Some text
+  pub is : IsText p text
   pub rose : Rose out.faults out'.faults
   pub got : GetsFront out out' text
 

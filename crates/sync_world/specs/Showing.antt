@@ -2,7 +2,7 @@
 use Rattle.std.specs.Prelude.{◌≡◌, ℕ, zero, suc, ◌+◌, Bool, true, false, if◌then◌else◌, List, [], ◌∷◌, ◌++◌, length, Option, Some, None, slice_get}
 use Rattle.store_commands.specs.Shown.{show_text}
 use Rattle.sync_node.specs.Node.{NodeValue}
-use Rattle.sync_rules.specs.Facts.{Facts, Held}
+use Rattle.sync_rules.specs.Facts.{Facts, Held, facts}
 use Rattle.sync_rules.specs.Steps.{fate_held}
 use Rattle.sync_rules.specs.declared.states.Fate.{Fate}
 use Rattle.sync_rules.specs.declared.states.Fate.TheVariants as fate
@@ -10,6 +10,7 @@ use Rattle.sync_words.specs.HeldTexts.{device_text}
 use Rattle.sync_world.specs.declared.player.Player.{Player}
 use Rattle.sync_world.specs.declared.player.States.{States}
 use Rattle.world_devices.specs.Devices.{DeviceValue}
+use Rattle.world_laws.specs.Worlds.{Journal, journal_in}
 
 abbrev pub same_fate : Fate → Fate → Bool
 same_fate fate.Delivered fate.Delivered = true
@@ -68,6 +69,12 @@ lines_below shown devices (suc number) =
 -- all that is printed of a world that was played: the lines of each device that there is
 abbrev pub player_lines : Player → Option (List ℕ)
 player_lines p = lines_below p.shown p.world.devices.items p.devices
+
+-- the lines that these journals make of the devices below this number, in order
+abbrev pub journal_lines : (shown : List Bool) → List Journal → ℕ → List ℕ
+journal_lines shown journals zero = []
+journal_lines shown journals (suc number) =
+    journal_lines shown journals number ++ device_lines number (is_marked (slice_get shown number)) (facts (journal_in journals number))
 
 -- these are the numbers of messages in each state
 pub record HasCounted (f : Facts) (held : List Held) (states : States) : Type 0 where

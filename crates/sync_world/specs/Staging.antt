@@ -1,5 +1,5 @@
 -- What the parts of a step do to devices and links.
-use Rattle.std.specs.Prelude.{◌≡◌, ◌⊎◌, ℕ, ◌<◌, ◌≤◌, Bool, true, false, if◌then◌else◌, List, [], ◌∷◌, ◌++◌, map, length, drop, take, Option, Some, None, Result, Ok, Err, slice_get, slice_set}
+use Rattle.std.specs.Prelude.{◌≡◌, ◌⊎◌, ℕ, ◌<◌, ◌≤◌, false, List, ◌++◌, map, length, drop, take, Option, Some, None, Result, Ok, Err, slice_get, slice_set}
 use Rattle.outside.specs.HostTold.{host_told}
 use Rattle.world_devices.specs.Brought.{brought_on}
 use Rattle.world_devices.specs.Devices.{DeviceValue}

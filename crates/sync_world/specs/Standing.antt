@@ -5,13 +5,14 @@ use Rattle.client_basic.specs.Bodies.{bundle_meaning}
 use Rattle.record_grammar.specs.Spelling.{spelled}
 use Rattle.sync_ids.specs.declared.records.Record.{Record}
 use Rattle.sync_node.specs.Node.{NodeValue}
+use Rattle.sync_rules.specs.Facts.{facts}
 use Rattle.sync_rules.specs.Legal.{Legal}
 use Rattle.sync_rules.specs.Output.{sent}
 use Rattle.world_laws.specs.Theorem.{HeldIsWritten, IsNewWorld, RestIsDone, SeenIsHeld}
 use Rattle.world_laws.specs.Worlds.{Journal, World, journal_at, journal_in}
 use Rattle.world_devices.specs.Brought.{brought_on}
 use Rattle.world_devices.specs.Devices.{DeviceValue}
-use Rattle.world_devices.specs.Linking.{number_of}
+use Rattle.world_devices.specs.Linking.{DeviceLinksStand, number_of}
 use Rattle.world_devices.specs.Running.{Holds, Reads}
 use Rattle.world_devices.specs.declared.stop.StepFault.{StepFault}
 use Rattle.world_devices.specs.declared.stop.StepFault.TheVariants as fault
@@ -135,21 +136,37 @@ abbrev pub is_harmed : Option StepFault → Bool
 is_harmed None = false
 is_harmed (Some f) = true
 
--- what every stage between steps is: it was reached from a new world by steps
+-- what every stage between steps is: it was reached from a new world by steps; and where no fault stands, the journal of each
+-- device had a contact for each other one in that new world
 pub record IsWorld (s : Stage) : Type 0 where
   pub start : World
   pub new : IsNewWorld bundle_meaning start
   pub stands : LeadsOn start (is_harmed s.fault) s.devices.items s.links.items
+  pub contacts : is_harmed s.fault ≡ false → (d : ℕ) → d < length s.devices.items → length s.devices.items ≤ (facts (journal_at start d)).contacts + 1
 
 -- ---- many devices
 
--- There is a journal for each device, for which its files as they read stand. Each is legal; what a device counts as seen by
--- another one is held by that other; each held message was written by some device; and where a session is at rest all that is
--- to reach its contact is held there.
-pub record IsManyDevices (devices : List DeviceValue) : Type 0 where
-  pub journals : List Journal
+-- of each device: what stands on its links, and in its store
+abbrev pub AllLinksStand : List DeviceValue → Type 0
+AllLinksStand devices = (d : ℕ) (device : DeviceValue) → slice_get devices d ≡ Some device → DeviceLinksStand device
+
+-- each device that runs has in its store the facts of its journal
+abbrev pub AreTold : List Journal → List DeviceValue → Type 0
+AreTold js devices = (d : ℕ) (device : DeviceValue) (n : NodeValue) → slice_get devices d ≡ Some device → device.node ≡ Some n
+    → n.store.state.facts ≡ facts (journal_in js d)
+
+-- These are the journals of the devices: there is one for each, for which its files as they read stand, and each device that
+-- runs has in its store the facts of its own. Each is legal; what a device counts as seen by another one is held by that other;
+-- each held message was written by some device; and where a session is at rest all that is to reach its contact is held there.
+pub record AreManyDevices (journals : List Journal) (devices : List DeviceValue) : Type 0 where
   pub read : AreRead journals devices
+  pub told : AreTold journals devices
   pub legal : (d : ℕ) → Legal bundle_meaning (journal_in journals d)
   pub seen : SeenIsHeld (world_of journals [])
   pub written : HeldIsWritten (world_of journals [])
   pub rest : RestIsDone bundle_meaning (world_of journals [])
+
+-- there are such journals
+pub record IsManyDevices (devices : List DeviceValue) : Type 0 where
+  pub journals : List Journal
+  pub many : AreManyDevices journals devices

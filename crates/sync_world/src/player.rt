@@ -86,10 +86,11 @@ impl Player {
         Ok(())
     }
 
-    /// Prints what each device holds.
+    /// Prints what each device holds: the lines that the journals of the devices make.
     pub(crate) fn print<W: Sink>(&self, alloc: Global, out: &mut W) -> Result<(), Outcome>
         ensures { Prints self.now (W.tells out.old) (W.tells out.new) (came_to result) }
     {
+        self.world.many_devices_stand();
         let text = self.text(alloc)?;
         match write_text(out, text.as_str()) {
             Ok(()) => Ok(()),

@@ -2,14 +2,18 @@
 ghost use Rattle.std.specs.Prelude.{◌≡◌, ◌≢◌, ◌<◌, ◌≤◌, ℕ, true, Err, IfOk, IsErrOf, None};
 ghost use Rattle.std.specs.Prelude.{OnOk, Some};
 ghost use Rattle.std.specs.Prelude.{is_none, length, map, slice_get};
+ghost use Rattle.std.specs.List.{list_any};
 ghost use Rattle.sync_world.specs.Beginning.{IsNewWorld};
 ghost use Rattle.sync_world.specs.Shown.{arrived};
+ghost use Rattle.sync_world.specs.Turning.{is_moving};
 ghost use Rattle.sync_world.specs.Staging.{HasFreshEnd, IsDone, after_ran, attached_at, begun_with};
 ghost use Rattle.world_laws.specs.Worlds as W;
 ghost use Rattle.sync_world.specs.Standing.{Goes, IsWorld, is_fatal};
 ghost use Rattle.sync_rules.specs.Legal.{suits_nonce};
 ghost use Rattle.sync_world.specs.Moving.{Becomes, BecomesOne, LeavesDevices, LinksBecome};
 ghost use Rattle.sync_world.specs.Moving.{fault_after, link_cut, link_moved};
+ghost use Rattle.sync_world.specs.Doing.{DoesBy, ground_of};
+ghost use Rattle.sync_world.specs.Parts.{AttachesBy, DialsBy, RoundBy, TurnsBy, TurnsLinkedBy};
 ghost use Rattle.sync_world.specs.Leaving.{IsSame};
 ghost use Rattle.sync_world.specs.Naming.{IsMade};
 ghost use Rattle.sync_world.specs.Posting.{message_of};
@@ -99,6 +103,7 @@ impl Stage {
             → RefusedBy (refuses step.now self.old) result }
         ensures same { self.old.fault ≡ None → KnowContacts self.old.devices.items
             → IsErrOf result StepFault.Refused → IsSame self.old self.new }
+        ensures does { self.old.fault ≡ None → DoesBy step.now result self.old self.new }
     {
         if let Some(fault) = self.fault {
             return Err(fault);
@@ -120,6 +125,7 @@ impl Stage {
             → RefusedBy (refuses step.now self.old) result }
         ensures same { KnowContacts self.old.devices.items → IsErrOf result StepFault.Refused
             → IsSame self.old self.new }
+        ensures does { DoesBy step.now result self.old self.new }
     {
         match step {
             WorldStep::Group(d, kind, descriptor) => {
@@ -152,6 +158,7 @@ impl Stage {
         ensures refused { RefusedBy (refuses (WorldStep.Group d kind descriptor.now) self.old)
             result }
         ensures same { IsErrOf result StepFault.Refused → IsSame self.old self.new }
+        ensures does { DoesBy (WorldStep.Group d kind descriptor.now) result self.old self.new }
     {
         cite_laws();
         let def = group_def(self.alloc, kind, descriptor)?;
@@ -172,6 +179,7 @@ impl Stage {
             → RefusedBy (refuses (WorldStep.Share d e group level) self.old) result }
         ensures same { KnowContacts self.old.devices.items → IsErrOf result StepFault.Refused
             → IsSame self.old self.new }
+        ensures does { DoesBy (WorldStep.Share d e group level) result self.old self.new }
     {
         cite_laws();
         if d == e || e as usize >= self.devices.len() {
@@ -203,6 +211,8 @@ impl Stage {
         ensures refused { RefusedBy (refuses (WorldStep.Post d group time parents.now text.now)
             self.old) result }
         ensures same { IsErrOf result StepFault.Refused → IsSame self.old self.new }
+        ensures does { DoesBy (WorldStep.Post d group time parents.now text.now) result self.old
+            self.new }
     {
         cite_laws();
         let message = self.message_of(group, time, parents, text)?;
@@ -250,6 +260,7 @@ impl Stage {
         ensures goes { Goes (is_fatal result) self.old self.new }
         ensures refused { RefusedBy (refuses (WorldStep.Clock at) self.old) result }
         ensures same { IsErrOf result StepFault.Refused → IsSame self.old self.new }
+        ensures does { DoesBy (WorldStep.Clock at) result self.old self.new }
     {
         cite_laws();
         'devices: for d in 0..self.devices.len() {
@@ -264,6 +275,7 @@ impl Stage {
         ensures goes { Goes (is_fatal result) self.old self.new }
         ensures refused { RefusedBy (refuses (WorldStep.Stop d calls pick) self.old) result }
         ensures same { IsErrOf result StepFault.Refused → IsSame self.old self.new }
+        ensures does { DoesBy (WorldStep.Stop d calls pick) result self.old self.new }
     {
         cite_laws();
         if d as usize >= self.devices.len() {
@@ -279,6 +291,7 @@ impl Stage {
         ensures goes { Goes (is_fatal result) self.old self.new }
         ensures refused { RefusedBy (refuses (WorldStep.Restart d) self.old) result }
         ensures same { IsErrOf result StepFault.Refused → IsSame self.old self.new }
+        ensures does { DoesBy (WorldStep.Restart d) result self.old self.new }
     {
         cite_laws();
         if d as usize >= self.devices.len() {
@@ -314,6 +327,7 @@ impl Stage {
             → RefusedBy (refuses (WorldStep.Link d e mode latency) self.old) result }
         ensures same { KnowContacts self.old.devices.items → IsErrOf result StepFault.Refused
             → IsSame self.old self.new }
+        ensures does { DoesBy (WorldStep.Link d e mode latency) result self.old self.new }
     {
         cite_laws();
         if d == e || latency == 0 || !self.has_room(d) || !self.has_room(e) {
@@ -341,6 +355,9 @@ impl Stage {
         ensures other { IfOk result (λ link. HasFreshEnd e d link self.new.links.items) }
         ensures devices { self.new.devices.items ≡ self.old.devices.items }
         ensures unrefused { IsNotRefused result }
+        ensures dials { DialsBy d e result (ground_of self.old) (ground_of self.new) }
+        ensures groups { self.new.groups ≡ self.old.groups }
+        ensures posts { self.new.posts.items ≡ self.old.posts.items }
     {
         let link = self.links.len();
         self.links.push(Link::new(self.alloc, d, e))?;
@@ -390,6 +407,10 @@ impl Stage {
         ensures same { IsErrOf result StepFault.Refused → IsSame self.old self.new }
         ensures others { (k : ℕ) → k ≢ d
             → slice_get self.new.devices.items k ≡ slice_get self.old.devices.items k }
+        ensures attaches { AttachesBy d link plan.now nonce result (ground_of self.old)
+            (ground_of self.new) }
+        ensures groups { self.new.groups ≡ self.old.groups }
+        ensures posts { self.new.posts.items ≡ self.old.posts.items }
     {
         cite_laws();
         if d as usize >= self.devices.len() {
@@ -413,6 +434,7 @@ impl Stage {
         ensures goes { Goes (is_fatal result) self.old self.new }
         ensures refused { RefusedBy (refuses (WorldStep.Turn d) self.old) result }
         ensures same { IsErrOf result StepFault.Refused → IsSame self.old self.new }
+        ensures does { DoesBy (WorldStep.Turn d) result self.old self.new }
     {
         let _still = self.turn(d)?;
         Ok(())
@@ -424,6 +446,9 @@ impl Stage {
         ensures goes { Goes (is_fatal result) self.old self.new }
         ensures refused { RefusedBy (is_none (slice_get self.old.devices.items d)) result }
         ensures same { IsErrOf result StepFault.Refused → IsSame self.old self.new }
+        ensures turns { TurnsBy d result (ground_of self.old) (ground_of self.new) }
+        ensures groups { self.new.groups ≡ self.old.groups }
+        ensures posts { self.new.posts.items ≡ self.old.posts.items }
     {
         cite_laws();
         if d as usize >= self.devices.len() {
@@ -478,6 +503,7 @@ impl Stage {
         ensures goes { Goes (is_fatal result) self.old self.new }
         ensures refused { RefusedBy (refuses (WorldStep.Rest rounds) self.old) result }
         ensures same { IsErrOf result StepFault.Refused → IsSame self.old self.new }
+        ensures does { DoesBy (WorldStep.Rest rounds) result self.old self.new }
     {
         if rounds == 0 || u64::from(rounds) > MAX_ROUNDS {
             return Err(StepFault::Refused);
@@ -497,6 +523,9 @@ impl Stage {
         ensures fault { self.new.fault ≡ self.old.fault }
         ensures goes { Goes (is_fatal result) self.old self.new }
         ensures unrefused { IsNotRefused result }
+        ensures made { RoundBy result (ground_of self.old) (ground_of self.new) }
+        ensures groups { self.new.groups ≡ self.old.groups }
+        ensures posts { self.new.posts.items ≡ self.old.posts.items }
     {
         cite_laws();
         let mut still = true;
@@ -519,6 +548,9 @@ impl Stage {
         ensures fault { self.new.fault ≡ self.old.fault }
         ensures goes { Goes (is_fatal result) self.old self.new }
         ensures unrefused { IsNotRefused result }
+        ensures turns { TurnsLinkedBy d result (ground_of self.old) (ground_of self.new) }
+        ensures groups { self.new.groups ≡ self.old.groups }
+        ensures posts { self.new.posts.items ≡ self.old.posts.items }
     {
         if !self.has_links(d) {
             return Ok(Some(true));
@@ -531,6 +563,9 @@ impl Stage {
         ensures links { OnOk result (self.new.links.items ≡ map arrived self.old.links.items) }
         ensures devices { self.new.devices.items ≡ self.old.devices.items }
         ensures fault { self.new.fault ≡ self.old.fault }
+        ensures some { IfOk result (λ some. some ≡ list_any is_moving self.old.links.items) }
+        ensures groups { self.new.groups ≡ self.old.groups }
+        ensures posts { self.new.posts.items ≡ self.old.posts.items }
     {
         carry_all(self.links.as_mut_slice())
     }

@@ -1,6 +1,7 @@
 //! A device's turn on the links of a world.
 ghost use Rattle.std.specs.Prelude.{◌≡◌, IfOk, OnOk, length, map};
 ghost use Rattle.std.specs.List.{list_any};
+ghost use Rattle.sync_world.specs.Doing.{PlansEndOn, PlansLinkOn, PlansLinksOn};
 ghost use Rattle.sync_world.specs.Shown.{arrived};
 ghost use Rattle.sync_world.specs.Staging.{PlansAll, PlansEnd, PlansLink, SameFiles};
 ghost use Rattle.sync_world.specs.Turning.{is_moving, look_at, look_link, shut_at};
@@ -19,6 +20,7 @@ pub(crate) fn plan_all(
     ensures files { SameFiles device.old device.new }
     ensures number { length links.new ≡ length links.old }
     ensures planned { OnOk result (PlansAll number device.old device.new links.old links.new) }
+    ensures exact { OnOk result (PlansLinksOn number device.old device.new links.old links.new) }
 {
     'links: for i in 0..links.len() {
         plan_on(device, number, &mut links[i])?;
@@ -30,6 +32,7 @@ pub(crate) fn plan_all(
 fn plan_on(device: &mut Device, number: u8, link: &mut Link) -> Result<(), AllocError>
     ensures files { SameFiles device.old device.new }
     ensures planned { OnOk result (PlansLink number device.old device.new link.old link.new) }
+    ensures exact { OnOk result (PlansLinkOn number device.old device.new link.old link.new) }
 {
     match link.side_of(number) {
         Some(Side::Near) => plan(device, &mut link.near, link.is_cut),
@@ -42,6 +45,7 @@ fn plan_on(device: &mut Device, number: u8, link: &mut Link) -> Result<(), Alloc
 fn plan(device: &mut Device, end: &mut End, is_cut: bool) -> Result<(), AllocError>
     ensures files { SameFiles device.old device.new }
     ensures planned { OnOk result (PlansEnd device.old device.new end.old end.new) }
+    ensures exact { OnOk result (PlansEndOn is_cut device.old device.new end.old end.new) }
 {
     match end.at() {
         Some(at) if device.is_asked(at) => {

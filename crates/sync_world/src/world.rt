@@ -1,9 +1,10 @@
 //! The world and its steps.
 ghost use Rattle.std.specs.Prelude.{◌≡◌, ◌≤◌, Err, IfOk, IsErrOf, None, Some};
 ghost use Rattle.sync_world.specs.Beginning.{IsNewWorld};
+ghost use Rattle.sync_world.specs.Doing.{DoesBy};
 ghost use Rattle.sync_world.specs.Leaving.{IsSame};
-ghost use Rattle.sync_world.specs.Refusing.{KnowContacts, refuses};
-ghost use Rattle.sync_world.specs.Standing.{IsManyDevices};
+ghost use Rattle.sync_world.specs.Refusing.{refuses};
+ghost use Rattle.sync_world.specs.Standing.{AllLinksStand, IsManyDevices};
 ghost use Rattle.world_devices.specs.Refusals.{RefusedBy};
 ghost use Rattle.sync_world.specs.Moving.{LeavesDevices, LinksBecome, fault_after};
 ghost use Rattle.world_devices.specs.declared.stop.StepFault.{StepFault};
@@ -50,9 +51,9 @@ impl World {
         ensures many { IfOk result (λ world. IsManyDevices world.devices.items) }
     {
         many_devices();
-        Ok(World {
-            stage: Stage::new(alloc, hasher, devices)?,
-        })
+        let stage = Stage::new(alloc, hasher, devices)?;
+        links_stand_on(stage.devices.as_slice());
+        Ok(World { stage })
     }
 
     /// The devices, by their numbers.
@@ -62,26 +63,28 @@ impl World {
         self.stage.devices.as_slice()
     }
 
-    /// Many devices: there is a journal for each device, for which its files as they read stand.
-    /// Each journal is legal; what a device counts as seen by another one is held by that other;
-    /// each held message was written by some device; and where a session is at rest all that is to
-    /// reach its contact is held there. So it is at any time, whatever the steps before answered.
-    /// It does nothing.
+    /// Many devices: there is a journal for each device, for which its files as they read stand,
+    /// and whose facts its store has where it runs. Each journal is legal; what a device counts as
+    /// seen by another one is held by that other; each held message was written by some device; and
+    /// where a session is at rest all that is to reach its contact is held there. So it is at any
+    /// time, whatever the steps before answered. It does nothing.
     pub fn many_devices_stand(&self)
         ensures { IsManyDevices self.now.devices.items }
     {
-        let _fault = self.stage.fault;
+        links_stand_on(self.stage.devices.as_slice());
         many_devices();
     }
 
     /// Makes a step. After `Refused` the world is as before; after `Memory` or `Full` it answers
     /// that fault for good. Whatever it answers, there is then a journal for each device, for which
-    /// its files as they read stand; each is legal, what a device counts as seen by another one is
-    /// held by that other, each held message was written by some device, and where a session is at
-    /// rest all that is to reach its contact is held there.
+    /// its files as they read stand, and whose facts its store has where it runs; each is legal,
+    /// what a device counts as seen by another one is held by that other, each held message was
+    /// written by some device, and where a session is at rest all that is to reach its contact is
+    /// held there.
     ///
     /// `Refused` comes exactly where the rules of worlds refuse the step (`refuses`), but for want
-    /// of memory: in a world each of whose devices knows a contact for each other one.
+    /// of memory. `Ok` comes where the step was made as these rules have it, and `Full` where a
+    /// device in it would pass the limit of its journal (`DoesBy`).
     pub fn step(&mut self, step: &WorldStep) -> Result<(), StepFault>
         ensures for_good { (fault : StepFault) → self.old.fault ≡ Some fault
             → (result ≡ Err fault) × (self.new ≡ self.old) }
@@ -91,12 +94,24 @@ impl World {
         ensures devices { self.old.fault ≡ None → LeavesDevices step.now self.old.devices.items
             self.new.devices.items }
         ensures many { IsManyDevices self.new.devices.items }
-        ensures refused { self.old.fault ≡ None → KnowContacts self.old.devices.items
-            → RefusedBy (refuses step.now self.old) result }
-        ensures same { self.old.fault ≡ None → KnowContacts self.old.devices.items
-            → IsErrOf result StepFault.Refused → IsSame self.old self.new }
+        ensures refused { self.old.fault ≡ None → RefusedBy (refuses step.now self.old) result }
+        ensures same { self.old.fault ≡ None → IsErrOf result StepFault.Refused
+            → IsSame self.old self.new }
+        ensures does { self.old.fault ≡ None → DoesBy step.now result self.old self.new }
     {
         many_devices();
-        self.stage.step(step)
+        links_stand_on(self.stage.devices.as_slice());
+        let made = self.stage.step(step);
+        links_stand_on(self.stage.devices.as_slice());
+        made
+    }
+}
+
+// What stands on the links of each device, and in its store. It does nothing.
+fn links_stand_on(devices: &[Device])
+    ensures { AllLinksStand devices.now }
+{
+    'devices: for d in 0..devices.len() {
+        devices[d].links_stand();
     }
 }

@@ -368,6 +368,7 @@ links_stand n d j run holds =
       legal = subst (λ (k : Journal). Legal bundle_meaning k) same has.fits.legal;
       within = subst (λ (k : Journal). AllByRecursion (λ batch. AllByRecursion IsEntry batch) k) same has.fits.within;
       counted = run.linked;
+      limit = run.limit;
       known = λ link l there.
           let at = (run.attached.attached run.unclosed).each link l there in
           ap (λ (g : Facts). session_at g.sessions (n.first + link)) f

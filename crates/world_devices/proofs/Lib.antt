@@ -5,4 +5,8 @@ pub mod LeaveLaws
 pub mod HostLaws
 pub mod RunningLaws
 pub mod CallLaws
+pub mod TurnLaws
 pub mod NewLaws
+pub mod AddLaws
+mod StartLaws
+pub mod HeldLaws

@@ -58,6 +58,7 @@ running_on n h h' links same brings running = record {
   unclosed = running.unclosed;
   runs = run_on n (host_told h) (host_told h') same running.runs;
   may = may_on n (host_told h) (host_told h') same.files same.dialled running.may;
+  limit = running.limit;
   linked = running.linked;
   dialled = omega (arith, same.dialled, running.dialled);
   attached = running.attached;
@@ -102,6 +103,7 @@ begins_running n s h is started dialled quiet silent =
       unclosed = refl;
       runs = run_begun (record { store = s; first = s.state.facts.begun; links = []; closed = false }) s (host_told h) (told_host h) has.whole has.fits refl quiet;
       may = λ _. record { ready = started.ready; settled = λ _. started.settled; dialled = omega (arith) };
+      limit = started.limit;
       linked = refl;
       dialled = dialled;
       attached = record { few = omega arith; attached = λ _. record { begun = omega arith; each = λ number l there. cc } };
@@ -109,12 +111,13 @@ begins_running n s h is started dialled quiet silent =
     })
 
 -- a session began on one link more
-pub attached_running : (session : Session) (n n' : NodeValue) (h h' : MemHostValue) (links : ℕ) → MayRun bundle_meaning n' (host_told h') → n'.closed ≡ false
+pub attached_running : (session : Session) (n n' : NodeValue) (h h' : MemHostValue) (links : ℕ) → n'.store.limit ≡ n.store.limit → MayRun bundle_meaning n' (host_told h') → n'.closed ≡ false
     → Attaches bundle_meaning n n' (host_told h) (host_told h') → PlansSafe bundle_meaning session n n' (host_told h) (host_told h') → IsNode n' → BringsAll h h' → IsRunning n h links → IsRunning n' h' (links + 1)
-attached_running session n n' h h' links may unclosed attaches safe is_node brings running = record {
+attached_running session n n' h h' links limit may unclosed attaches safe is_node brings running = record {
   unclosed = unclosed;
   runs = run_attached session n n' (host_told h) (host_told h') attaches safe running.runs;
   may = may;
+  limit = limit ∙ running.limit;
   linked = omega (arith, running.linked, attaches.one_more);
   dialled = omega (arith, running.dialled, attaches.goes.links.dialled);
   attached = is_node;
@@ -128,12 +131,13 @@ attach_keeps session n n' h h' links safe running =
     keeps_attaching session n n' (host_told h) (host_told h') (told_host h) (told_host h') has.whole has.fits running.runs safe
 
 -- a turn was made
-pub turned_running : (n n' : NodeValue) (h h' : MemHostValue) (links : ℕ) → MayRun bundle_meaning n' (host_told h') → n'.closed ≡ false
+pub turned_running : (n n' : NodeValue) (h h' : MemHostValue) (links : ℕ) → n'.store.limit ≡ n.store.limit → MayRun bundle_meaning n' (host_told h') → n'.closed ≡ false
     → KeepsJoined bundle_meaning n n' (host_told h) (host_told h') → KeepsSafe bundle_meaning n n' (host_told h) (host_told h') → IsNode n' → BringsAll h h' → IsRunning n h links → IsRunning n' h' links
-turned_running n n' h h' links may unclosed joined safe is_node brings running = record {
+turned_running n n' h h' links limit may unclosed joined safe is_node brings running = record {
   unclosed = unclosed;
   runs = run_turned n n' (host_told h) (host_told h') joined safe running.runs;
   may = may;
+  limit = limit ∙ running.limit;
   linked = running.linked ∙ sym joined.same_number;
   dialled = omega (arith, running.dialled, joined.goes.links.dialled);
   attached = is_node;
@@ -151,15 +155,16 @@ LeadsAdding batch n n' h h' =
     (two : Two File) → (host_told h).files ≡ Some two → (j : Journal) → Fits bundle_meaning n.store j two
     → Leads bundle_meaning (AddsAtMost bundle_meaning j batch) (AddsAtMost bundle_meaning j batch) n'.store (host_told h) (host_told h')
 
-pub added_running : SentGrows → (batch : List Entry) (n n' : NodeValue) (h h' : MemHostValue) (links : ℕ) → MayRun bundle_meaning n' (host_told h') → n'.closed ≡ false
+pub added_running : SentGrows → (batch : List Entry) (n n' : NodeValue) (h h' : MemHostValue) (links : ℕ) → n'.store.limit ≡ n.store.limit → MayRun bundle_meaning n' (host_told h') → n'.closed ≡ false
     → KeepsJoined bundle_meaning n n' (host_told h) (host_told h') → LeadsAdding batch n n' h h' → IsNode n' → (host_told h').links ≡ (host_told h).links → IsRunning n h links → IsRunning n' h' links
-added_running grows batch n n' h h' links may unclosed joined leads is_node same running =
+added_running grows batch n n' h h' links limit may unclosed joined leads is_node same running =
     let has = journal_of n.store h (open_of n h links running) in
     record {
       unclosed = unclosed;
       runs = run_added grows batch n n' (host_told h) (host_told h') (told_host h) (told_host h') has.whole has.fits joined (leads (told_host h).two (told_host h).files_are has.whole has.fits)
           (open_of n h links running).still_open (may unclosed).ready.still_open running.runs;
       may = may;
+      limit = limit ∙ running.limit;
       linked = running.linked ∙ sym joined.same_number;
       dialled = omega (arith, running.dialled, joined.goes.links.dialled);
       attached = is_node;

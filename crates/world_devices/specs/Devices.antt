@@ -3,7 +3,7 @@ use Rattle.std.specs.Prelude.{◌≡◌, ℕ, ◌≤◌, false, [], ◌∷◌, l
 use Rattle.std.specs.Coded.{Coded, code_by, coded×, coded_option, coded_ℕ}
 use Rattle.outside.specs.MemHost.{MemHostValue}
 use Rattle.outside.specs.HostTold.{host_told}
-use Rattle.outside.specs.declared.limits.TheConstants.{LINKS}
+use Rattle.outside.specs.declared.limits.TheConstants.{LINKS, MAX_JOURNAL}
 use Rattle.outside.specs.contracts.mem_host.MemHost as mem_host
 use Rattle.client_basic.specs.Bodies.{bundle_meaning}
 use Rattle.sync_rules.specs.declared.entries.Entry.{Entry}
@@ -37,17 +37,19 @@ device_code =
 abbrev pub links_made : MemHostValue → ℕ
 links_made host = (host_told host).links.dialled
 
--- a store that was loaded and settled
+-- a store that was loaded and settled, with the greatest limit
 pub record IsStarted (s : StoreValue) (host : MemHostValue) : Type 0 where
   pub ready : IsReady bundle_meaning s (host_told host).files
   pub settled : IsSettled bundle_meaning s.state.facts
+  pub limit : s.limit ≡ MAX_JOURNAL
 
--- the node may go on and its run is safe, its links are those that the device has had, and its host has all links that it may get;
+-- the node may go on and its run is safe, its journal may have the greatest length, its links are those that the device has had, and its host has all links that it may get;
 -- of these, one that the device has not had brings nothing
 pub record IsRunning (n : NodeValue) (host : MemHostValue) (links : ℕ) : Type 0 where
   pub unclosed : n.closed ≡ false
   pub runs : IsSafeRun n (host_told host)
   pub may : MayRun bundle_meaning n (host_told host)
+  pub limit : n.store.limit ≡ MAX_JOURNAL
   pub linked : links ≡ length n.links
   pub dialled : LINKS ≤ links_made host
   pub attached : IsNode n

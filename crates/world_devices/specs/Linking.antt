@@ -4,6 +4,7 @@ use Rattle.std.specs.List.{AllByRecursion}
 use Rattle.std.specs.Option.{option_map}
 use Rattle.std.specs.declared.alloc.AllocError.{AllocError}
 use Rattle.outside.specs.declared.answer.Answer.{Answer}
+use Rattle.outside.specs.declared.limits.TheConstants.{MAX_JOURNAL}
 use Rattle.client_basic.specs.Bodies.{bundle_meaning}
 use Rattle.entry_codec.specs.Spelling.{IsEntry}
 use Rattle.sync_course.specs.declared.ends.LinkEnd.{LinkEnd}
@@ -17,6 +18,7 @@ use Rattle.sync_node.specs.Output.{output}
 use Rattle.world_laws.specs.Worlds.{HasSession}
 use Rattle.world_devices.specs.Brought.{brought_on, bytes_of, sent_by}
 use Rattle.world_devices.specs.Devices.{DeviceValue}
+use Rattle.world_devices.specs.Doing.{IsAnew}
 use Rattle.world_devices.specs.Keeping.{Journal}
 use Rattle.world_devices.specs.Running.{Holds}
 use Rattle.world_devices.specs.declared.stop.Ran.{Ran}
@@ -108,18 +110,26 @@ LinksByPlan link answer (Err _) old new = new ≡ old
 -- ---- what stands on the links
 
 -- Of a device that runs and holds a journal: its store has the facts of the journal, whose entries are within
--- their limits. The session of each link is in the journal;
+-- their limits; its journal may have the greatest length. The session of each link is in the journal;
 -- on a link that is not closed on this side all output of its session was sent. A link that it has not had brings nothing.
 pub record LinksStand (n : NodeValue) (d : DeviceValue) (j : Journal) : Type 0 where
   pub facts_are : n.store.state.facts ≡ facts j
   pub legal : Legal bundle_meaning j
   pub within : AllByRecursion (λ batch. AllByRecursion IsEntry batch) j
   pub counted : d.links ≡ length n.links
+  pub limit : n.store.limit ≡ MAX_JOURNAL
   pub known : (link : ℕ) (l : Link) → slice_get n.links link ≡ Some l → session_at (facts j).sessions (n.first + link) ≡ Some l.session
   pub sent : (link : ℕ) (l : Link) → slice_get n.links link ≡ Some l → is_sent_to l.end ≡ true → sent_by d.host link ≡ output j (n.first + link)
   pub unused : (link : ℕ) → d.links ≤ link → brought_on d.host link ≡ []
 
+-- a journal that the files of a device hold
+pub record HoldsSome (d : DeviceValue) : Type 0 where
+  pub journal : Journal
+  pub holds : Holds journal d.host
+
+-- where a device runs, its files hold a journal, and all of that stands for whatever journal they hold
 pub record DeviceLinksStand (d : DeviceValue) : Type 0 where
+  pub holds : (n : NodeValue) → d.node ≡ Some n → HoldsSome d
   pub each : (n : NodeValue) → d.node ≡ Some n → (j : Journal) → Holds j d.host → LinksStand n d j
 
 -- ---- a new device
@@ -140,7 +150,8 @@ WhenDone (Ok ran.Done) P = P
 WhenDone (Ok ran.Crashed) P = Unit {0}
 WhenDone (Err fault) P = Unit {0}
 
--- it runs, and holds a journal with so many contacts and no message; it has no links, and this time
+-- It runs, and holds a journal with so many contacts and no message. It has no links, this time, and no
+-- stop; its host has all links that it may get, and is anew.
 pub record IsNewDevice (contacts clock : ℕ) (d : DeviceValue) : Type 0 where
   pub runs : is_some d.node ≡ true
   pub whole : Journal
@@ -150,3 +161,5 @@ pub record IsNewDevice (contacts clock : ℕ) (d : DeviceValue) : Type 0 where
   pub contacts_are : (facts whole).contacts ≡ contacts
   pub unlinked : IsUnlinked d
   pub clock_is : d.clock ≡ clock
+  pub anew : IsAnew clock d.host
+  pub unstopped : d.stop ≡ None

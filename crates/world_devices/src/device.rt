@@ -6,7 +6,7 @@ ghost use Rattle.outside.specs.HostTold.{host_told};
 ghost use Rattle.sync_rules.specs.Legal.{suits_nonce};
 ghost use Rattle.sync_rules.specs.declared.entries.Entry.TheVariants as entry_kind;
 ghost use Rattle.world_devices.specs.Devices.{DeviceKeeps, IsReadyStore, MayAdd, links_made};
-ghost use Rattle.world_devices.specs.Keeping.{StandsLegal};
+ghost use Rattle.world_devices.specs.Keeping.{Journal, StandsLegal};
 ghost use Rattle.world_devices.specs.Linking.{DeviceLinksStand, IsBareIn, IsNewDevice, IsUnlinked};
 ghost use Rattle.world_devices.specs.Linking.{WhenDone};
 ghost use Rattle.world_devices.specs.Linking.{KeepsLinks, LinksBy, LinksByAttach, LinksByPlan};
@@ -16,6 +16,12 @@ ghost use Rattle.world_devices.specs.Refusals.{refuses_group, refuses_level, ref
 ghost use Rattle.world_devices.specs.Refusals.{refuses_message};
 ghost use Rattle.world_devices.specs.Brought.{IsSilent, sent_by};
 ghost use Rattle.world_devices.specs.Running.{DeviceRuns, Holds, IsStill, LeavesOn};
+ghost use Rattle.world_devices.specs.Doing.{Adds, Attaches, BreaksOff, CrashesTo, IsNotFull};
+ghost use Rattle.world_devices.specs.Doing.{HoldsSettling, IsAnew, KeepsOwn, KeepsRest};
+ghost use Rattle.world_devices.specs.Doing.{Restarts};
+ghost use Rattle.world_devices.specs.Doing.{SettlesFrom, Turns, clocked, stopped, with_plan};
+ghost use Rattle.world_devices.specs.Doing.{with_stop};
+ghost use Rattle.outside.specs.Script.{planned_of};
 
 use crate::starting::{StartFault, begin, cite_laws, dial_all, load};
 use crate::stop::{Ran, StepFault, Stop};
@@ -104,6 +110,7 @@ impl Device {
     // What a device is that has so many contacts, no message and no links. It does nothing.
     fn new_stands(&self)
         ensures { (contacts : ℕ) → IsBareIn contacts self.now.node → IsUnlinked self.now
+            → IsAnew self.now.clock self.now.host → self.now.stop ≡ None
             → IsNewDevice contacts self.now.clock self.now }
     {
         let _links = self.links;
@@ -161,6 +168,8 @@ impl Device {
         ensures node { self.new.node ≡ self.old.node }
         ensures clock { OnOk result (self.new.clock ≡ at) }
         ensures files { (host_told self.new.host).files ≡ (host_told self.old.host).files }
+        ensures set { OnOk result (self.new ≡ clocked at self.old) }
+        ensures same { OnErr result (self.new ≡ self.old) }
     {
         self.host.set_clock(at)?;
         self.clock = at;
@@ -178,6 +187,8 @@ impl Device {
         ensures links { KeepsLinks self.old self.new }
         ensures node { self.new.node ≡ self.old.node }
         ensures files { (host_told self.new.host).files ≡ (host_told self.old.host).files }
+        ensures armed { OnOk result (self.new ≡ stopped calls pick self.old) }
+        ensures disarmed { OnErr result (self.new ≡ with_stop None self.old) }
     {
         self.host.fail_none();
         self.stop = None;
@@ -195,6 +206,7 @@ impl Device {
         ensures running { OnOk result (is_some self.new.node ≡ true) }
         ensures links { OnOk result (IsUnlinked self.new) }
         ensures unrefused { IsNotRefused result }
+        ensures restarts { Restarts result self.old self.new }
     {
         cite_laws();
         self.node = None;
@@ -219,6 +231,11 @@ impl Device {
         ensures idle { OnErr result (self.new.node ≡ None) }
         ensures bare { Holds [] self.old.host → OnOk result (IsBareIn 0 self.new.node) }
         ensures clock { self.new.clock ≡ self.old.clock }
+        ensures stop { self.new.stop ≡ self.old.stop }
+        ensures loads { (j : Journal) → Holds j self.old.host
+            → OnOk result (SettlesFrom j self.new.host) }
+        ensures settling { (j : Journal) → Holds j self.old.host → HoldsSettling j self.new.host }
+        ensures anew { OnOk result (IsAnew self.new.clock self.new.host) }
     {
         self.node = None;
         self.links = 0;
@@ -239,6 +256,8 @@ impl Device {
         ensures links { OnOk result (IsUnlinked self.new) }
         ensures unrefused { IsNotRefused result }
         ensures clock { self.new.clock ≡ self.old.clock }
+        ensures to { OnOk result (BreaksOff self.old.stop self.old.host self.new) }
+        ensures unfilled { IsNotFull result }
     {
         let made = self.host.disk().calls();
         match self.stop {
@@ -256,6 +275,8 @@ impl Device {
         ensures links { OnOk result (IsUnlinked self.new) }
         ensures unrefused { IsNotRefused result }
         ensures clock { self.new.clock ≡ self.old.clock }
+        ensures to { OnOk result (CrashesTo pick self.old.host self.new) }
+        ensures unfilled { IsNotFull result }
     {
         self.node = None;
         self.stop = None;
@@ -276,6 +297,9 @@ impl Device {
         ensures links { OnOk result (IsUnlinked self.new) }
         ensures unrefused { IsNotRefused result }
         ensures clock { self.new.clock ≡ self.old.clock }
+        ensures to { OnOk result (BreaksOff self.old.stop self.old.host self.new) }
+        ensures full { IsErrOf result StepFault.Full
+            → (fault ≡ NodeFault.Full) × (self.new.host ≡ self.old.host) }
     {
         match fault {
             NodeFault::DiskFault => self.break_off(),
@@ -286,7 +310,8 @@ impl Device {
 
     // Whether each call on its links and its clock found memory.
     fn test_memory(&self) -> Result<(), StepFault>
-        ensures { IsNotRefused result }
+        ensures unrefused { IsNotRefused result }
+        ensures unfilled { IsNotFull result }
     {
         if self.host.starved() == 0 {
             Ok(())
@@ -309,6 +334,7 @@ impl Device {
         ensures bare { (contacts : ℕ) → IsBareIn contacts self.old.node
             → WhenDone result (IsBareIn (contacts + 1) self.new.node) }
         ensures clock { self.new.clock ≡ self.old.clock }
+        ensures rest { WhenDone result (KeepsOwn self.old self.new × KeepsRest self.old self.new) }
     {
         let Some(store) = self.ready() else {
             return Err(StepFault::Memory);
@@ -327,6 +353,7 @@ impl Device {
         ensures links { LinksBy result self.old self.new }
         ensures refused { RefusedBy (refuses_group self.old.node def) result }
         ensures same { IsErrOf result StepFault.Refused → self.new ≡ self.old }
+        ensures adds { Adds (entry_kind.Group def) result self.old self.new }
     {
         let Some(store) = self.ready() else {
             return Err(StepFault::Memory);
@@ -350,6 +377,7 @@ impl Device {
         ensures links { LinksBy result self.old self.new }
         ensures refused { RefusedBy (refuses_level self.old.node contact group.now) result }
         ensures same { IsErrOf result StepFault.Refused → self.new ≡ self.old }
+        ensures adds { Adds (entry_kind.Level contact group.now level) result self.old self.new }
     {
         let Some(store) = self.ready() else {
             return Err(StepFault::Memory);
@@ -368,6 +396,7 @@ impl Device {
         ensures links { LinksBy result self.old self.new }
         ensures refused { RefusedBy (refuses_message self.old.node message) result }
         ensures same { IsErrOf result StepFault.Refused → self.new ≡ self.old }
+        ensures adds { Adds (entry_kind.Author message) result self.old self.new }
     {
         let Some(store) = self.ready() else {
             return Err(StepFault::Memory);
@@ -387,6 +416,7 @@ impl Device {
         ensures running { OnOk result (is_some self.new.node ≡ true) }
         ensures links { LinksBy result self.old self.new }
         ensures unrefused { IsNotRefused result }
+        ensures adds { Adds entry result self.old self.new }
         ensures bare { (contacts number : ℕ) → entry ≡ entry_kind.Contact number
             → IsBareIn contacts self.old.node
             → WhenDone result (IsBareIn (contacts + 1) self.new.node) }
@@ -425,6 +455,7 @@ impl Device {
         ensures refused { RefusedBy (refuses_link self.old.node self.old.links
             plan.now.contact) result }
         ensures same { IsErrOf result StepFault.Refused → self.new ≡ self.old }
+        ensures attaches { Attaches plan.now nonce result self.old self.new }
     {
         let Some(store) = self.ready() else {
             return Err(StepFault::Memory);
@@ -479,6 +510,8 @@ impl Device {
         ensures runs { DeviceRuns self.old self.new }
         ensures links { LinksByPlan link answer result self.old self.new }
         ensures files { (host_told self.new.host).files ≡ (host_told self.old.host).files }
+        ensures planned { OnOk result (self.new ≡ with_plan link (planned_of answer) self.old) }
+        ensures same { OnErr result (self.new ≡ self.old) }
     {
         if link < self.links {
             self.host.script(link, answer)?;
@@ -500,6 +533,7 @@ impl Device {
         ensures running { OnOk result (is_some self.new.node ≡ true) }
         ensures links { LinksByTurn result self.old self.new }
         ensures unrefused { IsNotRefused result }
+        ensures turns { Turns result self.old self.new }
     {
         cite_laws();
         let Some(node) = &mut self.node else {

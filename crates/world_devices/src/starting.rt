@@ -2,11 +2,13 @@
 ghost use Rattle.std.specs.Prelude.{◌≡◌, ℕ, [], IfOk, OnOk};
 ghost use Rattle.client_basic.specs.Bodies.{bundle_meaning};
 ghost use Rattle.outside.specs.HostTold.{host_told};
+ghost use Rattle.outside.specs.declared.limits.TheConstants.{MAX_JOURNAL};
 ghost use Rattle.sync_store.specs.Ready.{IsReady};
 ghost use Rattle.world_devices.specs.Devices.{IsStarted, links_made};
 ghost use Rattle.world_devices.specs.Brought.{IsSilent};
 ghost use Rattle.world_devices.specs.Cited.{CitedLaws};
-ghost use Rattle.world_devices.specs.Keeping.{IsQuiet, Keeps, KeepsOn};
+ghost use Rattle.world_devices.specs.Doing.{HoldsSettling, SettlesFrom};
+ghost use Rattle.world_devices.specs.Keeping.{IsQuiet, Journal, Keeps, KeepsOn};
 ghost use Rattle.world_devices.specs.Linking.{IsBare};
 ghost use Rattle.world_devices.specs.Running.{Holds, LeavesOn};
 ghost use Rattle.world_devices.specs.declared.starting.StartFault.TheVariants as start_fault;
@@ -86,6 +88,8 @@ pub(crate) fn load(
     ensures keeps { KeepsOn (host_told host.old) (host_told host.new) }
     ensures leaves { LeavesOn (host_told host.old) (host_told host.new) }
     ensures bare { Holds [] host.old → IfOk result (IsBare 0) }
+    ensures loads { (j : Journal) → Holds j host.old → OnOk result (SettlesFrom j host.new) }
+    ensures settling { (j : Journal) → Holds j host.old → HoldsSettling j host.new }
 {
     match Store::load(alloc, hasher, host, &Bundle::new(), MAX_JOURNAL) {
         Ok(store) => settle(store, host),
@@ -96,12 +100,15 @@ pub(crate) fn load(
 
 // Settles a store that was loaded.
 fn settle(store: Store, host: &mut MemHost) -> Result<Store, StartFault>
-    requires { IsReady bundle_meaning store (host_told host.old).files }
+    requires ready { IsReady bundle_meaning store (host_told host.old).files }
+    requires limit { store.limit ≡ MAX_JOURNAL }
     ensures started { IfOk result (λ store. IsStarted store host.new) }
     ensures links { (host_told host.new).links ≡ (host_told host.old).links }
     ensures keeps { KeepsOn (host_told host.old) (host_told host.new) }
     ensures leaves { LeavesOn (host_told host.old) (host_told host.new) }
     ensures bare { (contacts : ℕ) → IsBare contacts store → IfOk result (IsBare contacts) }
+    ensures settles { (j : Journal) → Holds j host.old → OnOk result (SettlesFrom j host.new) }
+    ensures settling { (j : Journal) → Holds j host.old → HoldsSettling j host.new }
 {
     cite_laws();
     let mut store = store;

@@ -1,5 +1,6 @@
 //! An end of a link.
-ghost use Rattle.std.specs.Prelude.{◌≡◌, ◌≤◌, [], None, Some, IfOk, OnErr, OnOk, drop, length, take};
+ghost use Rattle.std.specs.Prelude.{◌≡◌, ◌≤◌, [], None, Some, IfOk, OnErr, OnOk};
+ghost use Rattle.std.specs.Prelude.{drop, length, take};
 ghost use Rattle.outside.specs.Script.{planned_of};
 ghost use Rattle.world_links.specs.Ends.{answer_to, flight_behind, input_of, new_end};
 ghost use Rattle.world_links.specs.Links.{given_too};

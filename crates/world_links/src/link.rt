@@ -96,7 +96,8 @@ impl Link {
 // Moves the first records in flight from an end to another one.
 fn make(how: Move, from: &mut End, to: &mut End) -> Result<bool, AllocError>
     ensures possible { IfOk result (λ done. done ≡ is_possible how from.old.flight) }
-    ensures from { OnOk result (from.new ≡ with_flight (flight_after how from.old.flight) from.old) }
+    ensures from { OnOk result
+        (from.new ≡ with_flight (flight_after how from.old.flight) from.old) }
     ensures to { OnOk result (to.new ≡ given_too (given_by how from.old.flight) to.old) }
     ensures from_err { OnErr result (from.new ≡ from.old) }
     ensures to_err { OnErr result (to.new ≡ to.old) }

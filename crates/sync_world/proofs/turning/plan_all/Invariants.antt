@@ -1,5 +1,6 @@
 use Rattle.std.proofs.Common.{◌≡◌, length}
 use Rattle.sync_world.specs.Staging.{PlansAll, SameFiles}
+use Rattle.sync_world.proofs.TurningLaws.{PlansFront}
 use Rattle.sync_world.proofs.turning.plan_all.Given as goal
 
 -- what was shown before is shown with the links that were asked so far
@@ -8,4 +9,5 @@ invariant-links l = record {
   files : SameFiles l.initial.device l.device;
   number : length l.links ≡ length l.initial.links;
   planned : PlansAll l.number l.initial.device l.device l.initial.links l.links;
+  exact : PlansFront l.i l.number l.initial.device l.device l.initial.links l.links;
 }

@@ -3,6 +3,7 @@ use Rattle.world_devices.proofs.HostLaws.{told_host}
 use Rattle.world_devices.proofs.LeaveLaws.{leave_looks}
 use Rattle.world_devices.proofs.RunningLaws.{load_keeps}
 use Rattle.world_devices.proofs.NewLaws.{bare_loaded}
+use Rattle.world_devices.proofs.StartLaws.{holds_looks, holds_settling}
 use Rattle.world_devices.proofs.starting.load.Goals as goal
 
 pub returns-in-Ok-clause-keeps : goal.returns-in-Ok-clause-keeps
@@ -27,3 +28,19 @@ returns-in-Err-clause-leaves c = leave_looks (host_told c.args.host.now) (host_t
 pub returns-in-Ok-clause-bare : goal.returns-in-Ok-clause-bare
 returns-in-Ok-clause-bare c = λ holds.
     c.settle.ensures.bare 0 (bare_loaded c.args.host.now c.in-Ok.store holds (c.in-Ok.ensures.answer (told_host c.args.host.now).two (told_host c.args.host.now).files_are))
+
+pub returns-in-Ok-clause-loads : goal.returns-in-Ok-clause-loads
+returns-in-Ok-clause-loads c = λ j holds.
+    c.settle.ensures.settles j (holds_looks j c.args.host.now c.load.new.disk c.load.ensures.any_moment holds)
+
+pub returns-in-Ok-clause-settling : goal.returns-in-Ok-clause-settling
+returns-in-Ok-clause-settling c = λ j holds.
+    c.settle.ensures.settling j (holds_looks j c.args.host.now c.load.new.disk c.load.ensures.any_moment holds)
+
+pub returns-in-Err-DiskFault-clause-settling : goal.returns-in-Err-DiskFault-clause-settling
+returns-in-Err-DiskFault-clause-settling c = λ j holds.
+    holds_settling j c.load.new.disk (holds_looks j c.args.host.now c.load.new.disk c.load.ensures.any_moment holds)
+
+pub returns-in-Err-clause-settling : goal.returns-in-Err-clause-settling
+returns-in-Err-clause-settling c = λ j holds.
+    holds_settling j c.load.new.disk (holds_looks j c.args.host.now c.load.new.disk c.load.ensures.any_moment holds)

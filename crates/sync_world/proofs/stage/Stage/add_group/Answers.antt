@@ -1,4 +1,4 @@
-use Rattle.std.proofs.Common.{◌<◌, length, arith, ap, Err, rules, ◌≡◌, true, Some, slice_get, Ok}
+use Rattle.std.proofs.Common.{◌<◌, ◌∙◌, length, arith, ap, Err, rules, true, slice_get}
 use Rattle.world_devices.specs.declared.stop.StepFault.TheVariants as fault
 use Rattle.sync_world.proofs.GoLaws.{same_leads}
 use Rattle.sync_world.proofs.StepLaws.{leads_err, came_goes, ends_leads, fails_leads}
@@ -7,6 +7,10 @@ use Rattle.world_devices.specs.Refusals.{RefusedBy, refuses_group}
 use Rattle.sync_ids.specs.Values.{GroupValue}
 use Rattle.sync_world.specs.Naming.{group_of}
 use Rattle.sync_world.proofs.RefusingLaws.{by_same, done_same, get_at, get_past, with_both, with_missing}
+use Rattle.sync_rules.specs.declared.entries.Entry.TheVariants as entry
+use Rattle.world_scripts.specs.declared.step.WorldStep.TheVariants as step
+use Rattle.sync_world.specs.Doing.{entry_of}
+use Rattle.sync_world.proofs.DoingLaws.{adds_entry, fills_with, made_as, passes_does}
 use Rattle.sync_world.proofs.stage.Stage.add_group.Goals as goal
 
 pub returns-in_err-def-clause-goes : goal.returns-in_err-def-clause-goes
@@ -52,3 +56,24 @@ returns-clause-refused c =
     (with_both (λ (def : GroupValue) (x : DeviceValue). refuses_group x.node def) (group_of c.args.kind c.args.descriptor.now) (slice_get c.args.self.now.devices.items c.args.d) c.in_ok-def.def c.index_mut-device.result.now c.in_ok-def.ensures
     (get_at c.args.self.now.devices.items c.args.d c.index_mut-device.result.now (omega arith) c.index_mut-device.ensures.value))
     (done_same (refuses_group c.index_mut-device.result.now.node c.in_ok-def.def) c.in_ok-ran.ran tt c.in_ok-ran.ensures.refused)
+
+pub returns-in_err-ran-clause-does : goal.returns-in_err-ran-clause-does
+returns-in_err-ran-clause-does c =
+    let within : c.args.d < length c.args.self.now.devices.items = omega arith in
+    let made = step.Group c.args.d c.args.kind c.args.descriptor.now in
+    passes_does made c.args.self.now _ c.from_residual-in_err-ran.result c.in_err-ran.field-0.0 c.from_residual-in_err-ran.ensures.1
+    (fills_with (entry_of made c.args.self.now) (entry.Group c.in_ok-def.def) c.args.d c.args.self.now.devices.items c.in_err-ran.field-0.0 c.index_mut-device.result.now c.add_group.new.self
+    (made_as (λ (def : GroupValue). entry.Group def) (group_of c.args.kind c.args.descriptor.now) c.in_ok-def.def c.in_ok-def.ensures)
+    within c.index_mut-device.ensures.value c.in_err-ran.ensures.adds)
+
+pub returns-clause-does : goal.returns-clause-does
+returns-clause-does c =
+    let within : c.args.d < length c.args.self.now.devices.items = omega arith in
+    record {
+      does = adds_entry (entry_of (step.Group c.args.d c.args.kind c.args.descriptor.now) c.args.self.now) (entry.Group c.in_ok-def.def) c.args.d c.in_ok-ran.ran c.args.self.now.devices.items _ c.args.self.now.links.items _
+          c.index_mut-device.result.now c.add_group.new.self
+          (made_as (λ (def : GroupValue). entry.Group def) (group_of c.args.kind c.args.descriptor.now) c.in_ok-def.def c.in_ok-def.ensures)
+          within c.index_mut-device.ensures.value c.in_ok-ran.ensures.adds c.came.ensures.devices c.came.ensures.links;
+      groups = c.came.ensures.groups ∙ c.in_ok-label.ensures.ok;
+      posts = c.came.ensures.posts;
+    }

@@ -1,4 +1,4 @@
-use Rattle.std.proofs.Common.{◌≡◌, ◌-◌, ◌+◌, ◌∷◌, [], None, length, length-append, ap, sym, subst, ◌∙◌}
+use Rattle.std.proofs.Common.{◌≡◌, ◌-◌, ◌+◌, ◌∷◌, [], None, length, length-append, ap, arith, sym, subst, ◌∙◌}
 use Rattle.std.specs.List.{AllByRecursion}
 use Rattle.world_devices.specs.Linking.{IsNewDevice}
 use Rattle.sync_world.proofs.WorldLaws.{all_one_more, begun_world}
@@ -16,4 +16,4 @@ devices-preserved c =
 pub returns-clause-world : goal.returns-clause-world
 returns-clause-world c =
     let none : c.new-2.result.items ≡ [] = search in
-    begun_world (c.args.devices - 1) 1000 (record { alloc = c.args.alloc; devices = c.devices.all; links = c.new-2.result; groups = c.new-3.result; posts = c.new-4.result; fault = None }) c.devices.invariant.new none
+    begun_world (c.args.devices - 1) 1000 (record { alloc = c.args.alloc; devices = c.devices.all; links = c.new-2.result; groups = c.new-3.result; posts = c.new-4.result; fault = None }) c.devices.invariant.new none (omega arith)

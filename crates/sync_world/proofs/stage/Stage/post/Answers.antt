@@ -1,5 +1,4 @@
-use Rattle.std.proofs.Common.{◌<◌, length, arith, ap, Err, rules, true, slice_get}
-use Rattle.world_devices.specs.declared.stop.StepFault.TheVariants as fault
+use Rattle.std.proofs.Common.{◌<◌, ◌∙◌, ◌++◌, ◌∷◌, [], ℕ, List, length, arith, ap, Err, rules, true, slice_get}
 use Rattle.sync_world.proofs.GoLaws.{same_leads}
 use Rattle.sync_world.proofs.StepLaws.{leads_err, came_goes, fails_leads}
 use Rattle.world_devices.specs.Devices.{DeviceValue}
@@ -7,6 +6,10 @@ use Rattle.world_devices.specs.Refusals.{RefusedBy, refuses_message}
 use Rattle.sync_ids.specs.Values.{MessageValue}
 use Rattle.sync_world.specs.Posting.{message_of}
 use Rattle.sync_world.proofs.RefusingLaws.{by_same, done_same, get_at, get_past, with_both, with_missing}
+use Rattle.sync_rules.specs.declared.entries.Entry.TheVariants as entry
+use Rattle.world_scripts.specs.declared.step.WorldStep.TheVariants as step
+use Rattle.sync_world.specs.Doing.{entry_of}
+use Rattle.sync_world.proofs.DoingLaws.{adds_entry, fills_with, made_as, made_post, passes_does}
 use Rattle.sync_world.proofs.stage.Stage.post.Goals as goal
 
 pub returns-in_err-ran-clause-goes : goal.returns-in_err-ran-clause-goes
@@ -49,3 +52,25 @@ returns-clause-refused c =
     (with_both (λ (m : MessageValue) (x : DeviceValue). refuses_message x.node m) (message_of c.args.self.now.groups c.args.self.now.posts.items c.args.group c.args.time c.args.parents.now c.args.text.now) (slice_get c.args.self.now.devices.items c.args.d) c.in_ok-message.message c.index_mut-device.result.now c.in_ok-message.ensures
     (get_at c.args.self.now.devices.items c.args.d c.index_mut-device.result.now (omega arith) c.index_mut-device.ensures.value))
     (done_same (refuses_message c.index_mut-device.result.now.node c.in_ok-message.message) c.in_ok-ran.ran tt c.in_ok-ran.ensures.refused)
+
+pub returns-in_err-ran-clause-does : goal.returns-in_err-ran-clause-does
+returns-in_err-ran-clause-does c =
+    let within : c.args.d < length c.args.self.now.devices.items = omega arith in
+    let made = step.Post c.args.d c.args.group c.args.time c.args.parents.now c.args.text.now in
+    passes_does made c.args.self.now _ c.from_residual-in_err-ran.result c.in_err-ran.field-0.0 c.from_residual-in_err-ran.ensures.1
+    (fills_with (entry_of made c.args.self.now) (entry.Author c.in_ok-message.message) c.args.d c.args.self.now.devices.items c.in_err-ran.field-0.0 c.index_mut-device.result.now c.author.new.self
+    (made_as (λ (m : MessageValue). entry.Author m) (message_of c.args.self.now.groups c.args.self.now.posts.items c.args.group c.args.time c.args.parents.now c.args.text.now) c.in_ok-message.message c.in_ok-message.ensures)
+    within c.index_mut-device.ensures.value c.in_err-ran.ensures.adds)
+
+pub returns-clause-does : goal.returns-clause-does
+returns-clause-does c =
+    let within : c.args.d < length c.args.self.now.devices.items = omega arith in
+    record {
+      does = adds_entry (entry_of (step.Post c.args.d c.args.group c.args.time c.args.parents.now c.args.text.now) c.args.self.now) (entry.Author c.in_ok-message.message) c.args.d c.in_ok-ran.ran c.args.self.now.devices.items _ c.args.self.now.links.items _
+          c.index_mut-device.result.now c.author.new.self
+          (made_as (λ (m : MessageValue). entry.Author m) (message_of c.args.self.now.groups c.args.self.now.posts.items c.args.group c.args.time c.args.parents.now c.args.text.now) c.in_ok-message.message c.in_ok-message.ensures)
+          within c.index_mut-device.ensures.value c.in_ok-ran.ensures.adds c.came.ensures.devices c.came.ensures.links;
+      groups = c.came.ensures.groups;
+      posts = made_post (message_of c.args.self.now.groups c.args.self.now.posts.items c.args.group c.args.time c.args.parents.now c.args.text.now) c.in_ok-message.message c.args.self.now.posts.items _ c.id_of-id.result c.in_ok-message.ensures c.id_of-id.ensures
+          (c.came.ensures.posts ∙ (c.in_ok-push.ensures.items ∙ ap (λ (ids : List (List ℕ)). ids ++ c.id_of-id.result ∷ []) c.in_ok-reserve.ensures.items));
+    }

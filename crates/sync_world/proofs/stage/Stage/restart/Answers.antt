@@ -3,6 +3,11 @@ use Rattle.sync_world.proofs.GoLaws.{same_leads}
 use Rattle.sync_world.proofs.StepLaws.{fails_leads, gone_goes, leads_err, unrefused_same}
 use Rattle.world_devices.specs.Refusals.{RefusedBy}
 use Rattle.sync_world.proofs.RefusingLaws.{by_same, found}
+use Rattle.std.proofs.Common.{Ok}
+use Rattle.world_devices.specs.Devices.{DeviceValue}
+use Rattle.world_devices.specs.Doing.{Restarts}
+use Rattle.world_devices.specs.declared.stop.Ran.TheVariants as ran
+use Rattle.sync_world.proofs.DoingLaws.{device_does}
 use Rattle.sync_world.proofs.stage.Stage.restart.Goals as goal
 
 pub returns-then-d-len-clause-goes : goal.returns-then-d-len-clause-goes
@@ -29,3 +34,13 @@ returns-in_err-restart-clause-refused c =
 
 pub returns-clause-refused : goal.returns-clause-refused
 returns-clause-refused c = by_same false _ _ (found c.args.self.now.devices.items c.args.d c.index_mut-device.result.now (omega arith) c.index_mut-device.ensures.value) tt
+
+pub returns-clause-does : goal.returns-clause-does
+returns-clause-does c =
+    let within : c.args.d < length c.args.self.now.devices.items = omega arith in
+    record {
+      does = device_does (λ (was is : DeviceValue). Restarts (Ok tt) was is) c.args.d ran.Crashed c.args.self.now.devices.items _ c.args.self.now.links.items _ c.index_mut-device.result.now c.restart.new.self
+          within c.index_mut-device.ensures.value c.in_ok-restart.ensures.restarts c.came.ensures.devices c.came.ensures.links;
+      groups = c.came.ensures.groups;
+      posts = c.came.ensures.posts;
+    }

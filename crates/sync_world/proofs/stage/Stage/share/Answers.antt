@@ -1,10 +1,14 @@
-use Rattle.std.proofs.Common.{◌<◌, length, arith, ap, Err, rules, ◌≡◌, true, Some, slice_get, Ok}
-use Rattle.world_devices.specs.declared.stop.StepFault.TheVariants as fault
+use Rattle.std.proofs.Common.{◌<◌, length, arith, ap, Err, rules, true, slice_get}
 use Rattle.sync_world.proofs.GoLaws.{same_leads}
 use Rattle.sync_world.proofs.StepLaws.{leads_err, came_goes, fails_leads}
 use Rattle.world_devices.specs.Refusals.{RefusedBy, refuses_level}
 use Rattle.sync_world.specs.Refusing.{group_labelled, lacks, refuses_with}
 use Rattle.sync_world.proofs.RefusingLaws.{by_same, done_same, get_at, get_past, labelled_made, share_past, share_refused, with_missing}
+use Rattle.sync_rules.specs.declared.entries.Entry.TheVariants as entry
+use Rattle.world_laws.specs.Worlds.{contact_for}
+use Rattle.world_scripts.specs.declared.step.WorldStep.TheVariants as step
+use Rattle.sync_world.specs.Doing.{entry_of}
+use Rattle.sync_world.proofs.DoingLaws.{adds_entry, fills_with, made_level, passes_does}
 use Rattle.sync_world.proofs.stage.Stage.share.Goals as goal
 
 pub returns-in_err-ran-clause-goes : goal.returns-in_err-ran-clause-goes
@@ -53,3 +57,28 @@ returns-clause-refused c known =
     (labelled_made (slice_get c.args.self.now.groups c.args.group) c.in-Some.kind c.in-Some.descriptor.now c.in_ok-group_def.field-0 c.in-Some.ensures c.in_ok-group_def.ensures)
     (get_at c.args.self.now.devices.items c.args.d c.index_mut-device.result.now (omega arith) c.index_mut-device.ensures.value))
     (done_same (refuses_level c.index_mut-device.result.now.node c.contact_for.result c.group_id-id.result) c.in_ok-ran.ran tt c.in_ok-ran.ensures.refused)
+
+pub returns-in_err-ran-clause-does : goal.returns-in_err-ran-clause-does
+returns-in_err-ran-clause-does c =
+    let within : c.args.d < length c.args.self.now.devices.items = omega arith in
+    let made = step.Share c.args.d c.args.e c.args.group c.args.level in
+    passes_does made c.args.self.now _ c.from_residual-in_err-ran.result c.in_err-ran.field-0.0 c.from_residual-in_err-ran.ensures.1
+    (fills_with (entry_of made c.args.self.now) (entry.Level c.contact_for.result c.group_id-id.result c.args.level) c.args.d c.args.self.now.devices.items c.in_err-ran.field-0.0 c.index_mut-device.result.now c.set_level.new.self
+    (made_level (group_labelled (slice_get c.args.self.now.groups c.args.group)) c.in_ok-group_def.field-0 c.contact_for.result (contact_for c.args.d c.args.e) c.group_id-id.result c.args.level
+    (labelled_made (slice_get c.args.self.now.groups c.args.group) c.in-Some.kind c.in-Some.descriptor.now c.in_ok-group_def.field-0 c.in-Some.ensures c.in_ok-group_def.ensures)
+    c.contact_for.ensures c.group_id-id.ensures)
+    within c.index_mut-device.ensures.value c.in_err-ran.ensures.adds)
+
+pub returns-clause-does : goal.returns-clause-does
+returns-clause-does c =
+    let within : c.args.d < length c.args.self.now.devices.items = omega arith in
+    record {
+      does = adds_entry (entry_of (step.Share c.args.d c.args.e c.args.group c.args.level) c.args.self.now) (entry.Level c.contact_for.result c.group_id-id.result c.args.level) c.args.d c.in_ok-ran.ran c.args.self.now.devices.items _ c.args.self.now.links.items _
+          c.index_mut-device.result.now c.set_level.new.self
+          (made_level (group_labelled (slice_get c.args.self.now.groups c.args.group)) c.in_ok-group_def.field-0 c.contact_for.result (contact_for c.args.d c.args.e) c.group_id-id.result c.args.level
+          (labelled_made (slice_get c.args.self.now.groups c.args.group) c.in-Some.kind c.in-Some.descriptor.now c.in_ok-group_def.field-0 c.in-Some.ensures c.in_ok-group_def.ensures)
+          c.contact_for.ensures c.group_id-id.ensures)
+          within c.index_mut-device.ensures.value c.in_ok-ran.ensures.adds c.came.ensures.devices c.came.ensures.links;
+      groups = c.came.ensures.groups;
+      posts = c.came.ensures.posts;
+    }

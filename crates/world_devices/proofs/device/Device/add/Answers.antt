@@ -1,6 +1,7 @@
 use Rattle.std.proofs.Common.{[], ap, refl, sym, ◌∙◌}
 use Rattle.outside.specs.HostTold.{host_told}
 use Rattle.world_devices.specs.Devices.{DeviceValue}
+use Rattle.world_devices.proofs.AddLaws.{adds_crashed, adds_done}
 use Rattle.world_devices.proofs.CallLaws.{add_leaves, keeps_links, links_seen, plain_batch, plain_of, ready_still, runs_by, runs_files, runs_none}
 use Rattle.world_devices.proofs.HostLaws.{brings_linked}
 use Rattle.world_devices.proofs.LeaveLaws.{leave_held}
@@ -9,7 +10,7 @@ use Rattle.world_devices.proofs.device.Device.add.Goals as goal
 
 pub invariant_of-self-in-Ok : goal.invariant_of-self-in-Ok
 invariant_of-self-in-Ok c = (
-  added_running c.cite_laws.ensures.grows c.in_ok-batch.batch c.in-Some.node c.add.new.self c.self.inside.host c.add.new.host c.self.inside.links c.add.ensures.may (c.in-Ok.ensures.answer (running_of c.self.inside.node c.in-Some.node c.self.inside.host c.self.inside.links c.in-Some.is c.self.invariant.0).unclosed) c.in-Ok.ensures.joined (c.add.ensures.leads (running_of c.self.inside.node c.in-Some.node c.self.inside.host c.self.inside.links c.in-Some.is c.self.invariant.0).unclosed) c.add.ensures.node c.in-Ok.ensures.added.commits.same_links (running_of c.self.inside.node c.in-Some.node c.self.inside.host c.self.inside.links c.in-Some.is c.self.invariant.0),
+  added_running c.cite_laws.ensures.grows c.in_ok-batch.batch c.in-Some.node c.add.new.self c.self.inside.host c.add.new.host c.self.inside.links c.add.ensures.limit c.add.ensures.may (c.in-Ok.ensures.answer (running_of c.self.inside.node c.in-Some.node c.self.inside.host c.self.inside.links c.in-Some.is c.self.invariant.0).unclosed) c.in-Ok.ensures.joined (c.add.ensures.leads (running_of c.self.inside.node c.in-Some.node c.self.inside.host c.self.inside.links c.in-Some.is c.self.invariant.0).unclosed) c.add.ensures.node c.in-Ok.ensures.added.commits.same_links (running_of c.self.inside.node c.in-Some.node c.self.inside.host c.self.inside.links c.in-Some.is c.self.invariant.0),
   add_keeps c.in_ok-batch.batch c.in-Some.node c.add.new.self c.self.inside.host c.add.new.host c.self.inside.links (c.add.ensures.leads (running_of c.self.inside.node c.in-Some.node c.self.inside.host c.self.inside.links c.in-Some.is c.self.invariant.0).unclosed) (running_of c.self.inside.node c.in-Some.node c.self.inside.host c.self.inside.links c.in-Some.is c.self.invariant.0) [] c.self.invariant.1,
   c.self.invariant.2,
 )
@@ -55,3 +56,11 @@ returns-in_ok-fail-in-Err-clause-keeps c = keeps_seen c.self.inside.host c.args.
 pub returns-in_ok-fail-in-Err-clause-runs : goal.returns-in_ok-fail-in-Err-clause-runs
 returns-in_ok-fail-in-Err-clause-runs c =
     runs_by c.cite_laws.ensures _ c.args.self.now _ c.self.view_is (λ j holds. c.fail.ensures.leaves _ j (add_leaves c.in_ok-batch.batch c.in-Some.node c.add.new.self c.self.inside.host c.add.new.host c.self.inside.links (plain_batch c.in_ok-batch.batch c.args.entry c.in_ok-batch.ensures (plain_of c.args.self.now.node c.in-Some.node c.args.entry (sym (ap (λ (d : DeviceValue). d.node) c.self.view_is) ∙ c.in-Some.is) c.requires)) (c.add.ensures.leads (running_of c.self.inside.node c.in-Some.node c.self.inside.host c.self.inside.links c.in-Some.is c.self.invariant.0).unclosed) (running_of c.self.inside.node c.in-Some.node c.self.inside.host c.self.inside.links c.in-Some.is c.self.invariant.0) _ j (leave_held _ j c.self.inside.host holds))) c.fail.ensures.still
+
+pub returns-in_ok-test_memory-in-Ok-clause-adds : goal.returns-in_ok-test_memory-in-Ok-clause-adds
+returns-in_ok-test_memory-in-Ok-clause-adds c =
+    adds_done c.args.entry c.in_ok-batch.batch c.in-Some.node c.add.new.self c.self.inside.host c.add.new.host _ c.args.self.now _ c.self.view_is c.in_ok-batch.ensures c.in-Ok.ensures.added refl refl c.in-Some.is refl c.add.ensures.links refl refl
+
+pub returns-in_ok-fail-in-Err-clause-adds : goal.returns-in_ok-fail-in-Err-clause-adds
+returns-in_ok-fail-in-Err-clause-adds c =
+    adds_crashed c.args.entry c.in_ok-batch.batch c.in-Some.node c.add.new.self c.self.inside.host c.add.new.host c.self.inside.links _ c.args.self.now c.fail.new.self c.self.view_is c.in_ok-batch.ensures (c.add.ensures.leads (running_of c.self.inside.node c.in-Some.node c.self.inside.host c.self.inside.links c.in-Some.is c.self.invariant.0).unclosed) (running_of c.self.inside.node c.in-Some.node c.self.inside.host c.self.inside.links c.in-Some.is c.self.invariant.0) refl c.in_ok-fail-in-Err.ensures.to c.fail.ensures.clock

@@ -1,4 +1,6 @@
 use Rattle.std.proofs.Common.{refl}
+use Rattle.sync_rules.specs.declared.entries.Entry.TheVariants as entry
+use Rattle.world_devices.proofs.AddLaws.{rest_kept}
 use Rattle.world_devices.proofs.CallLaws.{runs_none}
 use Rattle.world_devices.proofs.RunningLaws.{may_add_contact}
 use Rattle.world_devices.proofs.device.Device.add_contact.Goals as goal
@@ -14,3 +16,6 @@ returns-in-Err-clause-runs c = runs_none c.args.self.now
 
 pub returns-in-Ok-clause-bare : goal.returns-in-Ok-clause-bare
 returns-in-Ok-clause-bare c = λ contacts bare. c.add.ensures.bare contacts c.in-Ok.number refl bare
+
+pub returns-in-Ok-clause-rest : goal.returns-in-Ok-clause-rest
+returns-in-Ok-clause-rest c = rest_kept (entry.Contact c.in-Ok.number) c.add.result c.args.self.now c.add.new.self c.add.ensures.adds

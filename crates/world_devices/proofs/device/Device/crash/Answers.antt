@@ -4,6 +4,7 @@ use Rattle.world_devices.specs.Devices.{DeviceValue}
 use Rattle.world_devices.proofs.CallLaws.{crash_leaves, leaves_seen}
 use Rattle.world_devices.proofs.HostLaws.{silent_fresh}
 use Rattle.world_devices.proofs.RunningLaws.{crash_keeps, keeps_seen}
+use Rattle.world_devices.proofs.StartLaws.{crashes_to}
 use Rattle.world_devices.proofs.device.Device.crash.Goals as goal
 
 pub invariant_of-self : goal.invariant_of-self
@@ -32,3 +33,7 @@ returns-in-Err-clause-keeps c = keeps_seen c.self.inside.host c.args.self.now.ho
 
 pub returns-in-Err-clause-leaves : goal.returns-in-Err-clause-leaves
 returns-in-Err-clause-leaves c = leaves_seen c.self.inside.host c.args.self.now.host (host_told c.start.new.self.host) (ap (λ (d : DeviceValue). d.host) c.self.view_is) (λ heard j k. c.start.ensures.leaves heard j (crash_leaves c.args.pick c.self.inside.host c.crash.new.self c.crash.result c.crash.ensures.ok c.crash.ensures.err heard j k))
+
+pub returns-in-Ok-clause-to : goal.returns-in-Ok-clause-to
+returns-in-Ok-clause-to c =
+    crashes_to c.args.pick c.self.inside.host c.args.self.now.host c.crash.new.self c.start.new.self (ap (λ (d : DeviceValue). d.host) c.self.view_is) c.in_ok-crash.ensures.ok c.in-Ok.ensures.loads c.in-Ok.ensures.anew c.start.ensures.stop

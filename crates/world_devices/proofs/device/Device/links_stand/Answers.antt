@@ -2,10 +2,11 @@ use Rattle.std.proofs.Common.{subst}
 use Rattle.world_devices.specs.Devices.{DeviceValue}
 use Rattle.world_devices.specs.Linking.{DeviceLinksStand}
 use Rattle.world_devices.proofs.CallLaws.{links_stand}
+use Rattle.world_devices.proofs.HeldLaws.{held_of}
 use Rattle.world_devices.proofs.RunningLaws.{running_of}
 use Rattle.world_devices.proofs.device.Device.links_stand.Goals as goal
 
 pub returns : goal.returns
 returns c =
     subst (λ (d : DeviceValue). DeviceLinksStand d) c.self.view_is
-    (record { each = λ n is j holds. links_stand n _ j (running_of c.self.inside.node n c.self.inside.host c.self.inside.links is c.self.invariant.0) holds })
+    (record { holds = λ n is. held_of n _ (running_of c.self.inside.node n c.self.inside.host c.self.inside.links is c.self.invariant.0); each = λ n is j holds. links_stand n _ j (running_of c.self.inside.node n c.self.inside.host c.self.inside.links is c.self.invariant.0) holds })

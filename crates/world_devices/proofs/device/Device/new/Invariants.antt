@@ -1,7 +1,8 @@
-use Rattle.std.proofs.Common.{◌≡◌}
+use Rattle.std.proofs.Common.{◌≡◌, None}
+use Rattle.world_devices.specs.Doing.{IsAnew}
 use Rattle.world_devices.specs.Linking.{IsBareIn, IsUnlinked}
 use Rattle.world_devices.proofs.device.Device.new.Given as goal
 
--- so many contacts were added
+-- so many contacts were added, and nothing else was done
 abbrev pub invariant-contacts : goal.invariant-contacts
-invariant-contacts l = record { bare : IsBareIn l._added l.device.node; unlinked : IsUnlinked l.device; clock : l.device.clock ≡ l.clock }
+invariant-contacts l = record { bare : IsBareIn l._added l.device.node; unlinked : IsUnlinked l.device; clock : l.device.clock ≡ l.clock; anew : IsAnew l.clock l.device.host; unstopped : l.device.stop ≡ None }

@@ -12,6 +12,7 @@ use Rattle.sync_node.specs.Node.{NodeValue}
 use Rattle.world_devices.specs.Linking.{IsBare}
 use Rattle.world_devices.specs.Running.{Holds}
 use Rattle.world_devices.proofs.NewLaws.{holds_on}
+use Rattle.world_devices.proofs.StartLaws.{files_settling, settling_seen, start_anew, start_settling}
 use Rattle.world_devices.proofs.device.Device.start.Goals as goal
 
 pub invariant_of-self-in_err-store : goal.invariant_of-self-in_err-store
@@ -61,3 +62,37 @@ returns-clause-bare c = λ holds.
     let same = clock_same c.dial_all.new.host c.set_clock.new.self _ c.set_clock.result c.set_clock.ensures.ok c.set_clock.ensures.err in
     let on : Holds [] c.set_clock.new.self = holds_on [] c.self.inside.host c.set_clock.new.self (same.files ∙ c.dial_all.ensures.files) seen in
     subst (λ (n : NodeValue). IsBare 0 n.store) (sym c.in_ok-new.ensures) (c.in_ok-store.ensures.bare on)
+
+pub returns-clause-loads : goal.returns-clause-loads
+returns-clause-loads c = λ j holds.
+    let seen : Holds j c.self.inside.host = subst (λ (h : MemHostValue). Holds j h) (sym (ap (λ (d : DeviceValue). d.host) c.self.view_is)) holds in
+    let same = clock_same c.dial_all.new.host c.set_clock.new.self _ c.set_clock.result c.set_clock.ensures.ok c.set_clock.ensures.err in
+    let on : Holds j c.set_clock.new.self = holds_on j c.self.inside.host c.set_clock.new.self (same.files ∙ c.dial_all.ensures.files) seen in
+    c.in_ok-store.ensures.loads j on
+
+pub returns-in_err-dial_all-clause-settling : goal.returns-in_err-dial_all-clause-settling
+returns-in_err-dial_all-clause-settling c = λ j.
+    settling_seen j c.self.inside.host c.args.self.now.host c.dial_all.new.host (ap (λ (d : DeviceValue). d.host) c.self.view_is) (files_settling j c.self.inside.host c.dial_all.new.host c.dial_all.ensures.files)
+
+pub returns-in_err-set_clock-clause-settling : goal.returns-in_err-set_clock-clause-settling
+returns-in_err-set_clock-clause-settling c = λ j.
+    settling_seen j c.self.inside.host c.args.self.now.host c.set_clock.new.self (ap (λ (d : DeviceValue). d.host) c.self.view_is) (files_settling j c.self.inside.host c.set_clock.new.self ((clock_same c.dial_all.new.host c.set_clock.new.self _ c.set_clock.result c.set_clock.ensures.ok c.set_clock.ensures.err).files ∙ c.dial_all.ensures.files))
+
+pub returns-in_err-store-clause-settling : goal.returns-in_err-store-clause-settling
+returns-in_err-store-clause-settling c = λ j.
+    settling_seen j c.self.inside.host c.args.self.now.host c.load.new.host (ap (λ (d : DeviceValue). d.host) c.self.view_is) (start_settling j c.self.inside.host c.set_clock.new.self c.load.new.host ((clock_same c.dial_all.new.host c.set_clock.new.self _ c.set_clock.result c.set_clock.ensures.ok c.set_clock.ensures.err).files ∙ c.dial_all.ensures.files) (c.load.ensures.settling j))
+
+pub returns-in_err-new-clause-settling : goal.returns-in_err-new-clause-settling
+returns-in_err-new-clause-settling c = λ j.
+    settling_seen j c.self.inside.host c.args.self.now.host c.load.new.host (ap (λ (d : DeviceValue). d.host) c.self.view_is) (start_settling j c.self.inside.host c.set_clock.new.self c.load.new.host ((clock_same c.dial_all.new.host c.set_clock.new.self _ c.set_clock.result c.set_clock.ensures.ok c.set_clock.ensures.err).files ∙ c.dial_all.ensures.files) (c.load.ensures.settling j))
+
+pub returns-clause-settling : goal.returns-clause-settling
+returns-clause-settling c = λ j.
+    settling_seen j c.self.inside.host c.args.self.now.host c.load.new.host (ap (λ (d : DeviceValue). d.host) c.self.view_is) (start_settling j c.self.inside.host c.set_clock.new.self c.load.new.host ((clock_same c.dial_all.new.host c.set_clock.new.self _ c.set_clock.result c.set_clock.ensures.ok c.set_clock.ensures.err).files ∙ c.dial_all.ensures.files) (c.load.ensures.settling j))
+
+pub returns-clause-anew : goal.returns-clause-anew
+returns-clause-anew c =
+    start_anew c.self.inside.clock c.self.inside.host c.dial_all.new.host c.set_clock.new.self c.load.new.host c.dial_all.ensures.scripts
+    (scripts_clocked c.dial_all.new.host c.set_clock.new.self _ c.set_clock.result c.set_clock.ensures.ok c.set_clock.ensures.err)
+    (clock_same c.dial_all.new.host c.set_clock.new.self _ c.set_clock.result c.set_clock.ensures.ok c.set_clock.ensures.err)
+    c.load.ensures.links (silent_seen c.self.inside.host c.args.self.now.host (ap (λ (d : DeviceValue). d.host) c.self.view_is) c.requires.silent) c.in_ok-dial_all.ensures.dialled c.in_ok-dial_all.ensures.quiet c.in_ok-set_clock.ensures.upcoming

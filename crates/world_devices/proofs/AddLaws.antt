@@ -1,0 +1,126 @@
+-- What an added entry leaves: it stands in the journal with settling behind it, or at most that does where the disk stopped.
+use Rattle.std.proofs.Common.{◌≡◌, ℕ, List, [], ◌∷◌, ◌++◌, refl, sym, ap, ◌∙◌, subst, Option, Some, Result, Ok, Err}
+use Rattle.std.specs.Option.{option_map}
+use Rattle.outside.specs.Files.{Two, File, read_files}
+use Rattle.outside.specs.Links.{Links, sent_of}
+use Rattle.outside.specs.Outside.{Moment}
+use Rattle.outside.specs.HostTold.{host_told}
+use Rattle.outside.specs.MemHost.{MemHostValue, upcoming_of}
+use Rattle.client_basic.specs.Bodies.{bundle_meaning}
+use Rattle.entry_codec.specs.Standing.{stands, journal}
+use Rattle.sync_rules.specs.declared.entries.Entry.{Entry}
+use Rattle.sync_rules.specs.Facts.{Facts, after_all, facts}
+use Rattle.sync_rules.specs.Legal.{AllSettling}
+use Rattle.sync_rules.specs.Steps.{IsSettled}
+use Rattle.sync_store.specs.Store.{StoreValue}
+use Rattle.sync_node.specs.Adding.{AddsAtMost, AddsOne, AddsSettled}
+use Rattle.sync_node.specs.declared.link.Link.{Link}
+use Rattle.sync_node.specs.Node.{NodeValue}
+use Rattle.world_devices.specs.Devices.{DeviceValue, IsRunning}
+use Rattle.world_devices.specs.Doing.{Adds, BreaksOff, HasAdded, HoldsAtMost, IsAnew, KeepsOwn, KeepsRest, StopsIn}
+use Rattle.world_devices.specs.Keeping.{Journal}
+use Rattle.world_devices.specs.Linking.{WhenDone}
+use Rattle.world_devices.specs.Running.{Holds}
+use Rattle.world_devices.specs.declared.stop.Ran.{Ran}
+use Rattle.world_devices.specs.declared.stop.Ran.TheVariants as ran
+use Rattle.world_devices.specs.declared.stop.StepFault.{StepFault}
+use Rattle.world_devices.proofs.HostLaws.{quiet_same, silent_linked, told_host}
+use Rattle.world_devices.proofs.RunningLaws.{LeadsAdding, journal_of, open_of}
+use Rattle.world_devices.proofs.StartLaws.{fits_hold}
+
+-- ---- the journal that files hold
+
+-- a journal for which they stand as they read is the one that they hold
+same_held : (j j0 : Journal) (h : MemHostValue) (two : Two File) → (host_told h).files ≡ Some two → Holds j h → stands bundle_meaning (read_files two) ≡ journal j0 → j0 ≡ j
+same_held j j0 h two is holds stood =
+    let reads : stands bundle_meaning (read_files two) ≡ journal j = holds.each two is (read_files two) ((host_told h).reads two is) in
+    let both : journal j0 ≡ journal j = sym stood ∙ reads in
+    cc
+
+-- ---- it was added
+
+abbrev links_of : Option NodeValue → Option (List Link)
+links_of node = option_map (λ (n : NodeValue). n.links) node
+
+abbrev told_links : MemHostValue → Links
+told_links h = (host_told h).links
+
+has_added : (e : Entry) (batch : List Entry) (s s' : StoreValue) (h h' : MemHostValue) (new : DeviceValue) → batch ≡ e ∷ [] → AddsSettled bundle_meaning batch s s' (host_told h) (host_told h') → new.host ≡ h'
+    → (j : Journal) → Holds j h → HasAdded e j new
+has_added e batch s s' h h' new is added at j holds =
+    let has = journal_of s' h' added.commits.ready in
+    let came = added.commits.goes_on (told_host h') has.whole has.fits in
+    let same : came.before ≡ j = same_held j came.before h came.told.two came.told.files_are holds came.fits.stands_for in
+    let f : s.state.facts ≡ facts j = sym came.fits.facts_are ∙ ap facts same in
+    record {
+      whole = has.whole;
+      adds = subst (λ (b : List Entry). AddsOne bundle_meaning j b has.whole) is (record {
+        more = added.more;
+        settling = subst (λ (g : Facts). AllSettling bundle_meaning (after_all g batch) added.more) f added.settling;
+        is = came.is ∙ ap (λ (k : Journal). k ++ (batch ∷ added.more)) same;
+      });
+      settled = subst (λ (g : Facts). IsSettled bundle_meaning g) (sym has.fits.facts_are) added.settled;
+      holds = subst (λ (x : MemHostValue). Holds has.whole x) (sym at) (fits_hold s' has.whole h' has.fits);
+    }
+
+pub adds_done : (e : Entry) (batch : List Entry) (n n' : NodeValue) (h h' : MemHostValue) (d old new : DeviceValue) → d ≡ old → batch ≡ e ∷ [] → AddsSettled bundle_meaning batch n.store n'.store (host_told h) (host_told h')
+    → d.host ≡ h → new.host ≡ h' → d.node ≡ Some n → new.node ≡ Some n' → n'.links ≡ n.links → new.clock ≡ d.clock → new.stop ≡ d.stop
+    → KeepsOwn old new × ((j : Journal) → Holds j old.host → HasAdded e j new) × KeepsRest old new
+adds_done e batch n n' h h' d old new seen is added its its' was now links clock stop =
+    let P : DeviceValue → Type 0 = λ x. KeepsOwn x new × ((j : Journal) → Holds j x.host → HasAdded e j new) × KeepsRest x new in
+    subst P seen (
+      record { clock = clock; stop = stop },
+      λ j holds. has_added e batch n.store n'.store h h' new is added its' j (subst (λ (x : MemHostValue). Holds j x) its holds),
+      record {
+        node = ap links_of now ∙ ap (λ (l : List Link). Some l) links ∙ sym (ap links_of was);
+        told = ap told_links its' ∙ added.commits.same_links ∙ sym (ap told_links its);
+      },
+    )
+
+-- ---- the disk stopped
+
+at_most : (e : Entry) (batch : List Entry) (n n' : NodeValue) (h h' : MemHostValue) (links : ℕ) → batch ≡ e ∷ [] → LeadsAdding batch n n' h h' → IsRunning n h links
+    → (j : Journal) → Holds j h → HoldsAtMost e j h'
+at_most e batch n n' h h' links is leads run j holds =
+    let has = journal_of n.store h (open_of n h links run) in
+    let same : has.whole ≡ j = same_held j has.whole h (told_host h).two (told_host h).files_are holds has.fits.stands_for in
+    let led = leads (told_host h).two (told_host h).files_are has.whole has.fits in
+    record {
+      each = λ two told left image.
+          let m : Moment = record { files = left; sent = sent_of (host_told h').links.told } in
+          let since = led.moments.each m ((host_told h').since (host_told h).clock m led.moments.later ((host_told h').is_now two m told (record { image = image; sent = refl }))) in
+          record {
+            whole = since.whole;
+            at_most = subst (λ (b : List Entry). AddsAtMost bundle_meaning j b since.whole) is (subst (λ (k : Journal). AddsAtMost bundle_meaning k batch since.whole) same since.has);
+            stands_for = since.stands_for;
+          };
+    }
+
+pub adds_crashed : (e : Entry) (batch : List Entry) (n n' : NodeValue) (h h' : MemHostValue) (links : ℕ) (d old new : DeviceValue) → d ≡ old → batch ≡ e ∷ [] → LeadsAdding batch n n' h h' → IsRunning n h links
+    → d.host ≡ h → BreaksOff d.stop h' new → new.clock ≡ d.clock → StopsIn (λ at. (j : Journal) → Holds j old.host → HoldsAtMost e j at) old new
+adds_crashed e batch n n' h h' links d old new seen is leads run its off clock =
+    let P : DeviceValue → Type 0 = λ x. StopsIn (λ at. (j : Journal) → Holds j x.host → HoldsAtMost e j at) x new in
+    subst P seen (record {
+      at = h';
+      broken = λ j holds. at_most e batch n n' h h' links is leads run j (subst (λ (x : MemHostValue). Holds j x) its holds);
+      off = off;
+      clock = clock;
+    })
+
+-- ---- a host that is anew stays so
+
+pub anew_kept : (clock : ℕ) (old new : DeviceValue) → KeepsRest old new → IsAnew clock old.host → IsAnew clock new.host
+anew_kept clock old new rest anew =
+    let both : Some (upcoming_of new.host.clock) ≡ Some (upcoming_of old.host.clock) = ap (λ (l : Links). l.upcoming) rest.told in
+    let kept : upcoming_of new.host.clock ≡ upcoming_of old.host.clock = cc in
+    record {
+      dialled = ap (λ (l : Links). l.dialled) rest.told ∙ anew.dialled;
+      silent = silent_linked old.host new.host rest.told anew.silent;
+      quiet = quiet_same (host_told old.host) (host_told new.host) rest.told anew.quiet;
+      upcoming = kept ∙ anew.upcoming;
+    }
+
+pub rest_kept : (e : Entry) (r : Result Ran StepFault) (old new : DeviceValue) → Adds e r old new → WhenDone r (KeepsOwn old new × KeepsRest old new)
+rest_kept e (Ok ran.Done) old new adds = (adds.0, adds.2)
+rest_kept e (Ok ran.Crashed) old new adds = tt
+rest_kept e (Err f) old new adds = tt
