@@ -54,7 +54,7 @@ impl<R: Runtime + Net> Link<R> {
     pub fn send(&mut self, rt: &R, bytes: &[u8]) -> Result<(), Failed> {
         match self {
             Link::Std(_) => std_link::send(rt, bytes),
-            Link::Socket(socket) => socket.send(bytes),
+            Link::Socket(socket) => socket.send(rt, bytes).map_err(|_| Failed),
             Link::Over => Err(Failed),
         }
     }

@@ -5,20 +5,23 @@ ghost use Rattle.outside_real.specs.Heard.{FitsIn};
 
 use crate::inbox::Inbox;
 use crate::stream::Stream;
-use outside::{Failed, Heard};
+use outside::Heard;
 use std::alloc::Global;
 use std::io;
 use std::io::ErrorKind;
 use std::net::Net;
-use std::time::Duration;
+use std::time::{Clock, Duration, Instant};
 
 // How long one read waits for the peer, and one write.
 const READ_MILLISECONDS: u64 = 100;
 
 const WRITE_MILLISECONDS: u64 = 10;
 
-// How many writes one send makes at most: half a minute of waits.
+// How many writes one send makes at most: half a minute of waits, where each is as long as asked.
 const MOST_WRITES: u32 = 3_000;
+
+// How long one send goes on by the clock: a wait may be twice as long where the ticks are coarse.
+const SEND_SECONDS: u64 = 30;
 
 /// A socket, and what was heard on it while it could not send.
 #[derive(Drop)]
@@ -57,18 +60,20 @@ impl<R: Net> Socket<R> {
     }
 
     /// Sends all bytes. Fails where the peer does not take them within half a minute.
-    pub fn send(&mut self, bytes: &[u8]) -> Result<(), Failed> {
+    pub fn send(&mut self, clock: &impl Clock, bytes: &[u8]) -> io::Result<()> {
+        let start = Instant::now(clock)?;
         let mut left = bytes;
         for _ in 0..MOST_WRITES {
-            match self.write(left) {
-                Ok(n) => left = &left[n..],
-                Err(_) => return Err(Failed),
-            }
+            let n = self.write(left)?;
+            left = &left[n..];
             if left.is_empty() {
                 return Ok(());
             }
+            if start.elapsed(clock)? >= Duration::from_secs(SEND_SECONDS) {
+                break;
+            }
         }
-        Err(Failed)
+        Err(ErrorKind::TimedOut.into())
     }
 
     // Writes a front of the bytes. Where none could be written, what the peer sends is read ahead,
