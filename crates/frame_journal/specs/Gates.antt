@@ -9,8 +9,8 @@ abbrev pub ReadsSame : Two File → Two File → Type 0
 ReadsSame old new = read_files new ≡ read_files old
 
 -- both files read as before, with nothing pending in them
-abbrev pub Settles : Two File → Two File → Type 0
-Settles old new = new ≡ record { first = settled old.first.now; second = settled old.second.now }
+abbrev pub SyncsBoth : Two File → Two File → Type 0
+SyncsBoth old new = new ≡ record { first = settled old.first.now; second = settled old.second.now }
 
 -- at each moment of a run a crash leaves what it might have left before the run, and nothing was sent
 abbrev pub AnyImage : Outside → Outside → Type 0

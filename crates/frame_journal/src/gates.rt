@@ -12,7 +12,7 @@ ghost use Rattle.frame_journal.specs.Append.{Opens, Gated};
 ghost use Rattle.frame_journal.specs.Create.{IsCleared, Clears, Creates, Prepares, behind_gate};
 ghost use Rattle.frame_journal.specs.Create.{ShutOrBegun, BeforeOrShut, HasShutGate, ShutsGate};
 ghost use Rattle.frame_journal.specs.Create.{Shortens};
-ghost use Rattle.frame_journal.specs.Gates.{Settles, AnyImage, WritesBehind, OpensGate};
+ghost use Rattle.frame_journal.specs.Gates.{SyncsBoth, AnyImage, WritesBehind, OpensGate};
 ghost use Rattle.frame_journal.specs.Gates.{KeepsFront, KeepsAllBut, ReadsSame};
 
 use crate::{DiskFault, FORMAT};
@@ -21,7 +21,7 @@ use outside::Disk;
 /// Syncs both files, file 0 first: after it a crash leaves what a read gives. Whatever it answers,
 /// the files read as before.
 pub fn barrier<D: Disk>(disk: &mut D) -> Result<(), DiskFault>
-    ensures settled { OnOk result (Becomes Settles (D.tells disk.old).files
+    ensures settled { OnOk result (Becomes SyncsBoth (D.tells disk.old).files
         (D.tells disk.new).files) }
     ensures reads { Becomes ReadsSame (D.tells disk.old).files (D.tells disk.new).files }
 

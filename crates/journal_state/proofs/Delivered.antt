@@ -119,7 +119,7 @@ own_shared (x ∷ hs) (b ∷ answers) (suc n) h a at is apart =
 
 -- ---- ready
 
-readied : (goes : Bool) (k : retry.Kept) → k.ready ≡ false → (cond goes (retry.with_ready true k) k).ready ≡ goes
+readied : (goes : Bool) (k : retry.KeptRow) → k.ready ≡ false → (cond goes (retry.with_ready true k) k).ready ≡ goes
 readied true k e = refl
 readied false k e = e
 
@@ -192,13 +192,13 @@ module _ (p : Parts) (s : IsState p) (n : ℕ) (y : Node) (h : Held) (at : slice
             ≡ may_go p.table.levels (map (name_at (nodes.with_ending n ending.Delivered p.nodes)) (p.delivered ++ n ∷ []))
             (shared_among p.held (answers_of (nodes.with_ending n ending.Delivered p.nodes) p.shares)) contact h
         by true e was is_now =
-            ap (λ (k : retry.Kept). k.ready) (r.here contact (grind (arith, e)))
+            ap (λ (k : retry.KeptRow). k.ready) (r.here contact (grind (arith, e)))
             ∙ (readied (goes_to p.table.levels h.message.group outgoing contact) (retry.kept_at p.retry contact n) was
             ∙ (ap (λ b. is_level_shared (level_at p.table.levels contact h.message.group) && b) opens
             ∙ (λ i. sym is_now i && (is_level_shared (level_at p.table.levels contact h.message.group) && (is_author h.origin || sym shared_now i)))))
         by false e was is_now =
             let hidden = s.hidden contact h.message.group (grind (arith, e)) in
-            ap (λ (ks : List retry.Kept). (retry.kept_in ks n).ready) (r.beyond contact (grind (arith, e)))
+            ap (λ (ks : List retry.KeptRow). (retry.kept_in ks n).ready) (r.beyond contact (grind (arith, e)))
             ∙ (was
             ∙ sym (λ i. is_now i && (is_level_shared (hidden i)
             && (is_author h.origin || is_among (shared_among p.held (answers_of (nodes.with_ending n ending.Delivered p.nodes) p.shares)) h.id))))
@@ -211,7 +211,7 @@ module _ (p : Parts) (s : IsState p) (n : ℕ) (y : Node) (h : Held) (at : slice
         let away : same_id h.id x.id ≡ false = by (same_id h.id x.id) refl in
         let among_same : is_among (map (name_at (nodes.with_ending n ending.Delivered p.nodes)) (p.delivered ++ n ∷ [])) x.id ≡ is_among (map (name_at p.nodes) p.delivered) x.id =
         among_now x.id ∙ (ap (λ b. is_among (map (name_at p.nodes) p.delivered) x.id || b) away ∙ or_none (is_among (map (name_at p.nodes) p.delivered) x.id)) in
-        ap (λ (w : retry.Kept). w.ready) (r.apart contact k ne)
+        ap (λ (w : retry.KeptRow). w.ready) (r.apart contact k ne)
         ∙ (s.ready contact k x known here
         ∙ (λ i. sym among_same i && (is_level_shared (level_at p.table.levels contact x.message.group)
         && (is_author x.origin || is_among (shared_among p.held (sym (answers_kept p.nodes p.shares n ending.Delivered) i)) x.id))))
@@ -261,18 +261,18 @@ module _ (p : Parts) (s : IsState p) (n : ℕ) (y : Node) (h : Held) (at : slice
     }
 
     row_here : (contact k : ℕ) (b : Bool) → nat_eq k n ≡ b → (c : Bool) → nat_lt contact p.table.contacts ≡ c → (retry.kept_at t contact k).row ≡ (retry.kept_at p.retry contact k).row
-    row_here contact k false e c f = ap (λ (w : retry.Kept). w.row) (r.apart contact k (let ne : k ≢ n = (λ q. grind (arith, e, q)) in ne))
+    row_here contact k false e c f = ap (λ (w : retry.KeptRow). w.row) (r.apart contact k (let ne : k ≢ n = (λ q. grind (arith, e, q)) in ne))
     row_here contact k true e true f =
         let number : k ≡ n = eqb-true k n e in
         ap (λ j. (retry.kept_at t contact j).row) number
-        ∙ (ap (λ (w : retry.Kept). w.row) (r.here contact (grind (arith, f)))
+        ∙ (ap (λ (w : retry.KeptRow). w.row) (r.here contact (grind (arith, f)))
         ∙ (row_readied (goes_to p.table.levels h.message.group outgoing contact) (retry.kept_at p.retry contact n)
         ∙ ap (λ j. (retry.kept_at p.retry contact j).row) (sym number)))
       where
-        row_readied : (goes : Bool) (w : retry.Kept) → (cond goes (retry.with_ready true w) w).row ≡ w.row
+        row_readied : (goes : Bool) (w : retry.KeptRow) → (cond goes (retry.with_ready true w) w).row ≡ w.row
         row_readied true w = refl
         row_readied false w = refl
-    row_here contact k true e false f = ap (λ (ks : List retry.Kept). (retry.kept_in ks k).row) (r.beyond contact (grind (arith, f)))
+    row_here contact k true e false f = ap (λ (ks : List retry.KeptRow). (retry.kept_in ks k).row) (r.beyond contact (grind (arith, f)))
 
     -- the facts are those after the entry
     pub delivered_facts : facts_of (delivered_parts p n t) ≡ after (facts_of p) (entry.Deliver h.id)

@@ -20,11 +20,11 @@ empty_parts room table = record {
   space = 0;
 }
 
-no_rows : (contact : ℕ) (ks : List retry.Kept) (rows : Rows) → put_rows contact ks [] rows ≡ rows
+no_rows : (contact : ℕ) (ks : List retry.KeptRow) (rows : Rows) → put_rows contact ks [] rows ≡ rows
 no_rows contact [] rows = refl
 no_rows contact (k ∷ ks) rows = refl
 
-none_from : (contact : ℕ) (each : List (List retry.Kept)) → rows_from contact each [] ≡ fin_map.empty
+none_from : (contact : ℕ) (each : List (List retry.KeptRow)) → rows_from contact each [] ≡ fin_map.empty
 none_from contact [] = refl
 none_from contact (ks ∷ each) = no_rows contact ks (rows_from (contact + 1) each []) ∙ none_from (contact + 1) each
 
@@ -41,7 +41,7 @@ empty_is_state room table none = record {
   within = refl;
   ended = λ id. refl;
   many = refl;
-  free_rows = λ contact n beyond. ap (λ (ks : List retry.Kept). retry.kept_in ks n) (none contact).0;
+  free_rows = λ contact n beyond. ap (λ (ks : List retry.KeptRow). retry.kept_in ks n) (none contact).0;
   free_wants = λ contact beyond. ap (λ (w : retry.Wants). w.ids) (none contact).1;
   hidden = λ contact group beyond. ap level_or (fin_map.get-empty pair_cmp (contact, group));
   shown = λ contact group e. absurd (false≢true (sym e ∙ ap (λ o. is_invisible (level_or o)) (fin_map.get-empty pair_cmp (contact, group))));

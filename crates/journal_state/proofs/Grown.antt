@@ -45,7 +45,7 @@ none_more zero n = refl
 none_more (suc more) zero = refl
 none_more (suc more) (suc n) = none_more more n
 
-same_kept : (rows : List retry.Kept) (more n : ℕ) → slice_index_or (rows ++ replicate more retry.no_kept) n retry.no_kept ≡ slice_index_or rows n retry.no_kept
+same_kept : (rows : List retry.KeptRow) (more n : ℕ) → slice_index_or (rows ++ replicate more retry.no_kept) n retry.no_kept ≡ slice_index_or rows n retry.no_kept
 same_kept [] more n = none_more more n
 same_kept (k ∷ rows) more zero = refl
 same_kept (k ∷ rows) more (suc n) = same_kept rows more n
@@ -65,9 +65,9 @@ module _ (old new : retry.Table) (contact numbers room : ℕ) (r : retry.Reserve
   kept_by c n true e =
       let same : c ≡ contact = eqb-true c contact e in
       ap (λ x. retry.kept_at new x n) same
-      ∙ (ap (λ (rows : List retry.Kept). retry.kept_in rows n) r.rows
+      ∙ (ap (λ (rows : List retry.KeptRow). retry.kept_in rows n) r.rows
       ∙ (same_kept (retry.rows_of old contact) _ n ∙ ap (λ x. retry.kept_at old x n) (sym same)))
-  kept_by c n false e = ap (λ (rows : List retry.Kept). retry.kept_in rows n) (r.other_rows c (let ne : c ≢ contact = (λ q. grind (arith, e, q)) in ne))
+  kept_by c n false e = ap (λ (rows : List retry.KeptRow). retry.kept_in rows n) (r.other_rows c (let ne : c ≢ contact = (λ q. grind (arith, e, q)) in ne))
 
   wants_by : (c : ℕ) (b : Bool) → nat_eq c contact ≡ b → (retry.wants_of new c).ids ≡ (retry.wants_of old c).ids
   wants_by c true e =
@@ -108,11 +108,11 @@ grown_state p s t g = record {
   free_wants = λ contact beyond. g.wants contact ∙ s.free_wants contact beyond;
   hidden = s.hidden;
   shown = s.shown;
-  ready = λ contact n h known at. ap (λ (k : retry.Kept). k.ready) (g.kept contact n) ∙ s.ready contact n h known at;
+  ready = λ contact n h known at. ap (λ (k : retry.KeptRow). k.ready) (g.kept contact n) ∙ s.ready contact n h known at;
 }
 
 pub grown_facts : (p : Parts) (t : retry.Table) → Grows p.retry t → facts_of (record p { retry = t }) ≡ facts_of p
 grown_facts p t g =
-    let rows : rows_in t p.held ≡ rows_in p.retry p.held = rows_same p.retry t p.held (λ contact n. ap (λ (k : retry.Kept). k.row) (g.kept contact n)) in
+    let rows : rows_in t p.held ≡ rows_in p.retry p.held = rows_same p.retry t p.held (λ contact n. ap (λ (k : retry.KeptRow). k.row) (g.kept contact n)) in
     let wants : wants_in t p.table.contacts ≡ wants_in p.retry p.table.contacts = wants_same p.retry t g.wants p.table.contacts in
     λ i. record (facts_of p) { rows = rows i; wanted = wants i }

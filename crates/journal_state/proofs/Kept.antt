@@ -53,13 +53,13 @@ module _ (p : Parts) (s : IsState p) (t : retry.Table) (space : ℕ) where
   }
 
   pub same_state : SameKept p.retry t → IsState (record p { retry = t; space = space })
-  same_state k = with_table (λ contact n. ap (λ (x : retry.Kept). x.ready) (k.rows contact n))
+  same_state k = with_table (λ contact n. ap (λ (x : retry.KeptRow). x.ready) (k.rows contact n))
       (λ contact n beyond. k.rows contact n ∙ s.free_rows contact n beyond)
       (λ contact beyond. k.wants contact ∙ s.free_wants contact beyond)
 
   pub same_facts : SameKept p.retry t → facts_of (record p { retry = t; space = space }) ≡ facts_of p
   same_facts k = λ i. record (facts_of p) {
-    rows = rows_same t p.retry p.held (λ contact n. ap (λ (x : retry.Kept). x.row) (k.rows contact n)) i;
+    rows = rows_same t p.retry p.held (λ contact n. ap (λ (x : retry.KeptRow). x.row) (k.rows contact n)) i;
     wanted = wants_same t p.retry p.table.contacts k.wants i;
   }
 
@@ -81,10 +81,10 @@ module _ (p : Parts) (s : IsState p) (contact n : ℕ) (h : Held) (at : slice_ge
       elim (nat_eq c contact) as (λ b. nat_eq c contact ≡ b → (retry.kept_at t c n).row ≡ cond (b && true) (change (row_at (rows_in p.retry p.held) contact h.id)) (row_at (rows_in p.retry p.held) c h.id)) [
         | true ↦ λ e.
             ap (λ x. (retry.kept_at t x n).row) (eqb-true c contact e)
-            ∙ (ap (λ (x : retry.Kept). x.row) (kept_here p.retry t contact n (retry.with_row change (retry.kept_at p.retry contact n)) k within)
+            ∙ (ap (λ (x : retry.KeptRow). x.row) (kept_here p.retry t contact n (retry.with_row change (retry.kept_at p.retry contact n)) k within)
             ∙ ap change (sym (row_there p s contact n h at)))
         | false ↦ λ e.
-            ap (λ (x : retry.Kept). x.row) (kept_there p.retry t contact n (retry.with_row change (retry.kept_at p.retry contact n)) k c n
+            ap (λ (x : retry.KeptRow). x.row) (kept_there p.retry t contact n (retry.with_row change (retry.kept_at p.retry contact n)) k c n
             (λ same q. false≢true (sym e ∙ (ap (λ x. nat_eq x contact) same ∙ grind arith))))
             ∙ sym (row_there p s c n h at)
       ] refl
@@ -92,7 +92,7 @@ module _ (p : Parts) (s : IsState p) (contact n : ℕ) (h : Held) (at : slice_ge
   other_row : (c : ℕ) (id : Id) → same_id h.id id ≡ false → (o : Option ℕ) → IsFound p.held id o → row_by (retry.rows_of t c) o ≡ row_by (retry.rows_of p.retry c) o
   other_row c id away None found = refl
   other_row c id away (Some m) found =
-      ap (λ (x : retry.Kept). x.row) (kept_there p.retry t contact n (retry.with_row change (retry.kept_at p.retry contact n)) k c m
+      ap (λ (x : retry.KeptRow). x.row) (kept_there p.retry t contact n (retry.with_row change (retry.kept_at p.retry contact n)) k c m
       (λ same q. false≢true (sym away ∙ (ap (λ (x : Id). same_id h.id x) (sym found.named ∙ ap (λ (x : Held). x.id) (let both : Some found.message ≡ Some h = sym found.stands ∙ (ap (slice_get p.held) q ∙ at) in (let one : found.message ≡ h = cc in one))) ∙ id_itself h.id))))
 
   each_row : (c : ℕ) (id : Id) → row_by (retry.rows_of t c) (place_of p.held id) ≡ row_at (change_row (rows_in p.retry p.held) contact h.id change) c id
@@ -123,10 +123,10 @@ module _ (p : Parts) (s : IsState p) (contact n : ℕ) (h : Held) (at : slice_ge
   same_ready c m = either c contact
       (λ e. either m n
       (λ q. (λ i. (retry.kept_at t (e i) (q i)).ready)
-      ∙ (ap (λ (x : retry.Kept). x.ready) (kept_here p.retry t contact n (retry.with_row change (retry.kept_at p.retry contact n)) k within)
+      ∙ (ap (λ (x : retry.KeptRow). x.ready) (kept_here p.retry t contact n (retry.with_row change (retry.kept_at p.retry contact n)) k within)
       ∙ sym (λ i. (retry.kept_at p.retry (e i) (q i)).ready)))
-      (λ away. ap (λ (x : retry.Kept). x.ready) (kept_there p.retry t contact n (retry.with_row change (retry.kept_at p.retry contact n)) k c m (λ same q. away q))))
-      (λ away. ap (λ (x : retry.Kept). x.ready) (kept_there p.retry t contact n (retry.with_row change (retry.kept_at p.retry contact n)) k c m (λ same q. away same)))
+      (λ away. ap (λ (x : retry.KeptRow). x.ready) (kept_there p.retry t contact n (retry.with_row change (retry.kept_at p.retry contact n)) k c m (λ same q. away q))))
+      (λ away. ap (λ (x : retry.KeptRow). x.ready) (kept_there p.retry t contact n (retry.with_row change (retry.kept_at p.retry contact n)) k c m (λ same q. away same)))
 
   free_still : (c m : ℕ) → length p.held ≤ m → retry.kept_at t c m ≡ retry.no_kept
   free_still c m beyond =

@@ -30,7 +30,7 @@ use Rattle.journal_state.proofs.MoreHeld.{Honest}
 use Rattle.journal_state.proofs.Next.{many_nodes}
 use Rattle.journal_state.proofs.Seen.{there}
 use Rattle.retry_table.specs.Table as retry
-use Rattle.journal_state.specs.Levelling.{levelled, levelled_at, Levels}
+use Rattle.journal_state.specs.Levelling.{levelled, levelled_at, SetsLevels}
 use Rattle.journal_state.proofs.Places.{id_is, id_itself, id_swap}
 use Rattle.journal_state.proofs.Pairs.{hits, hits_is, pair_total}
 use Rattle.journal_state.specs.Room.{room_in}
@@ -47,7 +47,7 @@ set_same (x ∷ xs) (suc n) d = ap (λ ys. x ∷ ys) (set_same xs n d)
 pub keeps_same : (t : retry.Table) (contact n : ℕ) → retry.Keeps t t contact n (retry.kept_at t contact n)
 keeps_same t contact n = record { here = sym (set_same (retry.rows_of t contact) n retry.no_kept); others = λ other apart. refl; wants = refl }
 
-pub levels_none : (t : retry.Table) (contact : ℕ) (level : ℕ → retry.Kept → retry.Kept) → Levels t t contact [] level
+pub levels_none : (t : retry.Table) (contact : ℕ) (level : ℕ → retry.KeptRow → retry.KeptRow) → SetsLevels t t contact [] level
 levels_none t contact level = record { here = λ n. refl; many = refl; others = λ other apart. refl; wants = refl }
 
 any_more : (test : ℕ → Bool) (xs : List ℕ) (x : ℕ) → list_any test (xs ++ x ∷ []) ≡ (list_any test xs || test x)
@@ -63,10 +63,10 @@ any_more test (y ∷ xs) x = by (test y) (list_any test xs) (list_any test (xs +
     by false c d e = e
 
 -- one number more; a level set twice is set once
-pub levels_more : (old mid new : retry.Table) (contact : ℕ) (xs : List ℕ) (x : ℕ) (level : ℕ → retry.Kept → retry.Kept)
-    → ((n : ℕ) (k : retry.Kept) → level n (level n k) ≡ level n k)
-    → Levels old mid contact xs level → x < length (retry.rows_of old contact)
-    → retry.Keeps mid new contact x (level x (retry.kept_at mid contact x)) → Levels old new contact (xs ++ x ∷ []) level
+pub levels_more : (old mid new : retry.Table) (contact : ℕ) (xs : List ℕ) (x : ℕ) (level : ℕ → retry.KeptRow → retry.KeptRow)
+    → ((n : ℕ) (k : retry.KeptRow) → level n (level n k) ≡ level n k)
+    → SetsLevels old mid contact xs level → x < length (retry.rows_of old contact)
+    → retry.Keeps mid new contact x (level x (retry.kept_at mid contact x)) → SetsLevels old new contact (xs ++ x ∷ []) level
 levels_more old mid new contact xs x level twice l within k = record {
   here = λ n. by n (nat_eq n x) refl ∙ sym (ap (λ b. cond b (level n (retry.kept_at old contact n)) (retry.kept_at old contact n)) (any_more (nat_eq n) xs x));
   many = kept_length mid new contact x (level x (retry.kept_at mid contact x)) k contact ∙ l.many;
@@ -97,7 +97,7 @@ levels_more old mid new contact xs x level twice l within k = record {
         ∙ (l.here n
         ∙ (away n (list_any (nat_eq n) xs) ∙ ap (λ b. cond (list_any (nat_eq n) xs || b) (level n (retry.kept_at old contact n)) (retry.kept_at old contact n)) (sym e)))
 
-pub levelled_twice : (group : Id) (shared : Bool) (held : List Held) (shares : List Bool) (n : ℕ) (k : retry.Kept)
+pub levelled_twice : (group : Id) (shared : Bool) (held : List Held) (shares : List Bool) (n : ℕ) (k : retry.KeptRow)
     → levelled_at group shared held shares n (levelled_at group shared held shares n k) ≡ levelled_at group shared held shares n k
 levelled_twice group shared held shares n k = by (slice_get held n) (slice_index_or shares n false)
   where
@@ -109,12 +109,12 @@ levelled_twice group shared held shares n k = by (slice_get held n) (slice_index
     by None share = refl
     by (Some h) share = twice (same_id h.message.group group) _
 
-pub levels_room : (space : ℕ) (old new : retry.Table) (contact : ℕ) (xs : List ℕ) (level : ℕ → retry.Kept → retry.Kept) → Levels old new contact xs level
+pub levels_room : (space : ℕ) (old new : retry.Table) (contact : ℕ) (xs : List ℕ) (level : ℕ → retry.KeptRow → retry.KeptRow) → SetsLevels old new contact xs level
     → Spends (room_in space old) (room_in (space - 1) new)
 levels_room space old new contact xs level l = room_spent space (space - 1) old new (one_less space)
     (λ c. either c contact
     (λ e. subst (λ x. length (retry.rows_of old x) ≤ length (retry.rows_of new x)) (sym e) (let m = l.many in omega (arith, m)))
-    (λ apart. let m = ap (λ (ks : List retry.Kept). length ks) (l.others c apart) in omega (arith, m)))
+    (λ apart. let m = ap (λ (ks : List retry.KeptRow). length ks) (l.others c apart) in omega (arith, m)))
     (λ c. let m = ap (λ (ws : List retry.Wants). (retry.wants_of (record old { wants = ws }) c).room) l.wants in omega (arith, m))
 
 -- ---- levels
@@ -235,7 +235,7 @@ and_false false = refl
 
 module _ (p : Parts) (s : IsState p) (honest : Honest p.nodes p.shares) (c : ℕ) (g : Id) (l : Level) (t : levels.Table)
     (made : t ≡ levels.after_entry p.table (entry.Level c g l)) (new : retry.Table)
-    (r : Levels p.retry new c p.delivered (levelled_at g (is_level_shared l) p.held p.shares)) (space : ℕ) where
+    (r : SetsLevels p.retry new c p.delivered (levelled_at g (is_level_shared l) p.held p.shares)) (space : ℕ) where
   -- a message is among those that may be shared where its mark says so
   share_is : (n : ℕ) (h : Held) → slice_get p.held n ≡ Some h → is_among (shared_among p.held (answers_of p.nodes p.shares)) h.id ≡ slice_index_or p.shares n false
   share_is n h at =
@@ -253,7 +253,7 @@ module _ (p : Parts) (s : IsState p) (honest : Honest p.nodes p.shares) (c : ℕ
       by node here true e = honest n node here (share_there p.shares n e)
       by node here false e = not_shared node.answer
 
-  ready_by : (d b a x share old : Bool) (m : Level) → x ≡ share → (k : retry.Kept) → k.ready ≡ (d && (is_level_shared m && (a || x)))
+  ready_by : (d b a x share old : Bool) (m : Level) → x ≡ share → (k : retry.KeptRow) → k.ready ≡ (d && (is_level_shared m && (a || x)))
       → (cond d (cond b (retry.with_ready (is_level_shared l && (a || share)) k) k) k).ready ≡ (d && (is_level_shared (cond b l m) && (a || x)))
   ready_by true true a x share old m e k was = ap (λ w. is_level_shared l && (a || w)) (sym e)
   ready_by true false a x share old m e k was = was
@@ -268,7 +268,7 @@ module _ (p : Parts) (s : IsState p) (honest : Honest p.nodes p.shares) (c : ℕ
       λ m. is_among (map (name_at p.nodes) p.delivered) h.id && (is_level_shared m && (is_author h.origin || is_among (shared_among p.held (answers_of p.nodes p.shares)) h.id)) in
       let one : (retry.kept_at new c n).ready
       ≡ (cond (list_any (nat_eq n) p.delivered) (levelled_at g (is_level_shared l) p.held p.shares n (retry.kept_at p.retry c n)) (retry.kept_at p.retry c n)).ready =
-      ap (λ (k : retry.Kept). k.ready) (r.here n) in
+      ap (λ (k : retry.KeptRow). k.ready) (r.here n) in
       let two : (cond (list_any (nat_eq n) p.delivered) (levelled_at g (is_level_shared l) p.held p.shares n (retry.kept_at p.retry c n)) (retry.kept_at p.retry c n)).ready
       ≡ (cond (is_among (map (name_at p.nodes) p.delivered) h.id) (levelled g (is_level_shared l) (Some h) (slice_index_or p.shares n false) (retry.kept_at p.retry c n)) (retry.kept_at p.retry c n)).ready =
       (λ i. (cond (delivered_by p s n h at p.delivered s.within i) (levelled g (is_level_shared l) (at i) (slice_index_or p.shares n false) (retry.kept_at p.retry c n)) (retry.kept_at p.retry c n)).ready) in
@@ -287,7 +287,7 @@ module _ (p : Parts) (s : IsState p) (honest : Honest p.nodes p.shares) (c : ℕ
   ready_there : (contact n : ℕ) (h : Held) → (contact ≡ c → ⊥) → contact < 256 → slice_get p.held n ≡ Some h
       → (retry.kept_at new contact n).ready ≡ may_go (put_level p.table.levels (c, g) l) (map (name_at p.nodes) p.delivered) (shared_among p.held (answers_of p.nodes p.shares)) contact h
   ready_there contact n h apart known at =
-      ap (λ (ks : List retry.Kept). (retry.kept_in ks n).ready) (r.others contact apart)
+      ap (λ (ks : List retry.KeptRow). (retry.kept_in ks n).ready) (r.others contact apart)
       ∙ (s.ready contact n h known at
       ∙ ap (λ (m : Level). is_among (map (name_at p.nodes) p.delivered) h.id && (is_level_shared m && (is_author h.origin || is_among (shared_among p.held (answers_of p.nodes p.shares)) h.id)))
       (sym (level_put p.table.levels c g l contact h.message.group ∙ ap (λ b. cond b l (level_at p.table.levels contact h.message.group)) (miss (nat_eq contact c) refl))))
@@ -302,18 +302,18 @@ module _ (p : Parts) (s : IsState p) (honest : Honest p.nodes p.shares) (c : ℕ
       ∙ ((λ i. cond (list_any (nat_eq n) p.delivered) (levelled g (is_level_shared l) (slice_get_past p.held n beyond i) (slice_index_or p.shares n false) (retry.kept_at p.retry c n)) (retry.kept_at p.retry c n))
       ∙ (one (list_any (nat_eq n) p.delivered) (retry.kept_at p.retry c n) ∙ s.free_rows c n beyond))
     where
-      one : (b : Bool) (k : retry.Kept) → cond b k k ≡ k
+      one : (b : Bool) (k : retry.KeptRow) → cond b k k ≡ k
       one true k = refl
       one false k = refl
 
   row_here : (n : ℕ) → (retry.kept_at new c n).row ≡ (retry.kept_at p.retry c n).row
-  row_here n = ap (λ (k : retry.Kept). k.row) (r.here n) ∙ by (list_any (nat_eq n) p.delivered) (slice_get p.held n) (slice_index_or p.shares n false) (retry.kept_at p.retry c n)
+  row_here n = ap (λ (k : retry.KeptRow). k.row) (r.here n) ∙ by (list_any (nat_eq n) p.delivered) (slice_get p.held n) (slice_index_or p.shares n false) (retry.kept_at p.retry c n)
     where
-      two : (b : Bool) (w : Bool) (k : retry.Kept) → (cond b (retry.with_ready w k) k).row ≡ k.row
+      two : (b : Bool) (w : Bool) (k : retry.KeptRow) → (cond b (retry.with_ready w k) k).row ≡ k.row
       two true w k = refl
       two false w k = refl
 
-      by : (d : Bool) (o : Option Held) (share : Bool) (k : retry.Kept) → (cond d (levelled g (is_level_shared l) o share k) k).row ≡ k.row
+      by : (d : Bool) (o : Option Held) (share : Bool) (k : retry.KeptRow) → (cond d (levelled g (is_level_shared l) o share k) k).row ≡ k.row
       by true None share k = refl
       by true (Some h) share k = two (same_id h.message.group g) (is_level_shared l && (is_author h.origin || share)) k
       by false o share k = refl
@@ -348,7 +348,7 @@ module _ (p : Parts) (s : IsState p) (honest : Honest p.nodes p.shares) (c : ℕ
     many = s.many;
     free_rows = λ contact n beyond. either contact c
         (λ e. ap (λ x. retry.kept_at new x n) e ∙ free_here n beyond)
-        (λ apart. ap (λ (ks : List retry.Kept). retry.kept_in ks n) (r.others contact apart) ∙ s.free_rows contact n beyond);
+        (λ apart. ap (λ (ks : List retry.KeptRow). retry.kept_in ks n) (r.others contact apart) ∙ s.free_rows contact n beyond);
     free_wants = λ contact beyond. ap (λ (ws : List retry.Wants). (retry.wants_of (record p.retry { wants = ws }) contact).ids) r.wants ∙ s.free_wants contact beyond;
     hidden = level_hidden met;
     shown = level_shown known;
@@ -367,6 +367,6 @@ module _ (p : Parts) (s : IsState p) (honest : Honest p.nodes p.shares) (c : ℕ
       ∙ (λ i. record (after (facts_of p) (entry.Level c g l)) {
         rows = rows_same new p.retry p.held (λ contact n. either contact c
             (λ e. subst (λ x. (retry.kept_at new x n).row ≡ (retry.kept_at p.retry x n).row) (sym e) (row_here n))
-            (λ apart. ap (λ (ks : List retry.Kept). (retry.kept_in ks n).row) (r.others contact apart))) i;
+            (λ apart. ap (λ (ks : List retry.KeptRow). (retry.kept_in ks n).row) (r.others contact apart))) i;
         wanted = wants_same new p.retry p.table.contacts (λ contact. ap (λ (ws : List retry.Wants). (retry.wants_of (record p.retry { wants = ws }) contact).ids) r.wants) i;
       })

@@ -18,12 +18,12 @@ id_there (x ∷ held) (suc n) h at = id_there held n h at
 
 -- ---- tests of rows and of messages
 
-module _ (t : retry.Kept → Bool) (u : Held → Bool) (name : ℕ → Id) (nothing_kept : t retry.no_kept ≡ false) where
+module _ (t : retry.KeptRow → Bool) (u : Held → Bool) (name : ℕ → Id) (nothing_kept : t retry.no_kept ≡ false) where
   -- what each message is kept as
-  abbrev Suits : ℕ → List retry.Kept → List Held → Type 0
+  abbrev Suits : ℕ → List retry.KeptRow → List Held → Type 0
   Suits first ks hs = (n : ℕ) (h : Held) → slice_get hs n ≡ Some h → (u h ≡ t (retry.kept_in ks n)) × (name (first + n) ≡ h.id)
 
-  abbrev IsFree : List retry.Kept → List Held → Type 0
+  abbrev IsFree : List retry.KeptRow → List Held → Type 0
   IsFree ks hs = (n : ℕ) → length hs ≤ n → retry.kept_in ks n ≡ retry.no_kept
 
   none_passes : (first : ℕ) (hs : List Held) → Suits first [] hs → ids_where u hs ≡ []
@@ -32,14 +32,14 @@ module _ (t : retry.Kept → Bool) (u : Held → Bool) (name : ℕ → Id) (noth
       ap (λ b. cond b (h.id ∷ ids_where u hs) (ids_where u hs)) ((suits 0 h refl).0 ∙ nothing_kept)
       ∙ none_passes (first + 1) hs (λ n x at. ((suits (suc n) x at).0, ap name (omega arith) ∙ (suits (suc n) x at).1))
 
-  none_kept : (first : ℕ) (ks : List retry.Kept) → IsFree ks [] → numbers_where t first ks ≡ []
+  none_kept : (first : ℕ) (ks : List retry.KeptRow) → IsFree ks [] → numbers_where t first ks ≡ []
   none_kept first [] free = refl
   none_kept first (k ∷ ks) free =
       ap (λ b. cond b (first ∷ numbers_where t (first + 1) ks) (numbers_where t (first + 1) ks)) (ap t (free 0 (omega arith)) ∙ nothing_kept)
       ∙ none_kept (first + 1) ks (λ n beyond. free (suc n) (omega arith))
 
   -- the ids of the numbers of the rows that pass are those of the messages that pass
-  pub listed : (first : ℕ) (ks : List retry.Kept) (hs : List Held) → Suits first ks hs → IsFree ks hs → map name (numbers_where t first ks) ≡ ids_where u hs
+  pub listed : (first : ℕ) (ks : List retry.KeptRow) (hs : List Held) → Suits first ks hs → IsFree ks hs → map name (numbers_where t first ks) ≡ ids_where u hs
   listed first [] hs suits free = sym (none_passes first hs suits)
   listed first (k ∷ ks) [] suits free = ap (map name) (none_kept first (k ∷ ks) free)
   listed first (k ∷ ks) (h ∷ hs) suits free =
@@ -52,7 +52,7 @@ module _ (t : retry.Kept → Bool) (u : Held → Bool) (name : ℕ → Id) (noth
         | false ↦ rest
       ]
 
-  heads : (first : ℕ) (ks : List retry.Kept) → first_id (map name (numbers_where t first ks)) ≡ option_map name (position_from t first ks)
+  heads : (first : ℕ) (ks : List retry.KeptRow) → first_id (map name (numbers_where t first ks)) ≡ option_map name (position_from t first ks)
   heads first [] = refl
   heads first (k ∷ ks) =
       elim (t k) as (λ b. first_id (map name (cond b (first ∷ numbers_where t (first + 1) ks) (numbers_where t (first + 1) ks)))
@@ -62,23 +62,23 @@ module _ (t : retry.Kept → Bool) (u : Held → Bool) (name : ℕ → Id) (noth
       ]
 
   -- the first number whose row passes is that of the first message that passes
-  pub first_listed : (first : ℕ) (ks : List retry.Kept) (hs : List Held) → Suits first ks hs → IsFree ks hs → option_map name (position_from t first ks) ≡ first_id (ids_where u hs)
+  pub first_listed : (first : ℕ) (ks : List retry.KeptRow) (hs : List Held) → Suits first ks hs → IsFree ks hs → option_map name (position_from t first ks) ≡ first_id (ids_where u hs)
   first_listed first ks hs suits free = sym (heads first ks) ∙ ap first_id (listed first ks hs suits free)
 
 -- ---- bounds
 
-module _ (t : retry.Kept → Bool) (nothing_kept : t retry.no_kept ≡ false) (bound : ℕ) where
-  abbrev IsBounded : ℕ → List retry.Kept → Type 0
+module _ (t : retry.KeptRow → Bool) (nothing_kept : t retry.no_kept ≡ false) (bound : ℕ) where
+  abbrev IsBounded : ℕ → List retry.KeptRow → Type 0
   IsBounded first ks = (n : ℕ) → bound ≤ first + n → retry.kept_in ks n ≡ retry.no_kept
 
-  passes_below : (first : ℕ) (k : retry.Kept) → (bound ≤ first → k ≡ retry.no_kept) → t k ≡ true → nat_lt first bound ≡ true
+  passes_below : (first : ℕ) (k : retry.KeptRow) → (bound ≤ first → k ≡ retry.no_kept) → t k ≡ true → nat_lt first bound ≡ true
   passes_below first k free e = by (nat_lt first bound) refl
     where
       by : (b : Bool) → nat_lt first bound ≡ b → b ≡ true
       by true h = refl
       by false h = let beyond : bound ≤ first = grind (arith, h) in absurd (false≢true (sym (ap t (free beyond) ∙ nothing_kept) ∙ e))
 
-  pub all_below : (first : ℕ) (ks : List retry.Kept) → IsBounded first ks → list_all (λ n. nat_lt n bound) (numbers_where t first ks) ≡ true
+  pub all_below : (first : ℕ) (ks : List retry.KeptRow) → IsBounded first ks → list_all (λ n. nat_lt n bound) (numbers_where t first ks) ≡ true
   all_below first [] free = refl
   all_below first (k ∷ ks) free =
       let rest = all_below (first + 1) ks (λ n beyond. free (suc n) (omega arith)) in
@@ -87,7 +87,7 @@ module _ (t : retry.Kept → Bool) (nothing_kept : t retry.no_kept ≡ false) (b
         | false ↦ λ e. rest
       ] refl
 
-  pub found_below : (first : ℕ) (ks : List retry.Kept) → IsBounded first ks → (n : ℕ) → position_from t first ks ≡ Some n → nat_lt n bound ≡ true
+  pub found_below : (first : ℕ) (ks : List retry.KeptRow) → IsBounded first ks → (n : ℕ) → position_from t first ks ≡ Some n → nat_lt n bound ≡ true
   found_below first [] free n e = absurd (let none : None ≡ Some n = e in cc)
   found_below first (k ∷ ks) free n e =
       elim (t k) as (λ b. t k ≡ b → cond b (Some first) (position_from t (first + 1) ks) ≡ Some n → nat_lt n bound ≡ true) [

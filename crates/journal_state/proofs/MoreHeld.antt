@@ -240,7 +240,7 @@ held_parts p h group t space = record p {
 module _ (p : Parts) (s : IsState p) (h : Held) (group : ℕ) (t : retry.Table) (space : ℕ) (new : held_at p.held h.id ≡ None)
     (known : levels.number_of p.table.groups h.message.group ≡ Some group) (u : UnwantsBelow p.table.contacts p.retry t h.id) where
   kept_still : (contact n : ℕ) → retry.kept_at t contact n ≡ retry.kept_at p.retry contact n
-  kept_still contact n = ap (λ (rows : List (List retry.Kept)). retry.kept_in (slice_index_or rows contact []) n) u.rows
+  kept_still contact n = ap (λ (rows : List (List retry.KeptRow)). retry.kept_in (slice_index_or rows contact []) n) u.rows
 
   delivered_still : map (name_at (p.nodes ++ nodes.fresh h.id group ∷ [])) p.delivered ≡ map (name_at p.nodes) p.delivered
   delivered_still = delivered_more p.nodes (nodes.fresh h.id group) p.delivered s.within
@@ -293,14 +293,14 @@ module _ (p : Parts) (s : IsState p) (h : Held) (group : ℕ) (t : retry.Table) 
       → (retry.kept_at t contact n).ready ≡ may_go p.table.levels (map (name_at (p.nodes ++ nodes.fresh h.id group ∷ [])) p.delivered)
       (shared_among (p.held ++ h ∷ []) (answers_of (p.nodes ++ nodes.fresh h.id group ∷ []) (p.shares ++ false ∷ []))) contact x
   ready_old n x at contact below =
-      ap (λ (k : retry.Kept). k.ready) (kept_still contact n)
+      ap (λ (k : retry.KeptRow). k.ready) (kept_still contact n)
       ∙ (s.ready contact n x below at ∙ (λ i. may_go p.table.levels (sym delivered_still i) (sym shared_still i) contact x))
 
   ready_new : (contact : ℕ) → contact < 256
       → (retry.kept_at t contact (length p.held)).ready ≡ may_go p.table.levels (map (name_at (p.nodes ++ nodes.fresh h.id group ∷ [])) p.delivered)
       (shared_among (p.held ++ h ∷ []) (answers_of (p.nodes ++ nodes.fresh h.id group ∷ []) (p.shares ++ false ∷ []))) contact h
   ready_new contact below =
-      ap (λ (k : retry.Kept). k.ready) (kept_still contact (length p.held) ∙ s.free_rows contact (length p.held) (omega arith))
+      ap (λ (k : retry.KeptRow). k.ready) (kept_still contact (length p.held) ∙ s.free_rows contact (length p.held) (omega arith))
       ∙ sym (ap (λ b. b && (is_level_shared (level_at p.table.levels contact h.message.group)
       && (is_author h.origin || is_among (shared_among (p.held ++ h ∷ []) (answers_of (p.nodes ++ nodes.fresh h.id group ∷ []) (p.shares ++ false ∷ []))) h.id)))
       (ap (λ (ids : List Id). is_among ids h.id) delivered_still ∙ not_delivered))
@@ -331,9 +331,9 @@ module _ (p : Parts) (s : IsState p) (h : Held) (group : ℕ) (t : retry.Table) 
   }
 
   row_end : (contact : ℕ) (o : Option ℕ) (b : Bool) → row_by (retry.rows_of t contact) (or_end o b (length p.held)) ≡ row_by (retry.rows_of p.retry contact) o
-  row_end contact None true = ap (λ (k : retry.Kept). k.row) (kept_still contact (length p.held) ∙ s.free_rows contact (length p.held) (omega arith))
+  row_end contact None true = ap (λ (k : retry.KeptRow). k.row) (kept_still contact (length p.held) ∙ s.free_rows contact (length p.held) (omega arith))
   row_end contact None false = refl
-  row_end contact (Some n) b = ap (λ (k : retry.Kept). k.row) (kept_still contact n)
+  row_end contact (Some n) b = ap (λ (k : retry.KeptRow). k.row) (kept_still contact n)
 
   rows_still : rows_in t (p.held ++ h ∷ []) ≡ rows_in p.retry p.held
   rows_still = rows_are t (p.held ++ h ∷ []) (rows_in p.retry p.held) (lean_in p.retry p.held) (λ contact id.

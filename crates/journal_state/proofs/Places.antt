@@ -9,7 +9,7 @@ use Rattle.std.proofs.lemmas.Iterator.Adapters.{position_from-zero}
 use Rattle.sync_rules.specs.Lists.{same_id}
 use Rattle.sync_rules.specs.Facts.{Id, Held, held_at}
 use Rattle.sync_rules.specs.Views.{place_of, IsFound}
-use Rattle.journal_state.specs.declared.messages.Kept.{Kept}
+use Rattle.journal_state.specs.declared.messages.KeptMessage.{KeptMessage}
 use Rattle.journal_state.specs.Holding.{held_of}
 
 pub id_swap : (a b : Id) → same_id a b ≡ same_id b a
@@ -57,7 +57,7 @@ one_further : (i : ℕ) (o : Option ℕ) → option_map (λ n. (i + 1) + n) o �
 one_further i None = refl
 one_further i (Some n) = ap Some (omega arith)
 
-from_place : (id : Id) (i : ℕ) (es : List (Id × Kept)) → position_from (same_id id) i (keys_of es) ≡ option_map (λ n. i + n) (place_of (map held_of es) id)
+from_place : (id : Id) (i : ℕ) (es : List (Id × KeptMessage)) → position_from (same_id id) i (keys_of es) ≡ option_map (λ n. i + n) (place_of (map held_of es) id)
 from_place id i [] = refl
 from_place id i (e ∷ es) =
     ap (λ b. cond b (Some i) (position_from (same_id id) (i + 1) (keys_of es))) (id_swap id e.0)
@@ -72,16 +72,16 @@ from_zero None = refl
 from_zero (Some n) = ap Some (omega arith)
 
 -- the place of an id among those that are kept is the arrival number of its message
-pub kept_place : (id : Id) (es : List (Id × Kept)) → position (same_id id) (keys_of es) ≡ place_of (map held_of es) id
+pub kept_place : (id : Id) (es : List (Id × KeptMessage)) → position (same_id id) (keys_of es) ≡ place_of (map held_of es) id
 kept_place id es = position_is (same_id id) (keys_of es) ∙ (from_place id 0 es ∙ from_zero (place_of (map held_of es) id))
 
-none_kept : (h : Held) (k : Kept) (b c : Bool) (o : Option Held) (p : Option Kept) → b ≡ c → (o ≡ None → p ≡ None) → cond b (Some h) o ≡ None → cond c (Some k) p ≡ None
+none_kept : (h : Held) (k : KeptMessage) (b c : Bool) (o : Option Held) (p : Option KeptMessage) → b ≡ c → (o ≡ None → p ≡ None) → cond b (Some h) o ≡ None → cond c (Some k) p ≡ None
 none_kept h k true true o p same rest none = cc
 none_kept h k false false o p same rest none = rest none
 none_kept h k true false o p same rest none = cc
 none_kept h k false true o p same rest none = cc
 
 -- an id that is not held is not kept
-pub not_kept : (id : Id) (es : List (Id × Kept)) → held_at (map held_of es) id ≡ None → lookup (same_id id) es ≡ None
+pub not_kept : (id : Id) (es : List (Id × KeptMessage)) → held_at (map held_of es) id ≡ None → lookup (same_id id) es ≡ None
 not_kept id [] h = refl
 not_kept id (e ∷ es) h = none_kept (held_of e) e.1 _ _ (held_at (map held_of es) id) (lookup (same_id id) es) (id_swap e.0 id) (not_kept id es) h

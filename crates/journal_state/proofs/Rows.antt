@@ -9,7 +9,7 @@ use Rattle.journal_state.specs.Parts.{put_rows, rows_from, rows_in}
 use Rattle.journal_state.proofs.Pairs.{row_at_put, row_at_empty, IsLean, lean_empty, lean_put, same_rows}
 
 -- the row of the message of a place
-abbrev pub row_by : List retry.Kept → Option ℕ → Row
+abbrev pub row_by : List retry.KeptRow → Option ℕ → Row
 row_by kept None = no_row
 row_by kept (Some n) = (retry.kept_in kept n).row
 
@@ -18,7 +18,7 @@ row_by kept (Some n) = (retry.kept_in kept n).row
 eq_self : (n : ℕ) → nat_eq n n ≡ true
 eq_self n = grind arith
 
-later_row : (k : retry.Kept) (ks : List retry.Kept) (o : Option ℕ) → row_by ks o ≡ row_by (k ∷ ks) (option_map suc o)
+later_row : (k : retry.KeptRow) (ks : List retry.KeptRow) (o : Option ℕ) → row_by ks o ≡ row_by (k ∷ ks) (option_map suc o)
 later_row k ks None = refl
 later_row k ks (Some n) = refl
 
@@ -26,7 +26,7 @@ no_kept_row : (o : Option ℕ) → no_row ≡ row_by [] o
 no_kept_row None = refl
 no_kept_row (Some n) = refl
 
-pub own_rows : (contact : ℕ) (ks : List retry.Kept) (held : List Held) (rows : Rows) (id : Id) → row_at rows contact id ≡ no_row
+pub own_rows : (contact : ℕ) (ks : List retry.KeptRow) (held : List Held) (rows : Rows) (id : Id) → row_at rows contact id ≡ no_row
     → row_at (put_rows contact ks held rows) contact id ≡ row_by ks (place_of held id)
 own_rows contact [] held rows id none = none ∙ no_kept_row (place_of held id)
 own_rows contact (k ∷ ks) [] rows id none = none
@@ -45,7 +45,7 @@ apart_row a b t r w apart =
       | false ↦ λ e. refl
     ] refl
 
-pub other_rows : (contact c : ℕ) (ks : List retry.Kept) (held : List Held) (rows : Rows) (id : Id) → (contact ≡ c → ⊥)
+pub other_rows : (contact c : ℕ) (ks : List retry.KeptRow) (held : List Held) (rows : Rows) (id : Id) → (contact ≡ c → ⊥)
     → row_at (put_rows c ks held rows) contact id ≡ row_at rows contact id
 other_rows contact c [] held rows id apart = refl
 other_rows contact c (k ∷ ks) [] rows id apart = refl
@@ -53,19 +53,19 @@ other_rows contact c (k ∷ ks) (h ∷ hs) rows id apart =
     row_at_put (put_rows c ks hs rows) contact c id h.id k.row
     ∙ (apart_row contact c (same_id h.id id) k.row (row_at (put_rows c ks hs rows) contact id) apart ∙ other_rows contact c ks hs rows id apart)
 
-lean_rows : (contact : ℕ) (ks : List retry.Kept) (held : List Held) (rows : Rows) → IsLean rows → IsLean (put_rows contact ks held rows)
+lean_rows : (contact : ℕ) (ks : List retry.KeptRow) (held : List Held) (rows : Rows) → IsLean rows → IsLean (put_rows contact ks held rows)
 lean_rows contact [] held rows lean = lean
 lean_rows contact (k ∷ ks) [] rows lean = lean
 lean_rows contact (k ∷ ks) (h ∷ hs) rows lean = lean_put (put_rows contact ks hs rows) (contact, h.id) k.row (lean_rows contact ks hs rows lean)
 
 -- ---- all contacts
 
-none_below : (first : ℕ) (each : List (List retry.Kept)) (held : List Held) (contact : ℕ) (id : Id) → contact < first → row_at (rows_from first each held) contact id ≡ no_row
+none_below : (first : ℕ) (each : List (List retry.KeptRow)) (held : List Held) (contact : ℕ) (id : Id) → contact < first → row_at (rows_from first each held) contact id ≡ no_row
 none_below first [] held contact id below = row_at_empty contact id
 none_below first (ks ∷ each) held contact id below =
     other_rows contact first ks held (rows_from (first + 1) each held) id (λ e. omega arith) ∙ none_below (first + 1) each held contact id (omega arith)
 
-rows_at : (first n : ℕ) (each : List (List retry.Kept)) (held : List Held) (id : Id)
+rows_at : (first n : ℕ) (each : List (List retry.KeptRow)) (held : List Held) (id : Id)
     → row_at (rows_from first each held) (first + n) id ≡ row_by (slice_index_or each n []) (place_of held id)
 rows_at first n [] held id = row_at_empty (first + n) id ∙ no_kept_row (place_of held id)
 rows_at first zero (ks ∷ each) held id =
@@ -84,7 +84,7 @@ row_found table held contact id =
     let all : 0 + contact ≡ contact = omega arith in
     ap (λ c. row_at (rows_in table held) c id) (sym all) ∙ rows_at 0 contact table.rows held id
 
-lean_from : (first : ℕ) (each : List (List retry.Kept)) (held : List Held) → IsLean (rows_from first each held)
+lean_from : (first : ℕ) (each : List (List retry.KeptRow)) (held : List Held) → IsLean (rows_from first each held)
 lean_from first [] held = lean_empty
 lean_from first (ks ∷ each) held = lean_rows first ks held (rows_from (first + 1) each held) (lean_from (first + 1) each held)
 

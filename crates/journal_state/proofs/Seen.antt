@@ -53,14 +53,14 @@ module _ (p : Parts) (s : IsState p) where
 
   pub owed_found : (contact : ℕ) → map (id_at p.held) (owed_in (retry.rows_of p.retry contact)) ≡ owed_to (facts_of p) contact
   owed_found contact =
-      let t : retry.Kept → Bool = λ kept. kept.row.owed in
+      let t : retry.KeptRow → Bool = λ kept. kept.row.owed in
       sym (take-map (id_at p.held) MAX_IDS (numbers_where t 0 (retry.rows_of p.retry contact)))
       ∙ ap (take MAX_IDS) (listed (λ kept. kept.row.owed) (λ h. (row_at (facts_of p).rows contact h.id).owed) (id_at p.held) refl 0 (retry.rows_of p.retry contact) p.held
       (λ n h at. (ap (λ (r : Row). r.owed) (row_there contact n h at), id_named n h at)) (free contact))
 
   pub owed_below : (contact : ℕ) → list_all (λ n. nat_lt n (length p.held)) (owed_in (retry.rows_of p.retry contact)) ≡ true
   owed_below contact =
-      let t : retry.Kept → Bool = λ kept. kept.row.owed in
+      let t : retry.KeptRow → Bool = λ kept. kept.row.owed in
       all_taken (λ n. nat_lt n (length p.held)) MAX_IDS (numbers_where t 0 (retry.rows_of p.retry contact))
       (all_below t refl (length p.held) 0 (retry.rows_of p.retry contact) (bounded contact))
 

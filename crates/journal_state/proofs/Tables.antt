@@ -55,7 +55,7 @@ at_map f (x ∷ xs) (suc n) d = at_map f xs n d
 -- ---- room
 
 pub rows_room_is : (space : ℕ) (table : retry.Table) (contact : ℕ) → rows_room (room_in space table) contact ≡ length (retry.rows_of table contact)
-rows_room_is space table contact = at_map (λ (ks : List retry.Kept). length ks) table.rows contact []
+rows_room_is space table contact = at_map (λ (ks : List retry.KeptRow). length ks) table.rows contact []
 
 pub wants_room_is : (space : ℕ) (table : retry.Table) (contact : ℕ) → wants_room (room_in space table) contact ≡ (retry.wants_of table contact).room
 wants_room_is space table contact = at_map (λ (w : retry.Wants). w.room) table.wants contact retry.no_wants
@@ -71,9 +71,9 @@ module _ (old new : retry.Table) (contact numbers room : ℕ) (r : retry.Reserve
   same_reserved = record {
     rows = λ c n. either c contact
         (λ e. ap (λ x. retry.kept_at new x n) e
-        ∙ (ap (λ (ks : List retry.Kept). retry.kept_in ks n) r.rows
+        ∙ (ap (λ (ks : List retry.KeptRow). retry.kept_in ks n) r.rows
         ∙ (padded (retry.rows_of old contact) retry.no_kept (numbers - length (retry.rows_of old contact)) n ∙ ap (λ x. retry.kept_at old x n) (sym e))))
-        (λ apart. ap (λ (ks : List retry.Kept). retry.kept_in ks n) (r.other_rows c apart));
+        (λ apart. ap (λ (ks : List retry.KeptRow). retry.kept_in ks n) (r.other_rows c apart));
     wants = λ c. either c contact
         (λ e. ap (λ x. (retry.wants_of new x).ids) e ∙ (ap (λ (w : retry.Wants). w.ids) r.wants ∙ ap (λ x. (retry.wants_of old x).ids) (sym e)))
         (λ apart. ap (λ (w : retry.Wants). w.ids) (r.other_wants c apart));
@@ -81,7 +81,7 @@ module _ (old new : retry.Table) (contact numbers room : ℕ) (r : retry.Reserve
 
   reserved_length : length (retry.rows_of new contact) ≡ length (retry.rows_of old contact) + (numbers - length (retry.rows_of old contact))
   reserved_length =
-      ap (λ (ks : List retry.Kept). length ks) r.rows
+      ap (λ (ks : List retry.KeptRow). length ks) r.rows
       ∙ (length-append (retry.rows_of old contact) (replicate (numbers - length (retry.rows_of old contact)) retry.no_kept)
       ∙ ap (λ n. length (retry.rows_of old contact) + n) (length-replicate (numbers - length (retry.rows_of old contact)) retry.no_kept))
 
@@ -94,7 +94,7 @@ module _ (old new : retry.Table) (contact numbers room : ℕ) (r : retry.Reserve
   pub more_rows : (c : ℕ) → length (retry.rows_of old c) ≤ length (retry.rows_of new c)
   more_rows c = either c contact
       (λ e. subst (λ x. length (retry.rows_of old x) ≤ length (retry.rows_of new x)) (sym e) (let l = reserved_length in omega (arith, l)))
-      (λ apart. let e = ap (λ (ks : List retry.Kept). length ks) (r.other_rows c apart) in omega (arith, e))
+      (λ apart. let e = ap (λ (ks : List retry.KeptRow). length ks) (r.other_rows c apart) in omega (arith, e))
 
   pub more_wants : (c : ℕ) → (retry.wants_of old c).room ≤ (retry.wants_of new c).room
   more_wants c = either c contact
@@ -104,22 +104,22 @@ module _ (old new : retry.Table) (contact numbers room : ℕ) (r : retry.Reserve
 
 -- ---- one row changed
 
-module _ (old new : retry.Table) (contact n : ℕ) (kept : retry.Kept) (k : retry.Keeps old new contact n kept) where
+module _ (old new : retry.Table) (contact n : ℕ) (kept : retry.KeptRow) (k : retry.Keeps old new contact n kept) where
   pub kept_here : n < length (retry.rows_of old contact) → retry.kept_at new contact n ≡ kept
-  kept_here within = ap (λ (ks : List retry.Kept). retry.kept_in ks n) k.here ∙ set_here (retry.rows_of old contact) n kept retry.no_kept within
+  kept_here within = ap (λ (ks : List retry.KeptRow). retry.kept_in ks n) k.here ∙ set_here (retry.rows_of old contact) n kept retry.no_kept within
 
   pub kept_there : (c m : ℕ) → (c ≡ contact → m ≡ n → ⊥) → retry.kept_at new c m ≡ retry.kept_at old c m
   kept_there c m apart = either c contact
       (λ e. ap (λ x. retry.kept_at new x m) e
-      ∙ (ap (λ (ks : List retry.Kept). retry.kept_in ks m) k.here
+      ∙ (ap (λ (ks : List retry.KeptRow). retry.kept_in ks m) k.here
       ∙ (set_there (retry.rows_of old contact) n m kept retry.no_kept (apart e) ∙ ap (λ x. retry.kept_at old x m) (sym e))))
-      (λ away. ap (λ (ks : List retry.Kept). retry.kept_in ks m) (k.others c away))
+      (λ away. ap (λ (ks : List retry.KeptRow). retry.kept_in ks m) (k.others c away))
 
   pub kept_length : (c : ℕ) → length (retry.rows_of new c) ≡ length (retry.rows_of old c)
   kept_length c = either c contact
       (λ e. ap (λ x. length (retry.rows_of new x)) e
-      ∙ (ap (λ (ks : List retry.Kept). length ks) k.here ∙ (length-set (retry.rows_of old contact) n kept ∙ ap (λ x. length (retry.rows_of old x)) (sym e))))
-      (λ away. ap (λ (ks : List retry.Kept). length ks) (k.others c away))
+      ∙ (ap (λ (ks : List retry.KeptRow). length ks) k.here ∙ (length-set (retry.rows_of old contact) n kept ∙ ap (λ x. length (retry.rows_of old x)) (sym e))))
+      (λ away. ap (λ (ks : List retry.KeptRow). length ks) (k.others c away))
 
 -- a row seen and then owed is heard
 pub heard_twice : (a b d : retry.Table) (contact n : ℕ) → n < length (retry.rows_of a contact)

@@ -125,17 +125,17 @@ module _ (p : Parts) (s : IsState p) (contact : ℕ) (ids : List Id) (t : retry.
       ∙ (λ i. cond (sym (unsigned_ties q contact) i) (Some ids) (got_at p.retry p.table.contacts q i)))))
 
   kept_by_ids : (c n : ℕ) → retry.kept_at t c n ≡ retry.kept_at p.retry c n
-  kept_by_ids c n = ap (λ (rows : List (List retry.Kept)). retry.kept_in (slice_index_or rows c []) n) k.rows
+  kept_by_ids c n = ap (λ (rows : List (List retry.KeptRow)). retry.kept_in (slice_index_or rows c []) n) k.rows
 
   pub ids_state : IsState (record p { retry = t; space = p.space })
   ids_state = with_table p s t p.space
-      (λ c n. ap (λ (x : retry.Kept). x.ready) (kept_by_ids c n))
+      (λ c n. ap (λ (x : retry.KeptRow). x.ready) (kept_by_ids c n))
       (λ c n beyond. kept_by_ids c n ∙ s.free_rows c n beyond)
       (λ c beyond. ap (λ (w : retry.Wants). w.ids) (k.others c (λ e. omega arith)) ∙ s.free_wants c beyond)
 
   pub ids_facts : facts_of (record p { retry = t; space = p.space }) ≡ record (facts_of p) { wanted = fin_map.insert (wants_in p.retry p.table.contacts) contact ids }
   ids_facts = λ i. record (facts_of p) {
-    rows = ap (λ (rows : List (List retry.Kept)). rows_in (record p.retry { rows = rows }) p.held) k.rows i;
+    rows = ap (λ (rows : List (List retry.KeptRow)). rows_in (record p.retry { rows = rows }) p.held) k.rows i;
     wanted = ids_wanted i;
   }
 
@@ -143,7 +143,7 @@ module _ (p : Parts) (s : IsState p) (contact : ℕ) (ids : List Id) (t : retry.
 
 pub ids_room : (space : ℕ) (old new : retry.Table) (contact : ℕ) (ids : List Id) → ChangesIds old new contact ids → Spends (room_in space old) (room_in space new)
 ids_room space old new contact ids k = room_spent space space old new (omega arith)
-    (λ c. let e = ap (λ (rows : List (List retry.Kept)). length (slice_index_or rows c [])) k.rows in omega (arith, e))
+    (λ c. let e = ap (λ (rows : List (List retry.KeptRow)). length (slice_index_or rows c [])) k.rows in omega (arith, e))
     (λ c. either c contact
     (λ e. subst (λ x. (retry.wants_of old x).room ≤ (retry.wants_of new x).room + 1) (sym e) k.room)
     (λ apart. let e = ap (λ (w : retry.Wants). w.room) (k.others c apart) in omega (arith, e)))

@@ -12,7 +12,7 @@ use Rattle.sync_rules.specs.declared.answers.Judgement.{Judgement}
 use Rattle.sync_rules.specs.declared.entries.Session.{Session}
 use Rattle.sync_rules.specs.declared.states.Origin.{Origin}
 use Rattle.sync_rules.specs.Codes.{id_code, known_code, levels_code}
-use Rattle.sync_rules.specs.Facts.{Facts, Held, Id, Ids, Known, Levels, Row, Rows, Wants}
+use Rattle.sync_rules.specs.Facts.{Facts, Held, Id, Ids, Known, LevelMap, Row, Rows, Wants}
 
 abbrev pub sessions_code : Coded (List Session)
 sessions_code = coded_list session.the_row.coded
@@ -47,7 +47,7 @@ wants_code = fin_map.code coded_ℕ (coded_list id_code)
 
 -- the contacts, groups, levels and sessions; the messages; what is owed and wanted
 abbrev Before : Type 0
-Before = ℕ × (List Known × (Levels × (ℕ × (List Session × fin_map.FinMap nat_cmp ℕ))))
+Before = ℕ × (List Known × (LevelMap × (ℕ × (List Session × fin_map.FinMap nat_cmp ℕ))))
 
 abbrev Messages : Type 0
 Messages = List Held × (Ids × (Ids × List Id))

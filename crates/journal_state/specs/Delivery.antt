@@ -1,10 +1,10 @@
 -- What a delivery makes of the table of what is due.
 use Rattle.std.specs.Prelude.{◌≡◌, ◌≢◌, ℕ, ◌<◌, ◌≤◌, Bool, true, cond, ◌&&◌, length}
-use Rattle.sync_rules.specs.Facts.{Id, Levels, level_at, is_level_shared}
+use Rattle.sync_rules.specs.Facts.{Id, LevelMap, level_at, is_level_shared}
 use Rattle.retry_table.specs.Table as retry
 
 -- whether a message may go to a contact: its group is Shared with the contact, and it was written here or may be sent on
-abbrev pub goes_to : Levels → Id → Bool → ℕ → Bool
+abbrev pub goes_to : LevelMap → Id → Bool → ℕ → Bool
 goes_to levels group outgoing contact = is_level_shared (level_at levels contact group) && outgoing
 
 -- there may be more room; the same is kept of every message, and the same ids are wanted

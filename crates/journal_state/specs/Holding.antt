@@ -1,7 +1,7 @@
 -- The held messages, in order of arrival.
 use Rattle.std.specs.Prelude.{ℕ, List}
 use Rattle.sync_rules.specs.Facts.{Held, Id}
-use Rattle.journal_state.specs.declared.messages.Kept.{Kept}
+use Rattle.journal_state.specs.declared.messages.KeptMessage.{KeptMessage}
 
 -- the held messages, and for how many more there is room
 pub record Holding : Type 0 where
@@ -9,5 +9,5 @@ pub record Holding : Type 0 where
   pub room : ℕ
 
 -- a held message as it is kept under its id
-abbrev pub held_of : Id × Kept → Held
+abbrev pub held_of : Id × KeptMessage → Held
 held_of e = record { id = e.0; message = e.1.message; origin = e.1.origin }

@@ -69,13 +69,13 @@ name_at ns n = slice_index_or (map (λ x. x.name) ns) n []
 -- ---- rows and wanted ids
 
 -- the rows of a contact put into a map
-abbrev pub put_rows : ℕ → List retry.Kept → List Held → Rows → Rows
+abbrev pub put_rows : ℕ → List retry.KeptRow → List Held → Rows → Rows
 put_rows contact [] held rows = rows
 put_rows contact (k ∷ ks) [] rows = rows
 put_rows contact (k ∷ ks) (h ∷ hs) rows = put_row (put_rows contact ks hs rows) (contact, h.id) k.row
 
 -- the rows of all contacts from that one on
-abbrev pub rows_from : ℕ → List (List retry.Kept) → List Held → Rows
+abbrev pub rows_from : ℕ → List (List retry.KeptRow) → List Held → Rows
 rows_from contact [] held = fin_map.empty
 rows_from contact (rows ∷ more) held = put_rows contact rows held (rows_from (contact + 1) more held)
 

@@ -7,7 +7,7 @@ use Rattle.sync_rules.specs.declared.entries.Level.TheVariants as level
 use Rattle.sync_rules.specs.declared.limits.TheConstants.{MAX_CONTACTS}
 use Rattle.sync_rules.specs.Clients.{Meaning}
 use Rattle.sync_rules.specs.Lists.{is_among}
-use Rattle.sync_rules.specs.Facts.{Facts, Held, Id, Levels, group_at, level_at, is_invisible, is_level_shared}
+use Rattle.sync_rules.specs.Facts.{Facts, Held, Id, LevelMap, group_at, level_at, is_invisible, is_level_shared}
 use Rattle.sync_rules.specs.Sessions.{is_author}
 use Rattle.sync_rules.specs.Steps.{answer_of}
 use Rattle.sync_rules.specs.Views.{place_of}
@@ -40,7 +40,7 @@ shared_of s = shared_among s.facts.held s.answers
 
 -- a message may go to a contact as far as the message, its group and its origin go: it is delivered, its group is Shared with the
 -- contact, and it was written here or its judgement lets it be sent on
-abbrev pub may_go : Levels → List Id → List Id → ℕ → Held → Bool
+abbrev pub may_go : LevelMap → List Id → List Id → ℕ → Held → Bool
 may_go levels delivered shared contact h =
     is_among delivered h.id && (is_level_shared (level_at levels contact h.message.group) && (is_author h.origin || is_among shared h.id))
 

@@ -3,7 +3,7 @@ ghost use Rattle.std.specs.Prelude.{◌≡◌, ◌<◌, ◌≤◌, true, false, 
 ghost use Rattle.std.specs.List.{list_all};
 ghost use Rattle.sync_rules.specs.Facts.{is_level_shared};
 ghost use Rattle.retry_table.specs.Table.{rows_of, kept_at, with_ready, Keeps};
-ghost use Rattle.journal_state.specs.Levelling.{levelled_at, Levels};
+ghost use Rattle.journal_state.specs.Levelling.{levelled_at, SetsLevels};
 ghost use Rattle.journal_state.specs.Taking.{CanTake, Takes};
 
 use crate::messages::Messages;
@@ -76,7 +76,7 @@ fn level_all(
     requires rows { length messages.now.held ≤ length (rows_of retry.old contact) }
     requires shares { length shares.now ≡ length messages.now.held }
     requires within { list_all (λ n. nat_lt n (length messages.now.held)) delivered.now ≡ true }
-    ensures { Levels retry.old retry.new contact delivered.now
+    ensures { SetsLevels retry.old retry.new contact delivered.now
         (levelled_at group.now shared messages.now.held shares.now) }
 {
     for number in delivered {

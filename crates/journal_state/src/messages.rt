@@ -15,7 +15,7 @@ use sync_rules::Origin;
 
 /// A held message, and where it came from.
 #[derive(Drop)]
-pub(crate) struct Kept {
+pub(crate) struct KeptMessage {
     pub(crate) message: Message,
     pub(crate) origin: Origin,
 }
@@ -24,7 +24,7 @@ pub(crate) struct Kept {
 /// more there is room.
 #[derive(Drop)]
 pub(crate) struct Messages {
-    kept: IndexMap<MessageId, Kept, RandomState>,
+    kept: IndexMap<MessageId, KeptMessage, RandomState>,
 }
 
 impl Model for Messages {
@@ -72,7 +72,9 @@ impl Messages {
         } ∷ [] }
         ensures left { self.old.room ≤ self.new.room + 1 }
     {
-        self.kept.insert(id, Kept { message, origin }).unwrap();
+        self.kept
+            .insert(id, KeptMessage { message, origin })
+            .unwrap();
     }
 
     /// The number of held messages.

@@ -10,7 +10,7 @@ use Rattle.outside.specs.Files.{Two, File, IsImage}
 use Rattle.outside.specs.Links.{Planned, Link, Reply, Answered, with_sent}
 use Rattle.outside.specs.Outside.{Moment, DiskCall, LinkCall, QuietCall}
 use Rattle.outside.specs.Host.{SendsPart}
-use Rattle.outside.specs.MemDisk.{Change, dialled, sent, answered, hosted, MemDiskValue, Makes, Kept, kept_after, both_kept, changed, files_of, links_after, link_changed, answers_after, answers_changed, with_call, bytes_each}
+use Rattle.outside.specs.MemDisk.{Change, dialled, sent, answered, hosted, MemDiskValue, Makes, KeptFile, kept_after, both_kept, changed, files_of, links_after, link_changed, answers_after, answers_changed, with_call, bytes_each}
 use Rattle.outside.specs.MemTold.{WasAt, was_now, files_at, kept_after-push, links_after-push}
 use Rattle.outside.specs.MemHost.{MemHostValue, Readings, links_of, IsWired, OnDisk, MakesDial, MakesSend, MakesAnswer, Replies}
 use Rattle.outside.specs.HostTold.{sent_by, links_told, each_told, each_heard, host_told}
@@ -172,7 +172,7 @@ wired_answered old new link a bytes scripts scripts' e long w =
 -- a call that changes no file
 abbrev pub LeavesFiles : Option Change → Type 0
 LeavesFiles None = Unit {0}
-LeavesFiles (Some c) = (two : Two Kept) → changed two c ≡ two
+LeavesFiles (Some c) = (two : Two KeptFile) → changed two c ≡ two
 
 files_left : (start : Two (List ℕ)) (calls calls' : List Change) (more : Option Change) → LeavesFiles more → calls' ≡ calls ++ option_to_list more → kept_after (both_kept start) calls' ≡ kept_after (both_kept start) calls
 files_left start calls calls' None leaves e = ap (kept_after (both_kept start)) (e ∙ append-nil calls)

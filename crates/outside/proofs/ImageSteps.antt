@@ -3,10 +3,10 @@ use Rattle.std.proofs.Common.{◌≡◌, ℕ, ◌+◌, ◌<◌, ◌≤◌, Bool,
 use Rattle.std.specs.Prelude.{if◌then◌else◌}
 use Rattle.std.proofs.lemmas.List.{map-append, take_more, take_all}
 use Rattle.outside.specs.declared.call.Call.{Call}
-use Rattle.outside.specs.MemDisk.{Change, wrote, wrote_not, cut, cut_not, synced, dialled, sent, answered, hosted, change_of, Kept, kept, after_wrote, after_wrote_not}
+use Rattle.outside.specs.MemDisk.{Change, wrote, wrote_not, cut, cut_not, synced, dialled, sent, answered, hosted, change_of, KeptFile, kept, after_wrote, after_wrote_not}
 use Rattle.outside.specs.MemImage.{same_file, one_changed, one_after, now_changed, now_after, is_sync_of}
 
-pub one_after-append : (file : ℕ) (k : Kept) (calls more : List Change) → one_after file k (calls ++ more) ≡ one_after file (one_after file k calls) more
+pub one_after-append : (file : ℕ) (k : KeptFile) (calls more : List Change) → one_after file k (calls ++ more) ≡ one_after file (one_after file k calls) more
 one_after-append file k [] more = refl
 one_after-append file k (c ∷ calls) more = one_after-append file (one_changed file k c) calls more
 
@@ -19,7 +19,7 @@ pub changes_more : (calls : List Call) (i : ℕ) (call : Call) → i < length ca
 changes_more calls i call within is_call =
     ap (map change_of) (take_more calls i call within ∙ ap (λ c. take i calls ++ c ∷ []) (sym is_call)) ∙ map-append change_of (take i calls) (call ∷ [])
 
-pub one_step : (file : ℕ) (k k' k'' : Kept) (calls : List Call) (i : ℕ) (call : Call) → i < length calls → call ≡ get_or calls i call
+pub one_step : (file : ℕ) (k k' k'' : KeptFile) (calls : List Call) (i : ℕ) (call : Call) → i < length calls → call ≡ get_or calls i call
     → k' ≡ one_after file k (map change_of (take i calls)) → k'' ≡ one_changed file k' (change_of call) → k'' ≡ one_after file k (map change_of (take (i + 1) calls))
 one_step file k k' k'' calls i call within is_call before step =
     step ∙ ap (λ j. one_changed file j (change_of call)) before
@@ -35,13 +35,13 @@ now_step file b b' b'' calls i call within is_call before step =
 
 -- ---- after a sync of the file nothing is pending
 
-if_kept : (b : Bool) (k j : Kept) → b ≡ true → (if b then k else j) ≡ k
+if_kept : (b : Bool) (k j : KeptFile) → b ≡ true → (if b then k else j) ≡ k
 if_kept b k j e = ap (λ t. if t then k else j) e
 
-pub sync_settles : (file : ℕ) (k : Kept) (c : Change) → is_sync_of file c ≡ true → one_changed file k c ≡ kept (one_changed file k c).file.now
+pub sync_settles : (file : ℕ) (k : KeptFile) (c : Change) → is_sync_of file c ≡ true → one_changed file k c ≡ kept (one_changed file k c).file.now
 sync_settles file k (synced other) e =
     let same = if_kept (same_file other file) (kept k.file.now) k e in
-    same ∙ ap (λ (j : Kept). kept j.file.now) (sym same)
+    same ∙ ap (λ (j : KeptFile). kept j.file.now) (sym same)
 sync_settles file k (wrote _ _ _) e = cc
 sync_settles file k (wrote_not _ _ _) e = cc
 sync_settles file k (cut _ _) e = cc
@@ -57,19 +57,19 @@ settles_at file bytes calls i call within is_call is_sync =
     let k = one_after file (kept bytes) (map change_of (take i calls)) in
     let step : one_after file (kept bytes) (map change_of (take (i + 1) calls)) ≡ one_changed file k (change_of call) =
     ap (one_after file (kept bytes)) (changes_more calls i call within is_call) ∙ one_after-append file (kept bytes) (map change_of (take i calls)) (change_of call ∷ []) in
-    step ∙ sync_settles file k (change_of call) is_sync ∙ ap (λ (j : Kept). kept j.file.now) (sym step)
+    step ∙ sync_settles file k (change_of call) is_sync ∙ ap (λ (j : KeptFile). kept j.file.now) (sym step)
 
 -- ---- the bytes of what is kept
 
-if_now : (b : Bool) (k j : Kept) → (if b then k else j).file.now ≡ (if b then k.file.now else j.file.now)
+if_now : (b : Bool) (k j : KeptFile) → (if b then k else j).file.now ≡ (if b then k.file.now else j.file.now)
 if_now true k j = refl
 if_now false k j = refl
 
-now_same : (b : Bool) (k j : Kept) → k.file.now ≡ j.file.now → (if b then k else j).file.now ≡ j.file.now
+now_same : (b : Bool) (k j : KeptFile) → k.file.now ≡ j.file.now → (if b then k else j).file.now ≡ j.file.now
 now_same true k j e = e
 now_same false k j e = refl
 
-now_of_changed : (file : ℕ) (k : Kept) (c : Change) → (one_changed file k c).file.now ≡ now_changed file k.file.now c
+now_of_changed : (file : ℕ) (k : KeptFile) (c : Change) → (one_changed file k c).file.now ≡ now_changed file k.file.now c
 now_of_changed file k (wrote other at bytes) = if_now (same_file other file) (after_wrote k at bytes) k
 now_of_changed file k (wrote_not other at bytes) = now_same (same_file other file) (after_wrote_not k at bytes) k refl
 now_of_changed file k (cut other n) = if_now (same_file other file) _ k
@@ -80,12 +80,12 @@ now_of_changed file k (sent _ _) = refl
 now_of_changed file k (answered _ _) = refl
 now_of_changed file k hosted = refl
 
-pub now_of_after : (file : ℕ) (k : Kept) (calls : List Change) → (one_after file k calls).file.now ≡ now_after file k.file.now calls
+pub now_of_after : (file : ℕ) (k : KeptFile) (calls : List Change) → (one_after file k calls).file.now ≡ now_after file k.file.now calls
 now_of_after file k [] = refl
 now_of_after file k (c ∷ calls) = now_of_after file (one_changed file k c) calls ∙ ap (λ b. now_after file b calls) (now_of_changed file k c)
 
 -- a file from its last sync on
-pub replayed_is : (file : ℕ) (start base : List ℕ) (calls : List Call) (n : ℕ) (k : Kept)
+pub replayed_is : (file : ℕ) (start base : List ℕ) (calls : List Call) (n : ℕ) (k : KeptFile)
     → one_after file (kept start) (map change_of (take n calls)) ≡ kept (one_after file (kept start) (map change_of (take n calls))).file.now
     → base ≡ now_after file start (map change_of (take n calls))
     → k ≡ one_after file (kept base) (map change_of (drop n calls))
@@ -98,7 +98,7 @@ replayed_is file start base calls n k settled is_base is_k =
     is_k ∙ ap (λ j. one_after file j back) same ∙ sym (one_after-append file (kept start) front back) ∙ ap (one_after file (kept start)) all
 
 -- the same of slices, as the code takes them
-pub replayed_whole : (file : ℕ) (start base : List ℕ) (calls : List Call) (n m i : ℕ) (k r : Kept)
+pub replayed_whole : (file : ℕ) (start base : List ℕ) (calls : List Call) (n m i : ℕ) (k r : KeptFile)
     → one_after file (kept start) (map change_of (take n calls)) ≡ kept (one_after file (kept start) (map change_of (take n calls))).file.now
     → base ≡ now_after file start (map change_of (take m calls)) → m ≡ n
     → r ≡ kept base

@@ -7,24 +7,24 @@ use Rattle.outside.specs.Files.{Two, File, file_of, with_file, settled}
 use Rattle.outside.specs.Disk.{Writes, Cuts, Syncs, IsTorn, after_write, after_cut, overwritten}
 use Rattle.outside.specs.Links.{Links, Link, HeardOn, sent_of, no_links}
 use Rattle.outside.specs.Outside.{Moment, DiskCall}
-use Rattle.outside.specs.MemDisk.{Change, wrote, wrote_not, cut, cut_not, synced, Kept, changed, kept_after, both_kept, files_of, bytes_of, MemDiskValue, disk_files, Makes}
+use Rattle.outside.specs.MemDisk.{Change, wrote, wrote_not, cut, cut_not, synced, KeptFile, changed, kept_after, both_kept, files_of, bytes_of, MemDiskValue, disk_files, Makes}
 use Rattle.outside.specs.MemTold.{WasAt, was_before, was_kept, mem_told, disk_told, no_links_told, no_links_heard, kept_after-push}
 
 -- ---- one file of two
 
-pub files_with : (two : Two Kept) (file : ℕ) (k : Kept) → files_of (with_file two file k) ≡ with_file (files_of two) file k.file
+pub files_with : (two : Two KeptFile) (file : ℕ) (k : KeptFile) → files_of (with_file two file k) ≡ with_file (files_of two) file k.file
 files_with two zero k = refl
 files_with two (suc _) k = refl
 
-pub files_file : (two : Two Kept) (file : ℕ) → file_of (files_of two) file ≡ (file_of two file).file
+pub files_file : (two : Two KeptFile) (file : ℕ) → file_of (files_of two) file ≡ (file_of two file).file
 files_file two zero = refl
 files_file two (suc _) = refl
 
-pub bytes_with : (two : Two Kept) (file : ℕ) (k : Kept) → bytes_of (with_file two file k) ≡ with_file (bytes_of two) file k.file.now
+pub bytes_with : (two : Two KeptFile) (file : ℕ) (k : KeptFile) → bytes_of (with_file two file k) ≡ with_file (bytes_of two) file k.file.now
 bytes_with two zero k = refl
 bytes_with two (suc _) k = refl
 
-pub bytes_file : (two : Two Kept) (file : ℕ) → file_of (bytes_of two) file ≡ (file_of two file).file.now
+pub bytes_file : (two : Two KeptFile) (file : ℕ) → file_of (bytes_of two) file ≡ (file_of two file).file.now
 bytes_file two zero = refl
 bytes_file two (suc _) = refl
 
@@ -116,11 +116,11 @@ looks_same (Err _) old new makes =
     ]
 
 -- the change of one file, as the traits see it
-one_file : (two two' : Two Kept) (file : ℕ) (k : Kept) (f : File) → two' ≡ with_file two file k → k.file ≡ f → files_of two' ≡ with_file (files_of two) file f
+one_file : (two two' : Two KeptFile) (file : ℕ) (k : KeptFile) (f : File) → two' ≡ with_file two file k → k.file ≡ f → files_of two' ≡ with_file (files_of two) file f
 one_file two two' file k f e same = ap files_of e ∙ files_with two file k ∙ ap (with_file (files_of two) file) same
 
 -- where a write begins
-begins : (two : Two Kept) (file at : ℕ) → at ≤ length (file_of (bytes_of two) file) → min at (length (file_of two file).file.now) ≡ at
+begins : (two : Two KeptFile) (file at : ℕ) → at ≤ length (file_of (bytes_of two) file) → min at (length (file_of two file).file.now) ≡ at
 begins two file at within = let same = ap length (bytes_file two file) in omega (arith, same, within)
 
 pub makes_write : (file at : ℕ) (bytes : List ℕ) (result : Result (Unit {0}) Failed) (old new : MemDiskValue)
@@ -179,6 +179,6 @@ makes_sync file (Err _) old new makes =
     ]
 
 -- what the trait asks of a place, as the disk in memory asks it
-pub within_bytes : (two : Two Kept) (file at : ℕ) → at ≤ length (file_of (files_of two) file).now → at ≤ length (file_of (bytes_of two) file)
+pub within_bytes : (two : Two KeptFile) (file at : ℕ) → at ≤ length (file_of (files_of two) file).now → at ≤ length (file_of (bytes_of two) file)
 within_bytes two zero at within = within
 within_bytes two (suc _) at within = within

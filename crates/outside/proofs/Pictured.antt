@@ -7,7 +7,7 @@ use Rattle.outside.specs.declared.call.Call.{Call}
 use Rattle.outside.specs.declared.pick.Pick.TheVariants as pick
 use Rattle.outside.specs.Files.{Two, File, IsFileImage, IsImage, is_written}
 use Rattle.outside.specs.Images.{image_synced}
-use Rattle.outside.specs.MemDisk.{Change, wrote, wrote_not, cut, cut_not, synced, dialled, sent, answered, hosted, Kept, kept, changed, kept_after, both_kept, files_of, disk_files, MemDiskValue, change_of, fresh}
+use Rattle.outside.specs.MemDisk.{Change, wrote, wrote_not, cut, cut_not, synced, dialled, sent, answered, hosted, KeptFile, kept, changed, kept_after, both_kept, files_of, disk_files, MemDiskValue, change_of, fresh}
 use Rattle.outside.specs.MemTold.{IsSound, start_sound}
 use Rattle.outside.specs.MemImage.{one_changed, one_after, PickOf, IsFilled, left_at, Pictures}
 
@@ -19,7 +19,7 @@ chosen false b x y p q = cc
 left_synced : (byte : ℕ) (file : File) (place : ℕ) → place < file.least → is_written file.written place ≡ false → left_at byte file place ≡ slice_index file.synced place
 left_synced byte file place below out = chosen (nat_lt place file.least) (is_written file.written place) (slice_index file.synced place) byte (lt-ltb place file.least below) out
 
-filled_image : (byte : ℕ) (k : Kept) (bytes : List ℕ) → IsSound k → IsFilled byte k.file bytes → IsFileImage k.file bytes
+filled_image : (byte : ℕ) (k : KeptFile) (bytes : List ℕ) → IsSound k → IsFilled byte k.file bytes → IsFileImage k.file bytes
 filled_image byte k bytes s f = record {
   no_shorter = omega (arith, s.low, s.high, f.longest);
   no_longer = omega (arith, f.longest);
@@ -28,7 +28,7 @@ filled_image byte k bytes s f = record {
       f.each place inside ∙ left_synced byte k.file place below out;
 }
 
-pub pick_image : (choice : Pick) (k : Kept) (bytes : List ℕ) → IsSound k → PickOf choice k bytes → IsFileImage k.file bytes
+pub pick_image : (choice : Pick) (k : KeptFile) (bytes : List ℕ) → IsSound k → PickOf choice k bytes → IsFileImage k.file bytes
 pick_image pick.Old k bytes s e = subst (IsFileImage k.file) (sym e) (image_synced k.file s.low s.high)
 pick_image pick.New k bytes s e = subst (IsFileImage k.file) (sym e) s.whole
 pick_image pick.Zero k bytes s e = filled_image 0 k bytes s e
@@ -36,7 +36,7 @@ pick_image pick.Ones k bytes s e = filled_image 1 k bytes s e
 
 -- ---- one file of both
 
-pub first_changed : (two : Two Kept) (c : Change) → (changed two c).first ≡ one_changed 0 two.first c
+pub first_changed : (two : Two KeptFile) (c : Change) → (changed two c).first ≡ one_changed 0 two.first c
 first_changed two (wrote zero at bytes) = refl
 first_changed two (wrote (suc _) at bytes) = refl
 first_changed two (wrote_not zero at bytes) = refl
@@ -52,7 +52,7 @@ first_changed two (sent _ _) = refl
 first_changed two (answered _ _) = refl
 first_changed two hosted = refl
 
-pub second_changed : (two : Two Kept) (c : Change) → (changed two c).second ≡ one_changed 1 two.second c
+pub second_changed : (two : Two KeptFile) (c : Change) → (changed two c).second ≡ one_changed 1 two.second c
 second_changed two (wrote zero at bytes) = refl
 second_changed two (wrote (suc _) at bytes) = refl
 second_changed two (wrote_not zero at bytes) = refl
@@ -68,11 +68,11 @@ second_changed two (sent _ _) = refl
 second_changed two (answered _ _) = refl
 second_changed two hosted = refl
 
-pub first_after : (two : Two Kept) (calls : List Change) → (kept_after two calls).first ≡ one_after 0 two.first calls
+pub first_after : (two : Two KeptFile) (calls : List Change) → (kept_after two calls).first ≡ one_after 0 two.first calls
 first_after two [] = refl
 first_after two (c ∷ calls) = first_after (changed two c) calls ∙ ap (λ k. one_after 0 k calls) (first_changed two c)
 
-pub second_after : (two : Two Kept) (calls : List Change) → (kept_after two calls).second ≡ one_after 1 two.second calls
+pub second_after : (two : Two KeptFile) (calls : List Change) → (kept_after two calls).second ≡ one_after 1 two.second calls
 second_after two [] = refl
 second_after two (c ∷ calls) = second_after (changed two c) calls ∙ ap (λ k. one_after 1 k calls) (second_changed two c)
 

@@ -46,11 +46,11 @@ abbrev pub two_of : {A : Type 0} → A → A → Two A
 two_of a b = record { first = a; second = b }
 
 -- a file of a disk in memory, with what it would be had all its writes and cuts since the last sync been made, the failed ones too
-pub record Kept : Type 0 where
+pub record KeptFile : Type 0 where
   pub file : File
   pub whole : List ℕ
 
-abbrev pub kept : List ℕ → Kept
+abbrev pub kept : List ℕ → KeptFile
 kept bytes = record { file = settled bytes; whole = bytes }
 
 -- bytes over the bytes from a place on, with zeros up to that place where the list ends before it
@@ -61,17 +61,17 @@ abbrev pub put : List ℕ → ℕ → List ℕ → List ℕ
 put old at bytes = overwritten (padded old at) at bytes
 
 -- No write begins past the end.
-abbrev pub after_wrote : Kept → ℕ → List ℕ → Kept
+abbrev pub after_wrote : KeptFile → ℕ → List ℕ → KeptFile
 after_wrote k at bytes =
     let a = min at (length k.file.now) in
     record { file = after_write k.file a (length bytes) (overwritten k.file.now a bytes); whole = put k.whole a bytes }
 
-abbrev pub after_wrote_not : Kept → ℕ → List ℕ → Kept
+abbrev pub after_wrote_not : KeptFile → ℕ → List ℕ → KeptFile
 after_wrote_not k at bytes =
     let a = min at (length k.file.now) in
     record { file = after_write k.file a (length bytes) k.file.now; whole = put k.whole a bytes }
 
-abbrev pub changed : Two Kept → Change → Two Kept
+abbrev pub changed : Two KeptFile → Change → Two KeptFile
 changed two (wrote file at bytes) = with_file two file (after_wrote (file_of two file) at bytes)
 changed two (wrote_not file at bytes) = with_file two file (after_wrote_not (file_of two file) at bytes)
 changed two (cut file n) =
@@ -87,18 +87,18 @@ changed two (answered _ _) = two
 changed two hosted = two
 
 -- both files after these calls
-abbrev pub kept_after : Two Kept → List Change → Two Kept
+abbrev pub kept_after : Two KeptFile → List Change → Two KeptFile
 kept_after two [] = two
 kept_after two (c ∷ calls) = kept_after (changed two c) calls
 
-abbrev pub both_kept : Two (List ℕ) → Two Kept
+abbrev pub both_kept : Two (List ℕ) → Two KeptFile
 both_kept start = record { first = kept start.first; second = kept start.second }
 
-abbrev pub files_of : Two Kept → Two File
+abbrev pub files_of : Two KeptFile → Two File
 files_of two = record { first = two.first.file; second = two.second.file }
 
 -- as a read gives them
-abbrev pub bytes_of : Two Kept → Two (List ℕ)
+abbrev pub bytes_of : Two KeptFile → Two (List ℕ)
 bytes_of two = record { first = two.first.file.now; second = two.second.file.now }
 
 -- the links after these calls; a host begins with none
@@ -153,7 +153,7 @@ abbrev pub bytes_each : List (Vec ℕ Global) → List (List ℕ)
 bytes_each vectors = map (λ v. v.items) vectors
 
 -- both files now
-abbrev pub disk_files : MemDiskValue → Two Kept
+abbrev pub disk_files : MemDiskValue → Two KeptFile
 disk_files disk = kept_after (both_kept disk.start) disk.calls
 
 -- the call of this number is at or behind the one from which on all fail

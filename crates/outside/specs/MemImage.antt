@@ -4,7 +4,7 @@ use Rattle.outside.specs.declared.pick.Pick.{Pick}
 use Rattle.outside.specs.declared.pick.Pick.TheVariants as pick
 use Rattle.outside.specs.Files.{Two, File, is_written}
 use Rattle.outside.specs.Disk.{overwritten, after_cut}
-use Rattle.outside.specs.MemDisk.{Change, wrote, wrote_not, cut, cut_not, synced, dialled, sent, answered, hosted, Kept, kept, after_wrote, after_wrote_not, MemDiskValue, fresh}
+use Rattle.outside.specs.MemDisk.{Change, wrote, wrote_not, cut, cut_not, synced, dialled, sent, answered, hosted, KeptFile, kept, after_wrote, after_wrote_not, MemDiskValue, fresh}
 
 -- two numbers name one file
 abbrev pub same_file : ℕ → ℕ → Bool
@@ -14,7 +14,7 @@ same_file (suc _) zero = false
 same_file (suc _) (suc _) = true
 
 -- one file after a call
-abbrev pub one_changed : ℕ → Kept → Change → Kept
+abbrev pub one_changed : ℕ → KeptFile → Change → KeptFile
 one_changed file k (wrote other at bytes) = if same_file other file then after_wrote k at bytes else k
 one_changed file k (wrote_not other at bytes) = if same_file other file then after_wrote_not k at bytes else k
 one_changed file k (cut other n) = if same_file other file then (record { file = after_cut k.file n (take n k.file.now); whole = take n k.whole }) else k
@@ -25,7 +25,7 @@ one_changed file k (sent _ _) = k
 one_changed file k (answered _ _) = k
 one_changed file k hosted = k
 
-abbrev pub one_after : ℕ → Kept → List Change → Kept
+abbrev pub one_after : ℕ → KeptFile → List Change → KeptFile
 one_after file k [] = k
 one_after file k (c ∷ calls) = one_after file (one_changed file k c) calls
 
@@ -67,14 +67,14 @@ pub record IsFilled (byte : ℕ) (file : File) (bytes : List ℕ) : Type 0 where
   pub each : (place : ℕ) → place < file.greatest → slice_index bytes place ≡ left_at byte file place
 
 -- the image that was asked for
-abbrev pub PickOf : Pick → Kept → List ℕ → Type 0
+abbrev pub PickOf : Pick → KeptFile → List ℕ → Type 0
 PickOf pick.Old k bytes = bytes ≡ k.file.synced
 PickOf pick.New k bytes = bytes ≡ k.whole
 PickOf pick.Zero k bytes = IsFilled 0 k.file bytes
 PickOf pick.Ones k bytes = IsFilled 1 k.file bytes
 
 -- a fresh disk with the image of both files that was asked for
-pub record Pictures (chosen : Pick) (two : Two Kept) (disk : MemDiskValue) : Type 0 where
+pub record Pictures (chosen : Pick) (two : Two KeptFile) (disk : MemDiskValue) : Type 0 where
   pub fresh : disk ≡ fresh disk.start
   pub first : PickOf chosen two.first disk.start.first
   pub second : PickOf chosen two.second disk.start.second

@@ -8,11 +8,11 @@ use Rattle.outside.specs.Disk.{after_write, after_cut, overwritten}
 use Rattle.outside.specs.Images.{image_wrote, image_unwritten, image_cut, image_uncut, settled_image, padded_le}
 use Rattle.outside.specs.Links.{Links, Link, HeardOn, sent_of, no_links}
 use Rattle.outside.specs.Outside.{Outside, Moment, IsNow}
-use Rattle.outside.specs.MemDisk.{MemDiskValue, Change, wrote, wrote_not, cut, cut_not, synced, dialled, sent, answered, hosted, Kept, kept, changed, kept_after, both_kept, files_of, after_wrote, after_wrote_not, link_changed, links_after}
+use Rattle.outside.specs.MemDisk.{MemDiskValue, Change, wrote, wrote_not, cut, cut_not, synced, dialled, sent, answered, hosted, KeptFile, kept, changed, kept_after, both_kept, files_of, after_wrote, after_wrote_not, link_changed, links_after}
 
 -- ---- what is kept is sound: the bytes as they read, the bytes at the last sync and the bytes of all writes are images
 
-pub record IsSound (k : Kept) : Type 0 where
+pub record IsSound (k : KeptFile) : Type 0 where
   pub reads : IsFileImage k.file k.file.now
   pub low : k.file.least ≤ length k.file.synced
   pub high : length k.file.synced ≤ k.file.greatest
@@ -21,7 +21,7 @@ pub record IsSound (k : Kept) : Type 0 where
 pub kept_sound : (bytes : List ℕ) → IsSound (kept bytes)
 kept_sound bytes = record { reads = settled_image bytes; low = omega arith; high = omega arith; whole = settled_image bytes }
 
-pub wrote_sound : (k : Kept) (at : ℕ) (bytes : List ℕ) → IsSound k → IsSound (after_wrote k at bytes)
+pub wrote_sound : (k : KeptFile) (at : ℕ) (bytes : List ℕ) → IsSound k → IsSound (after_wrote k at bytes)
 wrote_sound k at bytes s =
     let a = min at (length k.file.now) in
     let now = overwritten k.file.now a bytes in
@@ -34,7 +34,7 @@ wrote_sound k at bytes s =
       whole = image_wrote k.file a k.whole bytes now s.whole;
     }
 
-pub wrote_not_sound : (k : Kept) (at : ℕ) (bytes : List ℕ) → IsSound k → IsSound (after_wrote_not k at bytes)
+pub wrote_not_sound : (k : KeptFile) (at : ℕ) (bytes : List ℕ) → IsSound k → IsSound (after_wrote_not k at bytes)
 wrote_not_sound k at bytes s =
     let a = min at (length k.file.now) in
     record {
@@ -44,7 +44,7 @@ wrote_not_sound k at bytes s =
       whole = image_wrote k.file a k.whole bytes k.file.now s.whole;
     }
 
-pub cut_sound : (k : Kept) (n : ℕ) → IsSound k → IsSound (record { file = after_cut k.file n (take n k.file.now); whole = take n k.whole })
+pub cut_sound : (k : KeptFile) (n : ℕ) → IsSound k → IsSound (record { file = after_cut k.file n (take n k.file.now); whole = take n k.whole })
 cut_sound k n s = record {
   reads = image_cut k.file n (take n k.file.now) k.file.now s.reads;
   low = omega (arith, s.low);
@@ -52,7 +52,7 @@ cut_sound k n s = record {
   whole = image_cut k.file n (take n k.file.now) k.whole s.whole;
 }
 
-pub cut_not_sound : (k : Kept) (n : ℕ) → IsSound k → IsSound (record { file = after_cut k.file n k.file.now; whole = take n k.whole })
+pub cut_not_sound : (k : KeptFile) (n : ℕ) → IsSound k → IsSound (record { file = after_cut k.file n k.file.now; whole = take n k.whole })
 cut_not_sound k n s = record {
   reads = image_uncut k.file n k.file.now k.file.now s.reads;
   low = omega (arith, s.low);
@@ -60,19 +60,19 @@ cut_not_sound k n s = record {
   whole = image_cut k.file n k.file.now k.whole s.whole;
 }
 
-pub record BothSound (two : Two Kept) : Type 0 where
+pub record BothSound (two : Two KeptFile) : Type 0 where
   pub first : IsSound two.first
   pub second : IsSound two.second
 
-pub sound_of : (two : Two Kept) (file : ℕ) → BothSound two → IsSound (file_of two file)
+pub sound_of : (two : Two KeptFile) (file : ℕ) → BothSound two → IsSound (file_of two file)
 sound_of two zero s = s.first
 sound_of two (suc _) s = s.second
 
-pub sound_with : (two : Two Kept) (file : ℕ) (k : Kept) → BothSound two → IsSound k → BothSound (with_file two file k)
+pub sound_with : (two : Two KeptFile) (file : ℕ) (k : KeptFile) → BothSound two → IsSound k → BothSound (with_file two file k)
 sound_with two zero k s t = record { first = t; second = s.second }
 sound_with two (suc _) k s t = record { first = s.first; second = t }
 
-pub changed_sound : (two : Two Kept) (c : Change) → BothSound two → BothSound (changed two c)
+pub changed_sound : (two : Two KeptFile) (c : Change) → BothSound two → BothSound (changed two c)
 changed_sound two (wrote file at bytes) s = sound_with two file _ s (wrote_sound (file_of two file) at bytes (sound_of two file s))
 changed_sound two (wrote_not file at bytes) s = sound_with two file _ s (wrote_not_sound (file_of two file) at bytes (sound_of two file s))
 changed_sound two (cut file n) s = sound_with two file _ s (cut_sound (file_of two file) n (sound_of two file s))
@@ -83,7 +83,7 @@ changed_sound two (sent _ _) s = s
 changed_sound two (answered _ _) s = s
 changed_sound two hosted s = s
 
-pub after_sound : (two : Two Kept) (calls : List Change) → BothSound two → BothSound (kept_after two calls)
+pub after_sound : (two : Two KeptFile) (calls : List Change) → BothSound two → BothSound (kept_after two calls)
 after_sound two [] s = s
 after_sound two (c ∷ calls) s = after_sound (changed two c) calls (changed_sound two c s)
 
@@ -92,7 +92,7 @@ start_sound start calls = after_sound (both_kept start) calls (record { first = 
 
 -- ---- one call more
 
-pub kept_after-push : (two : Two Kept) (calls : List Change) (c : Change) → kept_after two (calls ++ c ∷ []) ≡ changed (kept_after two calls) c
+pub kept_after-push : (two : Two KeptFile) (calls : List Change) (c : Change) → kept_after two (calls ++ c ∷ []) ≡ changed (kept_after two calls) c
 kept_after-push two [] c = refl
 kept_after-push two (d ∷ calls) c = kept_after-push (changed two d) calls c
 

@@ -24,9 +24,9 @@ pub struct Replay {
 }
 
 impl Model for Replay {
-    ghost use Rattle.outside.specs.MemDisk.{Kept};
+    ghost use Rattle.outside.specs.MemDisk.{KeptFile};
 
-    ghost Value = { Kept };
+    ghost Value = { KeptFile };
 
     ghost view = { λ r. record {
       file = record {

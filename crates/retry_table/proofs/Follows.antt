@@ -5,7 +5,7 @@ use Rattle.std.proofs.lemmas.Bool.{cases_eq}
 use Rattle.std.specs.List.{position_from}
 use Rattle.due_tree.specs.Due.{is_due}
 use Rattle.sync_rules.specs.declared.entries.Mode.TheVariants as mode
-use Rattle.retry_table.specs.Table.{Kept, no_kept, kept_in}
+use Rattle.retry_table.specs.Table.{KeptRow, no_kept, kept_in}
 use Rattle.retry_table.specs.Due.{numbers_where, is_open, is_sent_at, is_offered_at}
 use Rattle.retry_table.specs.Queues.{message_place, asked_place, offer_place, owed_place, place_at, Follows}
 
@@ -32,9 +32,9 @@ longer_most xs d count = omega (arith, length-append xs (replicate (count - leng
 pub longer_small : {X : Type 0} (xs : List X) (d : X) (count most : ℕ) → length xs < most → count < most → length (xs ++ replicate (count - length xs) d) < most
 longer_small xs d count most h k = omega (arith, length-append xs (replicate (count - length xs) d), length-replicate (count - length xs) d)
 
-module _ (place : Kept → Option ℕ) (rows : List Kept) (queue : List (Option ℕ)) (f : Follows place rows queue) where
+module _ (place : KeptRow → Option ℕ) (rows : List KeptRow) (queue : List (Option ℕ)) (f : Follows place rows queue) where
   -- a row and its place are written
-  pub follows-set : (n : ℕ) (kept : Kept) (v : Option ℕ) → n < length rows → v ≡ place kept → Follows place (set rows n kept) (set queue n v)
+  pub follows-set : (n : ℕ) (kept : KeptRow) (v : Option ℕ) → n < length rows → v ≡ place kept → Follows place (set rows n kept) (set queue n v)
   follows-set n kept v within is =
       let places : n < length queue = omega (arith, f.room) in
       record {
@@ -64,7 +64,7 @@ module _ (place : Kept → Option ℕ) (rows : List Kept) (queue : List (Option 
   }
 
 -- no rows and no places
-pub follows_none : (place : Kept → Option ℕ) → place no_kept ≡ None → Follows place [] []
+pub follows_none : (place : KeptRow → Option ℕ) → place no_kept ≡ None → Follows place [] []
 follows_none place none = record { same = λ k. sym none; room = omega arith; small = omega arith }
 
 -- ---- a search of one list and of another whose elements pass alike, also past the ends
@@ -95,26 +95,26 @@ module _ {X Y : Type 0} (p : X → Bool) (q : Y → Bool) (d : X) (e : Y) (p_non
 
 -- ---- what is due in each queue
 
-message_due : (now : ℕ) (kept : Kept) → is_due now (message_place kept) ≡ is_sent_at mode.Batch now kept
+message_due : (now : ℕ) (kept : KeptRow) → is_due now (message_place kept) ≡ is_sent_at mode.Batch now kept
 message_due now kept =
     elim (is_open kept) as (λ b. is_due now (cond b (Some kept.row.expiry) None) ≡ (b && nat_le kept.row.expiry now)) [ true ↦ refl | false ↦ refl ]
 
-asked_due : (now : ℕ) (kept : Kept) → is_due 0 (asked_place kept) ≡ is_sent_at mode.Interactive now kept
+asked_due : (now : ℕ) (kept : KeptRow) → is_due 0 (asked_place kept) ≡ is_sent_at mode.Interactive now kept
 asked_due now kept = elim (is_open kept && kept.row.asked) as (λ b. is_due 0 (cond b (Some 0) None) ≡ b) [ true ↦ refl | false ↦ refl ]
 
-offer_due : (now : ℕ) (kept : Kept) → is_due now (offer_place kept) ≡ is_offered_at now kept
+offer_due : (now : ℕ) (kept : KeptRow) → is_due now (offer_place kept) ≡ is_offered_at now kept
 offer_due now kept =
     elim (is_open kept) as (λ b. is_due now (cond (b && not kept.row.asked) (Some kept.row.expiry) None) ≡ (b && (not kept.row.asked && nat_le kept.row.expiry now))) [
       | true ↦ elim (not kept.row.asked) as (λ a. is_due now (cond a (Some kept.row.expiry) None) ≡ (a && nat_le kept.row.expiry now)) [ true ↦ refl | false ↦ refl ]
       | false ↦ refl
     ]
 
-owed_due : (kept : Kept) → is_due 0 (owed_place kept) ≡ kept.row.owed
+owed_due : (kept : KeptRow) → is_due 0 (owed_place kept) ≡ kept.row.owed
 owed_due kept = elim (kept.row.owed) as (λ b. is_due 0 (cond b (Some 0) None) ≡ b) [ true ↦ refl | false ↦ refl ]
 
 -- ---- so a search of a queue is one of the rows
 
-module _ (rows : List Kept) (queue : List (Option ℕ)) where
+module _ (rows : List KeptRow) (queue : List (Option ℕ)) where
   pub message_found : (now : ℕ) → Follows message_place rows queue → position_from (is_due now) 0 queue ≡ position_from (is_sent_at mode.Batch now) 0 rows
   message_found now f = position_alike (is_due now) (is_sent_at mode.Batch now) None no_kept refl refl queue rows 0 (λ n. ap (is_due now) (f.same n) ∙ message_due now (kept_in rows n))
 
@@ -125,7 +125,7 @@ module _ (rows : List Kept) (queue : List (Option ℕ)) where
   offers_found now f = numbers_alike (is_due now) (is_offered_at now) None no_kept refl refl queue rows 0 (λ n. ap (is_due now) (f.same n) ∙ offer_due now (kept_in rows n))
 
   pub owed_found : Follows owed_place rows queue → numbers_where (is_due 0) 0 queue ≡ numbers_where (λ kept. kept.row.owed) 0 rows
-  owed_found f = numbers_alike (is_due 0) (λ (kept : Kept). kept.row.owed) None no_kept refl refl queue rows 0 (λ n. ap (is_due 0) (f.same n) ∙ owed_due (kept_in rows n))
+  owed_found f = numbers_alike (is_due 0) (λ (kept : KeptRow). kept.row.owed) None no_kept refl refl queue rows 0 (λ n. ap (is_due 0) (f.same n) ∙ owed_due (kept_in rows n))
 
 -- what is found is within the list
 pub position_small : {X : Type 0} (p : X → Bool) (xs : List X) (i most : ℕ) → i + length xs < most → IfSome (position_from p i xs) (λ n. n < most)

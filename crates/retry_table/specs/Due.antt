@@ -4,7 +4,7 @@ use Rattle.std.specs.List.{position_from}
 use Rattle.sync_rules.specs.declared.entries.Mode.{Mode}
 use Rattle.sync_rules.specs.Facts.{Id}
 use Rattle.sync_rules.specs.Sessions.{is_ripe}
-use Rattle.retry_table.specs.Table.{Kept}
+use Rattle.retry_table.specs.Table.{KeptRow}
 use Rattle.sync_ids.specs.declared.lists.TheConstants.{MAX_IDS}
 
 -- the numbers, from the first one on, of those in a list that pass a test, in order
@@ -13,27 +13,27 @@ numbers_where test first [] = []
 numbers_where test first (x ∷ xs) = cond (test x) (first ∷ numbers_where test (first + 1) xs) (numbers_where test (first + 1) xs)
 
 -- a message may be sent to the contact: it is ready, and the contact has not seen it
-abbrev pub is_open : Kept → Bool
+abbrev pub is_open : KeptRow → Bool
 is_open kept = kept.ready && not kept.row.seen
 
 -- a message is to be sent: in interactive mode one that was asked for, in batch mode one whose time has come
-abbrev pub is_sent_at : Mode → ℕ → Kept → Bool
+abbrev pub is_sent_at : Mode → ℕ → KeptRow → Bool
 is_sent_at mode now kept = is_open kept && is_ripe mode now kept.row
 
 -- a message is to be offered: it was not asked for, and its time has come
-abbrev pub is_offered_at : ℕ → Kept → Bool
+abbrev pub is_offered_at : ℕ → KeptRow → Bool
 is_offered_at now kept = is_open kept && (not kept.row.asked && nat_le kept.row.expiry now)
 
 -- the numbers that wait for our acknowledgement
-abbrev pub owed_in : List Kept → List ℕ
+abbrev pub owed_in : List KeptRow → List ℕ
 owed_in rows = take MAX_IDS (numbers_where (λ kept. kept.row.owed) 0 rows)
 
 -- the number of the message to be sent
-abbrev pub message_in : Mode → ℕ → List Kept → Option ℕ
+abbrev pub message_in : Mode → ℕ → List KeptRow → Option ℕ
 message_in mode now rows = position_from (is_sent_at mode now) 0 rows
 
 -- the numbers to be offered
-abbrev pub offers_in : ℕ → List Kept → List ℕ
+abbrev pub offers_in : ℕ → List KeptRow → List ℕ
 offers_in now rows = take MAX_IDS (numbers_where (is_offered_at now) 0 rows)
 
 -- the ids to be requested

@@ -5,7 +5,7 @@ use Rattle.sync_rules.specs.Facts.{Id, Row, no_row}
 
 -- what is kept of one message for one contact: its row, and whether it is ready, that is, whether it may be sent to the contact as far
 -- as the message, its group and its origin go
-pub record Kept : Type 0 where
+pub record KeptRow : Type 0 where
   pub ready : Bool
   pub row : Row
 
@@ -16,34 +16,34 @@ pub record Wants : Type 0 where
 
 -- for each contact its rows and its wanted ids
 pub record Table : Type 0 where
-  pub rows : List (List Kept)
+  pub rows : List (List KeptRow)
   pub wants : List Wants
 
-abbrev pub no_kept : Kept
+abbrev pub no_kept : KeptRow
 no_kept = record { ready = false; row = no_row }
 
 abbrev pub no_wants : Wants
 no_wants = record { ids = []; room = 0 }
 
 -- the rows of a contact: there is room for as many
-abbrev pub rows_of : Table → ℕ → List Kept
+abbrev pub rows_of : Table → ℕ → List KeptRow
 rows_of table contact = slice_index_or table.rows contact []
 
 abbrev pub wants_of : Table → ℕ → Wants
 wants_of table contact = slice_index_or table.wants contact no_wants
 
 -- what is kept of the message of a number
-abbrev pub kept_in : List Kept → ℕ → Kept
+abbrev pub kept_in : List KeptRow → ℕ → KeptRow
 kept_in rows n = slice_index_or rows n no_kept
 
-abbrev pub kept_at : Table → ℕ → ℕ → Kept
+abbrev pub kept_at : Table → ℕ → ℕ → KeptRow
 kept_at table contact n = kept_in (rows_of table contact) n
 
 -- the same with another row, and with another word on whether it is ready
-abbrev pub with_row : (Row → Row) → Kept → Kept
+abbrev pub with_row : (Row → Row) → KeptRow → KeptRow
 with_row change kept = record kept { row = change kept.row }
 
-abbrev pub with_ready : Bool → Kept → Kept
+abbrev pub with_ready : Bool → KeptRow → KeptRow
 with_ready ready kept = record kept { ready = ready }
 
 -- our acknowledgement is owed
@@ -55,13 +55,13 @@ abbrev pub IsEmpty : Table → Type 0
 IsEmpty table = (contact : ℕ) → (rows_of table contact ≡ []) × (wants_of table contact ≡ no_wants)
 
 -- one contact has these rows, and all else is as it was
-pub record ChangesRows (old new : Table) (contact : ℕ) (rows : List Kept) : Type 0 where
+pub record ChangesRows (old new : Table) (contact : ℕ) (rows : List KeptRow) : Type 0 where
   pub here : rows_of new contact ≡ rows
   pub others : (other : ℕ) → other ≢ contact → rows_of new other ≡ rows_of old other
   pub wants : new.wants ≡ old.wants
 
 -- this is kept of one message for one contact, and all else is as it was
-abbrev pub Keeps : Table → Table → ℕ → ℕ → Kept → Type 0
+abbrev pub Keeps : Table → Table → ℕ → ℕ → KeptRow → Type 0
 Keeps old new contact n kept = ChangesRows old new contact (slice_set (rows_of old contact) n kept)
 
 -- one contact has these wanted ids and this room, and all else is as it was
@@ -71,7 +71,7 @@ pub record ChangesWants (old new : Table) (contact : ℕ) (wants : Wants) : Type
   pub rows : new.rows ≡ old.rows
 
 -- rows for all numbers below this one
-abbrev pub with_numbers : ℕ → List Kept → List Kept
+abbrev pub with_numbers : ℕ → List KeptRow → List KeptRow
 with_numbers numbers rows = rows ++ replicate (numbers - length rows) no_kept
 
 -- room for so many more wanted ids

@@ -24,10 +24,10 @@ pub(crate) struct Queues {
 
 impl Model for Queues {
     ghost use Rattle.std.specs.Prelude.{List};
-    ghost use Rattle.retry_table.specs.Table.{Kept};
+    ghost use Rattle.retry_table.specs.Table.{KeptRow};
     ghost use Rattle.retry_table.specs.Queues.{AreQueues};
 
-    ghost Value = { List Kept };
+    ghost Value = { List KeptRow };
 
     ghost view = { λ q. q.rows.items };
 

@@ -24,9 +24,9 @@ pub(crate) struct KeptRow {
 }
 
 impl Model for KeptRow {
-    ghost use Rattle.retry_table.specs.Table.{Kept};
+    ghost use Rattle.retry_table.specs.Table.{KeptRow};
 
-    ghost Value = { Kept };
+    ghost Value = { KeptRow };
 
     ghost view = { λ r. record {
       ready = r.ready;

@@ -6,7 +6,7 @@ use Rattle.outside.specs.Faults.{Rose}
 use Rattle.outside.specs.Files.{Two, File}
 use Rattle.outside.specs.Outside.{Outside, MomentsAre, DiskRun}
 use Rattle.outside.specs.Steps.{becomes_told}
-use Rattle.frame_journal.specs.Gates.{Settles}
+use Rattle.frame_journal.specs.Gates.{SyncsBoth}
 use Rattle.sync_store.specs.Begin.{Begins, InitMoment, IsAnswer}
 use Rattle.sync_store.specs.declared.fault.InitFault.TheVariants as init
 use Rattle.sync_words.specs.declared.outcome.Outcome.{Outcome}
@@ -42,7 +42,7 @@ begun_ready old new out out' came run none begins moments printed = record {
   };
 }
 
-pub begun_exists : (old new : Outside) (out out' : Stream) → DiskRun old new → ForSome old.files (λ two. IsAnswer two (Err init.Exists)) → Becomes Settles old.files new.files
+pub begun_exists : (old new : Outside) (out out' : Stream) → DiskRun old new → ForSome old.files (λ two. IsAnswer two (Err init.Exists)) → Becomes SyncsBoth old.files new.files
     → ((two : Two File) → old.files ≡ Some two → MomentsAre old new (InitMoment two old.links)) → IsIdle out out' → HasBegun old new out out' outcome.Exists
 begun_exists old new out out' run some settled moments idle = record {
   run = run;

@@ -5,7 +5,7 @@ use Rattle.outside.specs.Disk.{Becomes}
 use Rattle.outside.specs.Faults.{Rose}
 use Rattle.outside.specs.Files.{Two, File}
 use Rattle.outside.specs.Outside.{Outside}
-use Rattle.frame_journal.specs.Gates.{Settles}
+use Rattle.frame_journal.specs.Gates.{SyncsBoth}
 use Rattle.sync_rules.specs.declared.entries.Entry.{Entry}
 use Rattle.sync_rules.specs.Clients.{Meaning}
 use Rattle.sync_rules.specs.Facts.{facts}
@@ -56,5 +56,5 @@ LoadKeeps (Err came) two two' = Keeps came two two'
 abbrev pub LeavesSettled : Option (Two File) → Option (Two File) → Result StoreValue Outcome
     → Type 0
 LeavesSettled old new (Err outcome.DiskFault) = Unit {0}
-LeavesSettled old new (Ok s) = Becomes Settles old new
-LeavesSettled old new (Err _) = Becomes Settles old new
+LeavesSettled old new (Ok s) = Becomes SyncsBoth old new
+LeavesSettled old new (Err _) = Becomes SyncsBoth old new

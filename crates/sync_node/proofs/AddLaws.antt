@@ -28,7 +28,7 @@ use Rattle.sync_store.specs.Settling.{HasSettled}
 use Rattle.sync_store.specs.declared.fault.StoreFault.{StoreFault}
 use Rattle.sync_node.specs.declared.link.Link.{Link}
 use Rattle.sync_node.specs.Adding.{AddsAtMost, AddsSettled, GoesOnSettling, IsPlain}
-use Rattle.sync_node.specs.Going.{Commits, Settles}
+use Rattle.sync_node.specs.Going.{Commits, SettlesStore}
 use Rattle.sync_node.specs.Joined.{IsJoined, Joined}
 use Rattle.sync_node.specs.Node.{AreAttached, KeepsJoined, KeepsSafeAnew, MayGoOn, NodeValue}
 use Rattle.sync_node.specs.Output.{Journal, heard_on, output, sent_on}
@@ -72,7 +72,7 @@ plain_leaves f _ plain = absurd plain
 -- ---- the batch, and settling behind it
 
 pub added : (clients : Meaning) (batch : List Entry) (s s1 s2 : StoreValue) (o o1 o2 : Outside)
-    → Commits clients (batch ∷ []) s s1 o o1 → Settles clients s1 s2 o1 o2
+    → Commits clients (batch ∷ []) s s1 o o1 → SettlesStore clients s1 s2 o1 o2
     → AddsSettled clients batch s s2 o o2
 added clients batch s s1 s2 o o1 o2 first settles = record {
   more = settles.more;

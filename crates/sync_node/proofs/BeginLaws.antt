@@ -1,7 +1,7 @@
 -- How a run begins, and what it leaves at its end.
 use Rattle.std.proofs.Common.{◌≡◌, ℕ, suc, ◌+◌, ◌≤◌, false, List, [], ◌∷◌, ◌++◌, length, refl, sym, ap, ◌∙◌, subst, inl, inr, arith, Option, None, Some, Result, is_some, slice_index_or, append-nil}
 use Rattle.entry_codec.specs.Standing.{journal, room_of, stands}
-use Rattle.frame_journal.specs.Gates.{AnyImage, Settles}
+use Rattle.frame_journal.specs.Gates.{AnyImage, SyncsBoth}
 use Rattle.outside.specs.declared.failed.Failed.{Failed}
 use Rattle.outside.specs.declared.limits.TheConstants.{MAX_JOURNAL}
 use Rattle.outside.specs.Disk.{Becomes}
@@ -71,12 +71,12 @@ left_early o o' two j files any m w =
     let now = (any two files).each m w in record { image = now.image; nothing_sent = now.sent }
 
 module _ (clients : Meaning) (o o' : Outside) (two : Two File) (s : StoreValue) (none : o.links.dialled ≡ 0) (files : o.files ≡ Some two) (so : StandsFor clients (read_files two) s)
-    (any : AnyImage o o') (settles : Becomes Settles o.files o'.files) (run : DiskRun o o')
+    (any : AnyImage o o') (settles : Becomes SyncsBoth o.files o'.files) (run : DiskRun o o')
     (ready : IsReady clients s o'.files) where
   -- the disk fits the store with the journal that the files stood for
   loaded_journal : (told : Told o') (j : Journal) → Fits clients s j told.two → j ≡ so.done
   loaded_journal told j fits =
-      let became = becomes_told Settles o.files o'.files two files settles in
+      let became = becomes_told SyncsBoth o.files o'.files two files settles in
       let one : told.two ≡ became.0 = cc (told.files_are, became.1) in
       let read : read_files told.two ≡ read_files two = ap (λ (t : Two File). read_files t) (one ∙ became.2) in
       let e : journal j ≡ journal so.done = sym fits.stands_for ∙ (ap (λ (f : Two (List ℕ)). stands clients f) read ∙ so.stands_for) in

@@ -19,7 +19,7 @@ use Rattle.sync_store.specs.Moments.{Adds, IsBetween, Leads, WithAtMost, journal
 use Rattle.sync_store.specs.Ready.{IsReady}
 use Rattle.sync_store.specs.Settling.{HasSettled}
 use Rattle.sync_store.specs.declared.fault.StoreFault.{StoreFault}
-use Rattle.sync_node.specs.Going.{Commits, Goes, GoesOnBy, Settles}
+use Rattle.sync_node.specs.Going.{Commits, Goes, GoesOnBy, SettlesStore}
 use Rattle.sync_node.specs.Output.{Journal, heard_on}
 use Rattle.sync_node.specs.Safe.{Begin, Safe}
 use Rattle.sync_node.specs.Suits.{IsOfRun}
@@ -171,7 +171,7 @@ safe_settle fronts clients b plans s s' o o' result opened run has =
 
 pub settled : (clients : Meaning) (s s' : StoreValue) (o o' : Outside) (u : Unit {0})
     → IsReady clients s o.files → DiskRun o o' → HasSettled clients s s' (Ok u) o o'
-    → (s'.closed ≡ false → IsReady clients s' o'.files) → Settles clients s s' o o'
+    → (s'.closed ≡ false → IsReady clients s' o'.files) → SettlesStore clients s s' o o'
 settled clients s s' o o' u ready run has ready' = record {
   more = has.more;
   settling = has.comes.settling;

@@ -31,7 +31,7 @@ use Rattle.sync_store.specs.Store.{StoreValue}
 use Rattle.sync_store.specs.Fitting.{Fits}
 use Rattle.sync_node.specs.declared.link.Link.{Link}
 use Rattle.sync_course.specs.declared.ends.LinkEnd.TheVariants as link_end
-use Rattle.sync_node.specs.Going.{Commits, Settles}
+use Rattle.sync_node.specs.Going.{Commits, SettlesStore}
 use Rattle.sync_node.specs.Hearing.{Learns, nonce_with}
 use Rattle.sync_node.specs.Joined.{IsAllSent, IsJoined, first_nonce, known_nonce}
 use Rattle.sync_node.specs.Output.{Journal, heard_on, output, sent_on}
@@ -224,7 +224,7 @@ commits_then clients batch more s s1 s2 o o1 o2 first second = record {
 pub taken_on : (clients : Meaning) (session : Session) (r : Record) (s s1 s2 : StoreValue)
     (o o1 o2 : Outside) (batch : List Entry) → batch ≡ next_take s.state.facts session r
     → Allowed clients s.state.facts batch → Commits clients (batch ∷ []) s s1 o o1
-    → Settles clients s1 s2 o1 o2 → TakesOn clients session r s s2 o o2
+    → SettlesStore clients s1 s2 o1 o2 → TakesOn clients session r s s2 o o2
 taken_on clients session r s s1 s2 o o1 o2 batch is allowed commits settles =
     let first : Commits clients (next_take s.state.facts session r ∷ []) s s1 o o1 = subst (λ (b : List Entry). Commits clients (b ∷ []) s s1 o o1) is commits in
     record {

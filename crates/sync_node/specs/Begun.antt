@@ -3,7 +3,7 @@
 -- tell.
 use Rattle.std.specs.Prelude.{◌≡◌, ◌⊎◌, ℕ, ◌+◌, ◌≤◌, false, List, [], Result, Some}
 use Rattle.entry_codec.specs.Standing.{journal, room_of, stands}
-use Rattle.frame_journal.specs.Gates.{AnyImage, Settles}
+use Rattle.frame_journal.specs.Gates.{AnyImage, SyncsBoth}
 use Rattle.outside.specs.declared.failed.Failed.{Failed}
 use Rattle.outside.specs.declared.limits.TheConstants.{MAX_JOURNAL}
 use Rattle.outside.specs.Disk.{Becomes}
@@ -73,7 +73,7 @@ LoadsBegin H tells =
     → (tells before).links.dialled ≡ 0
     → (tells before).files ≡ Some two → (so : StandsFor clients (read_files two) s)
     → AnyImage (tells before) (tells loaded)
-    → Becomes Settles (tells before).files (tells loaded).files
+    → Becomes SyncsBoth (tells before).files (tells loaded).files
     → DiskRun (tells before) (tells loaded) → IsReady clients s (tells loaded).files → IsStore s
     → IsBegun clients (begin_at two so.done (tells before)) s (tells loaded)
 

@@ -53,7 +53,7 @@ pub record Commits (clients : Meaning) (more : Journal) (s s' : StoreValue)
   pub goes_on : GoesOnBy clients more s s' o o'
 
 -- the journal was settled
-pub record Settles (clients : Meaning) (s s' : StoreValue) (o o' : Outside) : Type 0 where
+pub record SettlesStore (clients : Meaning) (s s' : StoreValue) (o o' : Outside) : Type 0 where
   pub more : Journal
   pub settling : AllSettling clients s.state.facts more
   pub commits : Commits clients more s s' o o'

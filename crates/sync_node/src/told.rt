@@ -17,7 +17,7 @@ ghost use Rattle.sync_node.specs.Adding.{IsPlain};
 ghost use Rattle.sync_node.specs.Cited.{CitedLaws};
 ghost use Rattle.sync_node.specs.Courses.{Adds, AddsSettling, AddsSome, AddsSomeSettling};
 ghost use Rattle.sync_node.specs.Fulls.{IsOver};
-ghost use Rattle.sync_node.specs.Going.{Commits, Goes, Settles};
+ghost use Rattle.sync_node.specs.Going.{Commits, Goes, SettlesStore};
 ghost use Rattle.sync_node.specs.Output.{heard_on, Journal};
 ghost use Rattle.sync_node.specs.Safe.{Begin, Safe};
 ghost use Rattle.sync_node.specs.Suits.{IsOfRun};
@@ -101,7 +101,7 @@ pub(crate) fn settle<H: Host, C: Clients>(
     requires ready { IsReady (C.meaning clients.now) store.old (H.tells host.old).files }
     ensures ready { IfErr result (KeepsReady (C.meaning clients.now) store.new
         (H.tells host.new)) }
-    ensures settles { OnOk result (Settles (C.meaning clients.now) store.old store.new
+    ensures settles { OnOk result (SettlesStore (C.meaning clients.now) store.old store.new
         (H.tells host.old) (H.tells host.new)) }
     ensures adds { OnOk result (AddsSettling (C.meaning clients.now) store.old store.new
         (H.tells host.old) (H.tells host.new)) }

@@ -4,7 +4,7 @@ use Rattle.std.specs.Coded.{Coded, code_by, coded×, coded_list, coded_ℕ}
 use Rattle.std.specs.FinMap as fin_map
 use Rattle.sync_ids.specs.Values.{GroupValue}
 use Rattle.sync_rules.specs.contracts.entries.Level as level
-use Rattle.sync_rules.specs.Facts.{Id, Known, Levels}
+use Rattle.sync_rules.specs.Facts.{Id, Known, LevelMap}
 
 abbrev pub id_code : Coded Id
 id_code = coded_list coded_ℕ
@@ -17,5 +17,5 @@ def_code =
 abbrev pub known_code : Coded Known
 known_code = code_by (GroupValue × Id) (coded× def_code id_code) (λ g. (g.def, g.id)) (λ p. record { def = p.0; id = p.1 }) (λ _. refl)
 
-abbrev pub levels_code : Coded Levels
+abbrev pub levels_code : Coded LevelMap
 levels_code = fin_map.code (coded× coded_ℕ id_code) level.the_row.coded

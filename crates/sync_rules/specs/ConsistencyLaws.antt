@@ -19,7 +19,7 @@ use Rattle.sync_rules.specs.declared.states.Origin.{Origin}
 use Rattle.sync_rules.specs.declared.states.Origin.TheVariants as origin
 use Rattle.sync_rules.specs.Clients.{Meaning}
 use Rattle.sync_rules.specs.Lists.{same_id, is_among, has_repeat, without, firsts}
-use Rattle.sync_rules.specs.Facts.{Facts, Held, Id, Known, Row, Rows, Levels, Wants, pair_cmp, after, after_all, nothing, facts, entries_of, group_at, held_at, is_held, session_at, contact_of, put_level, is_no_row, row_or, row_at, put_row, change_row, change_rows, row_heard, row_seen, row_acked, row_asked, row_offered, row_sent, one_more_try, latency_of, ids_or, wanted_from, change_each, wanted_by_none, with_want, without_each, authored, arrived, known_of}
+use Rattle.sync_rules.specs.Facts.{Facts, Held, Id, Known, Row, Rows, LevelMap, Wants, pair_cmp, after, after_all, nothing, facts, entries_of, group_at, held_at, is_held, session_at, contact_of, put_level, is_no_row, row_or, row_at, put_row, change_row, change_rows, row_heard, row_seen, row_acked, row_asked, row_offered, row_sent, one_more_try, latency_of, ids_or, wanted_from, change_each, wanted_by_none, with_want, without_each, authored, arrived, known_of}
 use Rattle.sync_rules.specs.Output.{NamesTheOpen}
 use Rattle.sync_rules.specs.Legal.{Legal, IsDue}
 use Rattle.sync_rules.specs.Meeting.{Meets, AllMeet}
@@ -249,10 +249,10 @@ pair_hit contact c id x e =
 
 -- ---- levels
 
-abbrev LevelsIn : Facts → Levels → Type 0
+abbrev LevelsIn : Facts → LevelMap → Type 0
 LevelsIn g levels = (contact : ℕ) (group : Id) (l : Level) → fin_map.get levels (contact, group) ≡ Some l → IsLevelOf g contact group l
 
-level_insert : (g : Facts) (levels : Levels) (c : ℕ) (x : Id) (l : Level) → IsLevelOf g c x l → LevelsIn g levels → LevelsIn g (fin_map.insert levels (c, x) l)
+level_insert : (g : Facts) (levels : LevelMap) (c : ℕ) (x : Id) (l : Level) → IsLevelOf g c x l → LevelsIn g levels → LevelsIn g (fin_map.insert levels (c, x) l)
 level_insert g levels c x l is has contact group k at =
     elim (eq_by_cmp pair_cmp (contact, group) (c, x)) as (λ b. eq_by_cmp pair_cmp (contact, group) (c, x) ≡ b
     → cond b (Some l) (fin_map.get levels (contact, group)) ≡ Some k → IsLevelOf g contact group k) [
@@ -264,21 +264,21 @@ level_insert g levels c x l is has contact group k at =
       | false ↦ λ e at. has contact group k at
     ] refl (sym (fin_map.get-insert pair_total levels (c, x) l (contact, group)) ∙ at)
 
-level_remove : (g : Facts) (levels : Levels) (c : ℕ) (x : Id) → LevelsIn g levels → LevelsIn g (fin_map.remove levels (c, x))
+level_remove : (g : Facts) (levels : LevelMap) (c : ℕ) (x : Id) → LevelsIn g levels → LevelsIn g (fin_map.remove levels (c, x))
 level_remove g levels c x has contact group k at =
     elim (eq_by_cmp pair_cmp (contact, group) (c, x)) as (λ b. cond b None (fin_map.get levels (contact, group)) ≡ Some k → IsLevelOf g contact group k) [
       | true ↦ λ at. cc
       | false ↦ λ at. has contact group k at
     ] (sym (fin_map.get-remove pair_total levels (c, x) (contact, group)) ∙ at)
 
-level_put : (g : Facts) (levels : Levels) (c : ℕ) (x : Id) (l : Level) → c < g.contacts → is_some (group_at g.groups x) ≡ true → LevelsIn g levels → LevelsIn g (put_level levels (c, x) l)
+level_put : (g : Facts) (levels : LevelMap) (c : ℕ) (x : Id) (l : Level) → c < g.contacts → is_some (group_at g.groups x) ≡ true → LevelsIn g levels → LevelsIn g (put_level levels (c, x) l)
 level_put g levels c x level.Invisible k known has = level_remove g levels c x has
 level_put g levels c x level.Visible k known has =
     level_insert g levels c x level.Visible (record { not_invisible = refl; known_contact = k; known_group = known }) has
 level_put g levels c x level.Shared k known has =
     level_insert g levels c x level.Shared (record { not_invisible = refl; known_contact = k; known_group = known }) has
 
-levels_there : (f g : Facts) (levels : Levels) → Continues f g → LevelsIn f levels → LevelsIn g levels
+levels_there : (f g : Facts) (levels : LevelMap) → Continues f g → LevelsIn f levels → LevelsIn g levels
 levels_there f g levels c has contact group l at =
     let is : IsLevelOf f contact group l = has contact group l at in
     record {

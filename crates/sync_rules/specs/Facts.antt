@@ -58,8 +58,8 @@ pub record Row : Type 0 where
   pub tries : ℕ
   pub expiry : ℕ
 
-abbrev pub Levels : Type 0
-Levels = fin_map.FinMap pair_cmp Level
+abbrev pub LevelMap : Type 0
+LevelMap = fin_map.FinMap pair_cmp Level
 
 abbrev pub Rows : Type 0
 Rows = fin_map.FinMap pair_cmp Row
@@ -76,7 +76,7 @@ pub record Facts : Type 0 where
   -- the groups in the order in which they were added
   pub groups : List Known
   -- the levels of the pairs that are not Invisible
-  pub levels : Levels
+  pub levels : LevelMap
   -- the number of sessions that have begun, these sessions in the order in which they began, and for each session number
   -- the records taken
   pub begun : ℕ
@@ -134,7 +134,7 @@ level_or None = level.Invisible
 level_or (Some l) = l
 
 -- a group's level for a contact (BSP, "Group visibility"): what was last set, else Invisible
-abbrev pub level_at : Levels → ℕ → Id → Level
+abbrev pub level_at : LevelMap → ℕ → Id → Level
 level_at levels contact group = level_or (fin_map.get levels (contact, group))
 
 abbrev pub is_invisible : Level → Bool
@@ -190,12 +190,12 @@ abbrev pub groups_after : List Known → Entry → List Known
 groups_after groups (entry.Group def) = groups ++ known_of def ∷ []
 groups_after groups _ = groups
 
-abbrev pub put_level : Levels → Pair → Level → Levels
+abbrev pub put_level : LevelMap → Pair → Level → LevelMap
 put_level levels pair level.Invisible = fin_map.remove levels pair
 put_level levels pair level.Visible = fin_map.insert levels pair level.Visible
 put_level levels pair level.Shared = fin_map.insert levels pair level.Shared
 
-abbrev pub levels_after : Levels → Entry → Levels
+abbrev pub levels_after : LevelMap → Entry → LevelMap
 levels_after levels (entry.Level contact group l) = put_level levels (contact, group) l
 levels_after levels _ = levels
 

@@ -14,7 +14,7 @@ use Rattle.sync_rules.specs.declared.entries.Level.{Level}
 use Rattle.sync_rules.specs.declared.entries.Level.TheVariants as level
 use Rattle.sync_rules.specs.Clients.{Meaning}
 use Rattle.sync_rules.specs.Lists.{same_id, is_among}
-use Rattle.sync_rules.specs.Facts.{Facts, Held, Known, Id, Pair, Levels, pair_cmp, after, after_all, after_batches, nothing, facts, entries_of, held_at, group_at, level_at, level_or, put_level, authored, arrived, known_of, contact_of}
+use Rattle.sync_rules.specs.Facts.{Facts, Held, Known, Id, Pair, LevelMap, pair_cmp, after, after_all, after_batches, nothing, facts, entries_of, held_at, group_at, level_at, level_or, put_level, authored, arrived, known_of, contact_of}
 use Rattle.sync_rules.specs.Steps.{step, first_step, first_or_next, next, verdict_for, verdict_by, kind_of_def, is_beside, is_elsewhere}
 use Rattle.sync_rules.specs.EntryTests.{judges, delivers, invalidates}
 use Rattle.sync_rules.specs.Scans.{message_at, def_at, is_beside_message, is_elsewhere_message, message_of, def_of, message_named, def_named, first_of_two, first_message, first_message_in, first_def, first_def_in, any_entry, level_then, last_level, last_level_in, step_brought, first_step_of, first_step_in}
@@ -150,7 +150,7 @@ level_dropped : (b : Bool) (o : Option Level) → level_or (cond b None o) ≡ c
 level_dropped true o = refl
 level_dropped false o = refl
 
-level_put : (levels : Levels) (contact c : ℕ) (group g : Id) (l : Level)
+level_put : (levels : LevelMap) (contact c : ℕ) (group g : Id) (l : Level)
     → level_at (fin_map.insert levels (c, g) l) contact group ≡ cond (nat_eq contact c && same_id group g) l (level_at levels contact group)
 level_put levels contact c group g l =
     ap level_or (fin_map.get-insert pair_total levels (c, g) l (contact, group))
@@ -158,7 +158,7 @@ level_put levels contact c group g l =
     ∙ ap (λ b. cond b l (level_at levels contact group)) (pair_tied contact c group g))
 
 -- what setting a level does to the level of a pair
-pub level_at_set : (levels : Levels) (contact c : ℕ) (group g : Id) (l : Level)
+pub level_at_set : (levels : LevelMap) (contact c : ℕ) (group g : Id) (l : Level)
     → level_at (put_level levels (c, g) l) contact group ≡ cond (nat_eq contact c && same_id group g) l (level_at levels contact group)
 level_at_set levels contact c group g level.Invisible =
     ap level_or (fin_map.get-remove pair_total levels (c, g) (contact, group))

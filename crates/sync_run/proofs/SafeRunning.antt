@@ -9,7 +9,7 @@ use Rattle.outside.specs.Files.{Two, File, read_files, settled}
 use Rattle.outside.specs.Links.{Link, Links}
 use Rattle.outside.specs.Outside.{DiskRun, IsNow, MomentsAre, Outside}
 use Rattle.outside.specs.Runs.{IsFront, Told, answers_at, grow_same}
-use Rattle.frame_journal.specs.Gates.{ReadsSame, Settles}
+use Rattle.frame_journal.specs.Gates.{ReadsSame, SyncsBoth}
 use Rattle.sync_rules.specs.declared.entries.Mode.{Mode}
 use Rattle.sync_rules.specs.declared.entries.Mode.TheVariants as mode
 use Rattle.sync_rules.specs.declared.entries.Session.{Session}
@@ -65,7 +65,7 @@ rests_at files (Err outcome.DiskFault) rest = tt
 rests_at files _ rest = rest
 
 -- files in which nothing is pending
-pub rests_settled : (old new : Option (Two File)) → Becomes Settles old new → AtRest new
+pub rests_settled : (old new : Option (Two File)) → Becomes SyncsBoth old new → AtRest new
 rests_settled None None becomes two told left image = cc
 rests_settled None (Some new) becomes two told left image = absurd becomes
 rests_settled (Some old) None becomes two told left image = absurd becomes

@@ -11,7 +11,7 @@ use Rattle.outside.specs.Outside.{Outside, Moment, MomentsAre, IsNow, Looks, Dis
 use Rattle.outside.specs.Steps.{FileMoment, Passed, becomes_told, moments_map, moments_then}
 use Rattle.frame_journal.specs.Create.{Clears, Creates, BeforeOrShut, ShutOrBegun, begun_bytes}
 use Rattle.frame_journal.specs.declared.fault.DiskFault.{DiskFault}
-use Rattle.frame_journal.specs.Gates.{Settles, AnyImage}
+use Rattle.frame_journal.specs.Gates.{SyncsBoth, AnyImage}
 use Rattle.sync_rules.specs.Clients.{Meaning}
 use Rattle.sync_rules.specs.Facts.{nothing}
 use Rattle.entry_codec.specs.Payloads.{payloads}
@@ -106,7 +106,7 @@ begins_from stand two at end free same creates =
 -- ---- the calls before
 
 -- after the barrier a crash leaves what it might have left before
-settled_now : (o : Outside) (two at : Two File) (links : Links) (m : Moment) → o.files ≡ Some two → Settles two at → IsNow at links m → IsNow two links m
+settled_now : (o : Outside) (two at : Two File) (links : Links) (m : Moment) → o.files ≡ Some two → SyncsBoth two at → IsNow at links m → IsNow two links m
 settled_now o two at links m told settles now =
     let image : IsImage (record { first = settled two.first.now; second = settled two.second.now }) m.files =
     subst (λ (t : Two File). IsImage t m.files) settles now.image in
@@ -119,25 +119,25 @@ settled_now o two at links m told settles now =
       sent = now.sent;
     }
 
-pub look_moments : (o0 o1 o2 : Outside) → AnyImage o0 o1 → DiskRun o0 o1 → Becomes Settles o0.files o1.files → Looks o1 o2 → AnyImage o0 o2
+pub look_moments : (o0 o1 o2 : Outside) → AnyImage o0 o1 → DiskRun o0 o1 → Becomes SyncsBoth o0.files o1.files → Looks o1 o2 → AnyImage o0 o2
 look_moments o0 o1 o2 first run becomes looks two told =
-    let there = becomes_told Settles o0.files o1.files two told becomes in
+    let there = becomes_told SyncsBoth o0.files o1.files two told becomes in
     moments_then o0 o1 o2 (IsNow two o0.links) (first two told)
     (moments_map o1 o2 (IsNow there.0 o1.links) (IsNow two o0.links)
     (λ m now. settled_now o0 two there.0 o0.links m told there.2 (subst (λ (l : Links). IsNow there.0 l m) run.same_links now)) (looks.moments there.0 there.1))
 
 -- the open headers of files that read the same
-open_same : (two at : Two File) → Settles two at → has_open at ≡ has_open two
+open_same : (two at : Two File) → SyncsBoth two at → has_open at ≡ has_open two
 open_same two at settles = ap has_open settles
 
-pub free_from : (two at : Two File) → Settles two at → has_open two ≡ false → IsFree at
+pub free_from : (two at : Two File) → SyncsBoth two at → has_open two ≡ false → IsFree at
 free_from two at settles none = record {
   first_settled = subst (λ (t : Two File). NothingPending t 0) (sym settles) refl;
   second_settled = subst (λ (t : Two File). NothingPending t 1) (sym settles) refl;
   none_open = open_same two at settles ∙ none;
 }
 
-pub begins_first : (two at end : Two File) → Settles two at → Begins at end → Begins two end
+pub begins_first : (two at end : Two File) → SyncsBoth two at → Begins at end → Begins two end
 begins_first two at end settles begins = record {
   first = begins.first;
   second = begins.second ∙ ap (λ (t : Two File). settled t.second.now) settles;
@@ -145,14 +145,14 @@ begins_first two at end settles begins = record {
 }
 
 -- a moment of the later calls
-pub moment_first : (o : Outside) (two at : Two File) (links : Links) (m : Moment) → o.files ≡ Some two → Settles two at → InitMoment at links m → InitMoment two links m
+pub moment_first : (o : Outside) (two at : Two File) (links : Links) (m : Moment) → o.files ≡ Some two → SyncsBoth two at → InitMoment at links m → InitMoment two links m
 moment_first o two at links m told settles moment =
     elim moment [ inl now ↦ inl (settled_now o two at links m told settles now) | inr none ↦ inr (sym (open_same two at settles) ∙ none.0, none.1, none.2) ]
 
 pub init_looks : (o0 o1 : Outside) (two : Two File) → o0.files ≡ Some two → AnyImage o0 o1 → MomentsAre o0 o1 (InitMoment two o0.links)
 init_looks o0 o1 two told looks = moments_map o0 o1 (IsNow two o0.links) (InitMoment two o0.links) (λ m now. inl now) (looks two told)
 
-pub init_then : (o0 o1 o2 : Outside) (two at : Two File) → o0.files ≡ Some two → AnyImage o0 o1 → DiskRun o0 o1 → Settles two at → MomentsAre o1 o2 (InitMoment at o1.links)
+pub init_then : (o0 o1 o2 : Outside) (two at : Two File) → o0.files ≡ Some two → AnyImage o0 o1 → DiskRun o0 o1 → SyncsBoth two at → MomentsAre o1 o2 (InitMoment at o1.links)
     → MomentsAre o0 o2 (InitMoment two o0.links)
 init_then o0 o1 o2 two at told looks run settles later =
     moments_then o0 o1 o2 (InitMoment two o0.links) (init_looks o0 o1 two told looks)
@@ -173,7 +173,7 @@ begun_becomes stand (Some a) None o2 free first second = absurd first
 begun_becomes stand (Some a) (Some b) None free first second = absurd second
 begun_becomes stand (Some a) (Some b) (Some c) free first second = begins_from stand a b c (free a refl) first.other second
 
-pub init_becomes : (o0 o1 o2 : Option (Two File)) → Becomes Settles o0 o1 → Becomes Begins o1 o2 → Becomes Begins o0 o2
+pub init_becomes : (o0 o1 o2 : Option (Two File)) → Becomes SyncsBoth o0 o1 → Becomes Begins o1 o2 → Becomes Begins o0 o2
 init_becomes None None None first second = tt
 init_becomes None None (Some c) first second = absurd second
 init_becomes None (Some b) o2 first second = absurd first
@@ -181,7 +181,7 @@ init_becomes (Some a) None o2 first second = absurd first
 init_becomes (Some a) (Some b) None first second = absurd second
 init_becomes (Some a) (Some b) (Some c) first second = begins_first a b c first second
 
-pub found_first : (result : Result Bool DiskFault) (o0 o1 : Option (Two File)) → Becomes Settles o0 o1 → IfOk result (λ found. ForSome o1 (λ two. has_open two ≡ found))
+pub found_first : (result : Result Bool DiskFault) (o0 o1 : Option (Two File)) → Becomes SyncsBoth o0 o1 → IfOk result (λ found. ForSome o1 (λ two. has_open two ≡ found))
     → IfOk result (λ found. ForSome o0 (λ two. has_open two ≡ found))
 found_first (Err e) o0 o1 becomes had = tt
-found_first (Ok found) o0 o1 becomes had = λ two told. let at = becomes_told Settles o0 o1 two told becomes in sym (open_same two at.0 at.2) ∙ had at.0 at.1
+found_first (Ok found) o0 o1 becomes had = λ two told. let at = becomes_told SyncsBoth o0 o1 two told becomes in sym (open_same two at.0 at.2) ∙ had at.0 at.1

@@ -14,7 +14,7 @@ use Rattle.outside.specs.Outside.{Outside, Moment, IsNow, DiskRun, Looks}
 use Rattle.outside.specs.Disk.{Becomes}
 use Rattle.outside.specs.Steps.{becomes_told, moments_map, moments_then}
 use Rattle.outside.specs.declared.disk.Place.{Place}
-use Rattle.frame_journal.specs.Gates.{AnyImage, Settles}
+use Rattle.frame_journal.specs.Gates.{AnyImage, SyncsBoth}
 use Rattle.frame_journal.specs.Journal.{JournalValue}
 use Rattle.frame_journal.specs.Header.{Starts}
 use Rattle.frame_journal.specs.declared.fault.StartFault.{StartFault}
@@ -39,7 +39,7 @@ settled_only : (bytes c : List ℕ) → IsFileImage (settled bytes) c → c ≡ 
 settled_only bytes c image = same_number_lists c bytes (omega (arith, image.no_shorter, image.no_longer)) (λ k below. image.kept k (omega (arith, image.no_longer)) refl)
 
 -- an image of the settled files is the files as they read, and that is an image of the files
-settled_back : (old new : Two File) (c : Two (List ℕ)) → IsImage old (read_files old) → Settles old new → IsImage new c → IsImage old c
+settled_back : (old new : Two File) (c : Two (List ℕ)) → IsImage old (read_files old) → SyncsBoth old new → IsImage new c → IsImage old c
 settled_back old new c reads settles image =
     let here = subst (λ (t : Two File). IsImage t c) settles image in
     record {
@@ -48,24 +48,24 @@ settled_back old new c reads settles image =
     }
 
 -- calls that only read after a barrier
-pub images_then : (o0 o1 o2 : Outside) → AnyImage o0 o1 → Becomes Settles o0.files o1.files → DiskRun o0 o1 → Looks o1 o2 → AnyImage o0 o2
+pub images_then : (o0 o1 o2 : Outside) → AnyImage o0 o1 → Becomes SyncsBoth o0.files o1.files → DiskRun o0 o1 → Looks o1 o2 → AnyImage o0 o2
 images_then o0 o1 o2 images settles run looks two told =
-    let mid = becomes_told Settles o0.files o1.files two told settles in
+    let mid = becomes_told SyncsBoth o0.files o1.files two told settles in
     let weaker : (m : Moment) → IsNow mid.0 o1.links m → IsNow two o0.links m =
     λ m now. record { image = settled_back two mid.0 m.files (o0.reads two told) mid.2 now.image; sent = now.sent ∙ ap (λ (l : Links). sent_of l.told) run.same_links } in
     moments_then o0 o1 o2 (IsNow two o0.links) (images two told) (moments_map o1 o2 (IsNow mid.0 o1.links) (IsNow two o0.links) weaker (looks.moments mid.0 mid.1))
 
-pub settles_then : (o0 o1 o2 : Outside) → Becomes Settles o0.files o1.files → Looks o1 o2 → Becomes Settles o0.files o2.files
-settles_then o0 o1 o2 settles looks = subst (λ (f : Option (Two File)). Becomes Settles o0.files f) (sym looks.same_files) settles
+pub settles_then : (o0 o1 o2 : Outside) → Becomes SyncsBoth o0.files o1.files → Looks o1 o2 → Becomes SyncsBoth o0.files o2.files
+settles_then o0 o1 o2 settles looks = subst (λ (f : Option (Two File)). Becomes SyncsBoth o0.files f) (sym looks.same_files) settles
 
 -- the files read as before
-reads_same : (old new : Two File) → Settles old new → read_files new ≡ read_files old
+reads_same : (old new : Two File) → SyncsBoth old new → read_files new ≡ read_files old
 reads_same old new settles = ap (λ (t : Two File). read_files t) settles
 
 -- where the files are told before a barrier they are after it, and read as before
-pub barrier_told : (o0 o1 : Outside) (two : Two File) → Becomes Settles o0.files o1.files → o0.files ≡ Some two → (mid : Two File) × (o1.files ≡ Some mid) × (read_files mid ≡ read_files two)
+pub barrier_told : (o0 o1 : Outside) (two : Two File) → Becomes SyncsBoth o0.files o1.files → o0.files ≡ Some two → (mid : Two File) × (o1.files ≡ Some mid) × (read_files mid ≡ read_files two)
 barrier_told o0 o1 two settles told =
-    let mid = becomes_told Settles o0.files o1.files two told settles in
+    let mid = becomes_told SyncsBoth o0.files o1.files two told settles in
     (mid.0, mid.1, reads_same two mid.0 mid.2)
 
 -- ---- the header
@@ -99,13 +99,13 @@ starts_so_far clients files j s starts fresh empty knows = record {
       };
 }
 
-starts_none : (clients : Meaning) (o0 o1 : Outside) (two : Two File) → Becomes Settles o0.files o1.files → ((mid : Two File) → o1.files ≡ Some mid → Starts (read_files mid) (Err start.NoStore))
+starts_none : (clients : Meaning) (o0 o1 : Outside) (two : Two File) → Becomes SyncsBoth o0.files o1.files → ((mid : Two File) → o1.files ≡ Some mid → Starts (read_files mid) (Err start.NoStore))
     → o0.files ≡ Some two → stands clients (read_files two) ≡ no_store
 starts_none clients o0 o1 two settles starts told =
     let mid = barrier_told o0 o1 two settles told in
     ap (stands clients) (sym mid.2) ∙ front_none clients (read_files mid.0) (starts mid.0 mid.1)
 
-starts_damaged : (clients : Meaning) (o0 o1 : Outside) (two : Two File) (place : Place) → Becomes Settles o0.files o1.files → ((mid : Two File) → o1.files ≡ Some mid → Starts (read_files mid) (Err (start.Damaged place)))
+starts_damaged : (clients : Meaning) (o0 o1 : Outside) (two : Two File) (place : Place) → Becomes SyncsBoth o0.files o1.files → ((mid : Two File) → o1.files ≡ Some mid → Starts (read_files mid) (Err (start.Damaged place)))
     → o0.files ≡ Some two → stands clients (read_files two) ≡ damaged place.file place.at
 starts_damaged clients o0 o1 two place settles starts told =
     let mid = barrier_told o0 o1 two settles told in
@@ -113,18 +113,18 @@ starts_damaged clients o0 o1 two place settles starts told =
     ap (stands clients) (sym mid.2) ∙ front_format clients (read_files mid.0) place.file is.0 is.1 ∙ ap (λ (n : ℕ). damaged place.file n) (sym is.2)
 
 -- no journal was found
-pub starts_fault : (clients : Meaning) (o0 o1 : Outside) (two : Two File) (e : StartFault) → Becomes Settles o0.files o1.files → ((mid : Two File) → o1.files ≡ Some mid → Starts (read_files mid) (Err e))
+pub starts_fault : (clients : Meaning) (o0 o1 : Outside) (two : Two File) (e : StartFault) → Becomes SyncsBoth o0.files o1.files → ((mid : Two File) → o1.files ≡ Some mid → Starts (read_files mid) (Err e))
     → o0.files ≡ Some two → IsLoaded clients (read_files two) (Err (load_of_start e))
 starts_fault clients o0 o1 two start.NoStore settles starts told = starts_none clients o0 o1 two settles starts told
 starts_fault clients o0 o1 two start.DiskFault settles starts told = tt
 starts_fault clients o0 o1 two (start.Damaged place) settles starts told = starts_damaged clients o0 o1 two place settles starts told
 
-pub starts_leaves : (o0 o1 o2 : Outside) (e : StartFault) → Becomes Settles o0.files o1.files → Looks o1 o2 → LeavesSettled o0.files o2.files (Err (load_of_start e))
+pub starts_leaves : (o0 o1 o2 : Outside) (e : StartFault) → Becomes SyncsBoth o0.files o1.files → Looks o1 o2 → LeavesSettled o0.files o2.files (Err (load_of_start e))
 starts_leaves o0 o1 o2 start.NoStore settles looks = settles_then o0 o1 o2 settles looks
 starts_leaves o0 o1 o2 start.DiskFault settles looks = tt
 starts_leaves o0 o1 o2 (start.Damaged place) settles looks = settles_then o0 o1 o2 settles looks
 
-pub reads_leaves : (o0 o1 o2 : Outside) (e : LoadFault) → Becomes Settles o0.files o1.files → Looks o1 o2 → LeavesSettled o0.files o2.files (Err e)
+pub reads_leaves : (o0 o1 o2 : Outside) (e : LoadFault) → Becomes SyncsBoth o0.files o1.files → Looks o1 o2 → LeavesSettled o0.files o2.files (Err e)
 reads_leaves o0 o1 o2 load.NoStore settles looks = settles_then o0 o1 o2 settles looks
 reads_leaves o0 o1 o2 load.DiskFault settles looks = tt
 reads_leaves o0 o1 o2 load.Memory settles looks = settles_then o0 o1 o2 settles looks
@@ -140,21 +140,21 @@ loaded clients two files j s all told =
     record { done = read.done; stands_for = front_closed clients (read_files two) j.file read.done j.end read.front (all.at_end two told) room; facts_are = read.facts_are }
 
 -- what the journal's reading answers, in words of the files before the barrier
-pub answers : (clients : Meaning) (o0 o1 o2 : Outside) (two : Two File) (j : JournalValue) (s : StoreValue) → Becomes Settles o0.files o1.files → o2.files ≡ o1.files → HasReadAll clients o2.files j s.state → o0.files ≡ Some two → IsLoaded clients (read_files two) (Ok s)
+pub answers : (clients : Meaning) (o0 o1 o2 : Outside) (two : Two File) (j : JournalValue) (s : StoreValue) → Becomes SyncsBoth o0.files o1.files → o2.files ≡ o1.files → HasReadAll clients o2.files j s.state → o0.files ≡ Some two → IsLoaded clients (read_files two) (Ok s)
 answers clients o0 o1 o2 two j s settles same all told =
     let mid = barrier_told o0 o1 two settles told in
     subst (λ (f : Two (List ℕ)). StandsFor clients f s) mid.2 (loaded clients mid.0 o2.files j s all (same ∙ mid.1))
 
-pub answers_damaged : (clients : Meaning) (o0 o1 o2 : Outside) (two : Two File) (place : Place) → Becomes Settles o0.files o1.files → o2.files ≡ o1.files → AreDamaged clients o2.files place → o0.files ≡ Some two
+pub answers_damaged : (clients : Meaning) (o0 o1 o2 : Outside) (two : Two File) (place : Place) → Becomes SyncsBoth o0.files o1.files → o2.files ≡ o1.files → AreDamaged clients o2.files place → o0.files ≡ Some two
     → stands clients (read_files two) ≡ damaged place.file place.at
 answers_damaged clients o0 o1 o2 two place settles same there told =
     let mid = barrier_told o0 o1 two settles told in
     ap (stands clients) (sym mid.2) ∙ there mid.0 (same ∙ mid.1)
 
-settled_first : (old new : Two File) → Settles old new → new.first ≡ settled new.first.now
+settled_first : (old new : Two File) → SyncsBoth old new → new.first ≡ settled new.first.now
 settled_first old new settles = ap (λ (t : Two File). t.first) settles ∙ ap settled (sym (ap (λ (t : Two File). t.first.now) settles))
 
-settled_second : (old new : Two File) → Settles old new → new.second ≡ settled new.second.now
+settled_second : (old new : Two File) → SyncsBoth old new → new.second ≡ settled new.second.now
 settled_second old new settles = ap (λ (t : Two File). t.second) settles ∙ ap settled (sym (ap (λ (t : Two File). t.second.now) settles))
 
 -- where files are told after a step they were before it
@@ -168,11 +168,11 @@ abbrev pub store_of : JournalValue → StateValue → ℕ → StoreValue
 store_of j s limit = record { state = s; file = j.file; format = j.format; end = j.end; limit = limit; closed = false }
 
 -- the disk fits the store
-pub fits_loaded : (clients : Meaning) (o0 o1 o2 : Outside) (j : JournalValue) (s : StateValue) (limit : ℕ) → Becomes Settles o0.files o1.files → o2.files ≡ o1.files → HasReadAll clients o2.files j s
+pub fits_loaded : (clients : Meaning) (o0 o1 o2 : Outside) (j : JournalValue) (s : StateValue) (limit : ℕ) → Becomes SyncsBoth o0.files o1.files → o2.files ≡ o1.files → HasReadAll clients o2.files j s
     → FitsSome clients (store_of j s limit) o2.files
 unfolding loaded
 fits_loaded clients o0 o1 o2 j s limit settles same all two told =
-    let old = becomes_back Settles o0.files o1.files two (sym same ∙ told) settles in
+    let old = becomes_back SyncsBoth o0.files o1.files two (sym same ∙ told) settles in
     let read = all.so_far.known two told in
     let stand = loaded clients two o2.files j (store_of j s limit) all told in
     let At : List ℕ → Type 0 = λ b. HasFrames b (take 14 (file_of (read_files two) j.file)) (payloads nothing read.done) in (
@@ -195,7 +195,7 @@ fits_loaded clients o0 o1 o2 j s limit settles same all two told =
 
 -- ---- faults
 
-pub answers_fault : (clients : Meaning) (o0 o1 o2 : Outside) (two : Two File) (j : JournalValue) (s : StateValue) (e : LoadFault) → Becomes Settles o0.files o1.files → o2.files ≡ o1.files → ReadsAll clients o2.files j s (Err e) → o0.files ≡ Some two
+pub answers_fault : (clients : Meaning) (o0 o1 o2 : Outside) (two : Two File) (j : JournalValue) (s : StateValue) (e : LoadFault) → Becomes SyncsBoth o0.files o1.files → o2.files ≡ o1.files → ReadsAll clients o2.files j s (Err e) → o0.files ≡ Some two
     → IsLoaded clients (read_files two) (Err e)
 answers_fault clients o0 o1 o2 two j s load.NoStore settles same there told = absurd there
 answers_fault clients o0 o1 o2 two j s (load.Damaged place) settles same there told = answers_damaged clients o0 o1 o2 two place settles same there told
@@ -206,7 +206,7 @@ answers_fault clients o0 o1 o2 two j s load.Memory settles same there told = tt
 pub knows_none : (clients : Meaning) (s : StateValue) → s.facts ≡ nothing → s.answers ≡ [] → Knows clients s
 knows_none clients s empty none = none ∙ ap (λ (f : Facts). map (answer_of clients f) f.held) (sym empty)
 
-pub ready_loaded : (clients : Meaning) (o0 o1 o2 : Outside) (j : JournalValue) (s : StateValue) (limit : ℕ) → Becomes Settles o0.files o1.files → o2.files ≡ o1.files → HasReadAll clients o2.files j s
+pub ready_loaded : (clients : Meaning) (o0 o1 o2 : Outside) (j : JournalValue) (s : StateValue) (limit : ℕ) → Becomes SyncsBoth o0.files o1.files → o2.files ≡ o1.files → HasReadAll clients o2.files j s
     → IsReady clients (store_of j s limit) o2.files
 ready_loaded clients o0 o1 o2 j s limit settles same all =
     record { still_open = refl; knows = all.so_far.knows; fits = fits_loaded clients o0 o1 o2 j s limit settles same all }

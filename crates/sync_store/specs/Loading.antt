@@ -5,7 +5,7 @@ use Rattle.outside.specs.Files.{Two, File, file_of, read_files}
 use Rattle.outside.specs.Frames.{closed, frame_at}
 use Rattle.outside.specs.Disk.{Becomes}
 use Rattle.outside.specs.declared.disk.Place.{Place}
-use Rattle.frame_journal.specs.Gates.{Settles}
+use Rattle.frame_journal.specs.Gates.{SyncsBoth}
 use Rattle.frame_journal.specs.Journal.{JournalValue}
 use Rattle.sync_rules.specs.declared.entries.Entry.{Entry}
 use Rattle.sync_rules.specs.Clients.{Meaning}
@@ -39,11 +39,11 @@ IsLoaded clients files (Err load.Memory) = Unit {0}
 
 -- But for a fault of the disk the files read as before, with nothing pending in them.
 abbrev pub LeavesSettled : Option (Two File) → Option (Two File) → Result StoreValue LoadFault → Type 0
-LeavesSettled old new (Ok s) = Becomes Settles old new
-LeavesSettled old new (Err load.NoStore) = Becomes Settles old new
-LeavesSettled old new (Err (load.Damaged place)) = Becomes Settles old new
+LeavesSettled old new (Ok s) = Becomes SyncsBoth old new
+LeavesSettled old new (Err load.NoStore) = Becomes SyncsBoth old new
+LeavesSettled old new (Err (load.Damaged place)) = Becomes SyncsBoth old new
 LeavesSettled old new (Err load.DiskFault) = Unit {0}
-LeavesSettled old new (Err load.Memory) = Becomes Settles old new
+LeavesSettled old new (Err load.Memory) = Becomes SyncsBoth old new
 
 -- ---- how far a reader has come
 

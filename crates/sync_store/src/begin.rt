@@ -5,7 +5,7 @@ ghost use Rattle.outside.specs.Faults.{HasCause, Rose};
 ghost use Rattle.outside.specs.Files.{Two, File};
 ghost use Rattle.outside.specs.Outside.{DiskRun, Looks, MomentsAre};
 ghost use Rattle.outside.specs.Disk.{Becomes};
-ghost use Rattle.frame_journal.specs.Gates.{Settles, AnyImage};
+ghost use Rattle.frame_journal.specs.Gates.{SyncsBoth, AnyImage};
 ghost use Rattle.sync_store.specs.Begin.{Begins, InitMoment, IsAnswer, IsFree, has_open};
 
 use crate::InitFault;
@@ -24,7 +24,7 @@ impl Store {
         ensures begun { OnOk result (Becomes Begins (D.tells disk.old).files
             (D.tells disk.new).files) }
         ensures kept { IsErrOf result InitFault.Exists
-            → Becomes Settles (D.tells disk.old).files (D.tells disk.new).files }
+            → Becomes SyncsBoth (D.tells disk.old).files (D.tells disk.new).files }
         ensures untouched { IsErrOf result InitFault.Exists
             → AnyImage (D.tells disk.old) (D.tells disk.new) }
         ensures any_moment { (two : Two File) → (D.tells disk.old).files ≡ Some two
@@ -45,7 +45,7 @@ impl Store {
 
 // Syncs both files, and says whether some file has an open header.
 fn look<D: Disk>(disk: &mut D) -> Result<bool, DiskFault>
-    ensures settled { OnOk result (Becomes Settles (D.tells disk.old).files
+    ensures settled { OnOk result (Becomes SyncsBoth (D.tells disk.old).files
         (D.tells disk.new).files) }
     ensures found { IfOk result (λ found. ForSome (D.tells disk.old).files
         (λ two. has_open two ≡ found)) }

@@ -8,7 +8,8 @@ use Rattle.world_laws.specs.Theorem.{HeldIsWritten, IsNewWorld, IsSoundWorld, Re
 use Rattle.sync_rules.specs.Facts.{facts}
 use Rattle.world_laws.specs.Worlds.{AreSteps, Journal, World, journal_at, journal_in, last_of}
 use Rattle.world_devices.specs.Devices.{DeviceValue}
-use Rattle.world_devices.specs.Linking.{IsNewDevice, IsUnlinked}
+use Rattle.world_devices.specs.Linking.{IsNewDevice, IsUnlinked, new_journal}
+use Rattle.world_devices.specs.NewJournals.{new_holds, new_knows}
 use Rattle.world_links.specs.declared.link.Link.{Link}
 use Rattle.world_devices.specs.declared.stop.StepFault.{StepFault}
 use Rattle.world_devices.specs.declared.stop.StepFault.TheVariants as fault
@@ -115,14 +116,15 @@ begun contacts clock [] all = record { journals = []; new = tt; up = record { sa
 begun contacts clock (x ∷ xs) all =
     let one = all.0 in
     let rest = begun contacts clock xs all.1 in
-    let up : IsUp one.whole x =
+    let whole : Journal = new_journal contacts in
+    let up : IsUp whole x =
     record { runs = one.runs; holds = one.holds; legal = one.legal; numbered = one.unlinked.unlinked ∙ ap (λ (n : ℕ). Some n) (sym one.unlinked.none) } in
     record {
-      journals = one.whole ∷ rest.journals;
-      new = (record { legal = one.legal; empty = one.empty }, rest.new);
-      up = record { same_number = ap suc rest.up.same_number; each = up_more one.whole rest.journals x xs up rest.up };
+      journals = whole ∷ rest.journals;
+      new = (record { legal = one.legal; empty = new_holds contacts }, rest.new);
+      up = record { same_number = ap suc rest.up.same_number; each = up_more whole rest.journals x xs up rest.up };
       unlinked = unlinked_more x xs one.unlinked rest.unlinked;
-      known = known_more contacts one.whole rest.journals x xs one.contacts_are rest.known;
+      known = known_more contacts whole rest.journals x xs (new_knows contacts) rest.known;
     }
 
 -- new devices without links are a world

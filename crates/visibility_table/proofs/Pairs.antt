@@ -9,7 +9,7 @@ use Rattle.std.specs.declared.cmp.Ordering.TheVariants.{Less, Equal, Greater}
 use Rattle.std.proofs.lemmas.Cmp.{on_total, then_total}
 use Rattle.sync_rules.specs.declared.entries.Level.{Level}
 use Rattle.sync_rules.specs.Lists.{same_id}
-use Rattle.sync_rules.specs.Facts.{Id, Pair, Levels, pair_cmp, id_cmp, level_or, level_at}
+use Rattle.sync_rules.specs.Facts.{Id, Pair, LevelMap, pair_cmp, id_cmp, level_or, level_at}
 
 -- whether two pairs are the same
 abbrev pub same_pair : Pair → Pair → Bool
@@ -50,13 +50,13 @@ got es q = fin_map.get-from_entries pair_total es q ∙ find-lookup q es
 -- what is kept once one level is set
 pub kept_put : (es new : List (Pair × Level)) (k : Pair) (l : Level)
     → ((q : Pair) → lookup (same_pair q) new ≡ cond (same_pair k q) (Some l) (lookup (same_pair q) es))
-    → ◌≡◌ {A = Levels} (fin_map.from_entries new) (fin_map.insert (fin_map.from_entries es) k l)
+    → ◌≡◌ {A = LevelMap} (fin_map.from_entries new) (fin_map.insert (fin_map.from_entries es) k l)
 kept_put es new k l h =
     fin_map.same_map pair_total pair_same _ _ (λ q. got new q ∙ h q ∙ sym (fin_map.get-insert pair_total (fin_map.from_entries es) k l q ∙ (λ i. cond (pair_swap q k i) (Some l) (got es q i))))
 
 -- and once one is taken out
 pub kept_drop : (es new : List (Pair × Level)) (k : Pair)
     → ((q : Pair) → lookup (same_pair q) new ≡ cond (same_pair k q) None (lookup (same_pair q) es))
-    → ◌≡◌ {A = Levels} (fin_map.from_entries new) (fin_map.remove (fin_map.from_entries es) k)
+    → ◌≡◌ {A = LevelMap} (fin_map.from_entries new) (fin_map.remove (fin_map.from_entries es) k)
 kept_drop es new k h =
     fin_map.same_map pair_total pair_same _ _ (λ q. got new q ∙ h q ∙ sym (fin_map.get-remove pair_total (fin_map.from_entries es) k q ∙ (λ i. cond (pair_swap q k i) None (got es q i))))

@@ -6,7 +6,7 @@ use Rattle.sync_ids.specs.Values.{GroupValue}
 use Rattle.sync_rules.specs.declared.entries.Entry.{Entry}
 use Rattle.sync_rules.specs.declared.entries.Entry.TheVariants as entry
 use Rattle.sync_rules.specs.Codes.{known_code, levels_code}
-use Rattle.sync_rules.specs.Facts.{Id, Known, Levels, contacts_after, levels_after}
+use Rattle.sync_rules.specs.Facts.{Id, Known, LevelMap, contacts_after, levels_after}
 use Rattle.sync_rules.specs.Lists.{same_id}
 
 -- the number of contacts, the groups in the order in which they were added, the levels that are not Invisible, and for how
@@ -14,12 +14,12 @@ use Rattle.sync_rules.specs.Lists.{same_id}
 pub record Table : Type 0 where
   pub contacts : ℕ
   pub groups : List Known
-  pub levels : Levels
+  pub levels : LevelMap
   pub spare : ℕ
 
 abbrev pub table_code : Coded Table
 table_code =
-    code_by (ℕ × (List Known × (Levels × ℕ))) (coded× coded_ℕ (coded× (coded_list known_code) (coded× levels_code coded_ℕ)))
+    code_by (ℕ × (List Known × (LevelMap × ℕ))) (coded× coded_ℕ (coded× (coded_list known_code) (coded× levels_code coded_ℕ)))
     (λ t. (t.contacts, (t.groups, (t.levels, t.spare))))
     (λ p. record { contacts = p.0; groups = p.1.0; levels = p.1.1.0; spare = p.1.1.1 }) (λ _. refl)
 

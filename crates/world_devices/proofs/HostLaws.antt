@@ -8,7 +8,7 @@ use Rattle.outside.specs.Host.{Dials}
 use Rattle.outside.specs.Links.{Answered, Link, Links, HeardOn}
 use Rattle.outside.specs.Outside.{Outside}
 use Rattle.outside.specs.Runs.{Told, answers_at, heard_bytes, others_dial, sent_at}
-use Rattle.outside.specs.MemDisk.{Change, hosted, MemDiskValue, Kept, kept_after, changed, both_kept, disk_files, files_of, fresh, links_after, answers_after}
+use Rattle.outside.specs.MemDisk.{Change, hosted, MemDiskValue, KeptFile, kept_after, changed, both_kept, disk_files, files_of, fresh, links_after, answers_after}
 use Rattle.outside.specs.MemHost.{MemHostValue, Readings, Crashes, fresh_host, plans_of}
 use Rattle.outside.specs.declared.limits.TheConstants.{LINKS}
 use Rattle.world_devices.specs.Brought.{IsSilent, brought_on, planned_bytes}
@@ -77,12 +77,12 @@ same_then a b c first second = record {
 
 -- ---- a host that begins anew
 
-hosted_same : (two : Two Kept) (calls : List Change) → kept_after two (calls ++ hosted ∷ []) ≡ kept_after two calls
+hosted_same : (two : Two KeptFile) (calls : List Change) → kept_after two (calls ++ hosted ∷ []) ≡ kept_after two calls
 hosted_same two [] = refl
 hosted_same two (c ∷ calls) = hosted_same (changed two c) calls
 
 pub files_anew : (h h' : MemHostValue) → h' ≡ fresh_host h.disk → (host_told h').files ≡ (host_told h).files
-files_anew h h' is = ap (λ (x : MemHostValue). (host_told x).files) is ∙ ap (λ (k : Two Kept). Some (files_of k)) (hosted_same (both_kept h.disk.start) h.disk.calls)
+files_anew h h' is = ap (λ (x : MemHostValue). (host_told x).files) is ∙ ap (λ (k : Two KeptFile). Some (files_of k)) (hosted_same (both_kept h.disk.start) h.disk.calls)
 
 pub keeps_anew : (h h' : MemHostValue) → h' ≡ fresh_host h.disk → KeepsOn (host_told h) (host_told h')
 keeps_anew h h' is = keeps_same (host_told h) (host_told h') (files_anew h h' is)

@@ -1,5 +1,5 @@
--- What a new device has: a journal of so many contacts, which holds no message.
-use Rattle.std.proofs.Common.{◌≡◌, ℕ, false, List, [], refl, sym, ap, ◌∙◌, subst, Option, Some, None, is_some, Result, Ok, Err, OnOk}
+-- What a new device has: the journal of so many contacts.
+use Rattle.std.proofs.Common.{◌≡◌, ℕ, ◌+◌, Bool, true, false, if◌then◌else◌, nat_lt, List, [], ◌∷◌, ◌++◌, refl, sym, ap, ◌∙◌, subst, arith, Option, Some, None, is_some, Result, Ok, Err, OnOk}
 use Rattle.std.specs.Result.{is_err}
 use Rattle.outside.specs.Files.{Two, File, read_files}
 use Rattle.outside.specs.HostTold.{host_told}
@@ -7,20 +7,26 @@ use Rattle.outside.specs.MemHost.{MemHostValue}
 use Rattle.client_basic.specs.Bodies.{bundle_meaning}
 use Rattle.entry_codec.specs.Standing.{stands, journal}
 use Rattle.sync_rules.specs.declared.entries.Entry.{Entry}
-use Rattle.sync_rules.specs.Facts.{Facts, after_batches, facts}
-use Rattle.sync_rules.specs.Legal.{AllSettling}
+use Rattle.sync_rules.specs.declared.entries.Entry.TheVariants as entry
+use Rattle.sync_rules.specs.declared.limits.TheConstants.{MAX_CONTACTS}
+use Rattle.sync_rules.specs.declared.states.Refused.TheVariants as refused
+use Rattle.sync_rules.specs.Clients.{Meaning}
+use Rattle.sync_rules.specs.Facts.{Facts, Held, after_all, after_batches, facts}
+use Rattle.sync_rules.specs.Legal.{AllSettling, IsSettlingBatch, Legal}
+use Rattle.sync_rules.specs.Steps.{first_step}
 use Rattle.sync_store.specs.Loading.{StandsFor}
+use Rattle.sync_store.specs.Refusals.{contact_answer}
 use Rattle.sync_store.specs.Store.{StoreValue}
 use Rattle.sync_node.specs.Node.{NodeValue}
 use Rattle.world_devices.specs.Cited.{SettlingLeaves}
-use Rattle.world_devices.specs.Devices.{DeviceValue, IsRunning, MayBeRunning}
-use Rattle.world_devices.specs.Doing.{IsAnew}
-use Rattle.world_devices.specs.Linking.{IsBare, IsBareIn, IsNewDevice, IsUnlinked, KeepsLinks, LinksBy, WhenDone}
+use Rattle.world_devices.specs.Devices.{DeviceValue, IsReadyStore, IsRunning, MayBeRunning}
+use Rattle.world_devices.specs.Doing.{Adds, IsAnew, SettlesFrom}
+use Rattle.world_devices.specs.Linking.{IsBare, IsBareIn, IsNewDevice, IsUnlinked, KeepsLinks, LinksBy, WhenDone, new_journal}
+use Rattle.world_devices.specs.NewJournals.{new_holds}
 use Rattle.world_devices.specs.Running.{Holds}
 use Rattle.world_devices.specs.declared.starting.StartFault.{StartFault}
 use Rattle.world_devices.specs.declared.stop.Ran.{Ran}
 use Rattle.world_devices.specs.declared.stop.Ran.TheVariants as ran
-use Rattle.world_devices.proofs.CallLaws.{ready_still}
 use Rattle.world_devices.proofs.HostLaws.{told_host}
 use Rattle.world_devices.proofs.RunningLaws.{journal_of, open_of}
 
@@ -49,33 +55,70 @@ bare_settled laws contacts s s' more settling is bare =
     }
 
 -- what a bare device without links is
-new_of : (contacts : ℕ) (n : NodeValue) (d : DeviceValue) → d.node ≡ Some n → IsRunning n d.host d.links → IsBare contacts n.store → IsUnlinked d
+new_of : (contacts : ℕ) (n : NodeValue) (d : DeviceValue) → d.node ≡ Some n → IsRunning n d.host d.links → Holds (new_journal contacts) d.host → IsUnlinked d
     → IsAnew d.clock d.host → d.stop ≡ None → IsNewDevice contacts d.clock d
-new_of contacts n d is run bare unlinked anew unstopped =
-    let ready = open_of n d.host d.links run in
-    let has = journal_of n.store d.host ready in
-    let still = ready_still n.store d.host ready in
+new_of contacts n d is run holds unlinked anew unstopped =
+    let has = journal_of n.store d.host (open_of n d.host d.links run) in
+    let reads : stands bundle_meaning (read_files (told_host d.host).two) ≡ journal (new_journal contacts) =
+    holds.each (told_host d.host).two (told_host d.host).files_are (read_files (told_host d.host).two) ((host_told d.host).reads (told_host d.host).two (told_host d.host).files_are) in
+    let both : journal has.whole ≡ journal (new_journal contacts) = sym has.fits.stands_for ∙ reads in
+    let same : has.whole ≡ new_journal contacts = cc in
     record {
       runs = ap is_some is;
-      whole = has.whole;
-      holds = record {
-        each = λ two told left image.
-            let same : (told_host d.host).two ≡ two = (let both : Some (told_host d.host).two ≡ Some two = sym (told_host d.host).files_are ∙ told in cc) in
-            ap (stands bundle_meaning) (still.each two told left image) ∙ (ap (λ (t : Two File). stands bundle_meaning (read_files t)) (sym same) ∙ has.fits.stands_for);
-      };
-      legal = has.fits.legal;
-      empty = ap (λ (f : Facts). f.held) has.fits.facts_are ∙ bare.empty;
-      contacts_are = ap (λ (f : Facts). f.contacts) has.fits.facts_are ∙ bare.counted;
+      holds = holds;
+      legal = subst (Legal bundle_meaning) same has.fits.legal;
       unlinked = unlinked;
       clock_is = refl;
       anew = anew;
       unstopped = unstopped;
     }
 
-pub new_device : (contacts : ℕ) (node : Option NodeValue) (d : DeviceValue) → d.node ≡ node → MayBeRunning node d.host d.links → IsBareIn contacts node → IsUnlinked d
-    → IsAnew d.clock d.host → d.stop ≡ None → IsNewDevice contacts d.clock d
-new_device contacts None d is run bare unlinked anew unstopped = absurd bare
-new_device contacts (Some n) d is run bare unlinked anew unstopped = new_of contacts n d is run bare unlinked anew unstopped
+pub new_device : (contacts : ℕ) (node : Option NodeValue) (d : DeviceValue) → d.node ≡ node → MayBeRunning node d.host d.links → IsBareIn contacts node → Holds (new_journal contacts) d.host
+    → IsUnlinked d → IsAnew d.clock d.host → d.stop ≡ None → IsNewDevice contacts d.clock d
+new_device contacts None d is run bare holds unlinked anew unstopped = absurd bare
+new_device contacts (Some n) d is run bare holds unlinked anew unstopped = new_of contacts n d is run holds unlinked anew unstopped
+
+-- ---- settling where no message is held
+
+none_settles : (clients : Meaning) (f : Facts) (batch : List Entry) → f.held ≡ [] → IsSettlingBatch clients f batch → ⊥
+none_settles clients f [] none settles = omega (arith, settles.0)
+none_settles clients f (e ∷ es) none settles =
+    let is : first_step clients f [] ≡ Some e = subst (λ (hs : List Held). first_step clients f hs ≡ Some e) none settles.2.0 in
+    cc
+
+all_settled : (clients : Meaning) (f : Facts) (more : List (List Entry)) → f.held ≡ [] → AllSettling clients f more → more ≡ []
+all_settled clients f [] none settling = refl
+all_settled clients f (b ∷ bs) none settling = absurd (none_settles clients f b none settling.0)
+
+-- ---- the journal of a new device
+
+-- of a device that was started over empty files
+pub begun_journal : (h : MemHostValue) → SettlesFrom [] h → Holds (new_journal 0) h
+begun_journal h from =
+    let is : from.whole ≡ [] = from.goes_on.is ∙ all_settled bundle_meaning (facts []) from.goes_on.more refl from.goes_on.settling in
+    subst (λ (j : List (List Entry)). Holds j h) is from.holds
+
+answered : (b : Bool) (number known : ℕ) → Ok number ≡ (if b then Ok known else Err refused.TooManyContacts) → number ≡ known
+answered true number known is = cc
+answered false number known is = cc
+
+-- the number that a further contact gets
+pub number_is : (contacts number : ℕ) (node : Option NodeValue) (s : StoreValue) → IsReadyStore node s → Ok number ≡ contact_answer s.state.facts → IsBareIn contacts node → number ≡ contacts
+number_is contacts number None s ready is bare = absurd bare
+number_is contacts number (Some n) s ready is bare =
+    answered (nat_lt s.state.facts.contacts MAX_CONTACTS) number s.state.facts.contacts is ∙ (ap (λ (x : StoreValue). x.state.facts.contacts) ready.0 ∙ bare.counted)
+
+-- one contact more, with nothing to settle behind it
+pub new_journal_kept : (contacts number : ℕ) (r : Result Ran StepFault) (old new : DeviceValue) → number ≡ contacts → Adds (entry.Contact number) r old new → Holds (new_journal contacts) old.host
+    → WhenDone r (Holds (new_journal (contacts + 1)) new.host)
+new_journal_kept contacts number (Ok ran.Done) old new is adds holds =
+    let added = adds.1 (new_journal contacts) holds in
+    let none : added.adds.more ≡ [] = all_settled bundle_meaning (after_all (facts (new_journal contacts)) (entry.Contact number ∷ [])) added.adds.more (new_holds contacts) added.adds.settling in
+    let whole : added.whole ≡ new_journal contacts ++ ((entry.Contact contacts ∷ []) ∷ []) =
+    added.adds.is ∙ (ap (λ (more : List (List Entry)). new_journal contacts ++ ((entry.Contact number ∷ []) ∷ more)) none ∙ ap (λ (k : ℕ). new_journal contacts ++ ((entry.Contact k ∷ []) ∷ [])) is) in
+    subst (λ (j : List (List Entry)). Holds j new.host) whole added.holds
+new_journal_kept contacts number (Ok ran.Crashed) old new is adds holds = tt
+new_journal_kept contacts number (Err fault) old new is adds holds = tt
 
 -- ---- a contact more
 

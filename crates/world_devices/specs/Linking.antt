@@ -1,5 +1,5 @@
 -- What calls of a device do to its links.
-use Rattle.std.specs.Prelude.{◌≡◌, ◌⊎◌, ℕ, ◌+◌, ◌<◌, ◌≤◌, Bool, true, false, not, [], ◌++◌, length, Option, Some, None, is_some, slice_get, Result, Ok, Err}
+use Rattle.std.specs.Prelude.{◌≡◌, ◌⊎◌, ℕ, ◌+◌, ◌<◌, ◌≤◌, Bool, true, false, not, [], ◌∷◌, ◌++◌, length, Option, Some, None, is_some, slice_get, Result, Ok, Err}
 use Rattle.std.specs.List.{AllByRecursion}
 use Rattle.std.specs.Option.{option_map}
 use Rattle.std.specs.declared.alloc.AllocError.{AllocError}
@@ -7,6 +7,7 @@ use Rattle.outside.specs.declared.answer.Answer.{Answer}
 use Rattle.outside.specs.declared.limits.TheConstants.{MAX_JOURNAL}
 use Rattle.client_basic.specs.Bodies.{bundle_meaning}
 use Rattle.entry_codec.specs.Spelling.{IsEntry}
+use Rattle.sync_rules.specs.declared.entries.Entry.TheVariants as entry
 use Rattle.sync_course.specs.declared.ends.LinkEnd.{LinkEnd}
 use Rattle.sync_course.specs.Links.{is_going, is_sent_to}
 use Rattle.sync_rules.specs.Facts.{facts, session_at}
@@ -150,15 +151,17 @@ WhenDone (Ok ran.Done) P = P
 WhenDone (Ok ran.Crashed) P = Unit {0}
 WhenDone (Err fault) P = Unit {0}
 
--- It runs, and holds a journal with so many contacts and no message. It has no links, this time, and no
--- stop; its host has all links that it may get, and is anew.
+-- the journal of a new device: a batch for each of so many contacts
+abbrev pub new_journal : ℕ → Journal
+new_journal zero = []
+new_journal (suc k) = new_journal k ++ ((entry.Contact k ∷ []) ∷ [])
+
+-- It runs, and its files hold the journal of so many contacts. It has no links, this time, and no stop; its host has all links
+-- that it may get, and is anew.
 pub record IsNewDevice (contacts clock : ℕ) (d : DeviceValue) : Type 0 where
   pub runs : is_some d.node ≡ true
-  pub whole : Journal
-  pub holds : Holds whole d.host
-  pub legal : Legal bundle_meaning whole
-  pub empty : (facts whole).held ≡ []
-  pub contacts_are : (facts whole).contacts ≡ contacts
+  pub holds : Holds (new_journal contacts) d.host
+  pub legal : Legal bundle_meaning (new_journal contacts)
   pub unlinked : IsUnlinked d
   pub clock_is : d.clock ≡ clock
   pub anew : IsAnew clock d.host

@@ -8,6 +8,7 @@ ghost use Rattle.sync_rules.specs.declared.entries.Entry.TheVariants as entry_ki
 ghost use Rattle.world_devices.specs.Devices.{DeviceKeeps, IsReadyStore, MayAdd, links_made};
 ghost use Rattle.world_devices.specs.Keeping.{Journal, StandsLegal};
 ghost use Rattle.world_devices.specs.Linking.{DeviceLinksStand, IsBareIn, IsNewDevice, IsUnlinked};
+ghost use Rattle.world_devices.specs.Linking.{new_journal};
 ghost use Rattle.world_devices.specs.Linking.{WhenDone};
 ghost use Rattle.world_devices.specs.Linking.{KeepsLinks, LinksBy, LinksByAttach, LinksByPlan};
 ghost use Rattle.world_devices.specs.Linking.{LinksByTurn, asks, end_at, is_shut};
@@ -109,7 +110,8 @@ impl Device {
 
     // What a device is that has so many contacts, no message and no links. It does nothing.
     fn new_stands(&self)
-        ensures { (contacts : ℕ) → IsBareIn contacts self.now.node → IsUnlinked self.now
+        ensures { (contacts : ℕ) → IsBareIn contacts self.now.node
+            → Holds (new_journal contacts) self.now.host → IsUnlinked self.now
             → IsAnew self.now.clock self.now.host → self.now.stop ≡ None
             → IsNewDevice contacts self.now.clock self.now }
     {
@@ -333,6 +335,9 @@ impl Device {
         ensures same { IsErrOf result StepFault.Refused → self.new ≡ self.old }
         ensures bare { (contacts : ℕ) → IsBareIn contacts self.old.node
             → WhenDone result (IsBareIn (contacts + 1) self.new.node) }
+        ensures journal { (contacts : ℕ) → IsBareIn contacts self.old.node
+            → Holds (new_journal contacts) self.old.host
+            → WhenDone result (Holds (new_journal (contacts + 1)) self.new.host) }
         ensures clock { self.new.clock ≡ self.old.clock }
         ensures rest { WhenDone result (KeepsOwn self.old self.new × KeepsRest self.old self.new) }
     {

@@ -4,7 +4,7 @@ use Rattle.std.proofs.lemmas.List.{map-append}
 use Rattle.indexmap.proofs.CallerLemmas.{insert_entry-new}
 use Rattle.sync_ids.specs.Ids.{message_id_of}
 use Rattle.sync_rules.specs.Facts.{Held, Id, held_at}
-use Rattle.journal_state.specs.declared.messages.Kept.{Kept}
+use Rattle.journal_state.specs.declared.messages.KeptMessage.{KeptMessage}
 use Rattle.journal_state.specs.Holding.{Holding, held_of}
 use Rattle.journal_state.proofs.Places.{not_kept}
 use Rattle.journal_state.proofs.messages.Messages.hold.Goals as goal
@@ -13,7 +13,7 @@ pub returns-clause-held : goal.returns-clause-held
 returns-clause-held c =
     let es = c.self.inside.kept.entries in
     let id = c.args.id in
-    let kept : Kept = record { message = c.args.message; origin = c.args.origin } in
+    let kept : KeptMessage = record { message = c.args.message; origin = c.args.origin } in
     let more : Held = record { id = message_id_of c.args.message; message = c.args.message; origin = c.args.origin } in
     let absent : held_at (map held_of es) id ≡ None =
     ap (held_at (map held_of es)) c.requires.named ∙ (ap (λ (m : Holding). held_at m.held (message_id_of c.args.message)) c.self.view_is ∙ c.requires.new) in

@@ -101,5 +101,5 @@ pub returns-clause-room : goal.returns-clause-room
 returns-clause-room c =
     subst (λ (v : StateValue). Spends v.room (room_in (c.self.inside.space - 1) c.unwant_from_all.new.retry)) c.self.view_is
     (room_spent c.self.inside.space (c.self.inside.space - 1) c.self.inside.retry c.unwant_from_all.new.retry (one_less c.self.inside.space)
-    (λ k. let e = ap (λ (rows : List (List retry.Kept)). length (slice_index_or rows k [])) c.unwant_from_all.ensures.rows in omega (arith, e))
+    (λ k. let e = ap (λ (rows : List (List retry.KeptRow)). length (slice_index_or rows k [])) c.unwant_from_all.ensures.rows in omega (arith, e))
     (λ k. let e = c.unwant_from_all.ensures.room k in omega (arith, e)))

@@ -4,7 +4,7 @@ use Rattle.sync_rules.specs.declared.entries.Entry.TheVariants as entry
 use Rattle.sync_rules.specs.declared.entries.Session.{Session}
 use Rattle.sync_rules.specs.Facts.{group_at, is_level_shared}
 use Rattle.visibility_table.specs.Table as levels
-use Rattle.journal_state.specs.Levelling.{Levels, levelled_at}
+use Rattle.journal_state.specs.Levelling.{SetsLevels, levelled_at}
 use Rattle.journal_state.specs.Parts.{Parts}
 use Rattle.journal_state.specs.Taking.{Takes}
 use Rattle.journal_state.specs.Whole.{StateValue, value_of}
@@ -13,14 +13,14 @@ use Rattle.journal_state.proofs.Levelled.{level_state, level_facts, levels_room}
 use Rattle.journal_state.proofs.Took.{took}
 use Rattle.journal_state.proofs.state.State.take_level.Goals as goal
 
-done : (c : goal.After-level_all) → Levels c.self.inside.retry c.level_all.new.retry c.args.contact c.self.inside.delivered.items
+done : (c : goal.After-level_all) → SetsLevels c.self.inside.retry c.level_all.new.retry c.args.contact c.self.inside.delivered.items
     (levelled_at c.args.group (is_level_shared c.args.level) c.self.inside.messages.held c.self.inside.shares.items)
 done c =
-    subst (λ (ns : List ℕ). Levels c.self.inside.retry c.level_all.new.retry c.args.contact ns (levelled_at c.args.group (is_level_shared c.args.level) c.self.inside.messages.held c.self.inside.shares.items))
+    subst (λ (ns : List ℕ). SetsLevels c.self.inside.retry c.level_all.new.retry c.args.contact ns (levelled_at c.args.group (is_level_shared c.args.level) c.self.inside.messages.held c.self.inside.shares.items))
     c.as_slice-delivered.ensures.value
-    (subst (λ (bs : List Bool). Levels c.self.inside.retry c.level_all.new.retry c.args.contact c.as_slice-delivered.result.now (levelled_at c.args.group (is_level_shared c.args.level) c.self.inside.messages.held bs))
+    (subst (λ (bs : List Bool). SetsLevels c.self.inside.retry c.level_all.new.retry c.args.contact c.as_slice-delivered.result.now (levelled_at c.args.group (is_level_shared c.args.level) c.self.inside.messages.held bs))
     c.as_slice-shares.ensures.value
-    (subst (λ (b : Bool). Levels c.self.inside.retry c.level_all.new.retry c.args.contact c.as_slice-delivered.result.now (levelled_at c.args.group b c.self.inside.messages.held c.as_slice-shares.result.now))
+    (subst (λ (b : Bool). SetsLevels c.self.inside.retry c.level_all.new.retry c.args.contact c.as_slice-delivered.result.now (levelled_at c.args.group b c.self.inside.messages.held c.as_slice-shares.result.now))
     c.is_shared-shared.ensures c.level_all.ensures))
 
 pub invariant_of-self : goal.invariant_of-self

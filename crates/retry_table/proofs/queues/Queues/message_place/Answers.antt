@@ -2,7 +2,7 @@ use Rattle.std.proofs.Common.{ℕ, ◌^◌, ◌<◌, ◌∙◌, List, Option, If
 use Rattle.due_tree.specs.Due.{is_due}
 use Rattle.sync_rules.specs.declared.entries.Mode.{Mode}
 use Rattle.sync_rules.specs.declared.entries.Mode.TheVariants as mode
-use Rattle.retry_table.specs.Table.{Kept}
+use Rattle.retry_table.specs.Table.{KeptRow}
 use Rattle.retry_table.specs.Due.{message_in}
 use Rattle.retry_table.proofs.Follows.{asked_found, message_found, position_small}
 use Rattle.retry_table.proofs.queues.Queues.message_place.Goals as goal
@@ -11,7 +11,7 @@ pub returns-in-Interactive-clause-first : goal.returns-in-Interactive-clause-fir
 returns-in-Interactive-clause-first c =
     let q = c.self.inside in
     c.first_at_most.ensures ∙ asked_found q.rows.items q.asked c.args.now c.self.invariant.by_request
-    ∙ ap (λ (rows : List Kept). message_in mode.Interactive c.args.now rows) c.self.view_is
+    ∙ ap (λ (rows : List KeptRow). message_in mode.Interactive c.args.now rows) c.self.view_is
     ∙ ap (λ (m : Mode). message_in m c.args.now c.args.self.now) (sym c.in-Interactive.is)
 
 pub returns-in-Interactive-clause-small : goal.returns-in-Interactive-clause-small
@@ -23,7 +23,7 @@ pub returns-in-Batch-clause-first : goal.returns-in-Batch-clause-first
 returns-in-Batch-clause-first c =
     let q = c.self.inside in
     c.first_at_most-in-Batch.ensures ∙ message_found q.rows.items q.messages c.args.now c.self.invariant.by_expiry
-    ∙ ap (λ (rows : List Kept). message_in mode.Batch c.args.now rows) c.self.view_is
+    ∙ ap (λ (rows : List KeptRow). message_in mode.Batch c.args.now rows) c.self.view_is
     ∙ ap (λ (m : Mode). message_in m c.args.now c.args.self.now) (sym c.in-Batch.is)
 
 pub returns-in-Batch-clause-small : goal.returns-in-Batch-clause-small

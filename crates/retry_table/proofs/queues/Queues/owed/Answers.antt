@@ -1,5 +1,5 @@
 use Rattle.std.proofs.Common.{◌≡◌, ℕ, List, IfOk, take, ap, subst, ◌∙◌}
-use Rattle.retry_table.specs.Table.{Kept}
+use Rattle.retry_table.specs.Table.{KeptRow}
 use Rattle.retry_table.specs.Due.{owed_in}
 use Rattle.retry_table.proofs.Follows.{owed_found}
 use Rattle.retry_table.proofs.queues.Queues.owed.Goals as goal
@@ -9,5 +9,5 @@ pub returns : goal.returns
 returns c =
     let q = c.self.inside in
     subst (λ (numbers : List ℕ). IfOk c.due_places.result (λ v. v.items ≡ numbers))
-    (ap (take MAX_IDS) (owed_found q.rows.items q.owed c.self.invariant.by_debt) ∙ ap (λ (rows : List Kept). owed_in rows) c.self.view_is)
+    (ap (take MAX_IDS) (owed_found q.rows.items q.owed c.self.invariant.by_debt) ∙ ap (λ (rows : List KeptRow). owed_in rows) c.self.view_is)
     c.due_places.ensures

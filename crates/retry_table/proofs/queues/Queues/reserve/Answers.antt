@@ -1,21 +1,21 @@
 use Rattle.std.proofs.Common.{◌≡◌, ℕ, ◌-◌, ◌^◌, ◌<◌, ◌≤◌, ◌++◌, List, length, Option, None, replicate, vec_len, sym, subst, ◌∙◌, arith, rules}
 use Rattle.std.proofs.lemmas.List.{take_all}
-use Rattle.retry_table.specs.Table.{Kept, no_kept}
+use Rattle.retry_table.specs.Table.{KeptRow, no_kept}
 use Rattle.retry_table.specs.Queues.{message_place, asked_place, offer_place, owed_place, Follows}
 use Rattle.retry_table.proofs.Follows.{follows-places, follows-rows, longer_most}
 use Rattle.retry_table.proofs.queues.Queues.reserve.Goals as goal
 
-grown : (place : Kept → Option ℕ) (rows : List Kept) (queue new : List (Option ℕ)) (places : ℕ) → Follows place rows queue → places < 2 ^ 32 → new ≡ queue ++ replicate (places - length queue) None → Follows place rows new
+grown : (place : KeptRow → Option ℕ) (rows : List KeptRow) (queue new : List (Option ℕ)) (places : ℕ) → Follows place rows queue → places < 2 ^ 32 → new ≡ queue ++ replicate (places - length queue) None → Follows place rows new
 grown place rows queue new places f fits e = subst (λ (q : List (Option ℕ)). Follows place rows q) (sym e) (follows-places place rows queue f places fits)
 
-kept : (place : Kept → Option ℕ) (rows : List Kept) (queue new : List (Option ℕ)) → Follows place rows queue → new ≡ queue → Follows place rows new
+kept : (place : KeptRow → Option ℕ) (rows : List KeptRow) (queue new : List (Option ℕ)) → Follows place rows queue → new ≡ queue → Follows place rows new
 kept place rows queue new f e = subst (λ (q : List (Option ℕ)). Follows place rows q) (sym e) f
 
 -- with rows for all places too
-filled : (place : Kept → Option ℕ) (rows more : List Kept) (queue new : List (Option ℕ)) (places : ℕ) → Follows place rows queue → places < 2 ^ 32 → new ≡ queue ++ replicate (places - length queue) None → more ≡ rows ++ replicate (places - length rows) no_kept → Follows place more new
+filled : (place : KeptRow → Option ℕ) (rows more : List KeptRow) (queue new : List (Option ℕ)) (places : ℕ) → Follows place rows queue → places < 2 ^ 32 → new ≡ queue ++ replicate (places - length queue) None → more ≡ rows ++ replicate (places - length rows) no_kept → Follows place more new
 filled place rows more queue new places f fits e is =
     let all : places ≤ length new = subst (λ (q : List (Option ℕ)). places ≤ length q) (sym e) (longer_most queue None places) in
-    subst (λ (r : List Kept). Follows place r new) (sym is) (follows-rows place rows new (grown place rows queue new places f fits e) places all)
+    subst (λ (r : List KeptRow). Follows place r new) (sym is) (follows-rows place rows new (grown place rows queue new places f fits e) places all)
 
 pub invariant_of-self-in_err-reserve-3 : goal.invariant_of-self-in_err-reserve-3
 invariant_of-self-in_err-reserve-3 c =

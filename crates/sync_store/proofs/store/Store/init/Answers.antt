@@ -1,5 +1,5 @@
 use Rattle.outside.specs.Steps.{becomes_told}
-use Rattle.frame_journal.specs.Gates.{Settles}
+use Rattle.frame_journal.specs.Gates.{SyncsBoth}
 use Rattle.sync_store.proofs.BeginSteps.{init_then}
 use Rattle.sync_store.proofs.store.Store.init.Goals as goal
 
@@ -8,7 +8,7 @@ returns-in_err-begin-clause-any_moment g c two told =
     let o0 = g.D.Disk.tells c.args.disk.now in
     let o1 = g.D.Disk.tells c.look.new.disk in
     let o2 = g.D.Disk.tells c.begin.new.disk in
-    let at = becomes_told Settles o0.files o1.files two told c.in_ok-found.ensures.settled in
+    let at = becomes_told SyncsBoth o0.files o1.files two told c.in_ok-found.ensures.settled in
     init_then o0 o1 o2 two at.0 told c.in_ok-found.ensures.any_moment c.in_ok-found.ensures.run at.2 (c.in_err-begin.ensures.any_moment at.0 at.1)
 
 pub returns-clause-any_moment : goal.returns-clause-any_moment
@@ -16,5 +16,5 @@ returns-clause-any_moment g c two told =
     let o0 = g.D.Disk.tells c.args.disk.now in
     let o1 = g.D.Disk.tells c.look.new.disk in
     let o2 = g.D.Disk.tells c.begin.new.disk in
-    let at = becomes_told Settles o0.files o1.files two told c.in_ok-found.ensures.settled in
+    let at = becomes_told SyncsBoth o0.files o1.files two told c.in_ok-found.ensures.settled in
     init_then o0 o1 o2 two at.0 told c.in_ok-found.ensures.any_moment c.in_ok-found.ensures.run at.2 (c.in_ok-begin.ensures.any_moment at.0 at.1)
