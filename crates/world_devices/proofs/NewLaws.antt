@@ -1,5 +1,5 @@
 -- What a new device has: the journal of so many contacts.
-use Rattle.std.proofs.Common.{◌≡◌, ℕ, ◌+◌, Bool, true, false, if◌then◌else◌, nat_lt, List, [], ◌∷◌, ◌++◌, refl, sym, ap, ◌∙◌, subst, arith, Option, Some, None, is_some, Result, Ok, Err, OnOk}
+use Rattle.std.proofs.Common.{◌≡◌, ℕ, suc, ◌+◌, Bool, true, false, if◌then◌else◌, nat_lt, List, [], ◌∷◌, ◌++◌, refl, sym, ap, ◌∙◌, subst, arith, Option, Some, None, is_some, Result, Ok, Err, OnOk}
 use Rattle.std.specs.Result.{is_err}
 use Rattle.outside.specs.Files.{Two, File, read_files}
 use Rattle.outside.specs.HostTold.{host_told}
@@ -26,6 +26,7 @@ use Rattle.world_devices.specs.NewJournals.{new_holds}
 use Rattle.world_devices.specs.Running.{Holds}
 use Rattle.world_devices.specs.declared.starting.StartFault.{StartFault}
 use Rattle.world_devices.specs.declared.stop.Ran.{Ran}
+use Rattle.world_devices.specs.declared.stop.StepFault.{StepFault}
 use Rattle.world_devices.specs.declared.stop.Ran.TheVariants as ran
 use Rattle.world_devices.proofs.HostLaws.{told_host}
 use Rattle.world_devices.proofs.RunningLaws.{journal_of, open_of}
@@ -116,7 +117,8 @@ new_journal_kept contacts number (Ok ran.Done) old new is adds holds =
     let none : added.adds.more ≡ [] = all_settled bundle_meaning (after_all (facts (new_journal contacts)) (entry.Contact number ∷ [])) added.adds.more (new_holds contacts) added.adds.settling in
     let whole : added.whole ≡ new_journal contacts ++ ((entry.Contact contacts ∷ []) ∷ []) =
     added.adds.is ∙ (ap (λ (more : List (List Entry)). new_journal contacts ++ ((entry.Contact number ∷ []) ∷ more)) none ∙ ap (λ (k : ℕ). new_journal contacts ++ ((entry.Contact k ∷ []) ∷ [])) is) in
-    subst (λ (j : List (List Entry)). Holds j new.host) whole added.holds
+    let one_more : suc contacts ≡ contacts + 1 = omega arith in
+    subst (λ (k : ℕ). Holds (new_journal k) new.host) one_more (subst (λ (j : List (List Entry)). Holds j new.host) whole added.holds)
 new_journal_kept contacts number (Ok ran.Crashed) old new is adds holds = tt
 new_journal_kept contacts number (Err fault) old new is adds holds = tt
 
