@@ -8,12 +8,12 @@ use sync_rules::Entry;
 use test_device::Payloads;
 
 /// A journal of generation 1 with one contact.
-pub(crate) const CONTACT: [u8; 22] = [
+pub(crate) static CONTACT: [u8; 22] = [
     1, b'B', b'S', b'P', b'J', 1, 0, 0, 0, 0, 0, 0, 0, 1, 1, 0, 0, 0, 2, 1, 0, 0,
 ];
 
 /// The same, and the group `note` of major version 0 with the descriptor `d`.
-pub(crate) const GROUP: [u8; 40] = [
+pub(crate) static GROUP: [u8; 40] = [
     1, b'B', b'S', b'P', b'J', 1, 0, 0, 0, 0, 0, 0, 0, 1, 1, 0, 0, 0, 2, 1, 0, 1, 0, 0, 0, 13, 2,
     4, b'n', b'o', b't', b'e', 0, 0, 0, 0, 0, 1, b'd', 0,
 ];
@@ -22,6 +22,13 @@ pub(crate) const GROUP: [u8; 40] = [
 pub(crate) fn disk_with(alloc: Global, file0: &[u8], file1: &[u8]) -> Result<MemDisk, AllocError> {
     let first = Vec::from_slice(alloc, file0)?;
     MemDisk::new(alloc, first, Vec::from_slice(alloc, file1)?)
+}
+
+/// A disk with the file `GROUP`, of which the call of this number fails.
+pub(crate) fn failing_disk(alloc: Global, stop: u64) -> Result<MemDisk, AllocError> {
+    let mut disk = disk_with(alloc, &GROUP, &[])?;
+    disk.fail_at(stop)?;
+    Ok(disk)
 }
 
 /// How many frames a file has; `None` where they are not the first ones of the other file.
@@ -37,27 +44,51 @@ pub(crate) fn count_front(file: &[u8], whole: &[u8]) -> Option<usize> {
     Some(count)
 }
 
-/// The ids of the Deliver entries of a file, in order.
-pub(crate) fn deliveries(alloc: Global, file: &[u8]) -> Result<Vec<MessageId>, AllocError> {
-    let mut ids = Vec::new(alloc);
-    for payload in Payloads::of(file) {
-        add_deliveries(alloc, payload, &mut ids)?;
-    }
-    Ok(ids)
+/// What the frames of a file say.
+pub(crate) struct Frames {
+    /// How many entries each has.
+    pub(crate) sizes: Vec<usize>,
+    /// The ids of the Deliver entries, in order.
+    pub(crate) deliveries: Vec<MessageId>,
 }
 
-fn add_deliveries(
-    alloc: Global,
-    payload: &[u8],
-    ids: &mut Vec<MessageId>,
-) -> Result<(), AllocError> {
-    let Some(batch) = read_batch(alloc, payload)? else {
-        return Ok(());
+// Written out, so that whoever drops it proves one call.
+impl Drop for Frames {
+    fn drop(self) {
+        let Frames {
+            sizes: _,
+            deliveries: _,
+        } = self;
+    }
+}
+
+/// The frames of a file.
+pub(crate) fn read_frames(alloc: Global, file: &[u8]) -> Result<Frames, AllocError> {
+    let mut frames = Frames {
+        sizes: Vec::new(alloc),
+        deliveries: Vec::new(alloc),
     };
-    for entry in batch.entries() {
-        if let Entry::Deliver(id) = entry {
-            ids.push(*id)?;
+    for payload in Payloads::of(file) {
+        frames.read(alloc, payload)?;
+    }
+    Ok(frames)
+}
+
+impl Frames {
+    fn read(&mut self, alloc: Global, payload: &[u8]) -> Result<(), AllocError> {
+        match read_batch(alloc, payload)? {
+            Some(batch) => self.add(batch.entries()),
+            None => self.sizes.push(0).map_err(AllocError::from),
         }
     }
-    Ok(())
+
+    fn add(&mut self, entries: &[Entry]) -> Result<(), AllocError> {
+        self.sizes.push(entries.len())?;
+        for entry in entries {
+            if let Entry::Deliver(id) = entry {
+                self.deliveries.push(*id)?;
+            }
+        }
+        Ok(())
+    }
 }

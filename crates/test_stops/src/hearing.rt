@@ -3,10 +3,10 @@ use crate::files::disk_with;
 use anyhow::Result;
 use outside::MemDisk;
 use session_core::take;
-use std::alloc::Global;
+use std::alloc::{AllocError, Global};
 use sync_ids::{GroupDef, Message, Record, group_id};
 use sync_rules::{Batch, Clients, Entry, Level, Mode, Session};
-use test_device::Device;
+use test_device::{AddFault, Device};
 
 /// The session on which messages arrive.
 const SESSION: Session = Session {
@@ -24,15 +24,7 @@ pub(crate) fn begin<C: Clients + Drop>(
     def: GroupDef,
 ) -> Result<Device<MemDisk, C>> {
     let disk = disk_with(alloc, &[], &[])?;
-    let device = Device::begin(alloc, disk, clients)?;
-    with_first(alloc, device, def)
-}
-
-fn with_first<C: Clients + Drop>(
-    alloc: Global,
-    mut device: Device<MemDisk, C>,
-    def: GroupDef,
-) -> Result<Device<MemDisk, C>> {
+    let mut device = Device::begin(alloc, disk, clients)?;
     add_first(alloc, &mut device, def)?;
     Ok(device)
 }
@@ -42,11 +34,11 @@ fn add_first<C: Clients + Drop>(
     alloc: Global,
     device: &mut Device<MemDisk, C>,
     def: GroupDef,
-) -> Result<()> {
-    let group = group_id(&def);
+) -> Result<(), AddFault> {
+    let level = Entry::Level(0, group_id(&def), Level::Visible);
     add_one(alloc, device, Entry::Contact(0))?;
     add_one(alloc, device, Entry::Group(def))?;
-    add_one(alloc, device, Entry::Level(0, group, Level::Visible))?;
+    add_one(alloc, device, level)?;
     add_one(alloc, device, Entry::Session(SESSION))
 }
 
@@ -54,10 +46,8 @@ fn add_one<C: Clients + Drop>(
     alloc: Global,
     device: &mut Device<MemDisk, C>,
     entry: Entry,
-) -> Result<()> {
-    let batch = Batch::single(alloc, entry)?;
-    device.add(batch)?;
-    Ok(())
+) -> Result<(), AddFault> {
+    device.add(Batch::single(alloc, entry)?)
 }
 
 /// What a message is taken as, the session's record of this number.
@@ -66,9 +56,14 @@ fn heard<C: Clients + Drop>(
     device: &Device<MemDisk, C>,
     number: u64,
     message: Message,
-) -> Result<Batch> {
-    let record = Record::Message(message);
-    Ok(take(alloc, device.store(), &SESSION, number, record)?)
+) -> Result<Batch, AllocError> {
+    take(
+        alloc,
+        device.store(),
+        &SESSION,
+        number,
+        Record::Message(message),
+    )
 }
 
 /// Takes a message as the session's record of this number, and does not settle.
@@ -77,10 +72,9 @@ pub(crate) fn hear<C: Clients + Drop>(
     device: &mut Device<MemDisk, C>,
     number: u64,
     message: Message,
-) -> Result<()> {
+) -> Result<(), AddFault> {
     let batch = heard(alloc, device, number, message)?;
-    device.add(batch)?;
-    Ok(())
+    device.add(batch)
 }
 
 /// Takes a message, and settles.
@@ -89,8 +83,7 @@ pub(crate) fn hear_settled<C: Clients + Drop>(
     device: &mut Device<MemDisk, C>,
     number: u64,
     message: Message,
-) -> Result<()> {
+) -> Result<(), AddFault> {
     let batch = heard(alloc, device, number, message)?;
-    device.add_settled(batch)?;
-    Ok(())
+    device.add_settled(batch)
 }

@@ -1,17 +1,22 @@
 //! A limit that leaves room for a message and its settling, and one that lacks a byte.
-use crate::compare::compare;
+use crate::compare::{WHOLE, compare, say};
 use crate::files::{GROUP, disk_with};
-use crate::posting::{LOAD_CALLS, note};
+use crate::posting::{LOAD_CALLS, Node, note_batch};
 use anyhow::Result;
 use client_basic::Bundle;
-use outside::MemDisk;
-use std::alloc::Global;
-use sync_rules::{Batch, Entry};
+use std::alloc::{AllocError, Global};
 use sync_store::StoreFault;
 use test_device::{AddFault, Device, Payloads};
 
 /// The end, the frame of 44 bytes, and twice 38 bytes for its settling come to 165.
 const ENOUGH: u64 = 40 + 5 + 44 + 76;
+
+/// A store's end and room.
+#[derive(Clone, Copy)]
+struct Sizes {
+    end: u64,
+    room: u64,
+}
 
 /// Posts a message in the store of the file `GROUP` with either limit.
 pub(crate) fn fill(rt: &impl Print, alloc: Global) -> Result<()> {
@@ -19,93 +24,91 @@ pub(crate) fn fill(rt: &impl Print, alloc: Global) -> Result<()> {
     accept(rt, alloc)
 }
 
-type Limited = (Device<MemDisk, Bundle>, Result<(), AddFault>);
-
-fn post_within(alloc: Global, limit: u64) -> Result<Limited> {
+/// The store within this limit, and what it answers to the message.
+fn post_within(
+    rt: &impl Print,
+    alloc: Global,
+    limit: u64,
+    want: Result<(), AddFault>,
+) -> Result<Node> {
+    let batch = note_batch(alloc, 0)?;
     let disk = disk_with(alloc, &GROUP, &[])?;
-    let batch = Batch::single(alloc, Entry::Author(note(alloc, 0)?))?;
-    let mut device = Device::load(alloc, disk, Bundle::new(), limit.min(ENOUGH))?;
-    let added = device.add(batch);
-    Ok((device, added))
+    let mut node = Device::load(alloc, disk, Bundle::new(), limit.min(ENOUGH))?;
+    compare(rt, "post within a limit", WHOLE, &node.add(batch), &want);
+    Ok(node)
 }
 
-/// The store's end and room.
-fn sizes(device: &Device<MemDisk, Bundle>) -> (u64, u64) {
-    (device.store().end(), device.store().room())
+fn sizes_of(node: &Node) -> Sizes {
+    Sizes {
+        end: node.store().end(),
+        room: node.store().room(),
+    }
 }
 
-fn refuse(rt: &impl Print, alloc: Global) -> Result<()> {
-    let limit = ENOUGH - 1;
-    let (device, added) = post_within(alloc, limit)?;
-    let full = Err(AddFault::Store(StoreFault::Full));
-    look_full(rt, &device, added == full, limit)
+fn print_sizes(rt: &impl Print, limit: u64, what: &str, sizes: Sizes) -> Result<()> {
+    let Sizes { end, room } = sizes;
+    say(
+        rt,
+        &format_args!("limit {limit}: {what}, end {end}, room {room}"),
+    )
 }
 
 /// A store that is full made no call of the disk, and is not closed.
-fn look_full(
-    rt: &impl Print,
-    device: &Device<MemDisk, Bundle>,
-    is_full: bool,
-    limit: u64,
-) -> Result<()> {
-    compare(rt, &"full", &is_full, &true)?;
+fn refuse(rt: &impl Print, alloc: Global) -> Result<()> {
+    let full = Err(AddFault::Store(StoreFault::Full));
+    let node = post_within(rt, alloc, ENOUGH - 1, full)?;
+    let sizes = sizes_of(&node);
     compare(
         rt,
-        &"calls of a full store",
-        &device.disk().calls(),
-        &LOAD_CALLS,
-    )?;
-    compare(
-        rt,
-        &"the file of a full store",
-        &device.disk().file(0),
-        &GROUP.as_slice(),
-    )?;
-    compare(
-        rt,
-        &"a full store is closed",
-        &device.store().is_closed(),
+        "a full store is closed",
+        WHOLE,
+        &node.store().is_closed(),
         &false,
-    )?;
-    let (end, room) = sizes(device);
-    println!(rt; "limit {limit}: full, end {end}, room {room}")?;
-    Ok(())
+    );
+    let disk = node.into_disk();
+    compare(
+        rt,
+        "calls of a full store",
+        WHOLE,
+        &disk.calls(),
+        &LOAD_CALLS,
+    );
+    compare(
+        rt,
+        "the file of a full store",
+        WHOLE,
+        &disk.file(0),
+        &GROUP.as_slice(),
+    );
+    print_sizes(rt, ENOUGH - 1, "full", sizes)
 }
 
 fn accept(rt: &impl Print, alloc: Global) -> Result<()> {
-    let (mut device, added) = post_within(alloc, ENOUGH)?;
-    look_accepted(rt, &device, added.is_ok(), ENOUGH)?;
-    let settled = device.settle();
-    print_settled(rt, alloc, &device, settled.is_ok())
+    let mut node = post_within(rt, alloc, ENOUGH, Ok(()))?;
+    let accepted = sizes_of(&node);
+    compare(
+        rt,
+        "settled within the limit",
+        WHOLE,
+        &node.settle(),
+        &Ok(()),
+    );
+    let settled = sizes_of(&node);
+    let frames = frames_behind(alloc, node.into_disk().file(0))?;
+    print_sizes(rt, ENOUGH, "accepted", accepted)?;
+    print_settled(rt, frames.as_slice(), settled)
 }
 
-fn look_accepted(
-    rt: &impl Print,
-    device: &Device<MemDisk, Bundle>,
-    is_added: bool,
-    limit: u64,
-) -> Result<()> {
-    compare(rt, &"bytes enough", &is_added, &true)?;
-    let (end, room) = sizes(device);
-    println!(rt; "limit {limit}: accepted, end {end}, room {room}")?;
-    Ok(())
-}
-
-fn print_settled(
-    rt: &impl Print,
-    alloc: Global,
-    device: &Device<MemDisk, Bundle>,
-    is_settled: bool,
-) -> Result<()> {
-    compare(rt, &"settled within the limit", &is_settled, &true)?;
-    let frames = frames_behind(alloc, device.disk().file(0))?;
-    let (end, room) = sizes(device);
-    println!(rt; "settled by frames of {frames:?} bytes, end {end}, room {room}")?;
-    Ok(())
+fn print_settled(rt: &impl Print, frames: &[usize], sizes: Sizes) -> Result<()> {
+    let Sizes { end, room } = sizes;
+    say(
+        rt,
+        &format_args!("settled by frames of {frames:?} bytes, end {end}, room {room}"),
+    )
 }
 
 /// The lengths of the frames behind the message's.
-fn frames_behind(alloc: Global, file: &[u8]) -> Result<Vec<usize>> {
+fn frames_behind(alloc: Global, file: &[u8]) -> Result<Vec<usize>, AllocError> {
     let mut lengths = Vec::new(alloc);
     for payload in Payloads::of(file).skip(3) {
         lengths.push(payload.len().saturating_add(5))?;

@@ -12,6 +12,7 @@ mod hearing;
 mod limits;
 mod pair;
 mod posting;
+mod stages;
 mod values;
 
 use anyhow::Result;

@@ -1,15 +1,15 @@
 //! Two messages that wait for each other.
 ghost use Rattle.std.specs.Prelude.{◌≡◌, ◌∷◌, [], cond, nat_eq, IfOk};
 
-use crate::compare::compare;
+use crate::compare::{WHOLE, compare, say};
 use crate::hearing::{begin, hear_settled};
 use crate::values::{group_def, message};
 use anyhow::Result;
 use outside::MemDisk;
 use std::alloc::{AllocError, Global};
-use sync_ids::{Message, MessageId, group_id};
+use sync_ids::{GroupId, Message, MessageId, group_id};
 use sync_rules::{Clients, DepList, Fate, Judgement, id_of};
-use test_device::{AddFault, Device};
+use test_device::Device;
 
 /// Says of the message of time 0 that it depends on the second, and of any other that it depends on
 /// the first.
@@ -63,52 +63,46 @@ impl Clients for Pair {
 /// Lets both arrive, settles, and loads and settles again.
 pub(crate) fn wait(rt: &impl Print, alloc: Global) -> Result<()> {
     let device = hear_both(alloc)?;
-    look(rt, alloc, &device)?;
-    look_again(rt, alloc, device)?;
-    println!(rt; "two that wait for each other: both pending, and settled")?;
-    Ok(())
+    look(rt, &device);
+    look_again(rt, device.load_again(alloc)?);
+    say(
+        rt,
+        &"two that wait for each other: both pending, and settled",
+    )
 }
 
 /// A store to which both messages came, settled after each.
 fn hear_both(alloc: Global) -> Result<Device<MemDisk, Pair>> {
     let def = group_def(alloc, "pair")?;
     let group = group_id(&def);
-    let first = message(alloc, group, 0, b"first")?;
-    let second = message(alloc, group, 1, b"second")?;
     let clients = Pair {
-        first: id_of(&first),
-        second: id_of(&second),
+        first: id_of(&message(alloc, group, 0, b"first")?),
+        second: id_of(&message(alloc, group, 1, b"second")?),
     };
     let mut device = begin(alloc, clients, def)?;
-    hear_two(alloc, &mut device, first, second)?;
+    hear_two(alloc, &mut device, group)?;
     Ok(device)
 }
 
-fn hear_two(
-    alloc: Global,
-    device: &mut Device<MemDisk, Pair>,
-    first: Message,
-    second: Message,
-) -> Result<()> {
-    hear_settled(alloc, device, 0, first)?;
-    hear_settled(alloc, device, 1, second)
+fn hear_two(alloc: Global, device: &mut Device<MemDisk, Pair>, group: GroupId) -> Result<()> {
+    hear_settled(alloc, device, 0, message(alloc, group, 0, b"first")?)?;
+    Ok(hear_settled(alloc, device, 1, message(alloc, group, 1, b"second")?)?)
 }
 
-fn look_again(rt: &impl Print, alloc: Global, device: Device<MemDisk, Pair>) -> Result<()> {
-    let mut device = device.load_again(alloc)?;
-    device.settle().map_err(AddFault::Store)?;
-    look(rt, alloc, &device)
+fn look_again(rt: &impl Print, device: Device<MemDisk, Pair>) {
+    let mut device = device;
+    compare(rt, "a pair settled again", WHOLE, &device.settle(), &Ok(()));
+    look(rt, &device);
+    let _ = device.into_disk();
 }
 
 /// The fates of the held messages, and whether the store is settled.
-fn look(rt: &impl Print, alloc: Global, device: &Device<MemDisk, Pair>) -> Result<()> {
+fn look(rt: &impl Print, device: &Device<MemDisk, Pair>) {
     let store = device.store();
-    let mut fates = Vec::new(alloc);
+    compare(rt, "held of a pair", WHOLE, &store.held(), &2);
     for number in 0..store.held() {
-        fates.push(store.fate(number))?;
+        compare(rt, "a pair", WHOLE, &store.fate(number), &Fate::Pending);
     }
-    let pending = [Fate::Pending, Fate::Pending];
-    compare(rt, &"a pair", &fates.as_slice(), &pending.as_slice())?;
-    compare(rt, &"a pair settled", &store.is_settled(), &true)?;
-    compare(rt, &"delivered of a pair", &store.delivered(), &0)
+    compare(rt, "a pair settled", WHOLE, &store.is_settled(), &true);
+    compare(rt, "delivered of a pair", WHOLE, &store.delivered(), &0);
 }

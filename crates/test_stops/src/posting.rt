@@ -1,12 +1,13 @@
 //! A message that is posted and settled, stopped at each call of the disk under each image.
-use crate::compare::{PICKS, compare, is_open};
-use crate::files::{GROUP, count_front, deliveries, disk_with};
+use crate::compare::{Case, PICKS, WHOLE, compare, say};
+use crate::files::{GROUP, count_front, failing_disk, read_frames};
+use crate::stages::{Images, POST_CALLS, Stage};
 use crate::values::{group_def, message};
 use anyhow::Result;
 use client_basic::Bundle;
 use outside::{MAX_JOURNAL, MemDisk, Pick};
-use std::alloc::Global;
-use sync_ids::{Message, group_id};
+use std::alloc::{AllocError, Global};
+use sync_ids::{GroupId, Message, MessageId, group_id};
 use sync_rules::{Batch, Entry, id_of};
 use sync_store::StoreFault;
 use test_device::{AddFault, Device, end_of};
@@ -15,251 +16,186 @@ use test_device::{AddFault, Device, end_of};
 /// each of two frames, and the closed gate.
 pub(crate) const LOAD_CALLS: u64 = 10;
 
-/// How many calls a commit makes: two writes, and a sync behind each.
-pub(crate) const APPEND_CALLS: u64 = 4;
-
-/// How many calls a post makes: a commit, and the settling of one message.
-pub(crate) const POST_CALLS: u64 = 2 * APPEND_CALLS;
-
-/// The ends of the journal without the message, with it, and with its settling.
-pub(crate) const ENDS: [u64; 3] = [40, 89, 160];
+/// A store of the bundled clients, with its disk.
+pub(crate) type Node = Device<MemDisk, Bundle>;
 
 /// A store that posted a message and settled, a call failing meanwhile, and what it answered.
 #[derive(Drop)]
 pub(crate) struct Posted {
-    pub(crate) device: Device<MemDisk, Bundle>,
+    pub(crate) node: Node,
     pub(crate) added: Result<(), AddFault>,
     pub(crate) settled: Result<(), StoreFault>,
 }
 
-/// The message: the text `x` of time 0.
-pub(crate) fn note(alloc: Global, time: u64) -> Result<Message> {
+/// The message: the text `x` of this time.
+fn note(alloc: Global, time: u64) -> Result<Message> {
     message(alloc, group_id(&group_def(alloc, "note")?), time, b"x")
+}
+
+/// The batch that posts the message of this time.
+pub(crate) fn note_batch(alloc: Global, time: u64) -> Result<Batch> {
+    Ok(Batch::single(alloc, Entry::Author(note(alloc, time)?))?)
+}
+
+/// The store of the disk.
+pub(crate) fn load(alloc: Global, disk: MemDisk) -> Result<Node> {
+    Device::load(alloc, disk, Bundle::new(), MAX_JOURNAL)
 }
 
 /// Posts the message in the store of the file `GROUP` and settles; behind the load the call of this
 /// number fails.
 pub(crate) fn post(alloc: Global, stop: u64) -> Result<Posted> {
-    let mut disk = disk_with(alloc, &GROUP, &[])?;
-    disk.fail_at(LOAD_CALLS.saturating_add(stop))?;
-    let batch = Batch::single(alloc, Entry::Author(note(alloc, 0)?))?;
-    let mut device = Device::load(alloc, disk, Bundle::new(), MAX_JOURNAL)?;
-    let added = device.add(batch);
-    let settled = device.settle();
+    let batch = note_batch(alloc, 0)?;
+    post_batch(alloc, batch, stop)
+}
+
+fn post_batch(alloc: Global, batch: Batch, stop: u64) -> Result<Posted> {
+    let disk = failing_disk(alloc, LOAD_CALLS.saturating_add(stop))?;
+    let mut node = load(alloc, disk)?;
+    let added = node.add(batch);
+    let settled = node.settle();
     Ok(Posted {
-        device,
+        node,
         added,
         settled,
     })
 }
 
-/// The file once the message is posted and settled, written by hand.
-fn whole_file(alloc: Global) -> Result<Vec<u8>> {
-    let message = note(alloc, 0)?;
-    let id = id_of(&message);
-    let mut file = Vec::from_slice(alloc, &GROUP[..39])?;
-    file.extend_from_slice(&[1, 0, 0, 0, 44, 6])?;
-    file.extend_from_slice(message.group().as_bytes())?;
-    file.extend_from_slice(&[0, 0, 0, 0, 0, 0, 0, 0, 0, 1, b'x'])?;
-    file.extend_from_slice(&[1, 0, 0, 0, 66, 8])?;
-    file.extend_from_slice(id.as_bytes())?;
-    file.push(9)?;
-    file.extend_from_slice(id.as_bytes())?;
-    file.push(0)?;
-    Ok(file)
-}
-
-/// How many images there were of each stage.
-#[derive(Clone, Copy, Default)]
-struct Images {
-    bare: u32,
-    posted: u32,
-    settled: u32,
-}
-
-impl Images {
-    fn add(&mut self, stage: Stage) {
-        match stage {
-            Stage::Bare => self.bare = self.bare.saturating_add(1),
-            Stage::Posted => self.posted = self.posted.saturating_add(1),
-            Stage::Settled => self.settled = self.settled.saturating_add(1),
-        }
+/// These bytes, one behind the other.
+fn joined(alloc: Global, parts: &[&[u8]]) -> Result<Vec<u8>, AllocError> {
+    let mut bytes = Vec::new(alloc);
+    for part in parts {
+        bytes.extend_from_slice(part)?;
     }
+    Ok(bytes)
 }
 
-/// The images, and the file that a post which is not stopped writes.
-#[derive(Clone, Copy)]
-struct Table<'a> {
-    alloc: Global,
-    whole: &'a [u8],
-    images: Images,
+/// The file once the message of this group and id is posted and settled, written by hand.
+fn whole_file(alloc: Global, group: &GroupId, id: &MessageId) -> Result<Vec<u8>, AllocError> {
+    joined(
+        alloc,
+        &[
+            &GROUP[..39],
+            &[1, 0, 0, 0, 44, 6],
+            group.as_bytes(),
+            &[0, 0, 0, 0, 0, 0, 0, 0, 0, 1, b'x'],
+            &[1, 0, 0, 0, 66, 8],
+            id.as_bytes(),
+            &[9],
+            id.as_bytes(),
+            &[0],
+        ],
+    )
 }
 
 /// Stops at each call of a post, and settles what each image leaves.
 pub(crate) fn stop_each(rt: &impl Print, alloc: Global) -> Result<()> {
-    let whole = whole_file(alloc)?;
-    let mut table = Table {
-        alloc,
-        whole: whole.as_slice(),
-        images: Images::default(),
-    };
-    for stop in 0..POST_CALLS {
-        table.stop_at(rt, stop)?;
-    }
-    table.end(rt)?;
-    let id = id_of(&note(alloc, 0)?).to_hex(alloc)?;
-    println!(rt; "post of {id}")?;
-    print_images(rt, POST_CALLS, table.images)
+    let group = group_id(&group_def(alloc, "note")?);
+    let id = id_of(&note(alloc, 0)?);
+    let mut images = Images::default();
+    stop_all(rt, alloc, &whole_file(alloc, &group, &id)?, &mut images)?;
+    say(rt, &format_args!("post of {}", id.to_hex(alloc)?))?;
+    print_images(rt, images)
 }
 
-fn print_images(rt: &impl Print, calls: u64, images: Images) -> Result<()> {
+fn print_images(rt: &impl Print, images: Images) -> Result<()> {
     let Images {
         bare,
         posted,
         settled,
     } = images;
-    println!(rt;
-        "stopped at each of {calls} calls: {bare} images without it, {posted} with it, {settled} with its settling; each then settles"
-    )?;
+    say(
+        rt,
+        &format_args!(
+            "stopped at each of {POST_CALLS} calls: {bare} images without it, {posted} with it, {settled} with its settling; each then settles"
+        ),
+    )
+}
+
+/// Stops at each call of a post that writes this file if it is not stopped.
+fn stop_all(rt: &impl Print, alloc: Global, whole: &[u8], images: &mut Images) -> Result<()> {
+    for stop in 0..POST_CALLS {
+        stop_at(rt, alloc, whole, stop, images)?;
+    }
+    end(rt, alloc, whole)
+}
+
+fn stop_at(
+    rt: &impl Print,
+    alloc: Global,
+    whole: &[u8],
+    stop: u64,
+    images: &mut Images,
+) -> Result<()> {
+    let disk = post(alloc, stop)?.node.into_disk();
+    for pick in &PICKS {
+        let case = Case { stop, pick: *pick };
+        images.add(Stage::of(case));
+        look(rt, alloc, whole, case, &disk)?;
+    }
     Ok(())
 }
 
-/// How far an image has come.
-#[derive(Clone, Copy, PartialEq, Eq)]
-enum Stage {
-    /// The message is not there.
-    Bare,
-    /// It is there, and not settled.
-    Posted,
-    /// It is there with its settling.
-    Settled,
+/// The post that is not stopped: its calls and its file.
+fn end(rt: &impl Print, alloc: Global, whole: &[u8]) -> Result<()> {
+    let disk = post(alloc, u64::MAX)?.node.into_disk();
+    compare(
+        rt,
+        "calls",
+        WHOLE,
+        &disk.calls(),
+        &(LOAD_CALLS + POST_CALLS),
+    );
+    compare(rt, "the file", WHOLE, &disk.file(0), &whole);
+    Ok(())
 }
 
-impl Stage {
-    fn of(stop: u64, pick: Pick) -> Stage {
-        if is_open(stop, POST_CALLS, pick) {
-            Stage::Settled
-        } else if is_open(stop, APPEND_CALLS, pick) {
-            Stage::Posted
-        } else {
-            Stage::Bare
-        }
-    }
+/// What a crash leaves of a post, and the settling of it.
+fn look(rt: &impl Print, alloc: Global, whole: &[u8], case: Case, disk: &MemDisk) -> Result<()> {
+    let stage = Stage::of(case);
+    let image = disk.image(case.pick)?;
+    look_frames(rt, "frames", case, &image, whole, stage);
+    let mut copy = image.image(Pick::New)?;
+    let end = end_of(alloc, &mut copy, &Bundle::new());
+    compare(rt, "end", case, &end, &Ok(stage.end()));
+    settle(rt, alloc, whole, case, copy)
+}
 
-    /// How many frames the file has, two of them from before.
-    fn frames(self) -> usize {
-        match self {
-            Stage::Bare => 2,
-            Stage::Posted => 3,
-            Stage::Settled => 4,
-        }
-    }
+/// A file is to have the first frames of the whole one, as many as this stage has.
+fn look_frames(
+    rt: &impl Print,
+    what: &str,
+    case: Case,
+    disk: &MemDisk,
+    whole: &[u8],
+    stage: Stage,
+) {
+    let frames = count_front(disk.file(0), whole);
+    compare(rt, what, case, &frames, &Some(stage.frames()));
+}
 
-    fn end(self) -> u64 {
-        let [bare, posted, settled] = ENDS;
-        match self {
-            Stage::Bare => bare,
-            Stage::Posted => posted,
-            Stage::Settled => settled,
-        }
-    }
+/// Settles an image: its message, if there is one, is then delivered once.
+fn settle(rt: &impl Print, alloc: Global, whole: &[u8], case: Case, image: MemDisk) -> Result<()> {
+    let stage = Stage::of(case);
+    let mut node = load(alloc, image)?;
+    compare(rt, "settling", case, &node.settle(), &Ok(()));
+    let count = stage.messages();
+    compare(rt, "messages", case, &counts(&node), &(count, count, true));
+    let disk = node.into_disk();
+    look_frames(rt, "frames settled", case, &disk, whole, stage.settled());
+    let frames = read_frames(alloc, disk.file(0))?;
+    compare(
+        rt,
+        "deliveries",
+        case,
+        &frames.deliveries.len(),
+        &(count as usize),
+    );
+    Ok(())
 }
 
 /// How many messages are held, how many are delivered, and whether the store is settled.
-fn counts(device: &Device<MemDisk, Bundle>) -> (u32, u32, bool) {
-    let store = device.store();
+fn counts(node: &Node) -> (u32, u32, bool) {
+    let store = node.store();
     (store.held(), store.delivered(), store.is_settled())
-}
-
-impl Table<'_> {
-    fn stop_at(&mut self, rt: &impl Print, stop: u64) -> Result<()> {
-        let posted = post(self.alloc, stop)?;
-        self.look_each(rt, posted.device.disk(), stop)
-    }
-
-    fn look_each(&mut self, rt: &impl Print, disk: &MemDisk, stop: u64) -> Result<()> {
-        for pick in PICKS {
-            let image = disk.image(pick)?;
-            self.look(rt, &image, stop, pick)?;
-        }
-        Ok(())
-    }
-
-    /// The post that is not stopped: its calls and its file.
-    fn end(&self, rt: &impl Print) -> Result<()> {
-        let posted = post(self.alloc, u64::MAX)?;
-        let disk = posted.device.disk();
-        compare(rt, &"calls", &disk.calls(), &(LOAD_CALLS + POST_CALLS))?;
-        compare(rt, &"the file", &disk.file(0), &self.whole)
-    }
-
-    fn look(&mut self, rt: &impl Print, image: &MemDisk, stop: u64, pick: Pick) -> Result<()> {
-        let stage = Stage::of(stop, pick);
-        self.images.add(stage);
-        let frames = count_front(image.file(0), self.whole);
-        compare(rt, &("frames", stop, pick), &frames, &Some(stage.frames()))?;
-        let mut copy = image.image(Pick::New)?;
-        let end = end_of(self.alloc, &mut copy, &Bundle::new());
-        compare(rt, &("end", stop, pick), &end, &Ok(stage.end()))?;
-        self.settle(rt, copy, stage != Stage::Bare, stop, pick)
-    }
-
-    /// Settles an image: its message, if there is one, is then delivered once.
-    fn settle(
-        &self,
-        rt: &impl Print,
-        image: MemDisk,
-        is_held: bool,
-        stop: u64,
-        pick: Pick,
-    ) -> Result<()> {
-        let mut device = Device::load(self.alloc, image, Bundle::new(), MAX_JOURNAL)?;
-        let answer = device.settle();
-        self.look_settled(rt, &device, answer.is_ok(), is_held, stop, pick)
-    }
-
-    fn look_settled(
-        &self,
-        rt: &impl Print,
-        device: &Device<MemDisk, Bundle>,
-        is_ok: bool,
-        is_held: bool,
-        stop: u64,
-        pick: Pick,
-    ) -> Result<()> {
-        compare(rt, &("settling", stop, pick), &is_ok, &true)?;
-        let count = u32::from(is_held);
-        compare(
-            rt,
-            &("messages", stop, pick),
-            &counts(device),
-            &(count, count, true),
-        )?;
-        self.look_file(rt, device.disk().file(0), is_held, stop, pick)
-    }
-
-    fn look_file(
-        &self,
-        rt: &impl Print,
-        file: &[u8],
-        is_held: bool,
-        stop: u64,
-        pick: Pick,
-    ) -> Result<()> {
-        let stage = if is_held { Stage::Settled } else { Stage::Bare };
-        let frames = count_front(file, self.whole);
-        compare(
-            rt,
-            &("frames settled", stop, pick),
-            &frames,
-            &Some(stage.frames()),
-        )?;
-        let ids = deliveries(self.alloc, file)?;
-        compare(
-            rt,
-            &("deliveries", stop, pick),
-            &ids.len(),
-            &usize::from(is_held),
-        )
-    }
 }

@@ -5,8 +5,9 @@ use sync_ids::{GroupDef, GroupId, Message};
 
 /// The group of this name, major version 0, with the descriptor `d`.
 pub(crate) fn group_def(alloc: Global, name: &str) -> Result<GroupDef> {
+    let descriptor = vec![in alloc; b'd']?;
     let name = String::from_str(alloc, name)?;
-    Ok(GroupDef::new(name, 0, vec![in alloc; b'd']?)?)
+    Ok(GroupDef::new(name, 0, descriptor)?)
 }
 
 /// A message of this time and body.
