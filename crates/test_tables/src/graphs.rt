@@ -1,8 +1,8 @@
+use crate::checks::{made, must, same};
 use message_graph::{Ending, Fate, Graph, Judged, Names, Node, Step, fate_in, next_in};
-use std::alloc::{AllocError, Global};
+use std::alloc::Global;
 use std::hash::RandomState;
 use std::process::Abort;
-use std::test::Fail;
 
 /// A pseudo-random number.
 fn drawn(seed: u64) -> u64 {
@@ -10,18 +10,25 @@ fn drawn(seed: u64) -> u64 {
         .wrapping_add(1442695040888963407)
 }
 
-/// Refused, or accepted with the names whose bits are set; name k is 32 bytes of k.
-fn answer(alloc: Global, refused: bool, bits: u64) -> Result<Judged, AllocError> {
-    if refused {
-        return Ok(Judged::Refused);
-    }
+/// The names whose bits are set; name k is 32 bytes of k.
+fn names(rt: &impl Abort, alloc: Global, bits: u64) -> Names {
     let mut names = Vec::new(alloc);
     for k in 0..12u8 {
         if (bits >> k) % 2 == 1 {
-            names.push([k; 32])?;
+            made(rt, names.push([k; 32]));
         }
     }
-    Ok(Judged::Accepted(Names::new(names)))
+    Names::new(names)
+}
+
+/// Refused, or accepted with names, by chance: the answer of node n depends on `seed` and n alone.
+fn answer(rt: &impl Abort, alloc: Global, seed: u64, n: u32) -> Judged {
+    let draw = drawn(seed ^ u64::from(n)) >> 20;
+    if (draw >> 30) % 9 == 0 {
+        Judged::Refused
+    } else {
+        Judged::Accepted(names(rt, alloc, draw & (draw >> 12) & 0xfff))
+    }
 }
 
 /// Makes the step in the plain list too.
@@ -37,104 +44,108 @@ fn make(nodes: &mut [Node], step: Step) {
     }
 }
 
-/// Makes the next step of a graph and of the list; the answer of node n depends on `seed` and n
-/// alone.
-fn step(
-    alloc: Global,
-    graph: &mut Graph,
-    nodes: &mut [Node],
-    seed: u64,
-) -> Result<bool, AllocError> {
-    let Some(step) = graph.next() else {
-        return Ok(false);
-    };
-    if let Step::Judge(n) = step {
-        let draw = drawn(seed ^ u64::from(n)) >> 20;
-        let bits = draw & (draw >> 12) & 0xfff;
-        let refused = (draw >> 30) % 9 == 0;
-        graph.judged(n, answer(alloc, refused, bits)?)?;
-        if (n as usize) < nodes.len() {
-            let node = &mut nodes[n as usize];
-            node.answer = Some(answer(alloc, refused, bits)?);
+/// Makes the next step of a graph, if there is one, and of the list.
+fn step(rt: &impl Abort, alloc: Global, graph: &mut Graph, nodes: &mut [Node], seed: u64) {
+    match graph.next() {
+        None => {}
+        Some(Step::Judge(n)) => {
+            made(rt, graph.judged(n, answer(rt, alloc, seed, n)));
+            if (n as usize) < nodes.len() {
+                let node = &mut nodes[n as usize];
+                node.answer = Some(answer(rt, alloc, seed, n));
+            }
         }
-    } else {
-        graph.apply(step);
-        make(nodes, step);
+        Some(ends) => {
+            graph.apply(ends);
+            make(nodes, ends);
+        }
     }
-    Ok(true)
 }
 
 /// Compares the next step and each fate.
 fn compare(rt: &impl Abort, graph: &Graph, nodes: &[Node], seed: u64) {
-    assert_eq!(rt; graph.len() as usize, nodes.len());
-    if nodes.len() < 100 {
-        assert_eq!(rt; graph.next(), next_in(nodes), "seed {seed}");
-    }
+    must(rt, seed, graph.len() as usize == nodes.len());
+    same(rt, seed, &graph.next(), &next_in(nodes));
     for (n, node) in nodes.iter().enumerate() {
-        if n < 100 && (n as u32) < graph.len() {
-            assert_eq!(rt; graph.fate(n as u32), fate_in(node), "seed {seed} node {n}");
-        }
+        same(rt, seed, &graph.fate(n as u32), &fate_in(node));
     }
 }
 
 /// Holds a message in both, if its name is new.
-fn hold(
-    graph: &mut Graph,
-    nodes: &mut Vec<Node>,
-    name: [u8; 32],
-    group: u32,
-) -> Result<(), AllocError> {
-    if graph.number(&name).is_none() && graph.len() < 100 {
-        graph.reserve(1)?;
+fn hold(rt: &impl Abort, graph: &mut Graph, nodes: &mut Vec<Node>, name: [u8; 32], group: u32) {
+    if graph.number(&name).is_none() {
+        must(rt, 100, graph.len() < 100);
+        made(rt, graph.reserve(1));
         graph.hold(name, group);
-        nodes.push(Node {
+        let node = Node {
             name,
             group,
             answer: None,
             ending: None,
-        })?;
+        };
+        made(rt, nodes.push(node));
     }
-    Ok(())
 }
 
+/// Makes steps by chance, and compares behind each.
+fn play(rt: &impl Abort, alloc: Global, graph: &mut Graph, seed: u64) {
+    let mut nodes = Vec::new(alloc);
+    let mut draw = drawn(seed);
+    for _ in 0..60 {
+        draw = drawn(draw);
+        if (draw >> 33) % 3 == 0 {
+            let name = [((draw >> 40) % 12) as u8; 32];
+            let group = u32::from((draw >> 50) % 7 == 0);
+            hold(rt, graph, &mut nodes, name, group);
+        } else {
+            step(rt, alloc, graph, nodes.as_mut_slice(), seed);
+        }
+        compare(rt, graph, nodes.as_slice(), seed);
+    }
+}
+
+/// An empty graph.
+fn graph_of(rt: &impl Abort, alloc: Global, hasher: RandomState) -> Graph {
+    made(rt, Graph::new(alloc, hasher))
+}
+
+/// The end of a graph, which is proved anew at each place where one goes.
+fn let_go(_graph: Graph) {}
+
 #[test]
-fn agrees_with_a_scan(rt: HostRuntime) -> Result<(), Fail> {
+fn agrees_with_a_scan(rt: HostRuntime) {
     for seed in 0..400u64 {
-        let mut graph = Graph::new(rt.alloc(), RandomState::new(&rt)?)?;
-        let mut nodes = Vec::new(rt.alloc());
-        let mut draw = drawn(seed);
-        for _ in 0..60 {
-            draw = drawn(draw);
-            if (draw >> 33) % 3 == 0 {
-                let name = [((draw >> 40) % 12) as u8; 32];
-                let group = u32::from((draw >> 50) % 7 == 0);
-                hold(&mut graph, &mut nodes, name, group)?;
-            } else {
-                step(rt.alloc(), &mut graph, &mut nodes, seed)?;
-            }
-            compare(&rt, &graph, &nodes, seed);
-        }
+        let hasher = made(&rt, RandomState::new(&rt));
+        let mut graph = graph_of(&rt, rt.alloc(), hasher);
+        play(&rt, rt.alloc(), &mut graph, seed);
+        let_go(graph);
     }
-    Ok(())
+}
+
+/// Holds message k, which is to be judged next, and depends on message `other`.
+fn depend(rt: &impl Abort, alloc: Global, graph: &mut Graph, k: u8, other: u32) {
+    let mut nodes = Vec::new(alloc);
+    hold(rt, graph, &mut nodes, [k; 32], 0);
+    let next = graph.next();
+    same(rt, u64::from(k), &next, &Some(Step::Judge(u32::from(k))));
+    if let Some(Step::Judge(n)) = next {
+        made(
+            rt,
+            graph.judged(n, Judged::Accepted(names(rt, alloc, 1 << (other % 12)))),
+        );
+    }
 }
 
 #[test]
-fn a_cycle_stays_pending(rt: HostRuntime) -> Result<(), Fail> {
-    let mut graph = Graph::new(rt.alloc(), RandomState::new(&rt)?)?;
-    assert!(rt; graph.is_empty());
-    for (k, other) in [(0u8, 1u8), (1, 0)] {
-        let mut nodes = Vec::new(rt.alloc());
-        hold(&mut graph, &mut nodes, [k; 32], 0)?;
-        let next = graph.next();
-        assert_eq!(rt; next, Some(Step::Judge(u32::from(k))));
-        if let Some(Step::Judge(n)) = graph.next() {
-            let names = vec![in rt.alloc(); [other; 32]]?;
-            graph.judged(n, Judged::Accepted(Names::new(names)))?;
-        }
-    }
-    assert_eq!(rt; graph.next(), None);
-    assert_eq!(rt; graph.len(), 2);
-    assert_eq!(rt; graph.fate(0), Fate::Pending);
-    assert_eq!(rt; graph.fate(1), Fate::Pending);
-    Ok(())
+fn a_cycle_stays_pending(rt: HostRuntime) {
+    let hasher = made(&rt, RandomState::new(&rt));
+    let mut graph = graph_of(&rt, rt.alloc(), hasher);
+    must(&rt, 0, graph.is_empty());
+    depend(&rt, rt.alloc(), &mut graph, 0, 1);
+    depend(&rt, rt.alloc(), &mut graph, 1, 0);
+    same(&rt, 2, &graph.next(), &None);
+    must(&rt, 3, graph.len() == 2);
+    same(&rt, 4, &graph.fate(0), &Fate::Pending);
+    same(&rt, 5, &graph.fate(1), &Fate::Pending);
+    let_go(graph);
 }

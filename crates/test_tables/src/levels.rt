@@ -1,66 +1,80 @@
-use std::alloc::{AllocError, Global};
+use crate::checks::{made, must, same};
+use std::alloc::Global;
 use std::process::Abort;
-use std::test::Fail;
 use sync_ids::{Fixed, GroupDef, GroupId, group_id};
 use sync_rules::{Entry, Level};
 use visibility_table::Levels;
 
-fn definition(alloc: Global, major: u32) -> Result<GroupDef, Fail> {
-    Ok(GroupDef::new("note".to_string(alloc)?, major, Vec::new(alloc))?)
+fn definition(rt: &impl Abort, alloc: Global, major: u32) -> GroupDef {
+    let name = made(rt, "note".to_string(alloc));
+    made(rt, GroupDef::new(name, major, Vec::new(alloc)))
 }
 
-fn add(rt: &impl Abort, table: &mut Levels, def: GroupDef) -> Result<(), AllocError> {
-    assert!(rt; table.group(&group_id(&def)).is_none());
-    assert!(rt; table.groups() < 3);
-    table.reserve(1)?;
+fn id_of(rt: &impl Abort, alloc: Global, major: u32) -> GroupId {
+    group_id(&definition(rt, alloc, major))
+}
+
+fn add(rt: &impl Abort, alloc: Global, table: &mut Levels, major: u32) {
+    let def = definition(rt, alloc, major);
+    must(
+        rt,
+        0,
+        table.group(&group_id(&def)).is_none() && table.groups() < 3,
+    );
+    made(rt, table.reserve(1));
     table.add_group(def);
-    Ok(())
 }
 
 fn add_contact(rt: &impl Abort, table: &mut Levels, number: u8) {
-    assert!(rt; table.contacts() < 3);
+    must(rt, u64::from(number), table.contacts() < 3);
     table.apply(&Entry::Contact(number));
 }
 
-fn set(table: &mut Levels, contact: u8, group: GroupId, level: Level) -> Result<(), AllocError> {
-    table.reserve(1)?;
+fn set(rt: &impl Abort, table: &mut Levels, contact: u8, group: GroupId, level: Level) {
+    made(rt, table.reserve(1));
     table.apply(&Entry::Level(contact, group, level));
-    Ok(())
 }
 
+fn table_of(rt: &impl Abort, alloc: Global) -> Levels {
+    made(rt, Levels::new(alloc))
+}
+
+/// The end of a table, which is proved anew at each place where one goes.
+fn let_go(_table: Levels) {}
+
 #[test]
-fn numbers_contacts(rt: HostRuntime) -> Result<(), Fail> {
-    let mut table = Levels::new(rt.alloc())?;
-    assert_eq!(rt; table.contacts(), 0);
+fn numbers_contacts(rt: HostRuntime) {
+    let mut table = table_of(&rt, rt.alloc());
+    same(&rt, 0, &table.contacts(), &0);
     add_contact(&rt, &mut table, 0);
     add_contact(&rt, &mut table, 1);
-    assert_eq!(rt; table.contacts(), 2);
-    Ok(())
+    same(&rt, 1, &table.contacts(), &2);
+    let_go(table);
 }
 
 #[test]
-fn numbers_groups(rt: HostRuntime) -> Result<(), Fail> {
-    let mut table = Levels::new(rt.alloc())?;
-    let second = group_id(&definition(rt.alloc(), 2)?);
-    add(&rt, &mut table, definition(rt.alloc(), 1)?)?;
-    add(&rt, &mut table, definition(rt.alloc(), 2)?)?;
-    assert_eq!(rt; table.group(&second), Some(1));
-    assert_eq!(rt; table.group(&Fixed([7; 32])), None);
-    assert_eq!(rt; table.groups(), 2);
-    assert_eq!(rt; table.id(1), second);
-    assert_eq!(rt; table.def(0).major(), 1);
-    Ok(())
+fn numbers_groups(rt: HostRuntime) {
+    let mut table = table_of(&rt, rt.alloc());
+    let second = id_of(&rt, rt.alloc(), 2);
+    add(&rt, rt.alloc(), &mut table, 1);
+    add(&rt, rt.alloc(), &mut table, 2);
+    same(&rt, 1, &table.group(&second), &Some(1));
+    same(&rt, 2, &table.group(&Fixed([7; 32])), &None);
+    must(&rt, 3, table.groups() == 2);
+    same(&rt, 4, &table.id(1), &second);
+    same(&rt, 5, &table.def(0).major(), &1);
+    let_go(table);
 }
 
 #[test]
-fn sets_levels(rt: HostRuntime) -> Result<(), Fail> {
-    let mut table = Levels::new(rt.alloc())?;
+fn sets_levels(rt: HostRuntime) {
+    let mut table = table_of(&rt, rt.alloc());
     let group = Fixed([7; 32]);
-    assert_eq!(rt; table.level(3, &group), Level::Invisible);
+    same(&rt, 0, &table.level(3, &group), &Level::Invisible);
     for level in [Level::Visible, Level::Shared, Level::Invisible] {
-        set(&mut table, 3, group, level)?;
-        assert_eq!(rt; table.level(3, &group), level);
-        assert_eq!(rt; table.level(2, &group), Level::Invisible);
+        set(&rt, &mut table, 3, group, level);
+        same(&rt, 1, &table.level(3, &group), &level);
+        same(&rt, 2, &table.level(2, &group), &Level::Invisible);
     }
-    Ok(())
+    let_go(table);
 }

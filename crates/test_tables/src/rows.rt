@@ -1,8 +1,8 @@
+use crate::checks::{made, must, same};
 use retry_table::Retry;
-use std::alloc::{AllocError, Global};
+use std::alloc::Global;
 use std::hash::RandomState;
 use std::process::Abort;
-use std::test::Fail;
 use sync_ids::{Fixed, MessageId};
 use sync_rules::Mode;
 
@@ -28,7 +28,7 @@ struct PlainPeer {
 const NUMBERS: usize = 12;
 
 impl PlainPeer {
-    fn new(alloc: Global, contact: u8) -> Result<PlainPeer, AllocError> {
+    fn new(rt: &impl Abort, alloc: Global, contact: u8) -> PlainPeer {
         let none = Plain {
             seen: false,
             owed: false,
@@ -37,19 +37,46 @@ impl PlainPeer {
             tries: 0,
             expiry: 0,
         };
-        let rows = vec![in alloc; none; NUMBERS]?;
-        Ok(PlainPeer {
+        PlainPeer {
             contact,
-            rows,
+            rows: made(rt, vec![in alloc; none; NUMBERS]),
             wanted: Vec::new(alloc),
-        })
+        }
     }
+}
+
+/// A change of a row; a try has its time and the latency.
+#[derive(Clone, Copy)]
+enum RowChange {
+    Owe,
+    Pay,
+    See,
+    Ask,
+    Send(u64, u32),
+    Offer(u64, u32),
+    Ready,
+    Unready,
 }
 
 /// A step of a row of chance.
 fn next(seed: u64) -> u64 {
     seed.wrapping_mul(6364136223846793005)
         .wrapping_add(1442695040888963407)
+}
+
+/// A change by chance.
+fn drawn(what: u64, now: u64) -> RowChange {
+    let latency = ((now >> 3) % 4000) as u32;
+    match what % 10 {
+        0 => RowChange::Owe,
+        1 => RowChange::Pay,
+        2 => RowChange::See,
+        3 | 4 => RowChange::Ask,
+        5 => RowChange::Send(now, latency),
+        6 => RowChange::Offer(now, latency),
+        7 => RowChange::Unready,
+        _ => RowChange::Ready,
+    }
 }
 
 /// The least of 2^64 - 1 and the time of the next try.
@@ -66,113 +93,96 @@ fn try_again(row: &mut Plain, now: u64, latency: u32) {
     row.expiry = expiry_by_doubling(now, latency, row.tries);
 }
 
-/// One change of a row, in both tables.
-fn change(
-    retry: &mut Retry,
-    row: &mut Plain,
-    contact: u8,
-    n: u32,
-    what: u64,
-    now: u64,
-) -> Result<(), AllocError> {
-    retry.reserve(contact, n.saturating_add(1), 0)?;
-    if n == u32::MAX {
-        return Ok(());
-    }
-    let latency = ((now >> 3) % 4000) as u32;
-    match what % 10 {
-        0 => {
-            retry.owe(contact, n);
-            row.owed = true;
-        }
-        1 => {
-            retry.paid(contact, n);
-            row.owed = false;
-        }
-        2 => {
-            retry.saw(contact, n);
-            row.seen = true;
-        }
-        3 | 4 => {
-            retry.ask(contact, n);
+/// Changes a row of the plain table.
+fn change_plain(row: &mut Plain, change: RowChange) {
+    match change {
+        RowChange::Owe => row.owed = true,
+        RowChange::Pay => row.owed = false,
+        RowChange::See => row.seen = true,
+        RowChange::Ask => {
             row.asked = true;
             row.tries = 0;
             row.expiry = 0;
         }
-        5 => {
-            retry.sent(contact, n, now, latency);
+        RowChange::Send(now, latency) => {
             row.asked = false;
             try_again(row, now, latency);
         }
-        6 => {
-            retry.offered(contact, n, now, latency);
-            try_again(row, now, latency);
-        }
-        7 => {
-            retry.unready(contact, n);
-            row.ready = false;
-        }
-        _ => {
-            retry.ready(contact, n);
-            row.ready = true;
-        }
+        RowChange::Offer(now, latency) => try_again(row, now, latency),
+        RowChange::Ready => row.ready = true,
+        RowChange::Unready => row.ready = false,
     }
-    Ok(())
 }
 
-/// One change of the wanted ids, in both tables.
-fn change_wants(
+/// Changes a row of the table.
+fn change(rt: &impl Abort, retry: &mut Retry, contact: u8, n: u32, change: RowChange) {
+    must(rt, u64::from(n), n < 12);
+    made(rt, retry.reserve(contact, n + 1, 0));
+    match change {
+        RowChange::Owe => retry.owe(contact, n),
+        RowChange::Pay => retry.paid(contact, n),
+        RowChange::See => retry.saw(contact, n),
+        RowChange::Ask => retry.ask(contact, n),
+        RowChange::Send(now, latency) => retry.sent(contact, n, now, latency),
+        RowChange::Offer(now, latency) => retry.offered(contact, n, now, latency),
+        RowChange::Ready => retry.ready(contact, n),
+        RowChange::Unready => retry.unready(contact, n),
+    }
+}
+
+/// Wants one more id, in both tables, or as before if it is wanted.
+fn want(
+    rt: &impl Abort,
     retry: &mut Retry,
     wanted: &mut Vec<MessageId>,
     contact: u8,
     id: MessageId,
-    add: bool,
-) -> Result<(), AllocError> {
-    if add {
-        retry.reserve(contact, 0, 1)?;
-        if !retry.is_wanted(contact, &id) && retry.wanted_count(contact) < u32::MAX {
-            retry.want(contact, id);
-        }
-        if !wanted.contains(&id) {
-            wanted.push(id)?;
-        }
-    } else {
-        retry.unwant(contact, &id);
-        wanted.retain(|other| *other != id);
+) {
+    made(rt, retry.reserve(contact, 0, 1));
+    if !retry.is_wanted(contact, &id) {
+        must(rt, 5, retry.wanted_count(contact) < 5);
+        retry.want(contact, id);
     }
-    Ok(())
+    if !wanted.contains(&id) {
+        made(rt, wanted.push(id));
+    }
 }
 
 /// One change by chance, in both tables; answers its time.
-fn play(retry: &mut Retry, peer: &mut PlainPeer, seed: u64) -> Result<u64, AllocError> {
+fn play(rt: &impl Abort, retry: &mut Retry, peer: &mut PlainPeer, seed: u64) -> u64 {
     let now = if seed % 13 == 0 {
         u64::MAX - 5
     } else {
         (seed >> 20) % 20_000
     };
-    let n = (seed >> 40) as usize % NUMBERS;
     let contact = peer.contact;
-    if n < peer.rows.len() {
-        let row = &mut peer.rows[n];
-        change(retry, row, contact, n as u32, seed >> 33, now)?;
-    }
+    let drawn = drawn(seed >> 33, now);
+    let n = (seed >> 40) as usize % NUMBERS;
+    change(rt, retry, contact, n as u32, drawn);
+    must(rt, seed, n < peer.rows.len());
+    change_plain(&mut peer.rows[n], drawn);
     let id = Fixed([((seed >> 50) % 5) as u8; 32]);
-    change_wants(retry, &mut peer.wanted, contact, id, seed >> 45 & 3 != 0)?;
-    Ok(now)
+    if seed >> 45 & 3 != 0 {
+        want(rt, retry, &mut peer.wanted, contact, id);
+    } else {
+        retry.unwant(contact, &id);
+        peer.wanted.retain(|other| *other != id);
+    }
+    now
 }
 
 /// The numbers whose acknowledgement is owed, or that are to be offered, by a walk.
-fn listed(alloc: Global, rows: &[Plain], owed: bool, now: u64) -> Result<Vec<u32>, AllocError> {
+fn listed(rt: &impl Abort, alloc: Global, rows: &[Plain], owed: bool, now: u64) -> Vec<u32> {
     let mut numbers = Vec::new(alloc);
     let mut n = 0u32;
     for row in rows {
         let is_offered = row.ready && !row.seen && !row.asked && row.expiry <= now;
         if (owed && row.owed) || (!owed && is_offered) {
-            numbers.push(n)?;
+            made(rt, numbers.push(n));
         }
         n = n.wrapping_add(1);
     }
-    Ok(numbers)
+    numbers
 }
 
 /// The message to be sent, by a walk.
@@ -192,109 +202,121 @@ fn message(rows: &[Plain], mode: Mode, now: u64) -> Option<u32> {
 }
 
 /// Compares what both tables answer at a time.
-fn compare(
-    rt: &impl Abort,
-    alloc: Global,
-    retry: &Retry,
-    peer: &PlainPeer,
-    now: u64,
-) -> Result<(), AllocError> {
+fn compare(rt: &impl Abort, alloc: Global, retry: &Retry, peer: &PlainPeer, now: u64) {
     let contact = peer.contact;
     for mode in [Mode::Interactive, Mode::Batch] {
-        assert_eq!(rt;
-            retry.due_message(contact, mode, now),
-            message(&peer.rows, mode, now)
-        );
+        let due = retry.due_message(contact, mode, now);
+        same(rt, now, &due, &message(&peer.rows, mode, now));
     }
-    let offers = retry.due_offers(contact, now)?;
-    let walked = listed(alloc, &peer.rows, false, now)?;
-    assert_eq!(rt; offers.as_slice(), walked.as_slice());
-    let owed = retry.owed(contact)?;
-    let walked = listed(alloc, &peer.rows, true, now)?;
-    assert_eq!(rt; owed.as_slice(), walked.as_slice());
-    Ok(())
+    let offers = made(rt, retry.due_offers(contact, now));
+    same(rt, now, &offers, &listed(rt, alloc, &peer.rows, false, now));
+    let owed = made(rt, retry.owed(contact));
+    same(rt, now, &owed, &listed(rt, alloc, &peer.rows, true, now));
 }
 
 /// Compares what both tables keep.
-fn compare_kept(rt: &impl Abort, retry: &Retry, peer: &PlainPeer) -> Result<(), AllocError> {
+fn compare_kept(rt: &impl Abort, retry: &Retry, peer: &PlainPeer) {
     let contact = peer.contact;
     let mut n = 0u32;
     for row in &peer.rows {
-        assert_eq!(rt; retry.expiry(contact, n), row.expiry);
-        assert_eq!(rt; retry.is_seen(contact, n), row.seen);
+        same(rt, u64::from(n), &retry.expiry(contact, n), &row.expiry);
+        same(rt, u64::from(n), &retry.is_seen(contact, n), &row.seen);
         n = n.wrapping_add(1);
     }
-    assert_eq!(rt; retry.expiry(contact, n), 0);
-    assert!(rt; !retry.is_seen(contact, n));
-    let wanted = retry.wanted(contact)?;
-    assert_eq!(rt; wanted.as_slice(), peer.wanted.as_slice());
-    assert_eq!(rt; retry.wanted_count(contact) as usize, peer.wanted.len());
-    Ok(())
+    same(rt, 100, &retry.expiry(contact, n), &0);
+    same(rt, 101, &retry.is_seen(contact, n), &false);
+    same(rt, 102, &made(rt, retry.wanted(contact)), &peer.wanted);
+    let count = retry.wanted_count(contact) as usize;
+    same(rt, 103, &count, &peer.wanted.len());
 }
 
-#[test]
-fn answers_what_a_plain_table_answers(rt: HostRuntime) -> Result<(), Fail> {
-    let alloc = rt.alloc();
-    let mut retry = Retry::new(alloc, RandomState::new(&rt)?)?;
-    let mut peers = [
-        PlainPeer::new(alloc, 0)?,
-        PlainPeer::new(alloc, 7)?,
-        PlainPeer::new(alloc, 255)?,
-    ];
+fn table_of(rt: &impl Abort, alloc: Global, hasher: RandomState) -> Retry {
+    made(rt, Retry::new(alloc, hasher))
+}
+
+/// The end of a table, which is proved anew at each place where one goes.
+fn let_go(_retry: Retry) {}
+
+/// Plays with three contacts, and compares both tables behind each change.
+fn play_all(rt: &impl Abort, alloc: Global, retry: &mut Retry) {
+    let mut peers = Vec::new(alloc);
+    for contact in [0, 7, 255] {
+        made(rt, peers.push(PlainPeer::new(rt, alloc, contact)));
+    }
     let mut seed = 11;
     for _ in 0..400 {
         for peer in peers.iter_mut() {
             seed = next(seed);
-            let now = play(&mut retry, peer, seed)?;
-            compare_kept(&rt, &retry, peer)?;
+            let now = play(rt, retry, peer, seed);
+            compare_kept(rt, retry, peer);
             for at in [0, now, u64::MAX - 1, u64::MAX] {
-                compare(&rt, alloc, &retry, peer, at)?;
+                compare(rt, alloc, retry, peer, at);
             }
         }
     }
-    Ok(())
-}
-
-/// Offers message 0 to a contact, and answers its expiry.
-fn offer(retry: &mut Retry, contact: u8, now: u64, latency: u32) -> Result<u64, AllocError> {
-    retry.reserve(contact, 1, 0)?;
-    retry.offered(contact, 0, now, latency);
-    Ok(retry.expiry(contact, 0))
 }
 
 #[test]
-fn the_wait_doubles_until_a_request(rt: HostRuntime) -> Result<(), Fail> {
-    let mut retry = Retry::new(rt.alloc(), RandomState::new(&rt)?)?;
+fn answers_what_a_plain_table_answers(rt: HostRuntime) {
+    let hasher = made(&rt, RandomState::new(&rt));
+    let mut retry = table_of(&rt, rt.alloc(), hasher);
+    play_all(&rt, rt.alloc(), &mut retry);
+    let_go(retry);
+}
+
+/// Changes message 0 of a contact, and answers its expiry.
+fn changed(rt: &impl Abort, retry: &mut Retry, contact: u8, what: RowChange) -> u64 {
+    change(rt, retry, contact, 0, what);
+    retry.expiry(contact, 0)
+}
+
+#[test]
+fn the_wait_doubles_until_a_request(rt: HostRuntime) {
+    let hasher = made(&rt, RandomState::new(&rt));
+    let mut retry = table_of(&rt, rt.alloc(), hasher);
     for (now, expiry) in [(1_000, 61_000), (61_000, 181_000), (181_000, 421_000)] {
-        assert_eq!(rt; offer(&mut retry, 3, now, 30_000)?, expiry);
+        let offer = RowChange::Offer(now, 30_000);
+        same(&rt, now, &changed(&rt, &mut retry, 3, offer), &expiry);
     }
-    retry.reserve(3, 1, 0)?;
-    retry.ready(3, 0);
-    assert_eq!(rt; retry.due_message(3, Mode::Batch, 420_999), None);
-    retry.reserve(3, 1, 0)?;
-    retry.ask(3, 0);
-    assert_eq!(rt; retry.due_message(3, Mode::Interactive, 200_000), Some(0));
-    assert_eq!(rt; retry.due_message(3, Mode::Batch, 0), Some(0));
-    retry.reserve(3, 1, 0)?;
-    retry.sent(3, 0, 200_000, 30_000);
-    assert_eq!(rt; retry.expiry(3, 0), 260_000);
-    assert_eq!(rt; retry.due_message(3, Mode::Interactive, u64::MAX), None);
-    Ok(())
+    change(&rt, &mut retry, 3, 0, RowChange::Ready);
+    same(&rt, 1, &retry.due_message(3, Mode::Batch, 420_999), &None);
+    change(&rt, &mut retry, 3, 0, RowChange::Ask);
+    same(
+        &rt,
+        2,
+        &retry.due_message(3, Mode::Interactive, 200_000),
+        &Some(0),
+    );
+    same(&rt, 3, &retry.due_message(3, Mode::Batch, 0), &Some(0));
+    let send = RowChange::Send(200_000, 30_000);
+    same(&rt, 4, &changed(&rt, &mut retry, 3, send), &260_000);
+    same(
+        &rt,
+        5,
+        &retry.due_message(3, Mode::Interactive, u64::MAX),
+        &None,
+    );
+    let_go(retry);
+}
+
+/// Compares whether a message of a contact is due in batch mode at a time, and how many are to be
+/// offered then.
+fn due(rt: &impl Abort, retry: &Retry, now: u64, message: Option<u32>, offers: usize) {
+    same(rt, now, &retry.due_message(4, Mode::Batch, now), &message);
+    same(rt, now, &made(rt, retry.due_offers(4, now)).len(), &offers);
 }
 
 #[test]
-fn the_greatest_expiry_is_a_time(rt: HostRuntime) -> Result<(), Fail> {
-    let mut retry = Retry::new(rt.alloc(), RandomState::new(&rt)?)?;
-    retry.reserve(4, 1, 0)?;
-    retry.ready(4, 0);
+fn the_greatest_expiry_is_a_time(rt: HostRuntime) {
+    let hasher = made(&rt, RandomState::new(&rt));
+    let mut retry = table_of(&rt, rt.alloc(), hasher);
+    change(&rt, &mut retry, 4, 0, RowChange::Ready);
     let mut expiry = 0;
     for _ in 0..40 {
-        expiry = offer(&mut retry, 4, 1, u32::MAX)?;
+        expiry = changed(&rt, &mut retry, 4, RowChange::Offer(1, u32::MAX));
     }
-    assert_eq!(rt; expiry, u64::MAX);
-    assert_eq!(rt; retry.due_message(4, Mode::Batch, u64::MAX - 1), None);
-    assert_eq!(rt; retry.due_message(4, Mode::Batch, u64::MAX), Some(0));
-    assert_eq!(rt; retry.due_offers(4, u64::MAX - 1)?.len(), 0);
-    assert_eq!(rt; retry.due_offers(4, u64::MAX)?.len(), 1);
-    Ok(())
+    same(&rt, 1, &expiry, &u64::MAX);
+    due(&rt, &retry, u64::MAX - 1, None, 0);
+    due(&rt, &retry, u64::MAX, Some(0), 1);
+    let_go(retry);
 }
