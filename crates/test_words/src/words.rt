@@ -1,10 +1,12 @@
 //! The words of each command, and each text. What is wanted was written from the description of the
 //! formats.
+use crate::checks::{made, same};
 use std::alloc::Global;
 use std::process::Abort;
-use std::test::Fail;
-use sync_ids::{Fixed, GroupDef, GroupId, IdList, Message, MessageId, Nonce, Record, VersionList};
-use sync_rules::{Fate, Level, Origin, Refused};
+use sync_ids::{
+    Fixed, GroupDef, GroupId, IdList, MAX_IDS, Message, MessageId, Nonce, Record, VersionList,
+};
+use sync_rules::{Fate, Level, Mode, Origin, Refused};
 use sync_words::{
     Command, LinkText, LinkWords, ReasonText, Status, WordsFault, bad_record_line, contact_line,
     contacts_line, damaged_line, device_line, group_line, inbox_line, inside_line,
@@ -19,344 +21,450 @@ const UPPER: &str = "76FF4980D3B5F63962CEE45401B6B1BB92EFE989C27DE4629AAC92B1816
 
 const ID: &str = "3443418c0382800e42ae01fb9d676b7b25405d2875809cf8d6808f04741c96a4";
 
-// What was read of some words: the command with its parts, or the place.
-fn shown(alloc: Global, words: &[&str]) -> Result<String, Fail> {
-    let mut texts = Vec::new(alloc);
-    for word in words {
-        texts.push(String::from_str(alloc, word)?)?;
-    }
-    read(alloc, texts.as_slice())
-}
-
-fn read(alloc: Global, texts: &[String]) -> Result<String, Fail> {
-    match read_words(alloc, texts) {
-        Ok(command) => show(alloc, &command),
-        Err(WordsFault::Usage(place)) => Ok(format!(in alloc; "usage {place}")?),
-        Err(WordsFault::Memory) => Err(Fail::from("no memory")),
+// Adds the parts to a text.
+fn add(rt: &impl Abort, to: &mut String, parts: &[&str]) {
+    for part in parts {
+        made(rt, to.push_str(part));
     }
 }
 
-fn show(alloc: Global, command: &Command) -> Result<String, Fail> {
-    Ok(match command {
+fn decimal(rt: &impl Abort, alloc: Global, n: u64) -> String {
+    made(rt, format!(in alloc; "{n}"))
+}
+
+fn hex(rt: &impl Abort, alloc: Global, id: &MessageId) -> String {
+    made(rt, id.to_hex(alloc))
+}
+
+fn level_word(level: Level) -> &'static str {
+    match level {
+        Level::Invisible => "Invisible",
+        Level::Visible => "Visible",
+        Level::Shared => "Shared",
+    }
+}
+
+fn mode_word(mode: Mode) -> &'static str {
+    match mode {
+        Mode::Interactive => "Interactive",
+        Mode::Batch => "Batch",
+    }
+}
+
+// The parts of a link.
+fn show_link(rt: &impl Abort, alloc: Global, link: &LinkWords, to: &mut String) {
+    let contact = decimal(rt, alloc, u64::from(link.contact));
+    let latency = decimal(rt, alloc, u64::from(link.latency));
+    add(
+        rt,
+        to,
+        &[" ", contact.as_str(), "+", mode_word(link.mode), "+"],
+    );
+    add(rt, to, &[latency.as_str(), "+", link.spec.as_str()]);
+    if link.has_nonce() {
+        add(rt, to, &["+nonce"]);
+    }
+}
+
+fn show_sync(rt: &impl Abort, alloc: Global, turns: u32, quiet: u32, to: &mut String) {
+    let turns = decimal(rt, alloc, u64::from(turns));
+    let quiet = decimal(rt, alloc, u64::from(quiet));
+    add(rt, to, &["sync ", turns.as_str(), "+", quiet.as_str()]);
+}
+
+fn show_share(
+    rt: &impl Abort,
+    alloc: Global,
+    contact: u8,
+    group: &GroupId,
+    level: Level,
+    to: &mut String,
+) {
+    let contact = decimal(rt, alloc, u64::from(contact));
+    let group = hex(rt, alloc, group);
+    let parts = [
+        "share ",
+        contact.as_str(),
+        "+",
+        group.as_str(),
+        "+",
+        level_word(level),
+    ];
+    add(rt, to, &parts);
+}
+
+fn show_post(rt: &impl Abort, alloc: Global, group: &GroupId, timestamp: u64, to: &mut String) {
+    let group = hex(rt, alloc, group);
+    let timestamp = decimal(rt, alloc, timestamp);
+    add(rt, to, &["post ", group.as_str(), "+", timestamp.as_str()]);
+}
+
+// The command with its parts.
+fn show(rt: &impl Abort, alloc: Global, command: &Command, to: &mut String) {
+    match command {
         Command::Try(name, descriptor) => {
-            let (name, descriptor) = (name.as_str(), descriptor.as_str());
-            format!(in alloc; "try {name}+{descriptor}")?
+            add(rt, to, &["try ", name.as_str(), "+", descriptor.as_str()]);
         }
-        Command::Records => String::from_str(alloc, "records")?,
-        Command::Init => String::from_str(alloc, "init")?,
-        Command::Contact => String::from_str(alloc, "contact")?,
+        Command::Records => add(rt, to, &["records"]),
+        Command::Init => add(rt, to, &["init"]),
+        Command::Contact => add(rt, to, &["contact"]),
         Command::Group(name, major, descriptor) => {
             let (name, descriptor) = (name.as_str(), descriptor.as_str());
-            format!(in alloc; "group {name}+{major}+{descriptor}")?
+            let major = decimal(rt, alloc, u64::from(*major));
+            add(
+                rt,
+                to,
+                &["group ", name, "+", major.as_str(), "+", descriptor],
+            );
         }
         Command::Share(contact, group, level) => {
-            let group = group.to_hex(alloc)?;
-            format!(in alloc; "share {contact}+{group}+{level:?}")?
+            show_share(rt, alloc, *contact, group, *level, to);
         }
-        Command::Post(group, timestamp) => {
-            let group = group.to_hex(alloc)?;
-            format!(in alloc; "post {group}+{timestamp}")?
-        }
-        Command::Show => String::from_str(alloc, "show")?,
-        Command::Inbox => String::from_str(alloc, "inbox")?,
-        Command::Body(id) => {
-            let id = id.to_hex(alloc)?;
-            format!(in alloc; "body {id}")?
-        }
+        Command::Post(group, timestamp) => show_post(rt, alloc, group, *timestamp, to),
+        Command::Show => add(rt, to, &["show"]),
+        Command::Inbox => add(rt, to, &["inbox"]),
+        Command::Body(id) => add(rt, to, &["body ", hex(rt, alloc, id).as_str()]),
         Command::Sync(turns, quiet, links) => {
-            let links = show_links(alloc, links.as_slice())?;
-            format!(in alloc; "sync {turns}+{quiet}{links}")?
-        }
-    })
-}
-
-fn show_links(alloc: Global, links: &[LinkWords]) -> Result<String, Fail> {
-    let mut all = String::new(alloc);
-    for link in links {
-        let (contact, mode, latency) = (link.contact, link.mode, link.latency);
-        write!(all, " {contact}+{mode:?}+{latency}+")?;
-        all.push_str(link.spec.as_str())?;
-        if link.has_nonce() {
-            all.push_str("+nonce")?;
+            show_sync(rt, alloc, *turns, *quiet, to);
+            for link in links.as_slice() {
+                show_link(rt, alloc, link, to);
+            }
         }
     }
-    Ok(all)
 }
 
-#[test]
-fn words_of_commands(rt: HostRuntime) -> Result<(), Fail> {
-    let alloc = rt.alloc();
-    let shared =
-        "share 255+76ff4980d3b5f63962cee45401b6b1bb92efe989c27de4629aac92b18163e6e0+Shared";
-    let hidden =
-        "share 0+76ff4980d3b5f63962cee45401b6b1bb92efe989c27de4629aac92b18163e6e0+Invisible";
-    let seen = "share 1+76ff4980d3b5f63962cee45401b6b1bb92efe989c27de4629aac92b18163e6e0+Visible";
-    let first = "post 76ff4980d3b5f63962cee45401b6b1bb92efe989c27de4629aac92b18163e6e0+0";
-    let last =
-        "post 76ff4980d3b5f63962cee45401b6b1bb92efe989c27de4629aac92b18163e6e0+9223372036854775807";
-    let body = "body 3443418c0382800e42ae01fb9d676b7b25405d2875809cf8d6808f04741c96a4";
-    let cases: [(&[&str], &str); 60] = [
-        (&[], "usage 0"),
-        (&[""], "usage 0"),
-        (&["Try", "note", "d"], "usage 0"),
-        (&["Sync"], "usage 0"),
-        (&["-h"], "usage 0"),
-        (&["try", "note", "d"], "try note+d"),
-        (&["try", "-", ""], "try -+"),
-        (&["try"], "usage 1"),
-        (&["try", ""], "usage 1"),
-        (&["try", "note", "d", ""], "usage 3"),
-        (&["records"], "records"),
-        (&["records", ""], "usage 1"),
-        (&["init"], "init"),
-        (&["init", "x"], "usage 1"),
-        (&["contact"], "contact"),
-        (&["contact", "5"], "usage 1"),
-        (&["group", "note", "0", "d"], "group note+0+d"),
-        (&["group", "n", "4294967295", ""], "group n+4294967295+"),
-        (&["group"], "usage 1"),
-        (&["group", "", "0", "d"], "usage 1"),
-        (&["group", "note"], "usage 2"),
-        (&["group", "note", "4294967296", "d"], "usage 2"),
-        (&["group", "note", "00", "d"], "usage 2"),
-        (&["group", "note", "", "d"], "usage 2"),
-        (&["group", "note", "+1", "d"], "usage 2"),
-        (&["group", "note", "-1", "d"], "usage 2"),
-        (&["group", "note", "1x", "d"], "usage 2"),
-        (&["group", "note", "0"], "usage 3"),
-        (&["group", "note", "0", "d", "d"], "usage 4"),
-        (&["share", "255", GROUP, "shared"], shared),
-        (&["share", "0", UPPER, "invisible"], hidden),
-        (&["share", "1", GROUP, "visible"], seen),
-        (&["share"], "usage 1"),
-        (&["share", "256", GROUP, "shared"], "usage 1"),
-        (&["share", "01", GROUP, "shared"], "usage 1"),
-        (&["share", "0"], "usage 2"),
-        (&["share", "0", "76ff", "shared"], "usage 2"),
-        (&["share", "0", GROUP], "usage 3"),
-        (&["share", "0", GROUP, "Shared"], "usage 3"),
-        (&["share", "0", GROUP, ""], "usage 3"),
-        (&["share", "0", GROUP, "shared", "x"], "usage 4"),
-        (&["post", GROUP, "0"], first),
-        (&["post", UPPER, "9223372036854775807"], last),
-        (&["post"], "usage 1"),
-        (&["post", "x", "0"], "usage 1"),
-        (&["post", GROUP], "usage 2"),
-        (&["post", GROUP, "007"], "usage 2"),
-        (&["post", GROUP, "9223372036854775808"], "usage 2"),
-        (&["post", GROUP, "99999999999999999999999999999"], "usage 2"),
-        (&["post", GROUP, "0", "x"], "usage 3"),
-        (&["show"], "show"),
-        (&["show", "x"], "usage 1"),
-        (&["inbox"], "inbox"),
-        (&["inbox", "x"], "usage 1"),
-        (&["body", ID], body),
-        (&["body"], "usage 1"),
-        (&["body", ""], "usage 1"),
-        (&["body", "x"], "usage 1"),
-        (&["body", ID, "x"], "usage 2"),
-        (&["body", ID, ID], "usage 2"),
-    ];
-    for (words, want) in cases {
-        expect(&rt, alloc, words, want)?;
+// What was read of some words: the command with its parts, or the place.
+fn read(rt: &impl Abort, alloc: Global, words: &[String]) -> String {
+    let mut shown = String::new(alloc);
+    match read_words(alloc, words) {
+        Ok(command) => show(rt, alloc, &command, &mut shown),
+        Err(WordsFault::Usage(place)) => {
+            let place = decimal(rt, alloc, place as u64);
+            add(rt, &mut shown, &["usage ", place.as_str()]);
+        }
+        Err(WordsFault::Memory) => add(rt, &mut shown, &["no memory"]),
     }
-    Ok(())
+    shown
 }
 
-#[test]
-fn words_of_links(rt: HostRuntime) -> Result<(), Fail> {
-    let cases = [
-        ("sync", "usage 1"),
-        ("sync ", "usage 1"),
-        ("sync 0 1 0 batch 1 std", "usage 1"),
-        ("sync 1000001 1 0 batch 1 std", "usage 1"),
-        ("sync 01 1 0 batch 1 std", "usage 1"),
-        ("sync 1", "usage 2"),
-        ("sync 1 0 0 batch 1 std", "usage 2"),
-        ("sync 1 1000001 0 batch 1 std", "usage 2"),
-        ("sync 1 -1 0 batch 1 std", "usage 2"),
-        ("sync 1 1", "usage 3"),
-        ("sync 1 1 256 batch 1 std", "usage 3"),
-        ("sync 1 1 std", "usage 3"),
-        ("sync 1 1 0", "usage 4"),
-        ("sync 1 1 0 Batch 1 std", "usage 4"),
-        ("sync 1 1 0 batch", "usage 5"),
-        ("sync 1 1 0 batch 0 std", "usage 5"),
-        ("sync 1 1 0 batch 4294967296 std", "usage 5"),
-        ("sync 1 1 0 batch 1", "usage 6"),
-        ("sync 1 1 0 batch 1 ", "usage 6"),
-        ("sync 1 1 0 batch 1 stdin", "usage 6"),
-        ("sync 1 1 0 batch 1 std:x", "usage 6"),
-        ("sync 1 1 0 batch 1 tcp", "usage 6"),
-        ("sync 1 1 0 batch 1 tcp:", "usage 6"),
-        ("sync 1 1 0 batch 1 listen:", "usage 6"),
-        ("sync 1 1 0 batch 1 unix:", "usage 6"),
-        ("sync 1 1 0 batch 1 unixlisten:", "usage 6"),
-        ("sync 1 1 0 batch 1 TCP:x", "usage 6"),
-        ("sync 1 1 0 batch 1 xtcp:x", "usage 6"),
-        ("sync 1 1 0 batch 1 std x", "usage 7"),
-        ("sync 1 1 0 batch 1 std ", "usage 7"),
-        ("sync 1 1 0 batch 1 std 0", "usage 8"),
-        ("sync 1 1 0 batch 1 std 0 batch 0 std", "usage 9"),
-        ("sync 1 1 0 batch 1 std 0 batch 1", "usage 10"),
-        ("sync 1 1 0 batch 1 std 0 batch 1 std", "usage 10"),
-        (
-            "sync 1 1 0 batch 1 std 0 batch 1 tcp:x 0 batch 1 std 0",
-            "usage 14",
-        ),
-        (
-            "sync 1 1 0 batch 1 unix:x 0 batch 1 std 0 batch 1 std",
-            "usage 14",
-        ),
-        ("sync 10 1 0 batch 1000 std", "sync 10+1 0+Batch+1000+std"),
-        (
-            "sync 10 3 0 interactive 1000 tcp:x",
-            "sync 10+3 0+Interactive+1000+tcp:x+nonce",
-        ),
-        (
-            "sync 1000000 1 255 interactive 4294967295 unix:a",
-            "sync 1000000+1 255+Interactive+4294967295+unix:a+nonce",
-        ),
-        (
-            "sync 1 1000000 0 interactive 1 listen:a:1",
-            "sync 1+1000000 0+Interactive+1+listen:a:1",
-        ),
-        (
-            "sync 1 1 7 interactive 1 unixlisten:.",
-            "sync 1+1 7+Interactive+1+unixlisten:.",
-        ),
-        (
-            "sync 1 1 7 interactive 1 std 7 batch 2 tcp:-",
-            "sync 1+1 7+Interactive+1+std 7+Batch+2+tcp:-",
-        ),
-        (
-            "sync 1 1 7 batch 2 unix:b 7 batch 1 std",
-            "sync 1+1 7+Batch+2+unix:b 7+Batch+1+std",
-        ),
-    ];
-    for (line, want) in cases {
-        expect_line(&rt, rt.alloc(), line, want)?;
+// Compares what is read of the words of row `at` of a table.
+fn expect(rt: &impl Abort, alloc: Global, at: usize, words: &[String], want: &str) {
+    same(rt, at as u64, &read(rt, alloc, words).as_str(), &want);
+}
+
+// The text, so many times.
+fn repeated(rt: &impl Abort, alloc: Global, text: &str, times: usize) -> String {
+    let mut word = String::new(alloc);
+    for _i in 0..times {
+        made(rt, word.push_str(text));
     }
-    Ok(())
+    word
+}
+
+const SHARED: &str =
+    "share 255+76ff4980d3b5f63962cee45401b6b1bb92efe989c27de4629aac92b18163e6e0+Shared";
+
+const HIDDEN: &str =
+    "share 0+76ff4980d3b5f63962cee45401b6b1bb92efe989c27de4629aac92b18163e6e0+Invisible";
+
+const SEEN: &str =
+    "share 1+76ff4980d3b5f63962cee45401b6b1bb92efe989c27de4629aac92b18163e6e0+Visible";
+
+const FIRST: &str = "post 76ff4980d3b5f63962cee45401b6b1bb92efe989c27de4629aac92b18163e6e0+0";
+
+const LAST: &str =
+    "post 76ff4980d3b5f63962cee45401b6b1bb92efe989c27de4629aac92b18163e6e0+9223372036854775807";
+
+const BODY: &str = "body 3443418c0382800e42ae01fb9d676b7b25405d2875809cf8d6808f04741c96a4";
+
+static COMMANDS: [(&[&str], &str); 60] = [
+    (&[], "usage 0"),
+    (&[""], "usage 0"),
+    (&["Try", "note", "d"], "usage 0"),
+    (&["Sync"], "usage 0"),
+    (&["-h"], "usage 0"),
+    (&["try", "note", "d"], "try note+d"),
+    (&["try", "-", ""], "try -+"),
+    (&["try"], "usage 1"),
+    (&["try", ""], "usage 1"),
+    (&["try", "note", "d", ""], "usage 3"),
+    (&["records"], "records"),
+    (&["records", ""], "usage 1"),
+    (&["init"], "init"),
+    (&["init", "x"], "usage 1"),
+    (&["contact"], "contact"),
+    (&["contact", "5"], "usage 1"),
+    (&["group", "note", "0", "d"], "group note+0+d"),
+    (&["group", "n", "4294967295", ""], "group n+4294967295+"),
+    (&["group"], "usage 1"),
+    (&["group", "", "0", "d"], "usage 1"),
+    (&["group", "note"], "usage 2"),
+    (&["group", "note", "4294967296", "d"], "usage 2"),
+    (&["group", "note", "00", "d"], "usage 2"),
+    (&["group", "note", "", "d"], "usage 2"),
+    (&["group", "note", "+1", "d"], "usage 2"),
+    (&["group", "note", "-1", "d"], "usage 2"),
+    (&["group", "note", "1x", "d"], "usage 2"),
+    (&["group", "note", "0"], "usage 3"),
+    (&["group", "note", "0", "d", "d"], "usage 4"),
+    (&["share", "255", GROUP, "shared"], SHARED),
+    (&["share", "0", UPPER, "invisible"], HIDDEN),
+    (&["share", "1", GROUP, "visible"], SEEN),
+    (&["share"], "usage 1"),
+    (&["share", "256", GROUP, "shared"], "usage 1"),
+    (&["share", "01", GROUP, "shared"], "usage 1"),
+    (&["share", "0"], "usage 2"),
+    (&["share", "0", "76ff", "shared"], "usage 2"),
+    (&["share", "0", GROUP], "usage 3"),
+    (&["share", "0", GROUP, "Shared"], "usage 3"),
+    (&["share", "0", GROUP, ""], "usage 3"),
+    (&["share", "0", GROUP, "shared", "x"], "usage 4"),
+    (&["post", GROUP, "0"], FIRST),
+    (&["post", UPPER, "9223372036854775807"], LAST),
+    (&["post"], "usage 1"),
+    (&["post", "x", "0"], "usage 1"),
+    (&["post", GROUP], "usage 2"),
+    (&["post", GROUP, "007"], "usage 2"),
+    (&["post", GROUP, "9223372036854775808"], "usage 2"),
+    (&["post", GROUP, "99999999999999999999999999999"], "usage 2"),
+    (&["post", GROUP, "0", "x"], "usage 3"),
+    (&["show"], "show"),
+    (&["show", "x"], "usage 1"),
+    (&["inbox"], "inbox"),
+    (&["inbox", "x"], "usage 1"),
+    (&["body", ID], BODY),
+    (&["body"], "usage 1"),
+    (&["body", ""], "usage 1"),
+    (&["body", "x"], "usage 1"),
+    (&["body", ID, "x"], "usage 2"),
+    (&["body", ID, ID], "usage 2"),
+];
+
+#[test]
+fn words_of_commands(rt: HostRuntime) {
+    for (at, (words, want)) in COMMANDS.iter().enumerate() {
+        expect_words(&rt, rt.alloc(), at, words, want);
+    }
+}
+
+fn expect_words(rt: &impl Abort, alloc: Global, at: usize, words: &[&str], want: &str) {
+    let mut texts = Vec::new(alloc);
+    for word in words {
+        made(rt, texts.push(repeated(rt, alloc, word, 1)));
+    }
+    expect(rt, alloc, at, texts.as_slice(), want);
+}
+
+static LINKS: [(&str, &str); 43] = [
+    ("sync", "usage 1"),
+    ("sync ", "usage 1"),
+    ("sync 0 1 0 batch 1 std", "usage 1"),
+    ("sync 1000001 1 0 batch 1 std", "usage 1"),
+    ("sync 01 1 0 batch 1 std", "usage 1"),
+    ("sync 1", "usage 2"),
+    ("sync 1 0 0 batch 1 std", "usage 2"),
+    ("sync 1 1000001 0 batch 1 std", "usage 2"),
+    ("sync 1 -1 0 batch 1 std", "usage 2"),
+    ("sync 1 1", "usage 3"),
+    ("sync 1 1 256 batch 1 std", "usage 3"),
+    ("sync 1 1 std", "usage 3"),
+    ("sync 1 1 0", "usage 4"),
+    ("sync 1 1 0 Batch 1 std", "usage 4"),
+    ("sync 1 1 0 batch", "usage 5"),
+    ("sync 1 1 0 batch 0 std", "usage 5"),
+    ("sync 1 1 0 batch 4294967296 std", "usage 5"),
+    ("sync 1 1 0 batch 1", "usage 6"),
+    ("sync 1 1 0 batch 1 ", "usage 6"),
+    ("sync 1 1 0 batch 1 stdin", "usage 6"),
+    ("sync 1 1 0 batch 1 std:x", "usage 6"),
+    ("sync 1 1 0 batch 1 tcp", "usage 6"),
+    ("sync 1 1 0 batch 1 tcp:", "usage 6"),
+    ("sync 1 1 0 batch 1 listen:", "usage 6"),
+    ("sync 1 1 0 batch 1 unix:", "usage 6"),
+    ("sync 1 1 0 batch 1 unixlisten:", "usage 6"),
+    ("sync 1 1 0 batch 1 TCP:x", "usage 6"),
+    ("sync 1 1 0 batch 1 xtcp:x", "usage 6"),
+    ("sync 1 1 0 batch 1 std x", "usage 7"),
+    ("sync 1 1 0 batch 1 std ", "usage 7"),
+    ("sync 1 1 0 batch 1 std 0", "usage 8"),
+    ("sync 1 1 0 batch 1 std 0 batch 0 std", "usage 9"),
+    ("sync 1 1 0 batch 1 std 0 batch 1", "usage 10"),
+    ("sync 1 1 0 batch 1 std 0 batch 1 std", "usage 10"),
+    (
+        "sync 1 1 0 batch 1 std 0 batch 1 tcp:x 0 batch 1 std 0",
+        "usage 14",
+    ),
+    (
+        "sync 1 1 0 batch 1 unix:x 0 batch 1 std 0 batch 1 std",
+        "usage 14",
+    ),
+    ("sync 10 1 0 batch 1000 std", "sync 10+1 0+Batch+1000+std"),
+    (
+        "sync 10 3 0 interactive 1000 tcp:x",
+        "sync 10+3 0+Interactive+1000+tcp:x+nonce",
+    ),
+    (
+        "sync 1000000 1 255 interactive 4294967295 unix:a",
+        "sync 1000000+1 255+Interactive+4294967295+unix:a+nonce",
+    ),
+    (
+        "sync 1 1000000 0 interactive 1 listen:a:1",
+        "sync 1+1000000 0+Interactive+1+listen:a:1",
+    ),
+    (
+        "sync 1 1 7 interactive 1 unixlisten:.",
+        "sync 1+1 7+Interactive+1+unixlisten:.",
+    ),
+    (
+        "sync 1 1 7 interactive 1 std 7 batch 2 tcp:-",
+        "sync 1+1 7+Interactive+1+std 7+Batch+2+tcp:-",
+    ),
+    (
+        "sync 1 1 7 batch 2 unix:b 7 batch 1 std",
+        "sync 1+1 7+Batch+2+unix:b 7+Batch+1+std",
+    ),
+];
+
+#[test]
+fn words_of_links(rt: HostRuntime) {
+    for (at, (line, want)) in LINKS.iter().enumerate() {
+        expect_line(&rt, rt.alloc(), at, line, want);
+    }
 }
 
 // The same for words that stand in a line, a space between each two.
-fn expect_line(rt: &impl Abort, alloc: Global, line: &str, want: &str) -> Result<(), Fail> {
+fn expect_line(rt: &impl Abort, alloc: Global, at: usize, line: &str, want: &str) {
     let mut texts = Vec::new(alloc);
     for word in line.split(' ') {
-        texts.push(String::from_str(alloc, word)?)?;
+        made(rt, texts.push(repeated(rt, alloc, word, 1)));
     }
-    assert_eq!(rt; read(alloc, texts.as_slice())?.as_str(), want, "at {line}");
-    Ok(())
+    expect(rt, alloc, at, texts.as_slice(), want);
 }
 
-#[test]
-fn words_of_many_links(rt: HostRuntime) -> Result<(), Fail> {
-    let alloc = rt.alloc();
-    let (link, shown) = (" 0 batch 1 tcp:x", " 0+Batch+1+tcp:x");
-    for links in 1..9usize {
-        let words = format!(in alloc; "sync 1 1{}", repeated(alloc, link, links)?)?;
-        let want = format!(in alloc; "sync 1+1{}", repeated(alloc, shown, links)?)?;
-        expect_line(&rt, alloc, words.as_str(), want.as_str())?;
-    }
-    for (last, want) in [
-        (" 0 batch 1 tcp:x 0 batch 1 tcp:x", "usage 35"),
-        (" 0 batch 1 tcp:x x", "usage 35"),
-        (" 0 batch 1 tcp:x 0", "usage 35"),
-        (" 0 batch 1 ", "usage 34"),
-        (" 0 batch 1", "usage 34"),
-        (" 0 batch 0 tcp:x 0 batch 1 tcp:x", "usage 33"),
-        (" 0", "usage 32"),
-    ] {
-        let words = format!(in alloc; "sync 1 1{}{last}", repeated(alloc, link, 7)?)?;
-        expect_line(&rt, alloc, words.as_str(), want)?;
-    }
-    Ok(())
-}
-
-fn expect(rt: &impl Abort, alloc: Global, words: &[&str], want: &str) -> Result<(), Fail> {
-    assert_eq!(rt; shown(alloc, words)?.as_str(), want, "at {words:?}");
-    Ok(())
-}
-
-// A word of a text that is repeated so many times.
-fn repeated(alloc: Global, text: &str, times: usize) -> Result<String, Fail> {
-    let mut word = String::new(alloc);
-    for _i in 0..times {
-        word.push_str(text)?;
-    }
-    Ok(word)
-}
-
-// The same for words that are each a repeated text.
-fn expect_long(
+// A line with so many links.
+fn line_of(
     rt: &impl Abort,
     alloc: Global,
-    words: &[(&str, usize)],
-    want: &str,
-) -> Result<(), Fail> {
+    start: &str,
+    link: &str,
+    links: usize,
+    last: &str,
+) -> String {
+    let links = repeated(rt, alloc, link, links);
+    let mut line = String::new(alloc);
+    add(rt, &mut line, &[start, links.as_str(), last]);
+    line
+}
+
+// The greatest number of links, and words behind seven of them that are wrong.
+static ENDS: [(&str, &str); 7] = [
+    (" 0 batch 1 tcp:x 0 batch 1 tcp:x", "usage 35"),
+    (" 0 batch 1 tcp:x x", "usage 35"),
+    (" 0 batch 1 tcp:x 0", "usage 35"),
+    (" 0 batch 1 ", "usage 34"),
+    (" 0 batch 1", "usage 34"),
+    (" 0 batch 0 tcp:x 0 batch 1 tcp:x", "usage 33"),
+    (" 0", "usage 32"),
+];
+
+#[test]
+fn words_of_many_links(rt: HostRuntime) {
+    let alloc = rt.alloc();
+    for links in 1..9usize {
+        let line = line_of(&rt, alloc, "sync 1 1", " 0 batch 1 tcp:x", links, "");
+        let want = line_of(&rt, alloc, "sync 1+1", " 0+Batch+1+tcp:x", links, "");
+        expect_line(&rt, alloc, links, line.as_str(), want.as_str());
+    }
+    for (at, (last, want)) in ENDS.iter().enumerate() {
+        let line = line_of(&rt, alloc, "sync 1 1", " 0 batch 1 tcp:x", 7, last);
+        expect_line(&rt, alloc, at, line.as_str(), want);
+    }
+}
+
+static LONG: [(&[(&str, usize)], &str); 7] = [
+    (&[("try", 1), ("n", 255), ("d", 16_384), ("", 1)], "usage 3"),
+    (&[("try", 1), ("n", 255)], "usage 2"),
+    (
+        &[("try", 1), ("n", 256), ("d", 16_385), ("x", 1)],
+        "usage 1",
+    ),
+    (&[("try", 1), ("note", 1), ("d", 16_385)], "usage 2"),
+    (
+        &[("group", 1), ("n", 255), ("0", 1), ("d", 16_384), ("", 1)],
+        "usage 4",
+    ),
+    (&[("group", 1), ("n", 256), ("x", 1), ("d", 1)], "usage 1"),
+    (
+        &[("group", 1), ("note", 1), ("0", 1), ("d", 16_385)],
+        "usage 3",
+    ),
+];
+
+// The same for words that are each a repeated text.
+fn expect_long(rt: &impl Abort, alloc: Global, at: usize, words: &[(&str, usize)], want: &str) {
     let mut texts = Vec::new(alloc);
     for (text, times) in words {
-        texts.push(repeated(alloc, text, *times)?)?;
+        made(rt, texts.push(repeated(rt, alloc, text, *times)));
     }
-    assert_eq!(rt;
-        read(alloc, texts.as_slice())?.as_str(),
-        want,
-        "at {words:?}"
-    );
-    Ok(())
+    expect(rt, alloc, at, texts.as_slice(), want);
 }
 
 #[test]
-fn long_words(rt: HostRuntime) -> Result<(), Fail> {
-    let cases: [(&[(&str, usize)], &str); 7] = [
-        (&[("try", 1), ("n", 255), ("d", 16_384), ("", 1)], "usage 3"),
-        (&[("try", 1), ("n", 255)], "usage 2"),
-        (
-            &[("try", 1), ("n", 256), ("d", 16_385), ("x", 1)],
-            "usage 1",
-        ),
-        (&[("try", 1), ("note", 1), ("d", 16_385)], "usage 2"),
-        (
-            &[("group", 1), ("n", 255), ("0", 1), ("d", 16_384), ("", 1)],
-            "usage 4",
-        ),
-        (&[("group", 1), ("n", 256), ("x", 1), ("d", 1)], "usage 1"),
-        (
-            &[("group", 1), ("note", 1), ("0", 1), ("d", 16_385)],
-            "usage 3",
-        ),
-    ];
-    for (words, want) in cases {
-        expect_long(&rt, rt.alloc(), words, want)?;
+fn long_words(rt: HostRuntime) {
+    for (at, (words, want)) in LONG.iter().enumerate() {
+        expect_long(&rt, rt.alloc(), at, words, want);
     }
-    Ok(())
 }
 
-fn id(text: &str) -> Result<MessageId, Fail> {
-    Ok(Fixed::from_hex(text).map_err(|_| "no id")?)
+fn id(rt: &impl Abort, text: &str) -> MessageId {
+    made(rt, Fixed::from_hex(text))
 }
 
-// The records of a stream, each with its place.
-fn records(alloc: Global) -> Result<Vec<(u64, Record)>, Fail> {
-    let mut two = Vec::new(alloc);
-    two.push(id(ID)?)?;
-    two.push(id(GROUP)?)?;
-    let mut one = Vec::new(alloc);
-    one.push(id(ID)?)?;
-    let mut other = Vec::new(alloc);
-    other.push(id(ID)?)?;
-    let message = Message::new(id(GROUP)?, 0, b"x".to_vec(alloc)?)?;
-    let versions = VersionList::new([0, 255].to_vec(alloc)?)?;
+// A record of a stream, at its place.
+fn add_record(rt: &impl Abort, alloc: Global, place: u64, record: Record, to: &mut String) {
+    made(rt, record_line(alloc, place, &record, to));
+}
+
+fn ids(rt: &impl Abort, alloc: Global, texts: &[&str]) -> IdList<MAX_IDS> {
+    let mut ids = Vec::new(alloc);
+    for text in texts {
+        made(rt, ids.push(id(rt, text)));
+    }
+    made(rt, IdList::new(ids))
+}
+
+fn short_message(rt: &impl Abort, alloc: Global) -> Message {
+    let body = made(rt, Vec::from_slice(alloc, b"x"));
+    made(rt, Message::new(id(rt, GROUP), 0, body))
+}
+
+fn versions(rt: &impl Abort, alloc: Global) -> VersionList {
+    made(
+        rt,
+        VersionList::new(made(rt, Vec::from_slice(alloc, &[0, 255]))),
+    )
+}
+
+fn add_records(rt: &impl Abort, alloc: Global, to: &mut String) {
     let nonce: Nonce = Fixed([0, 1, 2, 3, 4, 5, 6, 7, 8, 9, 10, 11, 12, 13, 14, 15]);
-    let mut all = Vec::new(alloc);
-    all.push((0, Record::Ack(IdList::new(two)?)))?;
-    all.push((68, Record::Offer(IdList::new(one)?)))?;
-    all.push((104, Record::Request(IdList::new(other)?)))?;
-    all.push((140, Record::Message(message)))?;
-    all.push((185, Record::Versions(versions)))?;
-    all.push((18_446_744_073_709_551_615, Record::Priority(nonce)))?;
-    Ok(all)
+    add_record(rt, alloc, 0, Record::Ack(ids(rt, alloc, &[ID, GROUP])), to);
+    add_record(rt, alloc, 68, Record::Offer(ids(rt, alloc, &[ID])), to);
+    add_record(rt, alloc, 104, Record::Request(ids(rt, alloc, &[ID])), to);
+    add_record(
+        rt,
+        alloc,
+        140,
+        Record::Message(short_message(rt, alloc)),
+        to,
+    );
+    add_record(rt, alloc, 185, Record::Versions(versions(rt, alloc)), to);
+    add_record(
+        rt,
+        alloc,
+        18_446_744_073_709_551_615,
+        Record::Priority(nonce),
+        to,
+    );
 }
 
 const STREAM_LINES: &str =
@@ -373,19 +481,19 @@ pending 3443418c0382800e42ae01fb9d676b7b25405d2875809cf8d6808f04741c96a4 9223372
 ";
 
 #[test]
-fn lines_of_streams(rt: HostRuntime) -> Result<(), Fail> {
+fn lines_of_streams(rt: HostRuntime) {
     let alloc = rt.alloc();
-    let message = id(ID)?;
+    let id = id(&rt, ID);
     let mut to = String::new(alloc);
-    try_line(alloc, Fate::Delivered, &message, 0, 1, &mut to)?;
-    try_line(alloc, Fate::Invalid, &message, 7, 32_768, &mut to)?;
-    try_line(alloc, Fate::Pending, &message, u64::MAX / 2, 2, &mut to)?;
-    for (place, record) in records(alloc)?.as_slice() {
-        record_line(alloc, *place, record, &mut to)?;
-    }
-    skipped_line(5, 9, 2, &mut to)?;
-    assert_eq!(rt; to.as_str(), STREAM_LINES);
-    Ok(())
+    made(&rt, try_line(alloc, Fate::Delivered, &id, 0, 1, &mut to));
+    made(&rt, try_line(alloc, Fate::Invalid, &id, 7, 32_768, &mut to));
+    made(
+        &rt,
+        try_line(alloc, Fate::Pending, &id, u64::MAX / 2, 2, &mut to),
+    );
+    add_records(&rt, alloc, &mut to);
+    made(&rt, skipped_line(5, 9, 2, &mut to));
+    same(&rt, 1, &to.as_str(), &STREAM_LINES);
 }
 
 const STORE_LINES: &str = "ready
@@ -407,45 +515,61 @@ sessions 0
 device 1 held 5 delivered 1 invalid 2 pending 3 unknown 4
 ";
 
-#[test]
-fn lines_of_stores(rt: HostRuntime) -> Result<(), Fail> {
-    let alloc = rt.alloc();
-    let message = id(ID)?;
-    let group: GroupId = id(GROUP)?;
-    let note = GroupDef::new(String::from_str(alloc, "note")?, 0, b"d".to_vec(alloc)?)?;
-    let bare = GroupDef::new(String::from_str(alloc, "n")?, u32::MAX, Vec::new(alloc))?;
-    let mut to = String::new(alloc);
-    ready_line(&mut to)?;
-    contact_line(0, &mut to)?;
-    group_line(alloc, &group, &mut to)?;
+// A known group, of a definition.
+fn add_group(
+    rt: &impl Abort,
+    alloc: Global,
+    name: &str,
+    major: u32,
+    descriptor: &[u8],
+    to: &mut String,
+) {
+    let name = repeated(rt, alloc, name, 1);
+    let descriptor = made(rt, Vec::from_slice(alloc, descriptor));
+    let def = made(rt, GroupDef::new(name, major, descriptor));
+    made(rt, known_group_line(alloc, &id(rt, GROUP), &def, to));
+}
+
+fn add_levels(rt: &impl Abort, alloc: Global, group: &GroupId, to: &mut String) {
     for (contact, level) in [
         (0, Level::Invisible),
         (255, Level::Visible),
         (7, Level::Shared),
     ] {
-        level_line(alloc, contact, &group, level, &mut to)?;
+        made(rt, level_line(alloc, contact, group, level, to));
     }
-    posted_line(alloc, &message, &mut to)?;
-    contacts_line(256, &mut to)?;
-    known_group_line(alloc, &group, &note, &mut to)?;
-    known_group_line(alloc, &group, &bare, &mut to)?;
+}
+
+fn add_states(rt: &impl Abort, alloc: Global, id: &MessageId, group: &GroupId, to: &mut String) {
     for fate in [Fate::Unknown, Fate::Pending, Fate::Invalid, Fate::Delivered] {
-        state_line(alloc, &message, &group, fate, &mut to)?;
+        made(rt, state_line(alloc, id, group, fate, to));
     }
-    sessions_line(0, &mut to)?;
-    inbox_line(alloc, &message, &group, 0, Origin::Author, 1, &mut to)?;
-    inbox_line(
-        alloc,
-        &message,
-        &group,
-        5,
-        Origin::From(255),
-        32_768,
-        &mut to,
-    )?;
-    device_line(1, 5, 1, 2, 3, 4, &mut to)?;
-    assert_eq!(rt; to.as_str(), STORE_LINES);
-    Ok(())
+}
+
+fn add_inbox(rt: &impl Abort, alloc: Global, id: &MessageId, group: &GroupId, to: &mut String) {
+    let (own, other) = (Origin::Author, Origin::From(255));
+    made(rt, inbox_line(alloc, id, group, 0, own, 1, to));
+    made(rt, inbox_line(alloc, id, group, 5, other, 32_768, to));
+}
+
+#[test]
+fn lines_of_stores(rt: HostRuntime) {
+    let alloc = rt.alloc();
+    let (message, group) = (id(&rt, ID), id(&rt, GROUP));
+    let mut to = String::new(alloc);
+    made(&rt, ready_line(&mut to));
+    made(&rt, contact_line(0, &mut to));
+    made(&rt, group_line(alloc, &group, &mut to));
+    add_levels(&rt, alloc, &group, &mut to);
+    made(&rt, posted_line(alloc, &message, &mut to));
+    made(&rt, contacts_line(256, &mut to));
+    add_group(&rt, alloc, "note", 0, b"d", &mut to);
+    add_group(&rt, alloc, "n", u32::MAX, b"", &mut to);
+    add_states(&rt, alloc, &message, &group, &mut to);
+    made(&rt, sessions_line(0, &mut to));
+    add_inbox(&rt, alloc, &message, &group, &mut to);
+    made(&rt, device_line(1, 5, 1, 2, 3, 4, &mut to));
+    same(&rt, 1, &to.as_str(), &STORE_LINES);
 }
 
 const ERROR_LINES: &str = "usage: word 0
@@ -491,7 +615,7 @@ link 6: no common version at 0
 link 7: failed
 ";
 
-fn add_faults(to: &mut String) -> Result<(), Fail> {
+fn add_refusals(rt: &impl Abort, to: &mut String) {
     for why in [
         Refused::UnknownContact,
         Refused::UnknownGroup,
@@ -506,23 +630,25 @@ fn add_faults(to: &mut String) -> Result<(), Fail> {
         Refused::DependencyNotDelivered,
         Refused::AlreadyHeld,
     ] {
-        refused_line(why, to)?;
+        made(rt, refused_line(why, to));
     }
-    damaged_line(1, 268_435_456, to)?;
-    plain_line(Status::NoStore, to)?;
-    plain_line(Status::Exists, to)?;
-    plain_line(Status::DiskFault, to)?;
-    plain_line(Status::ReadFault, to)?;
-    plain_line(Status::WriteFault, to)?;
-    plain_line(Status::Full, to)?;
-    plain_line(Status::Memory, to)?;
-    plain_line(Status::TooMuch, to)?;
-    Ok(())
 }
 
-fn add_streams(alloc: Global, to: &mut String) -> Result<(), Fail> {
-    inside_line(45, to)?;
-    script_line(2, to)?;
+fn add_faults(rt: &impl Abort, to: &mut String) {
+    made(rt, damaged_line(1, 268_435_456, to));
+    made(rt, plain_line(Status::NoStore, to));
+    made(rt, plain_line(Status::Exists, to));
+    made(rt, plain_line(Status::DiskFault, to));
+    made(rt, plain_line(Status::ReadFault, to));
+    made(rt, plain_line(Status::WriteFault, to));
+    made(rt, plain_line(Status::Full, to));
+    made(rt, plain_line(Status::Memory, to));
+    made(rt, plain_line(Status::TooMuch, to));
+    made(rt, inside_line(45, to));
+    made(rt, script_line(2, to));
+}
+
+fn add_reasons(rt: &impl Abort, to: &mut String) {
     for reason in [
         ReasonText::WrongVersion,
         ReasonText::TooLong,
@@ -534,30 +660,33 @@ fn add_streams(alloc: Global, to: &mut String) -> Result<(), Fail> {
         ReasonText::BadVersions,
         ReasonText::BadNonce,
     ] {
-        bad_record_line(31, reason, to)?;
+        made(rt, bad_record_line(31, reason, to));
     }
-    for (link, ending) in [
-        (0, LinkText::Clean),
-        (1, LinkText::Quiet),
-        (2, LinkText::Redundant),
-        (3, LinkText::Unfinished),
-        (4, LinkText::Inside(9)),
-        (5, LinkText::Bad(8, ReasonText::BadNonce)),
-        (6, LinkText::NoVersion(0)),
-        (7, LinkText::Failed),
-    ] {
-        link_line(link, &ending, to)?;
+}
+
+fn add_links(rt: &impl Abort, to: &mut String) {
+    let endings = [
+        LinkText::Clean,
+        LinkText::Quiet,
+        LinkText::Redundant,
+        LinkText::Unfinished,
+        LinkText::Inside(9),
+        LinkText::Bad(8, ReasonText::BadNonce),
+        LinkText::NoVersion(0),
+        LinkText::Failed,
+    ];
+    for (link, ending) in endings.iter().enumerate() {
+        made(rt, link_line((link % 8) as u8, ending, to));
     }
-    Ok(())
 }
 
 #[test]
-fn lines_of_faults(rt: HostRuntime) -> Result<(), Fail> {
-    let alloc = rt.alloc();
-    let mut to = String::new(alloc);
-    usage_line(0, &mut to)?;
-    add_faults(&mut to)?;
-    add_streams(alloc, &mut to)?;
-    assert_eq!(rt; to.as_str(), ERROR_LINES);
-    Ok(())
+fn lines_of_faults(rt: HostRuntime) {
+    let mut to = String::new(rt.alloc());
+    made(&rt, usage_line(0, &mut to));
+    add_refusals(&rt, &mut to);
+    add_faults(&rt, &mut to);
+    add_reasons(&rt, &mut to);
+    add_links(&rt, &mut to);
+    same(&rt, 1, &to.as_str(), &ERROR_LINES);
 }
