@@ -1,12 +1,22 @@
 // Payloads that were written by hand.
 
+use crate::checks::{made, same};
 use entry_codec::{batch_len, read_batch, write_batch};
-use std::test::Fail;
+use std::alloc::Global;
+use std::process::Abort;
 use sync_rules::{Batch, Entry};
 
+// How many entries the bytes are read as; none where they are no batch.
+fn count_in(rt: &impl Abort, alloc: Global, bytes: &[u8]) -> usize {
+    match made(rt, read_batch(alloc, bytes)) {
+        Some(batch) => batch.entries().len(),
+        None => 0,
+    }
+}
+
 #[test]
-fn payloads_are_read(rt: HostRuntime) -> Result<(), Fail> {
-    let cases: [(&[u8], usize); 7] = [
+fn payloads_are_read(rt: HostRuntime) {
+    let cases: &[(&[u8], usize)] = &[
         (b"\x01\x00", 1),
         (b"\x01\x00\x01\x07", 2),
         (b"", 0),
@@ -16,28 +26,18 @@ fn payloads_are_read(rt: HostRuntime) -> Result<(), Fail> {
         (b"\x01\x00\x05\x00\x00\x00\x00", 0),
     ];
     for (bytes, want) in cases {
-        let entries = match read_batch(rt.alloc(), bytes)? {
-            Some(batch) => batch.entries().len(),
-            None => 0,
-        };
-        assert_eq!(rt; entries, want);
+        let count = count_in(&rt, rt.alloc(), bytes);
+        same(&rt, &(*bytes, count), &(*bytes, *want));
     }
-    Ok(())
 }
 
 #[test]
-fn a_batch_is_written(rt: HostRuntime) -> Result<(), Fail> {
-    let mut entries = Vec::new(rt.alloc());
-    entries.push(Entry::Contact(0))?;
-    entries.push(Entry::Contact(7))?;
-    let mut written = Vec::new(rt.alloc());
-    match Batch::new(entries) {
-        Ok(batch) => {
-            assert_eq!(rt; batch_len(&batch), 4);
-            write_batch(&batch, &mut written)?;
-        }
-        Err(_) => panic!(rt; "no entries"),
-    }
-    assert_eq!(rt; written.as_slice(), b"\x01\x00\x01\x07".as_slice());
-    Ok(())
+fn a_batch_is_written(rt: HostRuntime) {
+    let alloc = rt.alloc();
+    let entries = made(&rt, vec![in alloc; Entry::Contact(0), Entry::Contact(7)]);
+    let batch = made(&rt, Batch::new(entries));
+    same(&rt, &batch_len(&batch), &4);
+    let mut written = Vec::new(alloc);
+    made(&rt, write_batch(&batch, &mut written));
+    same(&rt, &written.as_slice(), &b"\x01\x00\x01\x07".as_slice());
 }

@@ -3,39 +3,60 @@
 
 ghost use Rattle.entry_codec.specs.Spelling.{HasLatency};
 
+use crate::checks::{made, same};
+use crate::fixtures::{definition, list, message};
 use entry_codec::{EntryFound, entry_len, read_entry, write_entry};
 use std::alloc::Global;
 use std::process::Abort;
-use std::test::Fail;
-use sync_ids::{Fixed, GroupDef, IdList, MAX_IDS, Message};
+use sync_ids::{Fixed, GroupId, IdList, MAX_IDS, MessageId, Nonce};
 use sync_rules::{Entry, Level, Mode, Out, Session};
 
-// The entry is written so, read again whatever follows, and no front of the bytes is read.
-fn check(rt: &impl Abort, alloc: Global, entry: &Entry, bytes: &[u8]) -> Result<(), Fail>
-    requires { HasLatency entry.now }
-{
-    let mut written = Vec::new(alloc);
-    write_entry(entry, &mut written)?;
-    assert_eq!(rt; written.as_slice(), bytes);
-    assert_eq!(rt; entry_len(entry), bytes.len());
-    written.push(0)?;
-    match read_entry(alloc, &written)? {
+const GROUP: GroupId = Fixed(*b"GGGGGGGGGGGGGGGGGGGGGGGGGGGGGGGG");
+
+const ID: MessageId = Fixed(*b"0123456789abcdef0123456789ABCDEF");
+
+// How many bytes the entry takes that the bytes begin with; none where there is no such entry.
+fn used_in(rt: &impl Abort, alloc: Global, bytes: &[u8]) -> Option<usize> {
+    match made(rt, read_entry(alloc, bytes)) {
+        EntryFound::One(_, used) => Some(used),
+        EntryFound::BadEntry => None,
+    }
+}
+
+fn text_of(rt: &impl Abort, alloc: Global, entry: &Entry) -> String {
+    made(rt, format!(in alloc; "{entry:?}"))
+}
+
+fn check_read(rt: &impl Abort, alloc: Global, bytes: &[u8], entry: &Entry, len: usize) {
+    match made(rt, read_entry(alloc, bytes)) {
         EntryFound::One(again, used) => {
-            assert_eq!(rt; used, bytes.len());
-            assert_eq!(rt;
-                format!(in alloc; "{again:?}")?,
-                format!(in alloc; "{entry:?}")?
-            );
+            same(rt, &used, &len);
+            same(rt, &text_of(rt, alloc, &again), &text_of(rt, alloc, entry));
         }
         EntryFound::BadEntry => panic!(rt; "not read"),
     }
-    for cut in 0..bytes.len() {
-        assert!(rt; matches!(read_entry(alloc, &bytes[..cut])?, EntryFound::BadEntry));
-    }
-    Ok(())
 }
 
-fn session(mode: Mode, nonce: Option<sync_ids::Nonce>) -> Entry
+fn check_fronts(rt: &impl Abort, alloc: Global, bytes: &[u8]) {
+    for cut in 0..bytes.len() {
+        same(rt, &(cut, used_in(rt, alloc, &bytes[..cut])), &(cut, None));
+    }
+}
+
+// The entry is written so, read again whatever follows, and no front of the bytes is read.
+fn check(rt: &impl Abort, alloc: Global, entry: Entry, bytes: &[u8])
+    requires { HasLatency entry }
+{
+    let len = entry_len(&entry);
+    let mut written = Vec::new(alloc);
+    made(rt, write_entry(&entry, &mut written));
+    same(rt, &(len, written.as_slice()), &(bytes.len(), bytes));
+    made(rt, written.push(0));
+    check_read(rt, alloc, written.as_slice(), &entry, len);
+    check_fronts(rt, alloc, bytes);
+}
+
+fn session(mode: Mode, nonce: Option<Nonce>) -> Entry
     ensures { HasLatency result }
 {
     Entry::Session(Session {
@@ -48,142 +69,94 @@ fn session(mode: Mode, nonce: Option<sync_ids::Nonce>) -> Entry
 }
 
 #[test]
-fn what_is_known(rt: HostRuntime) -> Result<(), Fail> {
+fn what_is_known(rt: HostRuntime) {
     let alloc = rt.alloc();
-    check(&rt, alloc, &Entry::Contact(0), b"\x01\x00")?;
-    let name = String::from_str(alloc, "note")?;
-    let def = GroupDef::new(name, 0x0a0b0c0d, Vec::from_slice(alloc, b"d")?).or(Err("definition"))?;
-    check(
-        &rt,
-        alloc,
-        &Entry::Group(def),
-        b"\x02\x04note\x0a\x0b\x0c\x0d\x00\x01d",
-    )?;
-    let group = Fixed(*b"GGGGGGGGGGGGGGGGGGGGGGGGGGGGGGGG");
+    check(&rt, alloc, Entry::Contact(0), b"\x01\x00");
+    let def = definition(&rt, alloc, "note", 0x0a0b0c0d, b"d");
+    let bytes = b"\x02\x04note\x0a\x0b\x0c\x0d\x00\x01d";
+    check(&rt, alloc, Entry::Group(def), bytes);
     let level = b"\x03\x05GGGGGGGGGGGGGGGGGGGGGGGGGGGGGGGG\x02";
-    check(&rt, alloc, &Entry::Level(5, group, Level::Shared), level)?;
+    check(&rt, alloc, Entry::Level(5, GROUP, Level::Shared), level);
     let batch = b"\x04\x01\x02\x03\x04\x07\x01\x00\x00\x75\x30\x00";
-    check(&rt, alloc, &session(Mode::Batch, None), batch)?;
-    let nonce = Fixed(*b"abcdefghijklmnop");
+    check(&rt, alloc, session(Mode::Batch, None), batch);
     let dialled = b"\x04\x01\x02\x03\x04\x07\x00\x00\x00\x75\x30\x01abcdefghijklmnop";
-    check(
-        &rt,
-        alloc,
-        &session(Mode::Interactive, Some(nonce)),
-        dialled,
-    )
+    let nonce = Fixed(*b"abcdefghijklmnop");
+    check(&rt, alloc, session(Mode::Interactive, Some(nonce)), dialled);
 }
 
 #[test]
-fn messages_and_steps(rt: HostRuntime) -> Result<(), Fail> {
+fn messages_and_steps(rt: HostRuntime) {
     let alloc = rt.alloc();
     let take = b"\x05\x00\x00\x00\x09\x00\x00\x00\x00\x00\x01\x00\x02";
-    check(&rt, alloc, &Entry::Take(9, 65_538), take)?;
-    let group = Fixed(*b"GGGGGGGGGGGGGGGGGGGGGGGGGGGGGGGG");
-    let first = Message::new(group, 5, Vec::from_slice(alloc, b"x")?).or(Err("message"))?;
+    check(&rt, alloc, Entry::Take(9, 65_538), take);
+    let first = message(&rt, alloc, &GROUP, 5, b"x");
     let author = b"\x06GGGGGGGGGGGGGGGGGGGGGGGGGGGGGGGG\x00\x00\x00\x00\x00\x00\x00\x05\x00\x01x";
-    check(&rt, alloc, &Entry::Author(first), author)?;
-    let second = Message::new(group, 0x7fff_ffff_ffff_fffe, Vec::from_slice(alloc, b"hi")?).or(Err(
-        "message",
-    ))?;
+    check(&rt, alloc, Entry::Author(first), author);
+    let second = message(&rt, alloc, &GROUP, 0x7fff_ffff_ffff_fffe, b"hi");
     let arrive =
         b"\x07\x00\x00\x01\x00GGGGGGGGGGGGGGGGGGGGGGGGGGGGGGGG\x7f\xff\xff\xff\xff\xff\xff\xfe\x00\x02hi";
-    check(&rt, alloc, &Entry::Arrive(256, second), arrive)?;
-    let id = Fixed(*b"0123456789abcdef0123456789ABCDEF");
-    check(
-        &rt,
-        alloc,
-        &Entry::Judged(id),
-        b"\x080123456789abcdef0123456789ABCDEF",
-    )?;
-    check(
-        &rt,
-        alloc,
-        &Entry::Deliver(id),
-        b"\x090123456789abcdef0123456789ABCDEF",
-    )?;
-    check(
-        &rt,
-        alloc,
-        &Entry::Invalid(id),
-        b"\x0a0123456789abcdef0123456789ABCDEF",
-    )
+    check(&rt, alloc, Entry::Arrive(256, second), arrive);
+    let judged = b"\x080123456789abcdef0123456789ABCDEF";
+    check(&rt, alloc, Entry::Judged(ID), judged);
+    let deliver = b"\x090123456789abcdef0123456789ABCDEF";
+    check(&rt, alloc, Entry::Deliver(ID), deliver);
+    let invalid = b"\x0a0123456789abcdef0123456789ABCDEF";
+    check(&rt, alloc, Entry::Invalid(ID), invalid);
 }
 
 #[test]
-fn heard_and_sent(rt: HostRuntime) -> Result<(), Fail> {
+fn heard_and_sent(rt: HostRuntime) {
     let alloc = rt.alloc();
-    let id = Fixed(*b"0123456789abcdef0123456789ABCDEF");
     let again = b"\x0b\xff\xfe\xfd\xfc0123456789abcdef0123456789ABCDEF";
-    check(&rt, alloc, &Entry::Again(0xfffe_fdfc, id), again)?;
+    check(&rt, alloc, Entry::Again(0xfffe_fdfc, ID), again);
     let offered = b"\x0c\x00\x00\x00\x010123456789abcdef0123456789ABCDEF";
-    check(&rt, alloc, &Entry::Offered(1, id), offered)?;
+    check(&rt, alloc, Entry::Offered(1, ID), offered);
     let seen = b"\x0d\x00\x00\x00\x010123456789abcdef0123456789ABCDEF";
-    check(&rt, alloc, &Entry::Seen(1, id), seen)?;
+    check(&rt, alloc, Entry::Seen(1, ID), seen);
     let asked = b"\x0e\x00\x00\x00\x010123456789abcdef0123456789ABCDEF";
-    check(&rt, alloc, &Entry::Asked(1, id), asked)?;
+    check(&rt, alloc, Entry::Asked(1, ID), asked);
     let send =
         b"\x0f\x00\x00\x00\x02\x01\x02\x03\x04\x05\x06\x07\x08\x030123456789abcdef0123456789ABCDEF";
-    check(
-        &rt,
-        alloc,
-        &Entry::Out(2, 0x0102_0304_0506_0708, Out::Send(id)),
-        send,
-    )
+    let out = Out::Send(ID);
+    check(&rt, alloc, Entry::Out(2, 0x0102_0304_0506_0708, out), send);
 }
 
-fn two_ids(alloc: Global) -> Result<IdList<MAX_IDS>, Fail> {
-    let mut ids = Vec::new(alloc);
-    ids.push(Fixed(*b"AAAAAAAAAAAAAAAAAAAAAAAAAAAAAAAA"))?;
-    ids.push(Fixed(*b"BBBBBBBBBBBBBBBBBBBBBBBBBBBBBBBB"))?;
-    Ok(IdList::new(ids).or(Err("list"))?)
+fn two_ids(rt: &impl Abort, alloc: Global) -> IdList<MAX_IDS> {
+    let a = Fixed(*b"AAAAAAAAAAAAAAAAAAAAAAAAAAAAAAAA");
+    let b = Fixed(*b"BBBBBBBBBBBBBBBBBBBBBBBBBBBBBBBB");
+    list(rt, alloc, &[a, b])
 }
 
 #[test]
-fn lists_sent(rt: HostRuntime) -> Result<(), Fail> {
+fn lists_sent(rt: HostRuntime) {
     let alloc = rt.alloc();
     let acks =
         b"\x0f\x00\x00\x00\x02\x00\x00\x00\x00\x00\x00\x03\xe8\x00\x00\x02AAAAAAAAAAAAAAAAAAAAAAAAAAAAAAAABBBBBBBBBBBBBBBBBBBBBBBBBBBBBBBB";
-    check(
-        &rt,
-        alloc,
-        &Entry::Out(2, 1000, Out::Acks(two_ids(alloc)?)),
-        acks,
-    )?;
+    let out = Out::Acks(two_ids(&rt, alloc));
+    check(&rt, alloc, Entry::Out(2, 1000, out), acks);
     let requests =
         b"\x0f\x00\x00\x00\x02\x00\x00\x00\x00\x00\x00\x03\xe8\x01\x00\x02AAAAAAAAAAAAAAAAAAAAAAAAAAAAAAAABBBBBBBBBBBBBBBBBBBBBBBBBBBBBBBB";
-    check(
-        &rt,
-        alloc,
-        &Entry::Out(2, 1000, Out::Requests(two_ids(alloc)?)),
-        requests,
-    )?;
+    let out = Out::Requests(two_ids(&rt, alloc));
+    check(&rt, alloc, Entry::Out(2, 1000, out), requests);
     let offers =
         b"\x0f\x00\x00\x00\x02\x00\x00\x00\x00\x00\x00\x03\xe8\x02\x00\x02AAAAAAAAAAAAAAAAAAAAAAAAAAAAAAAABBBBBBBBBBBBBBBBBBBBBBBBBBBBBBBB";
-    check(
-        &rt,
-        alloc,
-        &Entry::Out(2, 1000, Out::Offers(two_ids(alloc)?)),
-        offers,
-    )
+    let out = Out::Offers(two_ids(&rt, alloc));
+    check(&rt, alloc, Entry::Out(2, 1000, out), offers);
 }
 
 // How many bytes the entry takes that begins so and goes on with zeros; none where there is no such
 // entry.
-fn used_of(alloc: Global, front: &[u8]) -> Result<Option<usize>, Fail> {
-    let mut bytes = Vec::from_slice(alloc, front)?;
-    bytes.extend_from_slice(&[0; 50_000])?;
-    match read_entry(alloc, &bytes)? {
-        EntryFound::One(_, used) => Ok(Some(used)),
-        EntryFound::BadEntry => Ok(None),
-    }
+fn used_of(rt: &impl Abort, alloc: Global, front: &[u8]) -> Option<usize> {
+    let zeros = made(rt, vec![in alloc; 0u8; 50_000]);
+    let mut bytes = made(rt, Vec::from_slice(alloc, front));
+    made(rt, bytes.extend_from_slice(zeros.as_slice()));
+    used_in(rt, alloc, bytes.as_slice())
 }
 
 // Each limit from both sides. A group, a message and an output are made of their parts.
 #[test]
-fn borders(rt: HostRuntime) -> Result<(), Fail> {
-    let alloc = rt.alloc();
-    let cases: [(&[u8], Option<usize>); 36] = [
+fn borders(rt: HostRuntime) {
+    let cases: &[(&[u8], Option<usize>)] = &[
         (b"", None),
         (b"\x10", None),
         (b"\xff", None),
@@ -275,8 +248,8 @@ fn borders(rt: HostRuntime) -> Result<(), Fail> {
             None,
         ),
     ];
-    for (front, used) in cases {
-        assert_eq!(rt; used_of(alloc, front)?, used);
+    for (front, want) in cases {
+        let used = used_of(&rt, rt.alloc(), front);
+        same(&rt, &(*front, used), &(*front, *want));
     }
-    Ok(())
 }

@@ -7,7 +7,11 @@ mod batches;
 #[cfg(test)]
 mod bodies;
 #[cfg(test)]
+mod checks;
+#[cfg(test)]
 mod entries;
+#[cfg(test)]
+mod fixtures;
 #[cfg(test)]
 mod plain;
 #[cfg(test)]

@@ -1,10 +1,11 @@
 //! A cycle of two messages, each of which names the other as its dependency, and the waits of a
 //! message that is offered and sent, by a plain view.
+use crate::checks::{made, same};
+use crate::fixtures::{commit, definition, list, message};
 use plain_rules::{PlainFault, PlainView, begin_session, hear_message};
 use std::alloc::{AllocError, Global};
 use std::process::Abort;
-use std::test::Fail;
-use sync_ids::{Fixed, GroupDef, GroupId, IdList, MAX_IDS, Message, MessageId, group_id};
+use sync_ids::{Fixed, GroupDef, GroupId, Message, MessageId, group_id};
 use sync_rules::{
     Batch, Clients, DepList, Entry, Fate, Judgement, Level, Mode, Out, Session, View, fate_in,
     id_of, level_in, next_step_in,
@@ -48,62 +49,65 @@ impl Clients for Crossed {
     }
 }
 
-fn message(rt: &impl Abort, alloc: Global, group: GroupId, body: &[u8]) -> Result<Message, Fail> {
-    assert!(rt; body.len() < 100);
-    Ok(Message::new(group, 7, body.to_vec(alloc)?)?)
+fn note(rt: &impl Abort, alloc: Global) -> GroupDef {
+    definition(rt, alloc, "note", 0, b"")
+}
+
+/// The journal of a session on which contact 0 sends both messages.
+fn hear_both(
+    alloc: Global,
+    def: GroupDef,
+    clients: &Crossed,
+    first: Message,
+    second: Message,
+) -> Result<Vec<Batch>, AllocError> {
+    let mut j = begin_session(alloc, def)?;
+    hear_message(alloc, &mut j, clients, 0, 0, 0, first)?;
+    hear_message(alloc, &mut j, clients, 0, 0, 1, second)?;
+    Ok(j)
+}
+
+/// At its start the session has its contact, which sees the group, and none of its messages.
+fn check_begun(rt: &impl Abort, alloc: Global, group: &GroupId, id: &MessageId) {
+    let j = made(rt, begin_session(alloc, note(rt, alloc)));
+    same(rt, &level_in(j.as_slice(), 0, group), &Level::Visible);
+    same(rt, &level_in(j.as_slice(), 1, group), &Level::Invisible);
+    same(rt, &fate_in(j.as_slice(), id), &None);
 }
 
 #[test]
-fn leaves_a_cycle_pending(rt: HostRuntime) -> Result<(), Fail> {
+fn leaves_a_cycle_pending(rt: HostRuntime) {
     let alloc = rt.alloc();
-    let def = GroupDef::new(String::from_str(alloc, "note")?, 0, Vec::new(alloc))?;
+    let def = note(&rt, alloc);
     let group = group_id(&def);
-    let a = message(&rt, alloc, group, b"a")?;
-    let b = message(&rt, alloc, group, b"b")?;
+    let a = message(&rt, alloc, &group, 7, b"a");
+    let b = message(&rt, alloc, &group, 7, b"b");
     let clients = Crossed {
         first: id_of(&a),
         second: id_of(&b),
     };
-    let mut j = begin_session(alloc, def)?;
-    assert_eq!(rt; level_in(j.as_slice(), 0, &group), Level::Visible);
-    assert_eq!(rt; level_in(j.as_slice(), 1, &group), Level::Invisible);
-    assert_eq!(rt; fate_in(j.as_slice(), &clients.first), None);
-    hear_message(alloc, &mut j, &clients, 0, 0, 0, a)?;
-    hear_message(alloc, &mut j, &clients, 0, 0, 1, b)?;
-    assert_eq!(rt; fate_in(j.as_slice(), &clients.first), Some(Fate::Pending));
-    assert_eq!(rt; fate_in(j.as_slice(), &clients.second), Some(Fate::Pending));
-    assert!(rt; next_step_in(alloc, j.as_slice(), &clients)?.is_none());
-    Ok(())
-}
-
-fn commit(alloc: Global, j: &mut Vec<Batch>, entry: Entry) -> Result<(), Fail> {
-    let mut entries = Vec::new(alloc);
-    entries.push(entry)?;
-    if let Ok(batch) = Batch::new(entries) {
-        j.push(batch)?;
-    }
-    Ok(())
-}
-
-fn list(alloc: Global, id: &MessageId) -> Result<IdList<MAX_IDS>, Fail> {
-    let mut ids = Vec::new(alloc);
-    ids.push(*id)?;
-    Ok(IdList::new(ids)?)
+    check_begun(&rt, alloc, &group, &clients.first);
+    let j = made(&rt, hear_both(alloc, def, &clients, a, b));
+    let first = fate_in(j.as_slice(), &clients.first);
+    let second = fate_in(j.as_slice(), &clients.second);
+    same(
+        &rt,
+        &(first, second),
+        &(Some(Fate::Pending), Some(Fate::Pending)),
+    );
+    let step = made(&rt, next_step_in(alloc, j.as_slice(), &clients));
+    assert!(rt; step.is_none());
 }
 
 /// A journal of contact 0, with whom the group is Shared, a session with it of latency 30,000, and
 /// a delivered message that was written here.
-fn shared_message(
-    alloc: Global,
-    def: GroupDef,
-    message: Message,
-    id: &MessageId,
-) -> Result<Vec<Batch>, Fail> {
+fn shared_message(rt: &impl Abort, alloc: Global, def: GroupDef, message: Message) -> Vec<Batch> {
     let group = group_id(&def);
+    let id = id_of(&message);
     let mut j = Vec::new(alloc);
-    commit(alloc, &mut j, Entry::Contact(0))?;
-    commit(alloc, &mut j, Entry::Group(def))?;
-    commit(alloc, &mut j, Entry::Level(0, group, Level::Shared))?;
+    commit(rt, alloc, &mut j, Entry::Contact(0));
+    commit(rt, alloc, &mut j, Entry::Group(def));
+    commit(rt, alloc, &mut j, Entry::Level(0, group, Level::Shared));
     let session = Session {
         number: 0,
         contact: 0,
@@ -111,55 +115,81 @@ fn shared_message(
         latency: 30_000,
         nonce: None,
     };
-    commit(alloc, &mut j, Entry::Session(session))?;
-    commit(alloc, &mut j, Entry::Author(message))?;
-    commit(alloc, &mut j, Entry::Judged(*id))?;
-    commit(alloc, &mut j, Entry::Deliver(*id))?;
-    Ok(j)
+    commit(rt, alloc, &mut j, Entry::Session(session));
+    commit(rt, alloc, &mut j, Entry::Author(message));
+    commit(rt, alloc, &mut j, Entry::Judged(id));
+    commit(rt, alloc, &mut j, Entry::Deliver(id));
+    j
 }
 
 /// The message is offered from this time on, and not before.
-fn is_offered_from<V: View>(
-    view: &V,
+fn check_offered_from<V: View>(
+    rt: &impl Abort,
     alloc: Global,
+    view: &V,
     id: &MessageId,
     expiry: u64,
-) -> Result<bool, Fail> {
-    let before = view.offers(alloc, 0, expiry.saturating_sub(1))?;
-    let then = view.offers(alloc, 0, expiry)?;
-    Ok(before.is_empty() && then.len() == 1 && then[0] == *id)
+) {
+    let before = made(rt, view.offers(alloc, 0, expiry.saturating_sub(1)));
+    let then = made(rt, view.offers(alloc, 0, expiry));
+    same(
+        rt,
+        &(expiry, before.len(), then.as_slice()),
+        &(expiry, 0, [*id].as_slice()),
+    );
+}
+
+/// Once the message was offered at this time, it is offered again from that time on, and not sent.
+fn check_offer(
+    rt: &impl Abort,
+    alloc: Global,
+    j: &mut Vec<Batch>,
+    clients: &Crossed,
+    now: u64,
+    expiry: u64,
+) {
+    let out = Out::Offers(list(rt, alloc, &[clients.first]));
+    commit(rt, alloc, j, Entry::Out(0, now, out));
+    let view = made(rt, PlainView::new(alloc, j.as_slice(), clients));
+    check_offered_from(rt, alloc, &view, &clients.first, expiry);
+    same(rt, &view.next_send(0, Mode::Interactive, u64::MAX), &None);
+}
+
+/// Once the message was asked for, it is sent at once, and not offered.
+fn check_asked(rt: &impl Abort, alloc: Global, j: &mut Vec<Batch>, clients: &Crossed) {
+    commit(rt, alloc, j, Entry::Asked(0, clients.first));
+    let view = made(rt, PlainView::new(alloc, j.as_slice(), clients));
+    let sent = view.next_send(0, Mode::Interactive, 0);
+    let offers = made(rt, view.offers(alloc, 0, 0));
+    same(rt, &(sent, offers.len()), &(Some(clients.first), 0));
+}
+
+/// Once the message was sent at 200,000, it is sent again from 260,000 on.
+fn check_sent(rt: &impl Abort, alloc: Global, j: &mut Vec<Batch>, clients: &Crossed) {
+    let out = Out::Send(clients.first);
+    commit(rt, alloc, j, Entry::Out(0, 200_000, out));
+    let view = made(rt, PlainView::new(alloc, j.as_slice(), clients));
+    let before = view.next_send(0, Mode::Batch, 259_999);
+    let then = view.next_send(0, Mode::Batch, 260_000);
+    same(rt, &(before, then), &(None, Some(clients.first)));
 }
 
 #[test]
-fn waits_twice_as_long(rt: HostRuntime) -> Result<(), Fail> {
+fn waits_twice_as_long(rt: HostRuntime) {
     let alloc = rt.alloc();
-    let def = GroupDef::new(String::from_str(alloc, "note")?, 0, Vec::new(alloc))?;
-    let group = group_id(&def);
-    let m = message(&rt, alloc, group, b"m")?;
+    let def = note(&rt, alloc);
+    let m = message(&rt, alloc, &group_id(&def), 7, b"m");
     let id = id_of(&m);
     let clients = Crossed {
         first: id,
         second: id,
     };
-    let mut j = shared_message(alloc, def, m, &id)?;
-    for (now, expiry) in [(1_000, 61_000), (61_000, 181_000), (181_000, 421_000)] {
-        let out = Out::Offers(list(alloc, &id)?);
-        commit(alloc, &mut j, Entry::Out(0, now, out))?;
-        let view = PlainView::new(alloc, j.as_slice(), &clients)?;
-        assert!(rt; is_offered_from(&view, alloc, &id, expiry)?, "{expiry}");
-        assert_eq!(rt; view.next_send(0, Mode::Interactive, u64::MAX), None);
-    }
-    commit(alloc, &mut j, Entry::Asked(0, id))?;
-    {
-        let view = PlainView::new(alloc, j.as_slice(), &clients)?;
-        assert_eq!(rt; view.next_send(0, Mode::Interactive, 0), Some(id));
-        assert!(rt; view.offers(alloc, 0, 0)?.is_empty());
-    }
-    commit(alloc, &mut j, Entry::Out(0, 200_000, Out::Send(id)))?;
-    let view = PlainView::new(alloc, j.as_slice(), &clients)?;
-    assert_eq!(rt; view.next_send(0, Mode::Batch, 259_999), None);
-    assert_eq!(rt; view.next_send(0, Mode::Batch, 260_000), Some(id));
-    Ok(())
+    let mut j = shared_message(&rt, alloc, def, m);
+    check_offer(&rt, alloc, &mut j, &clients, 1_000, 61_000);
+    check_offer(&rt, alloc, &mut j, &clients, 61_000, 181_000);
+    check_offer(&rt, alloc, &mut j, &clients, 181_000, 421_000);
+    check_asked(&rt, alloc, &mut j, &clients);
+    check_sent(&rt, alloc, &mut j, &clients);
 }
 
 /// The group of a held message.
@@ -176,39 +206,64 @@ fn is_seen_by<V: View>(view: &V, contact: u8, id: &MessageId) -> bool {
     }
 }
 
+/// What a view tells of the shared message, and of another id that is wanted.
+fn check_view<V: View>(
+    rt: &impl Abort,
+    view: &V,
+    group: &GroupId,
+    id: &MessageId,
+    other: &MessageId,
+) {
+    let levels = (view.level(0, group), view.level(1, group));
+    same(rt, &levels, &(Level::Shared, Level::Invisible));
+    let places = (view.find(id), view.find(other));
+    same(rt, &places, &(Some(0), None));
+    same(rt, &group_of(view, id), &Some(*group));
+    let seen = (is_seen_by(view, 0, id), is_seen_by(view, 1, id));
+    same(rt, &seen, &(true, false));
+    let wanted = (view.wanted_count(0), view.wanted_count(1));
+    same(rt, &wanted, &(1, 0));
+    assert!(rt; view.is_wanted(0, other));
+}
+
+/// One message is owed to the contact, and one id is wanted from it.
+fn check_owed<V: View>(rt: &impl Abort, alloc: Global, view: &V) {
+    let owed = made(rt, view.owed(alloc, 0));
+    let wanted = made(rt, view.wanted(alloc, 0));
+    same(rt, &(owed.len(), wanted.len()), &(1, 1));
+}
+
+fn check_views(
+    rt: &impl Abort,
+    alloc: Global,
+    j: &[Batch],
+    clients: &Crossed,
+    group: &GroupId,
+    other: &MessageId,
+) {
+    let view = made(rt, PlainView::new(alloc, j, clients));
+    check_view(rt, &view, group, &clients.first, other);
+    check_owed(rt, alloc, &view);
+}
+
 #[test]
-fn views_a_journal(rt: HostRuntime) -> Result<(), Fail> {
+fn views_a_journal(rt: HostRuntime) {
     let alloc = rt.alloc();
-    let def = GroupDef::new(String::from_str(alloc, "note")?, 0, Vec::new(alloc))?;
+    let def = note(&rt, alloc);
     let group = group_id(&def);
-    let m = message(&rt, alloc, group, b"m")?;
+    let m = message(&rt, alloc, &group, 7, b"m");
     let id = id_of(&m);
     let other = Fixed([9; 32]);
     let clients = Crossed {
         first: id,
         second: id,
     };
-    let mut j = shared_message(alloc, def, m, &id)?;
-    commit(alloc, &mut j, Entry::Again(0, id))?;
-    commit(alloc, &mut j, Entry::Offered(0, other))?;
-    commit(alloc, &mut j, Entry::Offered(0, id))?;
-    {
-        let view = PlainView::new(alloc, j.as_slice(), &clients)?;
-        assert_eq!(rt; view.level(0, &group), Level::Shared);
-        assert_eq!(rt; view.level(1, &group), Level::Invisible);
-        assert_eq!(rt; view.find(&id), Some(0));
-        assert_eq!(rt; view.find(&other), None);
-        assert_eq!(rt; group_of(&view, &id), Some(group));
-        assert!(rt; is_seen_by(&view, 0, &id));
-        assert!(rt; !is_seen_by(&view, 1, &id));
-        assert_eq!(rt; view.wanted_count(0), 1);
-        assert_eq!(rt; view.wanted_count(1), 0);
-        assert!(rt; view.is_wanted(0, &other));
-        assert_eq!(rt; view.owed(alloc, 0)?.len(), 1);
-        assert_eq!(rt; view.wanted(alloc, 0)?.len(), 1);
-    }
-    commit(alloc, &mut j, Entry::Level(0, other, Level::Visible))?;
+    let mut j = shared_message(&rt, alloc, def, m);
+    commit(&rt, alloc, &mut j, Entry::Again(0, id));
+    commit(&rt, alloc, &mut j, Entry::Offered(0, other));
+    commit(&rt, alloc, &mut j, Entry::Offered(0, id));
+    check_views(&rt, alloc, j.as_slice(), &clients, &group, &other);
+    commit(&rt, alloc, &mut j, Entry::Level(0, other, Level::Visible));
     let refused = PlainView::new(alloc, j.as_slice(), &clients);
-    assert_eq!(rt; refused.err(), Some(PlainFault::UnknownGroup));
-    Ok(())
+    same(&rt, &refused.err(), &Some(PlainFault::UnknownGroup));
 }

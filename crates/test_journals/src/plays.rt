@@ -4,12 +4,13 @@ ghost use Rattle.std.specs.Prelude.{◌≡◌, ◌≤◌, cond, length, true};
 ghost use Rattle.sync_rules.specs.Lists.{has_repeat};
 ghost use Rattle.sync_rules.specs.declared.answers.Judgement.TheVariants as judgement;
 
+use crate::checks::{made, same};
+use crate::fixtures::{definition, list};
 use journal_play::{Play, play_says};
 use std::alloc::{AllocError, Global};
 use std::hash::RandomState;
 use std::process::Abort;
-use std::test::Fail;
-use sync_ids::{GroupDef, GroupId, IdList, Message, MessageId, Record, group_id};
+use sync_ids::{GroupId, Message, MessageId, Record, group_id};
 use sync_rules::{Clients, DepList, Judgement, id_of};
 
 /// A client of one root, two messages that depend on it, and a fourth that depends on those two.
@@ -74,45 +75,33 @@ fn accept(ids: Vec<MessageId>) -> Judgement
 }
 
 // The message of this number: so many bytes of it, and a time of its own.
-fn message(rt: &impl Abort, alloc: Global, group: &GroupId, n: u8) -> Result<Message, Fail> {
-    let mut body = Vec::new(alloc);
-    for _ in 0..n {
-        body.push(n)?;
-    }
-    assert!(rt; n > 0);
-    Ok(Message::new(*group, 1000 + u64::from(n), body)?)
+fn message(rt: &impl Abort, alloc: Global, group: &GroupId, n: u8) -> Message {
+    let body = made(rt, vec![in alloc; n; n as usize]);
+    made(rt, Message::new(*group, 1000 + u64::from(n), body))
 }
 
-fn group(alloc: Global, descriptor: &[u8]) -> Result<GroupDef, Fail> {
-    let name = String::from_str(alloc, "test")?;
-    Ok(GroupDef::new(name, 0, descriptor.to_vec(alloc)?)?)
+fn numbered(rt: &impl Abort, alloc: Global, group: &GroupId, n: u8) -> MessageId {
+    id_of(&message(rt, alloc, group, n))
 }
 
-fn client(rt: &impl Abort, alloc: Global, id: &GroupId, refuses: bool) -> Result<Diamond, Fail> {
-    Ok(Diamond {
+fn client(rt: &impl Abort, alloc: Global, group: &GroupId, refuses: bool) -> Diamond {
+    Diamond {
         refuses,
-        root: id_of(&message(rt, alloc, id, 1)?),
-        left: id_of(&message(rt, alloc, id, 2)?),
-        right: id_of(&message(rt, alloc, id, 3)?),
-        last: id_of(&message(rt, alloc, id, 4)?),
-    })
+        root: numbered(rt, alloc, group, 1),
+        left: numbered(rt, alloc, group, 2),
+        right: numbered(rt, alloc, group, 3),
+        last: numbered(rt, alloc, group, 4),
+    }
 }
 
 // Number 0 is an acknowledgement, a number from 100 on is a message of another group.
-fn record(
-    rt: &impl Abort,
-    alloc: Global,
-    own: &GroupId,
-    other: &GroupId,
-    n: u8,
-) -> Result<Record, Fail> {
+fn record(rt: &impl Abort, alloc: Global, own: &GroupId, other: &GroupId, n: u8) -> Record {
     if n == 0 {
-        let mut ids = Vec::new(alloc);
-        ids.push(id_of(&message(rt, alloc, own, 1)?))?;
-        return Ok(Record::Ack(IdList::new(ids)?));
+        let acknowledged = numbered(rt, alloc, own, 1);
+        return Record::Ack(list(rt, alloc, &[acknowledged]));
     }
     let group = if n >= 100 { other } else { own };
-    Ok(Record::Message(message(rt, alloc, group, n)?))
+    Record::Message(message(rt, alloc, group, n))
 }
 
 fn played(
@@ -121,24 +110,24 @@ fn played(
     hasher: RandomState,
     heard: &[u8],
     refuses: bool,
-) -> Result<String, Fail> {
-    let def = group(alloc, b"d")?;
+) -> String {
+    let def = definition(rt, alloc, "test", 0, b"d");
     let own = group_id(&def);
-    let other = group_id(&group(alloc, b"e")?);
-    let clients = client(rt, alloc, &own, refuses)?;
-    let mut play = Play::begin(alloc, hasher, def, 0)?;
+    let other = group_id(&definition(rt, alloc, "test", 0, b"e"));
+    let clients = client(rt, alloc, &own, refuses);
+    let mut play = made(rt, Play::begin(alloc, hasher, def, 0));
     for n in heard {
-        let next = record(rt, alloc, &own, &other, *n)?;
-        play.hear(alloc, &clients, next)?;
+        let next = record(rt, alloc, &own, &other, *n);
+        made(rt, play.hear(alloc, &clients, next));
     }
-    Ok(play.finish(alloc)?)
+    made(rt, play.finish(alloc))
 }
 
 #[test]
-fn plays_records(rt: HostRuntime) -> Result<(), Fail> {
-    let hasher = RandomState::new(&rt)?;
+fn plays_records(rt: HostRuntime) {
+    let hasher = made(&rt, RandomState::new(&rt));
     play_says();
-    let cases: [(&[u8], bool, &str); 10] = [
+    let cases: &[(&[u8], bool, &str)] = &[
         (
             &[1, 2, 3, 4],
             false,
@@ -187,8 +176,7 @@ fn plays_records(rt: HostRuntime) -> Result<(), Fail> {
         (&[101, 0], false, ""),
     ];
     for (heard, refuses, want) in cases {
-        let text = played(&rt, rt.alloc(), hasher, heard, refuses)?;
-        assert_eq!(rt; text.as_str(), want);
+        let text = played(&rt, rt.alloc(), hasher, heard, *refuses);
+        same(&rt, &(*heard, text.as_str()), &(*heard, *want));
     }
-    Ok(())
 }

@@ -1,11 +1,13 @@
 //! What records are taken as and what is due, over the plain view of a list of batches.
+use crate::checks::{made, same};
+use crate::fixtures::{commit, definition, list, message};
 use plain_rules::{PlainView, settle_in};
 use session_core::{due, keep, take, versions_ok};
 use std::alloc::{AllocError, Global};
 use std::process::Abort;
-use std::test::Fail;
+use std::slice;
 use sync_ids::{
-    Fixed, GroupDef, GroupId, IdList, MAX_IDS, Message, MessageId, Record, VersionList, group_id,
+    Fixed, GroupId, IdList, MAX_IDS, Message, MessageId, Nonce, Record, VersionList, group_id,
 };
 use sync_rules::{
     Batch, Clients, DepList, Entry, Fate, Judgement, Level, Mode, Out, Session, fate_in, id_of,
@@ -41,12 +43,13 @@ impl Clients for Open {
     }
 }
 
-fn def(alloc: Global) -> Result<GroupDef, Fail> {
-    Ok(GroupDef::new(String::from_str(alloc, "note")?, 0, Vec::new(alloc))?)
+/// A post of the group, of this body.
+fn post(rt: &impl Abort, alloc: Global, group: &GroupId, body: &[u8]) -> Message {
+    message(rt, alloc, group, 7, body)
 }
 
-fn message(alloc: Global, group: GroupId, body: &str) -> Result<Message, Fail> {
-    Ok(Message::new(group, 7, body.as_bytes().to_vec(alloc)?)?)
+fn post_id(rt: &impl Abort, alloc: Global, group: &GroupId, body: &[u8]) -> MessageId {
+    id_of(&post(rt, alloc, group, body))
 }
 
 fn session(number: u32, contact: u8, mode: Mode, latency: u32) -> Session {
@@ -69,132 +72,124 @@ fn unknown(n: usize) -> MessageId {
 }
 
 /// Unknown ids of these numbers.
-fn unknown_ids(alloc: Global, start: usize, end: usize) -> Result<IdList<MAX_IDS>, Fail> {
+fn unknown_ids(rt: &impl Abort, alloc: Global, start: usize, end: usize) -> IdList<MAX_IDS> {
     let mut ids = Vec::new(alloc);
     for n in start..end {
-        ids.push(unknown(n))?;
+        made(rt, ids.push(unknown(n)));
     }
-    Ok(IdList::new(ids)?)
-}
-
-fn ids(alloc: Global, ids: &[MessageId]) -> Result<IdList<MAX_IDS>, Fail> {
-    Ok(IdList::new(ids.to_vec(alloc)?)?)
-}
-
-fn push(alloc: Global, j: &mut Vec<Batch>, entry: Entry) -> Result<(), Fail> {
-    let mut entries = Vec::new(alloc);
-    entries.push(entry)?;
-    j.push(Batch::new(entries)?)?;
-    Ok(())
-}
-
-fn start(alloc: Global, j: &mut Vec<Batch>, session: &Session) -> Result<(), Fail> {
-    push(alloc, j, Entry::Session(*session))
+    made(rt, IdList::new(ids))
 }
 
 /// A journal of two contacts and one group.
-fn begin(alloc: Global) -> Result<(Vec<Batch>, GroupId), Fail> {
-    let def = def(alloc)?;
+fn begin(rt: &impl Abort, alloc: Global) -> (Vec<Batch>, GroupId) {
+    let def = definition(rt, alloc, "note", 0, b"");
     let group = group_id(&def);
     let mut j = Vec::new(alloc);
-    push(alloc, &mut j, Entry::Contact(0))?;
-    push(alloc, &mut j, Entry::Contact(1))?;
-    push(alloc, &mut j, Entry::Group(def))?;
-    Ok((j, group))
+    commit(rt, alloc, &mut j, Entry::Contact(0));
+    commit(rt, alloc, &mut j, Entry::Contact(1));
+    commit(rt, alloc, &mut j, Entry::Group(def));
+    (j, group)
+}
+
+/// Settles the journal for a client that lets messages be sent on or not.
+fn settle(rt: &impl Abort, alloc: Global, j: &mut Vec<Batch>, share: bool) {
+    made(rt, settle_in(alloc, j, &Open { share }));
+}
+
+/// A message of the group is written here, and judged.
+fn author(
+    rt: &impl Abort,
+    alloc: Global,
+    j: &mut Vec<Batch>,
+    group: &GroupId,
+    body: &[u8],
+) -> MessageId {
+    let post = post(rt, alloc, group, body);
+    let id = id_of(&post);
+    commit(rt, alloc, j, Entry::Author(post));
+    settle(rt, alloc, j, false);
+    id
 }
 
 // ---- texts of entries and outputs, each id by a letter
 
 type Names<'a> = &'a [(MessageId, char)];
 
-fn add_id(to: &mut String, names: Names<'_>, id: &MessageId) -> Result<(), Fail> {
+fn letter_of(names: Names<'_>, id: &MessageId) -> char {
     for (named, letter) in names {
         if named == id {
-            to.push(*letter)?;
-            return Ok(());
+            return *letter;
         }
     }
-    to.push('?')?;
-    Ok(())
+    '?'
 }
 
-fn add_entry(to: &mut String, names: Names<'_>, entry: &Entry) -> Result<(), Fail> {
+/// The word of an entry, and its id.
+fn words_of(entry: &Entry) -> (&str, Option<MessageId>) {
     match entry {
-        Entry::Take(..) => to.push_str("T")?,
-        Entry::Arrive(_, message) => {
-            to.push_str(" arrive ")?;
-            add_id(to, names, &id_of(message))?;
-        }
-        Entry::Again(_, id) => {
-            to.push_str(" again ")?;
-            add_id(to, names, id)?;
-        }
-        Entry::Seen(_, id) => {
-            to.push_str(" seen ")?;
-            add_id(to, names, id)?;
-        }
-        Entry::Offered(_, id) => {
-            to.push_str(" offered ")?;
-            add_id(to, names, id)?;
-        }
-        Entry::Asked(_, id) => {
-            to.push_str(" asked ")?;
-            add_id(to, names, id)?;
-        }
-        _ => to.push_str(" other")?,
+        Entry::Take(..) => ("T", None),
+        Entry::Arrive(_, message) => (" arrive ", Some(id_of(message))),
+        Entry::Again(_, id) => (" again ", Some(*id)),
+        Entry::Seen(_, id) => (" seen ", Some(*id)),
+        Entry::Offered(_, id) => (" offered ", Some(*id)),
+        Entry::Asked(_, id) => (" asked ", Some(*id)),
+        _ => (" other", None),
     }
-    Ok(())
 }
 
-fn add_ids(to: &mut String, names: Names<'_>, ids: &[MessageId]) -> Result<(), Fail> {
-    for id in ids {
-        add_id(to, names, id)?;
+fn add_entry(rt: &impl Abort, to: &mut String, names: Names<'_>, entry: &Entry) {
+    let (word, id) = words_of(entry);
+    made(rt, to.push_str(word));
+    if let Some(id) = id {
+        made(rt, to.push(letter_of(names, &id)));
     }
-    Ok(())
 }
 
-fn add_out(to: &mut String, names: Names<'_>, out: &Out) -> Result<(), Fail> {
+/// The word of an output, and its ids.
+fn words_of_out(out: &Out) -> (&str, &[MessageId]) {
     match out {
-        Out::Acks(ids) => {
-            to.push_str(" acks ")?;
-            add_ids(to, names, ids.as_slice())?;
-        }
-        Out::Requests(ids) => {
-            to.push_str(" requests ")?;
-            add_ids(to, names, ids.as_slice())?;
-        }
-        Out::Offers(ids) => {
-            to.push_str(" offers ")?;
-            add_ids(to, names, ids.as_slice())?;
-        }
-        Out::Send(id) => {
-            to.push_str(" send ")?;
-            add_id(to, names, id)?;
-        }
+        Out::Acks(ids) => (" acks ", ids.as_slice()),
+        Out::Requests(ids) => (" requests ", ids.as_slice()),
+        Out::Offers(ids) => (" offers ", ids.as_slice()),
+        Out::Send(id) => (" send ", slice::from_ref(id)),
     }
-    Ok(())
+}
+
+fn add_out(rt: &impl Abort, to: &mut String, names: Names<'_>, out: &Out) {
+    let (word, ids) = words_of_out(out);
+    made(rt, to.push_str(word));
+    for id in ids {
+        made(rt, to.push(letter_of(names, id)));
+    }
 }
 
 /// The batch that a record makes on the session.
-fn batch_of(alloc: Global, j: &[Batch], session: &Session, heard: Record) -> Result<Batch, Fail> {
-    let view = PlainView::new(alloc, j, &Open { share: true })?;
-    Ok(take(alloc, &view, session, 0, heard)?)
+fn batch_of(
+    rt: &impl Abort,
+    alloc: Global,
+    j: &[Batch],
+    session: &Session,
+    heard: Record,
+) -> Batch {
+    let view = made(rt, PlainView::new(alloc, j, &Open { share: true }));
+    made(rt, take(alloc, &view, session, 0, heard))
 }
 
 /// What is due on the session.
 fn next_out(
+    rt: &impl Abort,
     alloc: Global,
     j: &[Batch],
     share: bool,
     session: &Session,
     now: u64,
-) -> Result<Option<Out>, Fail> {
-    let view = PlainView::new(alloc, j, &Open { share })?;
-    Ok(due(alloc, &view, session, now)?)
+) -> Option<Out> {
+    let view = made(rt, PlainView::new(alloc, j, &Open { share }));
+    made(rt, due(alloc, &view, session, now))
 }
 
 /// How many ids an output requests.
-fn requested(out: Option<Out>) -> usize {
+fn requested(out: &Option<Out>) -> usize {
     match out {
         Some(Out::Requests(ids)) => ids.as_slice().len(),
         _ => 0,
@@ -203,40 +198,42 @@ fn requested(out: Option<Out>) -> usize {
 
 /// Takes a record on the session, and tells the entries of its batch.
 fn hear(
+    rt: &impl Abort,
     alloc: Global,
     j: &mut Vec<Batch>,
     names: Names<'_>,
     session: &Session,
     heard: Record,
-) -> Result<String, Fail> {
-    let batch = batch_of(alloc, j.as_slice(), session, heard)?;
+) -> String {
+    let batch = batch_of(rt, alloc, j.as_slice(), session, heard);
     let mut text = String::new(alloc);
     for entry in batch.entries() {
-        add_entry(&mut text, names, entry)?;
+        add_entry(rt, &mut text, names, entry);
     }
-    j.push(batch)?;
-    Ok(text)
+    made(rt, j.push(batch));
+    text
 }
 
 /// What is due on the session, at most six times, each committed at this time.
 fn speak(
+    rt: &impl Abort,
     alloc: Global,
     j: &mut Vec<Batch>,
     names: Names<'_>,
     session: &Session,
     now: u64,
-) -> Result<String, Fail> {
+) -> String {
     let mut text = String::new(alloc);
     for _ in 0..6 {
-        match next_out(alloc, j.as_slice(), false, session, now)? {
-            None => return Ok(text),
+        match next_out(rt, alloc, j.as_slice(), false, session, now) {
+            None => return text,
             Some(out) => {
-                add_out(&mut text, names, &out)?;
-                push(alloc, j, Entry::Out(session.number, now, out))?;
+                add_out(rt, &mut text, names, &out);
+                commit(rt, alloc, j, Entry::Out(session.number, now, out));
             }
         }
     }
-    Ok(text)
+    text
 }
 
 // ---- records
@@ -258,7 +255,7 @@ struct Scene {
 }
 
 /// A record of the table.
-#[derive(Clone, Copy, Debug)]
+#[derive(Clone, Copy)]
 enum Heard {
     Versions,
     Priority,
@@ -270,60 +267,77 @@ enum Heard {
     Absent,
 }
 
-fn record_of(alloc: Global, scene: &Scene, heard: Heard) -> Result<Record, Fail> {
+fn record_of(rt: &impl Abort, alloc: Global, scene: &Scene, heard: Heard) -> Record {
     match heard {
-        Heard::Versions => Ok(Record::Versions(VersionList::new([0].to_vec(alloc)?)?)),
-        Heard::Priority => Ok(Record::Priority(Fixed([1; 16]))),
-        Heard::OtherGroup => Ok(Record::Message(message(alloc, Fixed([9; 32]), "n")?)),
+        Heard::Versions => Record::Versions(versions(rt, alloc, &[0])),
+        Heard::Priority => Record::Priority(Fixed([1; 16])),
+        Heard::OtherGroup => Record::Message(post(rt, alloc, &Fixed([9; 32]), b"n")),
         Heard::Acks => {
-            let list = [scene.held, scene.seen, scene.unknown, scene.held];
-            Ok(Record::Ack(ids(alloc, &list)?))
+            let ids = [scene.held, scene.seen, scene.unknown, scene.held];
+            Record::Ack(list(rt, alloc, &ids))
         }
         Heard::Offers => {
-            let list = [
+            let ids = [
                 scene.unknown,
                 scene.held,
                 scene.wanted,
                 scene.unknown,
                 scene.held,
             ];
-            Ok(Record::Offer(ids(alloc, &list)?))
+            Record::Offer(list(rt, alloc, &ids))
         }
         Heard::Requests => {
-            let list = [scene.seen, scene.unknown, scene.held, scene.seen];
-            Ok(Record::Request(ids(alloc, &list)?))
+            let ids = [scene.seen, scene.unknown, scene.held, scene.seen];
+            Record::Request(list(rt, alloc, &ids))
         }
-        Heard::Held => Ok(Record::Message(message(alloc, scene.group, "h")?)),
-        Heard::Absent => Ok(Record::Message(message(alloc, scene.group, "n")?)),
+        Heard::Held => Record::Message(post(rt, alloc, &scene.group, b"h")),
+        Heard::Absent => Record::Message(post(rt, alloc, &scene.group, b"n")),
     }
 }
 
+fn versions(rt: &impl Abort, alloc: Global, bytes: &[u8]) -> VersionList {
+    made(rt, VersionList::new(made(rt, bytes.to_vec(alloc))))
+}
+
 /// A journal with that scene, whose group has this level for contact 0.
-fn play_scene(alloc: Global, session: &Session, level: Level) -> Result<(Vec<Batch>, Scene), Fail> {
-    let (mut j, group) = begin(alloc)?;
-    let held = message(alloc, group, "h")?;
-    let seen = message(alloc, group, "s")?;
+fn play_scene(
+    rt: &impl Abort,
+    alloc: Global,
+    session: &Session,
+    level: Level,
+) -> (Vec<Batch>, Scene) {
+    let (mut j, group) = begin(rt, alloc);
     let scene = Scene {
         group,
-        held: id_of(&held),
-        seen: id_of(&seen),
-        absent: id_of(&message(alloc, group, "n")?),
+        held: post_id(rt, alloc, &group, b"h"),
+        seen: post_id(rt, alloc, &group, b"s"),
+        absent: post_id(rt, alloc, &group, b"n"),
         wanted: unknown(1),
         unknown: unknown(2),
     };
-    start(alloc, &mut j, session)?;
-    push(alloc, &mut j, Entry::Author(held))?;
-    push(alloc, &mut j, Entry::Author(seen))?;
-    push(alloc, &mut j, Entry::Seen(0, scene.seen))?;
-    push(alloc, &mut j, Entry::Offered(0, scene.wanted))?;
-    push(alloc, &mut j, Entry::Level(0, group, level))?;
-    Ok((j, scene))
+    commit(rt, alloc, &mut j, Entry::Session(*session));
+    commit(
+        rt,
+        alloc,
+        &mut j,
+        Entry::Author(post(rt, alloc, &group, b"h")),
+    );
+    commit(
+        rt,
+        alloc,
+        &mut j,
+        Entry::Author(post(rt, alloc, &group, b"s")),
+    );
+    commit(rt, alloc, &mut j, Entry::Seen(0, scene.seen));
+    commit(rt, alloc, &mut j, Entry::Offered(0, scene.wanted));
+    commit(rt, alloc, &mut j, Entry::Level(0, group, level));
+    (j, scene)
 }
 
 /// Takes each record of the table, the group having this level for the contact.
-fn take_table(rt: &impl Abort, alloc: Global, level: Level) -> Result<(), Fail> {
+fn take_table(rt: &impl Abort, alloc: Global, level: Level) {
     let talk = session(0, 0, Mode::Interactive, 1);
-    let (mut j, scene) = play_scene(alloc, &talk, level)?;
+    let (mut j, scene) = play_scene(rt, alloc, &talk, level);
     let names = [
         (scene.held, 'h'),
         (scene.seen, 's'),
@@ -331,7 +345,7 @@ fn take_table(rt: &impl Abort, alloc: Global, level: Level) -> Result<(), Fail> 
         (scene.wanted, 'w'),
         (scene.unknown, 'u'),
     ];
-    for (heard, hidden, open) in [
+    for (heard, hidden, open) in &[
         (Heard::Versions, "T", "T"),
         (Heard::Priority, "T", "T"),
         (Heard::OtherGroup, "T", "T"),
@@ -346,185 +360,196 @@ fn take_table(rt: &impl Abort, alloc: Global, level: Level) -> Result<(), Fail> 
         } else {
             open
         };
-        let record = record_of(alloc, &scene, heard)?;
-        let told = hear(alloc, &mut j, &names, &talk, record)?;
-        assert_eq!(rt; told.as_str(), want, "{heard:?} at {level:?}");
+        let record = record_of(rt, alloc, &scene, *heard);
+        let told = hear(rt, alloc, &mut j, &names, &talk, record);
+        same(rt, &(level, told.as_str()), &(level, *want));
     }
-    Ok(())
 }
 
 #[test]
-fn takes_each_record(rt: HostRuntime) -> Result<(), Fail> {
+fn takes_each_record(rt: HostRuntime) {
     for level in [Level::Invisible, Level::Visible, Level::Shared] {
-        take_table(&rt, rt.alloc(), level)?;
+        take_table(&rt, rt.alloc(), level);
     }
-    Ok(())
+}
+
+/// An offer of so many equal ids.
+fn equal_offer(rt: &impl Abort, alloc: Global, len: usize) -> Record {
+    let ids = made(rt, vec![in alloc; unknown(1); len]);
+    Record::Offer(made(rt, IdList::new(ids)))
+}
+
+/// An offer of unknown ids of these numbers makes a batch of so many entries.
+fn check_offer(
+    rt: &impl Abort,
+    alloc: Global,
+    j: &mut Vec<Batch>,
+    session: &Session,
+    numbers: (usize, usize),
+    count: usize,
+) {
+    let (start, end) = numbers;
+    let record = Record::Offer(unknown_ids(rt, alloc, start, end));
+    let batch = batch_of(rt, alloc, j.as_slice(), session, record);
+    same(rt, &(numbers, batch.entries().len()), &(numbers, count));
+    made(rt, j.push(batch));
 }
 
 #[test]
-fn takes_lists_of_unknown_ids(rt: HostRuntime) -> Result<(), Fail> {
+fn takes_lists_of_unknown_ids(rt: HostRuntime) {
     let alloc = rt.alloc();
-    let (mut j, group) = begin(alloc)?;
+    let (mut j, group) = begin(&rt, alloc);
     let talk = session(0, 0, Mode::Interactive, 1);
-    start(alloc, &mut j, &talk)?;
-    push(alloc, &mut j, Entry::Level(0, group, Level::Shared))?;
-    let mut equal = Vec::new(alloc);
-    for _ in 0..1536 {
-        equal.push(unknown(1))?;
-    }
+    commit(&rt, alloc, &mut j, Entry::Session(talk));
+    commit(&rt, alloc, &mut j, Entry::Level(0, group, Level::Shared));
     let stranger = session(1, 9, Mode::Interactive, 1);
     let names = [(unknown(1), 'u')];
-    let record = Record::Offer(IdList::new(equal)?);
-    assert_eq!(rt;
-        hear(alloc, &mut j, &names, &talk, record)?.as_str(),
-        "T offered u"
-    );
-    let record = Record::Message(message(alloc, group, "m")?);
-    assert_eq!(rt;
-        hear(alloc, &mut j, &names, &stranger, record)?.as_str(),
-        "T"
-    );
-    for (first, end, count) in [(0, 999, 999), (998, 1001, 2), (0, 1536, 1)] {
-        let record = Record::Offer(unknown_ids(alloc, first, end)?);
-        let batch = batch_of(alloc, j.as_slice(), &talk, record)?;
-        assert_eq!(rt; batch.entries().len(), count, "{first} to {end}");
-        j.push(batch)?;
-    }
-    let next = next_out(alloc, j.as_slice(), true, &talk, 0)?;
-    assert_eq!(rt; requested(next), 1000);
-    Ok(())
+    let offer = equal_offer(&rt, alloc, 1536);
+    let told = hear(&rt, alloc, &mut j, &names, &talk, offer);
+    same(&rt, &told.as_str(), &"T offered u");
+    let record = Record::Message(post(&rt, alloc, &group, b"m"));
+    let told = hear(&rt, alloc, &mut j, &names, &stranger, record);
+    same(&rt, &told.as_str(), &"T");
+    check_offer(&rt, alloc, &mut j, &talk, (0, 999), 999);
+    check_offer(&rt, alloc, &mut j, &talk, (998, 1001), 2);
+    check_offer(&rt, alloc, &mut j, &talk, (0, 1536), 1);
+    let next = next_out(&rt, alloc, j.as_slice(), true, &talk, 0);
+    same(&rt, &requested(&next), &1000);
 }
 
 // ---- what is due
 
-#[test]
-fn speaks_in_order(rt: HostRuntime) -> Result<(), Fail> {
-    let alloc = rt.alloc();
-    for (mode, want) in [
-        (Mode::Interactive, " acks h requests u send a offers b"),
-        (Mode::Batch, " acks h send b send a"),
-    ] {
-        let (mut j, group) = begin(alloc)?;
-        let talk = session(0, 0, mode, 1);
-        start(alloc, &mut j, &talk)?;
-        push(alloc, &mut j, Entry::Level(0, group, Level::Shared))?;
-        let mut names = [(unknown(1), 'u'); 4];
-        for (body, place) in [("h", 1), ("b", 3), ("a", 2)] {
-            let post = message(alloc, group, body)?;
-            let id = id_of(&post);
-            names[place % 4] = (id, body.chars().next().unwrap_or('?'));
-            push(alloc, &mut j, Entry::Author(post))?;
-            settle_in(alloc, &mut j, &Open { share: false })?;
-        }
-        push(alloc, &mut j, Entry::Again(0, names[1].0))?;
-        push(alloc, &mut j, Entry::Offered(0, unknown(1)))?;
-        push(alloc, &mut j, Entry::Asked(0, names[2].0))?;
-        assert_eq!(rt; speak(alloc, &mut j, &names, &talk, 0)?.as_str(), want);
-    }
-    Ok(())
+/// All that may be due is said in this order.
+fn check_order(rt: &impl Abort, alloc: Global, mode: Mode, want: &str) {
+    let (mut j, group) = begin(rt, alloc);
+    let talk = session(0, 0, mode, 1);
+    commit(rt, alloc, &mut j, Entry::Session(talk));
+    commit(rt, alloc, &mut j, Entry::Level(0, group, Level::Shared));
+    let h = author(rt, alloc, &mut j, &group, b"h");
+    let b = author(rt, alloc, &mut j, &group, b"b");
+    let a = author(rt, alloc, &mut j, &group, b"a");
+    commit(rt, alloc, &mut j, Entry::Again(0, h));
+    commit(rt, alloc, &mut j, Entry::Offered(0, unknown(1)));
+    commit(rt, alloc, &mut j, Entry::Asked(0, a));
+    let names = [(unknown(1), 'u'), (h, 'h'), (a, 'a'), (b, 'b')];
+    let said = speak(rt, alloc, &mut j, &names, &talk, 0);
+    same(rt, &said.as_str(), &want);
 }
 
 #[test]
-fn keeps_an_invisible_group_shut(rt: HostRuntime) -> Result<(), Fail> {
+fn speaks_in_order(rt: HostRuntime) {
+    let interactive = " acks h requests u send a offers b";
+    check_order(&rt, rt.alloc(), Mode::Interactive, interactive);
+    check_order(&rt, rt.alloc(), Mode::Batch, " acks h send b send a");
+}
+
+/// The message `m` of the group comes on the session, and then this is taken and said.
+fn check_coming(
+    rt: &impl Abort,
+    alloc: Global,
+    j: &mut Vec<Batch>,
+    group: &GroupId,
+    from: &Session,
+    want: (&str, &str),
+) {
+    let m = post(rt, alloc, group, b"m");
+    let names = [(id_of(&m), 'm')];
+    let taken = hear(rt, alloc, j, &names, from, Record::Message(m));
+    settle(rt, alloc, j, true);
+    let said = speak(rt, alloc, j, &names, from, 0);
+    same(rt, &(taken.as_str(), said.as_str()), &want);
+}
+
+#[test]
+fn keeps_an_invisible_group_shut(rt: HostRuntime) {
     let alloc = rt.alloc();
-    let (mut j, group) = begin(alloc)?;
-    let clients = Open { share: true };
+    let (mut j, group) = begin(&rt, alloc);
     let from = session(0, 0, Mode::Batch, 1000);
-    start(alloc, &mut j, &from)?;
-    push(alloc, &mut j, Entry::Level(1, group, Level::Visible))?;
-    let m = id_of(&message(alloc, group, "m")?);
-    let names = [(m, 'm')];
-    for (level, taken, said) in [
-        (None, "T", ""),
-        (Some(Level::Visible), "T arrive m", " acks m"),
-    ] {
-        if let Some(level) = level {
-            push(alloc, &mut j, Entry::Level(0, group, level))?;
-        }
-        let record = Record::Message(message(alloc, group, "m")?);
-        assert_eq!(rt; hear(alloc, &mut j, &names, &from, record)?.as_str(), taken);
-        settle_in(alloc, &mut j, &clients)?;
-        assert_eq!(rt; speak(alloc, &mut j, &names, &from, 0)?.as_str(), said);
-    }
-    assert_eq!(rt; fate_in(j.as_slice(), &m), Some(Fate::Delivered));
+    commit(&rt, alloc, &mut j, Entry::Session(from));
+    commit(&rt, alloc, &mut j, Entry::Level(1, group, Level::Visible));
+    check_coming(&rt, alloc, &mut j, &group, &from, ("T", ""));
+    commit(&rt, alloc, &mut j, Entry::Level(0, group, Level::Visible));
+    check_coming(&rt, alloc, &mut j, &group, &from, ("T arrive m", " acks m"));
+    let m = post_id(&rt, alloc, &group, b"m");
+    same(&rt, &fate_in(j.as_slice(), &m), &Some(Fate::Delivered));
     for mode in [Mode::Interactive, Mode::Batch] {
         let to = session(1, 1, mode, 1000);
-        assert!(rt; next_out(alloc, j.as_slice(), true, &to, 0)?.is_none());
+        assert!(rt; next_out(&rt, alloc, j.as_slice(), true, &to, 0).is_none());
     }
-    Ok(())
+}
+
+/// What is said on the session at each of these times.
+fn check_times(
+    rt: &impl Abort,
+    alloc: Global,
+    j: &mut Vec<Batch>,
+    names: Names<'_>,
+    session: &Session,
+    times: &[(u64, &str)],
+) {
+    for (now, want) in times {
+        let said = speak(rt, alloc, j, names, session, *now);
+        same(rt, &(*now, said.as_str()), &(*now, *want));
+    }
+}
+
+/// Forty offers of the message were sent to contact 1 at time 0.
+fn add_offers(rt: &impl Abort, alloc: Global, j: &mut Vec<Batch>, m: &MessageId) {
+    for _ in 0..40 {
+        let out = Out::Offers(list(rt, alloc, &[*m]));
+        commit(rt, alloc, j, Entry::Out(1, 0, out));
+    }
 }
 
 #[test]
-fn waits_longer_after_each_try(rt: HostRuntime) -> Result<(), Fail> {
+fn waits_longer_after_each_try(rt: HostRuntime) {
     let alloc = rt.alloc();
-    let (mut j, group) = begin(alloc)?;
+    let (mut j, group) = begin(&rt, alloc);
     let talk = session(0, 0, Mode::Interactive, 30_000);
     let slow = session(1, 1, Mode::Interactive, u32::MAX);
-    start(alloc, &mut j, &talk)?;
-    start(alloc, &mut j, &slow)?;
-    push(alloc, &mut j, Entry::Level(0, group, Level::Shared))?;
-    push(alloc, &mut j, Entry::Level(1, group, Level::Shared))?;
-    let post = message(alloc, group, "m")?;
-    let m = id_of(&post);
+    commit(&rt, alloc, &mut j, Entry::Session(talk));
+    commit(&rt, alloc, &mut j, Entry::Session(slow));
+    commit(&rt, alloc, &mut j, Entry::Level(0, group, Level::Shared));
+    commit(&rt, alloc, &mut j, Entry::Level(1, group, Level::Shared));
+    let m = author(&rt, alloc, &mut j, &group, b"m");
     let names = [(m, 'm')];
-    push(alloc, &mut j, Entry::Author(post))?;
-    settle_in(alloc, &mut j, &Open { share: false })?;
-    for (now, want) in [
+    let offered: &[(u64, &str)] = &[
         (1_000, " offers m"),
         (60_999, ""),
         (61_000, " offers m"),
         (180_999, ""),
         (181_000, " offers m"),
         (420_999, ""),
-    ] {
-        assert_eq!(rt;
-            speak(alloc, &mut j, &names, &talk, now)?.as_str(),
-            want,
-            "{now}"
-        );
+    ];
+    check_times(&rt, alloc, &mut j, &names, &talk, offered);
+    commit(&rt, alloc, &mut j, Entry::Asked(0, m));
+    let asked: &[(u64, &str)] = &[(200_000, " send m"), (259_999, ""), (260_000, " offers m")];
+    check_times(&rt, alloc, &mut j, &names, &talk, asked);
+    add_offers(&rt, alloc, &mut j, &m);
+    for (now, want) in &[(u64::MAX - 1, ""), (u64::MAX, " offers m")] {
+        let said = speak(&rt, alloc, &mut j, &names, &slow, *now);
+        assert!(rt; said.starts_with(want), "{now}");
     }
-    push(alloc, &mut j, Entry::Asked(0, m))?;
-    for (now, want) in [(200_000, " send m"), (259_999, ""), (260_000, " offers m")] {
-        assert_eq!(rt;
-            speak(alloc, &mut j, &names, &talk, now)?.as_str(),
-            want,
-            "{now}"
-        );
-    }
-    for _ in 0..40 {
-        push(
-            alloc,
-            &mut j,
-            Entry::Out(1, 0, Out::Offers(ids(alloc, &[m])?)),
-        )?;
-    }
-    for (now, want) in [(u64::MAX - 1, ""), (u64::MAX, " offers m")] {
-        assert_eq!(rt;
-            speak(alloc, &mut j, &names, &slow, now)?.starts_with(want),
-            true,
-            "{now}"
-        );
-    }
-    Ok(())
 }
 
 // ---- links
 
+const LOW: Nonce = Fixed([1; 16]);
+
+const HIGH: Nonce = Fixed([2; 16]);
+
 #[test]
-fn judges_links(rt: HostRuntime) -> Result<(), Fail> {
-    let alloc = rt.alloc();
-    let (low, high) = (Fixed([1; 16]), Fixed([2; 16]));
-    for (nonces, want) in [
-        ([low, high, high], 1),
-        ([high, low, high], 0),
-        ([low, low, low], 0),
-        ([low, low, high], 2),
+fn judges_links(rt: HostRuntime) {
+    for (nonces, want) in &[
+        ([LOW, HIGH, HIGH], 1),
+        ([HIGH, LOW, HIGH], 0),
+        ([LOW, LOW, LOW], 0),
+        ([LOW, LOW, HIGH], 2),
     ] {
-        assert_eq!(rt; keep(&nonces), want);
+        same(&rt, &keep(nonces), want);
     }
-    for (versions, want) in [([0, 1], true), ([1, 0], true), ([1, 2], false)] {
-        let list = VersionList::new(versions.to_vec(alloc)?)?;
-        assert_eq!(rt; versions_ok(&list), want);
+    for (bytes, want) in &[([0, 1], true), ([1, 0], true), ([1, 2], false)] {
+        let list = versions(&rt, rt.alloc(), bytes);
+        same(&rt, &versions_ok(&list), want);
     }
-    Ok(())
 }
