@@ -1,12 +1,14 @@
 ghost use Rattle.std.specs.Prelude.{◌<◌};
 
+use crate::checks::{holds, kept, same};
+use crate::real::real_host;
 use outside::{Disk, Failed, Host, Sink, Source};
 use outside_real::{FileHost, StdSink, StdSource};
 use std::alloc::AllocError;
 use std::fs;
-use std::fs::{File, Permissions};
+use std::fs::{File, Files, Permissions};
 use std::os::unix::fs::{PermissionsExt, symlink};
-use std::test::Fail;
+use std::process::Abort;
 
 // A call on a file of a disk, its arguments and what it answers. A read has room for so many bytes,
 // eight at most, and answers with the bytes.
@@ -19,11 +21,9 @@ enum Call {
     Sync(u8, Result<(), Failed>),
 }
 
-type RealHost = FileHost<HostRuntime>;
-
 // Whether a read into a buffer of nines answers so, and leaves those behind what was read.
 fn reads(
-    host: &mut RealHost,
+    host: &mut FileHost<HostRuntime>,
     file: u8,
     at: u64,
     room: usize,
@@ -40,7 +40,7 @@ fn reads(
 }
 
 // Whether the call answers so.
-fn answers(host: &mut RealHost, call: &Call) -> bool {
+fn answers(host: &mut FileHost<HostRuntime>, call: &Call) -> bool {
     match *call {
         Call::Len(file, len) => host.len(file.min(1)) == len,
         Call::Read(file, at, room, bytes) => reads(host, file.min(1), at, room, bytes),
@@ -50,19 +50,45 @@ fn answers(host: &mut RealHost, call: &Call) -> bool {
     }
 }
 
+// Makes the calls: the number of the first one that answers otherwise.
+fn first_of(host: &mut FileHost<HostRuntime>, calls: &[Call]) -> Option<usize> {
+    for (number, call) in calls.iter().enumerate() {
+        if !answers(host, call) {
+            return Some(number);
+        }
+    }
+    None
+}
+
 // Makes the calls on the files of a folder, as a host that is new finds them: the number of the
 // first one that answers otherwise.
 fn first_apart(rt: HostRuntime, folder: &str, calls: &[Call]) -> Result<Option<usize>, AllocError> {
-    let mut host = FileHost::new(rt, folder)?;
-    for (number, call) in calls.iter().enumerate() {
-        if !answers(&mut host, call) {
-            return Ok(Some(number));
-        }
-    }
-    Ok(None)
+    let mut host = real_host(rt, folder)?;
+    Ok(first_of(&mut host.host, calls))
 }
 
-const ON_A_DISK: [Call; 10] = [
+// Makes a folder, which is not there.
+fn make_folder<R: Abort + Files>(rt: &R, folder: &str) {
+    kept(rt, fs::create_dir(rt, folder));
+}
+
+fn write_file<R: Abort + Files>(rt: &R, path: &str, bytes: &[u8]) {
+    kept(rt, fs::write(rt, path, bytes));
+}
+
+fn allow<R: Abort + Files>(rt: &R, path: &str, mode: u32) {
+    kept(
+        rt,
+        fs::set_permissions(rt, path, Permissions::from_mode(mode)),
+    );
+}
+
+// Removes a folder with what is in it.
+fn remove_folder<R: Abort + Files + Alloc>(rt: &R, folder: &str) {
+    kept(rt, fs::remove_dir_all(rt, folder));
+}
+
+static ON_A_DISK: [Call; 10] = [
     Call::Len(0, Ok(0)),
     Call::Read(0, 0, 8, Ok(b"")),
     Call::Sync(0, Ok(())),
@@ -75,25 +101,26 @@ const ON_A_DISK: [Call; 10] = [
     Call::Len(0, Ok(3)),
 ];
 
-const KEPT: [Call; 2] = [Call::Len(0, Ok(3)), Call::Len(1, Ok(0))];
+static KEPT: [Call; 2] = [Call::Len(0, Ok(3)), Call::Len(1, Ok(0))];
 
 #[test]
-fn a_disk_of_files(rt: HostRuntime) -> Result<(), Fail> {
+fn a_disk_of_files(rt: HostRuntime) {
     let folder = "files_of_a_disk";
-    fs::create_dir(&rt, folder)?;
-    assert_eq!(rt; first_apart(rt, folder, &ON_A_DISK)?, None);
-    assert_eq!(rt;
-        fs::read(&rt, "files_of_a_disk/bsp.0")?.as_slice(),
-        b"abc".as_slice()
+    make_folder(&rt, folder);
+    same(&rt, &first_apart(rt, folder, &ON_A_DISK), &Ok(None));
+    let bytes = kept(&rt, fs::read(&rt, "files_of_a_disk/bsp.0"));
+    same(&rt, &bytes.as_slice(), &b"abc".as_slice());
+    holds(
+        &rt,
+        "one file",
+        fs::metadata(&rt, "files_of_a_disk/bsp.1").is_err(),
     );
-    assert!(rt; fs::metadata(&rt, "files_of_a_disk/bsp.1").is_err());
-    assert_eq!(rt; first_apart(rt, folder, &KEPT)?, None);
-    fs::remove_dir_all(&rt, folder)?;
-    Ok(())
+    same(&rt, &first_apart(rt, folder, &KEPT), &Ok(None));
+    remove_folder(&rt, folder);
 }
 
 // The file has 600,000 sevens.
-const AHEAD: [Call; 11] = [
+static AHEAD: [Call; 11] = [
     Call::Read(0, 262_142, 3, Ok(b"\x07\x07\x07")),
     Call::Read(0, 5, 3, Ok(b"\x07\x07\x07")),
     Call::Write(0, 6, b"ab", Ok(())),
@@ -108,27 +135,26 @@ const AHEAD: [Call; 11] = [
 ];
 
 #[test]
-fn reads_ahead(rt: HostRuntime) -> Result<(), Fail> {
+fn reads_ahead(rt: HostRuntime) {
     let folder = "files_read_ahead";
-    fs::create_dir(&rt, folder)?;
-    let bytes = vec![in rt.alloc(); 7; 600_000]?;
-    fs::write(&rt, "files_read_ahead/bsp.0", bytes.as_slice())?;
-    assert_eq!(rt; first_apart(rt, folder, &AHEAD)?, None);
-    fs::write(&rt, "files_read_ahead/bsp.1", bytes.as_slice())?;
-    assert!(rt; reads_much(rt, folder)?);
-    fs::remove_dir_all(&rt, folder)?;
-    Ok(())
+    make_folder(&rt, folder);
+    let bytes = kept(&rt, vec![in rt.alloc(); 7; 600_000]);
+    write_file(&rt, "files_read_ahead/bsp.0", bytes.as_slice());
+    same(&rt, &first_apart(rt, folder, &AHEAD), &Ok(None));
+    write_file(&rt, "files_read_ahead/bsp.1", bytes.as_slice());
+    same(&rt, &reads_much(rt, folder), &Ok(true));
+    remove_folder(&rt, folder);
 }
 
 // Whether a host reads more at a call than it reads ahead.
 fn reads_much(rt: HostRuntime, folder: &str) -> Result<bool, AllocError> {
     let mut large = vec![in rt.alloc(); 0; 300_000]?;
-    let mut host = FileHost::new(rt, folder)?;
-    let answer = host.read_at(1, 1, large.as_mut_slice());
+    let mut host = real_host(rt, folder)?;
+    let answer = host.host.read_at(1, 1, large.as_mut_slice());
     Ok(answer == Ok(300_000) && large.last() == Some(&7))
 }
 
-const NOT_SYNCED: [Call; 10] = [
+static NOT_SYNCED: [Call; 10] = [
     Call::Len(0, Ok(0)),
     Call::Write(0, 0, b"a", Ok(())),
     Call::Sync(0, Err(Failed)),
@@ -143,82 +169,80 @@ const NOT_SYNCED: [Call; 10] = [
 
 // A device that can't be synced stands in the place of a file.
 #[test]
-fn a_failed_sync_is_final(rt: HostRuntime) -> Result<(), Fail> {
+fn a_failed_sync_is_final(rt: HostRuntime) {
     let folder = "files_not_synced";
-    fs::create_dir(&rt, folder)?;
-    symlink(&rt, "/dev/null", "files_not_synced/bsp.0")?;
-    assert_eq!(rt; first_apart(rt, folder, &NOT_SYNCED)?, None);
-    fs::remove_dir_all(&rt, folder)?;
-    Ok(())
+    make_folder(&rt, folder);
+    kept(&rt, symlink(&rt, "/dev/null", "files_not_synced/bsp.0"));
+    same(&rt, &first_apart(rt, folder, &NOT_SYNCED), &Ok(None));
+    remove_folder(&rt, folder);
 }
 
-const TO_READ: [Call; 3] = [
+static TO_READ: [Call; 3] = [
     Call::Sync(0, Ok(())),
     Call::Sync(1, Ok(())),
     Call::Read(0, 0, 4, Ok(b"abc")),
 ];
 
 #[test]
-fn a_folder_that_may_only_be_read(rt: HostRuntime) -> Result<(), Fail> {
+fn a_folder_that_may_only_be_read(rt: HostRuntime) {
     let folder = "files_to_read";
-    fs::create_dir(&rt, folder)?;
-    fs::write(&rt, "files_to_read/bsp.0", b"abc")?;
-    fs::set_permissions(&rt, "files_to_read/bsp.0", Permissions::from_mode(0o444))?;
-    fs::set_permissions(&rt, folder, Permissions::from_mode(0o555))?;
-    assert_eq!(rt; first_apart(rt, folder, &TO_READ)?, None);
-    fs::set_permissions(&rt, folder, Permissions::from_mode(0o755))?;
-    fs::remove_dir_all(&rt, folder)?;
-    Ok(())
+    make_folder(&rt, folder);
+    write_file(&rt, "files_to_read/bsp.0", b"abc");
+    allow(&rt, "files_to_read/bsp.0", 0o444);
+    allow(&rt, folder, 0o555);
+    same(&rt, &first_apart(rt, folder, &TO_READ), &Ok(None));
+    allow(&rt, folder, 0o755);
+    remove_folder(&rt, folder);
 }
 
-const NO_FOLDER: [Call; 2] = [Call::Len(0, Ok(0)), Call::Write(0, 0, b"a", Err(Failed))];
+static NO_FOLDER: [Call; 2] = [Call::Len(0, Ok(0)), Call::Write(0, 0, b"a", Err(Failed))];
 
 // The second file is a folder.
-const A_FOLDER: [Call; 3] = [
+static A_FOLDER: [Call; 3] = [
     Call::Len(0, Ok(0)),
     Call::Len(1, Err(Failed)),
     Call::Sync(1, Err(Failed)),
 ];
 
 #[test]
-fn calls_that_fail(rt: HostRuntime) -> Result<(), Fail> {
+fn calls_that_fail(rt: HostRuntime) {
     let nowhere = "no_folder";
-    assert!(rt; dials_nothing(rt, nowhere)?);
-    assert_eq!(rt; first_apart(rt, nowhere, &NO_FOLDER)?, None);
+    same(&rt, &dials_nothing(rt, nowhere), &Ok(true));
+    same(&rt, &first_apart(rt, nowhere, &NO_FOLDER), &Ok(None));
     let folder = "a_folder_as_a_file";
-    fs::create_dir(&rt, folder)?;
-    fs::create_dir(&rt, "a_folder_as_a_file/bsp.1")?;
-    assert_eq!(rt; first_apart(rt, folder, &A_FOLDER)?, None);
-    fs::remove_dir_all(&rt, folder)?;
-    Ok(())
+    make_folder(&rt, folder);
+    make_folder(&rt, "a_folder_as_a_file/bsp.1");
+    same(&rt, &first_apart(rt, folder, &A_FOLDER), &Ok(None));
+    remove_folder(&rt, folder);
 }
 
 // Whether a host dials nobody by a spec of no kind, and has a clock of milliseconds.
 fn dials_nothing(rt: HostRuntime, folder: &str) -> Result<bool, AllocError> {
-    let mut host = FileHost::new(rt, folder)?;
-    let dialled = host.dial("nothing");
-    Ok(dialled.is_err() && host.now() > 1_700_000_000_000)
+    let mut host = real_host(rt, folder)?;
+    let dialled = host.host.dial("nothing");
+    Ok(dialled.is_err() && host.host.now() > 1_700_000_000_000)
 }
 
 #[test]
-fn streams(rt: HostRuntime) -> Result<(), Fail> {
+fn streams(rt: HostRuntime) {
     let path = "a_stream";
-    assert!(rt; writes(&mut StdSink::new(fs::create(&rt, path)?)));
-    assert!(rt; reads_all(&mut StdSource::new(fs::open(&rt, path)?)));
-    let mut closed = StdSink::new(fs::open(&rt, path)?);
-    assert!(rt; closed.write(b"a").is_err());
-    let mut unread = StdSource::new(fs::create(&rt, path)?);
-    assert!(rt; unread.read(&mut [0; 3]).is_err());
-    fs::remove_file(&rt, path)?;
-    Ok(())
+    let file = kept(&rt, fs::create(&rt, path));
+    holds(&rt, "it writes", writes(StdSink::new(file)));
+    let file = kept(&rt, fs::open(&rt, path));
+    holds(&rt, "it reads all", reads_all(StdSource::new(file)));
+    let file = kept(&rt, fs::open(&rt, path));
+    holds(&rt, "no write", refuses_a_write(StdSink::new(file)));
+    let file = kept(&rt, fs::create(&rt, path));
+    holds(&rt, "no read", refuses_a_read(StdSource::new(file)));
+    kept(&rt, fs::remove_file(&rt, path));
 }
 
-fn writes<S: Sink>(sink: &mut S) -> bool {
+fn writes<S: Sink + Drop>(mut sink: S) -> bool {
     sink.write(b"hello") == Ok(5) && sink.write(b"") == Ok(0)
 }
 
 // Whether it reads so much at each call, up to the end.
-fn reads_all<S: Source>(source: &mut S) -> bool {
+fn reads_all<S: Source + Drop>(mut source: S) -> bool {
     let mut buf = [0u8; 3];
     for len in [3, 2, 0] {
         if source.read(&mut buf) != Ok(len) {
@@ -226,4 +250,12 @@ fn reads_all<S: Source>(source: &mut S) -> bool {
         }
     }
     buf == *b"lol"
+}
+
+fn refuses_a_write<S: Sink + Drop>(mut sink: S) -> bool {
+    sink.write(b"a").is_err()
+}
+
+fn refuses_a_read<S: Source + Drop>(mut source: S) -> bool {
+    source.read(&mut [0; 3]).is_err()
 }

@@ -1,8 +1,7 @@
+use crate::checks::{disk_of, disk_with, holds, kept, same};
 use frame_journal::{FrameFault, Journal, StartFault, barrier, clear, create, read_header};
 use outside::{MemDisk, Pick, Untold};
-use std::alloc::Global;
 use std::process::Abort;
-use std::test::Fail;
 
 // A journal of generation 1 with the payload 01 00.
 const ROW: [u8; 22] = [
@@ -18,17 +17,20 @@ enum Ending {
     Fault,
 }
 
-fn ending_of(alloc: Global, disk: MemDisk) -> Ending {
+fn ending_of<R: Abort + AllocGlobal>(rt: &R, disk: MemDisk) -> Ending {
     let mut disk = Untold::new(disk);
-    let mut journal = match Journal::start(&mut disk) {
-        Ok(journal) => journal,
-        Err(StartFault::NoStore) => return Ending::NoStore,
-        Err(StartFault::Damaged(place)) => return Ending::Damaged(place.file, place.at),
-        Err(StartFault::DiskFault) => return Ending::Fault,
-    };
-    let mut to = Vec::new(alloc);
+    let mut to = Vec::new(rt.alloc());
+    match Journal::start(&mut disk) {
+        Ok(mut journal) => ending_behind(&mut disk, &mut journal, &mut to),
+        Err(StartFault::NoStore) => Ending::NoStore,
+        Err(StartFault::Damaged(place)) => Ending::Damaged(place.file, place.at),
+        Err(StartFault::DiskFault) => Ending::Fault,
+    }
+}
+
+fn ending_behind(disk: &mut Untold, journal: &mut Journal, to: &mut Vec<u8>) -> Ending {
     for frames in 0..u64::MAX {
-        match journal.next_frame(&mut disk, &mut to) {
+        match journal.next_frame(disk, to) {
             Ok(true) => {}
             Ok(false) => return Ending::Frames(frames),
             Err(FrameFault::Damaged(place)) => return Ending::Damaged(place.file, place.at),
@@ -38,14 +40,20 @@ fn ending_of(alloc: Global, disk: MemDisk) -> Ending {
     Ending::Fault
 }
 
-fn ending_with(alloc: Global, file0: &[u8], file1: &[u8]) -> Result<Ending, Fail> {
-    let first = Vec::from_slice(alloc, file0)?;
-    let second = Vec::from_slice(alloc, file1)?;
-    Ok(ending_of(alloc, MemDisk::new(alloc, first, second)?))
+// Reading two files ends so.
+fn ends<R: Abort + AllocGlobal>(
+    rt: &R,
+    place: usize,
+    file0: &[u8],
+    file1: &[u8],
+    expected: Ending,
+) {
+    let ending = ending_of(rt, disk_of(rt, file0, file1));
+    same(rt, &(place, ending), &(place, expected));
 }
 
 #[test]
-fn cut_and_inverted(rt: HostRuntime) -> Result<(), Fail> {
+fn cut_and_inverted(rt: HostRuntime) {
     for n in 0..23usize {
         let expected = match n {
             0..=13 => Ending::NoStore,
@@ -53,12 +61,12 @@ fn cut_and_inverted(rt: HostRuntime) -> Result<(), Fail> {
             21 => Ending::Damaged(0, 21),
             _ => Ending::Frames(1),
         };
-        assert_eq!(rt;
-            ending_with(rt.alloc(), &ROW[..n], &[])?,
-            expected,
-            "cut to {n}"
-        );
+        ends(&rt, n, &ROW[..n], &[], expected);
     }
+    inverted(&rt);
+}
+
+fn inverted<R: Abort + AllocGlobal>(rt: &R) {
     for i in 0..22usize {
         let mut bytes = ROW;
         bytes[i] ^= 0xff;
@@ -69,41 +77,45 @@ fn cut_and_inverted(rt: HostRuntime) -> Result<(), Fail> {
             15..=18 => Ending::Damaged(0, 14),
             _ => Ending::Frames(1),
         };
-        assert_eq!(rt; ending_with(rt.alloc(), &bytes, &[])?, expected, "byte {i}");
+        ends(rt, i, &bytes, &[], expected);
     }
-    Ok(())
 }
 
+// A journal whose one payload is so many zeros.
+fn zeros<R: Abort + AllocGlobal>(rt: &R, size: u32) -> Vec<u8> {
+    let mut bytes = kept(rt, Vec::from_slice(rt.alloc(), &ROW[..15]));
+    kept(rt, bytes.extend_from_slice(&size.to_be_bytes()));
+    kept(rt, bytes.resize(19 + size as usize + 1, 0));
+    bytes
+}
+
+static LENGTHS: [(u32, Ending); 3] = [
+    (0, Ending::Damaged(0, 14)),
+    (65_536, Ending::Frames(1)),
+    (65_537, Ending::Damaged(0, 14)),
+];
+
 #[test]
-fn lengths_and_generations(rt: HostRuntime) -> Result<(), Fail> {
-    let alloc = rt.alloc();
-    for (size, expected) in [
-        (0u32, Ending::Damaged(0, 14)),
-        (65_536, Ending::Frames(1)),
-        (65_537, Ending::Damaged(0, 14)),
-    ] {
-        let mut bytes = Vec::from_slice(alloc, &ROW[..15])?;
-        bytes.extend_from_slice(&size.to_be_bytes())?;
-        bytes.resize(19 + size as usize + 1, 0)?;
-        assert_eq!(rt; ending_with(alloc, &bytes, &[])?, expected, "length {size}");
+fn lengths_and_generations(rt: HostRuntime) {
+    for (size, expected) in &LENGTHS {
+        let bytes = zeros(&rt, *size);
+        ends(&rt, *size as usize, bytes.as_slice(), &[], *expected);
     }
     let mut other = ROW;
     other[5] = 9;
-    assert_eq!(rt; ending_with(alloc, &ROW, &other)?, Ending::Frames(1));
-    assert_eq!(rt; ending_with(alloc, &other, &ROW)?, Ending::Damaged(0, 5));
+    ends(&rt, 1, &ROW, &other, Ending::Frames(1));
+    ends(&rt, 2, &other, &ROW, Ending::Damaged(0, 5));
     other[13] = 2;
-    assert_eq!(rt; ending_with(alloc, &ROW, &other)?, Ending::Damaged(1, 5));
-    Ok(())
+    ends(&rt, 3, &ROW, &other, Ending::Damaged(1, 5));
 }
 
 // Clears file 0, begins a journal in it and adds the payload 01 00, with this call failing.
-fn written(rt: &impl Abort, alloc: Global, failing: u64) -> Result<MemDisk, Fail> {
-    let disk = MemDisk::new(alloc, Vec::from_slice(alloc, &[0])?, Vec::new(alloc))?;
-    let mut disk = Untold::new(disk);
-    disk.disk.fail_at(failing)?;
-    let answer = write_all(&mut disk);
-    assert_eq!(rt; answer.is_err(), failing < 11);
-    Ok(disk.disk)
+fn written<R: Abort + AllocGlobal>(rt: &R, failing: u64) -> MemDisk {
+    let mut disk = Untold::new(disk_with(rt, &[0]));
+    kept(rt, disk.disk.fail_at(failing));
+    let is_failed = write_all(&mut disk).is_err();
+    same(rt, &(failing, is_failed), &(failing, failing < 11));
+    disk.disk
 }
 
 fn write_all(disk: &mut Untold) -> Result<(), StartFault> {
@@ -113,66 +125,72 @@ fn write_all(disk: &mut Untold) -> Result<(), StartFault> {
     Ok(())
 }
 
-#[test]
-fn each_call_fails(rt: HostRuntime) -> Result<(), Fail> {
-    let none = Ending::NoStore;
-    let table = [
-        (0, [none; 4]),
-        (1, [none; 4]),
-        (2, [none, Ending::Frames(0), none, Ending::Frames(0)]),
-        (3, [none, Ending::Frames(0), none, Ending::Frames(0)]),
-        (7, [Ending::Frames(0); 4]),
-        (8, [Ending::Frames(0); 4]),
-        (
-            9,
-            [
-                Ending::Frames(0),
-                Ending::Frames(1),
-                Ending::Frames(0),
-                Ending::Frames(1),
-            ],
-        ),
-        (
-            10,
-            [
-                Ending::Frames(0),
-                Ending::Frames(1),
-                Ending::Frames(0),
-                Ending::Frames(1),
-            ],
-        ),
-        (11, [Ending::Frames(1); 4]),
-    ];
-    for (failing, expected) in table {
-        let disk = written(&rt, rt.alloc(), failing)?;
-        let picks = [Pick::Old, Pick::New, Pick::Zero, Pick::Ones];
-        for (i, pick) in picks.into_iter().enumerate() {
-            let ending = ending_of(rt.alloc(), disk.image(pick)?);
-            assert_eq!(rt; ending, expected[i], "call {failing}, pick {i}");
-        }
-    }
-    let disk = written(&rt, rt.alloc(), 11)?;
-    assert_eq!(rt; disk.file(0), ROW.as_slice());
-    Ok(())
+// The call that fails, and what reading each pick ends with then.
+type Failing = (u64, Ending, Ending, Ending, Ending);
+
+const NONE: Ending = Ending::NoStore;
+
+const EMPTY: Ending = Ending::Frames(0);
+
+const WHOLE: Ending = Ending::Frames(1);
+
+static FAILING: [Failing; 9] = [
+    (0, NONE, NONE, NONE, NONE),
+    (1, NONE, NONE, NONE, NONE),
+    (2, NONE, EMPTY, NONE, EMPTY),
+    (3, NONE, EMPTY, NONE, EMPTY),
+    (7, EMPTY, EMPTY, EMPTY, EMPTY),
+    (8, EMPTY, EMPTY, EMPTY, EMPTY),
+    (9, EMPTY, WHOLE, EMPTY, WHOLE),
+    (10, EMPTY, WHOLE, EMPTY, WHOLE),
+    (11, WHOLE, WHOLE, WHOLE, WHOLE),
+];
+
+// Reads a pick of a disk.
+fn read_pick<R: Abort + AllocGlobal>(rt: &R, disk: &MemDisk, pick: Pick) -> Ending {
+    ending_of(rt, kept(rt, disk.image(pick)))
+}
+
+// Reads each pick of a disk on which this call failed.
+fn read_picks<R: Abort + AllocGlobal>(rt: &R, failing: u64) -> Failing {
+    let disk = written(rt, failing);
+    let old = read_pick(rt, &disk, Pick::Old);
+    let new = read_pick(rt, &disk, Pick::New);
+    let zero = read_pick(rt, &disk, Pick::Zero);
+    let ones = read_pick(rt, &disk, Pick::Ones);
+    (failing, old, new, zero, ones)
 }
 
 #[test]
-fn cleared(rt: HostRuntime) -> Result<(), Fail> {
-    let alloc = rt.alloc();
-    for (before, after) in [
-        (&ROW[..], 0u8),
-        (&ROW[..0], 0),
-        (&[7u8, 1, 1][..], 7),
-        (&[0u8][..], 0),
-    ] {
-        let disk = MemDisk::new(alloc, Vec::from_slice(alloc, before)?, Vec::new(alloc))?;
-        let mut disk = Untold::new(disk);
-        assert_eq!(rt;
-            clear(&mut disk, 0).is_ok() && barrier(&mut disk).is_ok(),
-            true
-        );
-        assert_eq!(rt; disk.disk.file(0), [after].as_slice());
-        assert_eq!(rt; read_header(&mut disk, 0).is_ok(), true);
+fn each_call_fails(rt: HostRuntime) {
+    for row in &FAILING {
+        same(&rt, &read_picks(&rt, row.0), row);
     }
-    Ok(())
+    let disk = written(&rt, 11);
+    same(&rt, &disk.file(0), &ROW.as_slice());
+}
+
+// What file 0 has, and what byte is left of it.
+static CLEARED: [(&[u8], u8); 4] = [(&ROW, 0), (b"", 0), (&[7, 1, 1], 7), (&[0], 0)];
+
+fn clear_one<R: Abort + AllocGlobal>(rt: &R, before: &[u8], after: u8) {
+    let mut disk = Untold::new(disk_with(rt, before));
+    holds(
+        rt,
+        "it is cleared",
+        clear(&mut disk, 0).is_ok() && barrier(&mut disk).is_ok(),
+    );
+    same(rt, &disk.disk.file(0), &[after].as_slice());
+    holds(
+        rt,
+        "a header is looked for",
+        read_header(&mut disk, 0).is_ok(),
+    );
+}
+
+#[test]
+fn cleared(rt: HostRuntime) {
+    for (before, after) in &CLEARED {
+        clear_one(&rt, before, *after);
+    }
 }

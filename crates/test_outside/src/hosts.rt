@@ -1,18 +1,16 @@
-ghost use Rattle.std.specs.Prelude.{◌≡◌, ◌<◌, [], length, IfOk, OnOk};
+ghost use Rattle.std.specs.Prelude.{◌≡◌, ◌<◌, [], length, OnOk};
 ghost use Rattle.outside.specs.MemHost.{links_of};
 
+use crate::checks::{disk_with, hear, holds, kept, same};
 use crate::disks::use_disk;
-use outside::{Answer, Disk, Failed, Heard, Host, MemDisk, MemHost, Pick};
-use std::alloc::{AllocError, Global};
+use outside::{Answer, Disk, Failed, Heard, Host, MemHost, Pick};
 use std::process::Abort;
-use std::test::Fail;
 
 // A host over an empty disk.
-fn new_host(alloc: Global) -> Result<MemHost, Fail>
-    ensures { IfOk result (λ h. links_of h.disk ≡ []) }
+fn new_host<R: Abort + AllocGlobal>(rt: &R) -> MemHost
+    ensures { links_of result.disk ≡ [] }
 {
-    let disk = MemDisk::new(alloc, Vec::new(alloc), Vec::new(alloc))?;
-    Ok(MemHost::new(alloc, disk)?)
+    kept(rt, MemHost::new(rt.alloc(), disk_with(rt, b"")))
 }
 
 // Makes two links.
@@ -26,34 +24,35 @@ fn dial_two<H: Host>(host: &mut H) -> Result<(), Failed>
 }
 
 // A host over an empty disk with two links.
-fn linked_host(alloc: Global) -> Result<MemHost, Fail>
-    ensures { IfOk result (λ h. length (links_of h.disk) ≡ 2) }
+fn linked_host<R: Abort + AllocGlobal>(rt: &R) -> MemHost
+    ensures { length (links_of result.disk) ≡ 2 }
 {
-    let mut host = new_host(alloc)?;
-    dial_two(&mut host)?;
-    Ok(host)
+    let mut host = new_host(rt);
+    kept(rt, dial_two(&mut host));
+    host
 }
 
 // What is to be heard: the room that is given, the answer, and the buffer then.
 type Hearing = (usize, Heard, [u8; 4]);
 
 // Hears on link 0 into a buffer of so many bytes.
-fn hear<H: Host>(rt: &impl Abort, host: &mut H, room: usize) -> (Heard, [u8; 4])
+fn hear_into<H: Host>(rt: &impl Abort, host: &mut H, expected: &Hearing)
     requires { 0 < (H.tells host.old).links.dialled }
     ensures { (H.tells host.new).links.dialled ≡ (H.tells host.old).links.dialled }
 {
-    assert!(rt; room > 0 && room <= 4);
+    let (room, heard, bytes) = expected;
+    assert!(rt; *room > 0 && *room <= 4);
     let mut buf = [0u8; 4];
-    let heard = host.recv(0, &mut buf[..room]);
-    (heard, buf)
+    hear(rt, host, &mut buf[..*room], *heard);
+    same(rt, &buf, bytes);
 }
 
 // Hears as often as there are answers expected.
 fn hear_all<H: Host>(rt: &impl Abort, host: &mut H, expected: &[Hearing])
     requires { 0 < (H.tells host.old).links.dialled }
 {
-    for (room, heard, bytes) in expected {
-        assert_eq!(rt; hear(rt, host, *room), (*heard, *bytes));
+    for hearing in expected {
+        hear_into(rt, host, hearing);
     }
 }
 
@@ -67,28 +66,27 @@ enum Planned {
 }
 
 impl Planned {
-    fn answer(self, alloc: Global) -> Result<Answer, AllocError> {
-        Ok(match self {
-            Planned::Bytes(bytes) => Answer::Bytes(bytes.to_vec(alloc)?),
+    fn answer<R: Abort + AllocGlobal>(self, rt: &R) -> Answer {
+        match self {
+            Planned::Bytes(bytes) => Answer::Bytes(kept(rt, bytes.to_vec(rt.alloc()))),
             Planned::Idle => Answer::Idle,
             Planned::End => Answer::End,
             Planned::Fail => Answer::Fail,
-        })
+        }
     }
 }
 
 // Adds answers to the script of link 0.
-fn plan(host: &mut MemHost, alloc: Global, script: &[Planned]) -> Result<(), AllocError>
+fn plan<R: Abort + AllocGlobal>(rt: &R, host: &mut MemHost, script: &[Planned])
     ensures { links_of host.new.disk ≡ links_of host.old.disk }
 {
     for planned in script {
-        host.script(0, planned.answer(alloc)?)?;
+        kept(rt, host.script(0, planned.answer(rt)));
     }
-    Ok(())
 }
 
 // An answer of each kind.
-const SCRIPT: [Planned; 6] = [
+static SCRIPT: [Planned; 6] = [
     Planned::Bytes(b"abcde"),
     Planned::Bytes(b""),
     Planned::Idle,
@@ -97,7 +95,7 @@ const SCRIPT: [Planned; 6] = [
     Planned::Bytes(b"fghi"),
 ];
 
-const HEARINGS: [Hearing; 9] = [
+static HEARINGS: [Hearing; 9] = [
     (2, Heard::Got(2), *b"ab\0\0"),
     (1, Heard::Got(1), *b"c\0\0\0"),
     (4, Heard::Got(2), *b"de\0\0"),
@@ -110,67 +108,62 @@ const HEARINGS: [Hearing; 9] = [
 ];
 
 #[test]
-fn scripts(rt: HostRuntime) -> Result<(), Fail> {
-    let mut host = linked_host(rt.alloc())?;
-    plan(&mut host, rt.alloc(), &SCRIPT)?;
-    hear_all(&rt, &mut host, HEARINGS.as_slice());
-    assert_eq!(rt; host.starved(), 0);
-    Ok(())
+fn scripts(rt: HostRuntime) {
+    let mut host = linked_host(&rt);
+    plan(&rt, &mut host, &SCRIPT);
+    hear_all(&rt, &mut host, &HEARINGS);
+    same(&rt, &host.starved(), &0);
 }
 
 // Reads the clock as often as there are readings expected.
 fn read<H: Host>(rt: &impl Abort, host: &mut H, expected: &[u64]) {
     for reading in expected {
-        assert_eq!(rt; host.now(), *reading);
+        same(rt, &host.now(), reading);
     }
 }
 
-fn give_readings(host: &mut MemHost, readings: &[u64]) -> Result<(), AllocError> {
+fn give_readings(rt: &impl Abort, host: &mut MemHost, readings: &[u64]) {
     for reading in readings {
-        host.reading(*reading)?;
+        kept(rt, host.reading(*reading));
     }
-    Ok(())
 }
 
 #[test]
-fn readings(rt: HostRuntime) -> Result<(), Fail> {
-    let mut host = new_host(rt.alloc())?;
+fn readings(rt: HostRuntime) {
+    let mut host = new_host(&rt);
     read(&rt, &mut host, &[0]);
-    give_readings(&mut host, &[5, 4])?;
+    give_readings(&rt, &mut host, &[5, 4]);
     read(&rt, &mut host, &[5, 4, 4]);
-    give_readings(&mut host, &[9, 10])?;
+    give_readings(&rt, &mut host, &[9, 10]);
     read(&rt, &mut host, &[9]);
-    host.set_clock(3)?;
+    kept(&rt, host.set_clock(3));
     read(&rt, &mut host, &[3, 3]);
-    Ok(())
 }
 
 #[test]
-fn dials(rt: HostRuntime) -> Result<(), Fail> {
-    let mut host = new_host(rt.alloc())?;
-    host.fail_dial(1)?;
-    assert_eq!(rt; dial_two(&mut host), Err(Failed));
-    Ok(())
+fn dials(rt: HostRuntime) {
+    let mut host = new_host(&rt);
+    kept(&rt, host.fail_dial(1));
+    same(&rt, &dial_two(&mut host), &Err(Failed));
 }
 
-// Asks for a nonce on link 1.
-fn ask<H: Host>(host: &mut H) -> Result<[u8; 16], Failed>
+// A nonce of link 1 is this one.
+fn ask<H: Host>(rt: &impl Abort, host: &mut H, expected: Result<[u8; 16], Failed>)
     requires { (H.tells host.old).links.dialled ≡ 2 }
     ensures { (H.tells host.new).links.dialled ≡ 2 }
 {
-    host.nonce(1)
+    same(rt, &host.nonce(1), &expected);
 }
 
 #[test]
-fn nonces(rt: HostRuntime) -> Result<(), Fail> {
-    let mut host = linked_host(rt.alloc())?;
-    assert_eq!(rt; ask(&mut host), Err(Failed));
-    host.give_nonce([1; 16])?;
-    host.give_nonce([2; 16])?;
-    assert_eq!(rt; ask(&mut host), Ok([1; 16]));
-    assert_eq!(rt; ask(&mut host), Ok([2; 16]));
-    assert_eq!(rt; ask(&mut host), Err(Failed));
-    Ok(())
+fn nonces(rt: HostRuntime) {
+    let mut host = linked_host(&rt);
+    ask(&rt, &mut host, Err(Failed));
+    kept(&rt, host.give_nonce([1; 16]));
+    kept(&rt, host.give_nonce([2; 16]));
+    ask(&rt, &mut host, Ok([1; 16]));
+    ask(&rt, &mut host, Ok([2; 16]));
+    ask(&rt, &mut host, Err(Failed));
 }
 
 // Sends on both links.
@@ -185,38 +178,37 @@ fn send_three<H: Host>(host: &mut H) -> [Result<(), Failed>; 3]
 }
 
 #[test]
-fn sends(rt: HostRuntime) -> Result<(), Fail> {
-    let mut host = linked_host(rt.alloc())?;
-    host.fail_send(1)?;
-    assert_eq!(rt; send_three(&mut host), [Ok(()), Err(Failed), Ok(())]);
-    assert_eq!(rt; host.sent(0), b"abcde".as_slice());
-    assert_eq!(rt; host.sent(1), b"i".as_slice());
-    assert!(rt; host.sent(7).is_empty());
-    Ok(())
+fn sends(rt: HostRuntime) {
+    let mut host = linked_host(&rt);
+    kept(&rt, host.fail_send(1));
+    let answers = send_three(&mut host);
+    same(&rt, &answers, &[Ok(()), Err(Failed), Ok(())]);
+    same(&rt, &host.sent(0), &b"abcde".as_slice());
+    same(&rt, &host.sent(1), &b"i".as_slice());
+    holds(&rt, "nothing sent", host.sent(7).is_empty());
 }
 
 #[test]
-fn the_disk_of_a_host(rt: HostRuntime) -> Result<(), Fail> {
-    let mut host = new_host(rt.alloc())?;
-    host.fail_at(3)?;
-    assert_eq!(rt; use_disk(&mut host), Err(Failed));
-    host.fail_at(4)?;
+fn the_disk_of_a_host(rt: HostRuntime) {
+    let mut host = new_host(&rt);
+    kept(&rt, host.fail_at(3));
+    same(&rt, &use_disk(&mut host), &Err(Failed));
+    kept(&rt, host.fail_at(4));
     host.fail_none();
-    assert_eq!(rt; use_disk(&mut host), Ok(0));
-    assert_eq!(rt; host.disk().calls(), 9);
-    assert_eq!(rt; host.into_disk().starved(), 0);
-    Ok(())
+    same(&rt, &use_disk(&mut host), &Ok(0));
+    same(&rt, &host.disk().calls(), &9);
+    same(&rt, &host.into_disk().starved(), &0);
 }
 
 // A host that planned an answer, a reading and a nonce, and was stopped behind its first call.
-fn stopped_host(rt: &impl Abort, alloc: Global) -> Result<MemHost, Fail> {
-    let mut host = linked_host(alloc)?;
-    plan(&mut host, alloc, &[Planned::Idle])?;
-    host.set_clock(7)?;
-    host.give_nonce([1; 16])?;
+fn stopped_host<R: Abort + AllocGlobal>(rt: &R) -> MemHost {
+    let mut host = linked_host(rt);
+    plan(rt, &mut host, &[Planned::Idle]);
+    kept(rt, host.set_clock(7));
+    kept(rt, host.give_nonce([1; 16]));
     host.stop_at(1);
-    assert!(rt; write_twice(&mut host));
-    Ok(host)
+    holds(rt, "one write of two", write_twice(&mut host));
+    host
 }
 
 // Whether the first write was made and the second failed.
@@ -237,21 +229,19 @@ fn begins_anew<H: Host>(host: &mut H) -> bool
 }
 
 #[test]
-fn restarts(rt: HostRuntime) -> Result<(), Fail> {
-    let mut host = stopped_host(&rt, rt.alloc())?;
-    host.restart()?;
-    assert_eq!(rt; host.disk().calls(), 2);
-    assert!(rt; begins_anew(&mut host));
-    assert_eq!(rt; host.disk().file(0), b"ab".as_slice());
-    Ok(())
+fn restarts(rt: HostRuntime) {
+    let mut host = stopped_host(&rt);
+    kept(&rt, host.restart());
+    same(&rt, &host.disk().calls(), &2);
+    holds(&rt, "it begins anew", begins_anew(&mut host));
+    same(&rt, &host.disk().file(0), &b"ab".as_slice());
 }
 
 #[test]
-fn crashes(rt: HostRuntime) -> Result<(), Fail> {
-    let mut host = stopped_host(&rt, rt.alloc())?;
-    host.crash(Pick::Old)?;
-    assert_eq!(rt; host.disk().calls(), 0);
-    assert!(rt; begins_anew(&mut host));
-    assert!(rt; host.disk().file(0).is_empty());
-    Ok(())
+fn crashes(rt: HostRuntime) {
+    let mut host = stopped_host(&rt);
+    kept(&rt, host.crash(Pick::Old));
+    same(&rt, &host.disk().calls(), &0);
+    holds(&rt, "it begins anew", begins_anew(&mut host));
+    holds(&rt, "an empty file", host.disk().file(0).is_empty());
 }

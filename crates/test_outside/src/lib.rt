@@ -2,6 +2,8 @@
 #![tactic(auto)]
 
 #[cfg(test)]
+mod checks;
+#[cfg(test)]
 mod disks;
 #[cfg(test)]
 mod files;
@@ -11,6 +13,8 @@ mod frames;
 mod hosts;
 #[cfg(test)]
 mod links;
+#[cfg(test)]
+mod real;
 #[cfg(test)]
 mod silent;
 #[cfg(test)]

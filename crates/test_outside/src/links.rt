@@ -4,8 +4,9 @@
 ghost use Rattle.std.specs.Prelude.{◌≡◌, ◌<◌};
 ghost use Rattle.outside.specs.declared.limits.TheConstants.{LINKS};
 
+use crate::checks::{hear, holds, kept, same, send};
+use crate::real::real_host;
 use outside::{Failed, Heard, Host};
-use outside_real::FileHost;
 use std::fs;
 use std::io::{Read, Write};
 use std::net::TcpListener;
@@ -14,8 +15,8 @@ use std::process::Abort;
 
 // The spec of this kind with the port of a listener on this machine.
 fn spec_of<R: Abort + AllocGlobal>(rt: &R, kind: &str, listener: &TcpListener) -> String {
-    let port = listener.local_addr().expect(rt, "an address").port();
-    format!(in rt.alloc(); "{kind}:127.0.0.1:{port}").expect(rt, "memory")
+    let port = kept(rt, listener.local_addr()).port();
+    kept(rt, format!(in rt.alloc(); "{kind}:127.0.0.1:{port}"))
 }
 
 // The first link is made.
@@ -23,7 +24,8 @@ fn dial<H: Host>(rt: &impl Abort, host: &mut H, spec: &str)
     requires { (H.tells host.old).links.dialled ≡ 0 }
     ensures { 0 < (H.tells host.new).links.dialled }
 {
-    assert_eq!(rt; host.dial(spec), Ok(0));
+    let link = kept(rt, host.dial(spec));
+    same(rt, &link, &0);
 }
 
 // Each of these fails, and no link is made.
@@ -32,7 +34,7 @@ fn dial_none<H: Host>(rt: &impl Abort, host: &mut H, specs: &[&str])
     ensures { (H.tells host.new).links.dialled ≡ (H.tells host.old).links.dialled }
 {
     for spec in specs {
-        assert_eq!(rt; host.dial(spec), Err(Failed), "{spec}");
+        assert!(rt; host.dial(spec) == Err(Failed), "{spec}");
     }
 }
 
@@ -42,16 +44,16 @@ fn talk<H: Host, S: Read + Write + Drop>(rt: &impl Abort, host: &mut H, mut peer
     ensures { 0 < (H.tells host.new).links.dialled }
 {
     let mut buf = [0u8; 8];
-    assert_eq!(rt; host.recv(0, &mut buf), Heard::Idle);
-    peer.write_all(b"hello").expect(rt, "a write");
-    assert_eq!(rt; host.recv(0, &mut buf), Heard::Got(5));
-    assert_eq!(rt; &buf, b"hello\0\0\0");
-    assert_eq!(rt; host.send(0, b"record"), Ok(()));
+    hear(rt, host, &mut buf, Heard::Idle);
+    kept(rt, peer.write_all(b"hello"));
+    hear(rt, host, &mut buf, Heard::Got(5));
+    same(rt, &buf, b"hello\0\0\0");
+    send(rt, host, b"record", Ok(()));
     let mut got = [0u8; 6];
-    peer.read_exact(&mut got).expect(rt, "a read");
-    assert_eq!(rt; &got, b"record");
+    kept(rt, peer.read_exact(&mut got));
+    same(rt, &got, b"record");
     drop(peer);
-    assert_eq!(rt; host.recv(0, &mut buf), Heard::End);
+    hear(rt, host, &mut buf, Heard::End);
 }
 
 // Nobody hears the link any more: sends fail, and this process goes on.
@@ -61,10 +63,10 @@ fn talk_to_none<H: Host>(rt: &impl Abort, host: &mut H)
     let mut buf = [0u8; 8];
     // The system may still take the first one.
     let _ = host.send(0, b"a");
-    assert_eq!(rt; host.send(0, b"a"), Err(Failed));
+    send(rt, host, b"a", Err(Failed));
     host.hang_up(0);
-    assert_eq!(rt; host.recv(0, &mut buf), Heard::Failed);
-    assert_eq!(rt; host.send(0, b"a"), Err(Failed));
+    hear(rt, host, &mut buf, Heard::Failed);
+    send(rt, host, b"a", Err(Failed));
 }
 
 // A peer that goes in the middle of a record. What was sent to it was not read, so the system
@@ -74,11 +76,11 @@ fn break_off<H: Host, S: Write + Drop>(rt: &impl Abort, host: &mut H, mut peer: 
     ensures { 0 < (H.tells host.new).links.dialled }
 {
     let mut buf = [0u8; 8];
-    peer.write_all(b"\0\x04\0\x01").expect(rt, "a write");
-    assert_eq!(rt; host.recv(0, &mut buf), Heard::Got(4));
-    assert_eq!(rt; host.send(0, b"record"), Ok(()));
+    kept(rt, peer.write_all(b"\0\x04\0\x01"));
+    hear(rt, host, &mut buf, Heard::Got(4));
+    send(rt, host, b"record", Ok(()));
     drop(peer);
-    assert_eq!(rt; host.recv(0, &mut buf), Heard::Failed);
+    hear(rt, host, &mut buf, Heard::Failed);
 }
 
 // A peer that says a word and does not read: the send fails after half a minute, and what the peer
@@ -86,14 +88,14 @@ fn break_off<H: Host, S: Write + Drop>(rt: &impl Abort, host: &mut H, mut peer: 
 fn stall<H: Host, S: Write + Drop>(rt: &impl Abort, host: &mut H, bytes: &[u8], mut peer: S)
     requires { 0 < (H.tells host.old).links.dialled }
 {
-    peer.write_all(b"hello").expect(rt, "a write");
-    assert_eq!(rt; host.send(0, bytes), Err(Failed));
+    kept(rt, peer.write_all(b"hello"));
+    send(rt, host, bytes, Err(Failed));
     let mut buf = [0u8; 3];
-    assert_eq!(rt; host.recv(0, &mut buf), Heard::Got(3));
-    assert_eq!(rt; &buf, b"hel");
-    assert_eq!(rt; host.recv(0, &mut buf), Heard::Got(2));
-    assert_eq!(rt; &buf, b"lol");
-    assert_eq!(rt; host.recv(0, &mut buf), Heard::Idle);
+    hear(rt, host, &mut buf, Heard::Got(3));
+    same(rt, &buf, b"hel");
+    hear(rt, host, &mut buf, Heard::Got(2));
+    same(rt, &buf, b"lol");
+    hear(rt, host, &mut buf, Heard::Idle);
 }
 
 // A link whose input is empty.
@@ -101,10 +103,10 @@ fn hear_the_end<H: Host>(rt: &impl Abort, host: &mut H)
     requires { 0 < (H.tells host.old).links.dialled }
 {
     let mut buf = [0u8; 8];
-    assert_eq!(rt; host.recv(0, &mut buf), Heard::End);
-    assert_eq!(rt; host.send(0, b"sent on a link\n"), Ok(()));
+    hear(rt, host, &mut buf, Heard::End);
+    send(rt, host, b"sent on a link\n", Ok(()));
     host.hang_up(0);
-    assert_eq!(rt; host.send(0, b"a"), Err(Failed));
+    send(rt, host, b"a", Err(Failed));
 }
 
 fn differ<H: Host>(rt: &impl Abort, host: &mut H)
@@ -112,109 +114,112 @@ fn differ<H: Host>(rt: &impl Abort, host: &mut H)
 {
     let first = host.nonce(0);
     let second = host.nonce(0);
-    assert!(rt; first.is_ok() && second.is_ok());
-    assert!(rt; first != second);
+    holds(rt, "two nonces", first.is_ok() && second.is_ok());
+    holds(rt, "they differ", first != second);
 }
 
 #[test]
 fn a_link_over_tcp(rt: HostRuntime) {
-    let listener = TcpListener::bind(&rt, "127.0.0.1:0").expect(&rt, "a port");
+    let listener = kept(&rt, TcpListener::bind(&rt, "127.0.0.1:0"));
     let spec = spec_of(&rt, "tcp", &listener);
-    let mut host = FileHost::new(rt, "no_folder").expect(&rt, "memory");
-    dial(&rt, &mut host, spec.as_str());
-    let (peer, _) = listener.accept().expect(&rt, "a peer");
-    talk(&rt, &mut host, peer);
-    talk_to_none(&rt, &mut host);
+    let mut host = kept(&rt, real_host(rt, "no_folder"));
+    dial(&rt, &mut host.host, spec.as_str());
+    let (peer, _) = kept(&rt, listener.accept());
+    talk(&rt, &mut host.host, peer);
+    talk_to_none(&rt, &mut host.host);
 }
 
 #[test]
 fn a_link_over_a_unix_socket(rt: HostRuntime) {
-    let listener = UnixListener::bind(&rt, "link_socket").expect(&rt, "a socket");
-    let mut host = FileHost::new(rt, "no_folder").expect(&rt, "memory");
-    dial(&rt, &mut host, "unix:link_socket");
-    let (peer, _) = listener.accept().expect(&rt, "a peer");
-    talk(&rt, &mut host, peer);
-    talk_to_none(&rt, &mut host);
-    fs::remove_file(&rt, "link_socket").expect(&rt, "its file");
+    let listener = kept(&rt, UnixListener::bind(&rt, "link_socket"));
+    let mut host = kept(&rt, real_host(rt, "no_folder"));
+    dial(&rt, &mut host.host, "unix:link_socket");
+    let (peer, _) = kept(&rt, listener.accept());
+    talk(&rt, &mut host.host, peer);
+    talk_to_none(&rt, &mut host.host);
+    kept(&rt, fs::remove_file(&rt, "link_socket"));
 }
 
 // The standard input of a test is empty.
 #[test]
 fn a_link_over_the_standard_streams(rt: HostRuntime) {
-    let mut host = FileHost::new(rt, "no_folder").expect(&rt, "memory");
-    dial(&rt, &mut host, "std");
-    hear_the_end(&rt, &mut host);
+    let mut host = kept(&rt, real_host(rt, "no_folder"));
+    dial(&rt, &mut host.host, "std");
+    hear_the_end(&rt, &mut host.host);
 }
 
 #[test]
 fn nonces(rt: HostRuntime) {
-    let mut host = FileHost::new(rt, "no_folder").expect(&rt, "memory");
-    dial(&rt, &mut host, "std");
-    differ(&rt, &mut host);
+    let mut host = kept(&rt, real_host(rt, "no_folder"));
+    dial(&rt, &mut host.host, "std");
+    differ(&rt, &mut host.host);
 }
 
 #[test]
 fn a_peer_that_goes_in_the_middle(rt: HostRuntime) {
-    let listener = TcpListener::bind(&rt, "127.0.0.1:0").expect(&rt, "a port");
+    let listener = kept(&rt, TcpListener::bind(&rt, "127.0.0.1:0"));
     let spec = spec_of(&rt, "tcp", &listener);
-    let mut host = FileHost::new(rt, "no_folder").expect(&rt, "memory");
-    dial(&rt, &mut host, spec.as_str());
-    let (peer, _) = listener.accept().expect(&rt, "a peer");
-    break_off(&rt, &mut host, peer);
-    talk_to_none(&rt, &mut host);
+    let mut host = kept(&rt, real_host(rt, "no_folder"));
+    dial(&rt, &mut host.host, spec.as_str());
+    let (peer, _) = kept(&rt, listener.accept());
+    break_off(&rt, &mut host.host, peer);
+    talk_to_none(&rt, &mut host.host);
 }
 
 #[test]
 fn a_peer_that_does_not_read(rt: HostRuntime) {
-    let listener = UnixListener::bind(&rt, "full_socket").expect(&rt, "a socket");
-    let bytes = vec![in rt.alloc(); 7; 4_000_000].expect(&rt, "memory");
-    let mut host = FileHost::new(rt, "no_folder").expect(&rt, "memory");
-    dial(&rt, &mut host, "unix:full_socket");
-    let (peer, _) = listener.accept().expect(&rt, "a peer");
-    stall(&rt, &mut host, bytes.as_slice(), peer);
-    fs::remove_file(&rt, "full_socket").expect(&rt, "its file");
+    let listener = kept(&rt, UnixListener::bind(&rt, "full_socket"));
+    let bytes = kept(&rt, vec![in rt.alloc(); 7; 4_000_000]);
+    let mut host = kept(&rt, real_host(rt, "no_folder"));
+    dial(&rt, &mut host.host, "unix:full_socket");
+    let (peer, _) = kept(&rt, listener.accept());
+    stall(&rt, &mut host.host, bytes.as_slice(), peer);
+    kept(&rt, fs::remove_file(&rt, "full_socket"));
 }
+
+static NO_LINKS: [&str; 20] = [
+    "",
+    "stdin",
+    "std:",
+    "udp:127.0.0.1:80",
+    "tcp:",
+    "unix:",
+    "tcp:127.0.0.1",
+    "tcp:127.0.0.1:",
+    "tcp:127.0.0.1:0",
+    "tcp:127.0.0.1:65536",
+    "tcp:127.0.0.1:http",
+    "listen:127.0.0.1",
+    "listen:127.0.0.1:0",
+    "tcp::80",
+    "tcp:host.invalid:80",
+    "listen:192.0.2.1:4000",
+    "unix:no_socket",
+    "unix:.",
+    "unixlisten:.",
+    "unixlisten:no_folder/socket",
+];
 
 #[test]
 fn specs_that_name_no_link(rt: HostRuntime) {
-    let kinds = ["", "stdin", "std:", "udp:127.0.0.1:80", "tcp:", "unix:"];
-    let ports = [
-        "tcp:127.0.0.1",
-        "tcp:127.0.0.1:",
-        "tcp:127.0.0.1:0",
-        "tcp:127.0.0.1:65536",
-        "tcp:127.0.0.1:http",
-        "listen:127.0.0.1",
-        "listen:127.0.0.1:0",
-    ];
-    let hosts = ["tcp::80", "tcp:host.invalid:80", "listen:192.0.2.1:4000"];
-    let long = format!(in rt.alloc(); "unix:{:0>108}", 0).expect(&rt, "memory");
-    let paths = [
-        "unix:no_socket",
-        "unix:.",
-        "unixlisten:.",
-        "unixlisten:no_folder/socket",
-        long.as_str(),
-    ];
-    let mut host = FileHost::new(rt, "no_folder").expect(&rt, "memory");
-    dial_none(&rt, &mut host, &kinds);
-    dial_none(&rt, &mut host, &ports);
-    dial_none(&rt, &mut host, &hosts);
-    dial_none(&rt, &mut host, &paths);
+    let long = kept(&rt, format!(in rt.alloc(); "unix:{:0>108}", 0));
+    let mut host = kept(&rt, real_host(rt, "no_folder"));
+    dial_none(&rt, &mut host.host, &NO_LINKS);
+    dial_none(&rt, &mut host.host, &[long.as_str()]);
 }
 
 // The file of a listener that is gone stays as it is, and so does the port of one that is there.
 #[test]
 fn addresses_that_are_taken(rt: HostRuntime) {
-    drop(UnixListener::bind(&rt, "stale_socket").expect(&rt, "a socket"));
-    let listener = TcpListener::bind(&rt, "127.0.0.1:0").expect(&rt, "a port");
+    drop(kept(&rt, UnixListener::bind(&rt, "stale_socket")));
+    let listener = kept(&rt, TcpListener::bind(&rt, "127.0.0.1:0"));
     let taken = spec_of(&rt, "listen", &listener);
     let refused = spec_of(&rt, "tcp", &listener);
-    let mut host = FileHost::new(rt, "no_folder").expect(&rt, "memory");
+    let mut host = kept(&rt, real_host(rt, "no_folder"));
     let specs = ["unixlisten:stale_socket", "unix:stale_socket"];
-    dial_none(&rt, &mut host, &specs);
-    fs::remove_file(&rt, "stale_socket").expect(&rt, "its file");
-    dial_none(&rt, &mut host, &[taken.as_str()]);
+    dial_none(&rt, &mut host.host, &specs);
+    kept(&rt, fs::remove_file(&rt, "stale_socket"));
+    dial_none(&rt, &mut host.host, &[taken.as_str()]);
     drop(listener);
-    dial_none(&rt, &mut host, &[refused.as_str()]);
+    dial_none(&rt, &mut host.host, &[refused.as_str()]);
 }

@@ -2,8 +2,8 @@
 ghost use Rattle.std.specs.Prelude.{◌<◌, ◌≤◌};
 ghost use Rattle.outside.specs.declared.limits.TheConstants.{LINKS};
 
+use crate::checks::{holds, same};
 use outside::{Disk, Failed, Heard, Host, LINKS, raise_at};
-use std::test::Fail;
 
 #[derive(Drop)]
 pub struct Counts {
@@ -101,13 +101,16 @@ fn use_host<H: Host>(host: &mut H) -> Result<u8, Failed>
 }
 
 #[test]
-fn silent_objects(rt: HostRuntime) -> Result<(), Fail> {
+fn silent_objects(rt: HostRuntime) {
     let mut counts = Counts {
         disk_faults: 0,
         dialled: 0,
         faults: [0; LINKS],
     };
-    assert_eq!(rt; use_host(&mut counts), Err(Failed));
-    assert!(rt; counts.disk_faults == 0 && counts.dialled == 1);
-    Ok(())
+    same(&rt, &use_host(&mut counts), &Err(Failed));
+    holds(
+        &rt,
+        "counts",
+        counts.disk_faults == 0 && counts.dialled == 1,
+    );
 }

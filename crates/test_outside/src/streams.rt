@@ -1,61 +1,64 @@
+use crate::checks::{kept, same};
 use outside::{Failed, InputFault, MemSink, MemSource, read_input, write_all};
-use std::alloc::Global;
-use std::test::Fail;
+use std::process::Abort;
 
-// What reading so many bytes under this limit answers where this call fails, and how many are kept.
-fn read_some(
-    alloc: Global,
-    bytes: usize,
-    limit: u32,
-    failing: u64,
-) -> Result<(Result<(), InputFault>, usize), Fail> {
-    let mut source = MemSource::new(vec![in alloc; 7; bytes]?, vec![in alloc; failing]?);
-    let mut to = Vec::new(alloc);
-    let answer = read_input(&mut source, u64::from(limit), &mut to);
-    Ok((answer, to.len()))
+// How many bytes there are, the limit, the call that fails, what a read answers then, and how many
+// bytes are kept.
+type Row = (usize, u32, u64, Result<(), InputFault>, usize);
+
+const NONE: u64 = u64::MAX;
+
+static LIMITS: [Row; 12] = [
+    (0, 4, NONE, Ok(()), 0),
+    (4, 4, NONE, Ok(()), 4),
+    (5, 4, NONE, Err(InputFault::TooMuch), 4),
+    (9, 4, NONE, Err(InputFault::TooMuch), 4),
+    (1, 0, NONE, Err(InputFault::TooMuch), 0),
+    (150_000, 150_000, NONE, Ok(()), 150_000),
+    (150_001, 150_000, NONE, Err(InputFault::TooMuch), 150_000),
+    (150_000, 200_000, 0, Err(InputFault::ReadFault), 0),
+    (150_000, 200_000, 1, Err(InputFault::ReadFault), 65_536),
+    (150_000, 200_000, 2, Err(InputFault::ReadFault), 131_072),
+    (150_000, 200_000, 3, Err(InputFault::ReadFault), 150_000),
+    (150_000, 200_000, 4, Ok(()), 150_000),
+];
+
+fn read_some<R: Abort + AllocGlobal>(rt: &R, number: usize, row: &Row) {
+    let (bytes, limit, failing, answer, len) = row;
+    let bytes = kept(rt, vec![in rt.alloc(); 7; *bytes]);
+    let failing = kept(rt, vec![in rt.alloc(); *failing]);
+    let mut source = MemSource::new(bytes, failing);
+    let mut to = Vec::new(rt.alloc());
+    let got = read_input(&mut source, u64::from(*limit), &mut to);
+    same(rt, &(number, got, to.len()), &(number, *answer, *len));
 }
 
 #[test]
-fn limits(rt: HostRuntime) -> Result<(), Fail> {
-    let none = u64::MAX;
-    let table = [
-        (0, 4, none, Ok(()), 0),
-        (4, 4, none, Ok(()), 4),
-        (5, 4, none, Err(InputFault::TooMuch), 4),
-        (9, 4, none, Err(InputFault::TooMuch), 4),
-        (1, 0, none, Err(InputFault::TooMuch), 0),
-        (150_000, 150_000, none, Ok(()), 150_000),
-        (150_001, 150_000, none, Err(InputFault::TooMuch), 150_000),
-        (150_000, 200_000, 0, Err(InputFault::ReadFault), 0),
-        (150_000, 200_000, 1, Err(InputFault::ReadFault), 65_536),
-        (150_000, 200_000, 2, Err(InputFault::ReadFault), 131_072),
-        (150_000, 200_000, 3, Err(InputFault::ReadFault), 150_000),
-        (150_000, 200_000, 4, Ok(()), 150_000),
-    ];
-    for (bytes, limit, failing, answer, kept) in table {
-        let got = read_some(rt.alloc(), bytes, limit, failing)?;
-        assert_eq!(rt; got.0, answer, "{bytes} bytes, limit {limit}");
-        assert_eq!(rt; got.1, kept, "{bytes} bytes, limit {limit}");
+fn limits(rt: HostRuntime) {
+    for (number, row) in LIMITS.iter().enumerate() {
+        read_some(&rt, number, row);
     }
-    Ok(())
+}
+
+// Writes three pieces, of which this one fails.
+fn write_three(rt: &impl Abort, sink: &mut MemSink, failing: u64) {
+    for piece in 0..3u8 {
+        let fails = u64::from(piece) == failing;
+        let expected = if fails { Err(Failed) } else { Ok(()) };
+        same(
+            rt,
+            &(piece, write_all(sink, &[piece, 9])),
+            &(piece, expected),
+        );
+    }
 }
 
 #[test]
-fn sinks(rt: HostRuntime) -> Result<(), Fail> {
-    let alloc = rt.alloc();
+fn sinks(rt: HostRuntime) {
     for failing in 0..3u64 {
-        let mut sink = MemSink::new(alloc, vec![in alloc; failing]?);
-        for piece in 0..3u8 {
-            let answer = write_all(&mut sink, &[piece, 9]);
-            let expected = if u64::from(piece) == failing {
-                Err(Failed)
-            } else {
-                Ok(())
-            };
-            assert_eq!(rt; answer, expected);
-        }
-        assert_eq!(rt; sink.bytes().len(), 4);
-        assert_eq!(rt; sink.starved(), 0);
+        let numbers = kept(&rt, vec![in rt.alloc(); failing]);
+        let mut sink = MemSink::new(rt.alloc(), numbers);
+        write_three(&rt, &mut sink, failing);
+        same(&rt, &(sink.bytes().len(), sink.starved()), &(4, 0));
     }
-    Ok(())
 }

@@ -1,0 +1,24 @@
+// A host of this machine whose drop is written out, so that whoever drops one proves one call.
+ghost use Rattle.std.specs.Prelude.{◌≡◌, vec_len, IfOk};
+
+use outside_real::FileHost;
+use std::alloc::AllocError;
+
+/// A host of this machine.
+pub(crate) struct RealHost {
+    pub(crate) host: FileHost<HostRuntime>,
+}
+
+impl Drop for RealHost {
+    fn drop(self) {
+        let RealHost { host: _ } = self;
+    }
+}
+
+/// A host without links over the files in this folder.
+pub(crate) fn real_host(rt: HostRuntime, folder: &str) -> Result<RealHost, AllocError>
+    ensures { IfOk result (λ h. vec_len h.host.links ≡ 0) }
+{
+    let host = FileHost::new(rt, folder)?;
+    Ok(RealHost { host })
+}
