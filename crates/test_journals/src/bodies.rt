@@ -32,8 +32,8 @@ fn knows_its_pairs(rt: HostRuntime) {
     same(&rt, &Feed.kind_of("note", 0), &None);
 }
 
-/// A kind of group, a body's first byte, its ids, its tail, and what it is to be judged as: refused,
-/// or so many dependencies and whether it is shared.
+/// A kind of group, a body's first byte, its ids, its tail, and what it is to be judged as:
+/// refused, or so many dependencies and whether it is shared.
 type Case<'a> = (u8, Option<u8>, &'a [u8], &'a [u8], Option<(usize, bool)>);
 
 const CASES: &[Case<'static>] = &[
