@@ -2,6 +2,7 @@
 
 ghost use Rattle.std.specs.Prelude.{◌≡◌, ◌+◌, ◌*◌, ◌<◌, ◌≤◌, length};
 
+use crate::checks::{made, same};
 use bramble_hash::{Blake2b, Parts, parts_have_one_reading};
 use std::process::Abort;
 
@@ -90,34 +91,24 @@ fn message() -> [u8; 1000] {
     bytes
 }
 
-fn check_cuts(rt: &impl Abort, bytes: &[u8], want: &[u8; 32])
+// The bytes have this digest whole, one by one, and in every cut.
+fn check_digests(rt: &impl Abort, bytes: &[u8], want: &[u8; 32])
     requires { length bytes.now ≤ 1000 }
 {
-    for at in 0..bytes.len() + 1 {
-        let found = digest_in_two(bytes, at);
-        assert_eq!(rt; found.as_slice(), want.as_slice(), "cut at {at}");
+    let len = bytes.len();
+    same(rt, &(len, digest(bytes)), &(len, *want));
+    same(rt, &(len, digest_by_bytes(bytes)), &(len, *want));
+    for at in 0..len + 1 {
+        same(rt, &(at, digest_in_two(bytes, at)), &(at, *want));
     }
-}
-
-fn check_length(rt: &impl Abort, len: usize, want: &[u8; 32]) {
-    let bytes = message();
-    assert!(rt; len <= 1000);
-    let front = &bytes[..len];
-    let whole = digest(front);
-    assert_eq!(rt; whole.as_slice(), want.as_slice(), "{len} bytes");
-    let singly = digest_by_bytes(front);
-    assert_eq!(rt;
-        singly.as_slice(),
-        want.as_slice(),
-        "{len} bytes one by one"
-    );
-    check_cuts(rt, front, want);
 }
 
 #[test]
 fn digests_by_length_and_cut(rt: HostRuntime) {
+    let bytes = message();
     for (len, want) in &BY_LENGTH {
-        check_length(&rt, *len, want);
+        assert!(rt; *len <= 1000);
+        check_digests(&rt, &bytes[..*len], want);
     }
 }
 
@@ -129,8 +120,8 @@ fn known_texts(rt: HostRuntime) {
     let abc =
         b"\xbd\xdd\x81\x3c\x63\x42\x39\x72\x31\x71\xef\x3f\xee\x98\x57\x9b\x94\x96\x4e\x3b\xb1\
         \xcb\x3e\x42\x72\x62\xc8\xc0\x68\xd5\x23\x19";
-    assert_eq!(rt; digest(b"").as_slice(), empty.as_slice());
-    assert_eq!(rt; digest(b"abc").as_slice(), abc.as_slice());
+    same(&rt, &digest(b""), empty);
+    same(&rt, &digest(b"abc"), abc);
 }
 
 // The sequence of the standard's self-test (appendix E).
@@ -189,32 +180,37 @@ fn self_test_of_the_standard(rt: HostRuntime) {
     let want =
         b"\xc2\x3a\x78\x00\xd9\x81\x23\xbd\x10\xf5\x06\xc6\x1e\x29\xda\x56\x03\xd7\x63\xb8\xbb\
         \xad\x2e\x73\x7f\x5e\x76\x5a\x7b\xcc\xd4\x75";
-    assert_eq!(rt; all.finalize().as_slice(), want.as_slice());
+    same(&rt, &all.finalize(), want);
+}
+
+fn keyed(rt: &impl Abort, key: &[u8]) -> Blake2b<32>
+    ensures { result.count ≤ 128 }
+{
+    made(rt, Blake2b::keyed(key))
 }
 
 #[test]
 fn keys(rt: HostRuntime) {
-    let too_long = [0u8; 65];
-    assert!(rt; Blake2b::<32>::keyed(&too_long).is_err());
+    assert!(rt; Blake2b::<32>::keyed(&[0; 65]).is_err());
     let mut key = [0u8; 64];
     sequence(&mut key, 64);
-    let mut keyed = Blake2b::<32>::keyed(&key).expect(&rt, "64 bytes");
-    keyed.update(b"abc");
+    let mut hasher = keyed(&rt, &key);
+    hasher.update(b"abc");
     let want =
         b"\xc5\x55\x84\x84\x76\x53\x07\xe8\x66\x83\x9f\x62\x3b\xcc\xf0\x8d\xdc\x12\x6c\xe5\xc1\
         \xfe\x4a\x76\x9b\xb2\x8e\x1b\xf2\x6e\x1f\x0e";
-    assert_eq!(rt; keyed.finalize().as_slice(), want.as_slice());
-    let plain = Blake2b::<32>::keyed(b"").expect(&rt, "no key");
-    assert_eq!(rt; plain.finalize().as_slice(), digest(b"").as_slice());
+    same(&rt, &hasher.finalize(), want);
+    same(&rt, &keyed(&rt, b"").finalize(), &digest(b""));
 }
 
-fn hash_of_two(a: &[u8], b: &[u8]) -> [u8; 32]
-    requires a { length a.now ≤ 1024 }
-    requires b { length b.now ≤ 1024 }
-{
+// The hash of at most 8 parts, each of at most 1024 bytes.
+fn hash_of(rt: &impl Abort, list: &[&[u8]]) -> [u8; 32] {
+    assert!(rt; list.len() <= 8);
     let mut parts = Parts::new();
-    parts.part(a);
-    parts.part(b);
+    for part in list {
+        assert!(rt; part.len() <= 1024);
+        parts.part(part);
+    }
     parts.finish()
 }
 
@@ -222,40 +218,28 @@ fn hash_of_two(a: &[u8], b: &[u8]) -> [u8; 32]
 fn parts_by_their_preimage(rt: HostRuntime) {
     let ab_c = digest(b"\x00\x00\x00\x02ab\x00\x00\x00\x01c");
     let a_bc = digest(b"\x00\x00\x00\x01a\x00\x00\x00\x02bc");
-    assert_eq!(rt; hash_of_two(b"ab", b"c").as_slice(), ab_c.as_slice());
-    assert_eq!(rt; hash_of_two(b"a", b"bc").as_slice(), a_bc.as_slice());
-    assert_ne!(rt; ab_c.as_slice(), a_bc.as_slice());
+    same(&rt, &hash_of(&rt, &[b"ab", b"c"]), &ab_c);
+    same(&rt, &hash_of(&rt, &[b"a", b"bc"]), &a_bc);
+    assert!(rt; ab_c != a_bc);
     parts_have_one_reading();
 }
 
 // Preimages of 63, 52 and 128 bytes, the last exactly one block.
 #[test]
 fn ids_of_a_group_and_a_message(rt: HostRuntime) {
-    let mut parts = Parts::new();
-    parts.part(b"org.briarproject.bramble/GROUP_ID");
-    parts.part(&[1]);
-    parts.part(b"note");
-    parts.part(&[0; 4]);
-    parts.part(b"d");
-    let group = parts.finish();
+    let label = b"org.briarproject.bramble/GROUP_ID";
+    let group = hash_of(&rt, &[label, &[1], b"note", &[0; 4], b"d"]);
     let want =
         b"\x76\xff\x49\x80\xd3\xb5\xf6\x39\x62\xce\xe4\x54\x01\xb6\xb1\xbb\x92\xef\xe9\x89\xc2\
         \x7d\xe4\x62\x9a\xac\x92\xb1\x81\x63\xe6\xe0";
-    assert_eq!(rt; group.as_slice(), want.as_slice());
+    same(&rt, &group, want);
 
-    let mut parts = Parts::new();
-    parts.part(b"org.briarproject.bramble/MESSAGE_BLOCK");
-    parts.part(&[1]);
-    parts.part(b"x");
-    let block = parts.finish();
-    let mut parts = Parts::new();
-    parts.part(b"org.briarproject.bramble/MESSAGE_ID");
-    parts.part(&[1]);
-    parts.part(&group);
-    parts.part(&[0; 8]);
-    parts.part(&block);
+    let label = b"org.briarproject.bramble/MESSAGE_BLOCK";
+    let block = hash_of(&rt, &[label, &[1], b"x"]);
+    let label = b"org.briarproject.bramble/MESSAGE_ID";
+    let message = hash_of(&rt, &[label, &[1], &group, &[0; 8], &block]);
     let want =
         b"\x34\x43\x41\x8c\x03\x82\x80\x0e\x42\xae\x01\xfb\x9d\x67\x6b\x7b\x25\x40\x5d\x28\x75\
         \x80\x9c\xf8\xd6\x80\x8f\x04\x74\x1c\x96\xa4";
-    assert_eq!(rt; parts.finish().as_slice(), want.as_slice());
+    same(&rt, &message, want);
 }

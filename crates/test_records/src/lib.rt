@@ -21,7 +21,11 @@ pub fn record_of_zeros(alloc: Global, type_byte: u8, len: u16) -> Result<Vec<u8>
 }
 
 #[cfg(test)]
+mod answers;
+#[cfg(test)]
 mod calls;
+#[cfg(test)]
+mod checks;
 #[cfg(test)]
 mod digests;
 #[cfg(test)]

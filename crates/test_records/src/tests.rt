@@ -1,188 +1,161 @@
 // Expected answers are those of the protocol's table of records.
 
+use crate::answers::{Seen, answer_to};
+use crate::checks::{made, same};
 use crate::record_of_zeros;
-use record_grammar::{Ending, Found, Item, Reason, read_one};
+use record_grammar::{Ending, Item, Reason};
 use record_stream::read_pieces;
 use std::alloc::Global;
 use std::process::Abort;
-use std::test::Fail;
 use sync_ids::Record;
 
-// An answer of `read_one` without the record.
-#[derive(Clone, Copy, Debug, PartialEq, Eq)]
-enum Seen {
-    One(usize),
-    Skipped(u8, usize),
-    More,
-    Bad(Reason),
-}
+type Answer = (Seen, usize);
 
-fn answer_to(alloc: Global, bytes: &[u8]) -> Result<Seen, Fail> {
-    Ok(match read_one(alloc, bytes)? {
-        Found::One(_, used) => Seen::One(used),
-        Found::Skipped(type_byte, used) => Seen::Skipped(type_byte, used),
-        Found::More => Seen::More,
-        Found::Bad(reason) => Seen::Bad(reason),
-    })
+// What is answered before the end of a record of this type and length, and at its end.
+fn wanted(type_byte: u8, used: usize, want: Option<Reason>) -> (Answer, Answer) {
+    let more = (Seen::More, 0);
+    match want {
+        Some(reason) => ((Seen::Bad(reason), 0), (Seen::Bad(reason), 0)),
+        None if type_byte > 5 => (more, (Seen::Skipped(type_byte), used)),
+        None => (more, (Seen::One, used)),
+    }
 }
 
 // What is answered at three bytes, at four, one byte before the end, and at the end.
-fn check_length(
-    rt: &impl Abort,
-    alloc: Global,
-    type_byte: u8,
-    len: u16,
-    want: Option<Reason>,
-) -> Result<(), Fail> {
-    let bytes = record_of_zeros(alloc, type_byte, len)?;
+fn check_length(rt: &impl Abort, alloc: Global, type_byte: u8, len: u16, want: Option<Reason>) {
+    let bytes = made(rt, record_of_zeros(alloc, type_byte, len));
     let whole = bytes.as_slice();
     let used = whole.len();
-    let at_end = match want {
-        Some(reason) => Seen::Bad(reason),
-        None if type_byte > 5 => Seen::Skipped(type_byte, used),
-        None => Seen::One(used),
-    };
-    let before = match want {
-        Some(reason) => Seen::Bad(reason),
-        None => Seen::More,
-    };
-    assert_eq!(rt;
-        answer_to(alloc, &whole[..3])?,
-        Seen::More,
-        "{type_byte} {len}"
+    let (before, at_end) = wanted(type_byte, used, want);
+    let at_three = answer_to(rt, alloc, &whole[..3]);
+    let answers = (at_three, answer_to(rt, alloc, whole));
+    same(
+        rt,
+        &(type_byte, len, answers),
+        &(type_byte, len, ((Seen::More, 0), at_end)),
     );
-    assert_eq!(rt; answer_to(alloc, whole)?, at_end, "{type_byte} {len}");
     if len > 0 {
-        assert_eq!(rt; answer_to(alloc, &whole[..4])?, before, "{type_byte} {len}");
-        assert_eq!(rt;
-            answer_to(alloc, &whole[..used - 1])?,
-            before,
-            "{type_byte} {len}"
+        let at_four = answer_to(rt, alloc, &whole[..4]);
+        let answers = (at_four, answer_to(rt, alloc, &whole[..used - 1]));
+        same(
+            rt,
+            &(type_byte, len, answers),
+            &(type_byte, len, (before, before)),
         );
     }
-    Ok(())
 }
 
-macro_rules! lengths {
-    ($rt:ident, $type_byte:expr, [$(($len:expr, $want:expr)),*]) => {
-        for (len, want) in [$(($len, $want)),*] {
-            check_length(&$rt, $rt.alloc(), $type_byte, len, want)?;
-        }
-    };
+fn check_lengths(rt: &impl Abort, alloc: Global, type_byte: u8, rows: &[(u16, Option<Reason>)]) {
+    for (len, want) in rows {
+        check_length(rt, alloc, type_byte, *len, *want);
+    }
 }
 
 #[test]
-fn lists_of_ids(rt: HostRuntime) -> Result<(), Fail> {
+fn lists_of_ids(rt: HostRuntime) {
+    let rows = [
+        (0, Some(Reason::EmptyIds)),
+        (1, Some(Reason::RaggedIds)),
+        (31, Some(Reason::RaggedIds)),
+        (32, None),
+        (33, Some(Reason::RaggedIds)),
+        (49_120, None),
+        (49_151, Some(Reason::RaggedIds)),
+        (49_152, None),
+        (49_153, Some(Reason::TooLong)),
+        (49_184, Some(Reason::TooLong)),
+        (65_535, Some(Reason::TooLong)),
+    ];
     for type_byte in [0, 2, 3] {
-        lengths!(
-            rt,
-            type_byte,
-            [
-                (0, Some(Reason::EmptyIds)),
-                (1, Some(Reason::RaggedIds)),
-                (31, Some(Reason::RaggedIds)),
-                (32, None),
-                (33, Some(Reason::RaggedIds)),
-                (49_120, None),
-                (49_151, Some(Reason::RaggedIds)),
-                (49_152, None),
-                (49_153, Some(Reason::TooLong)),
-                (49_184, Some(Reason::TooLong)),
-                (65_535, Some(Reason::TooLong))
-            ]
-        );
+        check_lengths(&rt, rt.alloc(), type_byte, &rows);
     }
-    Ok(())
 }
 
 #[test]
-fn messages(rt: HostRuntime) -> Result<(), Fail> {
-    lengths!(
-        rt,
-        1,
-        [
-            (0, Some(Reason::ShortMessage)),
-            (40, Some(Reason::ShortMessage)),
-            (41, None),
-            (32_808, None),
-            (32_809, Some(Reason::BodyTooLong)),
-            (49_152, Some(Reason::BodyTooLong)),
-            (49_153, Some(Reason::TooLong))
-        ]
-    );
-    Ok(())
+fn messages(rt: HostRuntime) {
+    let rows = [
+        (0, Some(Reason::ShortMessage)),
+        (40, Some(Reason::ShortMessage)),
+        (41, None),
+        (32_808, None),
+        (32_809, Some(Reason::BodyTooLong)),
+        (49_152, Some(Reason::BodyTooLong)),
+        (49_153, Some(Reason::TooLong)),
+    ];
+    check_lengths(&rt, rt.alloc(), 1, &rows);
 }
 
 #[test]
-fn versions_and_nonces(rt: HostRuntime) -> Result<(), Fail> {
-    lengths!(
-        rt,
-        4,
-        [
-            (0, Some(Reason::BadVersions)),
-            (1, None),
-            (10, None),
-            (11, Some(Reason::BadVersions)),
-            (49_153, Some(Reason::TooLong))
-        ]
-    );
-    lengths!(
-        rt,
-        5,
-        [
-            (0, Some(Reason::BadNonce)),
-            (15, Some(Reason::BadNonce)),
-            (16, None),
-            (17, Some(Reason::BadNonce)),
-            (49_153, Some(Reason::TooLong))
-        ]
-    );
-    Ok(())
+fn versions_and_nonces(rt: HostRuntime) {
+    let versions = [
+        (0, Some(Reason::BadVersions)),
+        (1, None),
+        (10, None),
+        (11, Some(Reason::BadVersions)),
+        (49_153, Some(Reason::TooLong)),
+    ];
+    check_lengths(&rt, rt.alloc(), 4, &versions);
+    let nonces = [
+        (0, Some(Reason::BadNonce)),
+        (15, Some(Reason::BadNonce)),
+        (16, None),
+        (17, Some(Reason::BadNonce)),
+        (49_153, Some(Reason::TooLong)),
+    ];
+    check_lengths(&rt, rt.alloc(), 5, &nonces);
 }
 
 #[test]
-fn other_types(rt: HostRuntime) -> Result<(), Fail> {
+fn other_types(rt: HostRuntime) {
+    let rows = [
+        (0, None),
+        (1, None),
+        (49_152, None),
+        (49_153, Some(Reason::TooLong)),
+    ];
     for type_byte in [6, 9, 255] {
-        lengths!(
-            rt,
-            type_byte,
-            [
-                (0, None),
-                (1, None),
-                (49_152, None),
-                (49_153, Some(Reason::TooLong))
-            ]
-        );
+        check_lengths(&rt, rt.alloc(), type_byte, &rows);
     }
-    Ok(())
+}
+
+fn check_answers(rt: &impl Abort, alloc: Global, rows: &[(&[u8], Answer)]) {
+    for (bytes, want) in rows {
+        same(rt, &(*bytes, answer_to(rt, alloc, bytes)), &(*bytes, *want));
+    }
 }
 
 #[test]
-fn versions_of_records(rt: HostRuntime) -> Result<(), Fail> {
-    assert_eq!(rt; answer_to(rt.alloc(), b"")?, Seen::More);
-    assert_eq!(rt; answer_to(rt.alloc(), b"\x00")?, Seen::More);
-    for version in [1, 2, 128, 255] {
-        assert_eq!(rt;
-            answer_to(rt.alloc(), &[version])?,
-            Seen::Bad(Reason::WrongVersion)
-        );
-    }
-    Ok(())
+fn versions_of_records(rt: HostRuntime) {
+    let wrong = (Seen::Bad(Reason::WrongVersion), 0);
+    check_answers(
+        &rt,
+        rt.alloc(),
+        &[
+            (b"", (Seen::More, 0)),
+            (b"\x00", (Seen::More, 0)),
+            (&[1], wrong),
+            (&[2], wrong),
+            (&[128], wrong),
+            (&[255], wrong),
+        ],
+    );
 }
 
 #[test]
-fn times(rt: HostRuntime) -> Result<(), Fail> {
+fn times(rt: HostRuntime) {
     let greatest =
         b"\x00\x01\x00\x29GGGGGGGGGGGGGGGGGGGGGGGGGGGGGGGG\x7f\xff\xff\xff\xff\xff\xff\xffx";
     let too_great =
         b"\x00\x01\x00\x29GGGGGGGGGGGGGGGGGGGGGGGGGGGGGGGG\x80\x00\x00\x00\x00\x00\x00\x00x";
-    assert_eq!(rt; answer_to(rt.alloc(), greatest)?, Seen::One(45));
-    assert_eq!(rt; answer_to(rt.alloc(), &too_great[..44])?, Seen::More);
-    assert_eq!(rt;
-        answer_to(rt.alloc(), too_great)?,
-        Seen::Bad(Reason::BadTimestamp)
+    check_answers(
+        &rt,
+        rt.alloc(),
+        &[
+            (greatest, (Seen::One, 45)),
+            (&too_great[..44], (Seen::More, 0)),
+            (too_great, (Seen::Bad(Reason::BadTimestamp), 0)),
+        ],
     );
-    Ok(())
 }
 
 // A VERSIONS record, a skipped one and a PRIORITY record.
@@ -203,50 +176,43 @@ fn label(item: &Item) -> (u64, u8, u64) {
     }
 }
 
-fn check_stream(
-    rt: &impl Abort,
-    alloc: Global,
-    pieces: &[Vec<u8>],
-    count: usize,
-    ending: Ending,
-) -> Result<(), Fail> {
-    let heard = read_pieces(alloc, pieces)?;
-    assert_eq!(rt; heard.ending, ending);
-    assert_eq!(rt; heard.items.len(), count);
+// How many items a stream is to have, of those of `STREAM`, and how it is to end.
+type Course = (usize, Ending);
+
+fn check_stream(rt: &impl Abort, alloc: Global, pieces: &[Vec<u8>], course: Course) {
+    let heard = made(rt, read_pieces(alloc, pieces));
+    same(rt, &(heard.items.len(), heard.ending), &course);
     for (item, want) in heard.items.iter().zip(&[(0, 4, 1), (5, 9, 2), (11, 5, 16)]) {
-        assert_eq!(rt; label(item), *want);
+        same(rt, &label(item), want);
     }
-    Ok(())
 }
 
-fn in_two(alloc: Global, bytes: &[u8], at: usize) -> Result<Vec<Vec<u8>>, Fail> {
+fn check_in_two(rt: &impl Abort, alloc: Global, bytes: &[u8], at: usize, course: Course) {
     let (front, back) = bytes.split_at(at.min(bytes.len()));
     let mut pieces = Vec::new(alloc);
-    pieces.push(front.to_vec(alloc)?)?;
-    pieces.push(back.to_vec(alloc)?)?;
-    Ok(pieces)
+    made(rt, pieces.push(made(rt, front.to_vec(alloc))));
+    made(rt, pieces.push(made(rt, back.to_vec(alloc))));
+    check_stream(rt, alloc, pieces.as_slice(), course);
 }
 
-fn by_bytes(alloc: Global, bytes: &[u8]) -> Result<Vec<Vec<u8>>, Fail> {
+fn check_by_bytes(rt: &impl Abort, alloc: Global, bytes: &[u8], course: Course) {
     let mut pieces = Vec::new(alloc);
     for byte in bytes {
-        pieces.push([*byte].to_vec(alloc)?)?;
+        made(rt, pieces.push(made(rt, [*byte].to_vec(alloc))));
     }
-    Ok(pieces)
+    check_stream(rt, alloc, pieces.as_slice(), course);
 }
 
 #[test]
-fn a_stream_in_every_cut(rt: HostRuntime) -> Result<(), Fail> {
+fn a_stream_in_every_cut(rt: HostRuntime) {
     for at in 0..32 {
-        let pieces = in_two(rt.alloc(), STREAM, at)?;
-        check_stream(&rt, rt.alloc(), pieces.as_slice(), 3, Ending::Clean)?;
+        check_in_two(&rt, rt.alloc(), STREAM, at, (3, Ending::Clean));
     }
-    let pieces = by_bytes(rt.alloc(), STREAM)?;
-    check_stream(&rt, rt.alloc(), pieces.as_slice(), 3, Ending::Clean)
+    check_by_bytes(&rt, rt.alloc(), STREAM, (3, Ending::Clean));
 }
 
 // How many items a front of the stream has, and how it ends.
-fn front_of_stream(len: usize) -> (usize, Ending) {
+fn front_of_stream(len: usize) -> Course {
     match len {
         0 => (0, Ending::Clean),
         1..=4 => (0, Ending::Inside(0)),
@@ -259,36 +225,20 @@ fn front_of_stream(len: usize) -> (usize, Ending) {
 }
 
 #[test]
-fn each_front_of_a_stream(rt: HostRuntime) -> Result<(), Fail> {
+fn each_front_of_a_stream(rt: HostRuntime) {
     for len in 0..32 {
-        let (count, ending) = front_of_stream(len);
-        let pieces = by_bytes(rt.alloc(), &STREAM[..len])?;
-        check_stream(&rt, rt.alloc(), pieces.as_slice(), count, ending)?;
+        check_by_bytes(&rt, rt.alloc(), &STREAM[..len], front_of_stream(len));
     }
-    Ok(())
 }
 
 #[test]
-fn a_stream_that_goes_wrong(rt: HostRuntime) -> Result<(), Fail> {
-    let mut bytes = STREAM.to_vec(rt.alloc())?;
-    bytes.push(1)?;
-    bytes.push(0)?;
+fn a_stream_that_goes_wrong(rt: HostRuntime) {
+    let mut bytes = made(&rt, STREAM.to_vec(rt.alloc()));
+    made(&rt, bytes.extend_from_slice(&[1, 0]));
     for at in 0..34 {
-        let pieces = in_two(rt.alloc(), bytes.as_slice(), at)?;
-        check_stream(
-            &rt,
-            rt.alloc(),
-            pieces.as_slice(),
-            3,
-            Ending::Bad(31, Reason::WrongVersion),
-        )?;
+        let ending = Ending::Bad(31, Reason::WrongVersion);
+        check_in_two(&rt, rt.alloc(), bytes.as_slice(), at, (3, ending));
     }
-    let pieces = by_bytes(rt.alloc(), b"\x01")?;
-    check_stream(
-        &rt,
-        rt.alloc(),
-        pieces.as_slice(),
-        0,
-        Ending::Bad(0, Reason::WrongVersion),
-    )
+    let ending = Ending::Bad(0, Reason::WrongVersion);
+    check_by_bytes(&rt, rt.alloc(), b"\x01", (0, ending));
 }
