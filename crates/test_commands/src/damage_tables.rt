@@ -17,7 +17,7 @@ pub(crate) const ONE: [u8; 22] = [
 ];
 
 // What the journal is found to be with the byte at this place inverted.
-pub(crate) const INVERTED: [(usize, Found); 22] = [
+pub(crate) static INVERTED: [(usize, Found); 22] = [
     (0, Found::NoStore),
     (1, Found::NoStore),
     (2, Found::NoStore),
@@ -43,7 +43,7 @@ pub(crate) const INVERTED: [(usize, Found); 22] = [
 ];
 
 // The same with this value there.
-pub(crate) const CHANGED: [(usize, u8, Found); 11] = [
+pub(crate) static CHANGED: [(usize, u8, Found); 11] = [
     (0, 0, Found::NoStore),
     (5, 0, Found::Damaged(0, 5)),
     (5, 2, Found::Damaged(0, 5)),
@@ -58,7 +58,7 @@ pub(crate) const CHANGED: [(usize, u8, Found); 11] = [
 ];
 
 // The same with the file cut to this length.
-pub(crate) const CUT: [(usize, Found); 23] = [
+pub(crate) static CUT: [(usize, Found); 23] = [
     (0, Found::NoStore),
     (1, Found::NoStore),
     (2, Found::NoStore),
@@ -85,7 +85,7 @@ pub(crate) const CUT: [(usize, Found); 23] = [
 ];
 
 // Two files, and what they are found to be.
-pub(crate) const PAIRS: [(&str, &str, Found); 20] = [
+pub(crate) static PAIRS: [(&str, &str, Found); 20] = [
     (
         "014253504a0100000000000000010100000002010000",
         "014253504a01000000000000000200",
@@ -185,7 +185,7 @@ pub(crate) const PAIRS: [(&str, &str, Found); 20] = [
 ];
 
 // Two files, and both after `contact`.
-pub(crate) const GROWN: [(&str, &str, &str, &str); 7] = [
+pub(crate) static GROWN: [(&str, &str, &str, &str); 7] = [
     (
         "014253504a0100000000000000040100000002010000",
         "014253504a01000000000000000500",
@@ -231,7 +231,7 @@ pub(crate) const GROWN: [(&str, &str, &str, &str); 7] = [
 ];
 
 // No byte of a gate, or an open gate behind which no whole frame stands.
-pub(crate) const NO_FRAME: [&str; 13] = [
+pub(crate) static NO_FRAME: [&str; 13] = [
     "",
     "01",
     "0100",
@@ -248,7 +248,7 @@ pub(crate) const NO_FRAME: [&str; 13] = [
 ];
 
 // Bytes that no journal begins with.
-pub(crate) const FOREIGN: [&[u8]; 11] = [
+pub(crate) static FOREIGN: [&[u8]; 11] = [
     b"#!/bin/sh\nexit 0\n",
     b"\x7fELF\x02\x01\x01\0\0\0\0\0\0\0\0\0",
     b"\0",
@@ -262,7 +262,7 @@ pub(crate) const FOREIGN: [&[u8]; 11] = [
     b"BSPJ",
 ];
 
-pub(crate) const MAY_NOT_FOLLOW: [(&str, &str); 53] = [
+pub(crate) static MAY_NOT_FOLLOW: [(&str, &str); 53] = [
     (NOTE, "0100"),
     (NOTE, "0102"),
     (NOTE, "01010102"),

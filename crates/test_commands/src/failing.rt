@@ -9,36 +9,38 @@ use crate::slow::{PIECE, part_of};
 use crate::tally::{Tally, expect};
 use crate::want::{Files, Said};
 use anyhow::Result;
-use std::alloc::Global;
 use sync_top::Status;
 
 /// Lets each call of each command fail.
-pub(crate) fn play_all<P: Print>(rt: &P, alloc: Global, tally: &mut Tally) -> Result<()> {
+pub(crate) fn play_all(tally: &mut Tally) -> Result<()> {
     for scene in &SCENES {
-        fail_disk(rt, alloc, scene, tally)?;
-        fail_reads(rt, alloc, scene, tally)?;
-        fail_out(rt, alloc, scene, tally)?;
+        fail_disk(scene, tally)?;
+        fail_reads(scene, tally)?;
+        fail_out(scene, tally)?;
     }
     for line in &LINES {
-        fail_err(rt, alloc, line, tally)?;
+        fail_err(line, tally)?;
     }
     Ok(())
 }
 
-// Each call of the disk fails in turn; the next command finds the journal from before or the one
-// behind the append, whose gate reads as open from the write on.
-fn fail_disk<P: Print>(rt: &P, alloc: Global, scene: &Scene, tally: &mut Tally) -> Result<()> {
-    let said = Said::line(alloc, Status::DiskFault, b"disk fault\n")?;
-    let calls = scene.calls(alloc)?;
+// Each call of the disk fails in turn.
+fn fail_disk(scene: &Scene, tally: &mut Tally) -> Result<()> {
+    let calls = scene.calls(tally.alloc)?;
     for call in 0..calls {
-        let came = scene.play(alloc, Failing::Disk(call))?;
-        let is_told = said.is_of(&came);
-        let stage = scene.stage_at(calls, call, 3);
-        if !tally.count(is_told && scene.is_at(alloc, stage, came.disk)?) {
-            println!(rt; "apart: {} with call {call} failing", scene.words)?;
-        }
+        fail_call(scene, calls, call, tally)?;
     }
     Ok(())
+}
+
+// A call of the disk fails; the next command finds the journal from before or the one behind the
+// append, whose gate reads as open from the write on.
+fn fail_call(scene: &Scene, calls: u64, call: u64, tally: &mut Tally) -> Result<()> {
+    let came = scene.play(tally.alloc, Failing::Disk(call))?;
+    let is_told = Said::line(Status::DiskFault, b"disk fault\n").is_of(&came);
+    let stage = scene.stage_at(calls, call, 3);
+    let good = is_told & scene.is_at(tally.alloc, stage, came.into_disk())?;
+    Ok(tally.count_call(good, scene.words, "failing at call", call)?)
 }
 
 // How many calls move so many bytes, at most so many at a call.
@@ -48,41 +50,48 @@ fn calls_of(len: usize, most: usize) -> u64
     len.div_ceil(most) as u64
 }
 
-// How many reads give all bytes of an input.
+// How many reads give all bytes of an input and find its end; a command without an input makes
+// none.
 fn reads_of(input: &[u8]) -> u64 {
-    calls_of(input.len(), part_of(input.len()))
+    if input.is_empty() {
+        return 0;
+    }
+    calls_of(input.len(), part_of(input.len())).saturating_add(1)
 }
 
 // Each read of a command with an input fails in turn, also the one that finds its end, and nothing
 // is added.
-fn fail_reads<P: Print>(rt: &P, alloc: Global, scene: &Scene, tally: &mut Tally) -> Result<()> {
-    if scene.input.is_empty() {
-        return Ok(());
-    }
-    let said = Said::line(alloc, Status::ReadFault, b"read fault\n")?;
-    let files = scene.files(alloc, 0)?;
-    for call in 0..=reads_of(scene.input) {
-        let came = scene.play(alloc, Failing::Read(call))?;
-        if !tally.count(said.is_of(&came) && files.are_on(&came.disk)) {
-            println!(rt; "apart: {} with read {call} failing", scene.words)?;
-        }
+fn fail_reads(scene: &Scene, tally: &mut Tally) -> Result<()> {
+    let said = Said::line(Status::ReadFault, b"read fault\n");
+    let file = scene.file(tally.alloc, 0)?;
+    for call in 0..reads_of(scene.input) {
+        fail_stream(scene, Failing::Read(call), said, file.as_slice(), tally)?;
     }
     Ok(())
 }
 
 // Each write of the output fails in turn: what was added stands, and the front of the text was
 // written.
-fn fail_out<P: Print>(rt: &P, alloc: Global, scene: &Scene, tally: &mut Tally) -> Result<()> {
-    let files = scene.files(alloc, scene.stages())?;
+fn fail_out(scene: &Scene, tally: &mut Tally) -> Result<()> {
+    let file = scene.file(tally.alloc, scene.stages())?;
     for call in 0..calls_of(scene.out.len(), PIECE) {
-        let text = front(scene.out, call);
-        let said = Said::new(alloc, Status::WriteFault, text, b"write fault\n")?;
-        let came = scene.play(alloc, Failing::Out(call))?;
-        if !tally.count(said.is_of(&came) && files.are_on(&came.disk)) {
-            println!(rt; "apart: {} with write {call} failing", scene.words)?;
-        }
+        let said = Said::new(Status::WriteFault, front(scene.out, call), b"write fault\n");
+        fail_stream(scene, Failing::Out(call), said, file.as_slice(), tally)?;
     }
     Ok(())
+}
+
+// A read or a write fails, and this is file 0 then.
+fn fail_stream(
+    scene: &Scene,
+    failing: Failing,
+    said: Said<'_>,
+    file: &[u8],
+    tally: &mut Tally,
+) -> Result<()> {
+    let before = scene.file(tally.alloc, 0)?;
+    let files = Files::one(before.as_slice());
+    expect(&scene.order(failing), files, said, Files::one(file), tally)
 }
 
 // What was written of a text by so many calls.
@@ -92,15 +101,17 @@ fn front(text: &[u8], calls: u64) -> &[u8] {
 }
 
 // Each write of a line fails in turn: the status is that of the line.
-fn fail_err<P: Print>(rt: &P, alloc: Global, line: &Line, tally: &mut Tally) -> Result<()> {
-    let files = Files::one(alloc, hex::decode(alloc, line.file)?);
+fn fail_err(line: &Line, tally: &mut Tally) -> Result<()> {
+    let file = hex::decode(tally.alloc, line.file)?;
+    let files = Files::one(file.as_slice());
     for call in 0..calls_of(line.text.len(), PIECE) {
-        let said = Said::line(alloc, line.status, front(line.text, call))?;
+        let said = Said::line(line.status, front(line.text, call));
         let order = Order {
+            words: line.words,
+            input: b"x",
             failing: Failing::Err(call),
-            ..Order::new(line.words, b"x")
         };
-        expect(rt, alloc, &order, &files, &said, &files, tally)?;
+        expect(&order, files, said, files, tally)?;
     }
     Ok(())
 }
@@ -114,7 +125,7 @@ struct Line {
     text: &'static [u8],
 }
 
-const LINES: [Line; 5] = [
+static LINES: [Line; 5] = [
     Line {
         words: "contact 5",
         file: "",

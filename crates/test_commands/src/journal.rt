@@ -2,7 +2,7 @@
 //! digits.
 
 use anyhow::Result;
-use std::alloc::Global;
+use std::alloc::{AllocError, Global};
 
 /// The header of a journal of generation 1, and its closed gate.
 pub(crate) const BEGUN: [u8; 15] = [1, b'B', b'S', b'P', b'J', 1, 0, 0, 0, 0, 0, 0, 0, 1, 0];
@@ -10,29 +10,41 @@ pub(crate) const BEGUN: [u8; 15] = [1, b'B', b'S', b'P', b'J', 1, 0, 0, 0, 0, 0,
 /// The file of a journal with these payloads, which have single spaces between them.
 pub(crate) fn journal_of(alloc: Global, payloads: &str) -> Result<Vec<u8>> {
     let mut file = BEGUN.to_vec(alloc)?;
-    add_frames(alloc, &mut file, payloads)?;
+    add_frames(alloc, &mut file, payloads, u64::MAX)?;
     Ok(file)
 }
 
-/// Adds a frame for each of these payloads to the file.
-pub(crate) fn add_frames(alloc: Global, file: &mut Vec<u8>, payloads: &str) -> Result<()> {
+/// Adds a frame for each of these payloads to the file, but no more than so many.
+pub(crate) fn add_frames(
+    alloc: Global,
+    file: &mut Vec<u8>,
+    payloads: &str,
+    most: u64,
+) -> Result<()> {
     if payloads.is_empty() {
         return Ok(());
     }
+    let mut left = most;
     for payload in payloads.split(' ') {
-        let bytes = hex::decode(alloc, payload)?;
-        add_frame(file, bytes.as_slice())?;
+        if left > 0 {
+            add_decoded(alloc, file, payload)?;
+        }
+        left = left.saturating_sub(1);
     }
     Ok(())
 }
 
+// Adds a frame for the payload of these digits.
+fn add_decoded(alloc: Global, file: &mut Vec<u8>, digits: &str) -> Result<()> {
+    let payload = hex::decode(alloc, digits)?;
+    Ok(add_frame(file, payload.as_slice())?)
+}
+
 /// Puts a frame in the place of the closed gate, and a closed gate behind it.
-pub(crate) fn add_frame(file: &mut Vec<u8>, payload: &[u8]) -> Result<()> {
-    let len = u32::try_from(payload.len())?;
+pub(crate) fn add_frame(file: &mut Vec<u8>, payload: &[u8]) -> Result<(), AllocError> {
+    let [_, _, _, _, a, b, c, d] = (payload.len() as u64).to_be_bytes();
     let _ = file.pop();
-    file.push(1)?;
-    file.extend_from_slice(&len.to_be_bytes())?;
+    file.extend_from_slice(&[1, a, b, c, d])?;
     file.extend_from_slice(payload)?;
-    file.push(0)?;
-    Ok(())
+    file.extend_from_slice(&[0])
 }

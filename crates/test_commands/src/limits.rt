@@ -1,8 +1,8 @@
 //! The greatest numbers of contacts and groups, and the longest body, name and descriptor, each
 //! from both sides.
 
-use crate::journal::{add_frame, add_frames, journal_of};
-use crate::journals::EMPTY;
+use crate::journal::{BEGUN, add_frame, add_frames};
+use crate::letters::Long;
 use crate::play::Order;
 use crate::tally::{Tally, expect};
 use crate::want::{Files, Said};
@@ -11,96 +11,87 @@ use std::alloc::{AllocError, Global};
 use sync_top::Status;
 
 /// Plays what stands at a limit and what goes past it.
-pub(crate) fn play_all<P: Print>(rt: &P, alloc: Global, tally: &mut Tally) -> Result<()> {
-    play_contacts(rt, alloc, tally)?;
-    play_groups(rt, alloc, tally)?;
-    play_bodies(rt, alloc, tally)?;
-    play_names(rt, alloc, tally)
+pub(crate) fn play_all(tally: &mut Tally) -> Result<()> {
+    play_contacts(tally)?;
+    play_groups(tally)?;
+    play_bodies(tally)?;
+    play_names(tally)?;
+    play_descriptor(tally)
 }
 
 // A command that is done, with this file before it and this one after it.
-fn play_done<P: Print>(
-    rt: &P,
-    alloc: Global,
+fn play_done(
     order: &Order<'_>,
     before: &[u8],
-    after: Vec<u8>,
+    after: &[u8],
     out: &[u8],
     tally: &mut Tally,
 ) -> Result<()> {
-    let said = Said::done(alloc, out)?;
-    let files = Files::of(alloc, before, &[])?;
-    expect(
-        rt,
-        alloc,
-        order,
-        &files,
-        &said,
-        &Files::one(alloc, after),
-        tally,
-    )
+    let before = Files::one(before);
+    let after = Files::one(after);
+    expect(order, before, Said::done(out), after, tally)
 }
 
 // A command that is refused with this line.
-fn play_refused<P: Print>(
-    rt: &P,
-    alloc: Global,
-    order: &Order<'_>,
-    file: &[u8],
-    line: &[u8],
-    tally: &mut Tally,
-) -> Result<()> {
-    let files = Files::of(alloc, file, &[])?;
-    let said = Said::line(alloc, Status::Refused, line)?;
-    expect(rt, alloc, order, &files, &said, &files, tally)
+fn play_refused(order: &Order<'_>, file: &[u8], line: &[u8], tally: &mut Tally) -> Result<()> {
+    let files = Files::one(file);
+    let said = Said::line(Status::Refused, line);
+    expect(order, files, said, files, tally)
+}
+
+// The journal of so many contacts.
+fn contacts_of(alloc: Global, count: u16) -> Result<Vec<u8>, AllocError> {
+    let mut file = BEGUN.to_vec(alloc)?;
+    for n in 0..count {
+        let [_, low] = n.to_be_bytes();
+        add_frame(&mut file, &[1, low])?;
+    }
+    Ok(file)
 }
 
 // The 256th contact and the 257th.
-fn play_contacts<P: Print>(rt: &P, alloc: Global, tally: &mut Tally) -> Result<()> {
-    let mut file = journal_of(alloc, EMPTY)?;
-    for n in 0..u8::MAX {
-        add_frame(&mut file, &[1, n])?;
-    }
-    let mut full = file.clone()?;
-    add_frame(&mut full, &[1, u8::MAX])?;
+fn play_contacts(tally: &mut Tally) -> Result<()> {
+    let file = contacts_of(tally.alloc, 255)?;
+    let full = contacts_of(tally.alloc, 256)?;
     let order = Order::new("contact", b"");
     let line = b"refused: too many contacts\n";
-    play_refused(rt, alloc, &order, full.as_slice(), line, tally)?;
+    play_refused(&order, full.as_slice(), line, tally)?;
     play_done(
-        rt,
-        alloc,
         &order,
         file.as_slice(),
-        full,
+        full.as_slice(),
         b"contact 255\n",
         tally,
     )
 }
 
 // The journal of the groups with these many two-byte descriptors.
-fn groups_of(alloc: Global, count: u16) -> Result<Vec<u8>> {
-    let mut file = journal_of(alloc, EMPTY)?;
+fn groups_of(alloc: Global, count: u16) -> Result<Vec<u8>, AllocError> {
+    let mut file = BEGUN.to_vec(alloc)?;
     for n in 0..count {
         let [high, low] = n.to_be_bytes();
-        add_frame(
-            &mut file,
-            &[2, 4, b'n', b'o', b't', b'e', 0, 0, 0, 0, 0, 2, high, low],
-        )?;
+        let group = [2, 4, b'n', b'o', b't', b'e', 0, 0, 0, 0, 0, 2, high, low];
+        add_frame(&mut file, &group)?;
     }
     Ok(file)
 }
 
-// The 1,024th group and the 1,025th; the tests that come before that of their number.
-fn play_groups<P: Print>(rt: &P, alloc: Global, tally: &mut Tally) -> Result<()> {
-    let file = groups_of(alloc, 1023)?;
+// The 1,024th group and the 1,025th.
+fn play_groups(tally: &mut Tally) -> Result<()> {
+    let file = groups_of(tally.alloc, 1023)?;
     let mut full = file.clone()?;
     add_frame(&mut full, &NOTE)?;
-    for (words, line) in PAST_GROUPS {
-        let order = Order::new(words, b"");
-        play_refused(rt, alloc, &order, full.as_slice(), line, tally)?;
-    }
+    play_past_groups(full.as_slice(), tally)?;
     let order = Order::new("group note 0 d", b"");
-    play_done(rt, alloc, &order, file.as_slice(), full, NOTE_LINE, tally)
+    play_done(&order, file.as_slice(), full.as_slice(), NOTE_LINE, tally)
+}
+
+// One group more than there may be, and the tests that come before that of their number.
+fn play_past_groups(full: &[u8], tally: &mut Tally) -> Result<()> {
+    for (words, line) in &PAST_GROUPS {
+        play_refused(&Order::new(words, b""), full, line, tally)?;
+    }
+    Ok(())
 }
 
 // A body of so many letters.
@@ -108,72 +99,99 @@ fn letters(alloc: Global, count: usize) -> Result<Vec<u8>, AllocError> {
     vec![in alloc; b'x'; count]
 }
 
-// The longest body, and longer ones.
-fn play_bodies<P: Print>(rt: &P, alloc: Global, tally: &mut Tally) -> Result<()> {
-    let mut file = journal_of(alloc, EMPTY)?;
+// The file of a journal with the group `note`.
+fn note_file(alloc: Global) -> Result<Vec<u8>, AllocError> {
+    let mut file = BEGUN.to_vec(alloc)?;
     add_frame(&mut file, &NOTE)?;
+    Ok(file)
+}
+
+// The longest body, and longer ones.
+fn play_bodies(tally: &mut Tally) -> Result<()> {
+    let file = note_file(tally.alloc)?;
     for count in [32_769, 65_537] {
-        play_too_long(rt, alloc, file.as_slice(), count, tally)?;
+        play_too_long(file.as_slice(), count, tally)?;
     }
-    let body = letters(alloc, 32_768)?;
-    let after = longest_added(alloc, file.as_slice(), body.as_slice())?;
+    play_longest(file.as_slice(), tally)
+}
+
+fn play_too_long(file: &[u8], count: usize, tally: &mut Tally) -> Result<()> {
+    let body = letters(tally.alloc, count)?;
     let order = Order::new(POST, body.as_slice());
-    play_done(
-        rt,
-        alloc,
-        &order,
-        file.as_slice(),
-        after,
-        LONGEST_LINE,
-        tally,
-    )
+    play_refused(&order, file, b"refused: body too long\n", tally)
+}
+
+fn play_longest(file: &[u8], tally: &mut Tally) -> Result<()> {
+    let body = letters(tally.alloc, 32_768)?;
+    let after = longest_added(tally.alloc, body.as_slice())?;
+    let order = Order::new(POST, body.as_slice());
+    play_done(&order, file, after.as_slice(), LONGEST_LINE, tally)
 }
 
 // The file with the message of the longest body, settled.
-fn longest_added(alloc: Global, file: &[u8], body: &[u8]) -> Result<Vec<u8>> {
-    let mut payload = hex::decode(alloc, LONGEST_FRONT)?;
-    payload.extend_from_slice(body)?;
-    let mut after = file.to_vec(alloc)?;
-    add_frame(&mut after, payload.as_slice())?;
-    add_frames(alloc, &mut after, LONGEST_SETTLED)?;
-    Ok(after)
+fn longest_added(alloc: Global, body: &[u8]) -> Result<Vec<u8>> {
+    let mut file = note_file(alloc)?;
+    let payload = payload_of(alloc, LONGEST_FRONT, body)?;
+    add_frame(&mut file, payload.as_slice())?;
+    add_frames(alloc, &mut file, LONGEST_SETTLED, u64::MAX)?;
+    Ok(file)
 }
 
-fn play_too_long<P: Print>(
-    rt: &P,
-    alloc: Global,
-    file: &[u8],
-    count: usize,
-    tally: &mut Tally,
-) -> Result<()> {
-    let body = letters(alloc, count)?;
-    let order = Order::new(POST, body.as_slice());
-    play_refused(rt, alloc, &order, file, b"refused: body too long\n", tally)
+// A payload of these digits and a text behind them.
+fn payload_of(alloc: Global, front: &str, text: &[u8]) -> Result<Vec<u8>> {
+    let mut payload = hex::decode(alloc, front)?;
+    payload.extend_from_slice(text)?;
+    Ok(payload)
 }
 
-// The longest names, which no client has, and the longest descriptor.
-fn play_names<P: Print>(rt: &P, alloc: Global, tally: &mut Tally) -> Result<()> {
-    let file = journal_of(alloc, EMPTY)?;
-    let line = b"refused: unknown client\n";
-    for (letter, count) in [("n", 255), ("é", 127)] {
-        let name = letter.repeat(alloc, count)?;
-        let words = format!(in alloc; "group {name} 0 d")?;
+// The longest names, which no client has.
+fn play_names(tally: &mut Tally) -> Result<()> {
+    for long in &NAMES {
+        let words = long.words(tally.alloc)?;
         let order = Order::new(words.as_str(), b"");
-        play_refused(rt, alloc, &order, file.as_slice(), line, tally)?;
+        play_refused(&order, &BEGUN, b"refused: unknown client\n", tally)?;
     }
-    play_descriptor(rt, alloc, file.as_slice(), tally)
+    Ok(())
 }
 
-fn play_descriptor<P: Print>(rt: &P, alloc: Global, file: &[u8], tally: &mut Tally) -> Result<()> {
-    let descriptor = "d".repeat(alloc, 16_384)?;
-    let words = format!(in alloc; "group note 0 {descriptor}")?;
-    let mut payload = hex::decode(alloc, "02046e6f7465000000004000")?;
-    payload.extend_from_slice(descriptor.as_bytes())?;
-    let mut after = file.to_vec(alloc)?;
-    add_frame(&mut after, payload.as_slice())?;
+// The longest descriptor.
+fn play_descriptor(tally: &mut Tally) -> Result<()> {
+    let words = DESCRIPTOR.words(tally.alloc)?;
+    let after = described(tally.alloc)?;
     let order = Order::new(words.as_str(), b"");
-    play_done(rt, alloc, &order, file, after, DESCRIPTOR_LINE, tally)
+    play_done(&order, &BEGUN, after.as_slice(), DESCRIPTOR_LINE, tally)
 }
+
+// The file with the group of the longest descriptor.
+fn described(alloc: Global) -> Result<Vec<u8>> {
+    let text = vec![in alloc; b'd'; 16_384]?;
+    let payload = payload_of(alloc, "02046e6f7465000000004000", text.as_slice())?;
+    let mut file = BEGUN.to_vec(alloc)?;
+    add_frame(&mut file, payload.as_slice())?;
+    Ok(file)
+}
+
+static NAMES: [Long; 2] = [
+    Long {
+        front: "group ",
+        letter: "n",
+        count: 255,
+        behind: " 0 d",
+    },
+    Long {
+        front: "group ",
+        letter: "é",
+        count: 127,
+        behind: " 0 d",
+    },
+];
+
+static DESCRIPTOR: Long = Long {
+    front: "group note 0 ",
+    letter: "d",
+    count: 16_384,
+    behind: "",
+};
 
 // The group `note`, major 0, descriptor `d`.
 const NOTE: [u8; 13] = [2, 4, b'n', b'o', b't', b'e', 0, 0, 0, 0, 0, 1, b'd'];
@@ -181,7 +199,7 @@ const NOTE: [u8; 13] = [2, 4, b'n', b'o', b't', b'e', 0, 0, 0, 0, 0, 1, b'd'];
 const NOTE_LINE: &[u8] =
     b"group 76ff4980d3b5f63962cee45401b6b1bb92efe989c27de4629aac92b18163e6e0\n";
 
-const PAST_GROUPS: [(&str, &[u8]); 3] = [
+static PAST_GROUPS: [(&str, &[u8]); 3] = [
     ("group note 0 d", b"refused: group exists\n"),
     ("group chat 0 d", b"refused: unknown client\n"),
     ("group note 0 e", b"refused: too many groups\n"),

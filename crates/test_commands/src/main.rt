@@ -8,6 +8,7 @@ mod damage_tables;
 mod failing;
 mod journal;
 mod journals;
+mod letters;
 mod limits;
 mod play;
 mod records;
@@ -25,7 +26,6 @@ mod words;
 
 use crate::tally::Tally;
 use anyhow::Result;
-use std::alloc::Global;
 
 /// A table of cases.
 #[derive(Clone, Copy)]
@@ -42,7 +42,7 @@ enum Table {
     Streams,
 }
 
-const TABLES: [(&str, Table); 10] = [
+static TABLES: [(&str, Table); 10] = [
     ("session", Table::Session),
     ("stored", Table::Stored),
     ("refusals", Table::Refusals),
@@ -56,25 +56,25 @@ const TABLES: [(&str, Table); 10] = [
 ];
 
 fn main(rt: HostRuntime) -> Result<()> {
-    for (name, table) in TABLES {
-        let mut tally = Tally::new(name);
-        play_table(&rt, rt.alloc(), table, &mut tally)?;
-        tally.close(&rt)?;
+    for (name, table) in &TABLES {
+        let mut tally = Tally::new(rt.alloc());
+        play_table(*table, &mut tally)?;
+        tally.close(&rt, name)?;
     }
     Ok(())
 }
 
-fn play_table<P: Print>(rt: &P, alloc: Global, table: Table, tally: &mut Tally) -> Result<()> {
+fn play_table(table: Table, tally: &mut Tally) -> Result<()> {
     match table {
-        Table::Session => session::play_all(rt, alloc, tally),
-        Table::Stored => stored::play_all(rt, alloc, tally),
-        Table::Refusals => refusals::play_all(rt, alloc, tally),
-        Table::Limits => limits::play_all(rt, alloc, tally),
-        Table::Words => words::play_all(rt, alloc, tally),
-        Table::Damage => damage::play_all(rt, alloc, tally),
-        Table::Stops => stops::play_all(rt, alloc, tally),
-        Table::Failing => failing::play_all(rt, alloc, tally),
-        Table::Loads => refusals::play_loads(rt, alloc, tally),
-        Table::Streams => streams::play_all(rt, alloc, tally),
+        Table::Session => session::play_all(tally),
+        Table::Stored => stored::play_all(tally),
+        Table::Refusals => refusals::play_all(tally),
+        Table::Limits => limits::play_all(tally),
+        Table::Words => words::play_all(tally),
+        Table::Damage => damage::play_all(tally),
+        Table::Stops => stops::play_all(tally),
+        Table::Failing => failing::play_all(tally),
+        Table::Loads => refusals::play_loads(tally),
+        Table::Streams => streams::play_all(tally),
     }
 }

@@ -1,5 +1,5 @@
 //! One command over a disk in memory.
-ghost use Rattle.std.specs.Prelude.{◌≡◌, []};
+ghost use Rattle.std.specs.Prelude.{◌≡◌, [], IfOk};
 ghost use Rattle.outside.specs.MemHost.{links_of};
 
 use crate::slow::{SlowSink, SlowSource, part_of};
@@ -69,22 +69,40 @@ impl<'a> Order<'a> {
     }
 }
 
-/// What a command came to, what it wrote and what it left.
-#[derive(Drop)]
+/// What a command came to, and what it ran on.
 pub(crate) struct Came {
     pub(crate) status: Status,
-    pub(crate) out: SlowSink,
-    pub(crate) err: SlowSink,
-    pub(crate) disk: MemDisk,
+    stage: Stage,
+}
+
+// Written out, so that whoever drops it proves one call.
+impl Drop for Came {
+    fn drop(self) {
+        let Came {
+            status: _,
+            stage: _,
+        } = self;
+    }
 }
 
 impl Came {
     pub(crate) fn out(&self) -> &[u8] {
-        self.out.0.bytes()
+        self.stage.out.0.bytes()
     }
 
     pub(crate) fn err(&self) -> &[u8] {
-        self.err.0.bytes()
+        self.stage.err.0.bytes()
+    }
+
+    /// The disk as the command left it.
+    pub(crate) fn disk(&self) -> &MemDisk {
+        self.stage.host.disk()
+    }
+
+    /// The disk as the command left it.
+    pub(crate) fn into_disk(self) -> MemDisk {
+        let Came { status: _, stage } = self;
+        stage.into_disk()
     }
 }
 
@@ -100,15 +118,10 @@ pub(crate) fn play_for<C: Clients>(
     disk: MemDisk,
     clients: &C,
 ) -> Result<Came> {
-    let hasher = RandomState::new(&MemRandom(0))?;
+    let stage = Stage::of(alloc, order, disk)?;
     let words = words_of(alloc, order.words)?;
-    let source = source_of(alloc, order)?;
-    let out = sink_of(alloc, order.failing.of_out())?;
-    let err = sink_of(alloc, order.failing.of_err())?;
-    let disk = failing_disk(alloc, disk, order.failing)?;
-    let host = MemHost::new(alloc, disk)?;
-    let streams = (source, out, err);
-    Ok(command(alloc, hasher, words.as_slice(), host, streams, clients))
+    let hasher = RandomState::new(&MemRandom(0))?;
+    Ok(command(alloc, hasher, words.as_slice(), stage, clients))
 }
 
 // The one call of `run`.
@@ -116,29 +129,70 @@ fn command<C: Clients>(
     alloc: Global,
     hasher: RandomState,
     words: &[String],
-    host: MemHost,
-    streams: (SlowSource, SlowSink, SlowSink),
+    stage: Stage,
     clients: &C,
 ) -> Came
-    requires no_links { links_of host.disk ≡ [] }
+    requires no_links { links_of stage.host.disk ≡ [] }
 {
-    let mut host = host;
-    let (mut source, mut out, mut err) = streams;
+    let mut stage = stage;
     let status = run(
         alloc,
         hasher,
         words,
-        &mut host,
-        &mut source,
-        &mut out,
-        &mut err,
+        &mut stage.host,
+        &mut stage.source,
+        &mut stage.out,
+        &mut stage.err,
         clients,
     );
-    Came {
-        status,
-        out,
-        err,
-        disk: host.into_disk(),
+    Came { status, stage }
+}
+
+// What a command runs on.
+struct Stage {
+    host: MemHost,
+    source: SlowSource,
+    out: SlowSink,
+    err: SlowSink,
+}
+
+// Written out, so that whoever drops it proves one call.
+impl Drop for Stage {
+    fn drop(self) {
+        let Stage {
+            host: _,
+            source: _,
+            out: _,
+            err: _,
+        } = self;
+    }
+}
+
+impl Stage {
+    // A host over this disk, and the streams.
+    fn of(alloc: Global, order: &Order<'_>, disk: MemDisk) -> Result<Stage, AllocError>
+        ensures { IfOk result (λ s. links_of s.host.disk ≡ []) }
+    {
+        let host = host_of(alloc, disk, order.failing)?;
+        let source = source_of(alloc, order)?;
+        let out = sink_of(alloc, order.failing.of_out())?;
+        let err = sink_of(alloc, order.failing.of_err())?;
+        Ok(Stage {
+            host,
+            source,
+            out,
+            err,
+        })
+    }
+
+    fn into_disk(self) -> MemDisk {
+        let Stage {
+            host,
+            source: _,
+            out: _,
+            err: _,
+        } = self;
+        host.into_disk()
     }
 }
 
@@ -155,8 +209,8 @@ fn words_of(alloc: Global, line: &str) -> Result<Vec<String>, AllocError> {
 }
 
 fn source_of(alloc: Global, order: &Order<'_>) -> Result<SlowSource, AllocError> {
-    let failing = calls_of(alloc, order.failing.of_read())?;
     let bytes = order.input.to_vec(alloc)?;
+    let failing = calls_of(alloc, order.failing.of_read())?;
     Ok(SlowSource {
         most: part_of(bytes.len()),
         source: MemSource::new(bytes, failing),
@@ -169,20 +223,21 @@ fn sink_of(alloc: Global, call: Option<u64>) -> Result<SlowSink, AllocError> {
 
 // The list of this call.
 fn calls_of(alloc: Global, call: Option<u64>) -> Result<Vec<u64>, AllocError> {
-    let mut calls = Vec::new(alloc);
-    if let Some(call) = call {
-        calls.push(call)?;
+    match call {
+        Some(call) => [call].to_vec(alloc),
+        None => Ok(Vec::new(alloc)),
     }
-    Ok(calls)
 }
 
-// The disk, which is to fail at the call counted from now on.
-fn failing_disk(alloc: Global, disk: MemDisk, failing: Failing) -> Result<MemDisk, AllocError> {
+// A host over the disk, which is to fail at the call counted from now on.
+fn host_of(alloc: Global, disk: MemDisk, failing: Failing) -> Result<MemHost, AllocError>
+    ensures { IfOk result (λ h. links_of h.disk ≡ []) }
+{
     let mut disk = disk;
     disk.fail_none();
     if let Failing::Disk(call) = failing {
         let made = disk.calls();
         disk.fail_at(made.saturating_add(call))?;
     }
-    Ok(disk)
+    MemHost::new(alloc, disk)
 }

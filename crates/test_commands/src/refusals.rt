@@ -8,7 +8,7 @@ use crate::play::{Failing, Order, play};
 use crate::tally::{Tally, expect};
 use crate::want::{Files, Said};
 use anyhow::Result;
-use std::alloc::Global;
+use std::alloc::{AllocError, Global};
 use sync_top::Status;
 
 /// A command that is refused: the payloads of the journal, its words and input, and what follows
@@ -22,84 +22,88 @@ struct Refusal {
 }
 
 /// Plays all refusals, and all commands without a store.
-pub(crate) fn play_all<P: Print>(rt: &P, alloc: Global, tally: &mut Tally) -> Result<()> {
+pub(crate) fn play_all(tally: &mut Tally) -> Result<()> {
     for refusal in &REFUSALS {
-        play_refusal(rt, alloc, refusal, tally)?;
+        play_refusal(refusal, Failing::Nothing, tally)?;
     }
-    for words in OF_A_STORE {
-        play_without(rt, alloc, words, tally)?;
+    for words in &OF_A_STORE {
+        play_without(words, tally)?;
     }
-    for before in BEGUN {
-        play_again(rt, alloc, before, tally)?;
+    for before in &BEGUN {
+        play_again(before, tally)?;
     }
-    play_unread(rt, alloc, tally)
+    play_unread(tally)
 }
 
 /// Plays all refusals over a disk whose first call behind the load fails: a refused command makes
 /// no call there.
-pub(crate) fn play_loads<P: Print>(rt: &P, alloc: Global, tally: &mut Tally) -> Result<()> {
+pub(crate) fn play_loads(tally: &mut Tally) -> Result<()> {
     for refusal in &REFUSALS {
-        play_load(rt, alloc, refusal, tally)?;
+        let calls = load_calls(tally.alloc, refusal.before)?;
+        play_refusal(refusal, Failing::Disk(calls), tally)?;
     }
     Ok(())
 }
 
-fn play_load<P: Print>(rt: &P, alloc: Global, refusal: &Refusal, tally: &mut Tally) -> Result<()> {
-    let files = Files::one(alloc, journal_of(alloc, refusal.before)?);
-    let shown = play(alloc, &Order::new("show", b""), files.disk(alloc)?)?;
-    let line = format!(in alloc; "refused: {}\n", refusal.line)?;
-    let said = Said::line(alloc, Status::Refused, line.as_bytes())?;
-    let order = Order {
-        failing: Failing::Disk(shown.disk.calls()),
-        ..Order::new(refusal.words, refusal.input)
-    };
-    expect(rt, alloc, &order, &files, &said, &files, tally)
+// How many calls of the disk load the journal of these payloads.
+fn load_calls(alloc: Global, before: &str) -> Result<u64> {
+    let file = journal_of(alloc, before)?;
+    let disk = Files::one(file.as_slice()).disk(alloc)?;
+    let shown = play(alloc, &Order::new("show", b""), disk)?;
+    Ok(shown.disk().calls())
 }
 
-fn play_refusal<P: Print>(
-    rt: &P,
-    alloc: Global,
-    refusal: &Refusal,
-    tally: &mut Tally,
-) -> Result<()> {
-    let files = Files::one(alloc, journal_of(alloc, refusal.before)?);
-    let line = format!(in alloc; "refused: {}\n", refusal.line)?;
-    let said = Said::line(alloc, Status::Refused, line.as_bytes())?;
-    let order = Order::new(refusal.words, refusal.input);
-    expect(rt, alloc, &order, &files, &said, &files, tally)
+fn play_refusal(refusal: &Refusal, failing: Failing, tally: &mut Tally) -> Result<()> {
+    let order = Order {
+        words: refusal.words,
+        input: refusal.input,
+        failing,
+    };
+    let line = refused_line(tally.alloc, refusal.line)?;
+    let said = Said::line(Status::Refused, line.as_bytes());
+    play_kept(&order, refusal.before, said, tally)
+}
+
+fn refused_line(alloc: Global, line: &str) -> Result<String, AllocError> {
+    format!(in alloc; "refused: {line}\n")
+}
+
+// A command that leaves the journal of these payloads.
+fn play_kept(order: &Order<'_>, before: &str, said: Said<'_>, tally: &mut Tally) -> Result<()> {
+    let file = journal_of(tally.alloc, before)?;
+    let files = Files::one(file.as_slice());
+    expect(order, files, said, files, tally)
 }
 
 // A command of a store where there is none; a failing source makes no difference.
-fn play_without<P: Print>(rt: &P, alloc: Global, words: &str, tally: &mut Tally) -> Result<()> {
-    let files = Files::none(alloc);
-    let said = Said::line(alloc, Status::NoStore, b"no store\n")?;
-    expect(rt, alloc, &unread(words), &files, &said, &files, tally)
+fn play_without(words: &str, tally: &mut Tally) -> Result<()> {
+    let none = Files::one(&[]);
+    let said = Said::line(Status::NoStore, b"no store\n");
+    expect(&unread(words), none, said, none, tally)
 }
 
 // A second `init`, over the journal of these payloads.
-fn play_again<P: Print>(rt: &P, alloc: Global, before: &str, tally: &mut Tally) -> Result<()> {
-    let files = Files::one(alloc, journal_of(alloc, before)?);
-    let said = Said::line(alloc, Status::Exists, b"store exists\n")?;
-    let order = Order::new("init", b"");
-    expect(rt, alloc, &order, &files, &said, &files, tally)
+fn play_again(before: &str, tally: &mut Tally) -> Result<()> {
+    let said = Said::line(Status::Exists, b"store exists\n");
+    play_kept(&Order::new("init", b""), before, said, tally)
 }
 
 // A post to an unknown group is refused before its body is read.
-fn play_unread<P: Print>(rt: &P, alloc: Global, tally: &mut Tally) -> Result<()> {
-    let files = Files::one(alloc, journal_of(alloc, ONE)?);
-    let said = Said::line(alloc, Status::Refused, b"refused: unknown group\n")?;
-    expect(rt, alloc, &unread(UNREAD), &files, &said, &files, tally)
+fn play_unread(tally: &mut Tally) -> Result<()> {
+    let said = Said::line(Status::Refused, b"refused: unknown group\n");
+    play_kept(&unread(UNREAD), ONE, said, tally)
 }
 
 // A command whose first read would fail.
 fn unread(words: &str) -> Order<'_> {
     Order {
+        words,
+        input: b"x",
         failing: Failing::Read(0),
-        ..Order::new(words, b"x")
     }
 }
 
-const OF_A_STORE: [&str; 8] = [
+static OF_A_STORE: [&str; 8] = [
     "contact",
     "group note 0 d",
     "group chat 0 d",
@@ -110,11 +114,11 @@ const OF_A_STORE: [&str; 8] = [
     "body 3443418c0382800e42ae01fb9d676b7b25405d2875809cf8d6808f04741c96a4",
 ];
 
-const BEGUN: [&str; 4] = [EMPTY, ONE, HELD, "00"];
+static BEGUN: [&str; 4] = [EMPTY, ONE, HELD, "00"];
 
 const UNREAD: &str = "post 76ff4980d3b5f63962cee45401b6b1bb92efe989c27de4629aac92b18163e6e0 0";
 
-const REFUSALS: [Refusal; 32] = [
+static REFUSALS: [Refusal; 32] = [
     Refusal {
         before: ONE,
         words: "group chat 0 d",

@@ -1,6 +1,6 @@
 //! Commands that are stopped or meet a failing call, and the journals that may be left of them.
 
-use crate::journal::{add_frames, journal_of};
+use crate::journal::{BEGUN, add_frames};
 use crate::journals::{EMPTY, FRESH, HELD, NOTE, ONE};
 use crate::play::{Came, Failing, Order, play};
 use crate::want::{Files, Said};
@@ -36,47 +36,43 @@ impl Scene {
         if !self.begun {
             return 1;
         }
-        let mut count = 0u64;
-        for payload in self.adds.split(' ') {
-            count = count.saturating_add(u64::from(!payload.is_empty()));
+        if self.adds.is_empty() {
+            return 0;
         }
-        count
+        self.adds.split(' ').count() as u64
     }
 
     /// The file after so many of them.
     pub(crate) fn file(&self, alloc: Global, stage: u64) -> Result<Vec<u8>> {
-        if !self.begun && stage == 0 {
-            return Ok(Vec::new(alloc));
-        }
-        let mut file = journal_of(alloc, self.before)?;
-        let mut left = stage;
-        for payload in self.adds.split(' ') {
-            if left > 0 {
-                add_frames(alloc, &mut file, payload)?;
-            }
-            left = left.saturating_sub(1);
+        let mut file = Vec::new(alloc);
+        if self.begun || stage > 0 {
+            file.extend_from_slice(&BEGUN)?;
+            add_frames(alloc, &mut file, self.before, u64::MAX)?;
+            add_frames(alloc, &mut file, self.adds, stage)?;
         }
         Ok(file)
     }
 
-    /// The files after so many of them.
-    pub(crate) fn files(&self, alloc: Global, stage: u64) -> Result<Files> {
-        Ok(Files::one(alloc, self.file(alloc, stage)?))
+    /// The command with this failing call.
+    pub(crate) fn order(&self, failing: Failing) -> Order<'_> {
+        Order {
+            words: self.words,
+            input: self.input,
+            failing,
+        }
     }
 
     /// What comes of the command with this failing call.
     pub(crate) fn play(&self, alloc: Global, failing: Failing) -> Result<Came> {
-        let order = Order {
-            failing,
-            ..Order::new(self.words, self.input)
-        };
-        let disk = self.files(alloc, 0)?.disk(alloc)?;
-        play(alloc, &order, disk)
+        let file = self.file(alloc, 0)?;
+        let disk = Files::one(file.as_slice()).disk(alloc)?;
+        play(alloc, &self.order(failing), disk)
     }
 
     /// How many calls of the disk the command makes.
     pub(crate) fn calls(&self, alloc: Global) -> Result<u64> {
-        Ok(self.play(alloc, Failing::Nothing)?.disk.calls())
+        let came = self.play(alloc, Failing::Nothing)?;
+        Ok(came.disk().calls())
     }
 
     /// The journal that stands when the call of this number did not come to its end: that before
@@ -96,23 +92,29 @@ impl Scene {
     pub(crate) fn is_at(&self, alloc: Global, stage: u64, disk: MemDisk) -> Result<bool> {
         let file = self.file(alloc, stage)?;
         let whole = disk.file(0).starts_with(file.as_slice());
-        let files = Files::on(alloc, &disk)?;
-        let said = self.said_at(alloc, stage)?;
-        let came = play(alloc, &Order::new("show", b""), disk)?;
-        Ok(whole && said.is_of(&came) && files.are_on(&came.disk))
+        Ok(whole & shows(alloc, self.said_at(stage), disk)?)
     }
 
     // What `show` comes to at a stage.
-    fn said_at(&self, alloc: Global, stage: u64) -> Result<Said> {
+    fn said_at(&self, stage: u64) -> Said<'_> {
         if !self.begun && stage == 0 {
-            return Ok(Said::line(alloc, Status::NoStore, b"no store\n")?);
+            return Said::line(Status::NoStore, b"no store\n");
         }
-        let text = self.shown.get(stage as usize).copied().unwrap_or("");
-        Ok(Said::done(alloc, text.as_bytes())?)
+        match self.shown.get(stage as usize) {
+            Some(text) => Said::done(text.as_bytes()),
+            None => Said::done(&[]),
+        }
     }
 }
 
-pub(crate) const SCENES: [Scene; 9] = [
+// Whether `show` says this of a disk, and leaves its files.
+fn shows(alloc: Global, said: Said<'_>, disk: MemDisk) -> Result<bool> {
+    let kept = Files::on(&disk).disk(alloc)?;
+    let came = play(alloc, &Order::new("show", b""), disk)?;
+    Ok(said.is_of(&came) & Files::on(&kept).are_on(came.disk()))
+}
+
+pub(crate) static SCENES: [Scene; 9] = [
     Scene {
         begun: false,
         before: EMPTY,

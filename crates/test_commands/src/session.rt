@@ -1,22 +1,20 @@
 //! A session with a store, from its beginning: what each command prints, and what it adds to the
 //! journal.
 
-use crate::journal::journal_of;
-use crate::journals::EMPTY;
+use crate::journal::BEGUN;
 use crate::steps::{Step, play_steps};
 use crate::tally::Tally;
+use crate::want::Files;
 use anyhow::Result;
-use outside::MemDisk;
-use std::alloc::Global;
 
 /// Plays the session.
-pub(crate) fn play_all<P: Print>(rt: &P, alloc: Global, tally: &mut Tally) -> Result<()> {
-    let start = journal_of(alloc, EMPTY)?;
-    let disk = MemDisk::new(alloc, Vec::new(alloc), Vec::new(alloc))?;
-    play_steps(rt, alloc, &STEPS, start, disk, tally)
+pub(crate) fn play_all(tally: &mut Tally) -> Result<()> {
+    let start = BEGUN.to_vec(tally.alloc)?;
+    let disk = Files::one(&[]).disk(tally.alloc)?;
+    play_steps(&STEPS, start, disk, tally)
 }
 
-const STEPS: [Step; 27] = [
+static STEPS: [Step; 27] = [
     Step {
         words: "init",
         input: b"",

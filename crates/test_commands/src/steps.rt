@@ -6,7 +6,6 @@ use crate::tally::Tally;
 use crate::want::{Files, Said};
 use anyhow::Result;
 use outside::MemDisk;
-use std::alloc::Global;
 
 /// A command that is done: what it reads and prints, and the payloads of the frames that it adds.
 #[derive(Clone, Copy)]
@@ -19,9 +18,7 @@ pub(crate) struct Step {
 
 /// Plays the steps over a disk whose first file should become this one, with the frames of each
 /// step behind it.
-pub(crate) fn play_steps<P: Print>(
-    rt: &P,
-    alloc: Global,
+pub(crate) fn play_steps(
     steps: &[Step],
     start: Vec<u8>,
     disk: MemDisk,
@@ -30,27 +27,17 @@ pub(crate) fn play_steps<P: Print>(
     let mut file = start;
     let mut disk = disk;
     for step in steps {
-        add_frames(alloc, &mut file, step.adds)?;
-        let files = Files::of(alloc, file.as_slice(), &[])?;
-        disk = play_step(rt, alloc, step, &files, disk, tally)?;
+        disk = play_step(step, &mut file, disk, tally)?;
     }
     Ok(())
 }
 
-// Plays one step, which should leave these files.
-fn play_step<P: Print>(
-    rt: &P,
-    alloc: Global,
-    step: &Step,
-    files: &Files,
-    disk: MemDisk,
-    tally: &mut Tally,
-) -> Result<MemDisk> {
+// Plays one step, behind which file 0 has its frames too.
+fn play_step(step: &Step, file: &mut Vec<u8>, disk: MemDisk, tally: &mut Tally) -> Result<MemDisk> {
+    add_frames(tally.alloc, file, step.adds, u64::MAX)?;
     let order = Order::new(step.words, step.input);
-    let said = Said::done(alloc, step.out)?;
-    let came = play(alloc, &order, disk)?;
-    if !tally.count(said.is_of(&came) && files.are_on(&came.disk)) {
-        println!(rt; "apart: {}", step.words)?;
-    }
-    Ok(came.disk)
+    let came = play(tally.alloc, &order, disk)?;
+    let good = Said::done(step.out).is_of(&came) & Files::one(file.as_slice()).are_on(came.disk());
+    tally.count(good, step.words)?;
+    Ok(came.into_disk())
 }

@@ -6,84 +6,110 @@ use crate::scenes::{SCENES, Scene};
 use crate::tally::Tally;
 use crate::want::{Files, Said};
 use anyhow::Result;
-use outside::Pick;
+use outside::{MemDisk, Pick};
 use std::alloc::Global;
 use sync_top::Status;
 
-const PICKS: [Pick; 4] = [Pick::Old, Pick::New, Pick::Zero, Pick::Ones];
+/// An image of those that a crash may leave, and from which call of an append on it may have the
+/// gate open: the third writes it, and until the sync behind it it may be as it was or any byte.
+#[derive(Clone, Copy)]
+struct Crash {
+    pick: Pick,
+    opened: u64,
+    name: &'static str,
+}
+
+static CRASHES: [Crash; 4] = [
+    Crash {
+        pick: Pick::Old,
+        opened: 4,
+        name: "what was synced, stopped at call",
+    },
+    Crash {
+        pick: Pick::New,
+        opened: 2,
+        name: "what was written, stopped at call",
+    },
+    Crash {
+        pick: Pick::Zero,
+        opened: 4,
+        name: "zeros, stopped at call",
+    },
+    Crash {
+        pick: Pick::Ones,
+        opened: 2,
+        name: "ones, stopped at call",
+    },
+];
 
 /// Stops each command everywhere, and `init` twice.
-pub(crate) fn play_all<P: Print>(rt: &P, alloc: Global, tally: &mut Tally) -> Result<()> {
+pub(crate) fn play_all(tally: &mut Tally) -> Result<()> {
     for scene in &SCENES {
-        stop_scene(rt, alloc, scene, tally)?;
+        stop_scene(scene, tally)?;
     }
-    begin_thrice(rt, alloc, tally)
+    begin_thrice(tally)
 }
 
 // Stops a command at each of its calls.
-fn stop_scene<P: Print>(rt: &P, alloc: Global, scene: &Scene, tally: &mut Tally) -> Result<()> {
-    let calls = scene.calls(alloc)?;
+fn stop_scene(scene: &Scene, tally: &mut Tally) -> Result<()> {
+    let calls = scene.calls(tally.alloc)?;
     for call in 0..calls {
-        for pick in PICKS {
-            let stage = scene.stage_at(calls, call, opened(pick));
-            let came = scene.play(alloc, Failing::Disk(call))?;
-            let left = came.disk.image(pick)?;
-            if !tally.count(scene.is_at(alloc, stage, left)?) {
-                println!(rt; "apart: {} stopped at call {call}, {pick:?}", scene.words)?;
-            }
+        for crash in &CRASHES {
+            stop_call(scene, calls, call, crash, tally)?;
         }
     }
     Ok(())
 }
 
-// From which call of an append on a crash may leave the gate open: the third writes it, and until
-// the sync behind it it may be as it was or any byte.
-fn opened(pick: Pick) -> u64 {
-    match pick {
-        Pick::New | Pick::Ones => 2,
-        Pick::Old | Pick::Zero => 4,
-    }
+// Stops a command of so many calls at this one.
+fn stop_call(scene: &Scene, calls: u64, call: u64, crash: &Crash, tally: &mut Tally) -> Result<()> {
+    let came = scene.play(tally.alloc, Failing::Disk(call))?;
+    let left = came.disk().image(crash.pick)?;
+    let stage = scene.stage_at(calls, call, crash.opened);
+    let good = scene.is_at(tally.alloc, stage, left)?;
+    Ok(tally.count_call(good, scene.words, crash.name, call)?)
 }
 
-fn begin(alloc: Global, failing: Failing, files: &Files) -> Result<Came> {
+fn begin(alloc: Global, failing: Failing, files: Files<'_>) -> Result<Came> {
     let order = Order {
+        words: "init",
+        input: b"",
         failing,
-        ..Order::new("init", b"")
     };
     play(alloc, &order, files.disk(alloc)?)
 }
 
 // How many calls of the disk an `init` makes.
-fn calls_of(alloc: Global, files: &Files) -> Result<u64> {
-    Ok(begin(alloc, Failing::Nothing, files)?.disk.calls())
+fn calls_of(alloc: Global, files: Files<'_>) -> Result<u64> {
+    let came = begin(alloc, Failing::Nothing, files)?;
+    Ok(came.disk().calls())
 }
 
-// The files that a crash leaves of an `init` that is stopped.
-fn stopped(alloc: Global, call: u64, pick: Pick, files: &Files) -> Result<Files> {
+// The disk that a crash leaves of an `init` that is stopped.
+fn stopped(alloc: Global, call: u64, pick: Pick, files: Files<'_>) -> Result<MemDisk> {
     let came = begin(alloc, Failing::Disk(call), files)?;
-    Ok(Files::on(alloc, &came.disk.image(pick)?)?)
+    Ok(came.disk().image(pick)?)
 }
 
 // An `init` that is stopped, a second one that is stopped, and a third.
-fn begin_thrice<P: Print>(rt: &P, alloc: Global, tally: &mut Tally) -> Result<()> {
-    let none = Files::none(alloc);
-    for call in 0..calls_of(alloc, &none)? {
-        for pick in PICKS {
-            let files = stopped(alloc, call, pick, &none)?;
-            begin_twice(rt, alloc, &files, tally)?;
+fn begin_thrice(tally: &mut Tally) -> Result<()> {
+    let none = Files::one(&[]);
+    for call in 0..calls_of(tally.alloc, none)? {
+        for crash in &CRASHES {
+            let left = stopped(tally.alloc, call, crash.pick, none)?;
+            begin_twice(Files::on(&left), tally)?;
         }
     }
     Ok(())
 }
 
 // An `init` over these files that is stopped, and one that is not.
-fn begin_twice<P: Print>(rt: &P, alloc: Global, files: &Files, tally: &mut Tally) -> Result<()> {
-    for call in 0..calls_of(alloc, files)? {
-        for pick in PICKS {
-            let left = stopped(alloc, call, pick, files)?;
-            if !tally.count(begins(alloc, &left)?) {
-                println!(rt; "apart: a second init stopped at call {call}, {pick:?}")?;
-            }
+fn begin_twice(files: Files<'_>, tally: &mut Tally) -> Result<()> {
+    for call in 0..calls_of(tally.alloc, files)? {
+        for crash in &CRASHES {
+            let left = stopped(tally.alloc, call, crash.pick, files)?;
+            let good = begins(tally.alloc, Files::on(&left))?;
+            tally.count_call(good, "a second init", crash.name, call)?;
         }
     }
     Ok(())
@@ -91,13 +117,12 @@ fn begin_twice<P: Print>(rt: &P, alloc: Global, files: &Files, tally: &mut Tally
 
 // Whether an `init` leaves the empty journal: done where no file has an open header, and else
 // refused.
-fn begins(alloc: Global, files: &Files) -> Result<bool> {
+fn begins(alloc: Global, files: Files<'_>) -> Result<bool> {
     let said = if files.are_begun() {
-        Said::line(alloc, Status::Exists, b"store exists\n")?
+        Said::line(Status::Exists, b"store exists\n")
     } else {
-        Said::done(alloc, b"ready\n")?
+        Said::done(b"ready\n")
     };
     let came = begin(alloc, Failing::Nothing, files)?;
-    let empty = Files::of(alloc, &BEGUN, &[])?;
-    Ok(said.is_of(&came) && empty.are_on(&came.disk))
+    Ok(said.is_of(&came) & Files::one(&BEGUN).are_on(came.disk()))
 }

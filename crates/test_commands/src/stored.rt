@@ -4,15 +4,14 @@
 use crate::journal::journal_of;
 use crate::steps::{Step, play_steps};
 use crate::tally::Tally;
+use crate::want::Files;
 use anyhow::Result;
-use outside::MemDisk;
-use std::alloc::Global;
 
 /// Looks at the store, and lets a command settle it.
-pub(crate) fn play_all<P: Print>(rt: &P, alloc: Global, tally: &mut Tally) -> Result<()> {
-    let start = journal_of(alloc, STORED)?;
-    let disk = MemDisk::new(alloc, start.clone()?, Vec::new(alloc))?;
-    play_steps(rt, alloc, &AFTER, start, disk, tally)
+pub(crate) fn play_all(tally: &mut Tally) -> Result<()> {
+    let start = journal_of(tally.alloc, STORED)?;
+    let disk = Files::one(start.as_slice()).disk(tally.alloc)?;
+    play_steps(&AFTER, start, disk, tally)
 }
 
 // Two contacts; a note and a thread group; levels; a session with contact 1 in which there came a
@@ -21,7 +20,7 @@ pub(crate) fn play_all<P: Print>(rt: &P, alloc: Global, tally: &mut Tally) -> Re
 const STORED: &str =
     "0100 0101 02046e6f746500000000000164 0206746872656164000000000000 030176ff4980d3b5f63962cee45401b6b1bb92efe989c27de4629aac92b18163e6e002 0301c1af82673999b1a2e9fa43bb9059dffe0c9aae24bcb4e2d70ebeaa554b9a573601 0300c1af82673999b1a2e9fa43bb9059dffe0c9aae24bcb4e2d70ebeaa554b9a573602 04000000000101000003e800 05000000000000000000000000 05000000000000000000000001070000000076ff4980d3b5f63962cee45401b6b1bb92efe989c27de4629aac92b18163e6e000000000000000010001ff 085b9581adcbb34ece45c2d0f20cfd9ac75a6d4741352f3772be6d3ac9234c4bca0a5b9581adcbb34ece45c2d0f20cfd9ac75a6d4741352f3772be6d3ac9234c4bca 05000000000000000000000002070000000076ff4980d3b5f63962cee45401b6b1bb92efe989c27de4629aac92b18163e6e0000000000000000200026869 0829879673c36681be59d343f09ce35b8069619d5dabd37897559ccdb2a20bf1230929879673c36681be59d343f09ce35b8069619d5dabd37897559ccdb2a20bf123 050000000000000000000000030700000000c1af82673999b1a2e9fa43bb9059dffe0c9aae24bcb4e2d70ebeaa554b9a573600000000000000030025013443418c0382800e42ae01fb9d676b7b25405d2875809cf8d6808f04741c96a46c6f7374 086181a3785b7ce582a9877c4e70667c206e8a552e47f94dd51b3c4c0fdeafdfd1 06c1af82673999b1a2e9fa43bb9059dffe0c9aae24bcb4e2d70ebeaa554b9a57360000000000000005000500726f6f74 085398cac9cce3e6b94d4af7305b1218f56a84d7418170bdeeec206c64a872a478095398cac9cce3e6b94d4af7305b1218f56a84d7418170bdeeec206c64a872a478 05000000000000000000000004070000000076ff4980d3b5f63962cee45401b6b1bb92efe989c27de4629aac92b18163e6e0000000000000000400036ec3a9";
 
-const AFTER: [Step; 7] = [
+static AFTER: [Step; 7] = [
     Step {
         words: "show",
         input: b"",

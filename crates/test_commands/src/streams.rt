@@ -1,8 +1,9 @@
 //! `try` and `records`: streams of records, whole, cut, and with something in them that is none,
 //! and reads and writes that fail.
 
+use crate::letters::Long;
 use crate::play::{Failing, Order, play_for};
-use crate::records::{NOTES, add_record, add_reply, id};
+use crate::records::{NOTES, Reply, Row, add_record, id, records_of, replies_of};
 use crate::tally::{Tally, expect};
 use crate::want::{Files, Said};
 use anyhow::Result;
@@ -19,28 +20,22 @@ const X_LINE: &[u8] =
 const NO_RECORD: &[u8] = b"bad record at 0: wrong version\n";
 
 /// Plays all streams.
-pub(crate) fn play_all<P: Print>(rt: &P, alloc: Global, tally: &mut Tally) -> Result<()> {
-    play_messages(rt, alloc, tally)?;
-    play_words(rt, alloc, tally)?;
-    play_others(rt, alloc, tally)?;
-    play_cuts(rt, alloc, tally)?;
-    play_listings(rt, alloc, tally)?;
-    play_ids(rt, alloc, tally)?;
-    play_failing(rt, alloc, tally)?;
-    play_replies(rt, alloc, tally)?;
-    play_crossed(rt, alloc, tally)
+pub(crate) fn play_all(tally: &mut Tally) -> Result<()> {
+    play_messages(tally)?;
+    play_words(tally)?;
+    play_others(tally)?;
+    play_cuts(tally)?;
+    play_listings(tally)?;
+    play_ids(tally)?;
+    play_failing(tally)?;
+    play_replies(tally)?;
+    play_crossed(tally)
 }
 
 // A command that uses no store.
-fn play_case<P: Print>(
-    rt: &P,
-    alloc: Global,
-    order: &Order<'_>,
-    said: &Said,
-    tally: &mut Tally,
-) -> Result<()> {
-    let files = Files::none(alloc);
-    expect(rt, alloc, order, &files, said, &files, tally)
+fn play_case(order: &Order<'_>, said: Said<'_>, tally: &mut Tally) -> Result<()> {
+    let none = Files::one(&[]);
+    expect(order, none, said, none, tally)
 }
 
 const OTHER: &str = "f18047a15b1b3a1f78be0e024a5c97a470d496106a97e648913359802f573b26";
@@ -53,26 +48,36 @@ const MESSAGE_LINES: &[u8] =
 const EMPTY_LINE: &[u8] =
     b"deliver bc4e14694e92c13e93c98a2d4563920a030b330a8adbf33ecf3a27eaeb85d1de 0 1\n";
 
+const BEFORE_LONG: [Row; 5] = [
+    (NOTES, 0, b"x"),
+    (NOTES, 0, b"x"),
+    (OTHER, 0, b"x"),
+    (NOTES, 0, b"\xff"),
+    (NOTES, u64::MAX / 2, b"hello"),
+];
+
+const BEHIND_LONG: [Row; 2] = [(EMPTY, 0, b"x"), (NOTES, 0, b"\xff")];
+
 // Messages of the group and of others, one of them twice, and the limits of time and body.
-fn play_messages<P: Print>(rt: &P, alloc: Global, tally: &mut Tally) -> Result<()> {
+fn messages(alloc: Global) -> Result<Vec<u8>> {
+    let mut input = records_of(alloc, &BEFORE_LONG)?;
     let long = vec![in alloc; b'x'; MAX_BODY]?;
-    let mut input = Vec::new(alloc);
-    add_record(&mut input, NOTES, 0, b"x")?;
-    add_record(&mut input, NOTES, 0, b"x")?;
-    add_record(&mut input, OTHER, 0, b"x")?;
-    add_record(&mut input, NOTES, 0, b"\xff")?;
-    add_record(&mut input, NOTES, u64::MAX / 2, b"hello")?;
     add_record(&mut input, NOTES, 7, long.as_slice())?;
-    add_record(&mut input, EMPTY, 0, b"x")?;
-    add_record(&mut input, NOTES, 0, b"\xff")?;
-    let said = Said::done(alloc, MESSAGE_LINES)?;
-    play_case(rt, alloc, &Order::new(TRY, input.as_slice()), &said, tally)?;
-    let said = Said::done(alloc, EMPTY_LINE)?;
-    let order = Order::new("try note ", input.as_slice());
-    play_case(rt, alloc, &order, &said, tally)
+    let behind = records_of(alloc, &BEHIND_LONG)?;
+    input.extend_from_slice(behind.as_slice())?;
+    Ok(input)
 }
 
-const WORDS: [(&str, Status, &[u8]); 11] = [
+fn play_messages(tally: &mut Tally) -> Result<()> {
+    let input = messages(tally.alloc)?;
+    for (words, lines) in [(TRY, MESSAGE_LINES), ("try note ", EMPTY_LINE)] {
+        let order = Order::new(words, input.as_slice());
+        play_case(&order, Said::done(lines), tally)?;
+    }
+    Ok(())
+}
+
+static WORDS: [(&str, Status, &[u8]); 11] = [
     ("Try note d", Status::Usage, b"usage: word 0\n"),
     ("records x", Status::Usage, b"usage: word 1\n"),
     ("sync", Status::Usage, b"usage: word 1\n"),
@@ -87,72 +92,67 @@ const WORDS: [(&str, Status, &[u8]); 11] = [
 ];
 
 // Words, over one byte that begins no record.
-fn play_words<P: Print>(rt: &P, alloc: Global, tally: &mut Tally) -> Result<()> {
-    for (words, status, line) in WORDS {
-        let said = Said::line(alloc, status, line)?;
-        play_case(rt, alloc, &Order::new(words, b"\x01"), &said, tally)?;
+fn play_words(tally: &mut Tally) -> Result<()> {
+    for (words, status, line) in &WORDS {
+        play_case(
+            &Order::new(words, b"\x01"),
+            Said::line(*status, line),
+            tally,
+        )?;
     }
-    for long in &LONG {
-        play_long(rt, alloc, long, tally)?;
+    for (long, status, line) in &LONG {
+        let words = long.words(tally.alloc)?;
+        let order = Order::new(words.as_str(), b"\x01");
+        play_case(&order, Said::line(*status, line), tally)?;
     }
     Ok(())
 }
 
-/// A word of so many letters behind these words and before those, with what comes of it.
-#[derive(Clone, Copy)]
-struct Long {
-    front: &'static str,
-    count: usize,
-    behind: &'static str,
-    status: Status,
-    line: &'static [u8],
-}
-
-const LONG: [Long; 4] = [
-    Long {
-        front: "try ",
-        count: 256,
-        behind: " d",
-        status: Status::Usage,
-        line: b"usage: word 1\n",
-    },
-    Long {
-        front: "try ",
-        count: 255,
-        behind: " d",
-        status: Status::Refused,
-        line: b"refused: unknown client\n",
-    },
-    Long {
-        front: "try note ",
-        count: 16_385,
-        behind: "",
-        status: Status::Usage,
-        line: b"usage: word 2\n",
-    },
-    Long {
-        front: "try note ",
-        count: 16_384,
-        behind: "",
-        status: Status::BadStream,
-        line: NO_RECORD,
-    },
+// Words of so many letters.
+static LONG: [(Long, Status, &[u8]); 4] = [
+    (
+        Long {
+            front: "try ",
+            letter: "n",
+            count: 256,
+            behind: " d",
+        },
+        Status::Usage,
+        b"usage: word 1\n",
+    ),
+    (
+        Long {
+            front: "try ",
+            letter: "n",
+            count: 255,
+            behind: " d",
+        },
+        Status::Refused,
+        b"refused: unknown client\n",
+    ),
+    (
+        Long {
+            front: "try note ",
+            letter: "n",
+            count: 16_385,
+            behind: "",
+        },
+        Status::Usage,
+        b"usage: word 2\n",
+    ),
+    (
+        Long {
+            front: "try note ",
+            letter: "n",
+            count: 16_384,
+            behind: "",
+        },
+        Status::BadStream,
+        NO_RECORD,
+    ),
 ];
 
-fn play_long<P: Print>(rt: &P, alloc: Global, long: &Long, tally: &mut Tally) -> Result<()> {
-    let word = "n".repeat(alloc, long.count)?;
-    let words = format!(in alloc; "{}{word}{}", long.front, long.behind)?;
-    let said = Said::line(alloc, long.status, long.line)?;
-    play_case(
-        rt,
-        alloc,
-        &Order::new(words.as_str(), b"\x01"),
-        &said,
-        tally,
-    )
-}
-
-const OTHERS: [(&[u8], Status, &[u8]); 13] = [
+static OTHERS: [(&[u8], Status, &[u8]); 13] = [
     (&[0, 4, 0, 1, 0], Status::Done, b""),
     (&[0, 9, 0, 2, 1, 1], Status::Done, b""),
     (
@@ -213,44 +213,44 @@ const OTHERS: [(&[u8], Status, &[u8]); 13] = [
 ];
 
 // Other records, or what is none, between two records of one message.
-fn play_others<P: Print>(rt: &P, alloc: Global, tally: &mut Tally) -> Result<()> {
-    for (other, status, line) in OTHERS {
-        play_between(rt, alloc, other, status, line, tally)?;
+fn play_others(tally: &mut Tally) -> Result<()> {
+    for (other, status, line) in &OTHERS {
+        play_between(other, *status, line, tally)?;
     }
-    let mut late = Vec::new(alloc);
-    add_record(&mut late, NOTES, 1 << 63, b"x")?;
+    let late = records_of(tally.alloc, &[(NOTES, 1 << 63, b"x")])?;
     let line = b"bad record at 45: bad timestamp\n";
-    play_between(rt, alloc, late.as_slice(), Status::BadStream, line, tally)
+    play_between(late.as_slice(), Status::BadStream, line, tally)
 }
 
-fn play_between<P: Print>(
-    rt: &P,
-    alloc: Global,
-    other: &[u8],
-    status: Status,
-    line: &[u8],
-    tally: &mut Tally,
-) -> Result<()> {
-    let mut input = Vec::new(alloc);
-    add_record(&mut input, NOTES, 0, b"x")?;
+fn play_between(other: &[u8], status: Status, line: &[u8], tally: &mut Tally) -> Result<()> {
+    let mut input = x_record(tally.alloc)?;
     input.extend_from_slice(other)?;
     add_record(&mut input, NOTES, 0, b"x")?;
-    let said = Said::new(alloc, status, X_LINE, line)?;
-    play_case(rt, alloc, &Order::new(TRY, input.as_slice()), &said, tally)
+    let order = Order::new(TRY, input.as_slice());
+    play_case(&order, Said::new(status, X_LINE, line), tally)
+}
+
+// The record of the note `x` of time 0.
+fn x_record(alloc: Global) -> Result<Vec<u8>> {
+    records_of(alloc, &[(NOTES, 0, b"x")])
 }
 
 // A record, and every front of it behind it.
-fn play_cuts<P: Print>(rt: &P, alloc: Global, tally: &mut Tally) -> Result<()> {
-    let mut record = Vec::new(alloc);
-    add_record(&mut record, NOTES, 0, b"x")?;
-    let line = b"ended inside a record at 45\n";
-    let said = Said::new(alloc, Status::BadStream, X_LINE, line)?;
+fn play_cuts(tally: &mut Tally) -> Result<()> {
+    let record = x_record(tally.alloc)?;
     for n in 1..record.len() {
-        let mut input = record.clone()?;
-        input.extend_from_slice(&record.as_slice()[..n])?;
-        play_case(rt, alloc, &Order::new(TRY, input.as_slice()), &said, tally)?;
+        play_cut(&record.as_slice()[..n], tally)?;
     }
     Ok(())
+}
+
+// A record, and this front of it behind it.
+fn play_cut(front: &[u8], tally: &mut Tally) -> Result<()> {
+    let mut input = x_record(tally.alloc)?;
+    input.extend_from_slice(front)?;
+    let order = Order::new(TRY, input.as_slice());
+    let line = b"ended inside a record at 45\n";
+    play_case(&order, Said::new(Status::BadStream, X_LINE, line), tally)
 }
 
 const MIXED: &[u8] =
@@ -262,7 +262,7 @@ const MIXED_AND_ONE: &[u8] =
 const MIXED_LINES: &[u8] =
     b"0 VERSIONS 00\n5 SKIPPED 9 2\n11 PRIORITY 000102030405060708090a0b0c0d0e0f\n";
 
-const LISTINGS: [(&[u8], Status, &[u8], &[u8]); 6] = [
+static LISTINGS: [(&[u8], Status, &[u8], &[u8]); 6] = [
     (b"", Status::Done, b"", b""),
     (MIXED, Status::Done, MIXED_LINES, b""),
     (b"\x01", Status::BadStream, b"", NO_RECORD),
@@ -287,10 +287,10 @@ const LISTINGS: [(&[u8], Status, &[u8], &[u8]); 6] = [
 ];
 
 // `records` over records of several kinds.
-fn play_listings<P: Print>(rt: &P, alloc: Global, tally: &mut Tally) -> Result<()> {
-    for (input, status, out, err) in LISTINGS {
-        let said = Said::new(alloc, status, out, err)?;
-        play_case(rt, alloc, &Order::new("records", input), &said, tally)?;
+fn play_listings(tally: &mut Tally) -> Result<()> {
+    for (input, status, out, err) in &LISTINGS {
+        let order = Order::new("records", input);
+        play_case(&order, Said::new(*status, out, err), tally)?;
     }
     Ok(())
 }
@@ -303,24 +303,23 @@ const ACK_LINES: &[u8] =
     b"0 ACK 3443418c0382800e42ae01fb9d676b7b25405d2875809cf8d6808f04741c96a4 f3c078734405d1e3152fc6548e466217931d53878072075aaa1919563f46b353\n68 MESSAGE 3443418c0382800e42ae01fb9d676b7b25405d2875809cf8d6808f04741c96a4 76ff4980d3b5f63962cee45401b6b1bb92efe989c27de4629aac92b18163e6e0 0 1\n";
 
 // `records` over a list of ids and a message.
-fn play_ids<P: Print>(rt: &P, alloc: Global, tally: &mut Tally) -> Result<()> {
+fn play_ids(tally: &mut Tally) -> Result<()> {
+    let input = ids_and_record(tally.alloc)?;
+    let order = Order::new("records", input.as_slice());
+    play_case(&order, Said::done(ACK_LINES), tally)
+}
+
+fn ids_and_record(alloc: Global) -> Result<Vec<u8>> {
     let mut input = [0, 0, 0, 64].to_vec(alloc)?;
     input.extend_from_slice(id(X_ID)?.as_bytes())?;
     input.extend_from_slice(id(FF_ID)?.as_bytes())?;
     add_record(&mut input, NOTES, 0, b"x")?;
-    let said = Said::done(alloc, ACK_LINES)?;
-    play_case(
-        rt,
-        alloc,
-        &Order::new("records", input.as_slice()),
-        &said,
-        tally,
-    )
+    Ok(input)
 }
 
 // The first read fails: nothing was read. The one behind all bytes fails: all was read, and its end
 // is not known.
-const FAILING: [(Failing, Status, &[u8], &[u8]); 7] = [
+static FAILING: [(Failing, Status, &[u8], &[u8]); 7] = [
     (Failing::Read(0), Status::ReadFault, b"", b"read fault\n"),
     (Failing::Read(4), Status::ReadFault, X_LINE, b"read fault\n"),
     (Failing::Out(0), Status::WriteFault, b"", b"write fault\n"),
@@ -341,27 +340,30 @@ const FAILING: [(Failing, Status, &[u8], &[u8]); 7] = [
 ];
 
 // A record and a byte that begins none; and `records` over a source whose reads fail.
-fn play_failing<P: Print>(rt: &P, alloc: Global, tally: &mut Tally) -> Result<()> {
-    let mut input = Vec::new(alloc);
-    add_record(&mut input, NOTES, 0, b"x")?;
+fn play_failing(tally: &mut Tally) -> Result<()> {
+    let mut input = x_record(tally.alloc)?;
     input.push(1)?;
-    for (failing, status, out, err) in FAILING {
-        let said = Said::new(alloc, status, out, err)?;
+    for (failing, status, out, err) in &FAILING {
         let order = Order {
-            failing,
-            ..Order::new(TRY, input.as_slice())
+            words: TRY,
+            input: input.as_slice(),
+            failing: *failing,
         };
-        play_case(rt, alloc, &order, &said, tally)?;
+        play_case(&order, Said::new(*status, out, err), tally)?;
     }
-    for (call, out) in [(0, b"".as_slice()), (4, MIXED_LINES)] {
-        let said = Said::new(alloc, Status::ReadFault, out, b"read fault\n")?;
-        let order = Order {
-            failing: Failing::Read(call),
-            ..Order::new("records", MIXED)
-        };
-        play_case(rt, alloc, &order, &said, tally)?;
-    }
-    Ok(())
+    play_unlisted(0, b"", tally)?;
+    play_unlisted(4, MIXED_LINES, tally)
+}
+
+// The read of this number fails, and these lines were written.
+fn play_unlisted(call: u64, lines: &[u8], tally: &mut Tally) -> Result<()> {
+    let order = Order {
+        words: "records",
+        input: MIXED,
+        failing: Failing::Read(call),
+    };
+    let said = Said::new(Status::ReadFault, lines, b"read fault\n");
+    play_case(&order, said, tally)
 }
 
 const A_ID: &str = "7508b128eedb7712a21c18b07c2429a0bde1f25a8bb53c2eeceaf5e18c974a60";
@@ -372,10 +374,7 @@ const BAD_A_ID: &str = "7cf2174db5aaf7e08ef4aae28d181fd117eaa3e5ff5a815bc72f4ba3
 
 const BAD_B_ID: &str = "3e4b46c75176c251da33f492fb58e4800ab8f6a856372e5b9dd541a5ecea18f5";
 
-/// A message of the thread: its time, its parent, if it has one, and its text.
-type Reply = (u64, &'static str, &'static [u8]);
-
-const REPLIES: [(&[Reply], &[u8]); 4] = [
+static REPLIES: [(&[Reply], &[u8]); 4] = [
     (
         &[(2, A_ID, b"b"), (1, "", b"a")],
         b"deliver 7508b128eedb7712a21c18b07c2429a0bde1f25a8bb53c2eeceaf5e18c974a60 1 2\ndeliver 1df1e213cea7232868034568465e45cbb408c40f3c14c3b86460c51ee11a201d 2 34\n",
@@ -401,15 +400,11 @@ const REPLIES: [(&[Reply], &[u8]); 4] = [
 ];
 
 // Replies that come before what they answer.
-fn play_replies<P: Print>(rt: &P, alloc: Global, tally: &mut Tally) -> Result<()> {
-    for (replies, lines) in REPLIES {
-        let mut input = Vec::new(alloc);
-        for (time, parent, text) in replies {
-            add_reply(alloc, &mut input, *time, parent, text)?;
-        }
-        let said = Said::done(alloc, lines)?;
+fn play_replies(tally: &mut Tally) -> Result<()> {
+    for (replies, lines) in &REPLIES {
+        let input = replies_of(tally.alloc, replies)?;
         let order = Order::new("try thread d", input.as_slice());
-        play_case(rt, alloc, &order, &said, tally)?;
+        play_case(&order, Said::done(lines), tally)?;
     }
     Ok(())
 }
@@ -425,7 +420,7 @@ const CYCLE_LINES: &[u8] =
 
 /// A client of every group: a message of time 1 depends on the second of two ids, any other one on
 /// the first.
-#[derive(Drop)]
+#[derive(Clone, Copy)]
 struct Crossed {
     first: MessageId,
     second: MessageId,
@@ -461,19 +456,15 @@ impl Clients for Crossed {
 }
 
 // Two messages, each of which depends on the other.
-fn play_crossed<P: Print>(rt: &P, alloc: Global, tally: &mut Tally) -> Result<()> {
+fn play_crossed(tally: &mut Tally) -> Result<()> {
     let clients = Crossed {
         first: id(CYCLE_A)?,
         second: id(CYCLE_B)?,
     };
-    let mut input = Vec::new(alloc);
-    add_record(&mut input, CYCLE, 1, b"a")?;
-    add_record(&mut input, CYCLE, 2, b"b")?;
+    let input = records_of(tally.alloc, &[(CYCLE, 1, b"a"), (CYCLE, 2, b"b")])?;
     let order = Order::new("try cycle d", input.as_slice());
-    let said = Said::done(alloc, CYCLE_LINES)?;
-    let came = play_for(alloc, &order, Files::none(alloc).disk(alloc)?, &clients)?;
-    if !tally.count(said.is_of(&came)) {
-        println!(rt; "apart: {}", order.words)?;
-    }
-    Ok(())
+    let disk = Files::one(&[]).disk(tally.alloc)?;
+    let came = play_for(tally.alloc, &order, disk, &clients)?;
+    let good = Said::done(CYCLE_LINES).is_of(&came);
+    Ok(tally.count(good, order.words)?)
 }

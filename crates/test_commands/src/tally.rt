@@ -3,64 +3,68 @@
 use crate::play::{Order, play};
 use crate::want::{Files, Said};
 use anyhow::Result;
-use std::alloc::Global;
+use std::alloc::{AllocError, Global};
 
-/// The cases of a table so far.
+/// The cases of a table so far, and a line for each that is apart.
 #[derive(Drop)]
 pub(crate) struct Tally {
-    table: &'static str,
+    pub(crate) alloc: Global,
     cases: u32,
-    apart: u32,
+    lines: String,
 }
 
 impl Tally {
-    pub(crate) fn new(table: &'static str) -> Tally {
+    pub(crate) fn new(alloc: Global) -> Tally {
         Tally {
-            table,
+            alloc,
             cases: 0,
-            apart: 0,
+            lines: String::new(alloc),
         }
     }
 
-    /// Counts a case, and hands on whether it is as it should be.
-    pub(crate) fn count(&mut self, good: bool) -> bool {
+    /// Counts a case, and keeps its words where it is not as it should be.
+    pub(crate) fn count(&mut self, good: bool, words: &str) -> Result<(), AllocError> {
         self.cases = self.cases.saturating_add(1);
         if !good {
-            self.apart = self.apart.saturating_add(1);
+            writeln!(self.lines, "apart: {words}")?;
         }
-        good
+        Ok(())
     }
 
-    /// Prints how many cases there were, and how many of them are apart.
-    pub(crate) fn close(&self, rt: &impl Print) -> Result<()> {
-        let Tally {
-            table,
-            cases,
-            apart,
-        } = self;
-        if *apart == 0 {
-            println!(rt; "{table}: {cases} agree")?;
-        } else {
-            println!(rt; "{table}: {cases}, {apart} of them apart")?;
+    /// Counts a case with something at a call of the command.
+    pub(crate) fn count_call(
+        &mut self,
+        good: bool,
+        words: &str,
+        what: &str,
+        call: u64,
+    ) -> Result<(), AllocError> {
+        self.cases = self.cases.saturating_add(1);
+        if !good {
+            writeln!(self.lines, "apart: {words}, {what} {call}")?;
         }
+        Ok(())
+    }
+
+    /// Prints the cases that are apart, and how many cases there were.
+    pub(crate) fn close(&self, rt: &impl Print, table: &str) -> Result<()> {
+        let lines = self.lines.as_str();
+        let verdict = if lines.is_empty() { "agree" } else { "cases" };
+        println!(rt; "{lines}{table}: {} {verdict}", self.cases)?;
         Ok(())
     }
 }
 
-/// Plays a command over files, and prints its words where it comes out otherwise than it should or
-/// leaves other files.
-pub(crate) fn expect<P: Print>(
-    rt: &P,
-    alloc: Global,
+/// Plays a command over files, and counts whether it comes out as it should and leaves these files.
+pub(crate) fn expect(
     order: &Order<'_>,
-    before: &Files,
-    said: &Said,
-    after: &Files,
+    before: Files<'_>,
+    said: Said<'_>,
+    after: Files<'_>,
     tally: &mut Tally,
 ) -> Result<()> {
-    let came = play(alloc, order, before.disk(alloc)?)?;
-    if !tally.count(said.is_of(&came) && after.are_on(&came.disk)) {
-        println!(rt; "apart: {}", order.words)?;
-    }
-    Ok(())
+    let disk = before.disk(tally.alloc)?;
+    let came = play(tally.alloc, order, disk)?;
+    let good = said.is_of(&came) & after.are_on(came.disk());
+    Ok(tally.count(good, order.words)?)
 }

@@ -1,66 +1,74 @@
 //! Words of the commands of a store that are wrong, missing or too many.
 
-use crate::journal::journal_of;
-use crate::journals::ONE;
-use crate::play::{Came, Order, play};
+use crate::damage_tables::ONE;
+use crate::letters::Long;
+use crate::play::{Order, play};
 use crate::tally::Tally;
 use crate::want::{Files, Said};
 use anyhow::Result;
-use std::alloc::Global;
+use std::alloc::{AllocError, Global};
 use sync_top::Status;
 
 /// Plays all wrong words, over a store in which nothing may be done.
-pub(crate) fn play_all<P: Print>(rt: &P, alloc: Global, tally: &mut Tally) -> Result<()> {
-    for (words, place) in WRONG {
-        play_wrong(rt, alloc, words, place, tally)?;
+pub(crate) fn play_all(tally: &mut Tally) -> Result<()> {
+    for (words, place) in &WRONG {
+        play_wrong(words, *place, tally)?;
     }
-    play_long(rt, alloc, "group", "n", 256, " 0 d", tally)?;
-    play_long(rt, alloc, "group", "é", 128, " 0 d", tally)?;
-    play_long(rt, alloc, "group note 0", "d", 16_385, "", tally)
-}
-
-// A word of so many letters stands behind these words, and is wrong.
-fn play_long<P: Print>(
-    rt: &P,
-    alloc: Global,
-    front: &str,
-    letter: &str,
-    count: usize,
-    behind: &str,
-    tally: &mut Tally,
-) -> Result<()> {
-    let word = letter.repeat(alloc, count)?;
-    let words = format!(in alloc; "{front} {word}{behind}")?;
-    let mut place = 0u32;
-    for _ in front.split(' ') {
-        place = place.saturating_add(1);
-    }
-    play_wrong(rt, alloc, words.as_str(), place, tally)
-}
-
-// The words are wrong at this place, and the disk is not asked.
-fn play_wrong<P: Print>(
-    rt: &P,
-    alloc: Global,
-    words: &str,
-    place: u32,
-    tally: &mut Tally,
-) -> Result<()> {
-    let files = Files::one(alloc, journal_of(alloc, ONE)?);
-    let line = format!(in alloc; "usage: word {place}\n")?;
-    let said = Said::line(alloc, Status::Usage, line.as_bytes())?;
-    let came = play(alloc, &Order::new(words, b"x"), files.disk(alloc)?)?;
-    if !tally.count(said.is_of(&came) && files.are_on(&came.disk) && is_untouched(&came)) {
-        println!(rt; "apart: {words}")?;
+    for (long, place) in &LONG {
+        let words = long.words(tally.alloc)?;
+        play_wrong(words.as_str(), *place, tally)?;
     }
     Ok(())
 }
 
-fn is_untouched(came: &Came) -> bool {
-    came.disk.calls() == 0
+// The words are wrong at this place, and the disk is not asked.
+fn play_wrong(words: &str, place: u32, tally: &mut Tally) -> Result<()> {
+    let files = Files::one(&ONE);
+    let line = usage_line(tally.alloc, place)?;
+    let said = Said::line(Status::Usage, line.as_bytes());
+    let disk = files.disk(tally.alloc)?;
+    let came = play(tally.alloc, &Order::new(words, b"x"), disk)?;
+    let is_untouched = came.disk().calls() == 0;
+    let good = said.is_of(&came) & files.are_on(came.disk()) & is_untouched;
+    Ok(tally.count(good, words)?)
 }
 
-const WRONG: [(&str, u32); 79] = [
+fn usage_line(alloc: Global, place: u32) -> Result<String, AllocError> {
+    format!(in alloc; "usage: word {place}\n")
+}
+
+// A word of so many letters, and its place.
+static LONG: [(Long, u32); 3] = [
+    (
+        Long {
+            front: "group ",
+            letter: "n",
+            count: 256,
+            behind: " 0 d",
+        },
+        1,
+    ),
+    (
+        Long {
+            front: "group ",
+            letter: "é",
+            count: 128,
+            behind: " 0 d",
+        },
+        1,
+    ),
+    (
+        Long {
+            front: "group note 0 ",
+            letter: "d",
+            count: 16_385,
+            behind: "",
+        },
+        3,
+    ),
+];
+
+static WRONG: [(&str, u32); 79] = [
     ("", 0),
     (" ", 0),
     ("Init", 0),
