@@ -49,7 +49,11 @@ impl Tally {
     /// Prints the cases that are apart, and how many cases there were.
     pub(crate) fn close(&self, rt: &impl Print, table: &str) -> Result<()> {
         let lines = self.lines.as_str();
-        let verdict = if lines.is_empty() { "agree" } else { "cases" };
+        let verdict = if lines.is_empty() {
+            "agree"
+        } else {
+            "cases, not all agree"
+        };
         println!(rt; "{lines}{table}: {} {verdict}", self.cases)?;
         Ok(())
     }
