@@ -6,7 +6,7 @@ mod spelling;
 
 use crate::spelling::spelled;
 use anyhow::{Result, bail};
-use std::alloc::Global;
+use std::alloc::{AllocError, Global};
 use std::io::Read;
 use world_scripts::{
     Action, GENERATED_DEVICES, Generator, MAX_POSTS, MAX_SCRIPT, Script, ScriptFault, open_script,
@@ -74,7 +74,7 @@ fn print_actions<P: Print>(rt: &P, alloc: Global, script: &mut Script) -> Result
 }
 
 // What is printed of the next line of a script, and whether nothing follows it.
-fn next_text(alloc: Global, script: &mut Script) -> Result<(String, bool)> {
+fn next_text(alloc: Global, script: &mut Script) -> Result<(String, bool), AllocError> {
     match script.next_action(alloc) {
         Ok(Some((number, action))) => Ok((action_text(alloc, number, &action)?, false)),
         Ok(None) => Ok((String::from_str(alloc, "end")?, true)),
@@ -82,20 +82,20 @@ fn next_text(alloc: Global, script: &mut Script) -> Result<(String, bool)> {
     }
 }
 
-fn action_text(alloc: Global, number: u32, action: &Action) -> Result<String> {
+fn action_text(alloc: Global, number: u32, action: &Action) -> Result<String, AllocError> {
     match action {
         Action::Step(step) => {
             let line = spelled(alloc, step)?;
-            Ok(format!(in alloc; "{number}: {line}")?)
+            format!(in alloc; "{number}: {line}")
         }
-        Action::Show(device) => Ok(format!(in alloc; "{number}: show {device}")?),
+        Action::Show(device) => format!(in alloc; "{number}: show {device}"),
     }
 }
 
-fn fault_text(alloc: Global, fault: ScriptFault) -> Result<String> {
+fn fault_text(alloc: Global, fault: ScriptFault) -> Result<String, AllocError> {
     match fault {
-        ScriptFault::BadLine(number) => Ok(format!(in alloc; "bad line {number}")?),
-        ScriptFault::Memory => bail!("no memory"),
+        ScriptFault::BadLine(number) => format!(in alloc; "bad line {number}"),
+        ScriptFault::Memory => Err(AllocError),
     }
 }
 
