@@ -8,60 +8,88 @@ use anyhow::{Context, Result};
 use bramble_hash::Blake2b;
 use client_basic::Bundle;
 use outside::{LINKS, MemDisk};
-use std::alloc::Global;
+use std::alloc::{AllocError, Global};
 
 // The longest bytes that are printed whole.
 const MAX_SHOWN: usize = 120;
 
 /// A case that is played line by line.
-#[derive(Drop)]
 pub(crate) struct Case {
     alloc: Global,
     disk: MemDisk,
     input: Vec<u8>,
     prepared: Vec<String>,
     crossed: Option<Crossed>,
+    told: String,
+}
+
+// Written out, so that whoever drops it proves one call.
+impl Drop for Case {
+    fn drop(self) {
+        let Case {
+            alloc: _,
+            disk: _,
+            input: _,
+            prepared: _,
+            crossed: _,
+            told: _,
+        } = self;
+    }
 }
 
 // A disk without files.
-fn blank(alloc: Global) -> Result<MemDisk> {
-    Ok(MemDisk::new(alloc, Vec::new(alloc), Vec::new(alloc))?)
+fn blank(alloc: Global) -> Result<MemDisk, AllocError> {
+    MemDisk::new(alloc, Vec::new(alloc), Vec::new(alloc))
 }
 
 impl Case {
     /// A case without files.
-    pub(crate) fn new(alloc: Global) -> Result<Case> {
+    pub(crate) fn new(alloc: Global) -> Result<Case, AllocError> {
         Ok(Case {
             alloc,
             disk: blank(alloc)?,
             input: Vec::new(alloc),
             prepared: Vec::new(alloc),
             crossed: None,
+            told: String::new(alloc),
         })
     }
 
     /// Plays a line.
-    pub(crate) fn play<P: Print>(&mut self, rt: &P, line: &str) -> Result<()> {
+    pub(crate) fn play(&mut self, line: &str) -> Result<()> {
         if line == "states" {
-            return self.tell_states(rt);
+            return self.tell_states();
         }
         let (kind, rest) = line.split_once(' ').context("a line of one word")?;
         match kind {
-            "case" => self.begin(rt, line),
-            "do" => self.obey(rt, rest),
+            "case" => self.begin(line),
+            "do" => self.obey(rest),
             "input" => self.set_input(rest),
             "crossed" => self.set_clients(rest),
-            "sync" => self.run(rt, line),
-            "stops" => self.stop(rt, rest),
+            "sync" => self.run(line),
+            "stops" => self.stop(rest),
             _ => self.prepare(line),
         }
     }
 
-    fn begin<P: Print>(&mut self, rt: &P, line: &str) -> Result<()> {
+    /// Prints what came of the lines so far.
+    pub(crate) fn print(&mut self, rt: &impl Print) -> Result<()> {
+        print!(rt; "{}", self.told.as_str())?;
+        self.told.clear();
+        Ok(())
+    }
+
+    fn begin(&mut self, line: &str) -> Result<()> {
         self.disk = blank(self.alloc)?;
         self.crossed = None;
-        println!(rt; "{line}")?;
-        self.obey(rt, "init")
+        self.tell(line)?;
+        self.obey("init")
+    }
+
+    // A line of what came of it.
+    fn tell(&mut self, line: &str) -> Result<(), AllocError> {
+        self.told.push_str(line)?;
+        self.told.push('\n')
     }
 
     fn set_input(&mut self, digits: &str) -> Result<()> {
@@ -95,67 +123,96 @@ impl Case {
 
     // Runs a command. What was prepared for it is gone then.
     fn came(&mut self, words: &str) -> Result<Came> {
-        let alloc = self.alloc;
-        let input = std::mem::replace(&mut self.input, Vec::new(alloc));
-        let stage = self.stage()?;
-        let came = match &self.crossed {
-            Some(clients) => command(alloc, words, stage, input, clients)?,
-            None => command(alloc, words, stage, input, &Bundle::new())?,
-        };
-        self.disk = copy_of(alloc, came.host.disk())?;
-        self.prepared = Vec::new(alloc);
+        let came = self.commanded(words)?;
+        self.settle(&came)?;
         Ok(came)
     }
 
-    fn obey<P: Print>(&mut self, rt: &P, words: &str) -> Result<()> {
-        let came = self.came(words)?;
-        if came.status != 0 {
-            println!(rt; "{words}: status {}", came.status)?;
+    fn commanded(&self, words: &str) -> Result<Came> {
+        let stage = self.stage()?;
+        let input = self.input.as_slice();
+        match &self.crossed {
+            Some(clients) => command(self.alloc, words, stage, input, clients),
+            None => command(self.alloc, words, stage, input, &Bundle::new()),
+        }
+    }
+
+    // The files are those that a command left.
+    fn settle(&mut self, came: &Came) -> Result<(), AllocError> {
+        self.disk = copy_of(self.alloc, came.host().disk())?;
+        self.input = Vec::new(self.alloc);
+        self.prepared = Vec::new(self.alloc);
+        Ok(())
+    }
+
+    fn obey(&mut self, words: &str) -> Result<()> {
+        let status = self.came(words)?.status;
+        if status != 0 {
+            writeln!(self.told, "{words}: status {status}")?;
         }
         Ok(())
     }
 
     // The lines of `show` that tell of messages.
-    fn tell_states<P: Print>(&mut self, rt: &P) -> Result<()> {
-        let shown = String::from_utf8(self.came("show")?.out)?;
-        for line in shown.as_str().split('\n') {
+    fn tell_states(&mut self) -> Result<()> {
+        let came = self.came("show")?;
+        self.tell_messages(came.out_text()?)
+    }
+
+    fn tell_messages(&mut self, shown: &str) -> Result<()> {
+        for line in shown.split('\n') {
             if line.starts_with("message ") {
-                println!(rt; "{line}")?;
+                self.tell(line)?;
             }
         }
         Ok(())
     }
 
-    fn run<P: Print>(&mut self, rt: &P, words: &str) -> Result<()> {
-        let alloc = self.alloc;
+    fn run(&mut self, words: &str) -> Result<()> {
         let came = self.came(words)?;
-        println!(rt; "status {}", came.status)?;
-        let err = String::from_utf8(came.err)?;
-        print!(rt; "{err}")?;
-        for link in 0..LINKS {
-            let sent = came.host.sent(link as u8);
-            if !sent.is_empty() {
-                println!(rt; "sent {link} {}", shown(alloc, sent)?)?;
-            }
-        }
-        println!(rt; "file {}", shown(alloc, came.host.disk().file(0))?)?;
-        Ok(())
+        tell_run(self.alloc, &came, &mut self.told)
     }
 
-    fn stop<P: Print>(&mut self, rt: &P, words: &str) -> Result<()> {
-        play_stops(rt, self.alloc, self, words)?;
+    fn stop(&mut self, words: &str) -> Result<()> {
+        let line = play_stops(self.alloc, self, words)?;
+        self.tell(line.as_str())?;
         self.prepared = Vec::new(self.alloc);
         Ok(())
     }
 }
 
-// Bytes as they are printed: whole where they are few, else their number and digest.
-fn shown(alloc: Global, bytes: &[u8]) -> Result<String> {
-    if bytes.len() <= MAX_SHOWN {
-        return Ok(hex::encode(alloc, bytes)?);
+// What a run came to: its status and lines, what was sent on each link, and file 0.
+fn tell_run(alloc: Global, came: &Came, told: &mut String) -> Result<()> {
+    writeln!(told, "status {}", came.status)?;
+    told.push_str(came.err_text()?)?;
+    for link in 0..LINKS {
+        tell_sent(alloc, link as u8, came.host().sent(link as u8), told)?;
     }
+    told.push_str("file ")?;
+    Ok(tell_bytes(alloc, came.host().disk().file(0), told)?)
+}
+
+fn tell_sent(alloc: Global, link: u8, sent: &[u8], told: &mut String) -> Result<(), AllocError> {
+    if !sent.is_empty() {
+        write!(told, "sent {link} ")?;
+        tell_bytes(alloc, sent, told)?;
+    }
+    Ok(())
+}
+
+// Bytes as they are printed: whole where they are few, else their number and digest.
+fn tell_bytes(alloc: Global, bytes: &[u8], told: &mut String) -> Result<(), AllocError> {
+    if bytes.len() <= MAX_SHOWN {
+        return tell_digits(alloc, bytes, told);
+    }
+    write!(told, "{} ", bytes.len())?;
     let mut hash = Blake2b::<32>::new();
     hash.update(bytes);
-    let digest = hex::encode(alloc, hash.finalize())?;
-    Ok(format!(in alloc; "{} {digest}", bytes.len())?)
+    tell_digits(alloc, &hash.finalize(), told)
+}
+
+fn tell_digits(alloc: Global, bytes: &[u8], told: &mut String) -> Result<(), AllocError> {
+    let digits = hex::encode(alloc, bytes)?;
+    told.push_str(digits.as_str())?;
+    told.push('\n')
 }

@@ -1,20 +1,51 @@
 //! A command over a host in memory.
+ghost use Rattle.std.specs.Prelude.{◌≡◌, []};
+ghost use Rattle.outside.specs.MemHost.{links_of};
 
 use crate::stage::Stage;
 use anyhow::Result;
 use outside::{MemHost, MemRandom, MemSink, MemSource};
 use std::alloc::{AllocError, Global};
 use std::hash::RandomState;
+use std::str;
 use sync_rules::Clients;
 use sync_top::run;
 
 /// What a command came to: its status, what it wrote to both outputs, and the host.
-#[derive(Drop)]
 pub(crate) struct Came {
     pub(crate) status: u8,
-    pub(crate) out: Vec<u8>,
-    pub(crate) err: Vec<u8>,
-    pub(crate) host: MemHost,
+    out: MemSink,
+    err: MemSink,
+    host: MemHost,
+}
+
+// Written out, so that whoever drops it proves one call.
+impl Drop for Came {
+    fn drop(self) {
+        let Came {
+            status: _,
+            out: _,
+            err: _,
+            host: _,
+        } = self;
+    }
+}
+
+impl Came {
+    /// What it wrote to the output.
+    pub(crate) fn out_text(&self) -> Result<&str> {
+        Ok(str::from_utf8(self.out.bytes())?)
+    }
+
+    /// What it wrote to the error output.
+    pub(crate) fn err_text(&self) -> Result<&str> {
+        Ok(str::from_utf8(self.err.bytes())?)
+    }
+
+    /// The host as the command left it.
+    pub(crate) fn host(&self) -> &MemHost {
+        &self.host
+    }
 }
 
 /// Runs the command of these words, with single spaces between them, for these clients.
@@ -22,31 +53,47 @@ pub(crate) fn command<C: Clients>(
     alloc: Global,
     words: &str,
     stage: Stage,
-    input: Vec<u8>,
+    input: &[u8],
     clients: &C,
 ) -> Result<Came> {
-    let hasher = RandomState::new(&MemRandom(0))?;
+    let host = stage.into_host();
     let words = words_of(alloc, words)?;
-    let mut host = stage.into_host();
-    let mut source = MemSource::new(input, Vec::new(alloc));
+    let source = MemSource::new(input.to_vec(alloc)?, Vec::new(alloc));
+    let hasher = RandomState::new(&MemRandom(0))?;
+    Ok(obeyed(alloc, hasher, words.as_slice(), host, source, clients))
+}
+
+// The one call of `run`.
+fn obeyed<C: Clients>(
+    alloc: Global,
+    hasher: RandomState,
+    words: &[String],
+    host: MemHost,
+    source: MemSource,
+    clients: &C,
+) -> Came
+    requires no_links { links_of host.disk ≡ [] }
+{
+    let mut host = host;
+    let mut source = source;
     let mut out = MemSink::new(alloc, Vec::new(alloc));
     let mut err = MemSink::new(alloc, Vec::new(alloc));
     let status = run(
         alloc,
         hasher,
-        words.as_slice(),
+        words,
         &mut host,
         &mut source,
         &mut out,
         &mut err,
         clients,
     );
-    Ok(Came {
+    Came {
         status: status.number(),
-        out: out.bytes().to_vec(alloc)?,
-        err: err.bytes().to_vec(alloc)?,
+        out,
+        err,
         host,
-    })
+    }
 }
 
 fn words_of(alloc: Global, line: &str) -> Result<Vec<String>, AllocError> {

@@ -29,12 +29,12 @@ use anyhow::Result;
 use std::io;
 
 fn main(rt: HostRuntime) -> Result<()> {
-    let alloc = rt.alloc();
-    let text = io::read_to_string(alloc, rt.stdin())?;
-    let mut case = Case::new(alloc)?;
+    let text = io::read_to_string(rt.alloc(), rt.stdin())?;
+    let mut case = Case::new(rt.alloc())?;
     for line in text.as_str().split('\n') {
         if !line.is_empty() && !line.starts_with('#') {
-            case.play(&rt, line)?;
+            case.play(line)?;
+            case.print(&rt)?;
         }
     }
     Ok(())

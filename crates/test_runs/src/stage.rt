@@ -4,7 +4,7 @@ ghost use Rattle.outside.specs.MemHost.{links_of};
 
 use anyhow::{Context, Result};
 use outside::{Answer, LINKS, MemDisk, MemHost};
-use std::alloc::Global;
+use std::alloc::{AllocError, Global};
 
 /// A host on which no link was made, with what is to come of its links, its clock and its nonces.
 #[derive(Drop)]
@@ -89,8 +89,8 @@ pub(crate) fn decoded(alloc: Global, digits: &str) -> Result<Vec<u8>> {
 }
 
 /// A disk with the same files.
-pub(crate) fn copy_of(alloc: Global, disk: &MemDisk) -> Result<MemDisk> {
+pub(crate) fn copy_of(alloc: Global, disk: &MemDisk) -> Result<MemDisk, AllocError> {
     let first = disk.file(0).to_vec(alloc)?;
     let second = disk.file(1).to_vec(alloc)?;
-    Ok(MemDisk::new(alloc, first, second)?)
+    MemDisk::new(alloc, first, second)
 }

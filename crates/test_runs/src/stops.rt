@@ -5,12 +5,12 @@ use crate::command::{Came, command};
 use crate::stage::Stage;
 use anyhow::{Context, Result};
 use client_basic::Bundle;
-use outside::{LINKS, MemDisk, Pick};
+use outside::{LINKS, MemDisk, MemHost, Pick};
 use record_grammar::{Found, read_one};
-use std::alloc::Global;
-use sync_ids::{IdList, MAX_IDS, Record};
+use std::alloc::{AllocError, Global};
+use sync_ids::{MessageId, Record};
 
-const PICKS: [Pick; 4] = [Pick::Old, Pick::New, Pick::Zero, Pick::Ones];
+static PICKS: [Pick; 4] = [Pick::Old, Pick::New, Pick::Zero, Pick::Ones];
 
 // What the images of a run came to.
 #[derive(Clone, Copy)]
@@ -19,61 +19,65 @@ struct Tally {
     acknowledged: u64,
 }
 
-/// Stops the run of these words at each call that it makes, and prints whether an image was apart,
+// What is shown of an image, and whether it holds all that was acknowledged before the stop.
+#[derive(Clone, Copy)]
+struct Image<'a> {
+    shown: &'a str,
+    acknowledged: u64,
+    holds: bool,
+}
+
+/// Stops the run of these words at each call that it makes, and tells whether an image was apart,
 /// and whether something was acknowledged before some stop.
-pub(crate) fn play_stops<P: Print>(rt: &P, alloc: Global, case: &Case, words: &str) -> Result<()> {
-    let whole = command(alloc, words, case.stage()?, Vec::new(alloc), &Bundle::new())?;
-    let calls = whole.host.disk().calls();
+pub(crate) fn play_stops(alloc: Global, case: &Case, words: &str) -> Result<String> {
     let mut tally = Tally {
         apart: 0,
         acknowledged: 0,
     };
-    for call in 0..calls {
+    for call in 0..calls_of(alloc, case, words)? {
         stop_at(alloc, case, words, call, &mut tally)?;
     }
+    Ok(line_of(alloc, tally)?)
+}
+
+fn line_of(alloc: Global, tally: Tally) -> Result<String, AllocError> {
     let acknowledged = tally.acknowledged > 0;
-    println!(rt;
+    format!(in alloc;
         "stopped: {} apart, acknowledged {acknowledged}",
         tally.apart
-    )?;
-    Ok(())
+    )
+}
+
+// How many calls of the disk the run makes.
+fn calls_of(alloc: Global, case: &Case, words: &str) -> Result<u64> {
+    let whole = command(alloc, words, case.stage()?, &[], &Bundle::new())?;
+    Ok(whole.host().disk().calls())
 }
 
 fn stop_at(alloc: Global, case: &Case, words: &str, call: u64, tally: &mut Tally) -> Result<()> {
     let mut stage = case.stage()?;
     stage.stop_at(call);
-    let came = command(alloc, words, stage, Vec::new(alloc), &Bundle::new())?;
-    for pick in PICKS {
-        if !is_sound(alloc, case, &came, pick, tally)? {
+    let came = command(alloc, words, stage, &[], &Bundle::new())?;
+    look_at_images(alloc, case, came.host(), tally)
+}
+
+// Looks at each image that a crash may leave of a host.
+fn look_at_images(alloc: Global, case: &Case, host: &MemHost, tally: &mut Tally) -> Result<()> {
+    for pick in &PICKS {
+        let image = host.disk().image(*pick)?;
+        let goes_on = goes_on(case.file(), &image);
+        let shown = command(
+            alloc,
+            "show",
+            Stage::over(alloc, image)?,
+            &[],
+            &Bundle::new(),
+        )?;
+        if !(goes_on & is_sound(alloc, host, &shown, tally)?) {
             tally.apart = tally.apart.saturating_add(1);
         }
     }
     Ok(())
-}
-
-// Whether an image opens to a journal that goes on from the old one and holds what was acknowledged.
-fn is_sound(
-    alloc: Global,
-    case: &Case,
-    came: &Came,
-    pick: Pick,
-    tally: &mut Tally,
-) -> Result<bool> {
-    let image = came.host.disk().image(pick)?;
-    let goes_on = goes_on(case.file(), &image);
-    let shown = command(
-        alloc,
-        "show",
-        Stage::over(alloc, image)?,
-        Vec::new(alloc),
-        &Bundle::new(),
-    )?;
-    let text = String::from_utf8(shown.out)?;
-    let mut holds = true;
-    for link in 0..LINKS {
-        holds &= holds_all(alloc, came.host.sent(link as u8), text.as_str(), tally)?;
-    }
-    Ok(goes_on && shown.status == 0 && holds)
 }
 
 // Whether file 0 begins with all that it had before its last byte, the closed gate.
@@ -82,28 +86,58 @@ fn goes_on(before: &[u8], image: &MemDisk) -> bool {
     image.file(0).starts_with(front)
 }
 
-// Whether each message that was acknowledged by these bytes is among those shown.
-fn holds_all(alloc: Global, sent: &[u8], shown: &str, tally: &mut Tally) -> Result<bool> {
-    let mut rest = sent;
-    let mut holds = true;
-    for _ in 0..sent.len() {
-        let Found::One(record, len) = read_one(alloc, rest)? else {
-            break;
-        };
-        if let Record::Ack(ids) = record {
-            holds &= holds_ids(alloc, &ids, shown, tally)?;
-        }
-        rest = rest.get(len..).context("a record past its bytes")?;
+// Whether an image opens, by what `show` came to, and holds what was acknowledged on the links of
+// the host.
+fn is_sound(alloc: Global, host: &MemHost, shown: &Came, tally: &mut Tally) -> Result<bool> {
+    let mut image = Image {
+        shown: shown.out_text()?,
+        acknowledged: tally.acknowledged,
+        holds: shown.status == 0,
+    };
+    for link in 0..LINKS {
+        hear_all(alloc, host.sent(link as u8), &mut image)?;
     }
-    Ok(holds)
+    tally.acknowledged = image.acknowledged;
+    Ok(image.holds)
 }
 
-fn holds_ids(alloc: Global, ids: &IdList<MAX_IDS>, shown: &str, tally: &mut Tally) -> Result<bool> {
-    let mut holds = true;
-    for id in ids.as_slice() {
-        tally.acknowledged = tally.acknowledged.saturating_add(1);
-        let line = format!(in alloc; "message {} ", hex::encode(alloc, id.as_bytes())?)?;
-        holds &= shown.contains(line.as_str());
+// Hears the records of these bytes.
+fn hear_all(alloc: Global, sent: &[u8], image: &mut Image<'_>) -> Result<()> {
+    let mut rest = sent;
+    for _ in 0..sent.len() {
+        let Some(len) = hear_one(alloc, rest, image)? else {
+            break;
+        };
+        rest = rest.get(len..).context("a record past its bytes")?;
     }
-    Ok(holds)
+    Ok(())
+}
+
+// Hears the record at the front of these bytes, if one is there, and tells its length.
+fn hear_one(alloc: Global, bytes: &[u8], image: &mut Image<'_>) -> Result<Option<usize>> {
+    match read_one(alloc, bytes)? {
+        Found::One(record, len) => {
+            hear(alloc, &record, image)?;
+            Ok(Some(len))
+        }
+        _ => Ok(None),
+    }
+}
+
+// Each message that a record acknowledges is to be among those shown.
+fn hear(alloc: Global, record: &Record, image: &mut Image<'_>) -> Result<(), AllocError> {
+    if let Record::Ack(ids) = record {
+        for id in ids.as_slice() {
+            let line = line_of_message(alloc, id)?;
+            image.acknowledged = image.acknowledged.saturating_add(1);
+            image.holds &= image.shown.contains(line.as_str());
+        }
+    }
+    Ok(())
+}
+
+// The front of the line that tells of a message.
+fn line_of_message(alloc: Global, id: &MessageId) -> Result<String, AllocError> {
+    let digits = hex::encode(alloc, id.as_bytes())?;
+    format!(in alloc; "message {} ", digits.as_str())
 }
