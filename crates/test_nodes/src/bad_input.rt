@@ -1,122 +1,110 @@
 //! What names ids or groups that are not known, not seen or of another client, and what comes
 //! twice: each record has its batch, and nothing else comes of it.
+use crate::checks::{made, must, same};
 use crate::scenes::{
-    VERSIONS, add_contacts, add_group, begun, group_def, leaves, message, note, plan, post, unknown,
+    VERSIONS, add_contacts, add_group, attach, begun, fresh, group_def, leaves, message, note,
+    post, say, set_level, turn, unknown,
 };
-use anyhow::Result;
 use client_basic::Bundle;
-use std::alloc::Global;
+use std::process::Abort;
 use sync_ids::{GroupId, MessageId, group_id};
-use sync_rules::{Entry, Fate, Level, Mode, id_of};
+use sync_rules::{Fate, Level, Mode, View, id_of};
 use sync_store::Store;
 use test_links::{ACK, Device, OFFER, REQUEST, ids_record, message_record};
 
 // Adds a record with ids to what comes on link 0.
-fn say_ids(alloc: Global, device: &mut Device<Bundle>, kind: u8, ids: &[MessageId]) -> Result<()> {
-    let record = ids_record(alloc, kind, ids)?;
-    device.say(0, record.as_slice())?;
-    Ok(())
+fn say_ids<R: Abort + AllocGlobal>(
+    rt: &R,
+    device: &mut Device<Bundle>,
+    kind: u8,
+    ids: &[MessageId],
+) {
+    let record = made(rt, ids_record(rt.alloc(), kind, ids));
+    say(rt, device, 0, record.as_slice());
 }
 
 // Adds a MESSAGE of time 0 to what comes on link 0.
-fn say_message(
-    alloc: Global,
+fn say_message<R: Abort + AllocGlobal>(
+    rt: &R,
     device: &mut Device<Bundle>,
     group: &GroupId,
     body: &[u8],
-) -> Result<()> {
-    let record = message_record(alloc, group, 0, body)?;
-    device.say(0, record.as_slice())?;
-    Ok(())
+) {
+    let record = made(rt, message_record(rt.alloc(), group, 0, body));
+    say(rt, device, 0, record.as_slice());
 }
 
-// Hears so many pieces on link 0, and sends what is due; answers how many outputs that were.
-fn hear_all(device: &mut Device<Bundle>, pieces: u32) -> Result<u32> {
+// Hears so many pieces on link 0, and sends what is due: so many outputs.
+fn hear_all(rt: &impl Abort, device: &mut Device<Bundle>, pieces: u32, outputs: u32) {
     for _ in 0..pieces {
-        device.receive(0)?;
+        made(rt, device.receive(0));
     }
-    Ok(device.send_due(0, 0)?)
-}
-
-const UNKNOWN: [&str; 2] = [
-    "349e55701f5c55122d6b33a891f392c10ed6fcab3b1c7834159ff5d8c2dfe0dd",
-    "68dc839e312814dd121b6fc0096b89a3230536bfe4f04cd7d708d6f52c717d3a",
-];
-
-fn are_ignored(alloc: Global, device: &mut Device<Bundle>) -> Result<bool> {
-    device.attach(&plan(0, Mode::Interactive), None)?;
-    let ids = unknown(alloc, 0, 2)?;
-    device.say(0, &VERSIONS)?;
-    say_ids(alloc, device, ACK, ids.as_slice())?;
-    say_ids(alloc, device, REQUEST, ids.as_slice())?;
-    Ok(hear_all(device, 3)? == 0 && leaves(alloc, device, &UNKNOWN)?)
+    same(rt, &made(rt, device.send_due(0, 0)), &outputs);
 }
 
 #[test]
-fn unknown_ids(rt: HostRuntime) -> Result<()> {
-    let mut device = begun(rt.alloc(), 1)?;
-    assert!(rt; are_ignored(rt.alloc(), &mut device)?);
-    Ok(())
+fn unknown_ids(rt: HostRuntime) {
+    let mut device = begun(&rt, 1);
+    attach(&rt, &mut device, 0, Mode::Interactive, None);
+    let ids = unknown(&rt, 0, 2);
+    say(&rt, &mut device, 0, &VERSIONS);
+    say_ids(&rt, &mut device, ACK, ids.as_slice());
+    say_ids(&rt, &mut device, REQUEST, ids.as_slice());
+    hear_all(&rt, &mut device, 3, 0);
+    leaves(
+        &rt,
+        &device,
+        "349e55701f5c55122d6b33a891f392c10ed6fcab3b1c7834159ff5d8c2dfe0dd",
+        &["68dc839e312814dd121b6fc0096b89a3230536bfe4f04cd7d708d6f52c717d3a"],
+    );
 }
-
-const OUT_OF_SIGHT: [&str; 2] = [
-    "ea6ccd297d49152a663715528ff41cebda2fcf783892620a01169b8ab6cad5de",
-    "68dc839e312814dd121b6fc0096b89a3230536bfe4f04cd7d708d6f52c717d3a",
-];
 
 // Posts a message of a group which is Invisible to the contact, and begins a session.
-fn begin_out_of_sight(alloc: Global, device: &mut Device<Bundle>) -> Result<()> {
-    add_contacts(device, 1)?;
-    add_group(alloc, device, "note")?;
-    post(alloc, device, 0, b"x")?;
-    device.attach(&plan(0, Mode::Interactive), None)?;
-    Ok(())
+fn begin_out_of_sight<R: Abort + AllocGlobal>(rt: &R, device: &mut Device<Bundle>) {
+    add_contacts(rt, device, 1);
+    add_group(rt, device, "note");
+    post(rt, device, 0, b"x");
+    attach(rt, device, 0, Mode::Interactive, None);
 }
 
-fn say_out_of_sight(alloc: Global, device: &mut Device<Bundle>) -> Result<()> {
-    let group = note(alloc)?;
-    let id = id_of(&message(alloc, 0, b"x")?);
-    device.say(0, &VERSIONS)?;
-    say_message(alloc, device, &group, b"x")?;
-    say_message(alloc, device, &group, b"y")?;
+fn say_out_of_sight<R: Abort + AllocGlobal>(rt: &R, device: &mut Device<Bundle>) {
+    let group = note(rt);
+    let id = id_of(&message(rt, 0, b"x"));
+    say(rt, device, 0, &VERSIONS);
+    say_message(rt, device, &group, b"x");
+    say_message(rt, device, &group, b"y");
     for kind in [ACK, OFFER, REQUEST] {
-        say_ids(alloc, device, kind, &[id])?;
+        say_ids(rt, device, kind, &[id]);
     }
-    Ok(())
 }
 
-// Whether each record has its batch, and nothing comes of it.
-fn stay_out(alloc: Global, device: &mut Device<Bundle>) -> Result<bool> {
-    begin_out_of_sight(alloc, device)?;
-    say_out_of_sight(alloc, device)?;
-    let is_silent = hear_all(device, 6)? == 0;
-    let store = device.store();
-    let are_taken = store.takes(0) == 6 && store.held() == 1;
-    Ok(is_silent && are_taken && leaves(alloc, device, &OUT_OF_SIGHT)?)
-}
-
+// Each record has its batch, and nothing comes of it.
 #[test]
-fn out_of_sight(rt: HostRuntime) -> Result<()> {
-    let mut device = Device::begin(rt.alloc(), Bundle::new())?;
-    assert!(rt; stay_out(rt.alloc(), &mut device)?);
-    Ok(())
+fn out_of_sight(rt: HostRuntime) {
+    let mut device = fresh(&rt);
+    begin_out_of_sight(&rt, &mut device);
+    say_out_of_sight(&rt, &mut device);
+    hear_all(&rt, &mut device, 6, 0);
+    let store = device.store();
+    same(&rt, &store.takes(0), &6);
+    same(&rt, &store.held(), &1);
+    leaves(
+        &rt,
+        &device,
+        "ea6ccd297d49152a663715528ff41cebda2fcf783892620a01169b8ab6cad5de",
+        &["68dc839e312814dd121b6fc0096b89a3230536bfe4f04cd7d708d6f52c717d3a"],
+    );
 }
-
-const ANOTHER_CLIENT: [&str; 2] = [
-    "03650b877ed632ad7a289e3b325d2861179c9f74fb5fb1c073c1309767c6b6be",
-    "89a823374dc221db94e9c211a35a5b483decb0908e29b4843a9c7acdc4d3f73a",
-];
 
 // A message of a client that is not known here, and a note in a group of threads.
-fn hear_others(alloc: Global, device: &mut Device<Bundle>) -> Result<u32> {
-    let thread = group_id(&group_def(alloc, "thread")?);
-    add_group(alloc, device, "thread")?;
-    device.add(Entry::Level(0, thread, Level::Shared))?;
-    device.attach(&plan(0, Mode::Interactive), None)?;
-    device.say(0, &VERSIONS)?;
-    say_message(alloc, device, &group_id(&group_def(alloc, "chat")?), b"x")?;
-    say_message(alloc, device, &thread, b"x")?;
-    hear_all(device, 3)
+fn say_others<R: Abort + AllocGlobal>(rt: &R, device: &mut Device<Bundle>) {
+    let thread = group_id(&group_def(rt, "thread"));
+    add_group(rt, device, "thread");
+    set_level(rt, device, 0, thread, Level::Shared);
+    attach(rt, device, 0, Mode::Interactive, None);
+    say(rt, device, 0, &VERSIONS);
+    say_message(rt, device, &group_id(&group_def(rt, "chat")), b"x");
+    say_message(rt, device, &thread, b"x");
 }
 
 // Whether the one held message is invalid.
@@ -124,71 +112,58 @@ fn is_invalid(store: &Store) -> bool {
     store.held() == 1 && store.fate(0) == Fate::Invalid
 }
 
-fn is_refused(alloc: Global, device: &mut Device<Bundle>) -> Result<bool> {
-    let is_acknowledged = hear_others(alloc, device)? == 1 && is_invalid(device.store());
-    Ok(is_acknowledged && leaves(alloc, device, &ANOTHER_CLIENT)?)
-}
-
 #[test]
-fn another_client(rt: HostRuntime) -> Result<()> {
-    let mut device = begun(rt.alloc(), 1)?;
-    assert!(rt; is_refused(rt.alloc(), &mut device)?);
-    Ok(())
+fn another_client(rt: HostRuntime) {
+    let mut device = begun(&rt, 1);
+    say_others(&rt, &mut device);
+    hear_all(&rt, &mut device, 3, 1);
+    must(&rt, 1, is_invalid(device.store()));
+    leaves(
+        &rt,
+        &device,
+        "03650b877ed632ad7a289e3b325d2861179c9f74fb5fb1c073c1309767c6b6be",
+        &["89a823374dc221db94e9c211a35a5b483decb0908e29b4843a9c7acdc4d3f73a"],
+    );
 }
-
-// The contact of the second link, and what is left.
-const TWICE: [(u8, [&str; 3]); 2] = [
-    (
-        1,
-        [
-            "2af341d8b713c9fb43db1d045179a7738425bad43f4e2e008d03ce206746f2ab",
-            "27750353c2794dd35dc8ca88aa9e2a149ec02d055ebfe104de1502d2c3b1a10d",
-            "27750353c2794dd35dc8ca88aa9e2a149ec02d055ebfe104de1502d2c3b1a10d",
-        ],
-    ),
-    (
-        0,
-        [
-            "6df83205cd8f163e835cb40c17d214f5753fbe8533792a8080f8f48f483b315e",
-            "27750353c2794dd35dc8ca88aa9e2a149ec02d055ebfe104de1502d2c3b1a10d",
-            "27750353c2794dd35dc8ca88aa9e2a149ec02d055ebfe104de1502d2c3b1a10d",
-        ],
-    ),
-];
 
 // VERSIONS and a message.
-fn greeted_message(alloc: Global) -> Result<Vec<u8>> {
-    let mut piece = VERSIONS.to_vec(alloc)?;
-    let record = message_record(alloc, &note(alloc)?, 0, b"x")?;
-    piece.extend_from_slice(record.as_slice())?;
-    Ok(piece)
+fn greeted_message<R: Abort + AllocGlobal>(rt: &R) -> Vec<u8> {
+    let mut piece = made(rt, VERSIONS.to_vec(rt.alloc()));
+    let record = made(rt, message_record(rt.alloc(), &note(rt), 0, b"x"));
+    made(rt, piece.extend_from_slice(record.as_slice()));
+    piece
 }
 
-// The same message comes on two links in one turn.
-fn hear_twice(alloc: Global, device: &mut Device<Bundle>, second: u8) -> Result<()> {
-    let piece = greeted_message(alloc)?;
-    device.attach(&plan(0, Mode::Batch), None)?;
-    device.attach(&plan(second, Mode::Batch), None)?;
-    device.say(0, piece.as_slice())?;
-    device.say(1, piece.as_slice())?;
-    device.turn()?;
-    Ok(())
+// The same message comes on two links in one turn, the second of which is with this contact.
+fn hear_twice<R: Abort + AllocGlobal>(rt: &R, device: &mut Device<Bundle>, second: u8) {
+    let piece = greeted_message(rt);
+    attach(rt, device, 0, Mode::Batch, None);
+    attach(rt, device, second, Mode::Batch, None);
+    say(rt, device, 0, piece.as_slice());
+    say(rt, device, 1, piece.as_slice());
+    turn(rt, device);
 }
 
-fn first_twice_apart(alloc: Global) -> Result<Option<u8>> {
-    for (second, digests) in TWICE {
-        let mut device = begun(alloc, second.saturating_add(1))?;
-        hear_twice(alloc, &mut device, second)?;
-        if !leaves(alloc, &device, &digests)? {
-            return Ok(Some(second));
-        }
-    }
-    Ok(None)
+// What is left where the second link is with this contact: the file, and what each link sent.
+fn leave_twice<R: Abort + AllocGlobal>(rt: &R, second: u8, file: &str, sent: &str) {
+    let mut device = begun(rt, second.saturating_add(1));
+    hear_twice(rt, &mut device, second);
+    leaves(rt, &device, file, &[sent, sent]);
 }
 
 // With two contacts each gets its ack, and neither gets the message.
 #[test]
-fn twice(rt: HostRuntime) -> Result<()> {
-    assert_eq!(rt; first_twice_apart(rt.alloc())?, None);
-    Ok(())
+fn twice(rt: HostRuntime) {
+    leave_twice(
+        &rt,
+        1,
+        "2af341d8b713c9fb43db1d045179a7738425bad43f4e2e008d03ce206746f2ab",
+        "27750353c2794dd35dc8ca88aa9e2a149ec02d055ebfe104de1502d2c3b1a10d",
+    );
+    leave_twice(
+        &rt,
+        0,
+        "6df83205cd8f163e835cb40c17d214f5753fbe8533792a8080f8f48f483b315e",
+        "27750353c2794dd35dc8ca88aa9e2a149ec02d055ebfe104de1502d2c3b1a10d",
+    );
 }

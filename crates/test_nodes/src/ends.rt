@@ -1,13 +1,15 @@
 //! How a link ends, and what was taken and sent by then.
-use crate::scenes::{VERSIONS, begun, leaves, message, plan, post};
-use anyhow::Result;
+use crate::checks::{made, same};
+use crate::scenes::{
+    VERSIONS, attach, begun, leaves, note, post, say, say_end, say_nothing, turn, turns,
+};
 use client_basic::Bundle;
 use outside::Answer;
 use record_grammar::Reason;
-use std::alloc::Global;
+use std::process::Abort;
 use sync_ids::Fixed;
 use sync_node::{LinkEnd, Turned};
-use sync_rules::Mode;
+use sync_rules::{Mode, View};
 use test_links::{Device, message_record};
 
 // A MESSAGE whose time has its top bit set.
@@ -17,7 +19,9 @@ const TOO_LATE: [u8; 45] = [
 ];
 
 // What comes in one piece, how many records of it are taken, and how it closes the link.
-const CLOSING: [(&[u8], u64, LinkEnd); 15] = [
+type Closing = (&'static [u8], u64, LinkEnd);
+
+static CLOSING: [Closing; 15] = [
     (&[1], 0, LinkEnd::Bad(0, Reason::WrongVersion)),
     (&[255, 0, 0, 32], 0, LinkEnd::Bad(0, Reason::WrongVersion)),
     (&[0, 0, 192, 1], 0, LinkEnd::Bad(0, Reason::TooLong)),
@@ -40,64 +44,55 @@ const CLOSING: [(&[u8], u64, LinkEnd); 15] = [
 ];
 
 // Begins a batch session, on which a message is due.
-fn begin_sending(alloc: Global, device: &mut Device<Bundle>) -> Result<()> {
-    post(alloc, device, 0, b"x")?;
-    device.attach(&plan(0, Mode::Batch), None)?;
-    Ok(())
+fn begin_sending<R: Abort + AllocGlobal>(rt: &R, device: &mut Device<Bundle>) {
+    post(rt, device, 0, b"x");
+    attach(rt, device, 0, Mode::Batch, None);
 }
 
 // How many records were taken, how many bytes were sent, and how the link stands.
-fn state(device: &Device<Bundle>) -> (u64, usize, Option<LinkEnd>) {
-    let sent = device.host().sent(0).len();
-    (device.store().takes(0), sent, device.ending(0))
+type State = (u64, usize, LinkEnd);
+
+// A device, in the case of this number, is in this state.
+fn ends(rt: &impl Abort, number: usize, device: &Device<Bundle>, wanted: State) {
+    let (takes, sent, end) = wanted;
+    let got_sent = device.host().sent(0).len();
+    let got = (number, device.store().takes(0), got_sent, device.ending(0));
+    same(rt, &got, &(number, takes, sent, Some(end)));
 }
 
-// Whether these bytes close the link: of two turns the second is still, and nothing but VERSIONS is
-// sent.
-fn is_closed_by(
-    alloc: Global,
-    device: &mut Device<Bundle>,
-    row: &(&[u8], u64, LinkEnd),
-) -> Result<bool> {
-    let (bytes, takes, end) = *row;
-    begin_sending(alloc, device)?;
-    device.say(0, bytes)?;
-    device.say(0, &VERSIONS)?;
-    let is_first = device.turn()? == Turned::Moving;
-    let is_last = device.turn()? == Turned::Still && device.asked() == 0;
-    Ok(is_first && is_last && state(device) == (takes, 5, Some(end)))
-}
-
-// The first row that comes out otherwise.
-fn first_closing_apart(alloc: Global) -> Result<Option<usize>> {
-    for (number, row) in CLOSING.iter().enumerate() {
-        let mut device = begun(alloc, 1)?;
-        if !is_closed_by(alloc, &mut device, row)? {
-            return Ok(Some(number));
-        }
-    }
-    Ok(None)
+// These bytes close the link: of two turns the second is still, and nothing but VERSIONS is sent.
+fn close<R: Abort + AllocGlobal>(rt: &R, number: usize, row: &Closing) {
+    let (bytes, takes, end) = row;
+    let mut device = begun(rt, 1);
+    begin_sending(rt, &mut device);
+    say(rt, &mut device, 0, bytes);
+    say(rt, &mut device, 0, &VERSIONS);
+    turns(rt, &mut device, Turned::Moving);
+    turns(rt, &mut device, Turned::Still);
+    same(rt, &device.asked(), &0);
+    ends(rt, number, &device, (*takes, 5, *end));
 }
 
 // Each reason of a bad record, the records before it, and VERSIONS without the version of a node.
 #[test]
-fn closing(rt: HostRuntime) -> Result<()> {
-    assert_eq!(rt; first_closing_apart(rt.alloc())?, None);
-    Ok(())
+fn closing(rt: HostRuntime) {
+    for (number, row) in CLOSING.iter().enumerate() {
+        close(&rt, number, row);
+    }
 }
 
 // What each prefix is of: VERSIONS, a record of type 9, PRIORITY and a MESSAGE.
-fn stream(alloc: Global) -> Result<Vec<u8>> {
-    let mut bytes = VERSIONS.to_vec(alloc)?;
-    bytes.extend_from_slice(&[0, 9, 0, 2, 0xaa, 0xbb, 0, 5, 0, 16])?;
-    for byte in 0..16u8 {
-        bytes.push(byte)?;
-    }
-    let message = message(alloc, 0, b"x")?;
-    let record = message_record(alloc, &message.group(), 0, message.body())?;
-    bytes.extend_from_slice(record.as_slice())?;
-    Ok(bytes)
+fn stream<R: Abort + AllocGlobal>(rt: &R) -> Vec<u8> {
+    let mut bytes = made(rt, VERSIONS.to_vec(rt.alloc()));
+    made(rt, bytes.extend_from_slice(&UNKNOWN_AND_PRIORITY));
+    let record = made(rt, message_record(rt.alloc(), &note(rt), 0, b"x"));
+    made(rt, bytes.extend_from_slice(record.as_slice()));
+    bytes
 }
+
+static UNKNOWN_AND_PRIORITY: [u8; 26] = [
+    0, 9, 0, 2, 0xaa, 0xbb, 0, 5, 0, 16, 0, 1, 2, 3, 4, 5, 6, 7, 8, 9, 10, 11, 12, 13, 14, 15,
+];
 
 // The border of the stream at or before a place, how many records were taken before it, and how
 // many bytes are sent: an ACK behind the MESSAGE.
@@ -111,127 +106,110 @@ fn border(place: usize) -> (usize, u64, usize) {
     }
 }
 
-// Hears bytes on a batch session, and then the end.
-fn hear(device: &mut Device<Bundle>, pieces: &[&[u8]]) -> Result<()> {
-    device.attach(&plan(0, Mode::Batch), None)?;
-    for piece in pieces {
-        if !piece.is_empty() {
-            device.say(0, piece)?;
-            device.turn()?;
-        }
+// Hears a piece on a link, if it is one.
+fn hear(rt: &impl Abort, device: &mut Device<Bundle>, piece: &[u8]) {
+    if !piece.is_empty() {
+        say(rt, device, 0, piece);
+        turn(rt, device);
     }
-    device.answer(0, Answer::End)?;
-    device.turn()?;
-    Ok(())
 }
 
-// Whether a prefix ends as its place says: at a border clean, and else inside the record that
-// begins at the border before.
-fn prefix_agrees(alloc: Global, bytes: &[u8], place: usize) -> Result<bool> {
-    let mut device = begun(alloc, 1)?;
-    hear(&mut device, &[bytes.get(..place).unwrap_or_default()])?;
+// Hears two pieces on a batch session, and then the end.
+fn hear_both(rt: &impl Abort, device: &mut Device<Bundle>, front: &[u8], behind: &[u8]) {
+    attach(rt, device, 0, Mode::Batch, None);
+    hear(rt, device, front);
+    hear(rt, device, behind);
+    say_end(rt, device, 0);
+    turn(rt, device);
+}
+
+// A prefix ends as its place says: at a border clean, and else inside the record that begins at the
+// border before.
+fn hear_prefix<R: Abort + AllocGlobal>(rt: &R, place: usize, front: &[u8]) {
+    let mut device = begun(rt, 1);
     let (before, takes, sent) = border(place);
     let end = if before == place {
         LinkEnd::Clean
     } else {
         LinkEnd::Inside(before as u64)
     };
-    Ok(state(&device) == (takes, sent, Some(end)))
+    hear_both(rt, &mut device, front, &[]);
+    ends(rt, place, &device, (takes, sent, end));
 }
 
-// What the whole stream leaves.
-const WHOLE: [&str; 2] = [
-    "fa2b56a7bc5a75add77065543a7309a12159d88640b912ab59e79f85ecf7e445",
-    "27750353c2794dd35dc8ca88aa9e2a149ec02d055ebfe104de1502d2c3b1a10d",
-];
-
-// Whether the stream, cut in two at a place, leaves what it leaves whole.
-fn cut_agrees(alloc: Global, bytes: &[u8], place: usize) -> Result<bool> {
-    let mut device = begun(alloc, 1)?;
-    let front = bytes.get(..place).unwrap_or_default();
-    let behind = bytes.get(place..).unwrap_or_default();
-    hear(&mut device, &[front, behind])?;
-    let is_heard = state(&device) == (3, 41, Some(LinkEnd::Clean));
-    Ok(is_heard && leaves(alloc, &device, &WHOLE)?)
+// The stream, cut in two at a place, leaves what it leaves whole.
+fn hear_cut<R: Abort + AllocGlobal>(rt: &R, place: usize, front: &[u8], behind: &[u8]) {
+    let mut device = begun(rt, 1);
+    hear_both(rt, &mut device, front, behind);
+    ends(rt, place, &device, (3, 41, LinkEnd::Clean));
+    leaves(
+        rt,
+        &device,
+        "fa2b56a7bc5a75add77065543a7309a12159d88640b912ab59e79f85ecf7e445",
+        &["27750353c2794dd35dc8ca88aa9e2a149ec02d055ebfe104de1502d2c3b1a10d"],
+    );
 }
 
-// The first place at which a prefix, or the stream cut there, comes out otherwise.
-fn first_place_apart(alloc: Global) -> Result<Option<usize>> {
-    let bytes = stream(alloc)?;
+// A prefix, and the stream cut there, at each place.
+#[test]
+fn prefixes_and_cuts(rt: HostRuntime) {
+    let bytes = stream(&rt);
     for place in 0..=bytes.len() {
-        if !prefix_agrees(alloc, bytes.as_slice(), place)? {
-            return Ok(Some(place));
-        }
-        if !cut_agrees(alloc, bytes.as_slice(), place)? {
-            return Ok(Some(place));
-        }
+        let front = bytes.get(..place).unwrap_or_default();
+        let behind = bytes.get(place..).unwrap_or_default();
+        hear_prefix(&rt, place, front);
+        hear_cut(&rt, place, front, behind);
     }
-    Ok(None)
 }
 
+// A link whose other side has ended sends its message in that very turn, and another one later.
 #[test]
-fn prefixes_and_cuts(rt: HostRuntime) -> Result<()> {
-    assert_eq!(rt; first_place_apart(rt.alloc())?, None);
-    Ok(())
-}
-
-// Whether a link whose other side has ended sends its message in that very turn, and another one
-// later.
-fn goes_on(alloc: Global, device: &mut Device<Bundle>) -> Result<bool> {
-    begin_sending(alloc, device)?;
-    device.answer(0, Answer::End)?;
-    device.turn()?;
-    let is_sent = state(device) == (0, 50, Some(LinkEnd::Clean));
-    let is_still = device.turn()? == Turned::Still;
-    post(alloc, device, 1, b"y")?;
-    let is_moving = device.turn()? == Turned::Moving;
-    let is_sent_again = state(device) == (0, 95, Some(LinkEnd::Clean));
-    Ok(is_sent && is_still && is_moving && is_sent_again)
-}
-
-#[test]
-fn sends_behind_the_end(rt: HostRuntime) -> Result<()> {
-    let mut device = begun(rt.alloc(), 1)?;
-    assert!(rt; goes_on(rt.alloc(), &mut device)?);
-    Ok(())
+fn sends_behind_the_end(rt: HostRuntime) {
+    let mut device = begun(&rt, 1);
+    begin_sending(&rt, &mut device);
+    say_end(&rt, &mut device, 0);
+    turn(&rt, &mut device);
+    ends(&rt, 0, &device, (0, 50, LinkEnd::Clean));
+    turns(&rt, &mut device, Turned::Still);
+    post(&rt, &mut device, 1, b"y");
+    turns(&rt, &mut device, Turned::Moving);
+    ends(&rt, 1, &device, (0, 95, LinkEnd::Clean));
 }
 
 // Which call of a link fails: the send of this number, or its first answer; and how many bytes are
 // sent by then. Of what is sent there is VERSIONS, PRIORITY and an OFFER, and half of a failed one.
-const FAILING: [(Option<u64>, usize); 4] = [(None, 25), (Some(0), 2), (Some(1), 15), (Some(2), 43)];
+static FAILING: [(Option<u64>, usize); 4] = [
+    (None, 25),
+    (Some(0), 2),
+    (Some(1), 15),
+    (Some(2), 43),
+];
 
-// Whether the failing call closes the link: nothing more is heard or sent.
-fn fails(
-    alloc: Global,
-    device: &mut Device<Bundle>,
-    failing: Option<u64>,
-    sent: usize,
-) -> Result<bool> {
-    post(alloc, device, 0, b"x")?;
+// The failing call comes on the link.
+fn begin_failing(rt: &impl Abort, device: &mut Device<Bundle>, failing: Option<u64>) {
     if let Some(number) = failing {
-        device.fail_send(number)?;
-        device.answer(0, Answer::Idle)?;
+        made(rt, device.fail_send(number));
+        say_nothing(rt, device, 0);
     }
-    device.answer(0, Answer::Fail)?;
-    device.attach(&plan(0, Mode::Interactive), Some(Fixed([7; 16])))?;
-    device.turn()?;
-    let is_closed = state(device) == (0, sent, Some(LinkEnd::Failed));
-    device.say(0, &VERSIONS)?;
-    Ok(is_closed && device.turn()? == Turned::Still && device.store().takes(0) == 0)
+    made(rt, device.answer(0, Answer::Fail));
+    attach(rt, device, 0, Mode::Interactive, Some(Fixed([7; 16])));
 }
 
-fn first_failing_apart(alloc: Global) -> Result<Option<usize>> {
-    for (number, (failing, sent)) in FAILING.iter().enumerate() {
-        let mut device = begun(alloc, 1)?;
-        if !fails(alloc, &mut device, *failing, *sent)? {
-            return Ok(Some(number));
-        }
-    }
-    Ok(None)
+// The failing call closes the link: nothing more is heard or sent.
+fn fail<R: Abort + AllocGlobal>(rt: &R, failing: Option<u64>, sent: usize) {
+    let mut device = begun(rt, 1);
+    post(rt, &mut device, 0, b"x");
+    begin_failing(rt, &mut device, failing);
+    turn(rt, &mut device);
+    ends(rt, sent, &device, (0, sent, LinkEnd::Failed));
+    say(rt, &mut device, 0, &VERSIONS);
+    turns(rt, &mut device, Turned::Still);
+    same(rt, &(sent, device.store().takes(0)), &(sent, 0));
 }
 
 #[test]
-fn failing_calls(rt: HostRuntime) -> Result<()> {
-    assert_eq!(rt; first_failing_apart(rt.alloc())?, None);
-    Ok(())
+fn failing_calls(rt: HostRuntime) {
+    for (failing, sent) in &FAILING {
+        fail(&rt, *failing, *sent);
+    }
 }

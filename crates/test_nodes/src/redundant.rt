@@ -1,19 +1,18 @@
 //! Which of several links with one contact is kept.
-use crate::scenes::{VERSIONS, begun, plan};
-use anyhow::Result;
+use crate::checks::{made, same};
+use crate::scenes::{VERSIONS, attach, begun, say, say_end, say_nothing, stands, turn, turns};
 use client_basic::Bundle;
-use outside::Answer;
-use std::alloc::Global;
+use std::process::Abort;
 use sync_ids::{Fixed, Nonce};
 use sync_node::{LinkEnd, Turned};
-use sync_rules::Mode;
+use sync_rules::{Mode, View};
 use test_links::Device;
 
 // Of each link: its contact, the last byte of its own nonce and of the one that comes on it, and
 // whether it is closed as redundant.
 type Row = (u8, Option<u8>, Option<u8>, bool);
 
-const TABLE: [[Row; 3]; 8] = [
+static TABLE: [[Row; 3]; 8] = [
     [
         (0, Some(1), None, true),
         (0, Some(2), None, false),
@@ -72,28 +71,25 @@ fn priority(byte: u8) -> [u8; 20] {
 }
 
 // Begins a session by a row; nothing comes on it, or a PRIORITY, and then nothing.
-fn attach(device: &mut Device<Bundle>, link: u8, row: &Row) -> Result<()> {
+fn begin(rt: &impl Abort, device: &mut Device<Bundle>, link: u8, row: &Row) {
     let (contact, own, heard, _) = *row;
-    let plan = plan(contact, Mode::Interactive);
-    device.attach(&plan, own.map(nonce))?;
+    attach(rt, device, contact, Mode::Interactive, own.map(nonce));
     if let Some(byte) = heard {
-        device.say(link, &priority(byte))?;
+        say(rt, device, link, &priority(byte));
     }
-    device.answer(link, Answer::Idle)?;
-    Ok(())
+    say_nothing(rt, device, link);
 }
 
-fn attach_each(device: &mut Device<Bundle>, rows: &[Row; 3]) -> Result<()> {
+fn begin_each(rt: &impl Abort, device: &mut Device<Bundle>, rows: &[Row; 3]) {
     let mut link = 0u8;
     for row in rows {
-        attach(device, link, row)?;
+        begin(rt, device, link, row);
         link = link.saturating_add(1);
     }
-    Ok(())
 }
 
-// Whether the links stand as the rows say.
-fn stands(device: &Device<Bundle>, rows: &[Row; 3]) -> bool {
+// The links stand as the rows say.
+fn stand(rt: &impl Abort, device: &Device<Bundle>, rows: &[Row; 3]) {
     let mut link = 0u8;
     for row in rows {
         let wanted = if row.3 {
@@ -101,90 +97,68 @@ fn stands(device: &Device<Bundle>, rows: &[Row; 3]) -> bool {
         } else {
             LinkEnd::Going
         };
-        if device.ending(link) != Some(wanted) {
-            return false;
-        }
+        stands(rt, device, link, wanted);
         link = link.saturating_add(1);
     }
-    true
 }
 
-fn first_apart(alloc: Global) -> Result<Option<usize>> {
-    for (number, rows) in TABLE.iter().enumerate() {
-        let mut device = begun(alloc, 2)?;
-        attach_each(&mut device, rows)?;
-        device.turn()?;
-        if !stands(&device, rows) {
-            return Ok(Some(number));
-        }
+fn keep<R: Abort + AllocGlobal>(rt: &R, rows: &[Row; 3]) {
+    let mut device = begun(rt, 2);
+    begin_each(rt, &mut device, rows);
+    turn(rt, &mut device);
+    stand(rt, &device, rows);
+}
+
+#[test]
+fn kept(rt: HostRuntime) {
+    for rows in &TABLE {
+        keep(&rt, rows);
     }
-    Ok(None)
 }
 
+// Of two quiet links the first is closed, in a turn that is still.
 #[test]
-fn kept(rt: HostRuntime) -> Result<()> {
-    assert_eq!(rt; first_apart(rt.alloc())?, None);
-    Ok(())
+fn quiet_links(rt: HostRuntime) {
+    let mut device = begun(&rt, 1);
+    begin(&rt, &mut device, 0, &(0, Some(1), None, true));
+    begin(&rt, &mut device, 1, &(0, Some(2), None, false));
+    turns(&rt, &mut device, Turned::Still);
+    stands(&rt, &device, 0, LinkEnd::Redundant);
+    stands(&rt, &device, 1, LinkEnd::Going);
+    same(&rt, &device.asked(), &1);
 }
 
-// Whether of two quiet links the first is closed, in a turn that is still.
-fn is_first_closed(device: &mut Device<Bundle>) -> Result<bool> {
-    attach(device, 0, &(0, Some(1), None, true))?;
-    attach(device, 1, &(0, Some(2), None, false))?;
-    let is_still = device.turn()? == Turned::Still;
-    let is_closed = device.ending(0) == Some(LinkEnd::Redundant);
-    let is_kept = device.ending(1) == Some(LinkEnd::Going);
-    Ok(is_still && is_closed && is_kept && device.asked() == 1)
-}
-
+// A link whose other side has ended is none of those that are kept or closed.
 #[test]
-fn quiet_links(rt: HostRuntime) -> Result<()> {
-    let mut device = begun(rt.alloc(), 1)?;
-    assert!(rt; is_first_closed(&mut device)?);
-    Ok(())
+fn ended_link(rt: HostRuntime) {
+    let mut device = begun(&rt, 1);
+    begin(&rt, &mut device, 0, &(0, Some(1), None, false));
+    attach(&rt, &mut device, 0, Mode::Interactive, Some(nonce(2)));
+    say_end(&rt, &mut device, 1);
+    turn(&rt, &mut device);
+    stands(&rt, &device, 0, LinkEnd::Going);
+    stands(&rt, &device, 1, LinkEnd::Clean);
 }
 
-// Whether a link whose other side has ended is none of those that are kept or closed.
-fn is_left_alone(device: &mut Device<Bundle>) -> Result<bool> {
-    attach(device, 0, &(0, Some(1), None, false))?;
-    device.attach(&plan(0, Mode::Interactive), Some(nonce(2)))?;
-    device.answer(1, Answer::End)?;
-    device.turn()?;
-    let is_going = device.ending(0) == Some(LinkEnd::Going);
-    Ok(is_going && device.ending(1) == Some(LinkEnd::Clean))
-}
-
-#[test]
-fn ended_link(rt: HostRuntime) -> Result<()> {
-    let mut device = begun(rt.alloc(), 1)?;
-    assert!(rt; is_left_alone(&mut device)?);
-    Ok(())
-}
-
-// Hears two PRIORITYs on a batch session, of which the second would keep it.
-fn hear_two(alloc: Global, device: &mut Device<Bundle>) -> Result<()> {
-    let mut piece = VERSIONS.to_vec(alloc)?;
-    piece.extend_from_slice(&priority(1))?;
-    piece.extend_from_slice(&priority(3))?;
-    attach(device, 0, &(0, Some(2), None, false))?;
-    device.attach(&plan(0, Mode::Batch), None)?;
-    device.say(1, piece.as_slice())?;
-    device.turn()?;
-    Ok(())
-}
-
-fn is_second_closed(alloc: Global, device: &mut Device<Bundle>) -> Result<bool> {
-    hear_two(alloc, device)?;
-    let is_kept = device.ending(0) == Some(LinkEnd::Going);
-    let is_closed = device.ending(1) == Some(LinkEnd::Redundant);
-    Ok(is_kept && is_closed && device.store().takes(1) == 3)
+// VERSIONS and two PRIORITYs.
+fn two_priorities<R: Abort + AllocGlobal>(rt: &R) -> Vec<u8> {
+    let mut piece = made(rt, VERSIONS.to_vec(rt.alloc()));
+    made(rt, piece.extend_from_slice(&priority(1)));
+    made(rt, piece.extend_from_slice(&priority(3)));
+    piece
 }
 
 // The first PRIORITY on a link counts, also on one in batch mode, and none where the link has a
-// nonce of its own.
+// nonce of its own: of two on a batch session the second would keep it.
 #[test]
-fn first_priority(rt: HostRuntime) -> Result<()> {
-    let mut device = begun(rt.alloc(), 1)?;
-    assert!(rt; is_second_closed(rt.alloc(), &mut device)?);
-    Ok(())
+fn first_priority(rt: HostRuntime) {
+    let mut device = begun(&rt, 1);
+    begin(&rt, &mut device, 0, &(0, Some(2), None, false));
+    attach(&rt, &mut device, 0, Mode::Batch, None);
+    let piece = two_priorities(&rt);
+    say(&rt, &mut device, 1, piece.as_slice());
+    turn(&rt, &mut device);
+    stands(&rt, &device, 0, LinkEnd::Going);
+    stands(&rt, &device, 1, LinkEnd::Redundant);
+    same(&rt, &device.store().takes(1), &3);
 }

@@ -1,12 +1,16 @@
 //! Two messages that wait for each other: both stay pending, and the session ends as any other.
 ghost use Rattle.std.specs.Prelude.{◌≡◌, ◌∷◌, [], cond, nat_eq, IfOk};
 
-use crate::scenes::{VERSIONS, add_group, leaves, message, note, plan};
-use anyhow::Result;
+use crate::checks::{made, must};
+use crate::scenes::{
+    VERSIONS, add_contacts, add_group, attach, leaves, message, note, say, set_level, stands, turns,
+};
 use std::alloc::{AllocError, Global};
+use std::process::Abort;
 use sync_ids::{Message, MessageId};
 use sync_node::{LinkEnd, Turned};
-use sync_rules::{Clients, DepList, Entry, Fate, Judgement, Level, Mode, id_of};
+use sync_rules::{Clients, DepList, Fate, Judgement, Level, Mode, id_of};
+use sync_store::Store;
 use test_links::{Device, message_record};
 
 // Says of the message of time 0 that it depends on the second, and of any other that it depends on
@@ -58,56 +62,55 @@ impl Clients for Pair {
     }
 }
 
-const WAITING: [&str; 2] = [
-    "6b02c2e029b35b8367514b4c45d2d14e1b49252cacff8a765bc55e01c90b761c",
-    "ebc0f1433afe72ed486936fdd5f32a6d219c06c7a23484cffecbdfc7011b1374",
-];
-
 // A pair of messages that depend on each other.
-fn make_pair(alloc: Global) -> Result<Pair> {
-    let first = message(alloc, 0, b"first")?;
-    let second = message(alloc, 1, b"second")?;
-    Ok(Pair {
-        first: id_of(&first),
-        second: id_of(&second),
-    })
+fn make_pair<R: Abort + AllocGlobal>(rt: &R) -> Pair {
+    Pair {
+        first: id_of(&message(rt, 0, b"first")),
+        second: id_of(&message(rt, 1, b"second")),
+    }
+}
+
+// Adds a MESSAGE to a piece.
+fn add_message<R: Abort + AllocGlobal>(rt: &R, piece: &mut Vec<u8>, time: u64, body: &[u8]) {
+    let record = made(rt, message_record(rt.alloc(), &note(rt), time, body));
+    made(rt, piece.extend_from_slice(record.as_slice()));
 }
 
 // Both messages in one piece.
-fn both(alloc: Global) -> Result<Vec<u8>> {
-    let group = note(alloc)?;
-    let mut piece = VERSIONS.to_vec(alloc)?;
-    piece.extend_from_slice(message_record(alloc, &group, 0, b"first")?.as_slice())?;
-    piece.extend_from_slice(message_record(alloc, &group, 1, b"second")?.as_slice())?;
-    Ok(piece)
+fn both<R: Abort + AllocGlobal>(rt: &R) -> Vec<u8> {
+    let mut piece = made(rt, VERSIONS.to_vec(rt.alloc()));
+    add_message(rt, &mut piece, 0, b"first");
+    add_message(rt, &mut piece, 1, b"second");
+    piece
 }
 
-fn say_both(alloc: Global, device: &mut Device<Pair>) -> Result<()> {
-    device.add(Entry::Contact(0))?;
-    add_group(alloc, device, "note")?;
-    device.add(Entry::Level(0, note(alloc)?, Level::Shared))?;
-    device.attach(&plan(0, Mode::Batch), None)?;
-    let piece = both(alloc)?;
-    device.say(0, piece.as_slice())?;
-    Ok(())
+fn say_both<R: Abort + AllocGlobal>(rt: &R, device: &mut Device<Pair>) {
+    add_contacts(rt, device, 1);
+    add_group(rt, device, "note");
+    set_level(rt, device, 0, note(rt), Level::Shared);
+    attach(rt, device, 0, Mode::Batch, None);
+    let piece = both(rt);
+    say(rt, device, 0, piece.as_slice());
 }
 
-fn are_pending(device: &Device<Pair>) -> bool {
-    let store = device.store();
+fn are_pending(store: &Store) -> bool {
     store.held() == 2 && store.fate(0) == Fate::Pending && store.fate(1) == Fate::Pending
 }
 
-fn stay_pending(alloc: Global, device: &mut Device<Pair>) -> Result<bool> {
-    say_both(alloc, device)?;
-    let is_heard = device.turn()? == Turned::Moving;
-    let is_ended = device.turn()? == Turned::Moving && device.turn()? == Turned::Still;
-    let is_clean = device.ending(0) == Some(LinkEnd::Clean);
-    Ok(is_heard && is_ended && is_clean && are_pending(device) && leaves(alloc, device, &WAITING)?)
-}
-
 #[test]
-fn waiting(rt: HostRuntime) -> Result<()> {
-    let mut device = Device::begin(rt.alloc(), make_pair(rt.alloc())?)?;
-    assert!(rt; stay_pending(rt.alloc(), &mut device)?);
-    Ok(())
+fn waiting(rt: HostRuntime) {
+    let pair = make_pair(&rt);
+    let mut device = made(&rt, Device::begin(rt.alloc(), pair));
+    say_both(&rt, &mut device);
+    turns(&rt, &mut device, Turned::Moving);
+    turns(&rt, &mut device, Turned::Moving);
+    turns(&rt, &mut device, Turned::Still);
+    stands(&rt, &device, 0, LinkEnd::Clean);
+    must(&rt, 1, are_pending(device.store()));
+    leaves(
+        &rt,
+        &device,
+        "6b02c2e029b35b8367514b4c45d2d14e1b49252cacff8a765bc55e01c90b761c",
+        &["ebc0f1433afe72ed486936fdd5f32a6d219c06c7a23484cffecbdfc7011b1374"],
+    );
 }
