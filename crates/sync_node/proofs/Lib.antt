@@ -20,3 +20,4 @@ mod CourseCalls
 mod CourseJoined
 mod CourseNode
 mod CourseStart
+pub mod Halts

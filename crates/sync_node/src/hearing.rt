@@ -53,7 +53,7 @@ pub(crate) fn receive_on<H: Host, C: Clients>(
         (C.meaning clients.now) number link.old link.new store.old store.new (H.tells host.old)
         (H.tells host.new)) }
     ensures stops { length buffer.old ≡ PIECE_LEN → OnErr result (HearsStops
-        (C.meaning clients.now) number link.old store.old (H.tells host.old)
+        (C.meaning clients.now) number link.old link.new store.old (H.tells host.old)
         (H.tells host.new)) }
     ensures works { OnOk result (Works (C.meaning clients.now) number [] [] link.old link.new
         store.old store.new (H.tells host.old) (H.tells host.new)) }
@@ -110,7 +110,7 @@ fn take_piece<H: Host, C: Clients>(
     ensures course { OnOk result (PieceTaken (C.meaning clients.now) number piece.old link.old
         link.new store.old store.new (H.tells host.old) (H.tells host.new)) }
     ensures stops { OnErr result (NextStops (C.meaning clients.now) number piece.old link.old
-        store.old (H.tells host.old) (H.tells host.new)) }
+        link.new store.old (H.tells host.old) (H.tells host.new)) }
     ensures works { OnOk result (Works (C.meaning clients.now) number piece.old [] link.old link.new
         store.old store.new (H.tells host.old) (H.tells host.new)) }
     ensures stays { OnErr result (StaysSafe (C.meaning clients.now) number piece.old link.old
@@ -153,7 +153,7 @@ fn take_next<H: Host, C: Clients>(
     ensures course { IfOk result (NextAsCourse (C.meaning clients.now) number piece.old piece.new
         link.old link.new store.old store.new (H.tells host.old) (H.tells host.new)) }
     ensures stops { OnErr result (NextStops (C.meaning clients.now) number piece.old link.old
-        store.old (H.tells host.old) (H.tells host.new)) }
+        link.new store.old (H.tells host.old) (H.tells host.new)) }
     ensures left { IfOk result (LeavesLess link.old piece.old link.new piece.new) }
     ensures works { OnOk result (Works (C.meaning clients.now) number piece.old piece.new link.old
         link.new store.old store.new (H.tells host.old) (H.tells host.new)) }

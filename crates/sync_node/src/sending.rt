@@ -15,8 +15,8 @@ ghost use Rattle.sync_node.specs.Stops.{StopsSent};
 
 use crate::fault::Fault;
 use crate::link::Link;
-use crate::spelling::spell_out;
 use crate::told::{cite_laws, commit};
+use output_spelling::spell_out;
 use outside::Host;
 use std::alloc::Global;
 use sync_course::{LinkEnd, MAX_OUTPUTS};
@@ -45,7 +45,7 @@ pub(crate) fn send_all<H: Host, C: Clients>(
     ensures course { MaySend link.old.end → IfOk result (SentAsCourse (C.meaning clients.now) number
         now link.old link.new store.old store.new (H.tells host.old) (H.tells host.new)) }
     ensures stops { MaySend link.old.end → OnErr result (SentStops (C.meaning clients.now) number
-        now link.old store.old (H.tells host.old) (H.tells host.new)) }
+        now link.old link.new store.old (H.tells host.old) (H.tells host.new)) }
     ensures works { OnOk result (Works (C.meaning clients.now) number [] [] link.old link.new
         store.old store.new (H.tells host.old) (H.tells host.new)) }
     ensures stays { OnErr result (StaysSafe (C.meaning clients.now) number [] link.old store.old
@@ -96,8 +96,8 @@ fn put_out<H: Host, C: Clients>(
     ensures waits { OnOk result (Waits link.new) }
     ensures course { OnOk result (PutsAsCourse (C.meaning clients.now) number now link.old link.new
         store.old store.new (H.tells host.old) (H.tells host.new)) }
-    ensures stops { OnErr result (PutsStop (C.meaning clients.now) number now link.old store.old
-        (H.tells host.old) (H.tells host.new)) }
+    ensures stops { OnErr result (PutsStop (C.meaning clients.now) number now link.old link.new
+        store.old (H.tells host.old) (H.tells host.new)) }
     ensures works { OnOk result (Works (C.meaning clients.now) number [] [] link.old link.new
         store.old store.new (H.tells host.old) (H.tells host.new)) }
     ensures stays { OnErr result (StaysSafe (C.meaning clients.now) number [] link.old store.old

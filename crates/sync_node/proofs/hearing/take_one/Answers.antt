@@ -3,7 +3,8 @@ use Rattle.sync_node.proofs.WorkLaws.{on_err, on_err_then, on_ok}
 use Rattle.sync_node.proofs.CourseTakes.{stops_at_commit, stops_at_none, stops_at_settle, takes_course, take_named}
 use Rattle.sync_node.proofs.SafeLaws.{goes_none}
 use Rattle.sync_node.proofs.WorkLaws.{goes_then}
-use Rattle.std.proofs.Common.{Err, ap}
+use Rattle.std.proofs.Common.{Err, ap, refl}
+use Rattle.session_core.specs.Taking.{take_of}
 use Rattle.sync_node.proofs.WorkLaws.{err_was}
 use Rattle.sync_node.proofs.CourseTakes.{take_full}
 use Rattle.sync_node.proofs.hearing.take_one.Goals as goal
@@ -44,7 +45,13 @@ returns-clause-safe g c =
     c.settle.ensures.safe
 
 pub returns-in_err-batch-clause-stops : goal.returns-in_err-batch-clause-stops
-returns-in_err-batch-clause-stops g c = on_err _ _ (stops_at_none _ _ _ _ _)
+returns-in_err-batch-clause-stops g c =
+    let batch = take_of c.args.store.now.state.facts c.args.session.now c.takes-taken.result c.args.rec in
+    on_err _ _
+    (stops_at_none _ _ c.args.rec _ _ batch
+    (take_named c.args.store.now.state.facts c.args.session.now c.args.rec batch c.requires.able.known
+    (take_is c.args.store.now.state.facts c.args.session.now c.takes-taken.result c.args.rec batch c.takes-taken.ensures refl))
+    (take_allowed _ _ c.takes-taken.result c.args.rec _ _ batch c.requires.able c.records_are_within.ensures c.takes-taken.ensures refl))
 
 pub returns-in_err-commit-clause-stops : goal.returns-in_err-commit-clause-stops
 returns-in_err-commit-clause-stops g c =

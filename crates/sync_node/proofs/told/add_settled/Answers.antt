@@ -33,3 +33,10 @@ returns-in_err-commit-clause-full g c =
 
 pub returns-clause-full : goal.returns-clause-full
 returns-clause-full g c = λ is. absurd (c.settle.ensures.never is)
+
+pub returns-in_err-commit-clause-undone : goal.returns-in_err-commit-clause-undone
+returns-in_err-commit-clause-undone g c =
+    λ is. c.in_err-commit.ensures.undone (ap (λ e. Err e) (err_was _ c.in_err-commit.field-0.0 _ c.from_residual.ensures.1 is))
+
+pub returns-clause-undone : goal.returns-clause-undone
+returns-clause-undone g c = λ is. absurd (c.settle.ensures.never is)

@@ -1,7 +1,7 @@
-use Rattle.std.proofs.Common.{inl, List, ℕ, arith, refl, ap, ◌∙◌, length}
+use Rattle.std.proofs.Common.{inl, List, [], ◌∷◌, ◌++◌, ℕ, arith, refl, ap, ◌∙◌, length}
 use Rattle.sync_node.specs.declared.link.Link.{Link}
 use Rattle.sync_node.specs.Node.{NodeValue}
-use Rattle.sync_node.proofs.CourseStart.{beginning_broken, begins_behind, node_beginning_broken, node_begins}
+use Rattle.sync_node.proofs.CourseStart.{beginning_halted, begins_behind, node_beginning_halted, node_begins}
 use Rattle.sync_node.proofs.AttachLaws.{attached_last, attached_may, node_attaches, node_plans, node_settled, one_longer, plan_allowed, plans_as, plans_same, session_begun}
 use Rattle.sync_node.specs.Plans.{session_of}
 use Rattle.sync_node.proofs.NodeLaws.{true≢false, fault_answers, is_closed_node, is_node, node_may, stays_closed}
@@ -106,9 +106,9 @@ returns-in-Ok-clause-course g c = λ opened.
 
 pub returns-in-Err-clause-halts : goal.returns-in-Err-clause-halts
 returns-in-Err-clause-halts g c = λ opened.
-    node_beginning_broken _ (session_of c.sessions.result c.args.plan.now c.args.nonce) c.self.inside.links.items _ _ _ c.self.inside.first c.self.inside.closed _ c.self.view_is _
+    node_beginning_halted _ (session_of c.sessions.result c.args.plan.now c.args.nonce) c.self.inside.links.items _ _ _ c.self.inside.first c.self.inside.closed _ c.self.view_is _
     (ap (λ (k : ℕ). session_of k c.args.plan.now c.args.nonce) (c.sessions.ensures ∙ ap (λ (n : NodeValue). n.store.state.facts.begun) c.self.view_is))
-    (beginning_broken _ (session_of c.sessions.result c.args.plan.now c.args.nonce) c.self.inside.links.items _ _ _ c.in-Err.ensures.halts)
+    _ (beginning_halted _ (session_of c.sessions.result c.args.plan.now c.args.nonce) c.self.inside.links.items _ _ _ _ c.in-Err.ensures.same c.in-Err.ensures.halts)
 
 pub attach_on-requires-clause-last : goal.attach_on-requires-clause-last
 attach_on-requires-clause-last g c =
@@ -152,3 +152,15 @@ pub returns-in-Err-clause-sent : goal.returns-in-Err-clause-sent
 returns-in-Err-clause-sent g c = λ opened is.
     node_sends _ _ _ c.self.inside.first c.self.inside.links.items _ c.self.inside.closed _ _ _ _ c.self.view_is
     (links_same _ c.self.inside.first c.self.inside.links.items _ _ _ _ (c.self.invariant.1.attached c.if-self.false) (c.in-Err.ensures.as_before (ap (λ e. Err e) (was_full c.in-Err.fault _ c.close.ensures.fault is))))
+
+pub returns-then-self-clause-links : goal.returns-then-self-clause-links
+returns-then-self-clause-links g c = refl
+
+pub returns-in-Ok-clause-links : goal.returns-in-Ok-clause-links
+returns-in-Ok-clause-links g c = (
+  c.in-Ok.ensures.starts.link,
+  c.in-Ok.ensures.starts.pushed ∙ ap (λ (n : NodeValue). n.links ++ c.in-Ok.ensures.starts.link ∷ []) c.self.view_is,
+)
+
+pub returns-in-Err-clause-links : goal.returns-in-Err-clause-links
+returns-in-Err-clause-links g c = c.in-Err.ensures.same ∙ ap (λ (n : NodeValue). n.links) c.self.view_is
