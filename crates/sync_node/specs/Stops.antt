@@ -4,7 +4,6 @@ use Rattle.outside.specs.Faults.{Rose}
 use Rattle.outside.specs.Outside.{Outside}
 use Rattle.outside.specs.Runs.{OthersKeep, Told}
 use Rattle.sync_rules.specs.Clients.{Meaning}
-use Rattle.sync_store.specs.Commits.{Stays}
 use Rattle.sync_store.specs.Store.{StoreValue}
 use Rattle.sync_store.specs.Fitting.{Fits}
 use Rattle.sync_node.specs.declared.link.Link.{Link}
@@ -13,11 +12,6 @@ use Rattle.sync_node.specs.Going.{Goes, GoesOnBy, HasOthers}
 use Rattle.sync_node.specs.Joined.{IsAllSent, IsJoined, Joined}
 use Rattle.sync_node.specs.Node.{NodeValue}
 use Rattle.sync_node.specs.Output.{Journal}
-
--- nothing was done: the store is as before in all that contracts ask of it, and the host is the same
-pub record IsUndone {H : Type 0} (s s' : StoreValue) (host host' : H) : Type 0 where
-  pub stays : Stays s s'
-  pub same_host : host' ≡ host
 
 -- a batch was not committed, and nothing else was done; no session began
 pub record StaysSame (clients : Meaning) (s s' : StoreValue) (o o' : Outside) : Type 0 where

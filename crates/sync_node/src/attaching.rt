@@ -13,7 +13,7 @@ ghost use Rattle.sync_node.specs.Courses.{StartsBehind};
 ghost use Rattle.sync_node.specs.Fulls.{FullStart};
 ghost use Rattle.sync_node.specs.Going.{Goes};
 ghost use Rattle.sync_node.specs.Starting.{Greets, Starts, StartsLast, StartsSafe};
-ghost use Rattle.sync_node.specs.Stays.{KeepsReady};
+ghost use Rattle.sync_node.specs.Stays.{IsUndoneBy, KeepsReady};
 ghost use Rattle.sync_node.specs.Stops.{StaysSame};
 
 use crate::fault::Fault;
@@ -60,6 +60,7 @@ pub(crate) fn attach_on<H: Host, C: Clients>(
     ensures run { LinksGo links.old.items links.new.items (H.tells host.old)
         (H.tells host.new) }
     ensures limit { store.new.limit ≡ store.old.limit }
+    ensures undone { IfErr result (IsUndoneBy store.old store.new host.old host.new) }
     ensures as_before { IsErrOf result Fault.Full → StaysSame (C.meaning clients.now) store.old
         store.new (H.tells host.old) (H.tells host.new) }
     ensures full { IsErrOf result Fault.Full → FullStart (C.meaning clients.now) session store.old
@@ -107,6 +108,7 @@ fn start<H: Host, C: Clients>(
         → Rose ((H.tells host.old).links.faults number)
         ((H.tells host.new).links.faults number)) }
     ensures limit { store.new.limit ≡ store.old.limit }
+    ensures undone { IfErr result (IsUndoneBy store.old store.new host.old host.new) }
     ensures as_before { IsErrOf result Fault.Full → StaysSame (C.meaning clients.now) store.old
         store.new (H.tells host.old) (H.tells host.new) }
     ensures full { IsErrOf result Fault.Full → FullStart (C.meaning clients.now) session store.old

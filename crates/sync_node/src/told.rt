@@ -21,8 +21,8 @@ ghost use Rattle.sync_node.specs.Going.{Commits, Goes, SettlesStore};
 ghost use Rattle.sync_node.specs.Output.{heard_on, Journal};
 ghost use Rattle.sync_node.specs.Safe.{Begin, Safe};
 ghost use Rattle.sync_node.specs.Suits.{IsOfRun};
-ghost use Rattle.sync_node.specs.Stays.{KeepsReady};
-ghost use Rattle.sync_node.specs.Stops.{IsUndone, StaysSame};
+ghost use Rattle.sync_node.specs.Stays.{IsUndone, IsUndoneBy, KeepsReady};
+ghost use Rattle.sync_node.specs.Stops.{StaysSame};
 
 use crate::fault::Fault;
 use outside::Host;
@@ -77,7 +77,7 @@ pub(crate) fn commit<H: Host, C: Clients>(
     ensures limit { store.new.limit ≡ store.old.limit }
     ensures as_before { IsErrOf result Fault.Full → StaysSame (C.meaning clients.now) store.old
         store.new (H.tells host.old) (H.tells host.new) }
-    ensures undone { IsErrOf result Fault.Full → IsUndone store.old store.new host.old host.new }
+    ensures undone { IfErr result (IsUndoneBy store.old store.new host.old host.new) }
     ensures full { IsErrOf result Fault.Full → IsOver (C.meaning clients.now) batch store.old
         store.new (H.tells host.old) (H.tells host.new) }
     ensures fault { IsErrOf result Fault.DiskFault → Rose (H.tells host.old).disk_faults

@@ -4,6 +4,7 @@ use Rattle.sync_node.proofs.WorkLaws.{on_ok}
 use Rattle.sync_node.proofs.WorkLaws.{goes_then}
 use Rattle.std.proofs.Common.{Err, ap}
 use Rattle.sync_node.proofs.WorkLaws.{err_was}
+use Rattle.sync_node.proofs.Undone.{undone_full}
 use Rattle.sync_node.proofs.told.add_settled.Goals as goal
 
 pub commit-requires-clause-kind : goal.commit-requires-clause-kind
@@ -36,7 +37,7 @@ returns-clause-full g c = λ is. absurd (c.settle.ensures.never is)
 
 pub returns-in_err-commit-clause-undone : goal.returns-in_err-commit-clause-undone
 returns-in_err-commit-clause-undone g c =
-    λ is. c.in_err-commit.ensures.undone (ap (λ e. Err e) (err_was _ c.in_err-commit.field-0.0 _ c.from_residual.ensures.1 is))
+    λ is. undone_full _ _ _ _ c.in_err-commit.field-0.0 (err_was _ c.in_err-commit.field-0.0 _ c.from_residual.ensures.1 is) c.in_err-commit.ensures.undone
 
 pub returns-clause-undone : goal.returns-clause-undone
 returns-clause-undone g c = λ is. absurd (c.settle.ensures.never is)

@@ -119,3 +119,12 @@ returns-in-Err-clause-undone g c = λ is.
       stays = subst (λ (n : NodeValue). Stays n.store c.add_settled.new.store) c.self.view_is done.stays;
       same_host = done.same_host;
     }
+
+pub returns-then-self-clause-first : goal.returns-then-self-clause-first
+returns-then-self-clause-first g c = refl
+
+pub returns-in-Ok-clause-first : goal.returns-in-Ok-clause-first
+returns-in-Ok-clause-first g c = ap (λ (n : NodeValue). n.first) c.self.view_is
+
+pub returns-in-Err-clause-first : goal.returns-in-Err-clause-first
+returns-in-Err-clause-first g c = ap (λ (n : NodeValue). n.first) c.self.view_is

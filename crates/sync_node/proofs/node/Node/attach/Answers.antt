@@ -7,7 +7,9 @@ use Rattle.sync_node.specs.Plans.{session_of}
 use Rattle.sync_node.proofs.NodeLaws.{true≢false, fault_answers, is_closed_node, is_node, node_may, stays_closed}
 use Rattle.sync_node.proofs.SafeLaws.{goes_none}
 use Rattle.sync_node.proofs.CauseLaws.{node_causes}
-use Rattle.std.proofs.Common.{Err}
+use Rattle.std.proofs.Common.{Err, subst}
+use Rattle.sync_node.specs.Stays.{IsUndoneBy}
+use Rattle.sync_node.proofs.Undone.{undone_answer}
 use Rattle.sync_node.proofs.NodeLaws.{was_full}
 use Rattle.sync_node.proofs.CourseStart.{beginning_full, node_beginning_full}
 use Rattle.sync_node.proofs.StopLaws.{links_same, node_sends}
@@ -164,3 +166,17 @@ returns-in-Ok-clause-links g c = (
 
 pub returns-in-Err-clause-links : goal.returns-in-Err-clause-links
 returns-in-Err-clause-links g c = c.in-Err.ensures.same ∙ ap (λ (n : NodeValue). n.links) c.self.view_is
+
+pub returns-then-self-clause-first : goal.returns-then-self-clause-first
+returns-then-self-clause-first g c = refl
+
+pub returns-in-Ok-clause-first : goal.returns-in-Ok-clause-first
+returns-in-Ok-clause-first g c = ap (λ (n : NodeValue). n.first) c.self.view_is
+
+pub returns-in-Err-clause-first : goal.returns-in-Err-clause-first
+returns-in-Err-clause-first g c = ap (λ (n : NodeValue). n.first) c.self.view_is
+
+pub returns-in-Err-clause-undone : goal.returns-in-Err-clause-undone
+returns-in-Err-clause-undone g c =
+    undone_answer (Unit {0}) _ _ _ _ c.in-Err.fault _ c.close.ensures.fault
+    (subst (λ (n : NodeValue). IsUndoneBy n.store c.attach_on.new.store c.args.host.now c.attach_on.new.host c.in-Err.fault) c.self.view_is c.in-Err.ensures.undone)

@@ -176,17 +176,17 @@ returns-in-Err-clause-full g c = λ is.
 pub returns-in-Ok-clause-node : goal.returns-in-Ok-clause-node
 returns-in-Ok-clause-node g c = (invariant_of-self g c).1
 
-pub returns-then-self-clause-sessions : goal.returns-then-self-clause-sessions
-returns-then-self-clause-sessions g c = refl
+pub returns-then-self-clause-kept : goal.returns-then-self-clause-kept
+returns-then-self-clause-kept g c = record { same_first = refl; same_sessions = refl }
 
-pub returns-in-Ok-clause-sessions : goal.returns-in-Ok-clause-sessions
-returns-in-Ok-clause-sessions g c =
+pub returns-in-Ok-clause-kept : goal.returns-in-Ok-clause-kept
+returns-in-Ok-clause-kept g c =
     let within : c.args.link < length c.self.inside.links.items = omega (arith, c.requires.attached, ap (λ (n : NodeValue). length n.links) c.self.view_is) in
     let here = slice_get-get_or c.self.inside.links.items c.args.link c.index_mut.result.now within ∙ ap Some (sym c.index_mut.ensures.value) in
-    sessions_set c.args.link c.self.inside.links.items _ c.receive_on.new.link here c.receive_on.ensures.run.same_session ∙ ap (λ (n : NodeValue). sessions_of n.links) c.self.view_is
+    record { same_first = ap (λ (n : NodeValue). n.first) c.self.view_is; same_sessions = sessions_set c.args.link c.self.inside.links.items _ c.receive_on.new.link here c.receive_on.ensures.run.same_session ∙ ap (λ (n : NodeValue). sessions_of n.links) c.self.view_is }
 
-pub returns-in-Err-clause-sessions : goal.returns-in-Err-clause-sessions
-returns-in-Err-clause-sessions g c =
+pub returns-in-Err-clause-kept : goal.returns-in-Err-clause-kept
+returns-in-Err-clause-kept g c =
     let within : c.args.link < length c.self.inside.links.items = omega (arith, c.requires.attached, ap (λ (n : NodeValue). length n.links) c.self.view_is) in
     let here = slice_get-get_or c.self.inside.links.items c.args.link c.index_mut.result.now within ∙ ap Some (sym c.index_mut.ensures.value) in
-    sessions_set c.args.link c.self.inside.links.items _ c.receive_on.new.link here c.receive_on.ensures.run.same_session ∙ ap (λ (n : NodeValue). sessions_of n.links) c.self.view_is
+    record { same_first = ap (λ (n : NodeValue). n.first) c.self.view_is; same_sessions = sessions_set c.args.link c.self.inside.links.items _ c.receive_on.new.link here c.receive_on.ensures.run.same_session ∙ ap (λ (n : NodeValue). sessions_of n.links) c.self.view_is }

@@ -264,32 +264,44 @@ returns-in-Err-clause-sent g c = λ opened is.
     (c.in-Err.ensures.sent c.self.inside.first (attached_as c.self.inside.first _ _ _ c.as_mut_slice.ensures.value (c.self.invariant.1.attached c.if-self.false))
     (ap (λ e. Err e) (was_full c.in-Err.fault _ c.close.ensures.fault is))))
 
-pub returns-then-self-clause-sessions : goal.returns-then-self-clause-sessions
-returns-then-self-clause-sessions g c = refl
+pub returns-then-self-clause-kept : goal.returns-then-self-clause-kept
+returns-then-self-clause-kept g c = record { same_first = refl; same_sessions = refl }
 
-pub returns-in-Ok-true-clause-sessions : goal.returns-in-Ok-true-clause-sessions
-returns-in-Ok-true-clause-sessions g c =
-    sessions_as c.self.inside.links.items _ c.turn_all.new.links _ c.as_mut_slice.ensures.value
-    (kept_same c.self.inside.links.len c.self.inside.links.items c.turn_all.new.links
-    (omega (arith, c.as_mut_slice.ensures.len, ap (λ (ls : List Link). length ls) c.as_mut_slice.ensures.value))
-    (omega (arith, c.turn_all.auto.links, ap (λ (ls : List Link). length ls) c.as_mut_slice.ensures.value)))
-    c.turn_all.ensures.sessions
-    ∙ ap (λ (n : NodeValue). sessions_of n.links) c.self.view_is
+pub returns-in-Ok-true-clause-kept : goal.returns-in-Ok-true-clause-kept
+returns-in-Ok-true-clause-kept g c =
+    record {
+      same_first = ap (λ (n : NodeValue). n.first) c.self.view_is;
+      same_sessions =
+      sessions_as c.self.inside.links.items _ c.turn_all.new.links _ c.as_mut_slice.ensures.value
+          (kept_same c.self.inside.links.len c.self.inside.links.items c.turn_all.new.links
+          (omega (arith, c.as_mut_slice.ensures.len, ap (λ (ls : List Link). length ls) c.as_mut_slice.ensures.value))
+          (omega (arith, c.turn_all.auto.links, ap (λ (ls : List Link). length ls) c.as_mut_slice.ensures.value)))
+          c.turn_all.ensures.sessions
+          ∙ ap (λ (n : NodeValue). sessions_of n.links) c.self.view_is;
+    }
 
-pub returns-in-Ok-false-clause-sessions : goal.returns-in-Ok-false-clause-sessions
-returns-in-Ok-false-clause-sessions g c =
-    sessions_as c.self.inside.links.items _ c.turn_all.new.links _ c.as_mut_slice.ensures.value
-    (kept_same c.self.inside.links.len c.self.inside.links.items c.turn_all.new.links
-    (omega (arith, c.as_mut_slice.ensures.len, ap (λ (ls : List Link). length ls) c.as_mut_slice.ensures.value))
-    (omega (arith, c.turn_all.auto.links, ap (λ (ls : List Link). length ls) c.as_mut_slice.ensures.value)))
-    c.turn_all.ensures.sessions
-    ∙ ap (λ (n : NodeValue). sessions_of n.links) c.self.view_is
+pub returns-in-Ok-false-clause-kept : goal.returns-in-Ok-false-clause-kept
+returns-in-Ok-false-clause-kept g c =
+    record {
+      same_first = ap (λ (n : NodeValue). n.first) c.self.view_is;
+      same_sessions =
+      sessions_as c.self.inside.links.items _ c.turn_all.new.links _ c.as_mut_slice.ensures.value
+          (kept_same c.self.inside.links.len c.self.inside.links.items c.turn_all.new.links
+          (omega (arith, c.as_mut_slice.ensures.len, ap (λ (ls : List Link). length ls) c.as_mut_slice.ensures.value))
+          (omega (arith, c.turn_all.auto.links, ap (λ (ls : List Link). length ls) c.as_mut_slice.ensures.value)))
+          c.turn_all.ensures.sessions
+          ∙ ap (λ (n : NodeValue). sessions_of n.links) c.self.view_is;
+    }
 
-pub returns-in-Err-clause-sessions : goal.returns-in-Err-clause-sessions
-returns-in-Err-clause-sessions g c =
-    sessions_as c.self.inside.links.items _ c.turn_all.new.links _ c.as_mut_slice.ensures.value
-    (kept_same c.self.inside.links.len c.self.inside.links.items c.turn_all.new.links
-    (omega (arith, c.as_mut_slice.ensures.len, ap (λ (ls : List Link). length ls) c.as_mut_slice.ensures.value))
-    (omega (arith, c.turn_all.auto.links, ap (λ (ls : List Link). length ls) c.as_mut_slice.ensures.value)))
-    c.turn_all.ensures.sessions
-    ∙ ap (λ (n : NodeValue). sessions_of n.links) c.self.view_is
+pub returns-in-Err-clause-kept : goal.returns-in-Err-clause-kept
+returns-in-Err-clause-kept g c =
+    record {
+      same_first = ap (λ (n : NodeValue). n.first) c.self.view_is;
+      same_sessions =
+      sessions_as c.self.inside.links.items _ c.turn_all.new.links _ c.as_mut_slice.ensures.value
+          (kept_same c.self.inside.links.len c.self.inside.links.items c.turn_all.new.links
+          (omega (arith, c.as_mut_slice.ensures.len, ap (λ (ls : List Link). length ls) c.as_mut_slice.ensures.value))
+          (omega (arith, c.turn_all.auto.links, ap (λ (ls : List Link). length ls) c.as_mut_slice.ensures.value)))
+          c.turn_all.ensures.sessions
+          ∙ ap (λ (n : NodeValue). sessions_of n.links) c.self.view_is;
+    }
