@@ -48,6 +48,7 @@ use Rattle.sync_course.specs.ToldLaws.{runs_then}
 use Rattle.sync_node.specs.Fulls.{IsOver, LinkFull, NextFull, StopsFull, TakesFull}
 use Rattle.sync_node.specs.Courses.{Adds, AddsSettling, AddsSome, AddsSomeSettling, FitsWith, IsTaking, LinkBreaks, LinkHalts, LinkRuns, NextAsCourse, NextStops, PieceAsCourse, PieceTaken, ReadsAs, StopsAsCourse, TakesAsCourse, link_at, spot_at}
 use Rattle.sync_node.specs.CourseLaws.{told_as}
+use Rattle.sync_node.proofs.CommitLaws.{settling_front}
 
 -- a call was broken off before anything was done
 breaks_none : (clients : Meaning) (n session : ℕ) (p : Spot) (s : StoreValue) (o : Outside)
@@ -98,17 +99,12 @@ module _ (clients : Meaning) (batch : List Entry) (s : StoreValue) (o o' : Outsi
       let one : batch ∷ [] ≡ x ∷ others = parts in
       let is : x ≡ batch = cc in
       inr (subst (λ (y : List Entry). ReadsWith (y ∷ [])) is reads)
-  by_front (x ∷ y ∷ ys) others parts reads =
+  by_front (x ∷ (y ∷ ys)) others parts reads =
       let two : batch ∷ [] ≡ x ∷ (y ∷ (ys ++ others)) = parts in
       cc
 
   pub none_or_one : AddsSome clients (batch ∷ []) s o o' → ReadsWith [] ⊎ ReadsWith (batch ∷ [])
   none_or_one adds = by_front adds.stood.front adds.stood.others adds.stood.parts adds.stood.reads
-
-settling_start : (clients : Meaning) (f : Facts) (bs cs : List (List Entry))
-    → AllSettling clients f (bs ++ cs) → AllSettling clients f bs
-settling_start clients f [] cs settling = tt
-settling_start clients f (b ∷ bs) cs settling = (settling.0, settling_start clients (after_all f b) bs cs settling.1)
 
 -- ---- a record that is taken
 
@@ -189,7 +185,7 @@ stops_at_settle clients session r s mid o m o' batch is allowed facts_are adds s
       (λ j fit. subst (λ (x : List Entry). FitsWith clients mid m.files (j ++ x ∷ [])) is_b (adds.grows j fit)) in
       let front : List (List Entry) = settles.adds.stood.front in
       let settling : AllSettling clients q.facts front =
-      settling_start clients q.facts front settles.adds.stood.others
+      settling_front clients q.facts front settles.adds.stood.others
       (subst (λ (bs : List (List Entry)). AllSettling clients q.facts bs) settles.adds.stood.parts
       (subst (λ f. AllSettling clients f settles.more) (sym q_facts) settles.settling)) in
       let to : Spot = record q { facts = after_batches q.facts front } in

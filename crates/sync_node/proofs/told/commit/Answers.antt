@@ -94,13 +94,13 @@ returns-in-Err-Full-clause-as_before g c = λ is.
     same_commit _ _ _ _ _ c.args.batch store_fault.Full c.requires.ready c.in-Err-Full.ensures.run (answer.2.closed ∙ c.requires.ready.still_open) answer.2.facts (c.in-Err-Full.ensures.extends c.requires.ready.still_open)
 
 pub returns-in-Err-Full-clause-undone : goal.returns-in-Err-Full-clause-undone
-returns-in-Err-Full-clause-undone g c = record {
-  stays = (rw c.in-Err-Full.field-0-is at c.in-Err-Full.ensures.answer).2;
-  same_host = rw c.in-Err-Full.field-0-is at c.in-Err-Full.ensures.unasked;
-}
+returns-in-Err-Full-clause-undone g c =
+    let answer = rw c.in-Err-Full.field-0-is at c.in-Err-Full.ensures.answer in
+    let unasked = rw c.in-Err-Full.field-0-is at c.in-Err-Full.ensures.unasked in
+    record { stays = answer.2; same_host = unasked }
 
 pub returns-in-Err-Memory-clause-undone : goal.returns-in-Err-Memory-clause-undone
-returns-in-Err-Memory-clause-undone g c = record {
-  stays = (rw c.in-Err-Memory.field-0-is at c.in-Err-Memory.ensures.answer).2;
-  same_host = rw c.in-Err-Memory.field-0-is at c.in-Err-Memory.ensures.unasked;
-}
+returns-in-Err-Memory-clause-undone g c =
+    let answer = rw c.in-Err-Memory.field-0-is at c.in-Err-Memory.ensures.answer in
+    let unasked = rw c.in-Err-Memory.field-0-is at c.in-Err-Memory.ensures.unasked in
+    record { stays = answer.2; same_host = unasked }
