@@ -38,10 +38,13 @@ use Rattle.sync_store.proofs.Steps.{numbers_stay}
 -- ---- numbers
 
 grown_numbers : CitedLaws → (clients : Meaning) (f : Facts) (batch : List Entry) (end later : ℕ) → Allowed clients f batch → HasNumbers f end → end + 1 ≤ later → HasNumbers (after_all f batch) later
-grown_numbers laws clients f batch end later allowed numbers far = record {
-  few = omega (arith, laws.add_one clients f batch allowed, numbers.few);
-  records = λ session. omega (arith, laws.take_one clients f batch session allowed, numbers.records session);
-}
+grown_numbers laws clients f batch end later allowed numbers far =
+    let added = laws.add_one clients f batch allowed in
+    record {
+      held = omega (arith, added.0, numbers.held);
+      begun = omega (arith, added.1, numbers.begun);
+      records = λ session. omega (arith, laws.take_one clients f batch session allowed, numbers.records session);
+    }
 
 -- the numbers of a store that gained a batch
 pub grown_store : CitedLaws → (clients : Meaning) (s new : StoreValue) (batch : List Entry) (framed : List ℕ) → IsStore s → MayAdd clients s batch framed → Gains s new batch → IsStore new
@@ -135,11 +138,12 @@ filled_less clients s facts es framed f =
     let same : left_of facts ≡ left_of (after_all s.state.facts es) = ap left_of f.facts_are in
     omega (arith, fewer, same, f.some)
 
--- a store after the steps, with its file, format and limit as before
+-- a store after the steps, with its file, format, generation and limit as before
 pub record Came (s new : StoreValue) (facts : Facts) : Type 0 where
   pub facts_are : new.state.facts ≡ facts
   pub file : new.file ≡ s.file
   pub format : new.format ≡ s.format
+  pub generation : new.generation ≡ s.generation
   pub limit : new.limit ≡ s.limit
 
 -- ---- the frame was written
@@ -150,6 +154,7 @@ filled_gains clients s new facts es framed f came end closed = record {
   facts = came.facts_are ∙ f.facts_are;
   file = came.file;
   format = came.format;
+  generation = came.generation;
   end = omega (arith, end, length_by es framed f.framed_is);
   limit = came.limit;
   closed = closed;
@@ -163,6 +168,7 @@ filled_ok stand clients s new facts es framed o o' f came end closed passed beco
   facts = came.facts_are ∙ f.facts_are;
   file = came.file;
   format = came.format;
+  generation = came.generation;
   limit = came.limit;
   end = λ still. omega (arith, end, length_by es framed f.framed_is, f.long);
   leads = λ two told j fits.
@@ -182,6 +188,7 @@ filled_err stand clients s new facts es framed e o o' f came is closed passed = 
     facts = came.facts_are ∙ f.facts_are;
     file = came.file;
     format = came.format;
+    generation = came.generation;
     limit = came.limit;
     end = λ still. true≢false new.closed closed still;
     leads = λ two told j fits.

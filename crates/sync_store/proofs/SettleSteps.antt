@@ -20,6 +20,7 @@ use Rattle.sync_store.specs.declared.fault.StoreFault.TheVariants as fault
 use Rattle.sync_store.specs.Store.{StoreValue, IsStore}
 use Rattle.sync_store.specs.Fitting.{Fits, FitsSome}
 use Rattle.sync_store.specs.Moments.{JournalMoment, Leads, WithAtMost, journal_with, Adds, IsBetween}
+use Rattle.sync_store.specs.Runs.{LeadsBy}
 use Rattle.sync_store.specs.Settling.{AreFilled, BatchSo, ComesBy, HasSettled, IsFullBatch, IsOneBatch, MakesBatch, SettlesSo, settling_len}
 use Rattle.sync_store.proofs.FitSteps.{IsSame, leads_none, true≢false}
 use Rattle.sync_store.proofs.Steps.{all-append, batches_lower, filled_push, steps_in-append}
@@ -64,6 +65,7 @@ comes_none stand clients s new o store same limit = record {
   facts = same.facts;
   file = same.file;
   format = same.format;
+  generation = same.generation;
   limit = limit;
   end = λ still. omega (arith, same.end);
   leads = λ two told j fits.
@@ -92,6 +94,36 @@ leads_one_closed clients j batch new e o o' adds closed = record {
 settling_len-append : (xs ys : List (List Entry)) → settling_len (xs ++ ys) ≡ settling_len xs + settling_len ys
 settling_len-append xs ys = omega (arith, steps_in-append xs ys, length-append xs ys)
 
+-- the moments and the end of one run behind another
+pub leads_then : (clients : Meaning) (s0 s1 s2 : StoreValue) (o0 o1 o2 : Outside) (xs ys : List (List Entry)) → s1.closed ≡ false → DiskRun o0 o1
+    → LeadsBy clients s0 s1 o0 o1 xs → LeadsBy clients s1 s2 o1 o2 ys → LeadsBy clients s0 s2 o0 o2 (xs ++ ys)
+leads_then clients s0 s1 s2 o0 o1 o2 xs ys still run first second two told j fits =
+    let begun = first two told j fits in
+    let there = told_on o0 o1 two run.same_told told in
+    let mid = begun.ends still there.0 there.1 in
+    let later = second there.0 there.1 (j ++ xs) (subst (λ (k : List (List Entry)). Fits clients s1 k there.0) mid.1 mid.2) in
+    let same : sent_of o1.links.told ≡ sent_of o0.links.told = ap (λ (l : Links). sent_of l.told) run.same_links in
+    let sent0 = sent_of o0.links.told in
+    record {
+      moments =
+          moments_then o0 o1 o2 (JournalMoment clients (IsBetween j (xs ++ ys)) sent0)
+          (moments_map o0 o1 (JournalMoment clients (IsBetween j xs) sent0) (JournalMoment clients (IsBetween j (xs ++ ys)) sent0)
+          (λ m moment. record {
+            whole = moment.whole;
+            has = between_first j xs ys moment.whole moment.has;
+            stands_for = moment.stands_for;
+            nothing_sent = moment.nothing_sent;
+          }) begun.moments)
+          (moments_map o1 o2 (JournalMoment clients (IsBetween (j ++ xs) ys) (sent_of o1.links.told)) (JournalMoment clients (IsBetween j (xs ++ ys)) sent0)
+          (λ m moment. record {
+            whole = moment.whole;
+            has = between_then j xs ys moment.whole moment.has;
+            stands_for = moment.stands_for;
+            nothing_sent = moment.nothing_sent ∙ same;
+          }) later.moments);
+      ends = λ open' two' told'. let end = later.ends open' two' told' in (end.0, end.1 ∙ append_assoc j xs ys, end.2);
+    }
+
 pub comes_then : (clients : Meaning) (s0 s1 s2 : StoreValue) (o0 o1 o2 : Outside) (xs ys : List (List Entry)) → ComesBy clients s0 s1 o0 o1 xs → s1.closed ≡ false → DiskRun o0 o1
     → ComesBy clients s1 s2 o1 o2 ys → ComesBy clients s0 s2 o0 o2 (xs ++ ys)
 comes_then clients s0 s1 s2 o0 o1 o2 xs ys first still run second =
@@ -101,34 +133,10 @@ comes_then clients s0 s1 s2 o0 o1 o2 xs ys first still run second =
       facts = second.facts ∙ ap (λ (g : Facts). after_batches g ys) first.facts ∙ sym (after_batches-append f xs ys);
       file = second.file ∙ first.file;
       format = second.format ∙ first.format;
+      generation = second.generation ∙ first.generation;
       limit = second.limit ∙ first.limit;
       end = λ open'. omega (arith, first.end still, second.end open', settling_len-append xs ys);
-      leads = λ two told j fits.
-          let begun = first.leads two told j fits in
-          let there = told_on o0 o1 two run.same_told told in
-          let mid = begun.ends still there.0 there.1 in
-          let later = second.leads there.0 there.1 (j ++ xs) (subst (λ (k : List (List Entry)). Fits clients s1 k there.0) mid.1 mid.2) in
-          let same : sent_of o1.links.told ≡ sent_of o0.links.told = ap (λ (l : Links). sent_of l.told) run.same_links in
-          let sent0 = sent_of o0.links.told in
-          record {
-            moments =
-                moments_then o0 o1 o2 (JournalMoment clients (IsBetween j (xs ++ ys)) sent0)
-                (moments_map o0 o1 (JournalMoment clients (IsBetween j xs) sent0) (JournalMoment clients (IsBetween j (xs ++ ys)) sent0)
-                (λ m moment. record {
-                  whole = moment.whole;
-                  has = between_first j xs ys moment.whole moment.has;
-                  stands_for = moment.stands_for;
-                  nothing_sent = moment.nothing_sent;
-                }) begun.moments)
-                (moments_map o1 o2 (JournalMoment clients (IsBetween (j ++ xs) ys) (sent_of o1.links.told)) (JournalMoment clients (IsBetween j (xs ++ ys)) sent0)
-                (λ m moment. record {
-                  whole = moment.whole;
-                  has = between_then j xs ys moment.whole moment.has;
-                  stands_for = moment.stands_for;
-                  nothing_sent = moment.nothing_sent ∙ same;
-                }) later.moments);
-            ends = λ open' two' told'. let end = later.ends open' two' told' in (end.0, end.1 ∙ append_assoc j xs ys, end.2);
-          };
+      leads = leads_then clients s0 s1 s2 o0 o1 o2 xs ys still run first.leads second.leads;
     }
 
 -- at the end the disk fits the store
@@ -163,7 +171,7 @@ pub record SettlesOn (clients : Meaning) (s new : StoreValue) (o o' : Outside) :
 pub settles_begun : JournalsStand → (clients : Meaning) (s : StoreValue) (o : Outside) → IsStore s → SettlesOn clients s s o o
 settles_begun stand clients s o store = record {
   more = [];
-  comes = comes_none stand clients s s o store (record { facts = refl; file = refl; format = refl; end = refl }) refl;
+  comes = comes_none stand clients s s o store (record { facts = refl; file = refl; format = refl; generation = refl; end = refl }) refl;
   filled = tt;
   each = inl tt;
   run = run_none o;

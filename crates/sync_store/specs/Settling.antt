@@ -61,6 +61,7 @@ pub record ComesBy (clients : Meaning) (old new : StoreValue) (o o' : Outside) (
   pub facts : new.state.facts ≡ after_batches old.state.facts more
   pub file : new.file ≡ old.file
   pub format : new.format ≡ old.format
+  pub generation : new.generation ≡ old.generation
   pub limit : new.limit ≡ old.limit
   pub end : new.closed ≡ false → new.end ≡ old.end + settling_len more
   pub leads : (two : Two File) → o.files ≡ Some two → (j : List (List Entry)) → Fits clients old j two

@@ -28,7 +28,7 @@ returns-in_err-filled-clause-made g c =
     subst (λ (r : Result (Unit {0}) StoreFault). MakesBatch clients c.args.self.now new r o o) (sym (err_is c.from_residual.result fault.Memory c.from_residual.ensures.1))
     (subst (λ (v : StoreValue). MakesBatch clients v new (Err fault.Memory) o o) c.self.view_is
     (made_none clients s new fault.Memory o o
-    (comes_none c.cite_laws.ensures.stand clients s new o c.self.invariant (record { facts = facts; file = refl; format = refl; end = refl }) refl) refl still))
+    (comes_none c.cite_laws.ensures.stand clients s new o c.self.invariant (record { facts = facts; file = refl; format = refl; generation = refl; end = refl }) refl) refl still))
 
 pub frame_steps-requires-clause-steps : goal.frame_steps-requires-clause-steps
 frame_steps-requires-clause-steps g c =
@@ -92,6 +92,7 @@ returns-in_err-write-clause-made g c =
       facts_are = ap (λ (v : StoreValue). v.state.facts) failed.1;
       file = ap (λ (v : StoreValue). v.file) failed.1;
       format = ap (λ (v : StoreValue). v.format) failed.1;
+      generation = ap (λ (v : StoreValue). v.generation) failed.1;
       limit = ap (λ (v : StoreValue). v.limit) failed.1;
     } in
     let o = g.D.Disk.tells c.args.disk.now in
@@ -115,6 +116,7 @@ returns-in_err-filled-2-clause-made g c =
       facts_are = ap (λ (v : StoreValue). v.state.facts) c.in_ok-write.ensures.ok;
       file = ap (λ (v : StoreValue). v.file) c.in_ok-write.ensures.ok;
       format = ap (λ (v : StoreValue). v.format) c.in_ok-write.ensures.ok;
+      generation = ap (λ (v : StoreValue). v.generation) c.in_ok-write.ensures.ok;
       limit = ap (λ (v : StoreValue). v.limit) c.in_ok-write.ensures.ok;
     } in
     let end = ap (λ (v : StoreValue). v.end) c.in_ok-write.ensures.ok in
@@ -141,6 +143,7 @@ returns-clause-made g c =
       facts_are = ap (λ (v : StoreValue). v.state.facts) c.in_ok-write.ensures.ok;
       file = ap (λ (v : StoreValue). v.file) c.in_ok-write.ensures.ok;
       format = ap (λ (v : StoreValue). v.format) c.in_ok-write.ensures.ok;
+      generation = ap (λ (v : StoreValue). v.generation) c.in_ok-write.ensures.ok;
       limit = ap (λ (v : StoreValue). v.limit) c.in_ok-write.ensures.ok;
     } in
     let end = ap (λ (v : StoreValue). v.end) c.in_ok-write.ensures.ok in
