@@ -1,5 +1,6 @@
 -- Runs of a store's calls, one behind the other: for whoever calls a store more than once.
 use Rattle.std.proofs.Common.{◌≡◌, ◌≢◌, ℕ, ◌+◌, ◌<◌, ◌≤◌, true, false, List, [], ◌∷◌, ◌++◌, Some, Result, Ok, Err, refl, sym, ap, ◌∙◌, subst, append-nil, append_assoc, arith}
+use Rattle.std.specs.Prelude.{IsErrOf}
 use Rattle.outside.specs.Files.{Two, File}
 use Rattle.outside.specs.Links.{Links, sent_of}
 use Rattle.outside.specs.Outside.{Outside, DiskRun}
@@ -196,3 +197,30 @@ extends_settled clients s mid new batch u result o o1 o2 allowed commits run add
   adds = (refl, subst (λ (f : Facts). AllSettling clients f has.more) commits.2.facts has.comes.settling, has.filled);
   answer = settled_so clients s new batch has.more result commits.1 has.answer;
 }
+
+-- a store that was closed answers so, and does nothing
+pub closed_failed : {D : Type 0} (s new : StoreValue) (batch : List Entry) (e : StoreFault) (d d' : D) → s.closed ≡ true → Commits s new batch (Err e) → Unasked (Err e) d d'
+    → (e ≡ fault.Closed) × Stays s new × (d' ≡ d)
+closed_failed s new batch fault.Closed d d' closed commits unasked = (refl, commits.1, unasked)
+closed_failed s new batch fault.Full d d' closed commits unasked = true≢false s.closed closed commits.0
+closed_failed s new batch fault.Memory d d' closed commits unasked = true≢false s.closed closed commits.0
+closed_failed s new batch fault.DiskFault d d' closed commits unasked = true≢false s.closed closed commits.0
+
+-- a store that is full made no call on the disk
+pub full_unasked : {D : Type 0} (e : StoreFault) (d d' : D) → e ≡ fault.Full → Unasked (Err e) d d' → d' ≡ d
+full_unasked fault.Full d d' is unasked = unasked
+full_unasked fault.Closed d d' is unasked = unasked
+full_unasked fault.Memory d d' is unasked = unasked
+full_unasked fault.DiskFault d d' is unasked = cc
+
+-- settling is never full
+pub settled_full : (clients : Meaning) (s new : StoreValue) (result : Result (Unit {0}) StoreFault) (o o' : Outside) → HasSettled clients s new result o o' → IsErrOf result fault.Full → ⊥
+settled_full clients s new (Ok u) o o' has full = cc
+settled_full clients s new (Err fault.Full) o o' has full = has.answer
+settled_full clients s new (Err fault.Closed) o o' has full = has.answer
+settled_full clients s new (Err fault.Memory) o o' has full = cc
+settled_full clients s new (Err fault.DiskFault) o o' has full = cc
+
+-- an error that is this one
+pub full_is : (r : Result (Unit {0}) StoreFault) (e : StoreFault) → r ≡ Err e → IsErrOf r fault.Full → e ≡ fault.Full
+full_is r e same is = cc
