@@ -1,8 +1,8 @@
 -- How many calls of a disk a run makes, one call or one run more at a time.
-use Rattle.std.proofs.Common.{◌≡◌, ℕ, zero, suc, ◌+◌, ◌≤◌, refl, sym, ap, ◌∙◌, arith, add-zero}
+use Rattle.std.proofs.Common.{◌≡◌, ℕ, zero, suc, ◌+◌, ◌≤◌, Result, Ok, Err, refl, sym, ap, ◌∙◌, arith, add-zero}
 use Rattle.outside.specs.Faults.{one_more}
 use Rattle.outside.specs.Calls.{Calls, OneCall, NoCall, more_calls}
-use Rattle.outside.specs.Outside.{Outside, Moment, DiskCall, LinkCall, MakesJust, MakesAtMost}
+use Rattle.outside.specs.Outside.{Outside, Moment, DiskCall, LinkCall, MakesJust, MakesAtMost, MakesCalls}
 use Rattle.outside.specs.Steps.{becomes_none, becomes_map, becomes_then}
 
 -- ---- just so many
@@ -81,3 +81,24 @@ most_more m n o o' fewer most = record {
       becomes_map (λ (a b : Calls). b.made ≤ a.made + m) (λ (a b : Calls). b.made ≤ a.made + n) o.calls o'.calls
       (λ a b within. omega (arith, within, fewer)) most.made;
 }
+
+-- ---- a few calls, and one function behind another
+
+pub once : (o o' : Outside) → DiskCall o o' → MakesJust 1 o o'
+once o o' call = just_call 0 o o o' (just_none o) call
+
+pub twice : (o0 o1 o2 : Outside) → DiskCall o0 o1 → DiskCall o1 o2 → MakesJust 2 o0 o2
+twice o0 o1 o2 first second = just_call 1 o0 o1 o2 (once o0 o1 first) second
+
+pub thrice : (o0 o1 o2 o3 : Outside) → DiskCall o0 o1 → DiskCall o1 o2 → DiskCall o2 o3 → MakesJust 3 o0 o3
+thrice o0 o1 o2 o3 first second third = just_call 2 o0 o2 o3 (twice o0 o1 o2 first second) third
+
+pub within : (m n : ℕ) (o o' : Outside) → m ≤ n → MakesJust m o o' → MakesAtMost n o o'
+within m n o o' fewer just = most_more m n o o' fewer (just_most m o o' just)
+
+pub calls_then : {T E : Type 0} (m n : ℕ) (result : Result T E) (o0 o1 o2 : Outside) → MakesJust m o0 o1 → MakesCalls n result o1 o2 → MakesCalls (m + n) result o0 o2
+calls_then m n (Ok _) o0 o1 o2 first second = record {
+  just = just_then m n o0 o1 o2 first second.just;
+  most = most_then m n o0 o1 o2 (just_most m o0 o1 first) second.most;
+}
+calls_then m n (Err _) o0 o1 o2 first second = record { just = tt; most = most_then m n o0 o1 o2 (just_most m o0 o1 first) second.most }
