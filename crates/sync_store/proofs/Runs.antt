@@ -3,7 +3,7 @@ use Rattle.std.proofs.Common.{◌≡◌, ◌≢◌, ℕ, ◌+◌, ◌<◌, ◌�
 use Rattle.std.specs.Prelude.{IsErrOf}
 use Rattle.outside.specs.Files.{Two, File}
 use Rattle.outside.specs.Links.{Links, sent_of}
-use Rattle.outside.specs.Outside.{Outside, DiskRun}
+use Rattle.outside.specs.Outside.{Outside, DiskRun, MakesAtMost, MakesCalls, MakesJust}
 use Rattle.outside.specs.Steps.{moments_map, moments_none, moments_then, run_none, run_then, told_back, told_on}
 use Rattle.sync_rules.specs.declared.entries.Entry.{Entry}
 use Rattle.sync_rules.specs.Clients.{Meaning}
@@ -21,7 +21,7 @@ use Rattle.sync_store.specs.Moments.{Adds, IsBetween, JournalMoment, Leads}
 use Rattle.sync_store.specs.Runs.{AddsBatch, ExtendsSo, HasExtended, LeadsBy, RunsBy, committed_by}
 use Rattle.sync_store.specs.Settling.{HasSettled, SettlesSo}
 use Rattle.sync_store.proofs.FitSteps.{IsSame, fits_same, true≢false}
-use Rattle.sync_store.proofs.SettleSteps.{leads_one, leads_one_closed, leads_then}
+use Rattle.sync_store.proofs.SettleSteps.{calls_closed, calls_none, calls_one, calls_runs, leads_one, leads_one_closed, leads_then}
 
 -- ---- none
 
@@ -61,14 +61,15 @@ runs_none images clients s new o store stays = record {
         let one : two ≡ two' = cc in
         (j, sym (append-nil j), subst (λ (t : Two File). Fits clients new j t) one (fits_same clients s new j two fits (same_store s new stays)));
   };
+  calls = calls_none new o;
 }
 
 -- ---- one commit
 
 -- a batch was committed
-runs_committed : (clients : Meaning) (s new : StoreValue) (batch : List Entry) (u : Unit {0}) (o o' : Outside) → Allowed clients s.state.facts batch → Commits s new batch (Ok u) → DiskRun o o'
+runs_committed : (clients : Meaning) (s new : StoreValue) (batch : List Entry) (u : Unit {0}) (o o' : Outside) → Allowed clients s.state.facts batch → Commits s new batch (Ok u) → DiskRun o o' → MakesJust 4 o o'
     → ((two : Two File) → o.files ≡ Some two → (j : List (List Entry)) → Fits clients s j two → Adds clients batch (Ok u) new o o' j) → RunsBy clients s new o o' (batch ∷ [])
-runs_committed clients s new batch u o o' allowed commits run adds = record {
+runs_committed clients s new batch u o o' allowed commits run made adds = record {
   goes_on = (allowed, tt);
   facts = λ still. commits.2.facts;
   file = commits.2.file;
@@ -77,12 +78,13 @@ runs_committed clients s new batch u o o' allowed commits run adds = record {
   limit = commits.2.limit;
   run = run;
   leads = λ two told j fits. leads_one clients j batch new u o o' (adds two told j fits);
+  calls = calls_one new o o' made;
 }
 
 -- the disk failed
-runs_broken : (clients : Meaning) (s new : StoreValue) (batch : List Entry) (o o' : Outside) → Allowed clients s.state.facts batch → Commits s new batch (Err fault.DiskFault) → DiskRun o o'
+runs_broken : (clients : Meaning) (s new : StoreValue) (batch : List Entry) (o o' : Outside) → Allowed clients s.state.facts batch → Commits s new batch (Err fault.DiskFault) → DiskRun o o' → MakesAtMost 4 o o'
     → ((two : Two File) → o.files ≡ Some two → (j : List (List Entry)) → Fits clients s j two → Adds clients batch (Err fault.DiskFault) new o o' j) → RunsBy clients s new o o' (batch ∷ [])
-runs_broken clients s new batch o o' allowed commits run adds = record {
+runs_broken clients s new batch o o' allowed commits run made adds = record {
   goes_on = (allowed, tt);
   facts = λ still. true≢false new.closed commits.2.closed still;
   file = commits.2.file;
@@ -91,21 +93,22 @@ runs_broken clients s new batch o o' allowed commits run adds = record {
   limit = commits.2.limit;
   run = run;
   leads = λ two told j fits. leads_one_closed clients j batch new fault.DiskFault o o' (adds two told j fits) commits.2.closed;
+  calls = calls_closed new o o' commits.2.closed made;
 }
 
 -- A commit, whatever it answered: `tells` says what a disk tells, `d` and `d'` are the disk before and after.
 pub runs_commit : ImagesStand → (clients : Meaning) (s new : StoreValue) (batch : List Entry) (result : Result (Unit {0}) StoreFault) (D : Type 0) (tells : D → Outside) (d d' : D) → IsStore new
-    → s.closed ≡ false → Allowed clients s.state.facts batch → Commits s new batch result → Unasked result d d' → DiskRun (tells d) (tells d')
+    → s.closed ≡ false → Allowed clients s.state.facts batch → Commits s new batch result → Unasked result d d' → DiskRun (tells d) (tells d') → MakesCalls 4 result (tells d) (tells d')
     → ((two : Two File) → (tells d).files ≡ Some two → (j : List (List Entry)) → Fits clients s j two → Adds clients batch result new (tells d) (tells d') j)
     → RunsBy clients s new (tells d) (tells d') (committed_by batch result)
-runs_commit images clients s new batch (Ok u) D tells d d' store opened allowed commits unasked run adds =
-    runs_committed clients s new batch u (tells d) (tells d') allowed commits run adds
-runs_commit images clients s new batch (Err fault.DiskFault) D tells d d' store opened allowed commits unasked run adds =
-    runs_broken clients s new batch (tells d) (tells d') allowed commits run adds
-runs_commit images clients s new batch (Err fault.Closed) D tells d d' store opened allowed commits unasked run adds = true≢false s.closed commits.0 opened
-runs_commit images clients s new batch (Err fault.Full) D tells d d' store opened allowed commits unasked run adds =
+runs_commit images clients s new batch (Ok u) D tells d d' store opened allowed commits unasked run made adds =
+    runs_committed clients s new batch u (tells d) (tells d') allowed commits run made.just adds
+runs_commit images clients s new batch (Err fault.DiskFault) D tells d d' store opened allowed commits unasked run made adds =
+    runs_broken clients s new batch (tells d) (tells d') allowed commits run made.most adds
+runs_commit images clients s new batch (Err fault.Closed) D tells d d' store opened allowed commits unasked run made adds = true≢false s.closed commits.0 opened
+runs_commit images clients s new batch (Err fault.Full) D tells d d' store opened allowed commits unasked run made adds =
     subst (λ (x : D). RunsBy clients s new (tells d) (tells x) []) (sym unasked) (runs_none images clients s new (tells d) (store_back s new commits.2 store) commits.2)
-runs_commit images clients s new batch (Err fault.Memory) D tells d d' store opened allowed commits unasked run adds =
+runs_commit images clients s new batch (Err fault.Memory) D tells d d' store opened allowed commits unasked run made adds =
     subst (λ (x : D). RunsBy clients s new (tells d) (tells x) []) (sym unasked) (runs_none images clients s new (tells d) (store_back s new commits.2 store) commits.2)
 
 -- ---- one settling
@@ -121,6 +124,7 @@ runs_settled clients s new result o o' has run = record {
   limit = has.comes.limit;
   run = run;
   leads = has.comes.leads;
+  calls = has.comes.calls;
 }
 
 -- ---- one run behind another
@@ -138,6 +142,7 @@ runs_then clients s0 s1 s2 o0 o1 o2 xs ys still first second =
       limit = second.limit ∙ first.limit;
       run = run_then o0 o1 o2 first.run second.run;
       leads = leads_then clients s0 s1 s2 o0 o1 o2 xs ys still first.run first.leads second.leads;
+      calls = calls_runs s1 s2 o0 o1 o2 xs ys still first.calls second.calls;
     }
 
 -- at the end the disk fits the store
@@ -166,12 +171,12 @@ failed_so clients s new batch fault.DiskFault opened commits = (commits.2.closed
 
 -- the batch was not committed
 pub extends_failed : ImagesStand → (clients : Meaning) (s new : StoreValue) (batch : List Entry) (e : StoreFault) (D : Type 0) (tells : D → Outside) (d d' : D) → IsStore new
-    → s.closed ≡ false → Allowed clients s.state.facts batch → Commits s new batch (Err e) → Unasked (Err e) d d' → DiskRun (tells d) (tells d')
+    → s.closed ≡ false → Allowed clients s.state.facts batch → Commits s new batch (Err e) → Unasked (Err e) d d' → DiskRun (tells d) (tells d') → MakesAtMost 4 (tells d) (tells d')
     → ((two : Two File) → (tells d).files ≡ Some two → (j : List (List Entry)) → Fits clients s j two → Adds clients batch (Err e) new (tells d) (tells d') j)
     → HasExtended clients s new batch (Err e) (tells d) (tells d')
-extends_failed images clients s new batch e D tells d d' store opened allowed commits unasked run adds = record {
+extends_failed images clients s new batch e D tells d d' store opened allowed commits unasked run made adds = record {
   more = committed_by batch (Err e);
-  runs = runs_commit images clients s new batch (Err e) D tells d d' store opened allowed commits unasked run adds;
+  runs = runs_commit images clients s new batch (Err e) D tells d d' store opened allowed commits unasked run (record { just = tt; most = made }) adds;
   adds = adds_by clients s.state.facts batch e;
   answer = failed_so clients s new batch e opened commits;
 }
@@ -186,13 +191,13 @@ settled_so clients s new batch rest (Err fault.DiskFault) roomy so = (so, roomy)
 
 -- the batch was committed, and the store settled as far as its answer says
 pub extends_settled : (clients : Meaning) (s mid new : StoreValue) (batch : List Entry) (u : Unit {0}) (result : Result (Unit {0}) StoreFault) (o o1 o2 : Outside) → Allowed clients s.state.facts batch
-    → Commits s mid batch (Ok u) → DiskRun o o1
+    → Commits s mid batch (Ok u) → DiskRun o o1 → MakesJust 4 o o1
     → ((two : Two File) → o.files ≡ Some two → (j : List (List Entry)) → Fits clients s j two → Adds clients batch (Ok u) mid o o1 j)
     → HasSettled clients mid new result o1 o2 → DiskRun o1 o2 → HasExtended clients s new batch result o o2
-extends_settled clients s mid new batch u result o o1 o2 allowed commits run adds has run' = record {
+extends_settled clients s mid new batch u result o o1 o2 allowed commits run made adds has run' = record {
   more = batch ∷ has.more;
   runs =
-      runs_then clients s mid new o o1 o2 (batch ∷ []) has.more commits.2.closed (runs_committed clients s mid batch u o o1 allowed commits run adds)
+      runs_then clients s mid new o o1 o2 (batch ∷ []) has.more commits.2.closed (runs_committed clients s mid batch u o o1 allowed commits run made adds)
       (runs_settled clients mid new result o1 o2 has run');
   adds = (refl, subst (λ (f : Facts). AllSettling clients f has.more) commits.2.facts has.comes.settling, has.filled);
   answer = settled_so clients s new batch has.more result commits.1 has.answer;

@@ -1,10 +1,11 @@
 -- Settling, one batch after another.
-use Rattle.std.proofs.Common.{◌≡◌, ◌+◌, true, false, List, [], ◌∷◌, ◌++◌, Some, Result, Ok, Err, refl, sym, ap, ◌∙◌, subst, inl, inr, arith, append-nil, append_assoc, length-append}
+use Rattle.std.proofs.Common.{◌≡◌, ℕ, ◌+◌, ◌*◌, length, true, false, List, [], ◌∷◌, ◌++◌, Some, Result, Ok, Err, refl, sym, ap, ◌∙◌, subst, inl, inr, arith, append-nil, append_assoc, length-append}
 use Rattle.std.specs.List.{AllByRecursion}
 use Rattle.outside.specs.Files.{Two, File}
 use Rattle.outside.specs.Links.{Links, sent_of}
-use Rattle.outside.specs.Outside.{Outside, DiskRun}
+use Rattle.outside.specs.Outside.{Outside, DiskRun, MakesAtMost, MakesJust}
 use Rattle.outside.specs.Steps.{moments_map, moments_then, run_none, run_then, told_back, told_on}
+use Rattle.outside.proofs.CallCounts.{just_most, just_none, just_then, most_none, most_then}
 use Rattle.sync_rules.specs.declared.entries.Entry.{Entry}
 use Rattle.sync_rules.specs.Clients.{Meaning}
 use Rattle.sync_rules.specs.Facts.{Facts, after_batches}
@@ -19,7 +20,7 @@ use Rattle.sync_store.specs.declared.fault.StoreFault.{StoreFault}
 use Rattle.sync_store.specs.declared.fault.StoreFault.TheVariants as fault
 use Rattle.sync_store.specs.Store.{StoreValue, IsStore}
 use Rattle.sync_store.specs.Fitting.{Fits, FitsSome}
-use Rattle.sync_store.specs.Moments.{JournalMoment, Leads, WithAtMost, journal_with, Adds, IsBetween}
+use Rattle.sync_store.specs.Moments.{CallsFor, JournalMoment, Leads, WithAtMost, journal_with, Adds, IsBetween}
 use Rattle.sync_store.specs.Runs.{LeadsBy}
 use Rattle.sync_store.specs.Settling.{AreFilled, BatchSo, ComesBy, HasSettled, IsFullBatch, IsOneBatch, MakesBatch, SettlesSo, settling_len}
 use Rattle.sync_store.proofs.FitSteps.{IsSame, leads_none, true≢false}
@@ -59,6 +60,26 @@ between_one j batch whole (inr with_it) = record { front = batch ∷ []; rest = 
 
 -- ---- no batch, and one
 
+-- the calls of no batch, of one, and of batches behind others
+pub calls_none : (s : StoreValue) (o : Outside) → CallsFor 0 s o o
+calls_none s o = record { just = λ still. just_none o; most = most_none 0 o }
+
+pub calls_one : (s : StoreValue) (o o' : Outside) → MakesJust 4 o o' → CallsFor 1 s o o'
+calls_one s o o' just = record { just = λ still. just; most = just_most 4 o o' just }
+
+-- a call failed
+pub calls_closed : (s : StoreValue) (o o' : Outside) → s.closed ≡ true → MakesAtMost 4 o o' → CallsFor 1 s o o'
+calls_closed s o o' closed most = record { just = λ still. true≢false s.closed closed still; most = most }
+
+pub calls_runs : (s1 s2 : StoreValue) (o0 o1 o2 : Outside) (xs ys : List (List Entry)) → s1.closed ≡ false → CallsFor (length xs) s1 o0 o1 → CallsFor (length ys) s2 o1 o2
+    → CallsFor (length (xs ++ ys)) s2 o0 o2
+calls_runs s1 s2 o0 o1 o2 xs ys still first second =
+    let all : 4 * length xs + 4 * length ys ≡ 4 * length (xs ++ ys) = omega (arith, length-append xs ys) in
+    record {
+      just = λ opened. subst (λ (n : ℕ). MakesJust n o0 o2) all (just_then (4 * length xs) (4 * length ys) o0 o1 o2 (first.just still) (second.just opened));
+      most = subst (λ (n : ℕ). MakesAtMost n o0 o2) all (most_then (4 * length xs) (4 * length ys) o0 o1 o2 first.most second.most);
+    }
+
 pub comes_none : JournalsStand → (clients : Meaning) (s new : StoreValue) (o : Outside) → IsStore s → IsSame s new → new.limit ≡ s.limit → ComesBy clients s new o o []
 comes_none stand clients s new o store same limit = record {
   settling = tt;
@@ -71,6 +92,7 @@ comes_none stand clients s new o store same limit = record {
   leads = λ two told j fits.
       leads_none stand clients (IsBetween j []) (λ whole. whole ≡ j ++ []) s new j two o fits store.roomy told same
       (record { front = []; rest = []; parts = refl; is = sym (append-nil j) }) (sym (append-nil j));
+  calls = calls_none new o;
 }
 
 pub leads_one : (clients : Meaning) (j : List (List Entry)) (batch : List Entry) (new : StoreValue) (u : Unit {0}) (o o' : Outside) → Adds clients batch (Ok u) new o o' j
@@ -137,6 +159,7 @@ comes_then clients s0 s1 s2 o0 o1 o2 xs ys first still run second =
       limit = second.limit ∙ first.limit;
       end = λ open'. omega (arith, first.end still, second.end open', settling_len-append xs ys);
       leads = leads_then clients s0 s1 s2 o0 o1 o2 xs ys still run first.leads second.leads;
+      calls = calls_runs s1 s2 o0 o1 o2 xs ys still first.calls second.calls;
     }
 
 -- at the end the disk fits the store

@@ -1,5 +1,5 @@
 -- A run of a store's calls, told by the one list of batches that it committed.
-use Rattle.std.specs.Prelude.{◌≡◌, ◌≢◌, ◌<◌, ◌≤◌, true, false, List, [], ◌∷◌, ◌++◌, Some, Result, Ok, Err}
+use Rattle.std.specs.Prelude.{◌≡◌, ◌≢◌, ◌<◌, ◌≤◌, true, false, List, [], ◌∷◌, ◌++◌, length, Some, Result, Ok, Err}
 use Rattle.outside.specs.Files.{Two, File}
 use Rattle.outside.specs.Outside.{Outside, DiskRun}
 use Rattle.sync_rules.specs.declared.entries.Entry.{Entry}
@@ -10,7 +10,7 @@ use Rattle.sync_rules.specs.Steps.{IsSettled}
 use Rattle.sync_store.specs.Store.{StoreValue}
 use Rattle.sync_store.specs.Commits.{Stays, needed}
 use Rattle.sync_store.specs.Fitting.{Fits}
-use Rattle.sync_store.specs.Moments.{IsBetween, Leads}
+use Rattle.sync_store.specs.Moments.{CallsFor, IsBetween, Leads}
 use Rattle.sync_store.specs.Settling.{AreFilled}
 use Rattle.sync_store.specs.declared.fault.StoreFault.{StoreFault}
 use Rattle.sync_store.specs.declared.fault.StoreFault.TheVariants as fault
@@ -23,7 +23,8 @@ LeadsBy clients old new o o' more =
     → Leads clients (IsBetween j more) (λ whole. whole ≡ j ++ more) new o o'
 
 -- A store came by these batches to this one: each of them may follow the journal with those before it, and unless the store is
--- closed it has them all. No link changed, files that were told still are, and no count of failed calls fell.
+-- closed it has them all. No link changed, files that were told still are, no count of failed calls fell, and each batch took
+-- four calls of the disk.
 pub record RunsBy (clients : Meaning) (old new : StoreValue) (o o' : Outside) (more : List (List Entry)) : Type 0 where
   pub goes_on : GoesOn clients old.state.facts more
   pub facts : new.closed ≡ false → new.state.facts ≡ after_batches old.state.facts more
@@ -33,6 +34,7 @@ pub record RunsBy (clients : Meaning) (old new : StoreValue) (o o' : Outside) (m
   pub limit : new.limit ≡ old.limit
   pub run : DiskRun o o'
   pub leads : LeadsBy clients old new o o' more
+  pub calls : CallsFor (length more) new o o'
 
 -- the batches of a commit, by its answer: where the disk failed the batch may stand in the files
 abbrev pub committed_by : List Entry → Result (Unit {0}) StoreFault → List (List Entry)

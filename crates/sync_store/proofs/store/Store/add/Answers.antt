@@ -26,13 +26,13 @@ gained clients s state journal batch framed may still facts file end format gene
     let long : length framed ≡ 5 + payload_len batch = framed_long framed may.is_framed ∙ ap (λ p. 5 + length p) may.payload_is in
     record { facts = facts; file = file; format = format; generation = generation; end = omega (arith, end, long); limit = refl; closed = still }
 
-pub take-requires-clause-allowed : goal.take-requires-clause-allowed
-take-requires-clause-allowed g c =
+pub take_known-requires-clause-allowed : goal.take_known-requires-clause-allowed
+take_known-requires-clause-allowed g c =
     let clients = g.C.Clients.meaning c.args.clients.now in
     (clients, subst (λ (v : StoreValue). Allowed clients v.state.facts c.args.batch) (sym c.self.view_is) c.requires.may.allowed)
 
-pub take-requires-clause-numbers : goal.take-requires-clause-numbers
-take-requires-clause-numbers g c =
+pub take_known-requires-clause-numbers : goal.take_known-requires-clause-numbers
+take_known-requires-clause-numbers g c =
     let store = c.self.invariant in
     record {
       held = few_held (value_of c.self.inside) store;
@@ -47,7 +47,7 @@ invariant_of-self g c =
     let may = subst (λ (v : StoreValue). MayAdd clients v c.args.batch c.args.framed.now) (sym c.self.view_is) c.requires.may in
     let still : s.closed ≡ false = ap (λ (v : StoreValue). v.closed) c.self.view_is ∙ c.requires.ready.still_open in
     grown_store c.cite_laws.ensures clients s _ c.args.batch c.args.framed.now c.self.invariant may
-    (gained clients s c.take.new.self c.append.new.self c.args.batch c.args.framed.now may still c.take.ensures.facts (ap (λ (j : JournalValue). j.file) c.in-Ok.ensures.ok) (ap (λ (j : JournalValue). j.end) c.in-Ok.ensures.ok) (ap (λ (j : JournalValue). j.format) c.in-Ok.ensures.ok) (ap (λ (j : JournalValue). j.generation) c.in-Ok.ensures.ok))
+    (gained clients s c.take_known.new.self c.append.new.self c.args.batch c.args.framed.now may still c.take_known.ensures.facts (ap (λ (j : JournalValue). j.file) c.in-Ok.ensures.ok) (ap (λ (j : JournalValue). j.end) c.in-Ok.ensures.ok) (ap (λ (j : JournalValue). j.format) c.in-Ok.ensures.ok) (ap (λ (j : JournalValue). j.generation) c.in-Ok.ensures.ok))
 
 pub returns-in-Ok-clause-extends : goal.returns-in-Ok-clause-extends
 returns-in-Ok-clause-extends g c two told j fits =
@@ -58,7 +58,7 @@ returns-in-Ok-clause-extends g c two told j fits =
     let still : s.closed ≡ false = ap (λ (v : StoreValue). v.closed) c.self.view_is ∙ c.requires.ready.still_open in
     adds_ok c.cite_laws.ensures.stand clients s _ j two c.args.batch c.args.framed.now tt (g.D.Disk.tells c.args.disk.now) (g.D.Disk.tells c.append.new.disk) fits' may told
     (c.in-Ok.ensures.any_moment two told) c.in-Ok.ensures.appended
-    (gained clients s c.take.new.self c.append.new.self c.args.batch c.args.framed.now may still c.take.ensures.facts (ap (λ (j : JournalValue). j.file) c.in-Ok.ensures.ok) (ap (λ (j : JournalValue). j.end) c.in-Ok.ensures.ok) (ap (λ (j : JournalValue). j.format) c.in-Ok.ensures.ok) (ap (λ (j : JournalValue). j.generation) c.in-Ok.ensures.ok))
+    (gained clients s c.take_known.new.self c.append.new.self c.args.batch c.args.framed.now may still c.take_known.ensures.facts (ap (λ (j : JournalValue). j.file) c.in-Ok.ensures.ok) (ap (λ (j : JournalValue). j.end) c.in-Ok.ensures.ok) (ap (λ (j : JournalValue). j.format) c.in-Ok.ensures.ok) (ap (λ (j : JournalValue). j.generation) c.in-Ok.ensures.ok))
 
 pub returns-in-Ok-clause-ready : goal.returns-in-Ok-clause-ready
 returns-in-Ok-clause-ready g c still =
@@ -68,11 +68,11 @@ returns-in-Ok-clause-ready g c still =
     let o' = g.D.Disk.tells c.append.new.disk in
     let may = subst (λ (v : StoreValue). MayAdd clients v c.args.batch c.args.framed.now) (sym c.self.view_is) c.requires.may in
     let gains =
-    gained clients s c.take.new.self c.append.new.self c.args.batch c.args.framed.now may still c.take.ensures.facts (ap (λ (j : JournalValue). j.file) c.in-Ok.ensures.ok)
+    gained clients s c.take_known.new.self c.append.new.self c.args.batch c.args.framed.now may still c.take_known.ensures.facts (ap (λ (j : JournalValue). j.file) c.in-Ok.ensures.ok)
     (ap (λ (j : JournalValue). j.end) c.in-Ok.ensures.ok) (ap (λ (j : JournalValue). j.format) c.in-Ok.ensures.ok) (ap (λ (j : JournalValue). j.generation) c.in-Ok.ensures.ok) in
     record {
       still_open = still;
-      knows = c.take.ensures.knows clients (subst (λ (v : StoreValue). Knows clients v.state) (sym c.self.view_is) c.requires.ready.knows);
+      knows = c.take_known.ensures.knows clients (subst (λ (v : StoreValue). Knows clients v.state) (sym c.self.view_is) c.requires.ready.knows);
       fits =
           adds_ready_fits clients s _ c.args.batch (Ok tt) o o' c.in-Ok.ensures.run
           (λ two told j fits. adds_ok c.cite_laws.ensures.stand clients s _ j two c.args.batch c.args.framed.now tt o o' fits may told (c.in-Ok.ensures.any_moment two told) c.in-Ok.ensures.appended gains)

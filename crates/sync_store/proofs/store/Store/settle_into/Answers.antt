@@ -99,7 +99,7 @@ returns-in_err-write-clause-made g c =
     let o' = g.D.Disk.tells c.write.new.disk in
     subst (λ (r : Result (Unit {0}) StoreFault). MakesBatch clients c.args.self.now c.write.new.self r o o') (sym (err_is c.from_residual-in_err-write.result e c.from_residual-in_err-write.ensures.1))
     (subst (λ (v : StoreValue). MakesBatch clients v c.write.new.self (Err e) o o') c.self.view_is
-    (filled_err c.cite_laws.ensures.stand clients s c.write.new.self c.fill-filled.new.state.facts es framed e o o' filled came failed.0 (ap (λ (v : StoreValue). v.closed) failed.1) c.in_err-write.ensures.any_moment))
+    (filled_err c.cite_laws.ensures.stand clients s c.write.new.self c.fill-filled.new.state.facts es framed e o o' filled came failed.0 (ap (λ (v : StoreValue). v.closed) failed.1) c.in_err-write.ensures.any_moment c.in_err-write.ensures.calls.most))
 
 pub returns-in_err-filled-2-clause-made : goal.returns-in_err-filled-2-clause-made
 returns-in_err-filled-2-clause-made g c =
@@ -126,7 +126,7 @@ returns-in_err-filled-2-clause-made g c =
     subst (λ (r : Result (Unit {0}) StoreFault). MakesBatch clients c.args.self.now c.write.new.self r o o') (sym (err_is c.from_residual-in_err-filled-2.result fault.Memory c.from_residual-in_err-filled-2.ensures.1))
     (subst (λ (v : StoreValue). MakesBatch clients v c.write.new.self (Err fault.Memory) o o') c.self.view_is
     (filled_memory c.cite_laws.ensures.stand clients s c.write.new.self c.fill-filled.new.state.facts es framed fault.Memory o o' filled came end closed refl c.in_ok-write.ensures.any_moment
-    c.in_ok-write.ensures.appended))
+    c.in_ok-write.ensures.appended c.in_ok-write.ensures.calls.just))
 
 pub returns-clause-made : goal.returns-clause-made
 returns-clause-made g c =
@@ -151,5 +151,5 @@ returns-clause-made g c =
     let o = g.D.Disk.tells c.args.disk.now in
     let o' = g.D.Disk.tells c.write.new.disk in
     subst (λ (v : StoreValue). MakesBatch clients v c.write.new.self (Ok tt) o o') c.self.view_is
-    (filled_whole c.cite_laws.ensures.stand clients s c.write.new.self c.fill-filled.new.state.facts es framed _ tt o o' filled came end closed c.in_ok-write.ensures.any_moment c.in_ok-write.ensures.appended
+    (filled_whole c.cite_laws.ensures.stand clients s c.write.new.self c.fill-filled.new.state.facts es framed _ tt o o' filled came end closed c.in_ok-write.ensures.any_moment c.in_ok-write.ensures.appended c.in_ok-write.ensures.calls.just
     c.as_slice.ensures.len c.in_ok-filled-2.ensures.full)

@@ -4,7 +4,7 @@ use Rattle.sync_store.specs.Moments.{WithAtMost, journal_with}
 use Rattle.sync_store.specs.Store.{StoreValue, IsStore}
 use Rattle.sync_store.proofs.FitSteps.{leads_none, fits_same}
 use Rattle.sync_store.proofs.Growth.{fits_by, may_add, with_none}
-use Rattle.sync_store.proofs.store.Store.commit.Goals as goal
+use Rattle.sync_store.proofs.store.Store.commit_known.Goals as goal
 
 pub returns-then-is_full-clause-extends : goal.returns-then-is_full-clause-extends
 returns-then-is_full-clause-extends g c still two told j fits =
