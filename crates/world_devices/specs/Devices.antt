@@ -1,6 +1,8 @@
 -- A device: its host, the node on it while it runs, how many links it has had, its clock, and where its disk is to stop.
 use Rattle.std.specs.Prelude.{◌≡◌, ℕ, ◌≤◌, false, [], ◌∷◌, length, Option, Some, None, refl}
 use Rattle.std.specs.Coded.{Coded, code_by, coded×, coded_option, coded_ℕ}
+use Rattle.outside.specs.Calls.{CallsGoOn}
+use Rattle.outside.specs.MemDisk.{calls_of}
 use Rattle.outside.specs.MemHost.{MemHostValue, upcoming_of}
 use Rattle.outside.specs.HostTold.{host_told}
 use Rattle.outside.specs.declared.limits.TheConstants.{LINKS, MAX_JOURNAL}
@@ -43,6 +45,11 @@ pub record IsAnew (clock : ℕ) (host : MemHostValue) : Type 0 where
   pub silent : IsSilent host
   pub quiet : IsQuiet (host_told host)
   pub upcoming : upcoming_of host.clock ≡ clock ∷ []
+
+-- Calls of a host more: its disk began with the same files, which of its calls are to fail stays, and what changed it before is a
+-- front of what has changed it now.
+abbrev pub HostGoesOn : MemHostValue → MemHostValue → Type 0
+HostGoesOn old new = CallsGoOn (calls_of old.disk) (calls_of new.disk)
 
 -- a store that was loaded and settled, with the greatest limit
 pub record IsStarted (s : StoreValue) (host : MemHostValue) : Type 0 where

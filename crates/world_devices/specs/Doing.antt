@@ -4,7 +4,8 @@ use Rattle.std.specs.Option.{option_map}
 use Rattle.outside.specs.Files.{Two, File, IsImage}
 use Rattle.outside.specs.HostTold.{host_told}
 use Rattle.outside.specs.Links.{Planned}
-use Rattle.outside.specs.MemDisk.{MemDiskValue, disk_files, files_of}
+use Rattle.outside.specs.Calls.{CallsGoOn}
+use Rattle.outside.specs.MemDisk.{MemDiskValue, calls_of, disk_files, files_of}
 use Rattle.outside.specs.MemHost.{MemHostValue, reading_set, script_of, with_script}
 use Rattle.outside.specs.MemImage.{Pictures}
 use Rattle.outside.specs.declared.pick.Pick.{Pick}
@@ -23,7 +24,7 @@ use Rattle.sync_node.specs.Fulls.{FullBeginning, FullTurn}
 use Rattle.sync_node.specs.Node.{NodeValue}
 use Rattle.sync_node.specs.Plans.{session_of}
 use Rattle.sync_node.specs.declared.node.Plan.{Plan}
-use Rattle.world_devices.specs.Devices.{DeviceValue, IsAnew}
+use Rattle.world_devices.specs.Devices.{DeviceValue, HostGoesOn, IsAnew}
 use Rattle.world_devices.specs.Keeping.{Journal}
 use Rattle.world_devices.specs.Linking.{IsUnlinked}
 use Rattle.world_devices.specs.Running.{Holds}
@@ -40,10 +41,11 @@ abbrev pub IsAhead : Option Stop → MemHostValue → Type 0
 IsAhead None host = Unit {0}
 IsAhead (Some armed) host = host.disk.made ≤ armed.call
 
--- the same time, and the same stop, which did not fall
+-- the same time, and the same stop, which did not fall; what its disk is to fail stays
 pub record KeepsOwn (old new : DeviceValue) : Type 0 where
   pub clock : new.clock ≡ old.clock
   pub stop : new.stop ≡ old.stop
+  pub since : HostGoesOn old.host new.host
   pub ahead : IsAhead new.stop new.host
 
 -- ---- a device that starts again
@@ -80,6 +82,7 @@ pub record ComesOf (at host : MemHostValue) : Type 0 where
 pub record CrashesTo (pick : Pick) (at : MemHostValue) (new : DeviceValue) : Type 0 where
   pub image : MemDiskValue
   pub pictured : Pictures pick (disk_files at.disk) image
+  pub since : CallsGoOn (calls_of image) (calls_of new.host.disk)
   pub loads : (j : Journal) → stands bundle_meaning image.start ≡ journal j → SettlesFrom j new.host
   pub anew : IsAnew new.clock new.host
   pub unlinked : IsUnlinked new
@@ -92,17 +95,20 @@ pub record BreaksOff (stop : Option Stop) (at : MemHostValue) (new : DeviceValue
   pub fell : armed.call + 1 ≡ at.disk.made
   pub crashes : CrashesTo armed.pick at new
 
--- a call was broken off by the stop of the device: until then it had come to a host of which this holds
+-- a call was broken off by the stop of the device: until then it had come, by calls behind those of before, to a host of which this
+-- holds
 pub record StopsIn (Broken : MemHostValue → Type 0) (old new : DeviceValue) : Type 0 where
   pub at : MemHostValue
+  pub since : HostGoesOn old.host at
   pub broken : Broken at
   pub off : BreaksOff old.stop at new
   pub clock : new.clock ≡ old.clock
 
--- A call found no memory: nothing was done; or it had come to a host of which this holds, and a crash may leave of the files what
--- it might have left then, or what came of that by settling.
+-- A call found no memory: nothing was done; or it had come, by calls behind those of before, to a host of which this holds, and a
+-- crash may leave of the files what it might have left then, or what came of that by settling.
 pub record GivesUp (Broken : MemHostValue → Type 0) (old new : DeviceValue) : Type 0 where
   pub at : MemHostValue
+  pub since : HostGoesOn old.host at
   pub broken : Broken at
   pub left : ComesOf at new.host
 

@@ -5,8 +5,8 @@ ghost use Rattle.std.specs.Prelude.{None, OnErr, OnOk, option_copied, option_map
 ghost use Rattle.outside.specs.HostTold.{host_told};
 ghost use Rattle.sync_rules.specs.Legal.{suits_nonce};
 ghost use Rattle.sync_rules.specs.declared.entries.Entry.TheVariants as entry_kind;
-ghost use Rattle.world_devices.specs.Devices.{DeviceKeeps, IsAnew, IsReadyStore, MayAdd};
-ghost use Rattle.world_devices.specs.Devices.{links_made};
+ghost use Rattle.world_devices.specs.Devices.{DeviceKeeps, HostGoesOn, IsAnew, IsReadyStore};
+ghost use Rattle.world_devices.specs.Devices.{MayAdd, links_made};
 ghost use Rattle.world_devices.specs.Keeping.{Journal, StandsLegal};
 ghost use Rattle.world_devices.specs.Linking.{DeviceLinksStand, IsBareIn, IsNewDevice, IsUnlinked};
 ghost use Rattle.world_devices.specs.Linking.{new_journal};
@@ -239,6 +239,7 @@ impl Device {
             → OnOk result (SettlesFrom j self.new.host) }
         ensures settling { (j : Journal) → Holds j self.old.host → HoldsSettling j self.new.host }
         ensures anew { OnOk result (IsAnew self.new.clock self.new.host) }
+        ensures calls { HostGoesOn self.old.host self.new.host }
     {
         self.node = None;
         self.links = 0;

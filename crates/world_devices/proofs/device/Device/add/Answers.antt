@@ -61,21 +61,21 @@ returns-in_ok-fail-in-Err-clause-runs c =
 
 pub returns-in_ok-test_done-in-Ok-clause-adds : goal.returns-in_ok-test_done-in-Ok-clause-adds
 returns-in_ok-test_done-in-Ok-clause-adds c =
-    adds_done c.args.entry c.in_ok-batch.batch c.in-Some.node c.add.new.self c.self.inside.host c.add.new.host _ c.args.self.now _ c.self.view_is c.in_ok-batch.ensures c.in-Ok.ensures.added refl refl c.in-Some.is refl c.add.ensures.links refl refl c.in_ok-test_done-in-Ok.ensures.ahead
+    adds_done c.args.entry c.in_ok-batch.batch c.in-Some.node c.add.new.self c.self.inside.host c.add.new.host _ c.args.self.now _ c.self.view_is c.in_ok-batch.ensures c.in-Ok.ensures.added refl refl c.in-Some.is refl c.add.ensures.links refl refl c.add.ensures.run.calls c.in_ok-test_done-in-Ok.ensures.ahead
 
 pub returns-in_ok-fail-in-Err-clause-adds : goal.returns-in_ok-fail-in-Err-clause-adds
 returns-in_ok-fail-in-Err-clause-adds c =
-    adds_crashed c.args.entry c.in_ok-batch.batch c.in-Some.node c.add.new.self c.self.inside.host c.add.new.host c.self.inside.links _ c.args.self.now c.fail.new.self c.self.view_is c.in_ok-batch.ensures (c.add.ensures.leads (running_of c.self.inside.node c.in-Some.node c.self.inside.host c.self.inside.links c.in-Some.is c.self.invariant.0).unclosed) (running_of c.self.inside.node c.in-Some.node c.self.inside.host c.self.inside.links c.in-Some.is c.self.invariant.0) refl c.in_ok-fail-in-Err.ensures.to c.fail.ensures.clock
+    adds_crashed c.args.entry c.in_ok-batch.batch c.in-Some.node c.add.new.self c.self.inside.host c.add.new.host c.self.inside.links _ c.args.self.now c.fail.new.self c.self.view_is c.in_ok-batch.ensures (c.add.ensures.leads (running_of c.self.inside.node c.in-Some.node c.self.inside.host c.self.inside.links c.in-Some.is c.self.invariant.0).unclosed) (running_of c.self.inside.node c.in-Some.node c.self.inside.host c.self.inside.links c.in-Some.is c.self.invariant.0) refl c.add.ensures.run.calls c.in_ok-fail-in-Err.ensures.to c.fail.ensures.clock
 
 pub returns-in_err-fail-in-Err-clause-adds : goal.returns-in_err-fail-in-Err-clause-adds
 returns-in_err-fail-in-Err-clause-adds c =
     let run = (running_of c.self.inside.node c.in-Some.node c.self.inside.host c.self.inside.links c.in-Some.is c.self.invariant.0) in
     adding_failed c.args.entry c.in_ok-batch.batch _ c.in_err-fail-in-Err.field-0.0 c.in-Err.fault c.in-Some.node c.add.new.self c.self.inside.host c.add.new.host c.self.inside.links _ c.args.self.now c.fail.new.self c.self.view_is
     c.from_residual-in_err-fail-in-Err.ensures.1 c.in_err-fail-in-Err.ensures.unrefused c.in_err-fail-in-Err.ensures.full (λ is. c.in-Err.ensures.full (ap (λ (x : NodeFault). Err x) is))
-    c.in_ok-batch.ensures c.in-Some.is refl (c.add.ensures.leads run.unclosed) run c.fail.ensures.left
+    c.in_ok-batch.ensures c.in-Some.is refl (c.add.ensures.leads run.unclosed) run c.fail.ensures.left c.add.ensures.run.calls
 
 pub returns-in_err-test_done-in-Ok-clause-adds : goal.returns-in_err-test_done-in-Ok-clause-adds
 returns-in_err-test_done-in-Ok-clause-adds c =
     let run = (running_of c.self.inside.node c.in-Some.node c.self.inside.host c.self.inside.links c.in-Some.is c.self.invariant.0) in
     adding_starved c.args.entry c.in_ok-batch.batch _ c.in_err-test_done-in-Ok.field-0.0 c.in-Some.node c.add.new.self c.self.inside.host c.self.inside.links _ c.args.self.now _ c.self.view_is
-    c.from_residual-in_err-test_done-in-Ok.ensures.1 c.in_err-test_done-in-Ok.ensures.unrefused c.in_err-test_done-in-Ok.ensures.unfilled c.in_ok-batch.ensures refl (c.add.ensures.leads run.unclosed) run
+    c.from_residual-in_err-test_done-in-Ok.ensures.1 c.in_err-test_done-in-Ok.ensures.unrefused c.in_err-test_done-in-Ok.ensures.unfilled c.in_ok-batch.ensures refl (c.add.ensures.leads run.unclosed) run c.add.ensures.run.calls

@@ -72,7 +72,7 @@ returns-in_err-fail-in-Err-clause-attaches c =
     attaches_seen c.args.plan.now c.args.nonce _ _ c.args.self.now _ c.self.view_is
     (beginning_failed c.args.plan.now c.args.nonce _ c.in_err-fail-in-Err.field-0.0 c.in-Err.fault c.in-Some-node.node c.attach.new.self.store c.attach.new.host _ _ c.from_residual-in_err-fail-in-Err.ensures.1
     c.in_err-fail-in-Err.ensures.unrefused c.in-Some-node.is c.in_err-fail-in-Err.ensures.full c.attach.ensures.limit (λ is. c.in-Err.ensures.full (ap (λ (x : NodeFault). Err x) is))
-    (c.in-Err.ensures.halts (running_of c.self.inside.node c.in-Some-node.node c.self.inside.host c.self.inside.links c.in-Some-node.is c.self.invariant.0).unclosed) c.fail.ensures.left)
+    (c.in-Err.ensures.halts (running_of c.self.inside.node c.in-Some-node.node c.self.inside.host c.self.inside.links c.in-Some-node.is c.self.invariant.0).unclosed) c.fail.ensures.left c.attach.ensures.run.calls)
 
 pub returns-in_err-test_done-in-Ok-clause-attaches : goal.returns-in_err-test_done-in-Ok-clause-attaches
 returns-in_err-test_done-in-Ok-clause-attaches c =
@@ -90,11 +90,11 @@ returns-in_ok-test_done-in-Ok-clause-attaches c =
     let own = ready_store c.args.self.now.node c.in-Some-node.node c.in-Some.store.now was c.in-Some.ensures in
     let number = c.sessions-session.ensures ∙ ap (λ (s : StoreValue). s.state.facts.begun) own in
     attaches_seen c.args.plan.now c.args.nonce (Ok (Some c.sessions-session.result)) _ c.args.self.now _ c.self.view_is
-    (session_begun c.args.plan.now c.args.nonce _ c.in-Some-node.node c.attach.new.self _ _ c.in-Some-node.is refl refl refl c.in_ok-test_done-in-Ok.ensures.ahead number c.in-Ok.ensures.joined.same_first
+    (session_begun c.args.plan.now c.args.nonce _ c.in-Some-node.node c.attach.new.self _ _ c.in-Some-node.is refl refl refl c.attach.ensures.run.calls c.in_ok-test_done-in-Ok.ensures.ahead number c.in-Ok.ensures.joined.same_first
     (c.in-Ok.ensures.course (running_of c.self.inside.node c.in-Some-node.node c.self.inside.host c.self.inside.links c.in-Some-node.is c.self.invariant.0).unclosed) c.in-Ok.ensures.facts)
 
 pub returns-in_ok-fail-in-Err-clause-attaches : goal.returns-in_ok-fail-in-Err-clause-attaches
 returns-in_ok-fail-in-Err-clause-attaches c =
     attaches_seen c.args.plan.now c.args.nonce (Ok None) _ c.args.self.now _ c.self.view_is
-    (beginning_broken c.args.plan.now c.args.nonce c.in-Some-node.node c.attach.new.host _ _ c.in-Some-node.is (c.in-Err.ensures.halts (running_of c.self.inside.node c.in-Some-node.node c.self.inside.host c.self.inside.links c.in-Some-node.is c.self.invariant.0).unclosed) c.in_ok-fail-in-Err.ensures.to
+    (beginning_broken c.args.plan.now c.args.nonce c.in-Some-node.node c.attach.new.host _ _ c.in-Some-node.is (c.in-Err.ensures.halts (running_of c.self.inside.node c.in-Some-node.node c.self.inside.host c.self.inside.links c.in-Some-node.is c.self.invariant.0).unclosed) c.attach.ensures.run.calls c.in_ok-fail-in-Err.ensures.to
     c.in_ok-fail-in-Err.ensures.clock)

@@ -37,7 +37,7 @@ returns-in-Err-clause-leaves c = leaves_seen c.self.inside.host c.args.self.now.
 
 pub returns-in-Ok-clause-to : goal.returns-in-Ok-clause-to
 returns-in-Ok-clause-to c =
-    crashes_to c.args.pick c.self.inside.host c.args.self.now.host c.crash.new.self c.start.new.self (ap (λ (d : DeviceValue). d.host) c.self.view_is) c.in_ok-crash.ensures.ok c.in-Ok.ensures.loads c.in-Ok.ensures.anew c.in-Ok.ensures.links c.start.ensures.stop
+    crashes_to c.args.pick c.self.inside.host c.args.self.now.host c.crash.new.self c.start.new.self (ap (λ (d : DeviceValue). d.host) c.self.view_is) c.in_ok-crash.ensures.ok c.in-Ok.ensures.loads c.in-Ok.ensures.anew c.in-Ok.ensures.links c.start.ensures.stop c.start.ensures.calls
 
 pub returns-in_err-crash-clause-left : goal.returns-in_err-crash-clause-left
 returns-in_err-crash-clause-left c = comes_seen c.self.inside.host c.args.self.now.host c.crash.new.self (ap (λ (d : DeviceValue). d.host) c.self.view_is) (comes_crash c.args.pick c.self.inside.host c.crash.new.self c.crash.result c.crash.ensures.ok c.crash.ensures.err)

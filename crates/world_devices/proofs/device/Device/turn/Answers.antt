@@ -63,21 +63,21 @@ returns-in_err-fail-in-Err-clause-turns c =
     turns_seen _ _ c.args.self.now _ c.self.view_is
     (turn_failed _ c.in_err-fail-in-Err.field-0.0 c.in-Err.fault c.in-Some.node c.turn.new.self.store c.turn.new.host _ _ c.from_residual-in_err-fail-in-Err.ensures.1 c.in_err-fail-in-Err.ensures.unrefused c.in-Some.is
     c.in_err-fail-in-Err.ensures.full c.turn.ensures.limit (λ is. c.in-Err.ensures.full (ap (λ (x : NodeFault). Err x) is))
-    (c.in-Err.ensures.halts (running_of c.self.inside.node c.in-Some.node c.self.inside.host c.self.inside.links c.in-Some.is c.self.invariant.0).unclosed) c.fail.ensures.left)
+    (c.in-Err.ensures.halts (running_of c.self.inside.node c.in-Some.node c.self.inside.host c.self.inside.links c.in-Some.is c.self.invariant.0).unclosed) c.fail.ensures.left c.turn.ensures.run.calls)
 
 pub returns-in_err-test_done-in-Ok-clause-turns : goal.returns-in_err-test_done-in-Ok-clause-turns
 returns-in_err-test_done-in-Ok-clause-turns c =
     turns_seen _ _ c.args.self.now _ c.self.view_is
     (turn_starved _ c.in_err-test_done-in-Ok.field-0.0 c.in-Some.node c.turn.new.self _ _ _ c.from_residual-in_err-test_done-in-Ok.ensures.1 c.in_err-test_done-in-Ok.ensures.unrefused c.in_err-test_done-in-Ok.ensures.unfilled c.in-Some.is
-    (c.in-Ok.ensures.course (running_of c.self.inside.node c.in-Some.node c.self.inside.host c.self.inside.links c.in-Some.is c.self.invariant.0).unclosed))
+    (c.in-Ok.ensures.course (running_of c.self.inside.node c.in-Some.node c.self.inside.host c.self.inside.links c.in-Some.is c.self.invariant.0).unclosed) c.turn.ensures.run.calls)
 
 pub returns-in_ok-test_done-in-Ok-clause-turns : goal.returns-in_ok-test_done-in-Ok-clause-turns
 returns-in_ok-test_done-in-Ok-clause-turns c =
     turns_seen (Ok (Some c.eq.result)) _ c.args.self.now _ c.self.view_is
-    (turn_made c.eq.result _ c.in-Some.node c.turn.new.self _ _ c.in-Some.is refl refl refl c.in_ok-test_done-in-Ok.ensures.ahead c.in-Ok.ensures.joined.same_first (still_by c.in-Ok.turned c.eq.result c.eq.ensures)
+    (turn_made c.eq.result _ c.in-Some.node c.turn.new.self _ _ c.in-Some.is refl refl refl c.turn.ensures.run.calls c.in_ok-test_done-in-Ok.ensures.ahead c.in-Ok.ensures.joined.same_first (still_by c.in-Ok.turned c.eq.result c.eq.ensures)
     (c.in-Ok.ensures.course (running_of c.self.inside.node c.in-Some.node c.self.inside.host c.self.inside.links c.in-Some.is c.self.invariant.0).unclosed))
 
 pub returns-in_ok-fail-in-Err-clause-turns : goal.returns-in_ok-fail-in-Err-clause-turns
 returns-in_ok-fail-in-Err-clause-turns c =
     turns_seen (Ok None) _ c.args.self.now _ c.self.view_is
-    (turn_broken c.in-Some.node c.turn.new.host _ _ c.in-Some.is (c.in-Err.ensures.halts (running_of c.self.inside.node c.in-Some.node c.self.inside.host c.self.inside.links c.in-Some.is c.self.invariant.0).unclosed) c.in_ok-fail-in-Err.ensures.to c.in_ok-fail-in-Err.ensures.clock)
+    (turn_broken c.in-Some.node c.turn.new.host _ _ c.in-Some.is (c.in-Err.ensures.halts (running_of c.self.inside.node c.in-Some.node c.self.inside.host c.self.inside.links c.in-Some.is c.self.invariant.0).unclosed) c.turn.ensures.run.calls c.in_ok-fail-in-Err.ensures.to c.in_ok-fail-in-Err.ensures.clock)
