@@ -39,6 +39,15 @@ passes_does made old new (Err x) e is fills leaves = subst (λ (y : StepFault). 
 pub unfilled_does : (made : WorldStep) (old new : Stage) (r : Result (Unit {0}) StepFault) (e : StepFault) → IsErrAnd r (λ y. y ≡ e) → (e ≡ fault.Full → ⊥) → LeavesBy made old new.devices.items → DoesBy made r old new
 unfilled_does made old new r e is other leaves = passes_does made old new r e is (λ full. absurd (other full)) leaves
 
+-- what could not be made fills no journal
+pub made_unfilled : {A : Type 0} (o : Option A) (f : StepFault) → IsMade o (Err f) → f ≡ fault.Full → ⊥
+made_unfilled {A} None f made is = subst (λ (x : StepFault). IsMade {A = A} None (Err x)) is made
+made_unfilled (Some v) f made is = subst (λ (x : StepFault). IsMade (Some v) (Err x)) is made
+
+-- only memory was wanting
+pub memory_unfilled : (f : StepFault) → f ≡ fault.Memory → f ≡ fault.Full → ⊥
+memory_unfilled f is other = let both : fault.Memory ≡ fault.Full = sym is ∙ other in cc both
+
 -- ---- one device at an index
 
 -- it made a call, and it may have crashed in it

@@ -67,7 +67,7 @@ turn_broken n at old new was breaks since off clock = record {
 
 -- what fits a store stands for its journal as it reads
 reads_as : (s : StoreValue) (files : Option (Two File)) (j : List (List Entry)) → FitsWith bundle_meaning s files j → ReadsAs bundle_meaning files j
-reads_as s files j (two, is, fits) = (two, is, fits.stands_for)
+reads_as s files j fits = (fits.0, fits.1, fits.2.stands_for)
 
 -- a path that was gone to its end came to some place
 run_broken : (terms : Terms) (p q : Place) (s s' : StoreValue) (o o' : Outside) → RunRuns bundle_meaning terms p q s s' o o' → RunBreaks bundle_meaning terms p s o o'

@@ -1,5 +1,5 @@
 //! The device and its calls.
-ghost use Rattle.std.specs.Prelude.{◌≡◌, ◌+◌, ◌≤◌, ℕ, [], true, is_some, IfOk, IsErrOf};
+ghost use Rattle.std.specs.Prelude.{◌≡◌, ◌+◌, ◌≤◌, ℕ, [], false, true, is_some, IfOk, IsErrOf};
 ghost use Rattle.std.specs.Prelude.{MatchOption};
 ghost use Rattle.std.specs.Prelude.{None, OnErr, OnOk, option_copied, option_map};
 ghost use Rattle.outside.specs.HostTold.{host_told};
@@ -323,12 +323,20 @@ impl Device {
         ensures unrefused { IsNotRefused result }
         ensures unfilled { IsNotFull result }
     {
-        if self.host.starved() > 0 {
-            return Err(StepFault::Memory);
+        if self.host.starved() > 0 || self.is_passed() {
+            Err(StepFault::Memory)
+        } else {
+            Ok(())
         }
+    }
+
+    // Whether the call was made at which its disk is to stop.
+    fn is_passed(&self) -> bool
+        ensures { result ≡ false → IsAhead self.now.stop self.now.host }
+    {
         match self.stop {
-            Some(stop) if stop.call < self.host.disk().calls() => Err(StepFault::Memory),
-            _ => Ok(()),
+            Some(stop) => stop.call < self.host.disk().calls(),
+            None => false,
         }
     }
 }

@@ -1,4 +1,5 @@
-use Rattle.std.proofs.Common.{◌<◌, length, arith, ap, Err, rules, true, slice_get, refl}
+use Rattle.std.proofs.Common.{◌<◌, length, arith, ap, Err, rules, true, slice_get, refl, Ok, inl}
+use Rattle.world_devices.specs.declared.stop.StepFault.TheVariants as fault
 use Rattle.sync_world.proofs.GoLaws.{same_leads}
 use Rattle.sync_world.proofs.StepLaws.{leads_err, came_goes, fails_leads}
 use Rattle.world_devices.specs.Refusals.{RefusedBy, refuses_level}
@@ -8,7 +9,8 @@ use Rattle.sync_rules.specs.declared.entries.Entry.TheVariants as entry
 use Rattle.world_laws.specs.Worlds.{contact_for}
 use Rattle.world_scripts.specs.declared.step.WorldStep.TheVariants as step
 use Rattle.sync_world.specs.Doing.{entry_of}
-use Rattle.sync_world.proofs.DoingLaws.{adds_entry, fills_with, made_level, passes_does, tries_entry}
+use Rattle.sync_world.specs.Naming.{group_of}
+use Rattle.sync_world.proofs.DoingLaws.{adds_entry, fills_with, made_level, passes_does, tries_entry, made_unfilled, unfilled_does}
 use Rattle.sync_world.proofs.stage.Stage.share.Goals as goal
 
 pub returns-in_err-ran-clause-goes : goal.returns-in_err-ran-clause-goes
@@ -87,3 +89,8 @@ returns-clause-does c =
       groups = c.came.ensures.groups;
       posts = c.came.ensures.posts;
     }
+
+pub returns-in_err-group_def-clause-does : goal.returns-in_err-group_def-clause-does
+returns-in_err-group_def-clause-does c =
+    unfilled_does (step.Share c.args.d c.args.e c.args.group c.args.level) c.args.self.now c.args.self.now c.from_residual.result c.in_err-group_def.field-0.0 c.from_residual.ensures.1
+    (made_unfilled (group_of c.in-Some.kind c.in-Some.descriptor.now) c.in_err-group_def.field-0.0 c.in_err-group_def.ensures) (inl refl)

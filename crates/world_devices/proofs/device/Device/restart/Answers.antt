@@ -2,6 +2,8 @@ use Rattle.std.proofs.Common.{[], Err, ap, subst}
 use Rattle.outside.specs.HostTold.{host_told}
 use Rattle.world_devices.specs.Devices.{DeviceValue}
 use Rattle.world_devices.proofs.CallLaws.{anew_leaves, runs_by}
+use Rattle.outside.specs.MemDisk.{calls_of}
+use Rattle.outside.specs.Steps.{go_on_none}
 use Rattle.world_devices.specs.Doing.{Restarts}
 use Rattle.world_devices.specs.declared.stop.StepFault.TheVariants as fault
 use Rattle.world_devices.proofs.GivingUpLaws.{comes_anew, comes_same, restart_ended, restart_failed}
@@ -53,7 +55,7 @@ pub returns-in_err-restart-clause-restarts : goal.returns-in_err-restart-clause-
 returns-in_err-restart-clause-restarts c =
     restart_failed c.from_residual.result _ c.args.self.now _ c.self.inside.host c.self.view_is c.from_residual.ensures.1 (λ j holds. holds_settling j c.self.inside.host holds)
     (comes_anew c.self.inside.host c.restart.new.self c.restart.result c.restart.ensures.ok c.restart.ensures.err)
-    (calls_anew c.self.inside.host c.restart.new.self c.restart.result c.restart.ensures.ok c.restart.ensures.err)
+    (go_on_none (calls_of c.self.inside.host.disk))
 
 pub returns-in-Ok-clause-restarts : goal.returns-in-Ok-clause-restarts
 returns-in-Ok-clause-restarts c =
