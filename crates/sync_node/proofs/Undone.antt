@@ -16,6 +16,7 @@ stays_none s = record {
   answers = refl;
   file = refl;
   format = refl;
+  generation = refl;
   end = refl;
   limit = refl;
   closed = refl;

@@ -78,6 +78,7 @@ pub(crate) fn attach_on<H: Host, C: Clients>(
 
 // Commits a session, and then sends what it begins with. All is spelled first, so that nothing may
 // fail between the two but a send, which closes the link.
+#[tactic(auto, using(session_core::proofs::Unknown::unknown))]
 fn start<H: Host, C: Clients>(
     alloc: Global,
     store: &mut Store,
@@ -120,7 +121,7 @@ fn start<H: Host, C: Clients>(
     let versions = spell_versions(alloc)?;
     let priority = spell_nonce(alloc, &session.nonce)?;
     let batch = Batch::single(alloc, Entry::Session(session))?;
-    commit(store, host, clients, batch)?;
+    commit(store, host, clients, batch, None)?;
     let Some(begun) = store.session(session.number) else {
         unreachable!()
     };

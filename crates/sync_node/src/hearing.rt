@@ -21,7 +21,7 @@ use crate::link::{Link, ended};
 use crate::told::{cite_laws, commit, settle};
 use outside::{Heard, Host};
 use record_stream::{Next, Piece};
-use session_core::{take, versions_ok};
+use session_core::{take_known, versions_ok};
 use std::alloc::Global;
 use sync_course::LinkEnd;
 use sync_ids::{Record, records_are_within};
@@ -204,7 +204,7 @@ fn learn(link: &mut Link, place: u64, rec: &Record)
     }
 }
 
-// Commits the batch of a session's next record, and settles.
+// Commits the batch of a session's next record, with the id that was computed for it, and settles.
 fn take_one<H: Host, C: Clients>(
     alloc: Global,
     store: &mut Store,
@@ -235,7 +235,8 @@ fn take_one<H: Host, C: Clients>(
 {
     records_are_within(&rec);
     let taken = store.takes(session.number);
-    let batch = take(alloc, store, session, taken, rec)?;
-    commit(store, host, clients, batch)?;
+    let known = take_known(alloc, store, session, taken, rec)?;
+    let (batch, id) = known;
+    commit(store, host, clients, batch, id)?;
     settle(store, host, clients)
 }

@@ -73,6 +73,7 @@ pub(crate) fn send_all<H: Host, C: Clients>(
 
 // Commits an output, and then sends it. It is spelled first, so that nothing may fail between the
 // two.
+#[tactic(auto, using(session_core::proofs::Unknown::unknown))]
 fn put_out<H: Host, C: Clients>(
     alloc: Global,
     store: &mut Store,
@@ -114,7 +115,7 @@ fn put_out<H: Host, C: Clients>(
     cite_laws();
     let bytes = spell_out(alloc, store, &out)?;
     let batch = Batch::single(alloc, Entry::Out(link.session.number, now, out))?;
-    commit(store, host, clients, batch)?;
+    commit(store, host, clients, batch, None)?;
     send_on(host, number, link, bytes.as_slice());
     Ok(())
 }
