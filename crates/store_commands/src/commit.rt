@@ -6,6 +6,7 @@ ghost use Rattle.outside.specs.Outside.{DiskRun};
 ghost use Rattle.sync_rules.specs.declared.entries.Entry.{Entry};
 ghost use Rattle.sync_rules.specs.Allows.{is_settling_kind};
 ghost use Rattle.sync_rules.specs.Legal.{Allowed};
+ghost use Rattle.session_core.specs.Known.{IsOfAll};
 ghost use Rattle.sync_store.specs.Fitting.{Fits};
 ghost use Rattle.sync_store.specs.Ready.{IsReady};
 ghost use Rattle.store_commands.specs.Commit.{AddsAs, ExtendsBy, ExtendsTold, MayFollow};
@@ -13,6 +14,7 @@ ghost use Rattle.store_commands.specs.Commit.{SettlesAs, StaysReady};
 ghost use Rattle.store_commands.specs.Load.{MayExtend};
 
 use outside::Disk;
+use sync_ids::MessageId;
 use sync_rules::{Batch, Clients};
 use sync_store::laws::images_stand;
 use sync_store::{Store, StoreFault};
@@ -27,10 +29,12 @@ pub enum Settling {
     BeforeAndAfter,
 }
 
-/// Settles the journal, commits the batch, and settles again where that is asked for.
+/// Settles the journal, commits the batch, and settles again where that is asked for. The id is
+/// that of the one message that the batch brings, where the caller has it.
 pub fn extend<D: Disk, C: Clients>(
     store: &mut Store,
     batch: Batch,
+    id: Option<MessageId>,
     settling: Settling,
     disk: &mut D,
     clients: &C,
@@ -38,6 +42,7 @@ pub fn extend<D: Disk, C: Clients>(
     requires ready { MayExtend (C.meaning clients.now) store.old (D.tells disk.old).files }
     requires follows { MayFollow (C.meaning clients.now) store.old.state.facts batch }
     requires kind { is_settling_kind batch ≡ false }
+    requires named { IsOfAll id batch }
     ensures run { DiskRun (D.tells disk.old) (D.tells disk.new) }
     ensures by { ExtendsBy (D.tells disk.old) (D.tells disk.new) result }
     ensures told { (two : Two File) → (D.tells disk.old).files ≡ Some two → (j : List (List Entry))
@@ -47,8 +52,8 @@ pub fn extend<D: Disk, C: Clients>(
 {
     settle(store, disk, clients)?;
     match settling {
-        Settling::Before => commit(store, batch, disk, clients),
-        Settling::BeforeAndAfter => commit_settled(store, batch, disk, clients),
+        Settling::Before => commit(store, batch, id, disk, clients),
+        Settling::BeforeAndAfter => commit_settled(store, batch, id, disk, clients),
     }
 }
 
@@ -79,19 +84,21 @@ pub fn settle<D: Disk, C: Clients>(
 fn commit<D: Disk, C: Clients>(
     store: &mut Store,
     batch: Batch,
+    id: Option<MessageId>,
     disk: &mut D,
     clients: &C,
 ) -> Result<(), Outcome>
     requires ready { IsReady (C.meaning clients.now) store.old (D.tells disk.old).files }
     requires allowed { Allowed (C.meaning clients.now) store.old.state.facts batch }
     requires kind { is_settling_kind batch ≡ false }
+    requires named { IsOfAll id batch }
     ensures run { DiskRun (D.tells disk.old) (D.tells disk.new) }
     ensures by { ExtendsBy (D.tells disk.old) (D.tells disk.new) result }
     ensures added { AddsAs (C.meaning clients.now) Settling.Before store.old store.new batch
         (D.tells disk.old) (D.tells disk.new) result }
 {
     images_stand();
-    match store.commit(disk, clients, batch) {
+    match store.commit_known(disk, clients, batch, id) {
         Ok(()) => Ok(()),
         Err(StoreFault::Full) => Err(Outcome::Full),
         Err(StoreFault::Memory) => Err(Outcome::Memory),
@@ -104,18 +111,20 @@ fn commit<D: Disk, C: Clients>(
 fn commit_settled<D: Disk, C: Clients>(
     store: &mut Store,
     batch: Batch,
+    id: Option<MessageId>,
     disk: &mut D,
     clients: &C,
 ) -> Result<(), Outcome>
     requires ready { IsReady (C.meaning clients.now) store.old (D.tells disk.old).files }
     requires allowed { Allowed (C.meaning clients.now) store.old.state.facts batch }
     requires kind { is_settling_kind batch ≡ false }
+    requires named { IsOfAll id batch }
     ensures run { DiskRun (D.tells disk.old) (D.tells disk.new) }
     ensures by { ExtendsBy (D.tells disk.old) (D.tells disk.new) result }
     ensures added { AddsAs (C.meaning clients.now) Settling.BeforeAndAfter store.old store.new
         batch (D.tells disk.old) (D.tells disk.new) result }
 {
-    match store.extend(disk, clients, batch) {
+    match store.extend_known(disk, clients, batch, id) {
         Ok(()) => Ok(()),
         Err(StoreFault::Full) => Err(Outcome::Full),
         Err(StoreFault::Memory) => Err(Outcome::Memory),
