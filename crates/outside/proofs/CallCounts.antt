@@ -1,8 +1,9 @@
 -- How many calls of a disk a run makes, one call or one run more at a time.
-use Rattle.std.proofs.Common.{◌≡◌, ℕ, zero, suc, ◌+◌, ◌≤◌, Result, Ok, Err, refl, sym, ap, ◌∙◌, arith, add-zero}
+use Rattle.std.proofs.Common.{◌≡◌, ℕ, zero, suc, ◌+◌, ◌≤◌, [], ◌∷◌, Result, Ok, Err, refl, sym, ap, ◌∙◌, arith, add-zero}
 use Rattle.outside.specs.Faults.{one_more}
 use Rattle.outside.specs.Calls.{Calls, OneCall, NoCall, more_calls}
 use Rattle.outside.specs.Outside.{Outside, Moment, DiskCall, LinkCall, MakesJust, MakesAtMost, MakesCalls}
+use Rattle.outside.specs.MemDisk.{MemDiskValue, hosted, with_call, calls_of}
 use Rattle.outside.specs.Steps.{becomes_none, becomes_map, becomes_then}
 
 -- ---- just so many
@@ -102,3 +103,12 @@ calls_then m n (Ok _) o0 o1 o2 first second = record {
   most = most_then m n o0 o1 o2 (just_most m o0 o1 first) second.most;
 }
 calls_then m n (Err _) o0 o1 o2 first second = record { just = tt; most = most_then m n o0 o1 o2 (just_most m o0 o1 first) second.most }
+
+-- ---- a host in memory
+
+-- that begins again over the same disk made no call of it
+pub begun_again : (disk : MemDiskValue) → NoCall (calls_of disk) (calls_of (with_call hosted disk))
+begun_again disk = record {
+  goes_on = record { same_start = refl; same_failing = refl; same_stop = refl; more = hosted ∷ []; grown = refl; later = omega arith };
+  made = refl;
+}
