@@ -59,6 +59,7 @@ module _ (law : (clients : Meaning) (kind : ℕ) (def : GroupValue) (records : L
   group_states name descriptor None outcome.Done known tries = absurd tries
   group_states name descriptor None (outcome.Bad place why) known tries = absurd tries
   group_states name descriptor None (outcome.Inside place) known tries = absurd tries
+  group_states name descriptor None (outcome.NoVersion place) known tries = absurd tries
   group_states name descriptor None (outcome.Links ends) known tries = absurd tries
   group_states name descriptor None _ known tries = tt
   group_states name descriptor (Some kind) outcome.Done known tries =
@@ -70,6 +71,7 @@ module _ (law : (clients : Meaning) (kind : ℕ) (def : GroupValue) (records : L
   group_states name descriptor (Some kind) (outcome.Inside place) known tries =
       subst (λ o. TellsGroup clients name descriptor o input input' out out') (sym known)
       (whole_states kind (record { name = name; major = 0; descriptor = descriptor }) (outcome.Inside place) known tries tries.ended.0 tries.ended.2)
+  group_states name descriptor (Some kind) (outcome.NoVersion place) known tries = absurd tries.ended
   group_states name descriptor (Some kind) (outcome.Links ends) known tries = absurd tries.ended
   group_states name descriptor (Some kind) _ known tries = tt
 
