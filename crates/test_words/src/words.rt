@@ -3,13 +3,15 @@
 use crate::checks::{made, same};
 use commands::{Command, WordsFault, read_words};
 use std::alloc::Global;
+use record_grammar::Reason;
 use std::process::Abort;
+use sync_course::LinkEnd;
 use sync_ids::{
     Fixed, GroupDef, GroupId, IdList, MAX_IDS, Message, MessageId, Nonce, Record, VersionList,
 };
 use sync_rules::{Fate, Level, Mode, Origin, Refused};
 use sync_words::{
-    LinkText, LinkWords, ReasonText, Status, bad_record_line, contact_line,
+    LinkWords, Status, bad_record_line, contact_line,
     contacts_line, damaged_line, device_line, group_line, inbox_line, inside_line,
     known_group_line, level_line, link_line, plain_line, posted_line, ready_line,
     record_line, refused_line, script_line, sessions_line, skipped_line, state_line, try_line,
@@ -616,6 +618,7 @@ link 4: ended inside a record at 9
 link 5: bad record at 8: bad nonce
 link 6: no common version at 0
 link 7: failed
+link 8: unfinished
 ";
 
 fn add_refusals(rt: &impl Abort, to: &mut String) {
@@ -655,15 +658,15 @@ fn add_faults(rt: &impl Abort, to: &mut String) {
 
 fn add_reasons(rt: &impl Abort, to: &mut String) {
     for reason in [
-        ReasonText::WrongVersion,
-        ReasonText::TooLong,
-        ReasonText::EmptyIds,
-        ReasonText::RaggedIds,
-        ReasonText::ShortMessage,
-        ReasonText::BodyTooLong,
-        ReasonText::BadTimestamp,
-        ReasonText::BadVersions,
-        ReasonText::BadNonce,
+        Reason::WrongVersion,
+        Reason::TooLong,
+        Reason::EmptyIds,
+        Reason::RaggedIds,
+        Reason::ShortMessage,
+        Reason::BodyTooLong,
+        Reason::BadTimestamp,
+        Reason::BadVersions,
+        Reason::BadNonce,
     ] {
         made(rt, bad_record_line(31, reason, to));
     }
@@ -671,18 +674,19 @@ fn add_reasons(rt: &impl Abort, to: &mut String) {
 
 fn add_links(rt: &impl Abort, to: &mut String) {
     let endings = [
-        LinkText::Clean,
-        LinkText::Quiet,
-        LinkText::Redundant,
-        LinkText::Unfinished,
-        LinkText::Inside(9),
-        LinkText::Bad(8, ReasonText::BadNonce),
-        LinkText::NoVersion(0),
-        LinkText::Failed,
+        (true, LinkEnd::Clean),
+        (true, LinkEnd::Going),
+        (true, LinkEnd::Redundant),
+        (false, LinkEnd::Going),
+        (true, LinkEnd::Inside(9)),
+        (false, LinkEnd::Bad(8, Reason::BadNonce)),
+        (true, LinkEnd::NoVersion(0)),
+        (false, LinkEnd::Failed),
     ];
-    for (link, ending) in endings.iter().enumerate() {
-        made(rt, link_line((link % 8) as u8, ending, to));
+    for (link, (over, end)) in endings.iter().enumerate() {
+        made(rt, link_line((link % 8) as u8, *over, *end, to));
     }
+    made(rt, link_line(8, false, LinkEnd::Clean, to));
 }
 
 #[test]
