@@ -3,8 +3,8 @@ ghost use Rattle.std.specs.Prelude.{◌≡◌, ◌≤◌, [], length};
 ghost use Rattle.sync_words.specs.Outcomes.{came_to, links_text, status_of, text_of};
 
 use crate::error_lines::{
-    ErrorText, ReasonText, add_bad_record, add_damaged, add_inside, add_link, add_no_version, add_plain,
-    add_refused, add_script, add_usage,
+    ErrorText, ReasonText, add_bad_record, add_damaged, add_inside, add_link, add_no_version,
+    add_plain, add_refused, add_script, add_usage,
 };
 use crate::links::{LinkEnd, LinkEnds};
 use crate::status::Status;
