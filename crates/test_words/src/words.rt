@@ -2,8 +2,8 @@
 //! formats.
 use crate::checks::{made, same};
 use commands::{Command, WordsFault, read_words};
-use std::alloc::Global;
 use record_grammar::Reason;
+use std::alloc::Global;
 use std::process::Abort;
 use sync_course::LinkEnd;
 use sync_ids::{
@@ -11,11 +11,10 @@ use sync_ids::{
 };
 use sync_rules::{Fate, Level, Mode, Origin, Refused};
 use sync_words::{
-    LinkWords, Status, bad_record_line, contact_line,
-    contacts_line, damaged_line, device_line, group_line, inbox_line, inside_line,
-    known_group_line, level_line, link_line, plain_line, posted_line, ready_line,
-    record_line, refused_line, script_line, sessions_line, skipped_line, state_line, try_line,
-    usage_line,
+    LinkWords, Status, bad_record_line, contact_line, contacts_line, damaged_line, device_line,
+    group_line, inbox_line, inside_line, known_group_line, level_line, link_line, plain_line,
+    posted_line, ready_line, record_line, refused_line, script_line, sessions_line, skipped_line,
+    state_line, try_line, usage_line,
 };
 
 const GROUP: &str = "76ff4980d3b5f63962cee45401b6b1bb92efe989c27de4629aac92b18163e6e0";
