@@ -20,8 +20,7 @@ use Rattle.sync_words.specs.declared.outcome.Outcome.{Outcome}
 use Rattle.sync_words.specs.declared.outcome.Outcome.TheVariants as outcome
 use Rattle.sync_words.specs.declared.status.Status.{Status}
 use Rattle.sync_words.specs.Outcomes.{came_to, status_of}
-use Rattle.commands.specs.Reading.{words_came}
-use Rattle.commands.specs.Reading.{Asked, IsReadAs}
+use Rattle.commands.specs.Reading.{Asked, IsReadAs, words_came}
 use Rattle.commands.specs.Reading.Asked.{Usage, Do}
 use Rattle.commands.specs.declared.command.Command.{Command}
 use Rattle.commands.specs.declared.command.Command.TheVariants as command
@@ -159,10 +158,6 @@ passed P (Err e) x is h = subst P (sym is) h
 module _ (r : Result (Unit {0}) Outcome) (x : Outcome) (is : IsErrAnd r (λ e. e ≡ x)) where
   pub came_on : came_to r ≡ x
   came_on = passed (λ (came : Outcome). came ≡ x) r x is refl
-
-  pub comes_on : (clients : Meaning) (words : Asked) (old new : Outside) (input input' out out' : Stream) → Comes clients words old new input input' out out' x
-      → Comes clients words old new input input' out out' (came_to r)
-  comes_on clients words old new input input' out out' = passed (λ (came : Outcome). Comes clients words old new input input' out out' came) r x is
 
   pub streams_on : (told : List Item → List ℕ → Type 0) (input input' out out' : Stream) → Streams told input input' out out' x → Streams told input input' out out' (came_to r)
   streams_on told input input' out out' = passed (λ (came : Outcome). Streams told input input' out out' came) r x is

@@ -1,6 +1,7 @@
 // A command from its words to its status.
 ghost use Rattle.std.specs.Prelude.{◌≡◌};
 ghost use Rattle.sync_top.specs.Complete.{Complete};
+ghost use Rattle.sync_top.specs.Looking.{LooksUnless};
 ghost use Rattle.sync_top.specs.Run.{AsksSync, Comes, Covered, KeepsHost, Ran, Reports};
 ghost use Rattle.sync_top.specs.States.{TellsWhole};
 ghost use Rattle.sync_top.specs.Undamaged.{NeverDamaged};
@@ -46,6 +47,7 @@ pub fn run<H: Host, S: Source, W: Sink, E: Sink, C: Clients>(
     ensures states { TellsWhole (C.meaning clients.now) (asks (texts words.now)) (S.tells input.old)
         (S.tells input.new) (W.tells out.old) (W.tells out.new) result }
     ensures host { KeepsHost (asks (texts words.now)) host.old host.new }
+    ensures looks { LooksUnless (asks (texts words.now)) (H.tells host.old) (H.tells host.new) }
     ensures undamaged { NeverDamaged (C.meaning clients.now) (asks (texts words.now))
         (H.tells host.old) (H.tells host.new) }
     ensures complete { Complete (C.meaning clients.now) (asks (texts words.now)) (H.tells host.old)
