@@ -117,12 +117,14 @@ fn obey<H: Host, S: Source, W: Sink, C: Clients>(
                 Err(e) => Outcome::from(e),
             }
         }
-        Command::Share(contact, group, level) => Outcome::of(set_level(
-            alloc, hasher, contact, &group, level, host, out, clients,
-        )),
-        Command::Post(group, timestamp) => Outcome::of(post_message(
-            alloc, hasher, group, timestamp, host, input, out, clients,
-        )),
+        Command::Share(contact, group, level) => {
+            let shared = set_level(alloc, hasher, contact, &group, level, host, out, clients);
+            Outcome::of(shared)
+        }
+        Command::Post(group, timestamp) => {
+            let posted = post_message(alloc, hasher, group, timestamp, host, input, out, clients);
+            Outcome::of(posted)
+        }
         Command::Show => Outcome::of(list(alloc, hasher, Listing::Store, host, out, clients)),
         Command::Inbox => Outcome::of(list(alloc, hasher, Listing::Inbox, host, out, clients)),
         Command::Body(id) => Outcome::of(write_body(alloc, hasher, &id, host, out, clients)),

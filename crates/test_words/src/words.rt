@@ -11,10 +11,10 @@ use sync_ids::{
 };
 use sync_rules::{Fate, Level, Mode, Origin, Refused};
 use sync_words::{
-    LinkWords, Status, bad_record_line, contact_line, contacts_line, damaged_line, device_line,
-    group_line, inbox_line, inside_line, known_group_line, level_line, link_line, plain_line,
-    posted_line, ready_line, record_line, refused_line, script_line, sessions_line, skipped_line,
-    state_line, try_line, usage_line,
+    LinkWords, Outcome, Status, bad_record_line, contact_line, contacts_line, damaged_line,
+    device_line, group_line, inbox_line, inside_line, known_group_line, level_line, link_line,
+    plain_line, posted_line, ready_line, record_line, refused_line, script_line, sessions_line,
+    skipped_line, state_line, try_line, usage_line,
 };
 
 const GROUP: &str = "76ff4980d3b5f63962cee45401b6b1bb92efe989c27de4629aac92b18163e6e0";
@@ -618,6 +618,8 @@ link 5: bad record at 8: bad nonce
 link 6: no common version at 0
 link 7: failed
 link 8: unfinished
+no common version at 31
+link 3: failed
 ";
 
 fn add_refusals(rt: &impl Abort, to: &mut String) {
@@ -688,6 +690,11 @@ fn add_links(rt: &impl Abort, to: &mut String) {
     made(rt, link_line(8, false, LinkEnd::Clean, to));
 }
 
+// The line of an outcome.
+fn add_outcome(rt: &impl Abort, outcome: &Outcome, to: &mut String) {
+    made(rt, to.push_str(outcome.text().as_str()));
+}
+
 #[test]
 fn lines_of_faults(rt: HostRuntime) {
     let mut to = String::new(rt.alloc());
@@ -696,5 +703,7 @@ fn lines_of_faults(rt: HostRuntime) {
     add_faults(&rt, &mut to);
     add_reasons(&rt, &mut to);
     add_links(&rt, &mut to);
+    add_outcome(&rt, &Outcome::NoVersion(31), &mut to);
+    add_outcome(&rt, &Outcome::LinkFailed(3), &mut to);
     same(&rt, 1, &to.as_str(), &ERROR_LINES);
 }
