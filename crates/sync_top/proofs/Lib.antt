@@ -4,5 +4,6 @@ pub mod StreamLemmas
 pub mod StateLemmas
 pub mod UndamagedLemmas
 pub mod HeadlineLemmas
+pub mod SoundLemmas
 mod CompleteRuns
 mod CompleteLemmas

@@ -2,6 +2,7 @@ use Rattle.sync_words.specs.Outcomes.{came_to}
 use Rattle.sync_words.specs.Reading.{asks, texts}
 use Rattle.sync_top.proofs.CompleteLemmas.{complete}
 use Rattle.sync_top.proofs.HeadlineLemmas.{covers}
+use Rattle.sync_top.proofs.SoundLemmas.{always_opens}
 use Rattle.sync_top.proofs.StateLemmas.{reports_as, tells}
 use Rattle.sync_top.proofs.UndamagedLemmas.{undamaged}
 use Rattle.sync_top.proofs.program.run.Goals as goal
@@ -36,3 +37,11 @@ pub returns-clause-complete : goal.returns-clause-complete
 returns-clause-complete g c =
     complete (g.C.Clients.meaning c.args.clients.now) (asks (texts c.args.words.now)) _ _ _ _ _ _ _ _ (came_to c.command.result) _ c.command.ensures.comes
     (reports_as c.of-outcome.result (came_to c.command.result) _ _ _ c.of-outcome.ensures c.report.ensures)
+
+pub returns-clause-opens : goal.returns-clause-opens
+returns-clause-opens g c =
+    always_opens c.runs_are_sound.ensures (g.C.Clients.meaning c.args.clients.now) (asks (texts c.args.words.now)) (g.H.Disk.tells c.args.host.now)
+    (g.H.Disk.tells c.command.new.host) c.requires.unused
+    (covers (g.C.Clients.meaning c.args.clients.now) (asks (texts c.args.words.now)) (g.H.Disk.tells c.args.host.now)
+    (g.H.Disk.tells c.command.new.host) _ _ _ _ (came_to c.command.result) c.requires.unused
+    c.command.ensures.comes)
