@@ -6,9 +6,9 @@ use Rattle.outside.specs.HostTold as told
 use Rattle.outside.specs.MemHost.{MemHostValue}
 use Rattle.outside.specs.Runs.{Told}
 use Rattle.sync_rules.specs.Clients.{Meaning}
-use Rattle.sync_words.specs.declared.command.Command.TheVariants as command
-use Rattle.sync_words.specs.Reading.{Asked}
-use Rattle.sync_words.specs.Reading.Asked.{Usage, Do}
+use Rattle.commands.specs.declared.command.Command.TheVariants as command
+use Rattle.commands.specs.Reading.{Asked}
+use Rattle.commands.specs.Reading.Asked.{Usage, Do}
 use Rattle.sync_top.specs.Sound.{AlwaysOpens}
 use Rattle.memory_run.specs.Opens.{OpensInMemory, files_by, first_calls}
 

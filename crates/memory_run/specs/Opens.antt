@@ -9,9 +9,9 @@ use Rattle.outside.specs.MemTold.{files_at}
 use Rattle.sync_rules.specs.Clients.{Meaning}
 use Rattle.entry_codec.specs.Standing.{stands}
 use Rattle.sync_node.specs.Output.{heard_on}
-use Rattle.sync_words.specs.declared.command.Command.TheVariants as command
-use Rattle.sync_words.specs.Reading.{Asked}
-use Rattle.sync_words.specs.Reading.Asked.{Do}
+use Rattle.commands.specs.declared.command.Command.TheVariants as command
+use Rattle.commands.specs.Reading.{Asked}
+use Rattle.commands.specs.Reading.Asked.{Do}
 use Rattle.sync_top.specs.Sound.{OpensOn}
 
 -- the calls of a host that left a trace, the first so many of them

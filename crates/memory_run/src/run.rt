@@ -1,5 +1,6 @@
 // A command over a host in memory.
-ghost use Rattle.sync_words.specs.Reading.{asks, texts};
+ghost use Rattle.commands.specs.Reading.{asks};
+ghost use Rattle.sync_words.specs.Words.{texts};
 ghost use Rattle.memory_run.specs.Opens.{OpensInMemory};
 
 use crate::fresh::FreshHost;

@@ -8,7 +8,7 @@ use Rattle.sync_rules.specs.Facts.{facts}
 use Rattle.entry_codec.specs.Standing.{Standing, damaged, journal, no_store}
 use Rattle.store_commands.specs.Show.{ReadsAs, Rests}
 use Rattle.sync_words.specs.declared.link_words.LinkWords.{LinkWords}
-use Rattle.sync_words.specs.declared.links.LinkEnd.{LinkEnd}
+use Rattle.sync_course.specs.Closing.{Closing}
 use Rattle.sync_words.specs.declared.outcome.Outcome.{Outcome}
 use Rattle.sync_words.specs.declared.outcome.Outcome.TheVariants as outcome
 use Rattle.sync_run.specs.Courses.{is_unknown}
@@ -22,11 +22,11 @@ pub record MakesFront (words : List LinkWords) (old new : Links) : Type 0 where
 
 -- A run that is refused, or finds no journal, leaves the links as they were: none was made. One of which a dial or a nonce failed
 -- sent nothing and heard nothing.
-abbrev pub LeavesLinks : List LinkWords → (old new : Outside) → Result (List LinkEnd) Outcome → Type 0
+abbrev pub LeavesLinks : List LinkWords → (old new : Outside) → Result Closing Outcome → Type 0
 LeavesLinks words old new (Err outcome.NoStore) = new.links ≡ old.links
 LeavesLinks words old new (Err (outcome.Damaged place)) = new.links ≡ old.links
 LeavesLinks words old new (Err (outcome.Refused why)) = new.links ≡ old.links
-LeavesLinks words old new (Err (outcome.Links ends)) = MakesFront words old.links new.links
+LeavesLinks words old new (Err (outcome.LinkFailed link)) = MakesFront words old.links new.links
 LeavesLinks words old new result = Unit {0}
 
 -- no session of these words may begin over files that stand so: for no journal, or for one in which some contact of the words is not known

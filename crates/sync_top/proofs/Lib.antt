@@ -7,3 +7,4 @@ pub mod HeadlineLemmas
 pub mod SoundLemmas
 mod CompleteRuns
 mod CompleteLemmas
+mod LookLemmas

@@ -20,10 +20,10 @@ use Rattle.entry_codec.specs.StandingLaws.{StandingIsLegal}
 use Rattle.sync_course.specs.Suits.{TakesHeard}
 use Rattle.sync_node.specs.Output.{Journal, heard_on, sent_on}
 use Rattle.sync_node.specs.Suits.{AllSuit, Suits, SuitsRun}
-use Rattle.sync_words.specs.declared.command.Command.TheVariants as command
+use Rattle.commands.specs.declared.command.Command.TheVariants as command
 use Rattle.sync_words.specs.declared.link_words.LinkWords.{LinkWords}
-use Rattle.sync_words.specs.Reading.{Asked}
-use Rattle.sync_words.specs.Reading.Asked.{Usage, Do}
+use Rattle.commands.specs.Reading.{Asked}
+use Rattle.commands.specs.Reading.Asked.{Usage, Do}
 use Rattle.sync_run.specs.Headline.{HeadlineTold, RunsOn, StandsForRun, sent_by}
 use Rattle.sync_top.specs.Run.{AsksSync, Covered}
 use Rattle.sync_top.proofs.HeadlineLemmas.{no_links, none_at}

@@ -5,4 +5,5 @@ pub mod Run
 pub mod States
 pub mod Undamaged
 pub mod Complete
+pub mod Looking
 pub mod Sound

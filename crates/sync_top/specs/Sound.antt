@@ -14,10 +14,10 @@ use Rattle.sync_rules.specs.Output.{SendsTheOpen}
 use Rattle.entry_codec.specs.Standing.{Standing, journal, stands}
 use Rattle.sync_course.specs.Suits.{TakesHeard}
 use Rattle.sync_node.specs.Output.{AreOutput, Journal, heard_on, sent_on}
-use Rattle.sync_words.specs.declared.command.Command.TheVariants as command
+use Rattle.commands.specs.declared.command.Command.TheVariants as command
 use Rattle.sync_words.specs.declared.link_words.LinkWords.{LinkWords}
-use Rattle.sync_words.specs.Reading.{Asked}
-use Rattle.sync_words.specs.Reading.Asked.{Do}
+use Rattle.commands.specs.Reading.{Asked}
+use Rattle.commands.specs.Reading.Asked.{Do}
 use Rattle.sync_run.specs.Headline.{StandsForRun, sent_by}
 
 -- ---- the journal of a moment

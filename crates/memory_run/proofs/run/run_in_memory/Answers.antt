@@ -1,6 +1,7 @@
 use Rattle.std.proofs.Common.{◌≡◌, ap, subst, sym}
 use Rattle.outside.specs.MemHost.{MemHostValue}
-use Rattle.sync_words.specs.Reading.{asks, texts}
+use Rattle.commands.specs.Reading.{asks}
+use Rattle.sync_words.specs.Words.{texts}
 use Rattle.memory_run.specs.Opens.{OpensInMemory}
 use Rattle.memory_run.proofs.OpensLemmas.{opens_in_memory}
 use Rattle.memory_run.proofs.run.run_in_memory.Goals as goal
