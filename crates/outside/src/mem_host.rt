@@ -588,7 +588,14 @@ impl Host for MemHost {
         self.make_send(link, bytes)
     }
 
-    fn hang_up(&mut self, _link: u8) {}
+    fn hang_up(&mut self, _link: u8)
+        requires { _link < length (links_of self.old.disk) }
+        ensures call { QuietCall (host_told self.old) (host_told self.new) }
+        ensures links { (host_told self.new).links ≡ (host_told self.old).links }
+
+        // All that it answers from then on is as if the link had not been ended.
+        ensures same { self.new ≡ self.old }
+    {}
 
     fn now(&mut self) -> u64
         ensures call { QuietCall (host_told self.old) (host_told self.new) }
