@@ -19,13 +19,14 @@ use Rattle.sync_rules.specs.Steps.{kind_of_def}
 use Rattle.sync_words.specs.declared.outcome.Outcome.{Outcome}
 use Rattle.sync_words.specs.declared.outcome.Outcome.TheVariants as outcome
 use Rattle.sync_words.specs.declared.status.Status.{Status}
-use Rattle.sync_words.specs.Outcomes.{came_to, status_of, words_came}
-use Rattle.sync_words.specs.Reading.{Asked, IsReadAs}
-use Rattle.sync_words.specs.Reading.Asked.{Usage, Do}
-use Rattle.sync_words.specs.declared.command.Command.{Command}
-use Rattle.sync_words.specs.declared.command.Command.TheVariants as command
-use Rattle.sync_words.specs.declared.command.WordsFault.{WordsFault}
-use Rattle.sync_words.specs.declared.command.WordsFault.TheVariants as fault
+use Rattle.sync_words.specs.Outcomes.{came_to, status_of}
+use Rattle.commands.specs.Reading.{words_came}
+use Rattle.commands.specs.Reading.{Asked, IsReadAs}
+use Rattle.commands.specs.Reading.Asked.{Usage, Do}
+use Rattle.commands.specs.declared.command.Command.{Command}
+use Rattle.commands.specs.declared.command.Command.TheVariants as command
+use Rattle.commands.specs.declared.fault.WordsFault.{WordsFault}
+use Rattle.commands.specs.declared.fault.WordsFault.TheVariants as fault
 use Rattle.store_commands.specs.declared.commit.Settling.TheVariants as settling
 use Rattle.store_commands.specs.Entries.{HasAdded}
 use Rattle.store_commands.specs.Plans.{group_plan}
@@ -58,6 +59,7 @@ module _ (law : (clients : Meaning) (kind : ℕ) (def : GroupValue) (records : L
   group_states name descriptor None outcome.Done known tries = absurd tries
   group_states name descriptor None (outcome.Bad place why) known tries = absurd tries
   group_states name descriptor None (outcome.Inside place) known tries = absurd tries
+  group_states name descriptor None (outcome.NoVersion place) known tries = absurd tries
   group_states name descriptor None (outcome.Links ends) known tries = absurd tries
   group_states name descriptor None _ known tries = tt
   group_states name descriptor (Some kind) outcome.Done known tries =
@@ -69,6 +71,7 @@ module _ (law : (clients : Meaning) (kind : ℕ) (def : GroupValue) (records : L
   group_states name descriptor (Some kind) (outcome.Inside place) known tries =
       subst (λ o. TellsGroup clients name descriptor o input input' out out') (sym known)
       (whole_states kind (record { name = name; major = 0; descriptor = descriptor }) (outcome.Inside place) known tries tries.ended.0 tries.ended.2)
+  group_states name descriptor (Some kind) (outcome.NoVersion place) known tries = absurd tries.ended
   group_states name descriptor (Some kind) (outcome.Links ends) known tries = absurd tries.ended
   group_states name descriptor (Some kind) _ known tries = tt
 

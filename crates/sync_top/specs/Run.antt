@@ -33,9 +33,9 @@ use Rattle.sync_words.specs.Outcomes.{status_of, text_of}
 use Rattle.outside.specs.Streams.{Stream, IsIdle, GetsFront, Gets}
 use Rattle.sync_run.specs.Lines.{in_words}
 use Rattle.sync_top.specs.RecordText.{items_text}
-use Rattle.sync_words.specs.Reading.{Asked}
-use Rattle.sync_words.specs.Reading.Asked.{Usage, Do}
-use Rattle.sync_words.specs.declared.command.Command.TheVariants as command
+use Rattle.commands.specs.Reading.{Asked}
+use Rattle.commands.specs.Reading.Asked.{Usage, Do}
+use Rattle.commands.specs.declared.command.Command.TheVariants as command
 
 -- the input was read to its end, which is within the greatest length
 pub record ReadsWhole (input input' : Stream) (read : List ℕ) : Type 0 where

@@ -5,10 +5,12 @@ ghost use Rattle.sync_top.specs.Run.{AsksSync, Comes, Covered, KeepsHost, Ran, R
 ghost use Rattle.sync_top.specs.States.{TellsWhole};
 ghost use Rattle.sync_top.specs.Undamaged.{NeverDamaged};
 ghost use Rattle.sync_words.specs.Outcomes.{came_to};
-ghost use Rattle.sync_words.specs.Reading.{asks, IsWithin, texts};
-ghost use Rattle.sync_words.specs.Reading.Asked.{Do};
+ghost use Rattle.commands.specs.Reading.{asks, IsWithin};
+ghost use Rattle.sync_words.specs.Words.{texts};
+ghost use Rattle.commands.specs.Reading.Asked.{Do};
 
 use crate::streams::{group_of, list_records, try_group};
+use commands::{Command, read_words};
 use journal_play::play_says;
 use outside::{Host, Sink, Source, write_text};
 use std::alloc::Global;
@@ -18,7 +20,7 @@ use store_commands::{
 };
 use sync_rules::Clients;
 use sync_run::{Limits, sync_links};
-use sync_words::{Command, Outcome, Status, read_words};
+use sync_words::{Outcome, Status};
 
 /// Runs the command that the words ask for: it reads `input`, writes its text to `out` and its
 /// line, if it has one, to `err`, and says what it came to. The words are those after the program's

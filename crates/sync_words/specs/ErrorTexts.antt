@@ -27,6 +27,8 @@ refusal refused.AlreadyHeld = codes "already held"
 refusal refused.InvalidPost = codes "invalid post"
 refusal refused.DependencyNotDelivered = codes "dependency not delivered"
 refusal refused.UnknownMessage = codes "unknown message"
+refusal refused.TooManySessions = codes "too many sessions"
+refusal refused.NotSharing = codes "not a sharing group"
 
 abbrev pub refused_text : Refused → List ℕ
 refused_text why = codes "refused: " ++ (refusal why ++ 10 ∷ [])
@@ -75,6 +77,10 @@ bad_record_text place why = codes "bad record at " ++ (decimal place ++ (codes "
 abbrev pub inside_text : ℕ → List ℕ
 inside_text place = codes "ended inside a record at " ++ (decimal place ++ 10 ∷ [])
 
+-- a peer that lists its versions at this place, none of them this side's
+abbrev pub no_version_text : ℕ → List ℕ
+no_version_text place = codes "no common version at " ++ (decimal place ++ 10 ∷ [])
+
 abbrev pub script_text : ℕ → List ℕ
 script_text line = codes "bad script: line " ++ (decimal line ++ 10 ∷ [])
 
@@ -86,7 +92,7 @@ ending_text link.Redundant = codes "redundant\n"
 ending_text link.Unfinished = codes "unfinished\n"
 ending_text (link.Inside place) = inside_text place
 ending_text (link.Bad place why) = bad_record_text place why
-ending_text (link.NoVersion place) = codes "no common version at " ++ (decimal place ++ 10 ∷ [])
+ending_text (link.NoVersion place) = no_version_text place
 ending_text link.Failed = codes "failed\n"
 
 abbrev pub link_text : ℕ → LinkText → List ℕ

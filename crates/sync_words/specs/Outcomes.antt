@@ -1,9 +1,7 @@
 -- The status of what a command came to, and the text that the error output gets.
 use Rattle.std.specs.Prelude.{ℕ, List, [], ◌∷◌, Result, Ok, Err}
 use Rattle.std.specs.List.{flat_map}
-use Rattle.sync_words.specs.ErrorTexts.{bad_record_text, damaged_text, inside_text, link_text, plain_text, refused_text, script_text, usage_text}
-use Rattle.sync_words.specs.declared.command.WordsFault.{WordsFault}
-use Rattle.sync_words.specs.declared.command.WordsFault.TheVariants as fault
+use Rattle.sync_words.specs.ErrorTexts.{bad_record_text, damaged_text, inside_text, link_text, no_version_text, plain_text, refused_text, script_text, usage_text}
 use Rattle.sync_words.specs.declared.error_lines.LinkText.{LinkText}
 use Rattle.sync_words.specs.declared.error_lines.LinkText.TheVariants as link
 use Rattle.sync_words.specs.declared.links.LinkEnd.{LinkEnd}
@@ -54,6 +52,7 @@ status_of (outcome.Links ends) = links_status ends
 status_of outcome.ReadFault = status.ReadFault
 status_of (outcome.Bad place why) = status.BadStream
 status_of (outcome.Inside place) = status.BadStream
+status_of (outcome.NoVersion place) = status.BadStream
 status_of outcome.Full = status.Full
 status_of outcome.Memory = status.Memory
 status_of outcome.WriteFault = status.WriteFault
@@ -74,6 +73,7 @@ text_of (outcome.Links ends) = links_text ends
 text_of outcome.ReadFault = plain_text status.ReadFault
 text_of (outcome.Bad place why) = bad_record_text place why
 text_of (outcome.Inside place) = inside_text place
+text_of (outcome.NoVersion place) = no_version_text place
 text_of outcome.Full = plain_text status.Full
 text_of outcome.Memory = plain_text status.Memory
 text_of outcome.WriteFault = plain_text status.WriteFault
@@ -84,8 +84,3 @@ text_of (outcome.BadScript line) = script_text line
 abbrev pub came_to : {V : Type 0} → Result V Outcome → Outcome
 came_to (Ok _) = outcome.Done
 came_to (Err came) = came
-
--- what words come to that were not read
-abbrev pub words_came : WordsFault → Outcome
-words_came (fault.Usage place) = outcome.Usage place
-words_came fault.Memory = outcome.Memory

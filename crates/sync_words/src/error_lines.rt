@@ -6,7 +6,8 @@ ghost use Rattle.std.specs.Prelude.{OnErr, OnOk, true};
 ghost use Rattle.std.specs.String.{string_bytes};
 ghost use Rattle.arrayvec.specs.ArrayString.{array_string_len};
 ghost use Rattle.sync_words.specs.ErrorTexts.{bad_record_text, damaged_text, ending_text};
-ghost use Rattle.sync_words.specs.ErrorTexts.{inside_text, is_plain, link_text, plain_text};
+ghost use Rattle.sync_words.specs.ErrorTexts.{inside_text, is_plain, link_text, no_version_text};
+ghost use Rattle.sync_words.specs.ErrorTexts.{plain_text};
 ghost use Rattle.sync_words.specs.ErrorTexts.{reason_text, refusal, refused_text, script_text};
 ghost use Rattle.sync_words.specs.ErrorTexts.{usage_text};
 ghost use Rattle.sync_words.specs.Texts.{AddsLine, AddsPart};
@@ -116,6 +117,8 @@ fn refusal(why: Refused) -> &'static str
         Refused::InvalidPost => "invalid post",
         Refused::DependencyNotDelivered => "dependency not delivered",
         Refused::UnknownMessage => "unknown message",
+        Refused::TooManySessions => "too many sessions",
+        Refused::NotSharing => "not a sharing group",
     }
 }
 
@@ -292,11 +295,10 @@ fn add_ending(ending: &LinkText, to: &mut ErrorText)
     }
 }
 
-// A link whose peer has no version in common with this side.
-fn add_no_version(place: u64, to: &mut ErrorText)
+/// Adds the line of a peer that has no version in common with this side: the place of its list.
+pub(crate) fn add_no_version(place: u64, to: &mut ErrorText)
     requires { array_string_len to.old ≤ 930 }
-    ensures { AddsPart to.old to.new (codes "no common version at " ++ (decimal place ++ 10 ∷ []))
-        89 }
+    ensures { AddsPart to.old to.new (no_version_text place) 89 }
 {
     add_number("no common version at ", place, "\n", to);
 }

@@ -2,10 +2,9 @@
 ghost use Rattle.std.specs.Prelude.{◌≡◌, ◌≤◌, [], length};
 ghost use Rattle.sync_words.specs.Outcomes.{came_to, links_text, status_of, text_of};
 
-use crate::command::WordsFault;
 use crate::error_lines::{
-    ErrorText, ReasonText, add_bad_record, add_damaged, add_inside, add_link, add_plain,
-    add_refused, add_script, add_usage,
+    ErrorText, ReasonText, add_bad_record, add_damaged, add_inside, add_link, add_no_version,
+    add_plain, add_refused, add_script, add_usage,
 };
 use crate::links::{LinkEnd, LinkEnds};
 use crate::status::Status;
@@ -38,6 +37,8 @@ pub enum Outcome {
     Bad(u64, ReasonText),
     /// The input ends inside a record that begins at this place.
     Inside(u64),
+    /// The versions that the input lists at this place lack this side's.
+    NoVersion(u64),
     /// The journal has no room for what was to be added.
     Full,
     /// Memory ran out.
@@ -72,20 +73,6 @@ impl From<Refused> for Outcome {
     }
 }
 
-impl From<WordsFault> for Outcome {
-    ghost use Rattle.std.specs.Prelude.{◌≡◌};
-    ghost use Rattle.sync_words.specs.Outcomes.{words_came};
-
-    ghost from_gives = { λ fault came. came ≡ words_came fault };
-
-    fn from(fault: WordsFault) -> Outcome {
-        match fault {
-            WordsFault::Usage(place) => Outcome::Usage(place),
-            WordsFault::Memory => Outcome::Memory,
-        }
-    }
-}
-
 impl Outcome {
     /// What a command came to that did all, or ended before with an outcome.
     pub fn of(ended: Result<(), Outcome>) -> Outcome
@@ -111,7 +98,7 @@ impl Outcome {
             Outcome::DiskFault => Status::DiskFault,
             Outcome::Links(ends) => ends.status(),
             Outcome::ReadFault => Status::ReadFault,
-            Outcome::Bad(_, _) | Outcome::Inside(_) => Status::BadStream,
+            Outcome::Bad(_, _) | Outcome::Inside(_) | Outcome::NoVersion(_) => Status::BadStream,
             Outcome::Full => Status::Full,
             Outcome::Memory => Status::Memory,
             Outcome::WriteFault => Status::WriteFault,
@@ -146,6 +133,7 @@ impl Outcome {
             Outcome::ReadFault => add_plain(Status::ReadFault, to),
             Outcome::Bad(place, reason) => add_bad_record(*place, *reason, to),
             Outcome::Inside(place) => add_inside(*place, to),
+            Outcome::NoVersion(place) => add_no_version(*place, to),
             Outcome::Full => add_plain(Status::Full, to),
             Outcome::Memory => add_plain(Status::Memory, to),
             Outcome::WriteFault => add_plain(Status::WriteFault, to),

@@ -1,6 +1,7 @@
 //! The words of each command, and each text. What is wanted was written from the description of the
 //! formats.
 use crate::checks::{made, same};
+use commands::{Command, WordsFault, read_words};
 use std::alloc::Global;
 use std::process::Abort;
 use sync_ids::{
@@ -8,9 +9,9 @@ use sync_ids::{
 };
 use sync_rules::{Fate, Level, Mode, Origin, Refused};
 use sync_words::{
-    Command, LinkText, LinkWords, ReasonText, Status, WordsFault, bad_record_line, contact_line,
+    LinkText, LinkWords, ReasonText, Status, bad_record_line, contact_line,
     contacts_line, damaged_line, device_line, group_line, inbox_line, inside_line,
-    known_group_line, level_line, link_line, plain_line, posted_line, read_words, ready_line,
+    known_group_line, level_line, link_line, plain_line, posted_line, ready_line,
     record_line, refused_line, script_line, sessions_line, skipped_line, state_line, try_line,
     usage_line,
 };
@@ -585,6 +586,8 @@ refused: body too long
 refused: invalid post
 refused: dependency not delivered
 refused: already held
+refused: too many sessions
+refused: not a sharing group
 damaged: file 1 at 268435456
 no store
 store exists
@@ -629,6 +632,8 @@ fn add_refusals(rt: &impl Abort, to: &mut String) {
         Refused::InvalidPost,
         Refused::DependencyNotDelivered,
         Refused::AlreadyHeld,
+        Refused::TooManySessions,
+        Refused::NotSharing,
     ] {
         made(rt, refused_line(why, to));
     }

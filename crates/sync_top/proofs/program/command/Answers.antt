@@ -1,6 +1,7 @@
 use Rattle.std.proofs.Common.{refl}
-use Rattle.sync_words.specs.Outcomes.{words_came}
-use Rattle.sync_words.specs.Reading.{asks, texts}
+use Rattle.commands.specs.Reading.{words_came}
+use Rattle.commands.specs.Reading.{asks}
+use Rattle.sync_words.specs.Words.{texts}
 use Rattle.sync_top.proofs.StateLemmas.{comes_on, keeps_host, words_come}
 use Rattle.sync_top.proofs.program.command.Goals as goal
 

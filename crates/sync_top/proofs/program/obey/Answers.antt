@@ -1,6 +1,6 @@
 use Rattle.std.proofs.Common.{refl, inl}
-use Rattle.sync_words.specs.Reading.Asked.{Do}
-use Rattle.sync_words.specs.declared.command.Command.TheVariants as command
+use Rattle.commands.specs.Reading.Asked.{Do}
+use Rattle.commands.specs.declared.command.Command.TheVariants as command
 use Rattle.sync_words.specs.declared.outcome.Outcome.TheVariants as outcome
 use Rattle.std.specs.Prelude.{Ok}
 use Rattle.sync_top.proofs.HeadlineLemmas.{has_run}

@@ -1,5 +1,6 @@
 use Rattle.sync_words.specs.Outcomes.{came_to}
-use Rattle.sync_words.specs.Reading.{asks, texts}
+use Rattle.commands.specs.Reading.{asks}
+use Rattle.sync_words.specs.Words.{texts}
 use Rattle.sync_top.proofs.CompleteLemmas.{complete}
 use Rattle.sync_top.proofs.HeadlineLemmas.{covers}
 use Rattle.sync_top.proofs.StateLemmas.{reports_as, tells}

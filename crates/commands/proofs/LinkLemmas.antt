@@ -2,15 +2,15 @@
 use Rattle.std.proofs.Common.{◌≡◌, ℕ, Option, suc, ◌+◌, ◌-◌, ◌*◌, ◌<◌, ◌≤◌, Bool, true, false, cond, List, [], ◌∷◌, ◌++◌, drop, length, refl, ◌∙◌, ap, arith}
 use Rattle.outside.specs.declared.limits.TheConstants.{LINKS}
 use Rattle.sync_rules.specs.declared.entries.Mode.{Mode}
-use Rattle.sync_words.specs.declared.command.Command.{Command}
-use Rattle.sync_words.specs.declared.command.TheConstants.{MAX_CONTACT}
-use Rattle.sync_words.specs.declared.command.WordsFault.{WordsFault}
-use Rattle.sync_words.specs.declared.command.WordsFault.TheVariants as fault
+use Rattle.commands.specs.declared.command.Command.{Command}
+use Rattle.commands.specs.declared.grammar.TheConstants.{MAX_CONTACT}
+use Rattle.commands.specs.declared.fault.WordsFault.{WordsFault}
+use Rattle.commands.specs.declared.fault.WordsFault.TheVariants as fault
 use Rattle.sync_words.specs.declared.link_words.LinkWords.{LinkWords}
-use Rattle.sync_words.specs.declared.link_words.TheConstants.{FIRST_LINK, LINK_WORDS, MAX_LATENCY}
-use Rattle.sync_words.specs.Links.{has_std}
-use Rattle.sync_words.specs.Reading.{Rest, word_then, link_then, has_ended, asks_links, is_left, Reads, Stops, ReadsLink, ReadsLinks, StopsLink, StopsLinks}
-use Rattle.sync_words.specs.Reading.Asked.{Usage, Do}
+use Rattle.commands.specs.declared.links.TheConstants.{FIRST_LINK, LINK_WORDS, MAX_LATENCY}
+use Rattle.commands.specs.Reading.{has_std}
+use Rattle.commands.specs.Reading.{Rest, word_then, link_then, has_ended, asks_links, is_left, Reads, Stops, ReadsLink, ReadsLinks, StopsLink, StopsLinks}
+use Rattle.commands.specs.Reading.Asked.{Usage, Do}
 use Rattle.sync_words.specs.Words.{number_in, positive_in, mode_in, spec_in}
 
 -- ---- the words of one link

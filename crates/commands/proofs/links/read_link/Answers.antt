@@ -1,9 +1,10 @@
 use Rattle.std.proofs.Common.{◌+◌, drop, ap, sym, ◌∙◌, rules}
-use Rattle.sync_words.specs.Reading.{texts, word_then, StopsLink}
+use Rattle.commands.specs.Reading.{word_then, StopsLink}
+use Rattle.sync_words.specs.Words.{texts}
 use Rattle.sync_words.specs.Words.{positive_in, spec_in}
-use Rattle.sync_words.specs.declared.link_words.TheConstants.{MAX_LATENCY}
-use Rattle.sync_words.proofs.LinkLemmas.{at_latency, at_spec, link_stopped, behind_latency}
-use Rattle.sync_words.proofs.link_words.read_link.Goals as goal
+use Rattle.commands.specs.declared.links.TheConstants.{MAX_LATENCY}
+use Rattle.commands.proofs.LinkLemmas.{at_latency, at_spec, link_stopped, behind_latency}
+use Rattle.commands.proofs.links.read_link.Goals as goal
 
 pub returns-in_err-latency-clause-err : goal.returns-in_err-latency-clause-err
 returns-in_err-latency-clause-err c =

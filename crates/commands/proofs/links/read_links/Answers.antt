@@ -2,9 +2,10 @@ use Rattle.std.proofs.Common.{◌≡◌, ℕ, ◌+◌, ◌*◌, ◌<◌, ◌≤�
 use Rattle.std.proofs.lemmas.List.Elements.{All-nil, All-push}
 use Rattle.sync_words.specs.Links.{IsLink}
 use Rattle.sync_words.specs.declared.link_words.LinkWords.{LinkWords}
-use Rattle.sync_words.specs.Reading.{has_ended, texts, ReadsLink, ReadsLinks, StopsLink, StopsLinks}
-use Rattle.sync_words.proofs.LinkLemmas.{AsksSo, asks_first, asks_next, asks_wrong, asks_no_more, asks_end, asks_too_many, one_stands}
-use Rattle.sync_words.proofs.link_words.read_links.Goals as goal
+use Rattle.commands.specs.Reading.{has_ended, ReadsLink, ReadsLinks, StopsLink, StopsLinks}
+use Rattle.sync_words.specs.Words.{texts}
+use Rattle.commands.proofs.LinkLemmas.{AsksSo, asks_first, asks_next, asks_wrong, asks_no_more, asks_end, asks_too_many, one_stands}
+use Rattle.commands.proofs.links.read_links.Goals as goal
 
 pub loop-number-init : goal.loop-number-init
 loop-number-init c = record {

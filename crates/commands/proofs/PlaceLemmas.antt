@@ -2,9 +2,10 @@
 use Rattle.std.proofs.Common.{◌≡◌, ℕ, zero, suc, ◌+◌, List, [], ◌∷◌, drop, refl, sym, ◌∙◌, ap, add-one, String, Option, Some, None, Err, slice_get}
 use Rattle.std.specs.String.{string_bytes}
 use Rattle.std.specs.declared.alloc.Global.{Global}
-use Rattle.sync_words.specs.declared.command.WordsFault.{WordsFault}
-use Rattle.sync_words.specs.declared.command.WordsFault.TheVariants as fault
-use Rattle.sync_words.specs.Reading.{texts, Asked, Rest, word_then, read_or_usage, Reads, Stops, IsReadAs}
+use Rattle.commands.specs.declared.fault.WordsFault.{WordsFault}
+use Rattle.commands.specs.declared.fault.WordsFault.TheVariants as fault
+use Rattle.commands.specs.Reading.{Asked, Rest, word_then, read_or_usage, Reads, Stops, IsReadAs}
+use Rattle.sync_words.specs.Words.{texts}
 
 -- ---- the word at a place
 

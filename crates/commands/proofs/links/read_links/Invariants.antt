@@ -1,9 +1,9 @@
 use Rattle.std.proofs.Common.{◌≡◌, length}
 use Rattle.std.specs.List.{All}
 use Rattle.sync_words.specs.Links.{IsLink}
-use Rattle.sync_words.specs.Reading.{texts}
-use Rattle.sync_words.proofs.LinkLemmas.{AsksSo}
-use Rattle.sync_words.proofs.link_words.read_links.Given as goal
+use Rattle.sync_words.specs.Words.{texts}
+use Rattle.commands.proofs.LinkLemmas.{AsksSo}
+use Rattle.commands.proofs.links.read_links.Given as goal
 
 abbrev pub invariant-loop-number : goal.invariant-loop-number
 invariant-loop-number l = record {

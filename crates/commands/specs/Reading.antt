@@ -1,24 +1,21 @@
 -- What the words of a command line ask for. Words are counted from 0 and read from left to right.
-use Rattle.std.specs.Prelude.{◌≡◌, ℕ, zero, suc, ◌+◌, ◌≤◌, Bool, true, false, not, if◌then◌else◌, List, [], ◌∷◌, ◌++◌, length, map, drop, codes, String, Option, Some, None, Result, Ok, Err}
+use Rattle.std.specs.Prelude.{◌≡◌, ℕ, zero, suc, ◌+◌, ◌≤◌, Bool, true, false, not, if◌then◌else◌, List, [], ◌∷◌, ◌++◌, length, drop, codes, Option, Some, None, Result, Ok, Err}
 use Rattle.std.specs.Str.{bytes_eq}
-use Rattle.std.specs.String.{string_bytes}
-use Rattle.std.specs.declared.alloc.Global.{Global}
+use Rattle.std.specs.List.{list_any}
 use Rattle.sync_ids.specs.declared.def.TheConstants.{MAX_NAME, MAX_DESCRIPTOR}
 use Rattle.sync_ids.specs.declared.message.TheConstants.{MAX_TIMESTAMP}
 use Rattle.outside.specs.declared.limits.TheConstants.{LINKS}
-use Rattle.sync_words.specs.declared.command.TheConstants.{MAX_CONTACT, MAX_MAJOR, MAX_TURNS}
-use Rattle.sync_words.specs.declared.link_words.TheConstants.{FIRST_LINK, LINK_WORDS, MAX_LATENCY}
+use Rattle.commands.specs.declared.grammar.TheConstants.{MAX_CONTACT, MAX_MAJOR, MAX_TURNS}
+use Rattle.commands.specs.declared.links.TheConstants.{FIRST_LINK, LINK_WORDS, MAX_LATENCY}
 use Rattle.sync_words.specs.declared.link_words.LinkWords.{LinkWords}
-use Rattle.sync_words.specs.declared.command.Command.{Command}
-use Rattle.sync_words.specs.declared.command.Command.TheVariants as command
-use Rattle.sync_words.specs.declared.command.WordsFault.{WordsFault}
-use Rattle.sync_words.specs.declared.command.WordsFault.TheVariants as fault
-use Rattle.sync_words.specs.Links.{has_std, AreLinks}
-use Rattle.sync_words.specs.Words.{name_in, descriptor_in, number_in, positive_in, id_in, level_in, mode_in, spec_in}
-
--- the words as bytes
-abbrev pub texts : List (String Global) → List (List ℕ)
-texts words = map (λ (word : String Global). string_bytes word) words
+use Rattle.commands.specs.declared.command.Command.{Command}
+use Rattle.commands.specs.declared.command.Command.TheVariants as command
+use Rattle.commands.specs.declared.fault.WordsFault.{WordsFault}
+use Rattle.commands.specs.declared.fault.WordsFault.TheVariants as fault
+use Rattle.sync_words.specs.Links.{AreLinks}
+use Rattle.sync_words.specs.declared.outcome.Outcome.{Outcome}
+use Rattle.sync_words.specs.declared.outcome.Outcome.TheVariants as outcome
+use Rattle.sync_words.specs.Words.{name_in, descriptor_in, number_in, positive_in, id_in, level_in, mode_in, spec_in, is_std}
 
 -- a command, or the place of the first word that is wrong or too many, or the number of words where one is missing
 pub data Asked : Type 0 where
@@ -71,6 +68,10 @@ asks_post = word_then id_in (λ group. word_then (number_in MAX_TIMESTAMP) (λ t
 -- the id of a message
 abbrev pub asks_body : Rest
 asks_body = word_then id_in (λ id. ends (command.Body id))
+
+-- whether one of the links is over the standard input and output
+abbrev pub has_std : List LinkWords → Bool
+has_std links = list_any (λ (link : LinkWords). is_std link.spec) links
 
 -- a link behind others: a contact, a mode, a latency and a spec
 abbrev pub link_then : (before : List LinkWords) → (LinkWords → Rest) → Rest
@@ -130,6 +131,11 @@ abbrev pub IsReadAs : Asked → Result Command WordsFault → Type 0
 IsReadAs asked (Ok read) = asked ≡ Do read
 IsReadAs asked (Err (fault.Usage place)) = asked ≡ Usage place
 IsReadAs asked (Err fault.Memory) = Unit {0}
+
+-- what words come to that were not read
+abbrev pub words_came : WordsFault → Outcome
+words_came (fault.Usage place) = outcome.Usage place
+words_came fault.Memory = outcome.Memory
 
 -- ---- limits
 

@@ -1,8 +1,8 @@
 use Rattle.std.proofs.Common.{◌+◌, ◌∷◌, drop, refl, sym, ◌∙◌, ap}
 use Rattle.std.proofs.lemmas.Option.{slice_get_read}
-use Rattle.sync_words.specs.Reading.{texts}
-use Rattle.sync_words.proofs.PlaceLemmas.{word_there}
-use Rattle.sync_words.proofs.reading.word_at.Goals as goal
+use Rattle.sync_words.specs.Words.{texts}
+use Rattle.commands.proofs.PlaceLemmas.{word_there}
+use Rattle.commands.proofs.words.word_at.Goals as goal
 
 pub returns-in-Some : goal.returns-in-Some
 returns-in-Some c =

@@ -1,9 +1,10 @@
 use Rattle.std.proofs.Common.{◌≡◌, Err, drop, sym, ◌∙◌, subst, rules}
-use Rattle.sync_words.specs.declared.command.Command.TheVariants as command
-use Rattle.sync_words.specs.Reading.{Asked, texts, word_then, ends, asks_group, IsReadAs}
+use Rattle.commands.specs.declared.command.Command.TheVariants as command
+use Rattle.commands.specs.Reading.{Asked, word_then, ends, asks_group, IsReadAs}
+use Rattle.sync_words.specs.Words.{texts}
 use Rattle.sync_words.specs.Words.{number_in, descriptor_in}
-use Rattle.sync_words.proofs.PlaceLemmas.{stopped}
-use Rattle.sync_words.proofs.command.read_group.Goals as goal
+use Rattle.commands.proofs.PlaceLemmas.{stopped}
+use Rattle.commands.proofs.grammar.read_group.Goals as goal
 
 pub returns-in_err-descriptor-clause-read : goal.returns-in_err-descriptor-clause-read
 returns-in_err-descriptor-clause-read c =

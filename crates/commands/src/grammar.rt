@@ -1,16 +1,17 @@
-//! The commands and their words.
+//! What the words of a command line ask for.
 ghost use Rattle.std.specs.Prelude.{◌≡◌, drop, IfOk, IfSome};
-ghost use Rattle.sync_words.specs.Reading.{asks, asks_of, asks_try, asks_group, asks_share};
-ghost use Rattle.sync_words.specs.Reading.{asks_post, asks_body, asks_sync, ends};
-ghost use Rattle.sync_words.specs.Reading.{IsReadAs, IsWithin};
-ghost use Rattle.sync_words.specs.Reading.{plain_in, texts};
+ghost use Rattle.commands.specs.Reading.{asks, asks_of, asks_try, asks_group, asks_share};
+ghost use Rattle.commands.specs.Reading.{asks_post, asks_body, asks_sync, ends};
+ghost use Rattle.commands.specs.Reading.{IsReadAs, IsWithin, plain_in};
+ghost use Rattle.sync_words.specs.Words.{texts};
 
-use crate::link_words::{LinkList, read_links};
-use crate::reading::{descriptor_at, id_at, is_left_at, level_at, name_at, number_at, positive_at};
-use crate::word::Word;
-use std::alloc::{AllocError, AllocFailed, Global};
-use sync_ids::{GroupId, MAX_TIMESTAMP, MessageId};
-use sync_rules::{Level, MAX_CONTACTS};
+use crate::command::Command;
+use crate::fault::WordsFault;
+use crate::links::read_links;
+use crate::words::{descriptor_at, id_at, is_left_at, level_at, name_at, number_at, positive_at};
+use std::alloc::Global;
+use sync_ids::MAX_TIMESTAMP;
+use sync_rules::MAX_CONTACTS;
 
 /// The greatest number of a contact.
 pub const MAX_CONTACT: u64 = MAX_CONTACTS as u64 - 1;
@@ -20,66 +21,6 @@ const MAX_MAJOR: u64 = 4_294_967_295;
 
 /// The most turns of a run, and the most still turns behind which it is over.
 pub const MAX_TURNS: u64 = 1_000_000;
-
-/// What the words of a command line ask for. The parts are those of the command, in order.
-#[derive(Debug, Drop)]
-pub enum Command {
-    /// `try NAME DESCRIPTOR`: plays a stream of records in a group of this client and descriptor.
-    Try(Word, Word),
-    /// `records`: lists a stream of records.
-    Records,
-    /// `init`: makes a store.
-    Init,
-    /// `contact`: adds a contact.
-    Contact,
-    /// `group NAME MAJOR DESCRIPTOR`: adds a group.
-    Group(Word, u32, Word),
-    /// `share CONTACT GROUP LEVEL`: sets a level.
-    Share(u8, GroupId, Level),
-    /// `post GROUP TIMESTAMP`: writes a message.
-    Post(GroupId, u64),
-    /// `show`: prints what a store knows.
-    Show,
-    /// `inbox`: prints the delivered messages.
-    Inbox,
-    /// `body ID`: writes the body of a message.
-    Body(MessageId),
-    /// `sync TURNS QUIET` and the words of each link: runs sessions over the links, at most so many
-    /// turns, and until so many turns in a row were still.
-    Sync(u32, u32, LinkList),
-}
-
-/// Why the words of a command line were not read.
-#[derive(Clone, Copy, Debug, PartialEq, Eq)]
-pub enum WordsFault {
-    /// No memory was found.
-    Memory,
-    /// The place of the first word that is wrong or too many, or the number of words where one is
-    /// missing.
-    Usage(usize),
-}
-
-impl From<AllocError> for WordsFault {
-    ghost use Rattle.std.specs.Prelude.{◌≡◌};
-    ghost use Rattle.sync_words.specs.declared.command.WordsFault.TheVariants as fault;
-
-    ghost from_gives = { λ _ e. e ≡ fault.Memory };
-
-    fn from(_: AllocError) -> WordsFault {
-        WordsFault::Memory
-    }
-}
-
-impl<T: Drop> From<AllocFailed<T>> for WordsFault {
-    ghost use Rattle.std.specs.Prelude.{◌≡◌};
-    ghost use Rattle.sync_words.specs.declared.command.WordsFault.TheVariants as fault;
-
-    ghost from_gives = { λ _ e. e ≡ fault.Memory };
-
-    fn from(_: AllocFailed<T>) -> WordsFault {
-        WordsFault::Memory
-    }
-}
 
 /// Reads the words of a command line, those after the program's name.
 ///
