@@ -167,12 +167,14 @@ static NOT_SYNCED: [Call; 10] = [
     Call::Sync(1, Ok(())),
 ];
 
-// A device that can't be synced stands in the place of a file.
+// A file of the system's, which can't be synced, stands in the place of a file: the name of this
+// process.
 #[test]
 fn a_failed_sync_is_final(rt: HostRuntime) {
     let folder = "files_not_synced";
     make_folder(&rt, folder);
-    kept(&rt, symlink(&rt, "/dev/null", "files_not_synced/bsp.0"));
+    let name = "/proc/self/comm";
+    kept(&rt, symlink(&rt, name, "files_not_synced/bsp.0"));
     same(&rt, &first_apart(rt, folder, &NOT_SYNCED), &Ok(None));
     remove_folder(&rt, folder);
 }
@@ -203,6 +205,34 @@ static A_FOLDER: [Call; 3] = [
     Call::Len(1, Err(Failed)),
     Call::Sync(1, Err(Failed)),
 ];
+
+// The first file is a device.
+static A_DEVICE: [Call; 4] = [
+    Call::Len(0, Err(Failed)),
+    Call::Sync(0, Err(Failed)),
+    Call::Write(0, 0, b"a", Err(Failed)),
+    Call::Len(1, Ok(0)),
+];
+
+#[test]
+fn no_regular_file(rt: HostRuntime) {
+    let folder = "files_and_a_device";
+    make_folder(&rt, folder);
+    let device = "/dev/null";
+    kept(&rt, symlink(&rt, device, "files_and_a_device/bsp.0"));
+    same(&rt, &first_apart(rt, folder, &A_DEVICE), &Ok(None));
+    remove_folder(&rt, folder);
+}
+
+#[test]
+fn a_file_is_its_owners(rt: HostRuntime) {
+    let folder = "files_made";
+    make_folder(&rt, folder);
+    same(&rt, &first_apart(rt, folder, &ON_A_DISK), &Ok(None));
+    let found = kept(&rt, fs::metadata(&rt, "files_made/bsp.0"));
+    same(&rt, &(found.permissions().mode() & 0o777), &0o600);
+    remove_folder(&rt, folder);
+}
 
 #[test]
 fn calls_that_fail(rt: HostRuntime) {
