@@ -42,20 +42,32 @@ impl<R: Read + Drop> EarlySource<R> {
 
     /// Reads up to so many bytes more, or to the end, or up to a failure.
     pub fn read_early(&mut self, most: usize) -> Result<(), AllocError> {
-        let had = self.early.len();
-        let end = had.saturating_add(most);
-        self.early.resize(end, 0)?;
-        let mut done = had;
-        'pieces: while done < end && self.rest == Rest::Stream {
-            match read_once(&mut self.from, &mut self.early.as_mut_slice()[done..]) {
-                Some(0) => self.rest = Rest::End,
-                Some(n) => done += n,
-                None => self.rest = Rest::Failure,
-            }
+        if self.rest != Rest::Stream {
+            return Ok(());
         }
-        self.early.truncate(done);
+        let had = self.early.len();
+        self.early.resize(had.saturating_add(most), 0)?;
+        let (n, rest) = read_front(&mut self.from, &mut self.early.as_mut_slice()[had..]);
+        self.early.truncate(had + n);
+        self.rest = rest;
         Ok(())
     }
+}
+
+// Reads until the buffer is full or nothing comes any more, and says how many bytes, and what comes
+// behind them.
+fn read_front<R: Read>(from: &mut R, buf: &mut [u8]) -> (usize, Rest)
+    ensures { result.0 ≤ length buf.new }
+{
+    let mut done = 0;
+    'pieces: while done < buf.len() {
+        match read_once(from, &mut buf[done..]) {
+            Some(0) => return (done, Rest::End),
+            Some(n) => done += n,
+            None => return (done, Rest::Failure),
+        }
+    }
+    (done, Rest::Stream)
 }
 
 impl<R: Read + Drop> Source for EarlySource<R> {

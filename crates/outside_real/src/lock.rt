@@ -40,7 +40,7 @@ pub fn lock_to_write<R: Files<File = File> + Clock>(
             return Ok(lock);
         }
         if is_long(rt, alloc, folder)? {
-            if looks == MOST_LOOKS {
+            if looks >= MOST_LOOKS {
                 break;
             }
             looks += 1;
