@@ -13,7 +13,7 @@ pub fn need_of(command: &Command) -> Need
     match command {
         Command::Try(_, _) | Command::Records => Need::Nothing,
         Command::Sync(_, _, _) => Need::Stay,
-        command if command.may_write() => Need::Write,
+        _ if command.may_write() => Need::Write,
         _ => Need::Read,
     }
 }
