@@ -15,14 +15,14 @@ mod word;
 
 pub use entry_lines::{contact_line, group_line, level_line, posted_line, ready_line};
 pub use error_lines::{
-    ErrorText, LinkText, MAX_ERROR, ReasonText, bad_record_line, damaged_line, inside_line,
-    link_line, plain_line, refused_line, script_line, usage_line,
+    ErrorText, MAX_ERROR, bad_record_line, damaged_line, inside_line, link_line, plain_line,
+    refused_line, script_line, usage_line,
 };
 pub use held_lines::{
     contacts_line, device_line, inbox_line, known_group_line, sessions_line, state_line,
 };
 pub use link_words::{LinkList, LinkWords};
-pub use links::{LinkEnd, LinkEnds};
+pub use links::LinkEnds;
 pub use outcome::Outcome;
 pub use reading::{id, level, mode, number, positive};
 pub use spec::{is_dialled, is_spec, is_std};
