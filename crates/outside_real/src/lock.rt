@@ -6,11 +6,10 @@
 use crate::opening::{is_there, open};
 use std::alloc::Global;
 use std::fs::{File, Files, TryLockError};
-use std::io;
 use std::io::ErrorKind;
 use std::path::Path;
-use std::thread;
 use std::time::{Clock, Duration};
+use std::{io, thread};
 
 // How long a process sleeps before it looks again whether it may go on.
 const PAUSE_MILLISECONDS: u64 = 10;

@@ -1,11 +1,10 @@
 //! How a file of this machine is found and opened.
-use std::fs;
 use std::fs::OpenOptions;
-use std::io;
 use std::io::ErrorKind;
 use std::os::unix::fs::OpenOptionsExt;
 use std::path::Path;
 use std::rt::Files;
+use std::{fs, io};
 
 // The mode of a file that is made: its owner reads and writes it, and nobody else.
 const OWN_MODE: u32 = 0o600;
