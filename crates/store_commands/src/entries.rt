@@ -134,11 +134,7 @@ pub fn add_entry<D: Disk, W: Sink, C: Clients>(
 }
 
 // The line of an entry that a command adds.
-fn line_of(
-    alloc: Global,
-    entry: &Entry,
-    id: Option<MessageId>,
-) -> Result<String, AllocError>
+fn line_of(alloc: Global, entry: &Entry, id: Option<MessageId>) -> Result<String, AllocError>
     requires { IsOfAll id (entry.now ∷ []) }
     ensures { IfOk result (λ line. string_bytes line ≡ added_text entry.now) }
 {
