@@ -37,3 +37,4 @@ pub mod Allowed
 pub mod Authored
 pub mod Leaving
 pub mod Fronts
+mod GroupsKnown
