@@ -34,10 +34,10 @@ fn main(rt: HostRuntime) -> ExitCode {
         &mut err,
         &Bundle::new(),
     );
-    ExitCode::from(status.number())
+    status.exit_code()
 }
 
 fn out_of_memory<S: Sink>(err: &mut S) -> ExitCode {
     let status = report(&Outcome::Memory, err);
-    ExitCode::from(status.number())
+    status.exit_code()
 }

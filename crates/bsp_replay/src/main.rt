@@ -29,11 +29,11 @@ fn main(rt: HostRuntime) -> ExitCode {
         &mut out,
         &mut err,
     );
-    ExitCode::from(status.number())
+    status.exit_code()
 }
 
 fn out_of_memory<S: Sink>(err: &mut S) -> ExitCode {
     let outcome = Outcome::Memory;
     let _ = write_text(err, outcome.text().as_str());
-    ExitCode::from(outcome.status().number())
+    outcome.status().exit_code()
 }

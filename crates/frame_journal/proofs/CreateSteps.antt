@@ -1,17 +1,16 @@
 -- A journal begun in a cleared file: what stands behind its gate, and the gate.
-use Rattle.std.proofs.Common.{◌≡◌, ◌≢◌, ℕ, ◌+◌, ◌<◌, ◌≤◌, false, eqb, ◌&&◌, List, [], ◌∷◌, ◌++◌, length, take, drop, refl, sym, ap, ◌∙◌, subst, inl, inr, arith, append-nil}
+use Rattle.std.proofs.Common.{◌≡◌, ◌≢◌, ℕ, ◌+◌, ◌<◌, ◌≤◌, false, eqb, ◌&&◌, List, [], ◌∷◌, ◌++◌, length, take, refl, sym, ap, ◌∙◌, subst, inl, inr, arith, append-nil}
 use Rattle.std.specs.Prelude.{slice_index, nat_le}
 use Rattle.std.specs.Int.{w64, to_be_bytes}
 use Rattle.std.proofs.Math.Bool.{and-false}
-use Rattle.std.proofs.lemmas.Bool.{cases_eq}
 use Rattle.std.proofs.lemmas.Bool.Decides.{eqb_tells}
 use Rattle.std.proofs.lemmas.List.{drop_all, get_or-take}
 use Rattle.outside.specs.Files.{Two, File, file_of, settled, NothingPending}
 use Rattle.outside.specs.Disk.{overwritten}
 use Rattle.outside.specs.Frames.{is_open, HasFrames}
 use Rattle.outside.specs.Steps.{other_of, file_of-with_file, other_of-with_file}
-use Rattle.frame_journal.specs.Gates.{WritesBehind, OpensGate, KeepsFront, KeepsAllBut}
-use Rattle.frame_journal.specs.Create.{IsCleared, IsPrepared, Creates, Prepares, Publishes, ShutOrBegun, ShutOrOpened, begun_bytes, behind_gate, opened}
+use Rattle.frame_journal.specs.Gates.{WritesBehind, KeepsFront}
+use Rattle.frame_journal.specs.Create.{IsCleared, Creates, Prepares, Publishes, ShutOrBegun, ShutOrOpened, begun_bytes, behind_gate, opened}
 
 -- a file whose first byte is not 1 has no open header
 pub not_open : (bytes : List ℕ) → slice_index bytes 0 ≢ 1 → is_open bytes ≡ false
@@ -63,68 +62,21 @@ writes_prepares file generation two two' cleared written =
         frames = subst (λ (l : List ℕ). HasFrames l header []) reads (begun_frames cleared.gate generation);
         end_is = refl;
       };
-      prepared = record { gate = cleared.gate; rest = behind_gate generation; closed = cleared.closed; bytes = this; header = refl };
+      prepared = record {
+        settled = this ∙ ap settled reads;
+        gate = cleared.gate;
+        marked = 66 ∷ 83 ∷ 80 ∷ 74 ∷ 1 ∷ to_be_bytes w64 generation;
+        payloads = [];
+        closed = cleared.closed;
+        header = refl;
+        frames = subst (λ (l : List ℕ). HasFrames l header []) reads (begun_frames cleared.gate generation);
+      };
     }
 
 pub kept_shut : (two : Two File) (file : ℕ) → IsCleared two file → (c : List ℕ) → KeepsFront (file_of two file).now 1 c → is_open c ≡ false
 kept_shut two file cleared c kept =
     let front : take 1 c ≡ cleared.gate ∷ [] = kept ∙ ap (take 1) (cleared_now two file cleared) in
     not_open c (λ e. cleared.closed (sym (first_of c cleared.gate front) ∙ e))
-
--- ---- the gate of a prepared file
-
-prepared_now : (two : Two File) (file : ℕ) (p : IsPrepared two file) → (file_of two file).now ≡ p.gate ∷ p.rest
-prepared_now two file p = ap (λ (f : File). f.now) p.bytes
-
--- what was prepared is what opening its gate asks
-pub prepared_fits : (file : ℕ) (two : Two File) → IsPrepared two file → (NothingPending two file) × (1 ≤ length (file_of two file).now)
-prepared_fits file two p =
-    (p.bytes ∙ ap settled (sym (prepared_now two file p)), subst (λ (f : File). 1 ≤ length f.now) (sym p.bytes) (omega arith))
-
--- frames stay where the gate before them is opened
-opened_frames : (bytes header : List ℕ) (payloads : List (List ℕ)) → HasFrames bytes header payloads → HasFrames (opened bytes) (opened header) payloads
-opened_frames bytes [] payloads frames = let none = frames.long in absurd (omega (arith, none))
-opened_frames bytes (h ∷ header) payloads frames = record {
-  gate = frames.gate;
-  rest = frames.rest;
-  whole = ap opened frames.whole;
-  closed = frames.closed;
-  long = frames.long;
-  payloads_fit = frames.payloads_fit;
-}
-
-pub opens_publishes : (file : ℕ) (two two' : Two File) → IsPrepared two file → OpensGate file 1 two two' → Publishes file two two'
-opens_publishes file two two' p opens =
-    let f = settled (overwritten (file_of two file).now 0 (1 ∷ [])) in
-    let now = prepared_now two file p in
-    let this : file_of two' file ≡ settled (opened (file_of two file).now) =
-    ap (λ (t : Two File). file_of t file) opens ∙ file_of-with_file two file f
-    ∙ ap (λ l. settled (overwritten l 0 (1 ∷ []))) now
-    ∙ ap (λ l. settled (opened l)) (sym now) in
-    let reads : opened (file_of two file).now ≡ (file_of two' file).now = ap (λ (g : File). g.now) (sym this) in
-    record {
-      bytes = this;
-      other = ap (λ (t : Two File). other_of t file) opens ∙ other_of-with_file two file f;
-      header = ap is_open (sym reads ∙ ap opened now) ∙ p.header;
-      at_rest = λ end rest. record {
-        settled = this ∙ ap settled reads;
-        header = opened rest.header;
-        payloads = rest.payloads;
-        frames =
-            subst (λ (l : List ℕ). HasFrames l (opened rest.header) rest.payloads) reads
-            (opened_frames (file_of two file).now rest.header rest.payloads rest.frames);
-        end_is = rest.end_is;
-      };
-    }
-
-pub gate_opened : (file : ℕ) (two : Two File) → IsPrepared two file → (c : List ℕ) → KeepsAllBut (file_of two file).now 0 c → ShutOrOpened (file_of two file).now c
-gate_opened file two p c kept =
-    let now = prepared_now two file p in
-    let shape : c ≡ kept.0 ∷ p.rest = kept.1 ∙ ap (λ l. take 0 l ++ kept.0 ∷ drop (0 + 1) l) now in
-    elim (cases_eq kept.0 1) [
-      | inl one ↦ inr (shape ∙ ap (λ g. g ∷ p.rest) one ∙ ap opened (sym now))
-      | inr other ↦ inl (not_open c (λ e. other (sym (ap (λ (l : List ℕ). slice_index l 0) shape) ∙ e)))
-    ]
 
 -- ---- a journal with no frame
 

@@ -2,7 +2,7 @@
 use Rattle.std.specs.Prelude.{◌≡◌, ◌≢◌, ◌⊎◌, ℕ, true, false, List, [], ◌∷◌, ◌++◌, take, drop}
 use Rattle.std.specs.Int.{w64, to_be_bytes}
 use Rattle.outside.specs.Files.{Two, File, file_of, settled, NothingPending}
-use Rattle.outside.specs.Frames.{is_open, header_of, IsAtRest}
+use Rattle.outside.specs.Frames.{is_open, header_of, HasFrames, IsAtRest}
 use Rattle.outside.specs.Steps.{other_of}
 
 -- the file is one byte long, which is no open gate, and nothing is pending in it
@@ -19,13 +19,16 @@ BeforeOrShut bytes left = (left ≡ bytes) ⊎ (is_open left ≡ false)
 abbrev pub behind_gate : ℕ → List ℕ
 behind_gate generation = 66 ∷ 83 ∷ 80 ∷ 74 ∷ 1 ∷ (to_be_bytes w64 generation ++ 0 ∷ [])
 
--- all of a journal but the gate of its header, and nothing pending in its file
+-- A file is prepared: it has some frames and all of an open header but the gate, which is closed, and nothing is
+-- pending in it.
 pub record IsPrepared (files : Two File) (file : ℕ) : Type 0 where
+  pub settled : NothingPending files file
   pub gate : ℕ
-  pub rest : List ℕ
+  pub marked : List ℕ
+  pub payloads : List (List ℕ)
   pub closed : gate ≢ 1
-  pub bytes : file_of files file ≡ settled (gate ∷ rest)
-  pub header : is_open (1 ∷ rest) ≡ true
+  pub header : is_open (1 ∷ marked) ≡ true
+  pub frames : HasFrames (file_of files file).now (gate ∷ marked) payloads
 
 -- All of a journal with no frame but the gate of its header, and nothing pending in its file; the other file is as
 -- before. Frames may be added to it, and its gate may be opened.

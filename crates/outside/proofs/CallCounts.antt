@@ -1,9 +1,11 @@
 -- How many calls of a disk a run makes, one call or one run more at a time.
-use Rattle.std.proofs.Common.{◌≡◌, ℕ, zero, suc, ◌+◌, ◌≤◌, Result, Ok, Err, refl, sym, ap, ◌∙◌, arith, add-zero}
+use Rattle.std.proofs.Common.{◌≡◌, ℕ, zero, suc, ◌+◌, ◌≤◌, [], ◌∷◌, Result, Ok, Err, refl, sym, ap, ◌∙◌, arith, add-zero}
 use Rattle.outside.specs.Faults.{one_more}
-use Rattle.outside.specs.Calls.{Calls, OneCall, NoCall, more_calls}
+use Rattle.outside.specs.Calls.{Calls, CallsGoOn, OneCall, NoCall, more_calls}
+use Rattle.outside.specs.Disk.{Becomes}
 use Rattle.outside.specs.Outside.{Outside, Moment, DiskCall, LinkCall, MakesJust, MakesAtMost, MakesCalls}
-use Rattle.outside.specs.Steps.{becomes_none, becomes_map, becomes_then}
+use Rattle.outside.specs.MemDisk.{MemDiskValue, hosted, with_call, calls_of}
+use Rattle.outside.specs.Steps.{becomes_none, becomes_map, becomes_then, go_on_none, go_on_then}
 
 -- ---- just so many
 
@@ -102,3 +104,25 @@ calls_then m n (Ok _) o0 o1 o2 first second = record {
   most = most_then m n o0 o1 o2 (just_most m o0 o1 first) second.most;
 }
 calls_then m n (Err _) o0 o1 o2 first second = record { just = tt; most = most_then m n o0 o1 o2 (just_most m o0 o1 first) second.most }
+
+-- ---- no call
+
+pub no_call_none : (o : Outside) → Becomes NoCall o.calls o.calls
+no_call_none o = becomes_none NoCall o.calls (λ a. record { goes_on = go_on_none a; made = refl })
+
+pub no_call_then : (o0 o1 o2 : Outside) → Becomes NoCall o0.calls o1.calls → Becomes NoCall o1.calls o2.calls → Becomes NoCall o0.calls o2.calls
+no_call_then o0 o1 o2 first second =
+    becomes_then NoCall NoCall NoCall o0.calls o1.calls o2.calls
+    (λ a b c f s. record { goes_on = go_on_then a b c f.goes_on s.goes_on; made = s.made ∙ f.made }) first second
+
+pub no_call_goes_on : (o o' : Outside) → Becomes NoCall o.calls o'.calls → Becomes CallsGoOn o.calls o'.calls
+no_call_goes_on o o' none = becomes_map NoCall CallsGoOn o.calls o'.calls (λ a b n. n.goes_on) none
+
+-- ---- a host in memory
+
+-- that begins again over the same disk made no call of it
+pub begun_again : (disk : MemDiskValue) → NoCall (calls_of disk) (calls_of (with_call hosted disk))
+begun_again disk = record {
+  goes_on = record { same_start = refl; same_failing = refl; same_stop = refl; more = hosted ∷ []; grown = refl; later = omega arith };
+  made = refl;
+}

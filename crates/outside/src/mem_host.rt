@@ -592,10 +592,10 @@ impl Host for MemHost {
         requires { _link < length (links_of self.old.disk) }
         ensures call { QuietCall (host_told self.old) (host_told self.new) }
         ensures links { (host_told self.new).links ≡ (host_told self.old).links }
-
-        // All that it answers from then on is as if the link had not been ended.
         ensures same { self.new ≡ self.old }
-    {}
+    {
+        // What is heard and sent afterwards is as before: a script answers whoever asks.
+    }
 
     fn now(&mut self) -> u64
         ensures call { QuietCall (host_told self.old) (host_told self.new) }

@@ -12,8 +12,7 @@ use Rattle.sync_rules.specs.Legal.{Allowed}
 use Rattle.sync_rules.specs.Steps.{IsSettled}
 use Rattle.sync_course.specs.declared.TheConstants.{MAX_OUTPUTS}
 use Rattle.sync_course.specs.declared.ends.LinkEnd.TheVariants as end
-use Rattle.sync_course.specs.declared.ends.LinkLine.TheVariants as line
-use Rattle.sync_course.specs.Closing.{closing, line_for}
+use Rattle.sync_course.specs.Closing.{Closing, closing}
 use Rattle.sync_course.specs.Events.{Event, Commit, Hear, Pass, Read}
 use Rattle.sync_course.specs.Links.{Link, beats, link_of, without_redundant}
 use Rattle.sync_course.specs.LinkTurns.{Asks, Done, IsNothingDue, Sends, Spot, Waits}
@@ -25,6 +24,10 @@ use Rattle.sync_course.specs.Turns.{Attaches, Between, Course, Ended, Greets, Pl
 -- the events before the first turn
 abbrev pub greeting : Session → List Event
 greeting s = Pass ∷ Commit (entry.Session s ∷ []) ∷ Pass ∷ Pass ∷ []
+
+-- the closing of a run whose one link is still asked
+closed : Bool → Closing
+closed over = record { over = over; ends = end.Going ∷ [] }
 
 -- the events of a turn of one link that is Idle, at this reading
 abbrev pub idle_turn : ℕ → List Event
@@ -154,7 +157,8 @@ module _ (clients : Meaning) (terms : Terms) (s : Session) (now : ℕ) (f : Fact
   -- as many turns as were to be quiet: the link is quiet
   pub ends_quiet : 0 < terms.quiet → terms.quiet ≤ terms.turns
       → Course clients terms (s ∷ []) f (idle_run s now terms.quiet) (idle_end s terms.quiet began)
-      × (closing terms.quiet (idle_end s terms.quiet began) ≡ line.Quiet ∷ [])
+      × (closing terms.quiet (idle_end s terms.quiet began) ≡ record { over = true; ends = end.Going ∷ [] })
+  unfolding closed
   ends_quiet some enough =
       let a : nat_lt 0 terms.quiet ≡ true = lt-ltb 0 terms.quiet some in
       let b : nat_le terms.quiet terms.quiet ≡ true = le-leb terms.quiet terms.quiet (omega arith) in
@@ -163,13 +167,14 @@ module _ (clients : Meaning) (terms : Terms) (s : Session) (now : ℕ) (f : Fact
         idle_course terms.quiet
             (λ k less. goes_on_at k less (omega (arith, less, enough)))
             (ap (λ (x : Bool). x || nat_le terms.turns terms.quiet) over),
-        ap (λ (x : Bool). line_for x end.Going ∷ []) over,
+        ap closed over,
       )
 
   -- fewer turns than were to be quiet: it is unfinished
   pub ends_unfinished : 0 < terms.turns → terms.turns < terms.quiet
       → Course clients terms (s ∷ []) f (idle_run s now terms.turns) (idle_end s terms.turns began)
-      × (closing terms.quiet (idle_end s terms.turns began) ≡ line.Unfinished ∷ [])
+      × (closing terms.quiet (idle_end s terms.turns began) ≡ record { over = false; ends = end.Going ∷ [] })
+  unfolding closed
   ends_unfinished some fewer =
       let a : nat_le terms.quiet terms.turns ≡ false = lt-leb terms.quiet terms.turns fewer in
       let b : nat_le terms.turns terms.turns ≡ true = le-leb terms.turns terms.turns (omega arith) in
@@ -178,7 +183,7 @@ module _ (clients : Meaning) (terms : Terms) (s : Session) (now : ℕ) (f : Fact
         idle_course terms.turns
             (λ k less. goes_on_at k (omega (arith, less, fewer)) less)
             (ap (λ (x : Bool). x || nat_le terms.turns terms.turns) not_over ∙ b),
-        ap (λ (x : Bool). line_for x end.Going ∷ []) not_over,
+        ap closed not_over,
       )
     where
       none : (x : Bool) → (x && false) ≡ false

@@ -1,6 +1,6 @@
 //! The laws of paths and courses. Each is the contract of a function that does nothing, over every
 //! meaning of the clients. The lemmas of `specs/` that prove them may be cited as well.
-ghost use Rattle.std.specs.Prelude.{◌≡◌, ◌≢◌, ℕ, suc, ◌+◌, ◌<◌, ◌≤◌, cond, true, List, [], ◌∷◌};
+ghost use Rattle.std.specs.Prelude.{◌≡◌, ◌≢◌, ℕ, suc, ◌+◌, ◌<◌, ◌≤◌, cond, false, true, List, [], ◌∷◌};
 ghost use Rattle.std.specs.Prelude.{◌++◌, length, slice_get, slice_set, Some};
 ghost use Rattle.record_grammar.specs.Stream.{items};
 ghost use Rattle.sync_rules.specs.Clients.{Meaning};
@@ -27,7 +27,7 @@ ghost use Rattle.sync_course.specs.Suits.{AllSuit, heard_on, IsCounted};
 ghost use Rattle.sync_course.specs.Turns.{Broken, Course, first_place, is_over, Place};
 ghost use Rattle.sync_course.specs.Turns.{RunStep, Terms, with_spot};
 
-use crate::ends::{LinkEnd, LinkLine};
+use crate::ends::LinkEnd;
 use record_grammar::{fronts_have_fronts, records_join, streams_go_on};
 
 /// Paths: what leads from one place to another and on to a third leads from the first to the third,
@@ -168,7 +168,7 @@ pub fn idle_links_end_quiet()
         → Course clients terms (s ∷ []) f (idle_run s now terms.quiet)
         (idle_end s terms.quiet (after_all f (entry.Session s ∷ [])))
         × (closing terms.quiet (idle_end s terms.quiet (after_all f (entry.Session s ∷ [])))
-        ≡ LinkLine.Quiet ∷ []) }
+        ≡ record { over = true; ends = LinkEnd.Going ∷ [] }) }
     ensures unfinished { (clients : Meaning) (terms : Terms) (s : Session) (now : ℕ) (f : Facts)
         → terms.first ≡ f.begun → IsSettled clients f
         → Allowed clients f (entry.Session s ∷ [])
@@ -178,5 +178,5 @@ pub fn idle_links_end_quiet()
         → Course clients terms (s ∷ []) f (idle_run s now terms.turns)
         (idle_end s terms.turns (after_all f (entry.Session s ∷ [])))
         × (closing terms.quiet (idle_end s terms.turns (after_all f (entry.Session s ∷ [])))
-        ≡ LinkLine.Unfinished ∷ []) }
+        ≡ record { over = false; ends = LinkEnd.Going ∷ [] }) }
 {}

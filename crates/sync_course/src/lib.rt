@@ -4,14 +4,14 @@
 //! in its turn (`LinkTurns`), the turns of a run (`Turns`), how its links end (`Closing`), and what
 //! is told of a path (`Events`, `Paths`). Nothing here calls a disk, a link or a clock.
 //!
-//! - `ends`: how a link stands, the line that a run closes it with, and when a run is over.
+//! - `ends`: how a link stands, and when a run is over.
 //! - `laws`: the laws of paths, each the contract of a function that does nothing.
 #![tactic(auto)]
 
 mod ends;
 pub mod laws;
 
-pub use ends::{LinkEnd, LinkLine, is_over, line_of};
+pub use ends::{LinkEnd, is_over};
 
 /// How many bytes of a link are asked for at once.
 pub const PIECE_LEN: usize = 65_536;

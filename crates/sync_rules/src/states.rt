@@ -49,4 +49,8 @@ pub enum Refused {
     DependencyNotDelivered,
     /// No message of this id is held.
     UnknownMessage,
+    /// 4,294,967,295 sessions are begun.
+    TooManySessions,
+    /// The group is none of those in which groups are shared.
+    NotSharing,
 }

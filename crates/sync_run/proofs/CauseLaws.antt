@@ -1,21 +1,19 @@
 -- What calls one after another leave, and why links stand Failed.
 use Rattle.std.proofs.Common.{◌≡◌, ℕ, zero, suc, ◌+◌, ◌≤◌, Bool, true, false, List, [], ◌∷◌, inl, inr, arith, refl, sym, ap, subst, ◌∙◌, Some}
-use Rattle.std.specs.Prelude.{slice_get}
+use Rattle.std.specs.Prelude.{map, slice_get}
 use Rattle.outside.specs.Faults.{Rose, one_more}
 use Rattle.outside.specs.Links.{Links}
 use Rattle.outside.specs.Outside.{Outside}
 use Rattle.outside.specs.Runs.{grow_same, grow_then}
 use Rattle.outside.specs.Steps.{calls_none, calls_then, told_on}
-use Rattle.sync_course.specs.Closing.{line_for}
 use Rattle.sync_node.specs.declared.link.Link.{Link}
-use Rattle.sync_course.specs.declared.ends.LinkEnd as link_end
-use Rattle.sync_course.specs.declared.ends.LinkEnd.TheVariants as node_end
+use Rattle.sync_course.specs.declared.ends.LinkEnd.{LinkEnd}
+use Rattle.sync_course.specs.declared.ends.LinkEnd.TheVariants as end
 use Rattle.sync_node.specs.Causes.{FailByCause, StandsFailed}
 use Rattle.sync_node.specs.Going.{Goes}
-use Rattle.sync_words.specs.declared.error_lines.LinkText.TheVariants as text
-use Rattle.sync_words.specs.declared.links.LinkEnd.{LinkEnd}
+use Rattle.sync_course.specs.Closing.{Closing}
 use Rattle.sync_run.specs.Causes.{FailuresRose}
-use Rattle.sync_run.specs.Lines.{lines_of, numbered, text_of}
+use Rattle.sync_run.specs.Closed.{closed_by}
 
 pub goes_none : (o : Outside) → Goes o o
 goes_none o = record {
@@ -61,43 +59,24 @@ causes_then links mid links' o o1 o' first second before behind number stands =
       | inr rose ↦ inr (rose_before (o.links.faults number) (o1.links.faults number) (o'.links.faults number) (first.links.faults number) rose)
     ]
 
--- ---- lines
+-- ---- ends
 
-text_failed : (over : Bool) (e : link_end.LinkEnd) → text_of (line_for over e) ≡ text.Failed → e ≡ node_end.Failed
-text_failed true node_end.Going is = cc
-text_failed false node_end.Going is = cc
-text_failed true node_end.Clean is = cc
-text_failed false node_end.Clean is = cc
-text_failed over node_end.Redundant is = cc
-text_failed over (node_end.Inside place) is = cc
-text_failed over (node_end.Bad place why) is = cc
-text_failed over (node_end.NoVersion place) is = cc
-text_failed over node_end.Failed is = refl
-
--- a link whose line says that it failed stands so
-line_failed : (over : Bool) (k : ℕ) (links : List Link) (i : ℕ) (end : LinkEnd) → slice_get (numbered k (lines_of over links)) i ≡ Some end → end.ending ≡ text.Failed
-    → (end.link ≡ k + i) × StandsFailed links i
-line_failed over k [] i end at failed = cc
-line_failed over k (x ∷ links) zero end at failed =
-    let is : record { link = k; ending = text_of (line_for over x.end) } ≡ end = cc in
-    let here : k ≡ k + 0 = omega arith in (
-      ap (λ (e : LinkEnd). e.link) (sym is) ∙ here,
-      record { link = x; there = refl; failed = text_failed over x.end (ap (λ (e : LinkEnd). e.ending) is ∙ failed) },
-    )
-line_failed over k (x ∷ links) (suc i) end at failed =
-    let rest = line_failed over (suc k) links i end at failed in
-    let later : suc k + i ≡ k + suc i = omega arith in
-    (rest.0 ∙ later, record { link = rest.1.link; there = rest.1.there; failed = rest.1.failed })
+-- a link that is said to have failed stands so
+end_failed : (links : List Link) (i : ℕ) (stands : LinkEnd) → slice_get (map (λ (l : Link). l.end) links) i ≡ Some stands → stands ≡ end.Failed → StandsFailed links i
+end_failed [] i stands at failed = cc
+end_failed (x ∷ links) zero stands at failed =
+    let is : x.end ≡ stands = cc in
+    record { link = x; there = refl; failed = is ∙ failed }
+end_failed (x ∷ links) (suc i) stands at failed =
+    let rest = end_failed links i stands at failed in
+    record { link = rest.link; there = rest.there; failed = rest.failed }
 
 -- where no link stood failed before
-pub ends_rose : (over : Bool) (links links' : List Link) (ends : List LinkEnd) (o0 o1 o : Outside) → links ≡ [] → ends ≡ numbered 0 (lines_of over links') → o1.links ≡ o0.links
+pub ends_rose : (over : Bool) (links links' : List Link) (ends : Closing) (o0 o1 o : Outside) → links ≡ [] → ends ≡ closed_by over links' → o1.links ≡ o0.links
     → FailByCause links links' o1 o → FailuresRose o0 o ends
-ends_rose over links links' ends o0 o1 o none are same causes i end at failed =
-    let line = line_failed over 0 links' i end (subst (λ (es : List LinkEnd). slice_get es i ≡ Some end) are at) failed in
-    let number : i ≡ end.link = (let plain : 0 + i ≡ i = omega arith in sym (line.0 ∙ plain)) in
-    elim (causes i line.1) [
-      | inl stood ↦ let no : slice_get [] i ≡ Some stood.link = subst (λ (ls : List Link). slice_get ls i ≡ Some stood.link) none stood.there in cc
-      | inr rose ↦
-          subst (λ (n : ℕ). Rose (o0.links.faults n) (o.links.faults n)) number
-          (subst (λ (l : Links). Rose (l.faults i) (o.links.faults i)) same rose)
+ends_rose over links links' ends o0 o1 o none are same causes i stands at failed =
+    let stood = end_failed links' i stands (subst (λ (c : Closing). slice_get c.ends i ≡ Some stands) are at) failed in
+    elim (causes i stood) [
+      | inl before ↦ let no : slice_get [] i ≡ Some before.link = subst (λ (ls : List Link). slice_get ls i ≡ Some before.link) none before.there in cc
+      | inr rose ↦ subst (λ (l : Links). Rose (l.faults i) (o.links.faults i)) same rose
     ]

@@ -17,7 +17,7 @@ use Rattle.sync_node.specs.Courses.{FitsWith, ReadsAs}
 use Rattle.sync_node.specs.Going.{Goes}
 use Rattle.sync_node.specs.Output.{Journal}
 use Rattle.sync_words.specs.declared.link_words.LinkWords.{LinkWords}
-use Rattle.sync_words.specs.declared.links.LinkEnd.{LinkEnd}
+use Rattle.sync_course.specs.Closing.{Closing}
 use Rattle.sync_words.specs.declared.outcome.Outcome.{Outcome}
 use Rattle.sync_words.specs.declared.outcome.Outcome.TheVariants as outcome
 use Rattle.sync_words.specs.Links.{has_nonce}
@@ -110,7 +110,7 @@ module _ (clients : Meaning) (limits : Limits) (words : List LinkWords) (links :
   all_made : o.links.dialled ≡ length words
   all_made = omega (arith, same, makes.dialled, none)
 
-  ended_so : (ends : List LinkEnd) → RunEnded clients limits (sessions_from (facts j).begun links) j o1 o ends → RanToEnd clients limits words j o0 o ends
+  ended_so : (ends : Closing) → RunEnded clients limits (sessions_from (facts j).begun links) j o1 o ends → RanToEnd clients limits words j o0 o ends
   ended_so ends end = record {
     sessions = sessions_from (facts j).begun links;
     planned = sessions_planned (facts j).begun words links dialled;
@@ -152,7 +152,7 @@ module _ (clients : Meaning) (limits : Limits) (words : List LinkWords) (links :
     over = filled.over;
   }
 
-  pub run_comes : (r : Result (List LinkEnd) Outcome) → RunsOver clients limits (sessions_from (facts j).begun links) j o1 o r → RunComes clients limits words j o0 o r
+  pub run_comes : (r : Result Closing Outcome) → RunsOver clients limits (sessions_from (facts j).begun links) j o1 o r → RunComes clients limits words j o0 o r
   run_comes (Ok ends) over = ended_so ends over
   run_comes (Err outcome.Full) over = filled_so over
   run_comes (Err outcome.Memory) over = broken_so over
@@ -174,11 +174,10 @@ unbegun clients limits words made j o0 o none makes reads = record {
   reads = subst (λ (k : Journal). ReadsAs clients o.files k) (sym (append-nil j)) reads;
 }
 
-dial_comes : (clients : Meaning) (limits : Limits) (words made : List LinkWords) (link : ℕ) (j : Journal) (o0 o : Outside) (r : Result (List LinkEnd) Outcome) → o0.links.dialled ≡ 0
+dial_comes : (clients : Meaning) (limits : Limits) (words made : List LinkWords) (link : ℕ) (j : Journal) (o0 o : Outside) (r : Result Closing Outcome) → o0.links.dialled ≡ 0
     → MakesLinks made o0.links o.links → ReadsAs clients o.files j → FailsAlone link r → RunComes clients limits words j o0 o r
 dial_comes clients limits words made link j o0 o (Ok ends) none makes reads alone = absurd alone
-dial_comes clients limits words made link j o0 o (Err (outcome.Links ends)) none makes reads alone = reads
-dial_comes clients limits words made link j o0 o (Err outcome.Memory) none makes reads alone = unbegun clients limits words made j o0 o none makes reads
+dial_comes clients limits words made link j o0 o (Err (outcome.LinkFailed named)) none makes reads alone = reads
 dial_comes clients limits words made link j o0 o (Err _) none makes reads alone = absurd alone
 
 -- ---- by the answer of the dials
@@ -187,7 +186,7 @@ module _ (clients : Meaning) (limits : Limits) (words : List LinkWords) (links :
   fits_calm : (j : Journal) → FitsWith clients s o0.files j → FitsWith clients s o1.files j
   fits_calm j fit = fits_on clients s o0 o1 calms.same_files j fit
 
-  pub dialled_comes : (u : Unit {0}) (lent : List Dialled) (o : Outside) (r : Result (List LinkEnd) Outcome) → DialsAll words links (Ok u) o0 o1 → lent ≡ links → Goes o1 o
+  pub dialled_comes : (u : Unit {0}) (lent : List Dialled) (o : Outside) (r : Result Closing Outcome) → DialsAll words links (Ok u) o0 o1 → lent ≡ links → Goes o1 o
       → ((j : Journal) → FitsWith clients s o1.files j → RunsOver clients limits (sessions_from (facts j).begun lent) j o1 o r)
       → (j : Journal) → FitsWith clients s o0.files j → RunComes clients limits words j o0 o r
   dialled_comes u lent o r dials is goes over j fit =
@@ -195,7 +194,7 @@ module _ (clients : Meaning) (limits : Limits) (words : List LinkWords) (links :
       goes.same_dialled r
       (subst (λ (ds : List Dialled). RunsOver clients limits (sessions_from (facts j).begun ds) j o1 o r) is (over j (fits_calm j fit)))
 
-  pub undialled_comes : (e : Failed) (link : ℕ) (r : Result (List LinkEnd) Outcome) → DialsAll words links (Err e) o0 o1 → FailsAlone link r
+  pub undialled_comes : (e : Failed) (link : ℕ) (r : Result Closing Outcome) → DialsAll words links (Err e) o0 o1 → FailsAlone link r
       → (j : Journal) → FitsWith clients s o0.files j → RunComes clients limits words j o0 o1 r
   undialled_comes e link r dials alone j fit =
       let now : FitsWith clients s o1.files j = fits_calm j fit in
@@ -203,25 +202,22 @@ module _ (clients : Meaning) (limits : Limits) (words : List LinkWords) (links :
 
 -- ---- causes
 
-pub dialled_caused : (words : List LinkWords) (o0 o1 o : Outside) (r : Result (List LinkEnd) Outcome) → Calms o0 o1 → RunCaused o1 o r → IsCaused words o0 o r
-dialled_caused words o0 o1 o (Ok ends) calms caused = λ i end at failed.
-    let rose : one_more (o1.links.faults end.link) ≤ o.links.faults end.link = caused i end at failed in
-    let later : o0.links.faults end.link ≤ o1.links.faults end.link = calms.grows.faults end.link in
-    let more : one_more (o0.links.faults end.link) ≤ o.links.faults end.link = omega (arith, rose, later) in
+pub dialled_caused : (words : List LinkWords) (o0 o1 o : Outside) (r : Result Closing Outcome) → Calms o0 o1 → RunCaused o1 o r → IsCaused words o0 o r
+dialled_caused words o0 o1 o (Ok ends) calms caused = λ i stands at failed.
+    let rose : one_more (o1.links.faults i) ≤ o.links.faults i = caused i stands at failed in
+    let later : o0.links.faults i ≤ o1.links.faults i = calms.grows.faults i in
+    let more : one_more (o0.links.faults i) ≤ o.links.faults i = omega (arith, rose, later) in
     more
 dialled_caused words o0 o1 o (Err outcome.DiskFault) calms caused = subst (λ (n : ℕ). Rose n o.disk_faults) calms.same_faults caused
 dialled_caused words o0 o1 o (Err outcome.Full) calms caused = tt
 dialled_caused words o0 o1 o (Err outcome.Memory) calms caused = tt
 dialled_caused words o0 o1 o (Err _) calms caused = absurd caused
 
-pub undialled_caused : (words : List LinkWords) (links : List Dialled) (o0 o1 : Outside) (e : Failed) (link : ℕ) (r : Result (List LinkEnd) Outcome) → DialsAll words links (Err e) o0 o1
+pub undialled_caused : (words : List LinkWords) (links : List Dialled) (o0 o1 : Outside) (e : Failed) (link : ℕ) (r : Result Closing Outcome) → DialsAll words links (Err e) o0 o1
     → link ≡ length links → FailsAlone link r → IsCaused words o0 o1 r
 undialled_caused words links o0 o1 e link (Ok ends) dials is alone = absurd alone
-undialled_caused words links o0 o1 e link (Err (outcome.Links ends)) dials is alone = record {
-  link = link;
-  within = omega (arith, is, dials.all.0);
-  alone = alone;
-  rose = subst (λ (n : ℕ). Rose (o0.links.faults n) (o1.links.faults n)) (sym is) dials.all.1;
+undialled_caused words links o0 o1 e link (Err (outcome.LinkFailed named)) dials is alone = record {
+  within = omega (arith, is, alone, dials.all.0);
+  rose = subst (λ (n : ℕ). Rose (o0.links.faults n) (o1.links.faults n)) (sym (alone ∙ is)) dials.all.1;
 }
-undialled_caused words links o0 o1 e link (Err outcome.Memory) dials is alone = tt
 undialled_caused words links o0 o1 e link (Err _) dials is alone = absurd alone

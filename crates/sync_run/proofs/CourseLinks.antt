@@ -21,7 +21,7 @@ use Rattle.sync_node.specs.Courses.{FitsWith, ReadsAs}
 use Rattle.sync_node.specs.Output.{Journal, heard_on}
 use Rattle.store_commands.specs.Load.{HasFacts, IsLoaded, LoadedBy}
 use Rattle.sync_words.specs.declared.link_words.LinkWords.{LinkWords}
-use Rattle.sync_words.specs.declared.links.LinkEnd.{LinkEnd}
+use Rattle.sync_course.specs.Closing.{Closing}
 use Rattle.sync_words.specs.declared.outcome.Outcome.{Outcome}
 use Rattle.sync_words.specs.declared.outcome.Outcome.TheVariants as outcome
 use Rattle.sync_run.specs.declared.run.Limits.{Limits}
@@ -50,7 +50,7 @@ reads_as clients a b j same reads = subst (λ (f : Option (Two File)). ReadsAs c
 
 module _ (clients : Meaning) (limits : Limits) (words : List LinkWords) (j : Journal) (o0 o1 o2 o3 : Outside) (first : o1.links ≡ o0.links) (last : o3.links ≡ o2.links)
     (files : o3.files ≡ o2.files) where
-  ran_as : (ends : List LinkEnd) → RanToEnd clients limits words j o1 o2 ends → RanToEnd clients limits words j o0 o3 ends
+  ran_as : (ends : Closing) → RanToEnd clients limits words j o1 o2 ends → RanToEnd clients limits words j o0 o3 ends
   ran_as ends ran = record {
     sessions = ran.sessions;
     planned = ran.planned;
@@ -84,9 +84,9 @@ module _ (clients : Meaning) (limits : Limits) (words : List LinkWords) (j : Jou
   unfolding was_as
   full_as was = record { run = was_as was.run; batch = was.batch; next = was.next; steps = was.steps; over = was.over }
 
-  comes_as : (r : Result (List LinkEnd) Outcome) → RunComes clients limits words j o1 o2 r → RunComes clients limits words j o0 o3 r
+  comes_as : (r : Result Closing Outcome) → RunComes clients limits words j o1 o2 r → RunComes clients limits words j o0 o3 r
   comes_as (Ok ends) comes = ran_as ends comes
-  comes_as (Err (outcome.Links ends)) comes = reads_as clients o2.files o3.files j files comes
+  comes_as (Err (outcome.LinkFailed link)) comes = reads_as clients o2.files o3.files j files comes
   comes_as (Err outcome.Full) comes = full_as comes
   comes_as (Err outcome.Memory) comes = was_as comes
   comes_as (Err outcome.DiskFault) comes = was_as comes
@@ -95,9 +95,9 @@ module _ (clients : Meaning) (limits : Limits) (words : List LinkWords) (j : Jou
 -- ---- by what the files stood for
 
 run_comes_to : (clients : Meaning) (limits : Limits) (words : List LinkWords) (stood : Standing) (j : Journal) (o o' : Outside) → stood ≡ journal j → is_unknown (facts j) words ≡ false
-    → (r : Result (List LinkEnd) Outcome) → RunComes clients limits words j o o' r → ComesTo clients limits words stood o o' r
+    → (r : Result Closing Outcome) → RunComes clients limits words j o o' r → ComesTo clients limits words stood o o' r
 run_comes_to clients limits words stood j o o' began known (Ok ends) comes = record { begin = j; began = began; tested = known; has = comes }
-run_comes_to clients limits words stood j o o' began known (Err (outcome.Links ends)) comes = record { begin = j; began = began; tested = known; has = comes }
+run_comes_to clients limits words stood j o o' began known (Err (outcome.LinkFailed link)) comes = record { begin = j; began = began; tested = known; has = comes }
 run_comes_to clients limits words stood j o o' began known (Err outcome.Full) comes = record { begin = j; began = began; tested = known; has = comes }
 run_comes_to clients limits words stood j o o' began known (Err outcome.Memory) comes = λ begin is.
     let both : journal j ≡ journal begin = sym began ∙ is in
@@ -150,18 +150,18 @@ module _ (clients : Meaning) (limits : Limits) (words : List LinkWords) (two : T
   load_comes outcome.Memory by loaded = broken_early
   load_comes _ by loaded = absurd by
 
-  pub unloaded_comes : (r : Result (List LinkEnd) Outcome) (came : Outcome) → IsErrAnd r (λ e. e ≡ came) → LoadedBy o o' (Err came) → IsLoaded stood (Err came)
+  pub unloaded_comes : (r : Result Closing Outcome) (came : Outcome) → IsErrAnd r (λ e. e ≡ came) → LoadedBy o o' (Err came) → IsLoaded stood (Err came)
       → ComesTo clients limits words stood o o' r
   unloaded_comes (Ok ends) came is by loaded = absurd is
   unloaded_comes (Err e) came is by loaded =
       subst (λ (x : Outcome). ComesTo clients limits words stood o o' (Err x)) (sym is) (load_comes came by loaded)
 
-  pub unheld_comes : (r : Result (List LinkEnd) Outcome) → IsErrAnd r (λ e. e ≡ outcome.Memory) → ComesTo clients limits words stood o o' r
+  pub unheld_comes : (r : Result Closing Outcome) → IsErrAnd r (λ e. e ≡ outcome.Memory) → ComesTo clients limits words stood o o' r
   unheld_comes (Ok ends) is = absurd is
   unheld_comes (Err e) is = subst (λ (x : Outcome). ComesTo clients limits words stood o o' (Err x)) (sym is) broken_early
 
   module _ (s : StoreValue) (loaded : HasFacts stood s) where
-    pub refused_comes : (r : Result (List LinkEnd) Outcome) (why : Refused) → IsErrAnd r (λ e. e ≡ outcome.Refused why) → TestsContacts s.state.facts words (Err why)
+    pub refused_comes : (r : Result Closing Outcome) (why : Refused) → IsErrAnd r (λ e. e ≡ outcome.Refused why) → TestsContacts s.state.facts words (Err why)
         → ComesTo clients limits words stood o o' r
     refused_comes (Ok ends) why is tests = absurd is
     refused_comes (Err e) why is tests =
@@ -184,7 +184,7 @@ module _ (clients : Meaning) (limits : Limits) (words : List LinkWords) (two : T
         let one : fit.0 ≡ loaded.of = cc in
         (there.0, there.1, subst (λ (k : Journal). Fits clients s k there.0) one fit.1)
 
-    pub links_come : (o2 o3 : Outside) (u : Unit {0}) (r : Result (List LinkEnd) Outcome) → FitsSome clients s o'.files → TestsContacts s.state.facts words (Ok u) → o3.links ≡ o2.links
+    pub links_come : (o2 o3 : Outside) (u : Unit {0}) (r : Result Closing Outcome) → FitsSome clients s o'.files → TestsContacts s.state.facts words (Ok u) → o3.links ≡ o2.links
         → o3.files ≡ o2.files → ((j : Journal) → FitsWith clients s o'.files j → RunComes clients limits words j o' o2 r) → ComesTo clients limits words stood o o3 r
     links_come o2 o3 u r fits tests last files comes =
         run_comes_to clients limits words stood loaded.of o o3 loaded.stood (ap (λ (f : Facts). is_unknown f words) loaded.are ∙ tests) r
@@ -199,38 +199,36 @@ load_caused words o o' outcome.DiskFault by = by
 load_caused words o o' outcome.Memory by = tt
 load_caused words o o' _ by = absurd by
 
-pub unloaded_caused : (words : List LinkWords) (o o' : Outside) (r : Result (List LinkEnd) Outcome) (came : Outcome) → IsErrAnd r (λ e. e ≡ came) → LoadedBy o o' (Err came)
+pub unloaded_caused : (words : List LinkWords) (o o' : Outside) (r : Result Closing Outcome) (came : Outcome) → IsErrAnd r (λ e. e ≡ came) → LoadedBy o o' (Err came)
     → IsCaused words o o' r
 unloaded_caused words o o' (Ok ends) came is by = absurd is
 unloaded_caused words o o' (Err e) came is by = subst (λ (x : Outcome). IsCaused words o o' (Err x)) (sym is) (load_caused words o o' came by)
 
-pub refused_caused : (f : Facts) (words : List LinkWords) (o o' : Outside) (r : Result (List LinkEnd) Outcome) (why : Refused) → IsErrAnd r (λ e. e ≡ outcome.Refused why)
+pub refused_caused : (f : Facts) (words : List LinkWords) (o o' : Outside) (r : Result Closing Outcome) (why : Refused) → IsErrAnd r (λ e. e ≡ outcome.Refused why)
     → TestsContacts f words (Err why) → IsCaused words o o' r
 refused_caused f words o o' (Ok ends) why is tests = absurd is
 refused_caused f words o o' (Err e) why is tests =
     subst (λ (x : Outcome). IsCaused words o o' (Err x)) (sym is ∙ refl)
     (subst (λ (w : Refused). IsCaused words o o' (Err (outcome.Refused w))) (sym tests.0) tt)
 
-pub unheld_caused : (words : List LinkWords) (o o' : Outside) (r : Result (List LinkEnd) Outcome) → IsErrAnd r (λ e. e ≡ outcome.Memory) → IsCaused words o o' r
+pub unheld_caused : (words : List LinkWords) (o o' : Outside) (r : Result Closing Outcome) → IsErrAnd r (λ e. e ≡ outcome.Memory) → IsCaused words o o' r
 unheld_caused words o o' (Ok ends) is = absurd is
 unheld_caused words o o' (Err e) is = subst (λ (x : Outcome). IsCaused words o o' (Err x)) (sym is) tt
 
 pub links_caused : (words : List LinkWords) (o o1 o2 o3 : Outside) → DiskRun o o1 → o3.links ≡ o2.links → o3.disk_faults ≡ o2.disk_faults
-    → (r : Result (List LinkEnd) Outcome) → IsCaused words o1 o2 r → IsCaused words o o3 r
-links_caused words o o1 o2 o3 run last faults (Ok ends) caused = λ i end at failed.
-    subst (λ (a : Links). Rose (a.faults end.link) (o3.links.faults end.link)) run.same_links
-    (subst (λ (b : Links). Rose (o1.links.faults end.link) (b.faults end.link)) (sym last) (caused i end at failed))
+    → (r : Result Closing Outcome) → IsCaused words o1 o2 r → IsCaused words o o3 r
+links_caused words o o1 o2 o3 run last faults (Ok ends) caused = λ i stands at failed.
+    subst (λ (a : Links). Rose (a.faults i) (o3.links.faults i)) run.same_links
+    (subst (λ (b : Links). Rose (o1.links.faults i) (b.faults i)) (sym last) (caused i stands at failed))
 links_caused words o o1 o2 o3 run last faults (Err outcome.DiskFault) caused =
     let rose : one_more o1.disk_faults ≤ o2.disk_faults = caused in
     let more : one_more o.disk_faults ≤ o3.disk_faults = omega (arith, rose, run.later, faults) in
     more
-links_caused words o o1 o2 o3 run last faults (Err (outcome.Links ends)) caused = record {
-  link = caused.link;
+links_caused words o o1 o2 o3 run last faults (Err (outcome.LinkFailed link)) caused = record {
   within = caused.within;
-  alone = caused.alone;
   rose =
-      subst (λ (a : Links). Rose (a.faults caused.link) (o3.links.faults caused.link)) run.same_links
-      (subst (λ (b : Links). Rose (o1.links.faults caused.link) (b.faults caused.link)) (sym last) caused.rose);
+      subst (λ (a : Links). Rose (a.faults link) (o3.links.faults link)) run.same_links
+      (subst (λ (b : Links). Rose (o1.links.faults link) (b.faults link)) (sym last) caused.rose);
 }
 links_caused words o o1 o2 o3 run last faults (Err outcome.NoStore) caused = tt
 links_caused words o o1 o2 o3 run last faults (Err (outcome.Damaged place)) caused = tt

@@ -23,24 +23,23 @@ use Rattle.sync_course.specs.LiftLaws.{breaks_begun, runs_begun, runs_settled_be
 use Rattle.sync_course.specs.Quiet.{EndsQuiet}
 use Rattle.sync_course.specs.ToldLaws.{breaks_then, runs_then}
 use Rattle.sync_course.specs.Turns.{Attaches, Course, Ended, Place, RunStep, Terms, first_place, is_over}
-use Rattle.sync_course.specs.declared.ends.LinkLine.{LinkLine}
 use Rattle.sync_node.specs.declared.link.Link.{Link}
 use Rattle.sync_node.specs.CourseLaws.{fits_grown, reads_front}
 use Rattle.sync_node.specs.Courses.{FitsWith, ReadsAs, RunBreaks, RunRuns, place_at}
 use Rattle.sync_node.specs.Fulls.{RunFull}
 use Rattle.sync_node.specs.Node.{NodeValue}
 use Rattle.sync_node.specs.Output.{Journal}
-use Rattle.sync_words.specs.declared.links.LinkEnd.{LinkEnd}
+use Rattle.sync_course.specs.Closing.{Closing}
 use Rattle.sync_words.specs.declared.outcome.Outcome.{Outcome}
 use Rattle.sync_words.specs.declared.outcome.Outcome.TheVariants as outcome
 use Rattle.store_commands.specs.Commit.{SettledBy, SettlesAs, needed_by}
 use Rattle.sync_run.specs.declared.dialling.Dialled.{Dialled}
 use Rattle.sync_run.specs.declared.run.Limits.{Limits}
 use Rattle.sync_run.specs.Courses.{terms_of}
-use Rattle.sync_run.specs.Lines.{lines_of, numbered}
+use Rattle.sync_run.specs.Closed.{closed_by}
 use Rattle.sync_run.specs.Parts.{BreaksRun, EndsFrom, FullRun, RunBroken, RunEnded, RunFilled, RunsOver, RunsSessions, before_sessions, sessions_from}
 use Rattle.sync_run.proofs.CourseParts.{full_then, told_too}
-use Rattle.sync_run.proofs.LineLaws.{lines_close}
+use Rattle.sync_run.proofs.LineLaws.{links_close}
 
 -- the law of what stands at the end of a run that is over
 abbrev pub RunsEndQuiet : Type 0
@@ -190,11 +189,11 @@ module _ (clients : Meaning) (limits : Limits) (links : List Dialled) (j : Journ
             runs_then (RunStep clients terms) (FitsWith clients s0 o0.files) (FitsWith clients s1 o1.files) (FitsWith clients s o.files) (first_place sessions (facts j))
             (before_sessions sessions s1.state.facts) last o0 o1 o here end.runs
 
-        -- but its lines were not made
+        -- but how its links ended was not written down
         pub run_unclosed : RunBroken clients limits sessions j o0 o
         run_unclosed = broken_at last s o ended
 
-        pub run_closed : RunsEndQuiet → (ends : List LinkEnd) → ends ≡ numbered 0 (lines_of over nodes) → RunEnded clients limits sessions j o0 o ends
+        pub run_closed : RunsEndQuiet → (ends : Closing) → ends ≡ closed_by over nodes → RunEnded clients limits sessions j o0 o ends
         run_closed law ends are =
             let course : Course clients terms sessions (facts j) ended.events last = record { numbered = refl; path = ended.path; at_end = refl } in
             record {
@@ -204,15 +203,14 @@ module _ (clients : Meaning) (limits : Limits) (links : List Dialled) (j : Journ
               told = ended.told;
               reads = fits_reads s o (j ++ batches_of ended.events) (ended.journal j fit);
               closes =
-                  are ∙ ap (λ (ls : List LinkLine). numbered 0 ls)
-                  (lines_close over limits.quiet Ended nodes end.heard end.moved end.still end.made s.state.facts end.is_so);
+                  are ∙ links_close over limits.quiet Ended nodes end.heard end.moved end.still end.made s.state.facts end.is_so;
               quiet = law clients terms sessions j ended.events last fit.2.legal course;
             }
 
 -- ---- by the answers
 
 -- an error that goes on by `?`
-pub passed : (P : Result (List LinkEnd) Outcome → Type 0) (r : Result (List LinkEnd) Outcome) (x : Outcome) → IsErrAnd r (λ e. e ≡ x) → P (Err x) → P r
+pub passed : (P : Result Closing Outcome → Type 0) (r : Result Closing Outcome) (x : Outcome) → IsErrAnd r (λ e. e ≡ x) → P (Err x) → P r
 passed P (Ok ends) x is h = absurd is
 passed P (Err e) x is h = subst (λ (o : Outcome). P (Err o)) (sym is) h
 
@@ -222,11 +220,11 @@ settling_answers clients limits plans j s o0 o outcome.Memory answer broken = br
 settling_answers clients limits plans j s o0 o outcome.DiskFault answer broken = broken
 settling_answers clients limits plans j s o0 o _ answer broken = absurd answer
 
-pub over_settling : (clients : Meaning) (limits : Limits) (links : List Dialled) (s0 s1 : StoreValue) (o0 o1 : Outside) (r : Result (List LinkEnd) Outcome) (came : Outcome) → IsErrAnd r (λ e. e ≡ came)
+pub over_settling : (clients : Meaning) (limits : Limits) (links : List Dialled) (s0 s1 : StoreValue) (o0 o1 : Outside) (r : Result Closing Outcome) (came : Outcome) → IsErrAnd r (λ e. e ≡ came)
     → FitsSome clients s0 o0.files → DiskRun o0 o1 → SettlesAs clients s0 s1 o0 o1 (Err came) → (j : Journal) → FitsWith clients s0 o0.files j
     → RunsOver clients limits (sessions_from (facts j).begun links) j o0 o1 r
 over_settling clients limits links s0 s1 o0 o1 r came is fits run settles j fit =
-    passed (λ (r : Result (List LinkEnd) Outcome). RunsOver clients limits (sessions_from (facts j).begun links) j o0 o1 r) r came is
+    passed (λ (r : Result Closing Outcome). RunsOver clients limits (sessions_from (facts j).begun links) j o0 o1 r) r came is
     (settling_answers clients limits (sessions_from (facts j).begun links) j s1 o0 o1 came settles.answer
     (broken_by clients limits links j s0 o0 fit o1 (stops_settling clients limits links j s0 o0 fit s1 o1 settles.more run settles.comes fits)))
 
@@ -259,7 +257,7 @@ module _ (clients : Meaning) (limits : Limits) (links : List Dialled) (s0 s1 : S
       over_unclosed =
           run_unclosed clients limits links j s0 o0 fit s1 o1 settles.more run settles.comes settles.answer.0 settles.answer.1 n.store nodes s o over is runs
 
-      pub over_closed : RunsEndQuiet → (ends : List LinkEnd) → ends ≡ numbered 0 (lines_of over nodes)
+      pub over_closed : RunsEndQuiet → (ends : Closing) → ends ≡ closed_by over nodes
           → RunEnded clients limits (sessions_from (facts j).begun links) j o0 o ends
       over_closed law ends are =
           run_closed clients limits links j s0 o0 fit s1 o1 settles.more run settles.comes settles.answer.0 settles.answer.1 n.store nodes s o over is runs law ends are

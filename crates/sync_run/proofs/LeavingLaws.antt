@@ -4,7 +4,7 @@ use Rattle.outside.specs.declared.failed.Failed.{Failed}
 use Rattle.outside.specs.Links.{Links}
 use Rattle.outside.specs.Outside.{Outside}
 use Rattle.sync_words.specs.declared.link_words.LinkWords.{LinkWords}
-use Rattle.sync_words.specs.declared.links.LinkEnd.{LinkEnd}
+use Rattle.sync_course.specs.Closing.{Closing}
 use Rattle.sync_words.specs.declared.outcome.Outcome.{Outcome}
 use Rattle.sync_words.specs.declared.outcome.Outcome.TheVariants as outcome
 use Rattle.sync_run.specs.declared.dialling.Dialled.{Dialled}
@@ -14,12 +14,12 @@ use Rattle.sync_run.specs.Leaving.{LeavesLinks}
 use Rattle.sync_run.proofs.CourseLinks.{no_links_made}
 
 -- no link was touched
-pub leaves_same : (words : List LinkWords) (o o' : Outside) (r : Result (List LinkEnd) Outcome) → o'.links ≡ o.links → LeavesLinks words o o' r
+pub leaves_same : (words : List LinkWords) (o o' : Outside) (r : Result Closing Outcome) → o'.links ≡ o.links → LeavesLinks words o o' r
 leaves_same words o o' (Ok ends) same = tt
 leaves_same words o o' (Err outcome.NoStore) same = same
 leaves_same words o o' (Err (outcome.Damaged place)) same = same
 leaves_same words o o' (Err (outcome.Refused why)) same = same
-leaves_same words o o' (Err (outcome.Links ends)) same = record {
+leaves_same words o o' (Err (outcome.LinkFailed named)) same = record {
   made = [];
   front = record { rest = words; whole = refl };
   makes = no_links_made o o' same;
@@ -27,15 +27,14 @@ leaves_same words o o' (Err (outcome.Links ends)) same = record {
 leaves_same words o o' (Err came) same = tt
 
 -- a call of a dial failed
-pub undialled_leaves : (words : List LinkWords) (links : List Dialled) (o o' : Outside) (e : Failed) (link : ℕ) (r : Result (List LinkEnd) Outcome) → DialsAll words links (Err e) o o' → FailsAlone link r
+pub undialled_leaves : (words : List LinkWords) (links : List Dialled) (o o' : Outside) (e : Failed) (link : ℕ) (r : Result Closing Outcome) → DialsAll words links (Err e) o o' → FailsAlone link r
     → LeavesLinks words o o' r
 undialled_leaves words links o o' e link (Ok ends) dials alone = tt
-undialled_leaves words links o o' e link (Err (outcome.Links ends)) dials alone = record { made = dials.made; front = dials.front; makes = dials.makes }
-undialled_leaves words links o o' e link (Err outcome.Memory) dials alone = tt
+undialled_leaves words links o o' e link (Err (outcome.LinkFailed named)) dials alone = record { made = dials.made; front = dials.front; makes = dials.makes }
 undialled_leaves words links o o' e link (Err _) dials alone = absurd alone
 
 -- all links were dialled, and the run came to what it did
-pub dialled_leaves : (words : List LinkWords) (o o1 o' : Outside) (r : Result (List LinkEnd) Outcome) → RunCaused o1 o' r → LeavesLinks words o o' r
+pub dialled_leaves : (words : List LinkWords) (o o1 o' : Outside) (r : Result Closing Outcome) → RunCaused o1 o' r → LeavesLinks words o o' r
 dialled_leaves words o o1 o' (Ok ends) caused = tt
 dialled_leaves words o o1 o' (Err outcome.DiskFault) caused = tt
 dialled_leaves words o o1 o' (Err outcome.Full) caused = tt
@@ -43,13 +42,13 @@ dialled_leaves words o o1 o' (Err outcome.Memory) caused = tt
 dialled_leaves words o o1 o' (Err _) caused = absurd caused
 
 -- the same where calls before and behind it touched no link
-pub leaves_as : (words : List LinkWords) (o o1 o2 o3 : Outside) (r : Result (List LinkEnd) Outcome) → o1.links ≡ o.links → o3.links ≡ o2.links → LeavesLinks words o1 o2 r
+pub leaves_as : (words : List LinkWords) (o o1 o2 o3 : Outside) (r : Result Closing Outcome) → o1.links ≡ o.links → o3.links ≡ o2.links → LeavesLinks words o1 o2 r
     → LeavesLinks words o o3 r
 leaves_as words o o1 o2 o3 (Ok ends) first last leaves = tt
 leaves_as words o o1 o2 o3 (Err outcome.NoStore) first last leaves = last ∙ leaves ∙ first
 leaves_as words o o1 o2 o3 (Err (outcome.Damaged place)) first last leaves = last ∙ leaves ∙ first
 leaves_as words o o1 o2 o3 (Err (outcome.Refused why)) first last leaves = last ∙ leaves ∙ first
-leaves_as words o o1 o2 o3 (Err (outcome.Links ends)) first last leaves = record {
+leaves_as words o o1 o2 o3 (Err (outcome.LinkFailed named)) first last leaves = record {
   made = leaves.made;
   front = leaves.front;
   makes =

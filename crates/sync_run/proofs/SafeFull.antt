@@ -20,7 +20,7 @@ use Rattle.sync_node.specs.Joined.{IsAllSent, Joined}
 use Rattle.sync_node.specs.Node.{IsNode, KeepsJoined, NodeValue, new_node}
 use Rattle.sync_node.specs.Output.{Journal, output, sent_on}
 use Rattle.sync_node.specs.Stops.{SendsAll}
-use Rattle.sync_words.specs.declared.links.LinkEnd.{LinkEnd}
+use Rattle.sync_course.specs.Closing.{Closing}
 use Rattle.sync_words.specs.declared.outcome.Outcome.{Outcome}
 use Rattle.sync_words.specs.declared.outcome.Outcome.TheVariants as outcome
 use Rattle.sync_run.specs.Causes.{FailsAlone}
@@ -112,8 +112,8 @@ full_before clients first o o1 o2 grows sends told whole stood i begun = elim (s
   | inr sent ↦ inr sent
 ]
 
-pub fails_unfull : (link : ℕ) (r : Result (List LinkEnd) Outcome) → FailsAlone link r → r ≡ Err outcome.Full → ⊥
-fails_unfull link r fails is = subst (λ (x : Result (List LinkEnd) Outcome). FailsAlone link x) is fails
+pub fails_unfull : (link : ℕ) (r : Result Closing Outcome) → FailsAlone link r → r ≡ Err outcome.Full → ⊥
+fails_unfull link r fails is = subst (λ (x : Result Closing Outcome). FailsAlone link x) is fails
 
 -- ---- the command
 

@@ -25,7 +25,6 @@ use Rattle.sync_store.specs.Ready.{IsReady}
 use Rattle.store_commands.specs.Commit.{SettlesAs}
 use Rattle.store_commands.specs.Commit as commits
 use Rattle.store_commands.specs.Load.{HasFacts, LeavesSettled}
-use Rattle.sync_course.specs.Closing.{line_for}
 use Rattle.sync_node.specs.Begun.{begin_at}
 use Rattle.sync_node.specs.declared.link.Link as node_link
 use Rattle.sync_course.specs.declared.ends.LinkEnd as link_ends
@@ -36,8 +35,7 @@ use Rattle.sync_node.specs.Node.{IsNode, MayRun, NodeValue, new_node}
 use Rattle.sync_node.specs.Plans.{session_of}
 use Rattle.sync_node.specs.Output.{Journal, output, sent_on}
 use Rattle.sync_words.specs.declared.link_words.LinkWords.{LinkWords}
-use Rattle.sync_words.specs.declared.error_lines.LinkText.TheVariants as text
-use Rattle.sync_words.specs.declared.links.LinkEnd.{LinkEnd}
+use Rattle.sync_course.specs.Closing.{Closing}
 use Rattle.sync_words.specs.declared.outcome.Outcome.{Outcome}
 use Rattle.sync_words.specs.declared.outcome.Outcome.TheVariants as outcome
 use Rattle.sync_words.specs.Links.{IsLink, wants_nonce}
@@ -46,7 +44,7 @@ use Rattle.sync_run.specs.Causes.{FailsAlone}
 use Rattle.sync_run.specs.Courses.{HaveSpecs}
 use Rattle.sync_run.specs.Dialling.{AreDialled, Calms, IsDialled, MakesLinks, Stills, fresh_links}
 use Rattle.sync_run.specs.Headline.{AtRest, Headline, Rests, SentWhole}
-use Rattle.sync_run.specs.Lines.{lines_of, numbered, text_of}
+use Rattle.sync_run.specs.Closed.{closed_by}
 use Rattle.sync_run.specs.Parts.{sessions_from}
 use Rattle.sync_run.specs.Plans.{ArePlanned, IsPlanned}
 use Rattle.sync_run.specs.SafeRuns.{AllMayBegin, AreUnused, AttachesAll, IsKnown, MayBeginOn, RunsSafe, SendsWhole, SessionsSafe, WordsSafe}
@@ -60,7 +58,7 @@ rests_ready clients s files ready two told left image =
     let fit = (ready.fits two told).1 in
     image_read two left fit.first_settled fit.second_settled image
 
-pub rests_at : (files : Option (Two File)) (r : Result (List LinkEnd) Outcome) → AtRest files → Rests files r
+pub rests_at : (files : Option (Two File)) (r : Result Closing Outcome) → AtRest files → Rests files r
 rests_at files (Err outcome.DiskFault) rest = tt
 rests_at files _ rest = rest
 
@@ -141,24 +139,20 @@ new_may clients s o ready opened = record { ready = ready; settled = λ some. ab
 
 -- ---- what was sent
 
-failed_line : (over : Bool) → text_of (line_for over link_end.Failed) ≡ text.Failed
-failed_line true = refl
-failed_line false = refl
+end_there : (links : List node_link.Link) (i : ℕ) (stands : link_ends.LinkEnd) → slice_get (map (λ (l : node_link.Link). l.end) links) i ≡ Some stands
+    → (l : node_link.Link) × (slice_get links i ≡ Some l) × (stands ≡ l.end)
+end_there [] i stands there = cc
+end_there (x ∷ links) zero stands there =
+    let is : stands ≡ x.end = cc in
+    (x, refl, is)
+end_there (x ∷ links) (suc i) stands there = end_there links i stands there
 
-line_there : (over : Bool) (k : ℕ) (links : List node_link.Link) (i : ℕ) (end : LinkEnd) → slice_get (numbered k (lines_of over links)) i ≡ Some end
-    → (l : node_link.Link) × (slice_get links i ≡ Some l) × (end.ending ≡ text_of (line_for over l.end))
-line_there over k [] i end there = cc
-line_there over k (x ∷ links) zero end there =
-    let is : end ≡ record { link = k; ending = text_of (line_for over x.end) } = cc in
-    (x, refl, ap (λ (e : LinkEnd). e.ending) is)
-line_there over k (x ∷ links) (suc i) end there = line_there over (suc k) links i end there
-
-pub sends_whole : (clients : Meaning) (first : ℕ) (n : NodeValue) (o : Outside) (over : Bool) (ends : List LinkEnd) → n.closed ≡ false → IsNode n → MayRun clients n o → Joined clients n.links n.store o → n.first ≡ first
-    → ends ≡ numbered 0 (lines_of over n.links) → SendsWhole clients first o ends
-sends_whole clients first n o over ends opened node may joined begins are told whole stood i end there unfailed =
-    let at = line_there over 0 n.links i end (subst (λ (es : List LinkEnd). slice_get es i ≡ Some end) are there) in
+pub sends_whole : (clients : Meaning) (first : ℕ) (n : NodeValue) (o : Outside) (over : Bool) (ends : Closing) → n.closed ≡ false → IsNode n → MayRun clients n o → Joined clients n.links n.store o → n.first ≡ first
+    → ends ≡ closed_by over n.links → SendsWhole clients first o ends
+sends_whole clients first n o over ends opened node may joined begins are told whole stood i stands there unfailed =
+    let at = end_there n.links i stands (subst (λ (c : Closing). slice_get c.ends i ≡ Some stands) are there) in
     let l = at.0 in
-    let stands_open : l.end ≢ link_end.Failed = λ is. unfailed (at.2 ∙ ap (λ (e : link_ends.LinkEnd). text_of (line_for over e)) is ∙ failed_line over) in
+    let stands_open : l.end ≢ link_end.Failed = λ is. unfailed (at.2 ∙ is) in
     let fit = (may opened).ready.fits told.two told.files_are in
     let same : fit.0 ≡ whole = let is = sym fit.1.stands_for ∙ stood in cc in
     let number : l.session.number ≡ first + i = ((node.attached opened).each i l at.1).numbered ∙ ap (λ (k : ℕ). k + i) begins in
@@ -271,10 +265,10 @@ specs_none words o none links told =
 
 -- ---- links were hung up
 
-pub at_rest_stills : (o o' : Outside) (r : Result (List LinkEnd) Outcome) → Stills o o' → Rests o.files r → Rests o'.files r
+pub at_rest_stills : (o o' : Outside) (r : Result Closing Outcome) → Stills o o' → Rests o.files r → Rests o'.files r
 at_rest_stills o o' r stills rests = subst (λ (f : Option (Two File)). Rests f r) (sym stills.same_files) rests
 
-pub sent_stills : (clients : Meaning) (first : ℕ) (o o' : Outside) (ends : List LinkEnd) → Stills o o' → SendsWhole clients first o ends → SendsWhole clients first o' ends
+pub sent_stills : (clients : Meaning) (first : ℕ) (o o' : Outside) (ends : Closing) → Stills o o' → SendsWhole clients first o ends → SendsWhole clients first o' ends
 sent_stills clients first o o' ends stills sends told' whole stood i end there unfailed =
     ap (λ (l : Links). sent_on l i) stills.same_links ∙ sends (told_stills o o' stills told') whole stood i end there unfailed
 
@@ -284,8 +278,8 @@ pub rests_stays : (clients : Meaning) (s : StoreValue) (files : Option (Two File
 rests_stays clients s files outcome.DiskFault stays = tt
 rests_stays clients s files _ stays = rests_ready clients s files stays
 
-pub rests_fault : (files : Option (Two File)) (r : Result (List LinkEnd) Outcome) (e : Outcome) → r ≡ Err e → Rests files (Err e) → Rests files r
-rests_fault files r e is rests = subst (λ (x : Result (List LinkEnd) Outcome). Rests files x) (sym is) rests
+pub rests_fault : (files : Option (Two File)) (r : Result Closing Outcome) (e : Outcome) → r ≡ Err e → Rests files (Err e) → Rests files r
+rests_fault files r e is rests = subst (λ (x : Result Closing Outcome). Rests files x) (sym is) rests
 
 pub runs_node : (clients : Meaning) (links : List Dialled) (s s1 : StoreValue) (n0 n : NodeValue) (o o1 o2 : Outside) (r : Result (Unit {0}) Outcome) → IsReady clients s o.files → AreUnused o → DiskRun o o1
     → SettlesAs clients s s1 o o1 r → n0 ≡ new_node s1 → SessionsSafe clients links n0 n o1 o2 → RunsSafe clients links s o o2
@@ -301,8 +295,8 @@ node_begins clients s s1 n o o1 r links settles made all =
     let same : n.store.state.facts.contacts ≡ s.state.facts.contacts = ap (λ (m : NodeValue). m.store.state.facts.contacts) made ∙ (settles_only clients s s1 o o1 r settles).contacts in
     subst (λ (k : ℕ). AllMayBegin k links) (sym same) all
 
-pub node_sends : (clients : Meaning) (links : List Dialled) (s s1 : StoreValue) (n0 n : NodeValue) (o o1 o2 : Outside) (r : Result (Unit {0}) Outcome) (over : Bool) (ends : List LinkEnd) → AreUnused o → DiskRun o o1
-    → SettlesAs clients s s1 o o1 r → n0 ≡ new_node s1 → AttachesAll clients links n0 n o1 o2 → n.closed ≡ false → IsNode n → MayRun clients n o2 → ends ≡ numbered 0 (lines_of over n.links)
+pub node_sends : (clients : Meaning) (links : List Dialled) (s s1 : StoreValue) (n0 n : NodeValue) (o o1 o2 : Outside) (r : Result (Unit {0}) Outcome) (over : Bool) (ends : Closing) → AreUnused o → DiskRun o o1
+    → SettlesAs clients s s1 o o1 r → n0 ≡ new_node s1 → AttachesAll clients links n0 n o1 o2 → n.closed ≡ false → IsNode n → MayRun clients n o2 → ends ≡ closed_by over n.links
     → SendsWhole clients s.state.facts.begun o2 ends
 node_sends clients links s s1 n0 n o o1 o2 r over ends unused run settles made attaches opened node may are =
     let joined0 : Joined clients n0.links n0.store o1 =
@@ -310,7 +304,7 @@ node_sends clients links s s1 n0 n o o1 o2 r over ends unused run settles made a
     let first : n.first ≡ s.state.facts.begun = attaches.same_first ∙ ap (λ (m : NodeValue). m.first) made ∙ (settles_only clients s s1 o o1 r settles).begun in
     sends_whole clients s.state.facts.begun n o2 over ends opened node may (attaches.joined joined0) first are
 
-pub fails_unsent : (link : ℕ) (r : Result (List LinkEnd) Outcome) (P : List LinkEnd → Type 0) → FailsAlone link r → IfOk r P
+pub fails_unsent : (link : ℕ) (r : Result Closing Outcome) (P : Closing → Type 0) → FailsAlone link r → IfOk r P
 fails_unsent link (Ok ends) P fails = absurd fails
 fails_unsent link (Err e) P fails = tt
 
@@ -347,11 +341,11 @@ headline_run clients words s o0 o1 o2 o3 none run moments reads loaded ready saf
     ))
     (λ two told. ((loaded two told).of, (loaded two told).stood))
 
-if_ok_map : (r : Result (List LinkEnd) Outcome) (P Q : List LinkEnd → Type 0) → ((ends : List LinkEnd) → P ends → Q ends) → IfOk r P → IfOk r Q
+if_ok_map : (r : Result Closing Outcome) (P Q : Closing → Type 0) → ((ends : Closing) → P ends → Q ends) → IfOk r P → IfOk r Q
 if_ok_map (Ok ends) P Q then p = then ends p
 if_ok_map (Err e) P Q then p = tt
 
-pub sent_run : (clients : Meaning) (s : StoreValue) (o0 o2 o3 : Outside) (r : Result (List LinkEnd) Outcome) → ((two : Two File) → o0.files ≡ Some two → HasFacts (stands clients (read_files two)) s) → Stills o2 o3
+pub sent_run : (clients : Meaning) (s : StoreValue) (o0 o2 o3 : Outside) (r : Result Closing Outcome) → ((two : Two File) → o0.files ≡ Some two → HasFacts (stands clients (read_files two)) s) → Stills o2 o3
     → IfOk r (SendsWhole clients s.state.facts.begun o2) → (two : Two File) → o0.files ≡ Some two → IfOk r (SentWhole clients two o3)
 sent_run clients s o0 o2 o3 r loaded stills sends two told =
     if_ok_map r _ _

@@ -1,5 +1,5 @@
 -- What a run of sessions does, as a course: the journal, the answers heard and the readings of the clock are those of a path of
--- events, and the lines of the links close it.
+-- events, and it closes as the links are said to have ended.
 use Rattle.std.specs.Prelude.{◌≡◌, ℕ, zero, suc, ◌<◌, Bool, true, false, nat_le, List, [], ◌∷◌, ◌++◌, length, map, Some, Result, Ok, Err}
 use Rattle.std.specs.List.{list_any}
 use Rattle.std.specs.Option.{option_map}
@@ -14,7 +14,7 @@ use Rattle.sync_rules.specs.declared.states.Refused.TheVariants as refused
 use Rattle.sync_rules.specs.Clients.{Meaning}
 use Rattle.sync_rules.specs.Facts.{Facts, facts}
 use Rattle.entry_codec.specs.Standing.{Standing, damaged, journal, no_store}
-use Rattle.sync_course.specs.Closing.{closing}
+use Rattle.sync_course.specs.Closing.{Closing, closing}
 use Rattle.sync_course.specs.Events.{Commit, Event, GrowsBy, RoseIf, batches_of, has_failure, heard_after, readings_of}
 use Rattle.sync_course.specs.Quiet.{EndsQuiet}
 use Rattle.sync_course.specs.Turns.{Broken, Course, Place, RunStep, Terms, is_over}
@@ -22,12 +22,10 @@ use Rattle.sync_node.specs.Courses.{ReadsAs}
 use Rattle.sync_node.specs.Output.{Journal}
 use Rattle.store_commands.specs.Commit.{needed_by}
 use Rattle.sync_words.specs.declared.link_words.LinkWords.{LinkWords}
-use Rattle.sync_words.specs.declared.links.LinkEnd.{LinkEnd}
 use Rattle.sync_words.specs.declared.outcome.Outcome.{Outcome}
 use Rattle.sync_words.specs.declared.outcome.Outcome.TheVariants as outcome
 use Rattle.sync_run.specs.declared.run.Limits.{Limits}
 use Rattle.sync_run.specs.Ends.{AllHeardAsTold, AllStandByHeard}
-use Rattle.sync_run.specs.Lines.{numbered}
 use Rattle.sync_run.specs.Plans.{ArePlanned}
 
 -- what a run is asked for whose first session has this number
@@ -54,9 +52,9 @@ pub record HearsRun (events : List Event) (old new : Outside) : Type 0 where
 abbrev pub HaveSpecs : List LinkWords → Outside → Type 0
 HaveSpecs words new = (links : List Link) → new.links.told ≡ Some links → IsFront (map (λ (l : Link). l.spec) links) (map (λ (w : LinkWords). w.spec) words)
 
--- The run came to its end: a whole course of the sessions of all words, whose closing the lines are. Each link stands by what was
+-- The run came to its end: a whole course of the sessions of all words, which closes so. Each link stands by what was
 -- heard on it. Where the run was over nothing is due on a link that is not closed, and what was heard was taken.
-pub record RanToEnd (clients : Meaning) (limits : Limits) (words : List LinkWords) (begin : Journal) (old new : Outside) (ends : List LinkEnd) : Type 0 where
+pub record RanToEnd (clients : Meaning) (limits : Limits) (words : List LinkWords) (begin : Journal) (old new : Outside) (ends : Closing) : Type 0 where
   pub sessions : List Session
   pub planned : ArePlanned (facts begin).begun words sessions
   pub all_planned : length sessions ≡ length words
@@ -66,7 +64,7 @@ pub record RanToEnd (clients : Meaning) (limits : Limits) (words : List LinkWord
   pub course : Course clients (terms_of limits begin) sessions (facts begin) events last
   pub hears : HearsRun events old new
   pub reads : ReadsAs clients new.files (begin ++ batches_of events)
-  pub closes : ends ≡ numbered 0 (closing limits.quiet last)
+  pub closes : ends ≡ closing limits.quiet last
   pub by_heard : AllStandByHeard last
   pub as_told : AllHeardAsTold last new
   pub quiet : is_over limits.quiet last ≡ true → EndsQuiet clients (terms_of limits begin) events last
@@ -102,9 +100,9 @@ TestsContacts f words (Ok _) = is_unknown f words ≡ false
 TestsContacts f words (Err why) = (why ≡ refused.UnknownContact) × (is_unknown f words ≡ true)
 
 -- What a run over a journal comes to whose contacts are known. A dial that failed leaves the files as they read.
-abbrev pub RunComes : Meaning → Limits → List LinkWords → Journal → (old new : Outside) → Result (List LinkEnd) Outcome → Type 0
+abbrev pub RunComes : Meaning → Limits → List LinkWords → Journal → (old new : Outside) → Result Closing Outcome → Type 0
 RunComes clients limits words begin old new (Ok ends) = RanToEnd clients limits words begin old new ends
-RunComes clients limits words begin old new (Err (outcome.Links ends)) = ReadsAs clients new.files begin
+RunComes clients limits words begin old new (Err (outcome.LinkFailed link)) = ReadsAs clients new.files begin
 RunComes clients limits words begin old new (Err outcome.Full) = WasFull clients limits words begin old new
 RunComes clients limits words begin old new (Err outcome.Memory) = WasBroken clients limits words begin old new
 RunComes clients limits words begin old new (Err outcome.DiskFault) = WasBroken clients limits words begin old new
@@ -119,14 +117,14 @@ pub record OfJournal (words : List LinkWords) (stood : Standing) (unknown : Bool
 
 -- What the command comes to, by what the files stood for; what is said of journals, answers and readings is said where the files
 -- were told. A run that ends before its first session leaves the files as they read.
-abbrev pub ComesTo : Meaning → Limits → List LinkWords → Standing → (old new : Outside) → Result (List LinkEnd) Outcome → Type 0
+abbrev pub ComesTo : Meaning → Limits → List LinkWords → Standing → (old new : Outside) → Result Closing Outcome → Type 0
 ComesTo clients limits words stood old new (Ok ends) = OfJournal words stood false (λ begin. RunComes clients limits words begin old new (Ok ends))
 ComesTo clients limits words stood old new (Err outcome.NoStore) = stood ≡ no_store
 ComesTo clients limits words stood old new (Err (outcome.Damaged place)) = stood ≡ damaged place.file place.at
 ComesTo clients limits words stood old new (Err (outcome.Refused why)) =
     (why ≡ refused.UnknownContact) × OfJournal words stood true (λ begin. ReadsAs clients new.files begin)
-ComesTo clients limits words stood old new (Err (outcome.Links ends)) =
-    OfJournal words stood false (λ begin. RunComes clients limits words begin old new (Err (outcome.Links ends)))
+ComesTo clients limits words stood old new (Err (outcome.LinkFailed link)) =
+    OfJournal words stood false (λ begin. RunComes clients limits words begin old new (Err (outcome.LinkFailed link)))
 ComesTo clients limits words stood old new (Err outcome.Full) = OfJournal words stood false (λ begin. RunComes clients limits words begin old new (Err outcome.Full))
 ComesTo clients limits words stood old new (Err outcome.Memory) = (begin : Journal) → stood ≡ journal begin → WasBroken clients limits words begin old new
 ComesTo clients limits words stood old new (Err outcome.DiskFault) = (begin : Journal) → stood ≡ journal begin → WasBroken clients limits words begin old new

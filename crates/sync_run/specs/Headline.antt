@@ -13,8 +13,9 @@ use Rattle.entry_codec.specs.Standing.{Standing, journal, stands}
 use Rattle.sync_node.specs.Output.{AreOutput, Journal, heard_on, output, sent_on}
 use Rattle.sync_node.specs.Suits.{SuitsRun}
 use Rattle.sync_words.specs.declared.link_words.LinkWords.{LinkWords}
-use Rattle.sync_words.specs.declared.error_lines.LinkText.TheVariants as text
-use Rattle.sync_words.specs.declared.links.LinkEnd.{LinkEnd}
+use Rattle.sync_course.specs.declared.ends.LinkEnd.{LinkEnd}
+use Rattle.sync_course.specs.declared.ends.LinkEnd.TheVariants as end
+use Rattle.sync_course.specs.Closing.{Closing}
 use Rattle.sync_words.specs.declared.outcome.Outcome.{Outcome}
 use Rattle.sync_words.specs.declared.outcome.Outcome.TheVariants as outcome
 use Rattle.sync_run.specs.Plans.{ArePlanned}
@@ -71,17 +72,17 @@ AtRest files = (two : Two File) → files ≡ Some two → (left : Two (List ℕ
     → left ≡ read_files two
 
 -- but where a call on the disk failed
-abbrev pub Rests : Option (Two File) → Result (List LinkEnd) Outcome → Type 0
+abbrev pub Rests : Option (Two File) → Result Closing Outcome → Type 0
 Rests files (Err outcome.DiskFault) = Unit {0}
 Rests files _ = AtRest files
 
 -- On a link of a run that came to its end, but where a call of it failed, all output of its session
 -- was sent.
-abbrev pub SentWhole : Meaning → Two File → Outside → List LinkEnd → Type 0
+abbrev pub SentWhole : Meaning → Two File → Outside → Closing → Type 0
 SentWhole clients two new ends =
     (told : Told new) (begin whole : Journal) → stands clients (read_files two) ≡ journal begin
     → stands clients (read_files told.two) ≡ journal whole
-    → (i : ℕ) (end : LinkEnd) → slice_get ends i ≡ Some end → end.ending ≢ text.Failed
+    → (i : ℕ) (stands : LinkEnd) → slice_get ends.ends i ≡ Some stands → stands ≢ end.Failed
     → sent_on new.links i ≡ output whole ((facts begin).begun + i)
 
 -- Where a batch found no room: on each link whose session had begun, but where a call of it failed

@@ -4,7 +4,7 @@ use Rattle.outside.specs.Links.{Links}
 use Rattle.outside.specs.Outside.{Outside}
 use Rattle.outside.specs.Runs.{IsFront}
 use Rattle.sync_words.specs.declared.link_words.LinkWords.{LinkWords}
-use Rattle.sync_words.specs.declared.links.LinkEnd.{LinkEnd}
+use Rattle.sync_course.specs.Closing.{Closing}
 use Rattle.sync_words.specs.declared.outcome.Outcome.{Outcome}
 use Rattle.sync_words.specs.declared.outcome.Outcome.TheVariants as outcome
 use Rattle.sync_run.specs.Dialling.{MakesLinks}
@@ -17,9 +17,9 @@ pub record MakesFront (words : List LinkWords) (old new : Links) : Type 0 where
 
 -- A run that is refused, or finds no journal, leaves the links as they were: none was made. One of which a dial or a nonce failed
 -- sent nothing and heard nothing.
-abbrev pub LeavesLinks : List LinkWords → (old new : Outside) → Result (List LinkEnd) Outcome → Type 0
+abbrev pub LeavesLinks : List LinkWords → (old new : Outside) → Result Closing Outcome → Type 0
 LeavesLinks words old new (Err outcome.NoStore) = new.links ≡ old.links
 LeavesLinks words old new (Err (outcome.Damaged place)) = new.links ≡ old.links
 LeavesLinks words old new (Err (outcome.Refused why)) = new.links ≡ old.links
-LeavesLinks words old new (Err (outcome.Links ends)) = MakesFront words old.links new.links
+LeavesLinks words old new (Err (outcome.LinkFailed link)) = MakesFront words old.links new.links
 LeavesLinks words old new result = Unit {0}

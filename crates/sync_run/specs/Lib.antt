@@ -2,7 +2,7 @@ pub mod Plans
 pub mod Headline
 pub mod Courses
 pub mod Causes
-pub mod Lines
+pub mod Closed
 pub mod Parts
 pub mod Dialling
 pub mod SafeRuns

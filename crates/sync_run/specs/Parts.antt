@@ -8,7 +8,7 @@ use Rattle.sync_rules.specs.declared.entries.Session.{Session}
 use Rattle.sync_rules.specs.Clients.{Meaning}
 use Rattle.sync_rules.specs.Facts.{Facts, facts}
 use Rattle.sync_store.specs.Store.{StoreValue}
-use Rattle.sync_course.specs.Closing.{closing}
+use Rattle.sync_course.specs.Closing.{Closing, closing}
 use Rattle.sync_course.specs.Events.{Commit, Event, Told, batches_of}
 use Rattle.sync_course.specs.Quiet.{EndsQuiet}
 use Rattle.sync_course.specs.Turns.{Attaches, Between, Broken, Course, Ended, Place, RunStep, Terms, is_over}
@@ -18,13 +18,11 @@ use Rattle.sync_node.specs.Fulls.{RunFull}
 use Rattle.sync_node.specs.Output.{Journal}
 use Rattle.sync_node.specs.Plans.{session_of}
 use Rattle.store_commands.specs.Commit.{needed_by}
-use Rattle.sync_words.specs.declared.links.LinkEnd.{LinkEnd}
 use Rattle.sync_words.specs.declared.outcome.Outcome.{Outcome}
 use Rattle.sync_words.specs.declared.outcome.Outcome.TheVariants as outcome
 use Rattle.sync_run.specs.declared.dialling.Dialled.{Dialled}
 use Rattle.sync_run.specs.declared.run.Limits.{Limits}
 use Rattle.sync_run.specs.Courses.{terms_at, terms_of}
-use Rattle.sync_run.specs.Lines.{numbered}
 
 -- the sessions of links that were dialled; the first has this number
 abbrev pub sessions_from : ℕ → List Dialled → List Session
@@ -116,14 +114,14 @@ pub record FullRun (clients : Meaning) (limits : Limits) (first : ℕ) (sessions
 
 -- ---- the run on links that were dialled
 
--- a whole course over this journal, whose closing the lines are
-pub record RunEnded (clients : Meaning) (limits : Limits) (sessions : List Session) (j : Journal) (o o' : Outside) (ends : List LinkEnd) : Type 0 where
+-- a whole course over this journal, which closes so
+pub record RunEnded (clients : Meaning) (limits : Limits) (sessions : List Session) (j : Journal) (o o' : Outside) (ends : Closing) : Type 0 where
   pub events : List Event
   pub last : Place
   pub course : Course clients (terms_of limits j) sessions (facts j) events last
   pub told : Told events o o'
   pub reads : ReadsAs clients o'.files (j ++ batches_of events)
-  pub closes : ends ≡ numbered 0 (closing limits.quiet last)
+  pub closes : ends ≡ closing limits.quiet last
   pub quiet : is_over limits.quiet last ≡ true → EndsQuiet clients (terms_of limits j) events last
 
 -- a course that was broken off
@@ -142,7 +140,7 @@ pub record RunFilled (clients : Meaning) (limits : Limits) (sessions : List Sess
   pub steps : RunStep clients (terms_of limits j) run.last (Commit batch) next
   pub over : MAX_JOURNAL < needed_by (j ++ batches_of run.events) batch
 
-abbrev pub RunsOver : Meaning → Limits → List Session → Journal → Outside → Outside → Result (List LinkEnd) Outcome → Type 0
+abbrev pub RunsOver : Meaning → Limits → List Session → Journal → Outside → Outside → Result Closing Outcome → Type 0
 RunsOver clients limits sessions j o o' (Ok ends) = RunEnded clients limits sessions j o o' ends
 RunsOver clients limits sessions j o o' (Err outcome.Full) = RunFilled clients limits sessions j o o'
 RunsOver clients limits sessions j o o' (Err outcome.Memory) = RunBroken clients limits sessions j o o'

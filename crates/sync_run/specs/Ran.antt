@@ -1,11 +1,12 @@
 -- All that is said of a run of sessions over links, by the outcome of its command.
-use Rattle.std.specs.Prelude.{◌≡◌, List, Some, Result, Ok, Err, IfOk, IsErrOf}
+use Rattle.std.specs.Prelude.{◌≡◌, List, Some, Result, IfOk, IsErrOf}
 use Rattle.outside.specs.Files.{Two, File, read_files}
 use Rattle.outside.specs.Outside.{Outside}
 use Rattle.sync_rules.specs.Clients.{Meaning}
 use Rattle.entry_codec.specs.Standing.{stands}
+use Rattle.sync_words.specs.Outcomes.{links_came_to}
 use Rattle.sync_words.specs.declared.link_words.LinkWords.{LinkWords}
-use Rattle.sync_words.specs.declared.links.LinkEnd.{LinkEnd}
+use Rattle.sync_course.specs.Closing.{Closing}
 use Rattle.sync_words.specs.declared.outcome.Outcome.{Outcome}
 use Rattle.sync_words.specs.declared.outcome.Outcome.TheVariants as outcome
 use Rattle.sync_run.specs.declared.run.Limits.{Limits}
@@ -14,13 +15,8 @@ use Rattle.sync_run.specs.Courses.{ComesTo, HaveSpecs}
 use Rattle.sync_run.specs.Headline.{Headline, Rests, SentFull, SentWhole}
 use Rattle.sync_run.specs.Leaving.{LeavesLinks}
 
--- a run that came to its end comes to its lines
-abbrev pub outcome_of : Result (List LinkEnd) Outcome → Outcome
-outcome_of (Ok ends) = outcome.Links ends
-outcome_of (Err came) = came
-
 -- what is so where the files are told
-pub record RanTold (clients : Meaning) (limits : Limits) (words : List LinkWords) (two : Two File) (old new : Outside) (result : Result (List LinkEnd) Outcome) : Type 0 where
+pub record RanTold (clients : Meaning) (limits : Limits) (words : List LinkWords) (two : Two File) (old new : Outside) (result : Result Closing Outcome) : Type 0 where
   pub rests : Rests new.files result
   pub sent : IfOk result (SentWhole clients two new)
   pub sent_full : IsErrOf result outcome.Full → SentFull clients two old new
@@ -28,8 +24,8 @@ pub record RanTold (clients : Meaning) (limits : Limits) (words : List LinkWords
 
 -- a run of sessions over the links of these words came to this outcome
 pub record HasRun (clients : Meaning) (limits : Limits) (words : List LinkWords) (old new : Outside) (came : Outcome) : Type 0 where
-  pub result : Result (List LinkEnd) Outcome
-  pub is : came ≡ outcome_of result
+  pub result : Result Closing Outcome
+  pub is : came ≡ links_came_to result
   pub headline : Headline clients words old new
   pub told : (two : Two File) → old.files ≡ Some two → RanTold clients limits words two old new result
   pub specs : HaveSpecs words new

@@ -16,8 +16,9 @@ use Rattle.sync_node.specs.Node.{NodeValue}
 use Rattle.sync_node.specs.Output.{Journal, output, sent_on}
 use Rattle.sync_node.specs.Safe.{Begin, Safe}
 use Rattle.sync_words.specs.declared.link_words.LinkWords.{LinkWords}
-use Rattle.sync_words.specs.declared.error_lines.LinkText.TheVariants as text
-use Rattle.sync_words.specs.declared.links.LinkEnd.{LinkEnd}
+use Rattle.sync_course.specs.declared.ends.LinkEnd.{LinkEnd}
+use Rattle.sync_course.specs.declared.ends.LinkEnd.TheVariants as end
+use Rattle.sync_course.specs.Closing.{Closing}
 use Rattle.sync_run.specs.declared.dialling.Dialled.{Dialled}
 use Rattle.sync_run.specs.Parts.{sessions_from}
 use Rattle.sync_run.specs.Plans.{ArePlanned}
@@ -79,10 +80,10 @@ pub record WordsSafe (clients : Meaning) (words : List LinkWords) (s : StoreValu
 
 -- On each link that is not said to have failed all output of its session was sent. The first
 -- session has this number.
-abbrev pub SendsWhole : Meaning → ℕ → Outside → List LinkEnd → Type 0
+abbrev pub SendsWhole : Meaning → ℕ → Outside → Closing → Type 0
 SendsWhole clients first o ends =
     (told : Told o) (whole : Journal) → stands clients (read_files told.two) ≡ journal whole
-    → (i : ℕ) (end : LinkEnd) → slice_get ends i ≡ Some end → end.ending ≢ text.Failed
+    → (i : ℕ) (stands : LinkEnd) → slice_get ends.ends i ≡ Some stands → stands ≢ end.Failed
     → sent_on o.links i ≡ output whole (first + i)
 
 -- ---- no room

@@ -6,7 +6,7 @@
 //! - `run`: the command.
 //! - `dialling`: links are dialled and nonces drawn, before anything is committed.
 //! - `sessions`: a session begins on each link, and the turns are made.
-//! - `closing`: the lines of the links.
+//! - `closing`: how the links end.
 #![tactic(auto)]
 
 mod closing;
@@ -14,5 +14,4 @@ mod dialling;
 mod run;
 mod sessions;
 
-pub use closing::in_words;
 pub use run::{Limits, sync_links};

@@ -25,7 +25,7 @@ ghost use Rattle.sync_run.specs.SafeRuns.{AllMayBegin, AreUnused, AttachesAll, I
 ghost use Rattle.sync_run.specs.SafeRuns.{SendsFull, SendsWhole, SessionsSafe, SessionsSent};
 ghost use Rattle.sync_run.specs.SafeRuns.{WordsSafe};
 
-use crate::closing::{close, failed_alone};
+use crate::closing::close;
 use crate::dialling::{Dialled, dial_all, hang_up_all};
 use crate::sessions::{attach_all, make_turns};
 use outside::Host;
@@ -54,7 +54,7 @@ pub struct Limits {
 ///
 /// # Errors
 /// `NoStore`, `Damaged` and `Refused(UnknownContact)` leave the journal as it is, and no link is
-/// made; `Links` names the one link whose dial or nonce failed, the journal is as it was,
+/// made; `LinkFailed` names the one link whose dial or nonce failed, the journal is as it was,
 /// and nothing was sent or heard; `Full`, `Memory` and `DiskFault` break the run off.
 pub fn sync_links<H: Host, C: Clients>(
     alloc: Global,
@@ -140,16 +140,16 @@ fn run_links<H: Host, C: Clients>(
 {
     match dial_all(host, words, dialled) {
         Ok(()) => run_dialled(alloc, store, limits, dialled.as_slice(), host, clients),
-        Err(_) => dial_failed(alloc, dialled.len()),
+        Err(_) => dial_failed(dialled.len()),
     }
 }
 
 // What the command comes to where the call on the link of this number failed.
-fn dial_failed(alloc: Global, link: usize) -> Result<LinkEnds, Outcome>
+fn dial_failed(link: usize) -> Result<LinkEnds, Outcome>
     requires { link < LINKS }
     ensures { FailsAlone link result }
 {
-    Err(Outcome::Links(failed_alone(alloc, link as u8)?))
+    Err(Outcome::LinkFailed(link as u8))
 }
 
 // Runs the sessions on links that were dialled.

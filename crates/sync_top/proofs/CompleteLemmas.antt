@@ -23,10 +23,10 @@ use Rattle.sync_words.specs.declared.outcome.Outcome.TheVariants as outcome
 use Rattle.sync_words.specs.declared.status.Status.{Status}
 use Rattle.sync_words.specs.declared.status.Status.TheVariants as status
 use Rattle.sync_words.specs.Outcomes.{status_of}
-use Rattle.sync_words.specs.Reading.{Asked}
-use Rattle.sync_words.specs.Reading.Asked.{Usage, Do}
-use Rattle.sync_words.specs.declared.command.Command.{Command}
-use Rattle.sync_words.specs.declared.command.Command.TheVariants as command
+use Rattle.commands.specs.Reading.{Asked}
+use Rattle.commands.specs.Reading.Asked.{Usage, Do}
+use Rattle.commands.specs.declared.command.Command.{Command}
+use Rattle.commands.specs.declared.command.Command.TheVariants as command
 use Rattle.store_commands.specs.declared.commit.Settling.{Settling}
 use Rattle.store_commands.specs.declared.commit.Settling.TheVariants as settling
 use Rattle.store_commands.specs.declared.listing.Listing.TheVariants as listing

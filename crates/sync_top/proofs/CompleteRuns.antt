@@ -15,38 +15,34 @@ use Rattle.sync_rules.specs.declared.entries.Entry.{Entry}
 use Rattle.sync_rules.specs.Clients.{Meaning}
 use Rattle.sync_rules.specs.Facts.{facts}
 use Rattle.entry_codec.specs.Standing.{Standing, damaged, journal, no_store, stands}
-use Rattle.sync_course.specs.declared.ends.LinkEnd as link_end
+use Rattle.sync_course.specs.declared.ends.LinkEnd.{LinkEnd}
 use Rattle.sync_course.specs.declared.ends.LinkEnd.TheVariants as end
-use Rattle.sync_course.specs.Closing.{line_for}
 use Rattle.sync_course.specs.Events.{batches_of}
 use Rattle.sync_course.specs.Links.{Link, closes}
 use Rattle.sync_course.specs.Turns.{is_over}
 use Rattle.sync_node.specs.Courses.{ReadsAs}
 use Rattle.store_commands.specs.Commit.{needed_by}
-use Rattle.sync_words.specs.declared.error_lines.LinkText.{LinkText}
-use Rattle.sync_words.specs.declared.error_lines.LinkText.TheVariants as text
 use Rattle.sync_words.specs.declared.link_words.LinkWords.{LinkWords}
-use Rattle.sync_words.specs.declared.links.LinkEnd.{LinkEnd}
+use Rattle.sync_course.specs.Closing.{Closing}
 use Rattle.sync_words.specs.declared.outcome.Outcome.{Outcome}
 use Rattle.sync_words.specs.declared.outcome.Outcome.TheVariants as outcome
 use Rattle.sync_words.specs.declared.status.Status.{Status}
 use Rattle.sync_words.specs.declared.status.Status.TheVariants as status
-use Rattle.sync_words.specs.Outcomes.{first_bad, link_status, links_status, status_of}
+use Rattle.sync_words.specs.Outcomes.{ends_status, first_bad, link_status, links_came_to, links_status, status_of}
 use Rattle.sync_run.specs.declared.run.Limits.{Limits}
 use Rattle.sync_run.specs.Causes.{FailuresRose, IsCaused}
 use Rattle.sync_run.specs.Courses.{ComesTo, RanToEnd, WasFull, is_unknown}
 use Rattle.sync_run.specs.Ends.{LacksVersion, StandsByHeard}
-use Rattle.sync_run.specs.Lines.{numbered, text_of}
-use Rattle.sync_run.specs.Ran.{HasRun, outcome_of}
+use Rattle.sync_run.specs.Ran.{HasRun}
 use Rattle.sync_top.specs.Complete.{AllHeardWell, CourseDecides, HeardWell, MaySync, is_unfailed}
 
 -- ---- the status of links
 
 -- links that all ended well
-all_done : (lines : List LinkEnd) → ((i : ℕ) (e : LinkEnd) → slice_get lines i ≡ Some e → link_status e.ending ≡ status.Done) → links_status lines ≡ status.Done
-all_done [] each = refl
-all_done (e ∷ lines) each =
-    ap (λ (s : Status). first_bad s (links_status lines)) (each zero e refl) ∙ all_done lines (λ i x at. each (suc i) x at)
+all_done : (over : Bool) (ends : List LinkEnd) → ((i : ℕ) (e : LinkEnd) → slice_get ends i ≡ Some e → link_status over e ≡ status.Done) → ends_status over ends ≡ status.Done
+all_done over [] each = refl
+all_done over (e ∷ ends) each =
+    ap (λ (s : Status). first_bad s (ends_status over ends)) (each zero e refl) ∙ all_done over ends (λ i x at. each (suc i) x at)
 
 first_unfailed : (s t : Status) → is_unfailed s ≡ true → is_unfailed t ≡ true → is_unfailed (first_bad s t) ≡ true
 first_unfailed status.Done t first rest = rest
@@ -54,36 +50,37 @@ first_unfailed status.BadStream t first rest = refl
 first_unfailed status.TurnsUsed t first rest = refl
 first_unfailed s t first rest = cc
 
-text_unfailed : (t : LinkText) → (t ≡ text.Failed → ⊥) → is_unfailed (link_status t) ≡ true
-text_unfailed text.Failed fails = absurd (fails refl)
-text_unfailed text.Clean fails = refl
-text_unfailed text.Quiet fails = refl
-text_unfailed text.Redundant fails = refl
-text_unfailed text.Unfinished fails = refl
-text_unfailed (text.Inside place) fails = refl
-text_unfailed (text.Bad place why) fails = refl
-text_unfailed (text.NoVersion place) fails = refl
+end_unfailed : (over : Bool) (e : LinkEnd) → (e ≡ end.Failed → ⊥) → is_unfailed (link_status over e) ≡ true
+end_unfailed over end.Failed fails = absurd (fails refl)
+end_unfailed true end.Going fails = refl
+end_unfailed false end.Going fails = refl
+end_unfailed true end.Clean fails = refl
+end_unfailed false end.Clean fails = refl
+end_unfailed over end.Redundant fails = refl
+end_unfailed over (end.Inside place) fails = refl
+end_unfailed over (end.Bad place why) fails = refl
+end_unfailed over (end.NoVersion place) fails = refl
 
-all_unfailed : (lines : List LinkEnd) → ((i : ℕ) (e : LinkEnd) → slice_get lines i ≡ Some e → e.ending ≡ text.Failed → ⊥) → is_unfailed (links_status lines) ≡ true
-all_unfailed [] each = refl
-all_unfailed (e ∷ lines) each =
-    first_unfailed (link_status e.ending) (links_status lines) (text_unfailed e.ending (each zero e refl)) (all_unfailed lines (λ i x at. each (suc i) x at))
+all_unfailed : (over : Bool) (ends : List LinkEnd) → ((i : ℕ) (e : LinkEnd) → slice_get ends i ≡ Some e → e ≡ end.Failed → ⊥) → is_unfailed (ends_status over ends) ≡ true
+all_unfailed over [] each = refl
+all_unfailed over (e ∷ ends) each =
+    first_unfailed (link_status over e) (ends_status over ends) (end_unfailed over e (each zero e refl)) (all_unfailed over ends (λ i x at. each (suc i) x at))
 
 -- ---- links on which all was heard well
 
--- the line of this place is that of a link of it
-pub record IsLineOf (over : Bool) (links : List Link) (i : ℕ) (e : LinkEnd) : Type 0 where
+-- the link of a place that stands so
+pub record IsEndOf (links : List Link) (i : ℕ) (e : LinkEnd) : Type 0 where
   pub link : Link
   pub there : slice_get links i ≡ Some link
-  pub is : e.ending ≡ text_of (line_for over link.stands)
+  pub is : e ≡ link.stands
 
-line_of_link : (over : Bool) (k : ℕ) (links : List Link) (i : ℕ) (e : LinkEnd) → slice_get (numbered k (map (λ (l : Link). line_for over l.stands) links)) i ≡ Some e → IsLineOf over links i e
-line_of_link over k [] i e at = cc
-line_of_link over k (x ∷ links) zero e at =
-    let is : record { link = k; ending = text_of (line_for over x.stands) } ≡ e = cc in
-    record { link = x; there = refl; is = ap (λ (l : LinkEnd). l.ending) (sym is) }
-line_of_link over k (x ∷ links) (suc i) e at =
-    let rest = line_of_link over (suc k) links i e at in
+end_of_link : (links : List Link) (i : ℕ) (e : LinkEnd) → slice_get (map (λ (l : Link). l.stands) links) i ≡ Some e → IsEndOf links i e
+end_of_link [] i e at = cc
+end_of_link (x ∷ links) zero e at =
+    let is : e ≡ x.stands = cc in
+    record { link = x; there = refl; is = is }
+end_of_link (x ∷ links) (suc i) e at =
+    let rest = end_of_link links i e at in
     record { link = rest.link; there = rest.there; is = rest.is }
 
 -- a VERSIONS among the records heard
@@ -103,35 +100,35 @@ lacks_none place heard lacks none =
     let both : true ≡ false = sym some ∙ none in
     cc
 
--- the line of a link of a run that is over, which did not fail
-line_done : (stands : link_end.LinkEnd) (heard : List ℕ) → StandsByHeard stands heard → HeardWell heard → (text_of (line_for true stands) ≡ text.Failed → ⊥)
-    → link_status (text_of (line_for true stands)) ≡ status.Done
-line_done end.Going heard by well fails = refl
-line_done end.Clean heard by well fails = refl
-line_done end.Redundant heard by well fails = refl
-line_done (end.Inside place) heard by well fails = let both : ends.Inside place ≡ ends.Clean = sym by ∙ well.whole in cc
-line_done (end.Bad place why) heard by well fails = let both : ends.Bad place why ≡ ends.Clean = sym by ∙ well.whole in cc
-line_done (end.NoVersion place) heard by well fails = absurd (lacks_none place heard by well.versions)
-line_done end.Failed heard by well fails = absurd (fails refl)
+-- a link of a run that is over, which did not fail
+well_done : (stands : LinkEnd) (heard : List ℕ) → StandsByHeard stands heard → HeardWell heard → (stands ≡ end.Failed → ⊥) → link_status true stands ≡ status.Done
+well_done end.Going heard by well fails = refl
+well_done end.Clean heard by well fails = refl
+well_done end.Redundant heard by well fails = refl
+well_done (end.Inside place) heard by well fails = let both : ends.Inside place ≡ ends.Clean = sym by ∙ well.whole in cc
+well_done (end.Bad place why) heard by well fails = let both : ends.Bad place why ≡ ends.Clean = sym by ∙ well.whole in cc
+well_done (end.NoVersion place) heard by well fails = absurd (lacks_none place heard by well.versions)
+well_done end.Failed heard by well fails = absurd (fails refl)
 
 module _ (clients : Meaning) (limits : Limits) (words : List LinkWords) (old new : Outside) (disk : Rose old.disk_faults new.disk_faults → ⊥)
     (links : (link : ℕ) → Rose (old.links.faults link) (new.links.faults link) → ⊥) where
   abbrev ComesOut : Outcome → Type 0
   ComesOut came = CourseDecides clients limits words old new (status_of came) ⊎ (status_of came ≡ status.Memory)
 
-  unfailed : (lines : List LinkEnd) → FailuresRose old new lines → (i : ℕ) (e : LinkEnd) → slice_get lines i ≡ Some e → e.ending ≡ text.Failed → ⊥
-  unfailed lines caused i e at failed = links e.link (caused i e at failed)
+  unfailed : (closed : Closing) → FailuresRose old new closed → (i : ℕ) (e : LinkEnd) → slice_get closed.ends i ≡ Some e → e ≡ end.Failed → ⊥
+  unfailed closed caused i e at failed = links i (caused i e at failed)
 
-  module _ (begin : List (List Entry)) (lines : List LinkEnd) (caused : FailuresRose old new lines) (ran : RanToEnd clients limits words begin old new lines) where
+  module _ (begin : List (List Entry)) (lines : Closing) (caused : FailuresRose old new lines) (ran : RanToEnd clients limits words begin old new lines) where
     ran_done : is_over limits.quiet ran.last ≡ true → AllHeardWell ran.last → links_status lines ≡ status.Done
     ran_done over well =
-        all_done lines (λ i e at.
-        let closed : slice_get (numbered 0 (map (λ (l : Link). line_for (is_over limits.quiet ran.last) l.stands) ran.last.links)) i ≡ Some e =
-        subst (λ (ls : List LinkEnd). slice_get ls i ≡ Some e) ran.closes at in
-        let line = line_of_link (is_over limits.quiet ran.last) 0 ran.last.links i e closed in
-        let is : e.ending ≡ text_of (line_for true line.link.stands) = line.is ∙ ap (λ (b : Bool). text_of (line_for b line.link.stands)) over in
-        ap link_status is
-        ∙ line_done line.link.stands line.link.heard (ran.by_heard i line.link line.there) (well i line.link line.there) (λ failed. unfailed lines caused i e at (is ∙ failed)))
+        let quiet : lines.over ≡ true = ap (λ (c : Closing). c.over) ran.closes ∙ over in
+        ap (λ (b : Bool). ends_status b lines.ends) quiet
+        ∙ all_done true lines.ends (λ i e at.
+        let closed : slice_get (map (λ (l : Link). l.stands) ran.last.links) i ≡ Some e =
+        subst (λ (c : Closing). slice_get c.ends i ≡ Some e) ran.closes at in
+        let stood = end_of_link ran.last.links i e closed in
+        ap (link_status true) stood.is
+        ∙ well_done stood.link.stands stood.link.heard (ran.by_heard i stood.link stood.there) (well i stood.link stood.there) (λ failed. unfailed lines caused i e at (stood.is ∙ failed)))
 
     course_decides : ReadsAs clients old.files begin → CourseDecides clients limits words old new (links_status lines)
     course_decides stood = record {
@@ -140,7 +137,7 @@ module _ (clients : Meaning) (limits : Limits) (words : List LinkWords) (old new
       ends = lines;
       ran = ran;
       decides = refl;
-      unfailed = all_unfailed lines (unfailed lines caused);
+      unfailed = all_unfailed lines.over lines.ends (unfailed lines caused);
       is_done = ran_done;
       is_done_as_told = λ over told. ran_done over (λ i link at. subst HeardWell (sym (ran.as_told i link at told.0 told.1)) (told.2 i));
     }
@@ -152,12 +149,12 @@ module _ (clients : Meaning) (limits : Limits) (words : List LinkWords) (old new
     same_begin : (j : List (List Entry)) → stood ≡ journal j → j ≡ may.begin
     same_begin j is = let both : journal j ≡ journal may.begin = sym is ∙ may.stood.2 in cc
 
-    result_comes : (r : Result (List LinkEnd) Outcome) (came : Outcome) → came ≡ outcome_of r → IsCaused words old new r → ComesTo clients limits words stood old new r → ComesOut came
+    result_comes : (r : Result Closing Outcome) (came : Outcome) → came ≡ links_came_to r → IsCaused words old new r → ComesTo clients limits words stood old new r → ComesOut came
     result_comes (Ok lines) came is caused comes =
         let ran : RanToEnd clients limits words may.begin old new lines =
         subst (λ (j : List (List Entry)). RanToEnd clients limits words j old new lines) (same_begin comes.begin comes.began) comes.has in
         subst ComesOut (sym is) (inl (course_decides may.begin lines caused ran may.stood))
-    result_comes (Err (outcome.Links lines)) came is caused comes = absurd (links caused.link caused.rose)
+    result_comes (Err (outcome.LinkFailed link)) came is caused comes = absurd (links link caused.rose)
     result_comes (Err outcome.DiskFault) came is caused comes = absurd (disk caused)
     result_comes (Err outcome.Memory) came is caused comes = inr (ap status_of is)
     result_comes (Err outcome.NoStore) came is caused comes = let both : no_store ≡ journal may.begin = sym comes ∙ may.stood.2 in cc

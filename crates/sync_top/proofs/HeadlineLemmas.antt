@@ -10,18 +10,19 @@ use Rattle.sync_rules.specs.Clients.{Meaning}
 use Rattle.sync_rules.specs.Facts.{facts}
 use Rattle.entry_codec.specs.Standing.{journal, stands}
 use Rattle.sync_node.specs.Output.{Journal, output}
-use Rattle.sync_words.specs.declared.command.Command.TheVariants as command
+use Rattle.commands.specs.declared.command.Command.TheVariants as command
 use Rattle.sync_words.specs.declared.link_words.LinkWords.{LinkWords}
-use Rattle.sync_words.specs.declared.links.LinkEnd.{LinkEnd}
+use Rattle.sync_course.specs.Closing.{Closing}
 use Rattle.sync_words.specs.declared.outcome.Outcome.{Outcome}
-use Rattle.sync_words.specs.Reading.{Asked}
-use Rattle.sync_words.specs.Reading.Asked.{Usage, Do}
+use Rattle.commands.specs.Reading.{Asked}
+use Rattle.commands.specs.Reading.Asked.{Usage, Do}
 use Rattle.sync_run.specs.declared.run.Limits.{Limits}
 use Rattle.sync_run.specs.Causes.{IsCaused}
 use Rattle.sync_run.specs.Courses.{HaveSpecs}
 use Rattle.sync_run.specs.Headline.{Headline, StandsForRun}
 use Rattle.sync_run.specs.Leaving.{LeavesLinks}
-use Rattle.sync_run.specs.Ran.{HasRun, RanTold, outcome_of}
+use Rattle.sync_run.specs.Ran.{HasRun, RanTold}
+use Rattle.sync_words.specs.Outcomes.{links_came_to}
 use Rattle.sync_top.specs.Run.{AsksSync, Comes, Covered, DoesNothing}
 
 -- nothing was sent on a host without links
@@ -76,8 +77,8 @@ covers clients (Do _) old new input input' out out' came unused comes = tt
 -- ---- a run of sessions
 
 -- what is said of a run over the links of a list is said of the words that have them
-pub has_run : (clients : Meaning) (limits : Limits) (words given : List LinkWords) (old new : Outside) (result : Result (List LinkEnd) Outcome) (came : Outcome) → given ≡ words
-    → came ≡ outcome_of result → Headline clients given old new
+pub has_run : (clients : Meaning) (limits : Limits) (words given : List LinkWords) (old new : Outside) (result : Result Closing Outcome) (came : Outcome) → given ≡ words
+    → came ≡ links_came_to result → Headline clients given old new
     → ((two : Two File) → old.files ≡ Some two → RanTold clients limits given two old new result) → HaveSpecs given new → IsCaused given old new result
     → LeavesLinks given old new result → HasRun clients limits words old new came
 has_run clients limits words given old new result came same is headline told specs caused leaves =

@@ -6,3 +6,4 @@ pub mod UndamagedLemmas
 pub mod HeadlineLemmas
 mod CompleteRuns
 mod CompleteLemmas
+mod LookLemmas

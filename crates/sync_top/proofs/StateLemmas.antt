@@ -19,13 +19,13 @@ use Rattle.sync_rules.specs.Steps.{kind_of_def}
 use Rattle.sync_words.specs.declared.outcome.Outcome.{Outcome}
 use Rattle.sync_words.specs.declared.outcome.Outcome.TheVariants as outcome
 use Rattle.sync_words.specs.declared.status.Status.{Status}
-use Rattle.sync_words.specs.Outcomes.{came_to, status_of, words_came}
-use Rattle.sync_words.specs.Reading.{Asked, IsReadAs}
-use Rattle.sync_words.specs.Reading.Asked.{Usage, Do}
-use Rattle.sync_words.specs.declared.command.Command.{Command}
-use Rattle.sync_words.specs.declared.command.Command.TheVariants as command
-use Rattle.sync_words.specs.declared.command.WordsFault.{WordsFault}
-use Rattle.sync_words.specs.declared.command.WordsFault.TheVariants as fault
+use Rattle.sync_words.specs.Outcomes.{came_to, status_of}
+use Rattle.commands.specs.Reading.{Asked, IsReadAs, words_came}
+use Rattle.commands.specs.Reading.Asked.{Usage, Do}
+use Rattle.commands.specs.declared.command.Command.{Command}
+use Rattle.commands.specs.declared.command.Command.TheVariants as command
+use Rattle.commands.specs.declared.fault.WordsFault.{WordsFault}
+use Rattle.commands.specs.declared.fault.WordsFault.TheVariants as fault
 use Rattle.store_commands.specs.declared.commit.Settling.TheVariants as settling
 use Rattle.store_commands.specs.Entries.{HasAdded}
 use Rattle.store_commands.specs.Plans.{group_plan}
@@ -58,6 +58,7 @@ module _ (law : (clients : Meaning) (kind : ℕ) (def : GroupValue) (records : L
   group_states name descriptor None outcome.Done known tries = absurd tries
   group_states name descriptor None (outcome.Bad place why) known tries = absurd tries
   group_states name descriptor None (outcome.Inside place) known tries = absurd tries
+  group_states name descriptor None (outcome.NoVersion place) known tries = absurd tries
   group_states name descriptor None (outcome.Links ends) known tries = absurd tries
   group_states name descriptor None _ known tries = tt
   group_states name descriptor (Some kind) outcome.Done known tries =
@@ -69,6 +70,7 @@ module _ (law : (clients : Meaning) (kind : ℕ) (def : GroupValue) (records : L
   group_states name descriptor (Some kind) (outcome.Inside place) known tries =
       subst (λ o. TellsGroup clients name descriptor o input input' out out') (sym known)
       (whole_states kind (record { name = name; major = 0; descriptor = descriptor }) (outcome.Inside place) known tries tries.ended.0 tries.ended.2)
+  group_states name descriptor (Some kind) (outcome.NoVersion place) known tries = absurd tries.ended
   group_states name descriptor (Some kind) (outcome.Links ends) known tries = absurd tries.ended
   group_states name descriptor (Some kind) _ known tries = tt
 
@@ -137,15 +139,16 @@ group_comes clients asked name descriptor given rest major def old new input inp
 
 -- ---- answers of commands
 
--- what holds of a command holds of one that is it
-pub as_command : (clients : Meaning) (asked is : Command) (old new : Outside) (input input' out out' : Stream) (came : Outcome) → asked ≡ is
-    → Comes clients (Do is) old new input input' out out' came → Comes clients (Do asked) old new input input' out out' came
-as_command clients asked is old new input input' out out' came same comes =
-    subst (λ (a : Command). Comes clients (Do a) old new input input' out out' came) (sym same) comes
+-- what holds of a command and an outcome holds of those that are they
+pub as_command : (clients : Meaning) (asked is : Command) (old new : Outside) (input input' out out' : Stream) (came given : Outcome) → asked ≡ is → given ≡ came
+    → Comes clients (Do is) old new input input' out out' came → Comes clients (Do asked) old new input input' out out' given
+as_command clients asked is old new input input' out out' came given same gives comes =
+    subst (λ (a : Command). Comes clients (Do a) old new input input' out out' given) (sym same)
+    (subst (λ (o : Outcome). Comes clients (Do is) old new input input' out out' o) (sym gives) comes)
 
--- the outcome that was reported is that of the command
-pub reports_as : (came came' : Outcome) (err err' : Stream) (given : Status) → came ≡ came' → Reports came err err' given → Reports came' err err' given
-reports_as came came' err err' given same reports = subst (λ (o : Outcome). Reports o err err' given) same reports
+pub comes_as : (clients : Meaning) (words : Asked) (old new : Outside) (input input' out out' : Stream) (came given : Outcome) → given ≡ came
+    → Comes clients words old new input input' out out' came → Comes clients words old new input input' out out' given
+comes_as clients words old new input input' out out' came given gives = subst (λ (o : Outcome). Comes clients words old new input input' out out' o) (sym gives)
 
 -- what goes on by `?`
 passed : (P : Outcome → Type 0) (r : Result (Unit {0}) Outcome) (x : Outcome) → IsErrAnd r (λ e. e ≡ x) → P x → P (came_to r)
@@ -155,10 +158,6 @@ passed P (Err e) x is h = subst P (sym is) h
 module _ (r : Result (Unit {0}) Outcome) (x : Outcome) (is : IsErrAnd r (λ e. e ≡ x)) where
   pub came_on : came_to r ≡ x
   came_on = passed (λ (came : Outcome). came ≡ x) r x is refl
-
-  pub comes_on : (clients : Meaning) (words : Asked) (old new : Outside) (input input' out out' : Stream) → Comes clients words old new input input' out out' x
-      → Comes clients words old new input input' out out' (came_to r)
-  comes_on clients words old new input input' out out' = passed (λ (came : Outcome). Comes clients words old new input input' out out' came) r x is
 
   pub streams_on : (told : List Item → List ℕ → Type 0) (input input' out out' : Stream) → Streams told input input' out out' x → Streams told input input' out out' (came_to r)
   streams_on told input input' out out' = passed (λ (came : Outcome). Streams told input input' out out' came) r x is

@@ -23,15 +23,15 @@ use Rattle.sync_course.specs.Links.{Link, closes}
 use Rattle.sync_course.specs.Turns.{Place, RunStep, is_over}
 use Rattle.sync_node.specs.Courses.{ReadsAs}
 use Rattle.sync_node.specs.Output.{heard_on}
-use Rattle.sync_words.specs.declared.command.Command.{Command}
-use Rattle.sync_words.specs.declared.command.Command.TheVariants as command
+use Rattle.commands.specs.declared.command.Command.{Command}
+use Rattle.commands.specs.declared.command.Command.TheVariants as command
 use Rattle.sync_words.specs.declared.link_words.LinkWords.{LinkWords}
-use Rattle.sync_words.specs.declared.links.LinkEnd.{LinkEnd}
+use Rattle.sync_course.specs.Closing.{Closing}
 use Rattle.sync_words.specs.declared.status.Status.{Status}
 use Rattle.sync_words.specs.declared.status.Status.TheVariants as status
 use Rattle.sync_words.specs.Outcomes.{links_status}
-use Rattle.sync_words.specs.Reading.{Asked}
-use Rattle.sync_words.specs.Reading.Asked.{Usage, Do}
+use Rattle.commands.specs.Reading.{Asked}
+use Rattle.commands.specs.Reading.Asked.{Usage, Do}
 use Rattle.store_commands.specs.declared.listing.Listing.TheVariants as listing
 use Rattle.store_commands.specs.Commit.{needed_by}
 use Rattle.store_commands.specs.Plans.{Plan, adds, contact_plan, group_plan, level_plan, post_plan}
@@ -145,7 +145,7 @@ is_unfailed given = false
 pub record CourseDecides (clients : Meaning) (limits : Limits) (words : List LinkWords) (old new : Outside) (given : Status) : Type 0 where
   pub begin : List (List Entry)
   pub stood : ReadsAs clients old.files begin
-  pub ends : List LinkEnd
+  pub ends : Closing
   pub ran : RanToEnd clients limits words begin old new ends
   pub decides : given ≡ links_status ends
   pub unfailed : is_unfailed given ≡ true

@@ -5,3 +5,4 @@ pub mod Run
 pub mod States
 pub mod Undamaged
 pub mod Complete
+pub mod Looking

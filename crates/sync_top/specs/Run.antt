@@ -31,11 +31,10 @@ use Rattle.sync_words.specs.declared.outcome.Outcome.{Outcome}
 use Rattle.sync_words.specs.declared.outcome.Outcome.TheVariants as outcome
 use Rattle.sync_words.specs.Outcomes.{status_of, text_of}
 use Rattle.outside.specs.Streams.{Stream, IsIdle, GetsFront, Gets}
-use Rattle.sync_run.specs.Lines.{in_words}
 use Rattle.sync_top.specs.RecordText.{items_text}
-use Rattle.sync_words.specs.Reading.{Asked}
-use Rattle.sync_words.specs.Reading.Asked.{Usage, Do}
-use Rattle.sync_words.specs.declared.command.Command.TheVariants as command
+use Rattle.commands.specs.Reading.{Asked}
+use Rattle.commands.specs.Reading.Asked.{Usage, Do}
+use Rattle.commands.specs.declared.command.Command.TheVariants as command
 
 -- the input was read to its end, which is within the greatest length
 pub record ReadsWhole (input input' : Stream) (read : List ℕ) : Type 0 where
@@ -46,7 +45,7 @@ pub record ReadsWhole (input input' : Stream) (read : List ℕ) : Type 0 where
 abbrev pub outcome_of : Ending → Outcome
 outcome_of ends.Clean = outcome.Done
 outcome_of (ends.Inside place) = outcome.Inside place
-outcome_of (ends.Bad place why) = outcome.Bad place (in_words why)
+outcome_of (ends.Bad place why) = outcome.Bad place why
 
 -- What a command comes to that reads its whole input, by the bytes read, the text for their first MAX_INPUT bytes and how
 -- the stream of these ends.

@@ -6,9 +6,9 @@ use Rattle.outside.specs.Runs.{Told}
 use Rattle.sync_rules.specs.declared.entries.Entry.{Entry}
 use Rattle.sync_rules.specs.Clients.{Meaning}
 use Rattle.entry_codec.specs.Standing.{journal, stands}
-use Rattle.sync_words.specs.Reading.{Asked}
-use Rattle.sync_words.specs.Reading.Asked.{Do}
-use Rattle.sync_words.specs.declared.command.Command.TheVariants as command
+use Rattle.commands.specs.Reading.{Asked}
+use Rattle.commands.specs.Reading.Asked.{Do}
+use Rattle.commands.specs.declared.command.Command.TheVariants as command
 
 -- the files stand for a journal
 pub record StandsForSome (clients : Meaning) (files : Two (List ℕ)) : Type 0 where

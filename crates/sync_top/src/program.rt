@@ -1,14 +1,16 @@
 // A command from its words to its status.
 ghost use Rattle.std.specs.Prelude.{◌≡◌};
 ghost use Rattle.sync_top.specs.Complete.{Complete};
+ghost use Rattle.sync_top.specs.Looking.{LooksUnless};
 ghost use Rattle.sync_top.specs.Run.{AsksSync, Comes, Covered, KeepsHost, Ran, Reports};
 ghost use Rattle.sync_top.specs.States.{TellsWhole};
 ghost use Rattle.sync_top.specs.Undamaged.{NeverDamaged};
-ghost use Rattle.sync_words.specs.Outcomes.{came_to};
-ghost use Rattle.sync_words.specs.Reading.{asks, IsWithin, texts};
-ghost use Rattle.sync_words.specs.Reading.Asked.{Do};
+ghost use Rattle.commands.specs.Reading.{asks, IsWithin};
+ghost use Rattle.sync_words.specs.Words.{texts};
+ghost use Rattle.commands.specs.Reading.Asked.{Do};
 
 use crate::streams::{group_of, list_records, try_group};
+use commands::{Command, read_words};
 use journal_play::play_says;
 use outside::{Host, Sink, Source, write_text};
 use std::alloc::Global;
@@ -18,7 +20,7 @@ use store_commands::{
 };
 use sync_rules::Clients;
 use sync_run::{Limits, sync_links};
-use sync_words::{Command, Outcome, Status, read_words};
+use sync_words::{Outcome, Status};
 
 /// Runs the command that the words ask for: it reads `input`, writes its text to `out` and its
 /// line, if it has one, to `err`, and says what it came to. The words are those after the program's
@@ -45,6 +47,7 @@ pub fn run<H: Host, S: Source, W: Sink, E: Sink, C: Clients>(
     ensures states { TellsWhole (C.meaning clients.now) (asks (texts words.now)) (S.tells input.old)
         (S.tells input.new) (W.tells out.old) (W.tells out.new) result }
     ensures host { KeepsHost (asks (texts words.now)) host.old host.new }
+    ensures looks { LooksUnless (asks (texts words.now)) (H.tells host.old) (H.tells host.new) }
     ensures undamaged { NeverDamaged (C.meaning clients.now) (asks (texts words.now))
         (H.tells host.old) (H.tells host.new) }
     ensures complete { Complete (C.meaning clients.now) (asks (texts words.now)) (H.tells host.old)
@@ -53,7 +56,7 @@ pub fn run<H: Host, S: Source, W: Sink, E: Sink, C: Clients>(
 {
     // The law that the clause on the states rests on.
     play_says();
-    let outcome = Outcome::of(command(alloc, hasher, words, host, input, out, clients));
+    let outcome = command(alloc, hasher, words, host, input, out, clients);
     report(&outcome, err)
 }
 
@@ -66,15 +69,17 @@ fn command<H: Host, S: Source, W: Sink, C: Clients>(
     input: &mut S,
     out: &mut W,
     clients: &C,
-) -> Result<(), Outcome>
+) -> Outcome
     requires unused { AsksSync (asks (texts words.now)) → (H.tells host.old).links.dialled ≡ 0 }
     ensures comes { Comes (C.meaning clients.now) (asks (texts words.now)) (H.tells host.old)
         (H.tells host.new) (S.tells input.old) (S.tells input.new) (W.tells out.old)
-        (W.tells out.new) (came_to result) }
+        (W.tells out.new) result }
     ensures host { KeepsHost (asks (texts words.now)) host.old host.new }
 {
-    let asked = read_words(alloc, words)?;
-    obey(alloc, hasher, asked, host, input, out, clients)
+    match read_words(alloc, words) {
+        Ok(asked) => obey(alloc, hasher, asked, host, input, out, clients),
+        Err(fault) => Outcome::from(fault),
+    }
 }
 
 // Does what a command says.
@@ -86,16 +91,15 @@ fn obey<H: Host, S: Source, W: Sink, C: Clients>(
     input: &mut S,
     out: &mut W,
     clients: &C,
-) -> Result<(), Outcome>
+) -> Outcome
     requires within { IsWithin asked }
     requires unused { AsksSync (Do asked) → (H.tells host.old).links.dialled ≡ 0 }
     ensures comes { Comes (C.meaning clients.now) (Do asked) (H.tells host.old) (H.tells host.new)
-        (S.tells input.old) (S.tells input.new) (W.tells out.old) (W.tells out.new)
-        (came_to result) }
+        (S.tells input.old) (S.tells input.new) (W.tells out.old) (W.tells out.new) result }
     ensures host { KeepsHost (Do asked) host.old host.new }
 {
     match asked {
-        Command::Try(name, descriptor) => try_group(
+        Command::Try(name, descriptor) => Outcome::of(try_group(
             alloc,
             hasher,
             name.as_str(),
@@ -103,27 +107,31 @@ fn obey<H: Host, S: Source, W: Sink, C: Clients>(
             input,
             out,
             clients,
-        ),
-        Command::Records => list_records(alloc, input, out),
-        Command::Init => make_store(host, out),
-        Command::Contact => add_contact(alloc, hasher, host, out, clients),
+        )),
+        Command::Records => Outcome::of(list_records(alloc, input, out)),
+        Command::Init => Outcome::of(make_store(host, out)),
+        Command::Contact => Outcome::of(add_contact(alloc, hasher, host, out, clients)),
         Command::Group(name, major, descriptor) => {
-            let def = group_of(alloc, name.as_str(), major, descriptor.as_str())?;
-            add_group(alloc, hasher, def, host, out, clients)
+            match group_of(alloc, name.as_str(), major, descriptor.as_str()) {
+                Ok(def) => Outcome::of(add_group(alloc, hasher, def, host, out, clients)),
+                Err(e) => Outcome::from(e),
+            }
         }
         Command::Share(contact, group, level) => {
-            set_level(alloc, hasher, contact, &group, level, host, out, clients)
+            let shared = set_level(alloc, hasher, contact, &group, level, host, out, clients);
+            Outcome::of(shared)
         }
         Command::Post(group, timestamp) => {
-            post_message(alloc, hasher, group, timestamp, host, input, out, clients)
+            let posted = post_message(alloc, hasher, group, timestamp, host, input, out, clients);
+            Outcome::of(posted)
         }
-        Command::Show => list(alloc, hasher, Listing::Store, host, out, clients),
-        Command::Inbox => list(alloc, hasher, Listing::Inbox, host, out, clients),
-        Command::Body(id) => write_body(alloc, hasher, &id, host, out, clients),
+        Command::Show => Outcome::of(list(alloc, hasher, Listing::Store, host, out, clients)),
+        Command::Inbox => Outcome::of(list(alloc, hasher, Listing::Inbox, host, out, clients)),
+        Command::Body(id) => Outcome::of(write_body(alloc, hasher, &id, host, out, clients)),
         Command::Sync(turns, quiet, links) => {
             let limits = Limits { turns, quiet };
-            let ends = sync_links(alloc, hasher, limits, links.as_slice(), host, clients)?;
-            Err(Outcome::Links(ends))
+            let links = links.as_slice();
+            Outcome::of_links(sync_links(alloc, hasher, limits, links, host, clients))
         }
     }
 }

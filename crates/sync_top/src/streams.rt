@@ -17,7 +17,6 @@ use std::alloc::{AllocError, Global};
 use std::hash::RandomState;
 use sync_ids::{GroupDef, MAX_DESCRIPTOR, MAX_NAME};
 use sync_rules::{Clients, Refused};
-use sync_run::in_words;
 use sync_words::Outcome;
 
 /// Plays the records of the input in a journal of the group of this client's name, major version 0
@@ -140,6 +139,6 @@ fn ended(ending: Ending) -> Result<(), Outcome>
     match ending {
         Ending::Clean => Ok(()),
         Ending::Inside(place) => Err(Outcome::Inside(place)),
-        Ending::Bad(place, reason) => Err(Outcome::Bad(place, in_words(reason))),
+        Ending::Bad(place, reason) => Err(Outcome::Bad(place, reason)),
     }
 }

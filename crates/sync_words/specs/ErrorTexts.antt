@@ -1,12 +1,12 @@
 -- The lines of the error output.
 use Rattle.std.specs.Prelude.{ℕ, Bool, true, false, List, [], ◌∷◌, ◌++◌, codes}
 use Rattle.std.specs.Fmt.{decimal}
+use Rattle.record_grammar.specs.declared.front.Reason.{Reason}
+use Rattle.record_grammar.specs.declared.front.Reason.TheVariants as reason
+use Rattle.sync_course.specs.declared.ends.LinkEnd.{LinkEnd}
+use Rattle.sync_course.specs.declared.ends.LinkEnd.TheVariants as end
 use Rattle.sync_rules.specs.declared.states.Refused.{Refused}
 use Rattle.sync_rules.specs.declared.states.Refused.TheVariants as refused
-use Rattle.sync_words.specs.declared.error_lines.LinkText.{LinkText}
-use Rattle.sync_words.specs.declared.error_lines.LinkText.TheVariants as link
-use Rattle.sync_words.specs.declared.error_lines.ReasonText.{ReasonText}
-use Rattle.sync_words.specs.declared.error_lines.ReasonText.TheVariants as reason
 use Rattle.sync_words.specs.declared.status.Status.{Status}
 use Rattle.sync_words.specs.declared.status.Status.TheVariants as status
 
@@ -27,6 +27,8 @@ refusal refused.AlreadyHeld = codes "already held"
 refusal refused.InvalidPost = codes "invalid post"
 refusal refused.DependencyNotDelivered = codes "dependency not delivered"
 refusal refused.UnknownMessage = codes "unknown message"
+refusal refused.TooManySessions = codes "too many sessions"
+refusal refused.NotSharing = codes "not a sharing group"
 
 abbrev pub refused_text : Refused → List ℕ
 refused_text why = codes "refused: " ++ (refusal why ++ 10 ∷ [])
@@ -58,7 +60,7 @@ plain_text status.TooMuch = codes "input too long\n"
 plain_text _ = []
 
 -- why something is no record, in words
-abbrev pub reason_text : ReasonText → List ℕ
+abbrev pub reason_text : Reason → List ℕ
 reason_text reason.WrongVersion = codes "wrong version"
 reason_text reason.TooLong = codes "too long"
 reason_text reason.EmptyIds = codes "empty id list"
@@ -69,25 +71,31 @@ reason_text reason.BadTimestamp = codes "bad timestamp"
 reason_text reason.BadVersions = codes "bad versions"
 reason_text reason.BadNonce = codes "bad nonce"
 
-abbrev pub bad_record_text : ℕ → ReasonText → List ℕ
+abbrev pub bad_record_text : ℕ → Reason → List ℕ
 bad_record_text place why = codes "bad record at " ++ (decimal place ++ (codes ": " ++ (reason_text why ++ 10 ∷ [])))
 
 abbrev pub inside_text : ℕ → List ℕ
 inside_text place = codes "ended inside a record at " ++ (decimal place ++ 10 ∷ [])
 
+-- a peer that lists its versions at this place, none of them this side's
+abbrev pub no_version_text : ℕ → List ℕ
+no_version_text place = codes "no common version at " ++ (decimal place ++ 10 ∷ [])
+
 abbrev pub script_text : ℕ → List ℕ
 script_text line = codes "bad script: line " ++ (decimal line ++ 10 ∷ [])
 
--- how a link ended
-abbrev pub ending_text : LinkText → List ℕ
-ending_text link.Clean = codes "clean\n"
-ending_text link.Quiet = codes "quiet\n"
-ending_text link.Redundant = codes "redundant\n"
-ending_text link.Unfinished = codes "unfinished\n"
-ending_text (link.Inside place) = inside_text place
-ending_text (link.Bad place why) = bad_record_text place why
-ending_text (link.NoVersion place) = codes "no common version at " ++ (decimal place ++ 10 ∷ [])
-ending_text link.Failed = codes "failed\n"
+-- How a link stood at the end of a run. One that is still asked is quiet where the run was over; one that is not closed is
+-- unfinished where it was not.
+abbrev pub ending_text : (over : Bool) → LinkEnd → List ℕ
+ending_text true end.Going = codes "quiet\n"
+ending_text false end.Going = codes "unfinished\n"
+ending_text true end.Clean = codes "clean\n"
+ending_text false end.Clean = codes "unfinished\n"
+ending_text over end.Redundant = codes "redundant\n"
+ending_text over (end.Inside place) = inside_text place
+ending_text over (end.Bad place why) = bad_record_text place why
+ending_text over (end.NoVersion place) = no_version_text place
+ending_text over end.Failed = codes "failed\n"
 
-abbrev pub link_text : ℕ → LinkText → List ℕ
-link_text number ending = codes "link " ++ (decimal number ++ (codes ": " ++ ending_text ending))
+abbrev pub link_text : (number : ℕ) (over : Bool) → LinkEnd → List ℕ
+link_text number over stands = codes "link " ++ (decimal number ++ (codes ": " ++ ending_text over stands))

@@ -1,6 +1,5 @@
 pub mod Words
 pub mod Links
-pub mod Reading
 pub mod Texts
 pub mod StreamTexts
 pub mod EntryTexts

@@ -1,11 +1,11 @@
 -- The links that the words of a command name.
 use Rattle.std.specs.Prelude.{ℕ, ◌≤◌, Bool, false, List, length}
-use Rattle.std.specs.List.{list_any, All}
+use Rattle.std.specs.List.{All}
 use Rattle.outside.specs.declared.limits.TheConstants.{LINKS}
 use Rattle.sync_rules.specs.declared.entries.Mode.{Mode}
 use Rattle.sync_rules.specs.declared.entries.Mode.TheVariants as mode
 use Rattle.sync_words.specs.declared.link_words.LinkWords.{LinkWords}
-use Rattle.sync_words.specs.Words.{is_dialled, is_std}
+use Rattle.sync_words.specs.Words.{is_dialled}
 
 -- whether a session in this mode over a link of this spec has a nonce
 abbrev pub wants_nonce : Mode → (spec : List ℕ) → Bool
@@ -14,10 +14,6 @@ wants_nonce mode.Batch spec = false
 
 abbrev pub has_nonce : LinkWords → Bool
 has_nonce link = wants_nonce link.mode link.spec
-
--- whether one of the links is over the standard input and output
-abbrev pub has_std : List LinkWords → Bool
-has_std links = list_any (λ (link : LinkWords). is_std link.spec) links
 
 -- the parts of a link are within their limits
 abbrev pub IsLink : LinkWords → Type 0

@@ -1,12 +1,9 @@
 -- The status of what a command came to, and the text that the error output gets.
-use Rattle.std.specs.Prelude.{ℕ, List, [], ◌∷◌, Result, Ok, Err}
-use Rattle.std.specs.List.{flat_map}
-use Rattle.sync_words.specs.ErrorTexts.{bad_record_text, damaged_text, inside_text, link_text, plain_text, refused_text, script_text, usage_text}
-use Rattle.sync_words.specs.declared.command.WordsFault.{WordsFault}
-use Rattle.sync_words.specs.declared.command.WordsFault.TheVariants as fault
-use Rattle.sync_words.specs.declared.error_lines.LinkText.{LinkText}
-use Rattle.sync_words.specs.declared.error_lines.LinkText.TheVariants as link
-use Rattle.sync_words.specs.declared.links.LinkEnd.{LinkEnd}
+use Rattle.std.specs.Prelude.{ℕ, suc, Bool, true, false, List, [], ◌∷◌, ◌++◌, Result, Ok, Err}
+use Rattle.sync_course.specs.Closing.{Closing}
+use Rattle.sync_course.specs.declared.ends.LinkEnd.{LinkEnd}
+use Rattle.sync_course.specs.declared.ends.LinkEnd.TheVariants as end
+use Rattle.sync_words.specs.ErrorTexts.{bad_record_text, damaged_text, inside_text, link_text, no_version_text, plain_text, refused_text, script_text, usage_text}
 use Rattle.sync_words.specs.declared.outcome.Outcome.{Outcome}
 use Rattle.sync_words.specs.declared.outcome.Outcome.TheVariants as outcome
 use Rattle.sync_words.specs.declared.status.Status.{Status}
@@ -14,16 +11,18 @@ use Rattle.sync_words.specs.declared.status.Status.TheVariants as status
 
 -- ---- links
 
--- the status of a link that ended so: done where it ended well
-abbrev pub link_status : LinkText → Status
-link_status link.Clean = status.Done
-link_status link.Quiet = status.Done
-link_status link.Redundant = status.Done
-link_status link.Unfinished = status.TurnsUsed
-link_status (link.Inside place) = status.BadStream
-link_status (link.Bad place why) = status.BadStream
-link_status (link.NoVersion place) = status.BadStream
-link_status link.Failed = status.LinkFault
+-- The status of a link that stood so at the end of a run: done where it ended well. One that is not closed ended well where the
+-- run was over.
+abbrev pub link_status : (over : Bool) → LinkEnd → Status
+link_status true end.Going = status.Done
+link_status false end.Going = status.TurnsUsed
+link_status true end.Clean = status.Done
+link_status false end.Clean = status.TurnsUsed
+link_status over end.Redundant = status.Done
+link_status over (end.Inside place) = status.BadStream
+link_status over (end.Bad place why) = status.BadStream
+link_status over (end.NoVersion place) = status.BadStream
+link_status over end.Failed = status.LinkFault
 
 -- the first status, but the other where that is done
 abbrev pub first_bad : Status → Status → Status
@@ -31,13 +30,21 @@ first_bad status.Done other = other
 first_bad given other = given
 
 -- the status of several links: that of the first that did not end well
-abbrev pub links_status : List LinkEnd → Status
-links_status [] = status.Done
-links_status (end ∷ ends) = first_bad (link_status end.ending) (links_status ends)
+abbrev pub ends_status : (over : Bool) → List LinkEnd → Status
+ends_status over [] = status.Done
+ends_status over (stands ∷ ends) = first_bad (link_status over stands) (ends_status over ends)
 
--- a line for each link
-abbrev pub links_text : List LinkEnd → List ℕ
-links_text ends = flat_map (λ (end : LinkEnd). link_text end.link end.ending) ends
+-- a line for each link, the first with this number
+abbrev pub ends_text : (link : ℕ) (over : Bool) → List LinkEnd → List ℕ
+ends_text link over [] = []
+ends_text link over (stands ∷ ends) = link_text link over stands ++ ends_text (suc link) over ends
+
+-- the same of a run that closed so
+abbrev pub links_status : Closing → Status
+links_status closed = ends_status closed.over closed.ends
+
+abbrev pub links_text : Closing → List ℕ
+links_text closed = ends_text 0 closed.over closed.ends
 
 -- ---- outcomes
 
@@ -51,9 +58,11 @@ status_of (outcome.Refused why) = status.Refused
 status_of (outcome.Damaged place) = status.Damaged
 status_of outcome.DiskFault = status.DiskFault
 status_of (outcome.Links ends) = links_status ends
+status_of (outcome.LinkFailed link) = status.LinkFault
 status_of outcome.ReadFault = status.ReadFault
 status_of (outcome.Bad place why) = status.BadStream
 status_of (outcome.Inside place) = status.BadStream
+status_of (outcome.NoVersion place) = status.BadStream
 status_of outcome.Full = status.Full
 status_of outcome.Memory = status.Memory
 status_of outcome.WriteFault = status.WriteFault
@@ -71,9 +80,11 @@ text_of (outcome.Refused why) = refused_text why
 text_of (outcome.Damaged place) = damaged_text place.file place.at
 text_of outcome.DiskFault = plain_text status.DiskFault
 text_of (outcome.Links ends) = links_text ends
+text_of (outcome.LinkFailed link) = link_text link false end.Failed
 text_of outcome.ReadFault = plain_text status.ReadFault
 text_of (outcome.Bad place why) = bad_record_text place why
 text_of (outcome.Inside place) = inside_text place
+text_of (outcome.NoVersion place) = no_version_text place
 text_of outcome.Full = plain_text status.Full
 text_of outcome.Memory = plain_text status.Memory
 text_of outcome.WriteFault = plain_text status.WriteFault
@@ -85,7 +96,7 @@ abbrev pub came_to : {V : Type 0} → Result V Outcome → Outcome
 came_to (Ok _) = outcome.Done
 came_to (Err came) = came
 
--- what words come to that were not read
-abbrev pub words_came : WordsFault → Outcome
-words_came (fault.Usage place) = outcome.Usage place
-words_came fault.Memory = outcome.Memory
+-- a run over links that came to its end comes to how they ended
+abbrev pub links_came_to : Result Closing Outcome → Outcome
+links_came_to (Ok ends) = outcome.Links ends
+links_came_to (Err came) = came

@@ -1,16 +1,22 @@
--- What a single word stands for.
-use Rattle.std.specs.Prelude.{ℕ, Bool, false, ◌&&◌, ◌||◌, ◌==◌, not, nat_eq, nat_le, nat_lt, if◌then◌else◌, List, [], ◌∷◌, length, codes, Option, Some, None}
+-- What single words stand for.
+use Rattle.std.specs.Prelude.{ℕ, Bool, false, ◌&&◌, ◌||◌, ◌==◌, not, nat_eq, nat_le, nat_lt, if◌then◌else◌, List, [], ◌∷◌, length, map, codes, String, Option, Some, None}
 use Rattle.std.specs.Result.{result_ok}
 use Rattle.std.specs.List.{list_all, starts_with}
 use Rattle.std.specs.Char.{is_ascii_digit}
 use Rattle.std.specs.Str.{bytes_eq}
 use Rattle.std.specs.Str.Parse.{digits_value}
+use Rattle.std.specs.String.{string_bytes}
+use Rattle.std.specs.declared.alloc.Global.{Global}
 use Rattle.hex.specs.Hex.{decode_of, is_hex_digit}
 use Rattle.sync_ids.specs.declared.def.TheConstants.{MAX_NAME, MAX_DESCRIPTOR}
 use Rattle.sync_rules.specs.declared.entries.Level.{Level}
 use Rattle.sync_rules.specs.declared.entries.Level.TheVariants as level
 use Rattle.sync_rules.specs.declared.entries.Mode.{Mode}
 use Rattle.sync_rules.specs.declared.entries.Mode.TheVariants as mode
+
+-- the words as bytes
+abbrev pub texts : List (String Global) → List (List ℕ)
+texts words = map (λ (word : String Global). string_bytes word) words
 
 -- a client's name has 1 to MAX_NAME bytes
 abbrev pub name_in : List ℕ → Option (List ℕ)

@@ -6,7 +6,8 @@ ghost use Rattle.std.specs.Prelude.{OnErr, OnOk, true};
 ghost use Rattle.std.specs.String.{string_bytes};
 ghost use Rattle.arrayvec.specs.ArrayString.{array_string_len};
 ghost use Rattle.sync_words.specs.ErrorTexts.{bad_record_text, damaged_text, ending_text};
-ghost use Rattle.sync_words.specs.ErrorTexts.{inside_text, is_plain, link_text, plain_text};
+ghost use Rattle.sync_words.specs.ErrorTexts.{inside_text, is_plain, link_text, no_version_text};
+ghost use Rattle.sync_words.specs.ErrorTexts.{plain_text};
 ghost use Rattle.sync_words.specs.ErrorTexts.{reason_text, refusal, refused_text, script_text};
 ghost use Rattle.sync_words.specs.ErrorTexts.{usage_text};
 ghost use Rattle.sync_words.specs.Texts.{AddsLine, AddsPart};
@@ -14,7 +15,9 @@ ghost use Rattle.sync_words.specs.Texts.{AddsLine, AddsPart};
 use crate::status::Status;
 use arrayvec::ArrayString;
 use itoa::Buffer;
+use record_grammar::Reason;
 use std::alloc::{AllocError, Global};
+use sync_course::LinkEnd;
 use sync_rules::Refused;
 
 /// The most bytes of what the error output gets: the lines of 8 links fit.
@@ -22,50 +25,6 @@ pub const MAX_ERROR: usize = 1_024;
 
 /// What the error output gets. It lies in the value itself.
 pub type ErrorText = ArrayString<MAX_ERROR>;
-
-/// Why something in a stream is no record.
-#[derive(Clone, Copy, Debug, PartialEq, Eq)]
-pub enum ReasonText {
-    /// Its version is not 0.
-    WrongVersion,
-    /// Its payload is over 49,152 bytes.
-    TooLong,
-    /// It is a list of no ids.
-    EmptyIds,
-    /// It is a list of ids that are not whole.
-    RaggedIds,
-    /// It is a message whose payload is under 41 bytes.
-    ShortMessage,
-    /// It is a message whose body is over 32,768 bytes.
-    BodyTooLong,
-    /// It is a message whose time is over 2^63 - 1.
-    BadTimestamp,
-    /// It is a list of no versions, or of more than 10.
-    BadVersions,
-    /// It is a nonce of another length than 16 bytes.
-    BadNonce,
-}
-
-/// How a link ended.
-#[derive(Clone, Copy, Debug, PartialEq, Eq)]
-pub enum LinkText {
-    /// Its input ended at a record's border.
-    Clean,
-    /// It was still open when the run was over.
-    Quiet,
-    /// It was closed in favour of another link to the same contact.
-    Redundant,
-    /// The turns were used up.
-    Unfinished,
-    /// Its input ended inside the record that begins at this place.
-    Inside(u64),
-    /// At this place of its input something begins that is no record.
-    Bad(u64, ReasonText),
-    /// The record at this place lists versions without 0.
-    NoVersion(u64),
-    /// A call on it failed.
-    Failed,
-}
 
 // A number in digits, between two texts.
 fn add_number(front: &'static str, n: u64, behind: &'static str, to: &mut ErrorText)
@@ -116,6 +75,8 @@ fn refusal(why: Refused) -> &'static str
         Refused::InvalidPost => "invalid post",
         Refused::DependencyNotDelivered => "dependency not delivered",
         Refused::UnknownMessage => "unknown message",
+        Refused::TooManySessions => "too many sessions",
+        Refused::NotSharing => "not a sharing group",
     }
 }
 
@@ -201,25 +162,25 @@ pub fn plain_line(status: Status, to: &mut String) -> Result<(), AllocError>
 }
 
 // A reason in words.
-fn reason_word(reason: ReasonText) -> &'static str
+fn reason_word(reason: Reason) -> &'static str
     ensures words { result.now ≡ reason_text reason }
     ensures short { length result.now ≤ 16 }
 {
     match reason {
-        ReasonText::WrongVersion => "wrong version",
-        ReasonText::TooLong => "too long",
-        ReasonText::EmptyIds => "empty id list",
-        ReasonText::RaggedIds => "ragged id list",
-        ReasonText::ShortMessage => "short message",
-        ReasonText::BodyTooLong => "body too long",
-        ReasonText::BadTimestamp => "bad timestamp",
-        ReasonText::BadVersions => "bad versions",
-        ReasonText::BadNonce => "bad nonce",
+        Reason::WrongVersion => "wrong version",
+        Reason::TooLong => "too long",
+        Reason::EmptyIds => "empty id list",
+        Reason::RaggedIds => "ragged id list",
+        Reason::ShortMessage => "short message",
+        Reason::BodyTooLong => "body too long",
+        Reason::BadTimestamp => "bad timestamp",
+        Reason::BadVersions => "bad versions",
+        Reason::BadNonce => "bad nonce",
     }
 }
 
 /// Adds the line of a stream in which at this place something begins that is no record.
-pub(crate) fn add_bad_record(place: u64, reason: ReasonText, to: &mut ErrorText)
+pub(crate) fn add_bad_record(place: u64, reason: Reason, to: &mut ErrorText)
     requires { array_string_len to.old ≤ 930 }
     ensures { AddsPart to.old to.new (bad_record_text place reason) 89 }
 {
@@ -229,7 +190,7 @@ pub(crate) fn add_bad_record(place: u64, reason: ReasonText, to: &mut ErrorText)
 }
 
 /// The line of a stream in which at this place something begins that is no record.
-pub fn bad_record_line(place: u64, reason: ReasonText, to: &mut String) -> Result<(), AllocError>
+pub fn bad_record_line(place: u64, reason: Reason, to: &mut String) -> Result<(), AllocError>
     ensures ok { OnOk result (string_bytes to.new ≡ string_bytes to.old ++ bad_record_text place
         reason) }
     ensures err { OnErr result (string_bytes to.new ≡ string_bytes to.old) }
@@ -275,51 +236,51 @@ pub fn script_line(line: u64, to: &mut String) -> Result<(), AllocError>
     to.push_str(text.as_str())
 }
 
-// How a link ended, in words.
-fn add_ending(ending: &LinkText, to: &mut ErrorText)
+// How a link stood at the end of a run, which was over or not, in words.
+fn add_ending(over: bool, end: LinkEnd, to: &mut ErrorText)
     requires { array_string_len to.old ≤ 930 }
-    ensures { AddsPart to.old to.new (ending_text ending.now) 89 }
+    ensures { AddsPart to.old to.new (ending_text over end) 89 }
 {
-    match ending {
-        LinkText::Clean => to.push_str("clean\n"),
-        LinkText::Quiet => to.push_str("quiet\n"),
-        LinkText::Redundant => to.push_str("redundant\n"),
-        LinkText::Unfinished => to.push_str("unfinished\n"),
-        LinkText::Inside(place) => add_inside(*place, to),
-        LinkText::Bad(place, reason) => add_bad_record(*place, *reason, to),
-        LinkText::NoVersion(place) => add_no_version(*place, to),
-        LinkText::Failed => to.push_str("failed\n"),
+    match end {
+        LinkEnd::Going if over => to.push_str("quiet\n"),
+        LinkEnd::Clean if over => to.push_str("clean\n"),
+        LinkEnd::Going | LinkEnd::Clean => to.push_str("unfinished\n"),
+        LinkEnd::Redundant => to.push_str("redundant\n"),
+        LinkEnd::Inside(place) => add_inside(place, to),
+        LinkEnd::Bad(place, reason) => add_bad_record(place, reason, to),
+        LinkEnd::NoVersion(place) => add_no_version(place, to),
+        LinkEnd::Failed => to.push_str("failed\n"),
     }
 }
 
-// A link whose peer has no version in common with this side.
-fn add_no_version(place: u64, to: &mut ErrorText)
+/// Adds the line of a peer that has no version in common with this side: the place of its list.
+pub(crate) fn add_no_version(place: u64, to: &mut ErrorText)
     requires { array_string_len to.old ≤ 930 }
-    ensures { AddsPart to.old to.new (codes "no common version at " ++ (decimal place ++ 10 ∷ []))
-        89 }
+    ensures { AddsPart to.old to.new (no_version_text place) 89 }
 {
     add_number("no common version at ", place, "\n", to);
 }
 
-/// Adds the line of a link: its number, and how it ended.
-pub(crate) fn add_link(link: u8, ending: &LinkText, to: &mut ErrorText)
+/// Adds the line of a link: its number, and how it stood at the end of a run, which was over or
+/// not.
+pub(crate) fn add_link(link: u8, over: bool, end: LinkEnd, to: &mut ErrorText)
     requires { array_string_len to.old ≤ 900 }
-    ensures { AddsPart to.old to.new (link_text link ending.now) 120 }
+    ensures { AddsPart to.old to.new (link_text link over end) 120 }
 {
     add_number("link ", u64::from(link), ": ", to);
-    add_ending(ending, to);
+    add_ending(over, end, to);
 }
 
-/// The line of a link: its number, and how it ended.
+/// The line of a link: its number, and how it stood at the end of a run, which was over or not.
 ///
 /// # Errors
 /// Only for want of memory; `to` is then as before.
-pub fn link_line(link: u8, ending: &LinkText, to: &mut String) -> Result<(), AllocError>
-    ensures ok { OnOk result (string_bytes to.new ≡ string_bytes to.old ++ link_text link
-        ending.now) }
+pub fn link_line(link: u8, over: bool, end: LinkEnd, to: &mut String) -> Result<(), AllocError>
+    ensures ok { OnOk result (string_bytes to.new ≡ string_bytes to.old ++ link_text link over
+        end) }
     ensures err { OnErr result (string_bytes to.new ≡ string_bytes to.old) }
 {
     let mut line = ErrorText::new();
-    add_link(link, ending, &mut line);
+    add_link(link, over, end, &mut line);
     to.push_str(line.as_str())
 }

@@ -1,49 +1,51 @@
 //! How the links of a command ended.
 ghost use Rattle.std.specs.Prelude.{◌≡◌, ◌≤◌, length};
-ghost use Rattle.sync_words.specs.Outcomes.{link_status, links_status};
+ghost use Rattle.sync_words.specs.Outcomes.{ends_status, link_status, links_status};
 
-use crate::error_lines::LinkText;
 use crate::status::Status;
 use outside::LINKS;
 use std::marker::Model;
+use sync_course::LinkEnd;
 
-/// How a link of a command ended: the link's number, from 0 in the order of the words.
-#[derive(Clone, Copy, Debug, PartialEq, Eq)]
-pub struct LinkEnd {
-    pub link: u8,
-    pub ending: LinkText,
-}
-
-/// How the links of a command ended, at most 8 of them. Contracts see the list.
+/// How the links of a run ended: whether it was over, and how each link stood then, at most 8 of
+/// them in the order of the words. Contracts see the closing of the run.
 #[derive(Debug, Drop)]
 pub struct LinkEnds {
+    over: bool,
     ends: Vec<LinkEnd>,
 }
 
 impl Model for LinkEnds {
-    ghost use Rattle.std.specs.Prelude.{List, ◌≤◌, length};
+    ghost use Rattle.std.specs.Prelude.{◌≤◌, length};
     ghost use Rattle.outside.specs.declared.limits.TheConstants.{LINKS};
-    ghost use Rattle.sync_words.specs.declared.links.LinkEnd.{LinkEnd};
+    ghost use Rattle.sync_course.specs.Closing.{Closing};
 
-    ghost Value = { List LinkEnd };
+    ghost Value = { Closing };
 
-    ghost view = { λ l. l.ends.items };
+    ghost view = { λ l. record { over = l.over; ends = l.ends.items } };
 
     ghost invariant = { λ l. length l.ends.items ≤ LINKS };
 }
 
 impl LinkEnds {
-    /// The links in this order. It takes no memory.
-    pub fn new(ends: Vec<LinkEnd>) -> LinkEnds
+    /// The links in this order, of a run that was over or not. It takes no memory.
+    pub fn new(over: bool, ends: Vec<LinkEnd>) -> LinkEnds
         requires { length ends.items ≤ LINKS }
-        ensures { result ≡ ends.items }
+        ensures { result ≡ record { over = over; ends = ends.items } }
     {
-        LinkEnds { ends }
+        LinkEnds { over, ends }
     }
 
-    /// The links, in order.
+    /// Whether the run was over.
+    pub fn is_over(&self) -> bool
+        ensures { result ≡ self.now.over }
+    {
+        self.over
+    }
+
+    /// How each link stood at the end, in order.
     pub fn as_slice(&self) -> &[LinkEnd]
-        ensures ends { result.now ≡ self.now }
+        ensures ends { result.now ≡ self.now.ends }
         ensures few { length result.now ≤ LINKS }
     {
         self.ends.as_slice()
@@ -53,15 +55,15 @@ impl LinkEnds {
     pub fn status(&self) -> Status
         ensures { result ≡ links_status self.now }
     {
-        status_of_all(self.as_slice())
+        status_of_all(self.over, self.as_slice())
     }
 }
 
-fn status_of_all(ends: &[LinkEnd]) -> Status
-    ensures { result ≡ links_status ends.now }
+fn status_of_all(over: bool, ends: &[LinkEnd]) -> Status
+    ensures { result ≡ ends_status over ends.now }
 {
     for end in ends {
-        match status_of_one(end.ending) {
+        match status_of_one(over, *end) {
             Status::Done => {}
             status => return status,
         }
@@ -70,13 +72,13 @@ fn status_of_all(ends: &[LinkEnd]) -> Status
 }
 
 // Whether a link ended well is told by `Done`.
-fn status_of_one(ending: LinkText) -> Status
-    ensures { result ≡ link_status ending }
+fn status_of_one(over: bool, end: LinkEnd) -> Status
+    ensures { result ≡ link_status over end }
 {
-    match ending {
-        LinkText::Clean | LinkText::Quiet | LinkText::Redundant => Status::Done,
-        LinkText::Unfinished => Status::TurnsUsed,
-        LinkText::Inside(_) | LinkText::Bad(_, _) | LinkText::NoVersion(_) => Status::BadStream,
-        LinkText::Failed => Status::LinkFault,
+    match end {
+        LinkEnd::Going | LinkEnd::Clean if !over => Status::TurnsUsed,
+        LinkEnd::Going | LinkEnd::Clean | LinkEnd::Redundant => Status::Done,
+        LinkEnd::Inside(_) | LinkEnd::Bad(_, _) | LinkEnd::NoVersion(_) => Status::BadStream,
+        LinkEnd::Failed => Status::LinkFault,
     }
 }

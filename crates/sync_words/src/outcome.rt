@@ -1,16 +1,17 @@
 //! What a command came to.
 ghost use Rattle.std.specs.Prelude.{◌≡◌, ◌≤◌, [], length};
-ghost use Rattle.sync_words.specs.Outcomes.{came_to, links_text, status_of, text_of};
+ghost use Rattle.sync_words.specs.Outcomes.{came_to, ends_text, links_came_to, status_of, text_of};
 
-use crate::command::WordsFault;
 use crate::error_lines::{
-    ErrorText, ReasonText, add_bad_record, add_damaged, add_inside, add_link, add_plain,
+    ErrorText, add_bad_record, add_damaged, add_inside, add_link, add_no_version, add_plain,
     add_refused, add_script, add_usage,
 };
-use crate::links::{LinkEnd, LinkEnds};
+use crate::links::LinkEnds;
 use crate::status::Status;
 use outside::{LINKS, Place};
+use record_grammar::Reason;
 use std::alloc::AllocError;
+use sync_course::LinkEnd;
 use sync_rules::Refused;
 
 /// What a command came to, with what its lines on the error output name.
@@ -30,14 +31,19 @@ pub enum Outcome {
     Damaged(Place),
     /// A call on the disk failed.
     DiskFault,
-    /// The links of the command ended so; there is a line for each.
+    /// The run over the links of the command came to its end, and they ended so; there is a line for
+    /// each.
     Links(LinkEnds),
+    /// A call on the link of this number failed before the run began.
+    LinkFailed(u8),
     /// A read of the input failed.
     ReadFault,
     /// At this place of the input something begins that is no record.
-    Bad(u64, ReasonText),
+    Bad(u64, Reason),
     /// The input ends inside a record that begins at this place.
     Inside(u64),
+    /// The versions that the input lists at this place lack this side's.
+    NoVersion(u64),
     /// The journal has no room for what was to be added.
     Full,
     /// Memory ran out.
@@ -72,20 +78,6 @@ impl From<Refused> for Outcome {
     }
 }
 
-impl From<WordsFault> for Outcome {
-    ghost use Rattle.std.specs.Prelude.{◌≡◌};
-    ghost use Rattle.sync_words.specs.Outcomes.{words_came};
-
-    ghost from_gives = { λ fault came. came ≡ words_came fault };
-
-    fn from(fault: WordsFault) -> Outcome {
-        match fault {
-            WordsFault::Usage(place) => Outcome::Usage(place),
-            WordsFault::Memory => Outcome::Memory,
-        }
-    }
-}
-
 impl Outcome {
     /// What a command came to that did all, or ended before with an outcome.
     pub fn of(ended: Result<(), Outcome>) -> Outcome
@@ -93,6 +85,16 @@ impl Outcome {
     {
         match ended {
             Ok(()) => Outcome::Done,
+            Err(came) => came,
+        }
+    }
+
+    /// What a command came to whose run over links came to its end, or ended before with an outcome.
+    pub fn of_links(ended: Result<LinkEnds, Outcome>) -> Outcome
+        ensures { result ≡ links_came_to ended }
+    {
+        match ended {
+            Ok(ends) => Outcome::Links(ends),
             Err(came) => came,
         }
     }
@@ -110,8 +112,9 @@ impl Outcome {
             Outcome::Damaged(_) => Status::Damaged,
             Outcome::DiskFault => Status::DiskFault,
             Outcome::Links(ends) => ends.status(),
+            Outcome::LinkFailed(_) => Status::LinkFault,
             Outcome::ReadFault => Status::ReadFault,
-            Outcome::Bad(_, _) | Outcome::Inside(_) => Status::BadStream,
+            Outcome::Bad(_, _) | Outcome::Inside(_) | Outcome::NoVersion(_) => Status::BadStream,
             Outcome::Full => Status::Full,
             Outcome::Memory => Status::Memory,
             Outcome::WriteFault => Status::WriteFault,
@@ -142,10 +145,12 @@ impl Outcome {
             Outcome::Refused(why) => add_refused(*why, to),
             Outcome::Damaged(place) => add_damaged(place.file, place.at, to),
             Outcome::DiskFault => add_plain(Status::DiskFault, to),
-            Outcome::Links(ends) => add_links(ends.as_slice(), to),
+            Outcome::Links(ends) => add_links(ends.is_over(), ends.as_slice(), to),
+            Outcome::LinkFailed(link) => add_link(*link, false, LinkEnd::Failed, to),
             Outcome::ReadFault => add_plain(Status::ReadFault, to),
             Outcome::Bad(place, reason) => add_bad_record(*place, *reason, to),
             Outcome::Inside(place) => add_inside(*place, to),
+            Outcome::NoVersion(place) => add_no_version(*place, to),
             Outcome::Full => add_plain(Status::Full, to),
             Outcome::Memory => add_plain(Status::Memory, to),
             Outcome::WriteFault => add_plain(Status::WriteFault, to),
@@ -155,13 +160,13 @@ impl Outcome {
     }
 }
 
-// A line for each link.
-fn add_links(ends: &[LinkEnd], to: &mut ErrorText)
+// A line for each link of a run that was over or not.
+fn add_links(over: bool, ends: &[LinkEnd], to: &mut ErrorText)
     requires few { length ends.now ≤ LINKS }
     requires start { to.old.bytes ≡ [] }
-    ensures { to.new.bytes ≡ links_text ends.now }
+    ensures { to.new.bytes ≡ ends_text 0 over ends.now }
 {
-    for end in ends {
-        add_link(end.link, &end.ending, to);
+    'links: for link in 0..ends.len() {
+        add_link(link as u8, over, ends[link], to);
     }
 }

@@ -1,88 +1,15 @@
-// The words of a command line, one by one.
-ghost use Rattle.std.specs.Prelude.{◌≡◌, ◌+◌, ◌≤◌, ◌∷◌, [], drop, IfOk, IfErr, IfSome, MatchOption};
+//! What single words stand for.
+ghost use Rattle.std.specs.Prelude.{◌≡◌, ◌≤◌, IfSome};
 ghost use Rattle.std.specs.Char.{is_ascii_digit};
 ghost use Rattle.std.specs.List.{list_all};
-ghost use Rattle.sync_words.specs.Reading.{texts, is_left, IsDescriptor, IsName, Reads, Stops};
-ghost use Rattle.sync_words.specs.Words.{name_in, descriptor_in, number_in, positive_in, id_in};
-ghost use Rattle.sync_words.specs.Words.{level_in, mode_in, spec_in};
+ghost use Rattle.sync_words.specs.Words.{number_in, positive_in, id_in, level_in, mode_in};
 ghost use Rattle.sync_words.specs.Words.{is_digits, is_number, has_leading_zero};
 
-use crate::command::WordsFault;
-use crate::spec::{is_spec, is_std};
-use crate::word::Word;
-use std::alloc::Global;
-use sync_ids::{Fixed, MAX_DESCRIPTOR, MAX_NAME};
+use sync_ids::Fixed;
 use sync_rules::{Level, Mode};
 
-// The word at a place, if there is one.
-fn word_at(words: &[String], place: usize) -> Option<&str>
-    ensures { MatchOption result (drop place (texts words.now) ≡ [])
-        (λ word. drop place (texts words.now) ≡ word.now ∷ drop (place + 1) (texts words.now)) }
-{
-    match words.get(place) {
-        Some(word) => Some(word.as_str()),
-        None => None,
-    }
-}
-
-/// Reads the word at this place as a client's name.
-pub fn name_at(alloc: Global, words: &[String], place: usize) -> Result<Word, WordsFault>
-    ensures ok { IfOk result (Reads name_in (texts words.now) place) }
-    ensures within { IfOk result IsName }
-    ensures err { IfErr result (Stops name_in (texts words.now) place) }
-{
-    match word_at(words, place) {
-        Some(word) if (1..=MAX_NAME).contains(&word.len()) => copied(alloc, word),
-        _ => Err(WordsFault::Usage(place)),
-    }
-}
-
-/// Reads the word at this place as a descriptor.
-pub fn descriptor_at(alloc: Global, words: &[String], place: usize) -> Result<Word, WordsFault>
-    ensures ok { IfOk result (Reads descriptor_in (texts words.now) place) }
-    ensures within { IfOk result IsDescriptor }
-    ensures err { IfErr result (Stops descriptor_in (texts words.now) place) }
-{
-    match word_at(words, place) {
-        Some(word) if word.len() <= MAX_DESCRIPTOR => copied(alloc, word),
-        _ => Err(WordsFault::Usage(place)),
-    }
-}
-
-fn copied(alloc: Global, word: &str) -> Result<Word, WordsFault>
-    ensures ok { IfOk result (λ copy. copy ≡ word.now) }
-    ensures err { IfErr result (λ e. e ≡ WordsFault.Memory) }
-{
-    let text = String::from_str(alloc, word)?;
-    Ok(Word::new(text))
-}
-
-/// Reads the word at this place as a number, at most `most`.
-pub fn number_at(words: &[String], place: usize, most: u64) -> Result<u64, WordsFault>
-    ensures ok { IfOk result (Reads (number_in most) (texts words.now) place) }
-    ensures most { IfOk result (λ n. n ≤ most) }
-    ensures err { IfErr result (Stops (number_in most) (texts words.now) place) }
-{
-    match word_at(words, place) {
-        Some(word) => number(word, most).ok_or(WordsFault::Usage(place)),
-        None => Err(WordsFault::Usage(place)),
-    }
-}
-
-/// Reads the word at this place as a number from 1 to `most`.
-pub fn positive_at(words: &[String], place: usize, most: u64) -> Result<u64, WordsFault>
-    ensures ok { IfOk result (Reads (positive_in most) (texts words.now) place) }
-    ensures least { IfOk result (λ n. 1 ≤ n) }
-    ensures most { IfOk result (λ n. n ≤ most) }
-    ensures err { IfErr result (Stops (positive_in most) (texts words.now) place) }
-{
-    match word_at(words, place) {
-        Some(word) => positive(word, most).ok_or(WordsFault::Usage(place)),
-        None => Err(WordsFault::Usage(place)),
-    }
-}
-
-fn positive(word: &str, most: u64) -> Option<u64>
+/// The number that a word spells, if it is one from 1 to `most`.
+pub fn positive(word: &str, most: u64) -> Option<u64>
     ensures value { result ≡ positive_in most word.now }
     ensures least { IfSome result (λ n. 1 ≤ n) }
     ensures most { IfSome result (λ n. n ≤ most) }
@@ -133,34 +60,13 @@ fn has_leading_zero(digits: &[u8]) -> bool
     matches!(digits, [b'0', _, ..])
 }
 
-/// Reads the word at this place as an id.
-pub fn id_at(words: &[String], place: usize) -> Result<Fixed<32>, WordsFault>
-    ensures ok { IfOk result (Reads id_in (texts words.now) place) }
-    ensures err { IfErr result (Stops id_in (texts words.now) place) }
-{
-    match word_at(words, place) {
-        Some(word) => id(word).ok_or(WordsFault::Usage(place)),
-        None => Err(WordsFault::Usage(place)),
-    }
-}
-
-fn id(word: &str) -> Option<Fixed<32>>
+/// The id that a word spells, if it is one: 64 hexadecimal digits of either case.
+pub fn id(word: &str) -> Option<Fixed<32>>
     ensures { result ≡ id_in word.now }
 {
     match Fixed::from_hex(word) {
         Ok(id) => Some(id),
         Err(_) => None,
-    }
-}
-
-/// Reads the word at this place as a level.
-pub fn level_at(words: &[String], place: usize) -> Result<Level, WordsFault>
-    ensures ok { IfOk result (Reads level_in (texts words.now) place) }
-    ensures err { IfErr result (Stops level_in (texts words.now) place) }
-{
-    match word_at(words, place) {
-        Some(word) => level(word).ok_or(WordsFault::Usage(place)),
-        None => Err(WordsFault::Usage(place)),
     }
 }
 
@@ -176,17 +82,6 @@ pub fn level(word: &str) -> Option<Level>
     }
 }
 
-/// Reads the word at this place as a mode.
-pub fn mode_at(words: &[String], place: usize) -> Result<Mode, WordsFault>
-    ensures ok { IfOk result (Reads mode_in (texts words.now) place) }
-    ensures err { IfErr result (Stops mode_in (texts words.now) place) }
-{
-    match word_at(words, place) {
-        Some(word) => mode(word).ok_or(WordsFault::Usage(place)),
-        None => Err(WordsFault::Usage(place)),
-    }
-}
-
 /// The mode of a session that a word names: `interactive` or `batch`.
 pub fn mode(word: &str) -> Option<Mode>
     ensures { result ≡ mode_in word.now }
@@ -196,28 +91,4 @@ pub fn mode(word: &str) -> Option<Mode>
         "batch" => Some(Mode::Batch),
         _ => None,
     }
-}
-
-/// Reads the word at this place as the spec of a link; where a link before it is `std`, that is
-/// wrong.
-pub fn spec_at(
-    alloc: Global,
-    words: &[String],
-    place: usize,
-    has_std: bool,
-) -> Result<Word, WordsFault>
-    ensures ok { IfOk result (Reads (spec_in has_std) (texts words.now) place) }
-    ensures err { IfErr result (Stops (spec_in has_std) (texts words.now) place) }
-{
-    match word_at(words, place) {
-        Some(word) if is_spec(word) && !(has_std && is_std(word)) => copied(alloc, word),
-        _ => Err(WordsFault::Usage(place)),
-    }
-}
-
-/// Whether a word stands at this place.
-pub fn is_left_at(words: &[String], place: usize) -> bool
-    ensures { result ≡ is_left (drop place (texts words.now)) }
-{
-    word_at(words, place).is_some()
 }

@@ -1,6 +1,9 @@
 //! The status of a run.
 ghost use Rattle.std.specs.Prelude.{◌≡◌};
+ghost use Rattle.std.specs.Process.{exit_status};
 ghost use Rattle.sync_words.specs.Statuses.{number_of};
+
+use std::process::ExitCode;
 
 /// What a run of a command came to.
 #[derive(Clone, Copy, Debug, PartialEq, Eq)]
@@ -40,7 +43,14 @@ pub enum Status {
 }
 
 impl Status {
-    /// The exit status of a program that ends so.
+    /// The exit status of a program that ends so, as its `main` answers it.
+    pub fn exit_code(self) -> ExitCode
+        ensures { exit_status result ≡ number_of self }
+    {
+        ExitCode::from(self.number())
+    }
+
+    /// The number of the exit status of a program that ends so.
     pub fn number(self) -> u8
         ensures { result ≡ number_of self }
     {

@@ -1,6 +1,6 @@
 //! What the words ask for.
 ghost use Rattle.std.specs.Prelude.{◌≡◌, IfOk};
-ghost use Rattle.sync_words.specs.Reading.{texts};
+ghost use Rattle.sync_words.specs.Words.{texts};
 ghost use Rattle.sync_world.specs.Asking.{IsWithin, answer_of, asks, count_asked, wants};
 ghost use Rattle.sync_world.specs.Asking.{world_asked};
 

@@ -1,7 +1,7 @@
 //! Scripts played, and what is printed of the world then.
 ghost use Rattle.std.specs.Prelude.{◌≡◌, ◌≤◌, length};
 ghost use Rattle.sync_words.specs.Outcomes.{came_to};
-ghost use Rattle.sync_words.specs.Reading.{texts};
+ghost use Rattle.sync_words.specs.Words.{texts};
 ghost use Rattle.sync_world.specs.Asking.{asks};
 ghost use Rattle.sync_world.specs.Playing.{ActsAt, Comes, ScriptComes};
 ghost use Rattle.sync_world.specs.Playing.{came_at, came_unread, made_by};

@@ -1,18 +1,20 @@
 //! The words of each command, and each text. What is wanted was written from the description of the
 //! formats.
 use crate::checks::{made, same};
+use commands::{Command, WordsFault, read_words};
+use record_grammar::Reason;
 use std::alloc::Global;
 use std::process::Abort;
+use sync_course::LinkEnd;
 use sync_ids::{
     Fixed, GroupDef, GroupId, IdList, MAX_IDS, Message, MessageId, Nonce, Record, VersionList,
 };
 use sync_rules::{Fate, Level, Mode, Origin, Refused};
 use sync_words::{
-    Command, LinkText, LinkWords, ReasonText, Status, WordsFault, bad_record_line, contact_line,
-    contacts_line, damaged_line, device_line, group_line, inbox_line, inside_line,
-    known_group_line, level_line, link_line, plain_line, posted_line, read_words, ready_line,
-    record_line, refused_line, script_line, sessions_line, skipped_line, state_line, try_line,
-    usage_line,
+    LinkWords, Outcome, Status, bad_record_line, contact_line, contacts_line, damaged_line,
+    device_line, group_line, inbox_line, inside_line, known_group_line, level_line, link_line,
+    plain_line, posted_line, ready_line, record_line, refused_line, script_line, sessions_line,
+    skipped_line, state_line, try_line, usage_line,
 };
 
 const GROUP: &str = "76ff4980d3b5f63962cee45401b6b1bb92efe989c27de4629aac92b18163e6e0";
@@ -585,6 +587,8 @@ refused: body too long
 refused: invalid post
 refused: dependency not delivered
 refused: already held
+refused: too many sessions
+refused: not a sharing group
 damaged: file 1 at 268435456
 no store
 store exists
@@ -613,6 +617,9 @@ link 4: ended inside a record at 9
 link 5: bad record at 8: bad nonce
 link 6: no common version at 0
 link 7: failed
+link 8: unfinished
+no common version at 31
+link 3: failed
 ";
 
 fn add_refusals(rt: &impl Abort, to: &mut String) {
@@ -629,6 +636,8 @@ fn add_refusals(rt: &impl Abort, to: &mut String) {
         Refused::InvalidPost,
         Refused::DependencyNotDelivered,
         Refused::AlreadyHeld,
+        Refused::TooManySessions,
+        Refused::NotSharing,
     ] {
         made(rt, refused_line(why, to));
     }
@@ -650,15 +659,15 @@ fn add_faults(rt: &impl Abort, to: &mut String) {
 
 fn add_reasons(rt: &impl Abort, to: &mut String) {
     for reason in [
-        ReasonText::WrongVersion,
-        ReasonText::TooLong,
-        ReasonText::EmptyIds,
-        ReasonText::RaggedIds,
-        ReasonText::ShortMessage,
-        ReasonText::BodyTooLong,
-        ReasonText::BadTimestamp,
-        ReasonText::BadVersions,
-        ReasonText::BadNonce,
+        Reason::WrongVersion,
+        Reason::TooLong,
+        Reason::EmptyIds,
+        Reason::RaggedIds,
+        Reason::ShortMessage,
+        Reason::BodyTooLong,
+        Reason::BadTimestamp,
+        Reason::BadVersions,
+        Reason::BadNonce,
     ] {
         made(rt, bad_record_line(31, reason, to));
     }
@@ -666,18 +675,24 @@ fn add_reasons(rt: &impl Abort, to: &mut String) {
 
 fn add_links(rt: &impl Abort, to: &mut String) {
     let endings = [
-        LinkText::Clean,
-        LinkText::Quiet,
-        LinkText::Redundant,
-        LinkText::Unfinished,
-        LinkText::Inside(9),
-        LinkText::Bad(8, ReasonText::BadNonce),
-        LinkText::NoVersion(0),
-        LinkText::Failed,
+        (true, LinkEnd::Clean),
+        (true, LinkEnd::Going),
+        (true, LinkEnd::Redundant),
+        (false, LinkEnd::Going),
+        (true, LinkEnd::Inside(9)),
+        (false, LinkEnd::Bad(8, Reason::BadNonce)),
+        (true, LinkEnd::NoVersion(0)),
+        (false, LinkEnd::Failed),
     ];
-    for (link, ending) in endings.iter().enumerate() {
-        made(rt, link_line((link % 8) as u8, ending, to));
+    for (link, (over, end)) in endings.iter().enumerate() {
+        made(rt, link_line((link % 8) as u8, *over, *end, to));
     }
+    made(rt, link_line(8, false, LinkEnd::Clean, to));
+}
+
+// The line of an outcome.
+fn add_outcome(rt: &impl Abort, outcome: &Outcome, to: &mut String) {
+    made(rt, to.push_str(outcome.text().as_str()));
 }
 
 #[test]
@@ -688,5 +703,7 @@ fn lines_of_faults(rt: HostRuntime) {
     add_faults(&rt, &mut to);
     add_reasons(&rt, &mut to);
     add_links(&rt, &mut to);
+    add_outcome(&rt, &Outcome::NoVersion(31), &mut to);
+    add_outcome(&rt, &Outcome::LinkFailed(3), &mut to);
     same(&rt, 1, &to.as_str(), &ERROR_LINES);
 }

@@ -3,7 +3,7 @@ use Rattle.frame_journal.specs.Gates.{OpensGate, KeepsAllBut}
 use Rattle.frame_journal.specs.Create.{Publishes, ShutOrOpened}
 use Rattle.frame_journal.proofs.AppendSteps.{passed_map, becomes_map}
 use Rattle.frame_journal.proofs.ClearSteps.{on_ok_map}
-use Rattle.frame_journal.proofs.CreateSteps.{prepared_fits, opens_publishes, gate_opened}
+use Rattle.frame_journal.proofs.Prepared.{prepared_fits, opens_publishes, gate_opened}
 use Rattle.frame_journal.proofs.gates.publish.Goals as goal
 
 pub open_gate-requires-clause-fits : goal.open_gate-requires-clause-fits

@@ -1,4 +1,4 @@
-use Rattle.sync_words.specs.Reading.{texts}
+use Rattle.sync_words.specs.Words.{texts}
 use Rattle.sync_world.proofs.PrintLemmas.{misread}
 use Rattle.sync_world.specs.Asking.{asks}
 use Rattle.sync_world.proofs.playing.play.Goals as goal

@@ -1,3 +1,4 @@
+use Rattle.sync_node.proofs.Halts.{beginning_breaks}
 use Rattle.std.proofs.Common.{[], ap, refl, sym, ◌∙◌, arith, Some, None, Ok, Err}
 use Rattle.outside.specs.HostTold.{host_told}
 use Rattle.world_devices.specs.Devices.{DeviceValue}
@@ -51,7 +52,7 @@ returns-in_err-fail-in-Err-clause-keeps c = keeps_seen c.self.inside.host c.args
 
 pub returns-in_err-fail-in-Err-clause-runs : goal.returns-in_err-fail-in-Err-clause-runs
 returns-in_err-fail-in-Err-clause-runs c =
-    runs_by c.cite_laws.ensures _ c.args.self.now _ c.self.view_is (λ j holds. c.fail.ensures.leaves _ j (of_node c.self.inside.node c.in-Some-node.node c.self.inside.host (host_told c.attach.new.host) c.in-Some-node.is (attach_leaves c.cite_laws.ensures _ c.in-Some-node.node c.attach.new.self c.self.inside.host c.attach.new.host c.self.inside.links c.attach.ensures.safe (brings_unbegun _ c.in-Some-node.node c.self.inside.host c.attach.new.host c.self.inside.links (running_of c.self.inside.node c.in-Some-node.node c.self.inside.host c.self.inside.links c.in-Some-node.is c.self.invariant.0) (c.in-Err.ensures.halts (running_of c.self.inside.node c.in-Some-node.node c.self.inside.host c.self.inside.links c.in-Some-node.is c.self.invariant.0).unclosed)) (running_of c.self.inside.node c.in-Some-node.node c.self.inside.host c.self.inside.links c.in-Some-node.is c.self.invariant.0)) j holds)) c.fail.ensures.still
+    runs_by c.cite_laws.ensures _ c.args.self.now _ c.self.view_is (λ j holds. c.fail.ensures.leaves _ j (of_node c.self.inside.node c.in-Some-node.node c.self.inside.host (host_told c.attach.new.host) c.in-Some-node.is (attach_leaves c.cite_laws.ensures _ c.in-Some-node.node c.attach.new.self c.self.inside.host c.attach.new.host c.self.inside.links c.attach.ensures.safe (brings_unbegun _ c.in-Some-node.node c.self.inside.host c.attach.new.host c.self.inside.links (running_of c.self.inside.node c.in-Some-node.node c.self.inside.host c.self.inside.links c.in-Some-node.is c.self.invariant.0) (beginning_breaks _ _ _ _ _ _ _ (c.in-Err.ensures.halts (running_of c.self.inside.node c.in-Some-node.node c.self.inside.host c.self.inside.links c.in-Some-node.is c.self.invariant.0).unclosed))) (running_of c.self.inside.node c.in-Some-node.node c.self.inside.host c.self.inside.links c.in-Some-node.is c.self.invariant.0)) j holds)) c.fail.ensures.still
 
 pub returns-in_ok-test_done-in-Ok-clause-keeps : goal.returns-in_ok-test_done-in-Ok-clause-keeps
 returns-in_ok-test_done-in-Ok-clause-keeps c = keeps_seen c.self.inside.host c.args.self.now.host (host_told c.attach.new.host) (ap (λ (d : DeviceValue). d.host) c.self.view_is) (attach_keeps _ c.in-Some-node.node c.attach.new.self c.self.inside.host c.attach.new.host c.self.inside.links c.attach.ensures.safe (running_of c.self.inside.node c.in-Some-node.node c.self.inside.host c.self.inside.links c.in-Some-node.is c.self.invariant.0))
@@ -65,14 +66,14 @@ returns-in_ok-fail-in-Err-clause-keeps c = keeps_seen c.self.inside.host c.args.
 
 pub returns-in_ok-fail-in-Err-clause-runs : goal.returns-in_ok-fail-in-Err-clause-runs
 returns-in_ok-fail-in-Err-clause-runs c =
-    runs_by c.cite_laws.ensures _ c.args.self.now _ c.self.view_is (λ j holds. c.fail.ensures.leaves _ j (of_node c.self.inside.node c.in-Some-node.node c.self.inside.host (host_told c.attach.new.host) c.in-Some-node.is (attach_leaves c.cite_laws.ensures _ c.in-Some-node.node c.attach.new.self c.self.inside.host c.attach.new.host c.self.inside.links c.attach.ensures.safe (brings_unbegun _ c.in-Some-node.node c.self.inside.host c.attach.new.host c.self.inside.links (running_of c.self.inside.node c.in-Some-node.node c.self.inside.host c.self.inside.links c.in-Some-node.is c.self.invariant.0) (c.in-Err.ensures.halts (running_of c.self.inside.node c.in-Some-node.node c.self.inside.host c.self.inside.links c.in-Some-node.is c.self.invariant.0).unclosed)) (running_of c.self.inside.node c.in-Some-node.node c.self.inside.host c.self.inside.links c.in-Some-node.is c.self.invariant.0)) j holds)) c.fail.ensures.still
+    runs_by c.cite_laws.ensures _ c.args.self.now _ c.self.view_is (λ j holds. c.fail.ensures.leaves _ j (of_node c.self.inside.node c.in-Some-node.node c.self.inside.host (host_told c.attach.new.host) c.in-Some-node.is (attach_leaves c.cite_laws.ensures _ c.in-Some-node.node c.attach.new.self c.self.inside.host c.attach.new.host c.self.inside.links c.attach.ensures.safe (brings_unbegun _ c.in-Some-node.node c.self.inside.host c.attach.new.host c.self.inside.links (running_of c.self.inside.node c.in-Some-node.node c.self.inside.host c.self.inside.links c.in-Some-node.is c.self.invariant.0) (beginning_breaks _ _ _ _ _ _ _ (c.in-Err.ensures.halts (running_of c.self.inside.node c.in-Some-node.node c.self.inside.host c.self.inside.links c.in-Some-node.is c.self.invariant.0).unclosed))) (running_of c.self.inside.node c.in-Some-node.node c.self.inside.host c.self.inside.links c.in-Some-node.is c.self.invariant.0)) j holds)) c.fail.ensures.still
 
 pub returns-in_err-fail-in-Err-clause-attaches : goal.returns-in_err-fail-in-Err-clause-attaches
 returns-in_err-fail-in-Err-clause-attaches c =
     attaches_seen c.args.plan.now c.args.nonce _ _ c.args.self.now _ c.self.view_is
     (beginning_failed c.args.plan.now c.args.nonce _ c.in_err-fail-in-Err.field-0.0 c.in-Err.fault c.in-Some-node.node c.attach.new.self.store c.attach.new.host _ _ c.from_residual-in_err-fail-in-Err.ensures.1
     c.in_err-fail-in-Err.ensures.unrefused c.in-Some-node.is c.in_err-fail-in-Err.ensures.full c.attach.ensures.limit (λ is. c.in-Err.ensures.full (ap (λ (x : NodeFault). Err x) is))
-    (c.in-Err.ensures.halts (running_of c.self.inside.node c.in-Some-node.node c.self.inside.host c.self.inside.links c.in-Some-node.is c.self.invariant.0).unclosed) c.fail.ensures.left c.attach.ensures.run.calls)
+    (beginning_breaks _ _ _ _ _ _ _ (c.in-Err.ensures.halts (running_of c.self.inside.node c.in-Some-node.node c.self.inside.host c.self.inside.links c.in-Some-node.is c.self.invariant.0).unclosed)) c.fail.ensures.left c.attach.ensures.run.calls)
 
 pub returns-in_err-test_done-in-Ok-clause-attaches : goal.returns-in_err-test_done-in-Ok-clause-attaches
 returns-in_err-test_done-in-Ok-clause-attaches c =
@@ -96,5 +97,5 @@ returns-in_ok-test_done-in-Ok-clause-attaches c =
 pub returns-in_ok-fail-in-Err-clause-attaches : goal.returns-in_ok-fail-in-Err-clause-attaches
 returns-in_ok-fail-in-Err-clause-attaches c =
     attaches_seen c.args.plan.now c.args.nonce (Ok None) _ c.args.self.now _ c.self.view_is
-    (beginning_broken c.args.plan.now c.args.nonce c.in-Some-node.node c.attach.new.host _ _ c.in-Some-node.is (c.in-Err.ensures.halts (running_of c.self.inside.node c.in-Some-node.node c.self.inside.host c.self.inside.links c.in-Some-node.is c.self.invariant.0).unclosed) c.attach.ensures.run.calls c.in_ok-fail-in-Err.ensures.to
+    (beginning_broken c.args.plan.now c.args.nonce c.in-Some-node.node c.attach.new.host _ _ c.in-Some-node.is (beginning_breaks _ _ _ _ _ _ _ (c.in-Err.ensures.halts (running_of c.self.inside.node c.in-Some-node.node c.self.inside.host c.self.inside.links c.in-Some-node.is c.self.invariant.0).unclosed)) c.attach.ensures.run.calls c.in_ok-fail-in-Err.ensures.to
     c.in_ok-fail-in-Err.ensures.clock)

@@ -1,3 +1,4 @@
+use Rattle.sync_node.proofs.Halts.{turn_breaks}
 use Rattle.std.proofs.Common.{[], ap, refl, Some, None, Ok, Err}
 use Rattle.outside.specs.HostTold.{host_told}
 use Rattle.world_devices.specs.Devices.{DeviceValue}
@@ -29,7 +30,7 @@ returns-in_err-fail-in-Err-clause-keeps c = keeps_seen c.self.inside.host c.args
 
 pub returns-in_err-fail-in-Err-clause-runs : goal.returns-in_err-fail-in-Err-clause-runs
 returns-in_err-fail-in-Err-clause-runs c =
-    runs_by c.cite_laws.ensures _ c.args.self.now _ c.self.view_is (λ j holds. c.fail.ensures.leaves _ j (of_node c.self.inside.node c.in-Some.node c.self.inside.host (host_told c.turn.new.host) c.in-Some.is (turn_leaves c.cite_laws.ensures c.in-Some.node c.turn.new.self c.self.inside.host c.turn.new.host c.self.inside.links c.turn.ensures.safe (brings_broken c.cite_laws.ensures c.in-Some.node c.self.inside.host c.turn.new.host c.self.inside.links (running_of c.self.inside.node c.in-Some.node c.self.inside.host c.self.inside.links c.in-Some.is c.self.invariant.0) (c.in-Err.ensures.halts (running_of c.self.inside.node c.in-Some.node c.self.inside.host c.self.inside.links c.in-Some.is c.self.invariant.0).unclosed)) (running_of c.self.inside.node c.in-Some.node c.self.inside.host c.self.inside.links c.in-Some.is c.self.invariant.0)) j holds)) c.fail.ensures.still
+    runs_by c.cite_laws.ensures _ c.args.self.now _ c.self.view_is (λ j holds. c.fail.ensures.leaves _ j (of_node c.self.inside.node c.in-Some.node c.self.inside.host (host_told c.turn.new.host) c.in-Some.is (turn_leaves c.cite_laws.ensures c.in-Some.node c.turn.new.self c.self.inside.host c.turn.new.host c.self.inside.links c.turn.ensures.safe (brings_broken c.cite_laws.ensures c.in-Some.node c.self.inside.host c.turn.new.host c.self.inside.links (running_of c.self.inside.node c.in-Some.node c.self.inside.host c.self.inside.links c.in-Some.is c.self.invariant.0) (turn_breaks _ _ _ _ _ _ _ (c.in-Err.ensures.halts (running_of c.self.inside.node c.in-Some.node c.self.inside.host c.self.inside.links c.in-Some.is c.self.invariant.0).unclosed))) (running_of c.self.inside.node c.in-Some.node c.self.inside.host c.self.inside.links c.in-Some.is c.self.invariant.0)) j holds)) c.fail.ensures.still
 
 pub returns-in_ok-test_done-in-Ok-clause-keeps : goal.returns-in_ok-test_done-in-Ok-clause-keeps
 returns-in_ok-test_done-in-Ok-clause-keeps c = keeps_seen c.self.inside.host c.args.self.now.host (host_told c.turn.new.host) (ap (λ (d : DeviceValue). d.host) c.self.view_is) (turn_keeps c.in-Some.node c.turn.new.self c.self.inside.host c.turn.new.host c.self.inside.links c.turn.ensures.safe (running_of c.self.inside.node c.in-Some.node c.self.inside.host c.self.inside.links c.in-Some.is c.self.invariant.0))
@@ -43,7 +44,7 @@ returns-in_ok-fail-in-Err-clause-keeps c = keeps_seen c.self.inside.host c.args.
 
 pub returns-in_ok-fail-in-Err-clause-runs : goal.returns-in_ok-fail-in-Err-clause-runs
 returns-in_ok-fail-in-Err-clause-runs c =
-    runs_by c.cite_laws.ensures _ c.args.self.now _ c.self.view_is (λ j holds. c.fail.ensures.leaves _ j (of_node c.self.inside.node c.in-Some.node c.self.inside.host (host_told c.turn.new.host) c.in-Some.is (turn_leaves c.cite_laws.ensures c.in-Some.node c.turn.new.self c.self.inside.host c.turn.new.host c.self.inside.links c.turn.ensures.safe (brings_broken c.cite_laws.ensures c.in-Some.node c.self.inside.host c.turn.new.host c.self.inside.links (running_of c.self.inside.node c.in-Some.node c.self.inside.host c.self.inside.links c.in-Some.is c.self.invariant.0) (c.in-Err.ensures.halts (running_of c.self.inside.node c.in-Some.node c.self.inside.host c.self.inside.links c.in-Some.is c.self.invariant.0).unclosed)) (running_of c.self.inside.node c.in-Some.node c.self.inside.host c.self.inside.links c.in-Some.is c.self.invariant.0)) j holds)) c.fail.ensures.still
+    runs_by c.cite_laws.ensures _ c.args.self.now _ c.self.view_is (λ j holds. c.fail.ensures.leaves _ j (of_node c.self.inside.node c.in-Some.node c.self.inside.host (host_told c.turn.new.host) c.in-Some.is (turn_leaves c.cite_laws.ensures c.in-Some.node c.turn.new.self c.self.inside.host c.turn.new.host c.self.inside.links c.turn.ensures.safe (brings_broken c.cite_laws.ensures c.in-Some.node c.self.inside.host c.turn.new.host c.self.inside.links (running_of c.self.inside.node c.in-Some.node c.self.inside.host c.self.inside.links c.in-Some.is c.self.invariant.0) (turn_breaks _ _ _ _ _ _ _ (c.in-Err.ensures.halts (running_of c.self.inside.node c.in-Some.node c.self.inside.host c.self.inside.links c.in-Some.is c.self.invariant.0).unclosed))) (running_of c.self.inside.node c.in-Some.node c.self.inside.host c.self.inside.links c.in-Some.is c.self.invariant.0)) j holds)) c.fail.ensures.still
 
 pub returns-in_ok-test_done-in-Ok-clause-links : goal.returns-in_ok-test_done-in-Ok-clause-links
 returns-in_ok-test_done-in-Ok-clause-links c =
@@ -63,7 +64,7 @@ returns-in_err-fail-in-Err-clause-turns c =
     turns_seen _ _ c.args.self.now _ c.self.view_is
     (turn_failed _ c.in_err-fail-in-Err.field-0.0 c.in-Err.fault c.in-Some.node c.turn.new.self.store c.turn.new.host _ _ c.from_residual-in_err-fail-in-Err.ensures.1 c.in_err-fail-in-Err.ensures.unrefused c.in-Some.is
     c.in_err-fail-in-Err.ensures.full c.turn.ensures.limit (λ is. c.in-Err.ensures.full (ap (λ (x : NodeFault). Err x) is))
-    (c.in-Err.ensures.halts (running_of c.self.inside.node c.in-Some.node c.self.inside.host c.self.inside.links c.in-Some.is c.self.invariant.0).unclosed) c.fail.ensures.left c.turn.ensures.run.calls)
+    (turn_breaks _ _ _ _ _ _ _ (c.in-Err.ensures.halts (running_of c.self.inside.node c.in-Some.node c.self.inside.host c.self.inside.links c.in-Some.is c.self.invariant.0).unclosed)) c.fail.ensures.left c.turn.ensures.run.calls)
 
 pub returns-in_err-test_done-in-Ok-clause-turns : goal.returns-in_err-test_done-in-Ok-clause-turns
 returns-in_err-test_done-in-Ok-clause-turns c =
@@ -80,4 +81,4 @@ returns-in_ok-test_done-in-Ok-clause-turns c =
 pub returns-in_ok-fail-in-Err-clause-turns : goal.returns-in_ok-fail-in-Err-clause-turns
 returns-in_ok-fail-in-Err-clause-turns c =
     turns_seen (Ok None) _ c.args.self.now _ c.self.view_is
-    (turn_broken c.in-Some.node c.turn.new.host _ _ c.in-Some.is (c.in-Err.ensures.halts (running_of c.self.inside.node c.in-Some.node c.self.inside.host c.self.inside.links c.in-Some.is c.self.invariant.0).unclosed) c.turn.ensures.run.calls c.in_ok-fail-in-Err.ensures.to c.in_ok-fail-in-Err.ensures.clock)
+    (turn_broken c.in-Some.node c.turn.new.host _ _ c.in-Some.is (turn_breaks _ _ _ _ _ _ _ (c.in-Err.ensures.halts (running_of c.self.inside.node c.in-Some.node c.self.inside.host c.self.inside.links c.in-Some.is c.self.invariant.0).unclosed)) c.turn.ensures.run.calls c.in_ok-fail-in-Err.ensures.to c.in_ok-fail-in-Err.ensures.clock)

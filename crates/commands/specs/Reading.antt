@@ -1,0 +1,190 @@
+-- What the words of a command line ask for. Words are counted from 0 and read from left to right.
+use Rattle.std.specs.Prelude.{◌≡◌, ℕ, zero, suc, ◌+◌, ◌≤◌, Bool, true, false, not, if◌then◌else◌, List, [], ◌∷◌, ◌++◌, length, drop, codes, Option, Some, None, Result, Ok, Err}
+use Rattle.std.specs.Str.{bytes_eq}
+use Rattle.std.specs.List.{list_any}
+use Rattle.sync_ids.specs.declared.def.TheConstants.{MAX_NAME, MAX_DESCRIPTOR}
+use Rattle.sync_ids.specs.declared.message.TheConstants.{MAX_TIMESTAMP}
+use Rattle.outside.specs.declared.limits.TheConstants.{LINKS}
+use Rattle.commands.specs.declared.grammar.TheConstants.{MAX_CONTACT, MAX_MAJOR, MAX_TURNS}
+use Rattle.commands.specs.declared.links.TheConstants.{FIRST_LINK, LINK_WORDS, MAX_LATENCY}
+use Rattle.sync_words.specs.declared.link_words.LinkWords.{LinkWords}
+use Rattle.commands.specs.declared.command.Command.{Command}
+use Rattle.commands.specs.declared.command.Command.TheVariants as command
+use Rattle.commands.specs.declared.fault.WordsFault.{WordsFault}
+use Rattle.commands.specs.declared.fault.WordsFault.TheVariants as fault
+use Rattle.sync_words.specs.Links.{AreLinks}
+use Rattle.sync_words.specs.declared.outcome.Outcome.{Outcome}
+use Rattle.sync_words.specs.declared.outcome.Outcome.TheVariants as outcome
+use Rattle.sync_words.specs.Words.{name_in, descriptor_in, number_in, positive_in, id_in, level_in, mode_in, spec_in, is_std}
+
+-- a command, or the place of the first word that is wrong or too many, or the number of words where one is missing
+pub data Asked : Type 0 where
+  Usage : ℕ → Asked
+  Do : Command → Asked
+
+-- what the words of a command line ask for from a place on
+abbrev pub Rest : Type 0
+Rest = ℕ → List (List ℕ) → Asked
+
+abbrev pub read_or_usage : {V : Type 0} → Option V → (V → Rest) → Rest
+read_or_usage None next place words = Usage place
+read_or_usage (Some value) next place words = next value (place + 1) words
+
+-- the next word is read so, and then come the others
+abbrev pub word_then : {V : Type 0} → (List ℕ → Option V) → (V → Rest) → Rest
+word_then read next place [] = Usage place
+word_then read next place (word ∷ words) = read_or_usage (read word) next place words
+
+-- whether a word is left
+abbrev pub is_left : List (List ℕ) → Bool
+is_left [] = false
+is_left (word ∷ words) = true
+
+-- no word is left
+abbrev pub ends : Command → Rest
+ends asked place [] = Do asked
+ends asked place (word ∷ words) = Usage place
+
+-- ---- the words behind each command's
+
+-- a client's name and a descriptor
+abbrev pub asks_try : Rest
+asks_try = word_then name_in (λ name. word_then descriptor_in (λ descriptor. ends (command.Try name descriptor)))
+
+-- a client's name, a major version and a descriptor
+abbrev pub asks_group : Rest
+asks_group =
+    word_then name_in (λ name. word_then (number_in MAX_MAJOR) (λ major. word_then descriptor_in (λ descriptor.
+    ends (command.Group name major descriptor))))
+
+-- a contact, a group and a level
+abbrev pub asks_share : Rest
+asks_share = word_then (number_in MAX_CONTACT) (λ contact. word_then id_in (λ group. word_then level_in (λ level. ends (command.Share contact group level))))
+
+-- a group and a time
+abbrev pub asks_post : Rest
+asks_post = word_then id_in (λ group. word_then (number_in MAX_TIMESTAMP) (λ timestamp. ends (command.Post group timestamp)))
+
+-- the id of a message
+abbrev pub asks_body : Rest
+asks_body = word_then id_in (λ id. ends (command.Body id))
+
+-- whether one of the links is over the standard input and output
+abbrev pub has_std : List LinkWords → Bool
+has_std links = list_any (λ (link : LinkWords). is_std link.spec) links
+
+-- a link behind others: a contact, a mode, a latency and a spec
+abbrev pub link_then : (before : List LinkWords) → (LinkWords → Rest) → Rest
+link_then before next =
+    word_then (number_in MAX_CONTACT) (λ contact. word_then mode_in (λ mode. word_then (positive_in MAX_LATENCY) (λ latency.
+    word_then (spec_in (has_std before)) (λ spec. next (record { contact = contact; mode = mode; latency = latency; spec = spec })))))
+
+-- no link follows: there is one, and no word is left
+abbrev pub has_ended : List LinkWords → List (List ℕ) → Bool
+has_ended [] words = false
+has_ended (link ∷ links) words = not (is_left words)
+
+-- at most so many more links behind others
+unfoldable pub asks_links : (List LinkWords → Command) → (more : ℕ) → (before : List LinkWords) → Rest
+asks_links asked zero before place words = ends (asked before) place words
+asks_links asked (suc more) before place words =
+    if has_ended before words then Do (asked before) else link_then before (λ link. asks_links asked more (before ++ link ∷ [])) place words
+
+-- a number of turns, a number of still ones, and 1 to 8 links
+abbrev pub asks_sync : Rest
+asks_sync =
+    word_then (positive_in MAX_TURNS) (λ turns. word_then (positive_in MAX_TURNS) (λ quiet.
+    asks_links (command.Sync turns quiet) LINKS []))
+
+-- the commands without parts
+abbrev pub plain_in : List ℕ → Option Command
+plain_in word =
+    if bytes_eq word (codes "records") then Some command.Records
+    else if bytes_eq word (codes "init") then Some command.Init
+    else if bytes_eq word (codes "contact") then Some command.Contact
+    else if bytes_eq word (codes "show") then Some command.Show
+    else if bytes_eq word (codes "inbox") then Some command.Inbox
+    else None
+
+abbrev pub ends_or_usage : Option Command → Rest
+ends_or_usage None place words = Usage 0
+ends_or_usage (Some asked) place words = ends asked place words
+
+-- by the first word
+abbrev pub asks_of : List ℕ → Rest
+asks_of word =
+    if bytes_eq word (codes "try") then asks_try
+    else if bytes_eq word (codes "group") then asks_group
+    else if bytes_eq word (codes "share") then asks_share
+    else if bytes_eq word (codes "post") then asks_post
+    else if bytes_eq word (codes "body") then asks_body
+    else if bytes_eq word (codes "sync") then asks_sync
+    else ends_or_usage (plain_in word)
+
+-- what all words ask for
+abbrev pub asks : List (List ℕ) → Asked
+asks [] = Usage 0
+asks (word ∷ words) = asks_of word 1 words
+
+-- what was read is what was asked for; memory may be wanting
+abbrev pub IsReadAs : Asked → Result Command WordsFault → Type 0
+IsReadAs asked (Ok read) = asked ≡ Do read
+IsReadAs asked (Err (fault.Usage place)) = asked ≡ Usage place
+IsReadAs asked (Err fault.Memory) = Unit {0}
+
+-- what words come to that were not read
+abbrev pub words_came : WordsFault → Outcome
+words_came (fault.Usage place) = outcome.Usage place
+words_came fault.Memory = outcome.Memory
+
+-- ---- limits
+
+abbrev pub IsName : List ℕ → Type 0
+IsName word = (1 ≤ length word) × (length word ≤ MAX_NAME)
+
+abbrev pub IsDescriptor : List ℕ → Type 0
+IsDescriptor word = length word ≤ MAX_DESCRIPTOR
+
+abbrev pub IsCount : ℕ → Type 0
+IsCount n = (1 ≤ n) × (n ≤ MAX_TURNS)
+
+-- the parts of a command are within their limits
+abbrev pub IsWithin : Command → Type 0
+IsWithin (command.Try name descriptor) = IsName name × IsDescriptor descriptor
+IsWithin (command.Group name major descriptor) = IsName name × IsDescriptor descriptor
+IsWithin (command.Post group timestamp) = timestamp ≤ MAX_TIMESTAMP
+IsWithin (command.Sync turns quiet links) = IsCount turns × IsCount quiet × AreLinks links
+IsWithin _ = Unit {0}
+
+-- ---- a single word
+
+-- the word at this place was read as this value
+abbrev pub Reads : {V : Type 0} → (List ℕ → Option V) → List (List ℕ) → ℕ → V → Type 0
+Reads {V} read words place value = (next : V → Rest) → word_then read next place (drop place words) ≡ next value (place + 1) (drop (place + 1) words)
+
+-- the word at this place is missing or wrong
+abbrev pub Stops : {V : Type 0} → (List ℕ → Option V) → List (List ℕ) → ℕ → WordsFault → Type 0
+Stops {V} read words place (fault.Usage at) = (next : V → Rest) → word_then read next place (drop place words) ≡ Usage at
+Stops {V} read words place fault.Memory = Unit {0}
+
+-- ---- links
+
+-- the words of a link from this place on, behind the links before, were read as this link
+abbrev pub ReadsLink : List LinkWords → List (List ℕ) → ℕ → LinkWords → Type 0
+ReadsLink before words place link =
+    (next : LinkWords → Rest) → link_then before next place (drop place words) ≡ next link (place + LINK_WORDS) (drop (place + LINK_WORDS) words)
+
+-- one of them is missing or wrong
+abbrev pub StopsLink : List LinkWords → List (List ℕ) → ℕ → WordsFault → Type 0
+StopsLink before words place (fault.Usage at) = (next : LinkWords → Rest) → link_then before next place (drop place words) ≡ Usage at
+StopsLink before words place fault.Memory = Unit {0}
+
+-- all words from the first link on were read as these links
+abbrev pub ReadsLinks : List (List ℕ) → List LinkWords → Type 0
+ReadsLinks words links =
+    (asked : List LinkWords → Command) → asks_links asked LINKS [] FIRST_LINK (drop FIRST_LINK words) ≡ Do (asked links)
+
+-- one of them is missing, wrong or too many
+abbrev pub StopsLinks : List (List ℕ) → WordsFault → Type 0
+StopsLinks words (fault.Usage at) = (asked : List LinkWords → Command) → asks_links asked LINKS [] FIRST_LINK (drop FIRST_LINK words) ≡ Usage at
+StopsLinks words fault.Memory = Unit {0}

@@ -1,0 +1,56 @@
+//! The commands.
+ghost use Rattle.std.specs.Prelude.{◌≡◌};
+ghost use Rattle.commands.specs.Writing.{may_write};
+
+use sync_ids::{GroupId, MessageId};
+use sync_rules::Level;
+use sync_words::{LinkList, Word};
+
+/// What the words of a command line ask for. The parts are those of the command, in order.
+#[derive(Debug, Drop)]
+pub enum Command {
+    /// `try NAME DESCRIPTOR`: plays a stream of records in a group of this client and descriptor.
+    Try(Word, Word),
+    /// `records`: lists a stream of records.
+    Records,
+    /// `init`: makes a store.
+    Init,
+    /// `contact`: adds a contact.
+    Contact,
+    /// `group NAME MAJOR DESCRIPTOR`: adds a group.
+    Group(Word, u32, Word),
+    /// `share CONTACT GROUP LEVEL`: sets a level.
+    Share(u8, GroupId, Level),
+    /// `post GROUP TIMESTAMP`: writes a message.
+    Post(GroupId, u64),
+    /// `show`: prints what a store knows.
+    Show,
+    /// `inbox`: prints the delivered messages.
+    Inbox,
+    /// `body ID`: writes the body of a message.
+    Body(MessageId),
+    /// `sync TURNS QUIET` and the words of each link: runs sessions over the links, at most so many
+    /// turns, and until so many turns in a row were still.
+    Sync(u32, u32, LinkList),
+}
+
+impl Command {
+    /// Whether the command may write the files of a store.
+    pub fn may_write(&self) -> bool
+        ensures { result ≡ may_write self.now }
+    {
+        match self {
+            Command::Init
+            | Command::Contact
+            | Command::Group(_, _, _)
+            | Command::Share(_, _, _)
+            | Command::Post(_, _)
+            | Command::Sync(_, _, _) => true,
+            Command::Try(_, _)
+            | Command::Records
+            | Command::Show
+            | Command::Inbox
+            | Command::Body(_) => false,
+        }
+    }
+}

@@ -1,0 +1,138 @@
+//! What the words of a command line ask for.
+ghost use Rattle.std.specs.Prelude.{◌≡◌, drop, IfOk, IfSome};
+ghost use Rattle.commands.specs.Reading.{asks, asks_of, asks_try, asks_group, asks_share};
+ghost use Rattle.commands.specs.Reading.{asks_post, asks_body, asks_sync, ends};
+ghost use Rattle.commands.specs.Reading.{IsReadAs, IsWithin, plain_in};
+ghost use Rattle.sync_words.specs.Words.{texts};
+
+use crate::command::Command;
+use crate::fault::WordsFault;
+use crate::links::read_links;
+use crate::words::{descriptor_at, id_at, is_left_at, level_at, name_at, number_at, positive_at};
+use std::alloc::Global;
+use sync_ids::MAX_TIMESTAMP;
+use sync_rules::MAX_CONTACTS;
+
+/// The greatest number of a contact.
+pub const MAX_CONTACT: u64 = MAX_CONTACTS as u64 - 1;
+
+// The greatest major version of a client.
+const MAX_MAJOR: u64 = 4_294_967_295;
+
+/// The most turns of a run, and the most still turns behind which it is over.
+pub const MAX_TURNS: u64 = 1_000_000;
+
+/// Reads the words of a command line, those after the program's name.
+///
+/// # Errors `Usage` exactly where the words are not in the grammar, with the place; `Memory` for
+/// want of memory.
+pub fn read_words(alloc: Global, words: &[String]) -> Result<Command, WordsFault>
+    ensures read { IsReadAs (asks (texts words.now)) result }
+    ensures within { IfOk result IsWithin }
+{
+    match words.first() {
+        Some(word) => read_command(alloc, word.as_str(), words),
+        None => Err(WordsFault::Usage(0)),
+    }
+}
+
+// Reads the words behind the first one.
+fn read_command(alloc: Global, word: &str, words: &[String]) -> Result<Command, WordsFault>
+    ensures read { IsReadAs (asks_of word.now 1 (drop 1 (texts words.now))) result }
+    ensures within { IfOk result IsWithin }
+{
+    match word {
+        "try" => read_try(alloc, words),
+        "group" => read_group(alloc, words),
+        "share" => read_share(words),
+        "post" => read_post(words),
+        "body" => read_body(words),
+        "sync" => read_sync(alloc, words),
+        word => match plain(word) {
+            Some(command) => read_end(words, 1, command),
+            None => Err(WordsFault::Usage(0)),
+        },
+    }
+}
+
+// The command without parts of this word.
+fn plain(word: &str) -> Option<Command>
+    ensures value { result ≡ plain_in word.now }
+    ensures within { IfSome result IsWithin }
+{
+    match word {
+        "records" => Some(Command::Records),
+        "init" => Some(Command::Init),
+        "contact" => Some(Command::Contact),
+        "show" => Some(Command::Show),
+        "inbox" => Some(Command::Inbox),
+        _ => None,
+    }
+}
+
+// The command, where no word stands at this place.
+fn read_end(words: &[String], place: usize, command: Command) -> Result<Command, WordsFault>
+    ensures read { IsReadAs (ends command place (drop place (texts words.now))) result }
+    ensures same { IfOk result (λ read. read ≡ command) }
+{
+    if is_left_at(words, place) {
+        return Err(WordsFault::Usage(place));
+    }
+    Ok(command)
+}
+
+fn read_try(alloc: Global, words: &[String]) -> Result<Command, WordsFault>
+    ensures read { IsReadAs (asks_try 1 (drop 1 (texts words.now))) result }
+    ensures within { IfOk result IsWithin }
+{
+    let name = name_at(alloc, words, 1)?;
+    let descriptor = descriptor_at(alloc, words, 2)?;
+    read_end(words, 3, Command::Try(name, descriptor))
+}
+
+fn read_group(alloc: Global, words: &[String]) -> Result<Command, WordsFault>
+    ensures read { IsReadAs (asks_group 1 (drop 1 (texts words.now))) result }
+    ensures within { IfOk result IsWithin }
+{
+    let name = name_at(alloc, words, 1)?;
+    let major = number_at(words, 2, MAX_MAJOR)?;
+    let descriptor = descriptor_at(alloc, words, 3)?;
+    read_end(words, 4, Command::Group(name, major as u32, descriptor))
+}
+
+fn read_share(words: &[String]) -> Result<Command, WordsFault>
+    ensures read { IsReadAs (asks_share 1 (drop 1 (texts words.now))) result }
+    ensures within { IfOk result IsWithin }
+{
+    let contact = number_at(words, 1, MAX_CONTACT)?;
+    let group = id_at(words, 2)?;
+    let level = level_at(words, 3)?;
+    read_end(words, 4, Command::Share(contact as u8, group, level))
+}
+
+fn read_post(words: &[String]) -> Result<Command, WordsFault>
+    ensures read { IsReadAs (asks_post 1 (drop 1 (texts words.now))) result }
+    ensures within { IfOk result IsWithin }
+{
+    let group = id_at(words, 1)?;
+    let timestamp = number_at(words, 2, MAX_TIMESTAMP)?;
+    read_end(words, 3, Command::Post(group, timestamp))
+}
+
+fn read_body(words: &[String]) -> Result<Command, WordsFault>
+    ensures read { IsReadAs (asks_body 1 (drop 1 (texts words.now))) result }
+    ensures within { IfOk result IsWithin }
+{
+    let id = id_at(words, 1)?;
+    read_end(words, 2, Command::Body(id))
+}
+
+fn read_sync(alloc: Global, words: &[String]) -> Result<Command, WordsFault>
+    ensures read { IsReadAs (asks_sync 1 (drop 1 (texts words.now))) result }
+    ensures within { IfOk result IsWithin }
+{
+    let turns = positive_at(words, 1, MAX_TURNS)?;
+    let quiet = positive_at(words, 2, MAX_TURNS)?;
+    let links = read_links(alloc, words)?;
+    Ok(Command::Sync(turns as u32, quiet as u32, links))
+}

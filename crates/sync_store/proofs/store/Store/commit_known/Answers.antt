@@ -1,0 +1,64 @@
+use Rattle.std.proofs.Common.{◌≡◌, false, refl, inl, sym, ap, ◌∙◌, subst}
+use Rattle.sync_store.specs.Commits.{needed}
+use Rattle.sync_store.specs.Moments.{WithAtMost, journal_with}
+use Rattle.sync_store.specs.Store.{StoreValue, IsStore}
+use Rattle.sync_store.proofs.FitSteps.{leads_none, fits_same}
+use Rattle.sync_store.proofs.Growth.{fits_by, may_add, with_none}
+use Rattle.sync_store.proofs.store.Store.commit_known.Goals as goal
+
+pub returns-then-is_full-clause-extends : goal.returns-then-is_full-clause-extends
+returns-then-is_full-clause-extends g c still two told j fits =
+    let clients = g.C.Clients.meaning c.args.clients.now in
+    let s = c.args.self.now in
+    leads_none c.cite_laws.ensures.stand clients (WithAtMost j c.args.batch) (λ whole. whole ≡ j) s s j two (g.D.Disk.tells c.args.disk.now) fits (subst IsStore c.self.view_is c.self.invariant).roomy told
+    (record { facts = refl; file = refl; format = refl; generation = refl; end = refl }) (inl refl) refl
+
+pub frame_batch-requires-clause-latency : goal.frame_batch-requires-clause-latency
+frame_batch-requires-clause-latency g c =
+    let s = c.args.self.now in
+    let still : s.closed ≡ false = ap (λ (v : StoreValue). v.closed) (sym c.self.view_is) ∙ c.if-self.false in
+    c.cite_laws.ensures.latency (g.C.Clients.meaning c.args.clients.now) s.state.facts c.args.batch (c.requires.allowed still)
+
+pub returns-in_err-framed-clause-extends : goal.returns-in_err-framed-clause-extends
+returns-in_err-framed-clause-extends g c still two told j fits =
+    let clients = g.C.Clients.meaning c.args.clients.now in
+    let s = c.args.self.now in
+    leads_none c.cite_laws.ensures.stand clients (WithAtMost j c.args.batch) (λ whole. whole ≡ journal_with j c.args.batch c.from_residual.result) s s j two (g.D.Disk.tells c.args.disk.now) fits
+    (subst IsStore c.self.view_is c.self.invariant).roomy told
+    (record { facts = refl; file = refl; format = refl; generation = refl; end = refl }) (inl refl) (with_none j c.args.batch c.from_residual.result c.from_residual.ensures.0)
+
+pub returns-in_err-reserve-clause-extends : goal.returns-in_err-reserve-clause-extends
+returns-in_err-reserve-clause-extends g c still two told j fits =
+    let clients = g.C.Clients.meaning c.args.clients.now in
+    let s = c.args.self.now in
+    leads_none c.cite_laws.ensures.stand clients (WithAtMost j c.args.batch) (λ whole. whole ≡ journal_with j c.args.batch c.from_residual-in_err-reserve.result) s _ j two (g.D.Disk.tells c.args.disk.now) fits
+    (subst IsStore c.self.view_is c.self.invariant).roomy told
+    (record {
+      facts = c.reserve.ensures.facts ∙ ap (λ (v : StoreValue). v.state.facts) c.self.view_is;
+      file = ap (λ (v : StoreValue). v.file) c.self.view_is;
+      format = ap (λ (v : StoreValue). v.format) c.self.view_is;
+      generation = ap (λ (v : StoreValue). v.generation) c.self.view_is;
+      end = ap (λ (v : StoreValue). v.end) c.self.view_is;
+    }) (inl refl) (with_none j c.args.batch c.from_residual-in_err-reserve.result c.from_residual-in_err-reserve.ensures.0)
+
+pub add-requires-clause-may : goal.add-requires-clause-may
+add-requires-clause-may g c =
+    let clients = g.C.Clients.meaning c.args.clients.now in
+    let s = c.args.self.now in
+    let still : s.closed ≡ false = ap (λ (v : StoreValue). v.closed) (sym c.self.view_is) ∙ c.if-self.false in
+    may_add c.cite_laws.ensures clients s _ c.args.batch c.as_slice.result.now (subst IsStore c.self.view_is c.self.invariant)
+    (c.reserve.ensures.facts ∙ ap (λ (v : StoreValue). v.state.facts) c.self.view_is) (ap (λ (v : StoreValue). v.end) c.self.view_is) (c.requires.allowed still) c.in_ok-framed.ensures.within
+    (c.as_slice.ensures.value ∙ c.in_ok-framed.ensures.framed) (fits_by c.is_full.result s.limit (needed s c.args.batch) c.is_full.ensures c.if-is_full.false)
+
+pub returns-clause-extends : goal.returns-clause-extends
+returns-clause-extends g c still two told j fits =
+    let clients = g.C.Clients.meaning c.args.clients.now in
+    let s = c.args.self.now in
+    c.add.ensures.extends two told j
+    (fits_same clients s _ j two fits (record {
+      facts = c.reserve.ensures.facts ∙ ap (λ (v : StoreValue). v.state.facts) c.self.view_is;
+      file = ap (λ (v : StoreValue). v.file) c.self.view_is;
+      format = ap (λ (v : StoreValue). v.format) c.self.view_is;
+      generation = ap (λ (v : StoreValue). v.generation) c.self.view_is;
+      end = ap (λ (v : StoreValue). v.end) c.self.view_is;
+    }))
