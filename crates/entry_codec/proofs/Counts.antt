@@ -1,4 +1,4 @@
--- A batch that may follow a journal adds one message or session at most.
+-- A batch that may follow a journal adds one message at most, and one session at most.
 use Rattle.std.proofs.Common.{◌≡◌, ℕ, ◌+◌, ◌≤◌, Bool, true, false, cond, List, [], ◌∷◌, length, sym, subst, refl, arith, length-append}
 use Rattle.std.specs.Prelude.{Option, Some, None, not}
 use Rattle.std.specs.List.{AllByRecursion}
@@ -26,29 +26,48 @@ abbrev adds_all : List Entry → ℕ
 adds_all [] = 0
 adds_all (e ∷ es) = adds e + adds_all es
 
-abbrev count : Facts → ℕ
-count f = length f.held + f.begun
+-- the counts of messages and of sessions after an entry
+held_after : (f : Facts) (e : Entry) → length (after f e).held ≤ length f.held + adds e
+held_after f (entry.Contact c) = omega arith
+held_after f (entry.Group def) = omega arith
+held_after f (entry.Level c g l) = omega arith
+held_after f (entry.Session s) = omega arith
+held_after f (entry.Take s k) = omega arith
+held_after f (entry.Author m) = omega (arith, length-append f.held (authored m ∷ []))
+held_after f (entry.Arrive s m) = omega (arith, length-append f.held (arrived (contact_of f.sessions s) m ∷ []))
+held_after f (entry.Judged id) = omega arith
+held_after f (entry.Deliver id) = omega arith
+held_after f (entry.Invalid id) = omega arith
+held_after f (entry.Again s id) = omega arith
+held_after f (entry.Offered s id) = omega arith
+held_after f (entry.Seen s id) = omega arith
+held_after f (entry.Asked s id) = omega arith
+held_after f (entry.Out s now what) = omega arith
 
-count_after : (f : Facts) (e : Entry) → count (after f e) ≡ count f + adds e
-count_after f (entry.Contact c) = omega arith
-count_after f (entry.Group def) = omega arith
-count_after f (entry.Level c g l) = omega arith
-count_after f (entry.Session s) = omega arith
-count_after f (entry.Take s k) = omega arith
-count_after f (entry.Author m) = omega (arith, length-append f.held (authored m ∷ []))
-count_after f (entry.Arrive s m) = omega (arith, length-append f.held (arrived (contact_of f.sessions s) m ∷ []))
-count_after f (entry.Judged id) = omega arith
-count_after f (entry.Deliver id) = omega arith
-count_after f (entry.Invalid id) = omega arith
-count_after f (entry.Again s id) = omega arith
-count_after f (entry.Offered s id) = omega arith
-count_after f (entry.Seen s id) = omega arith
-count_after f (entry.Asked s id) = omega arith
-count_after f (entry.Out s now what) = omega arith
+begun_after : (f : Facts) (e : Entry) → (after f e).begun ≤ f.begun + adds e
+begun_after f (entry.Contact c) = omega arith
+begun_after f (entry.Group def) = omega arith
+begun_after f (entry.Level c g l) = omega arith
+begun_after f (entry.Session s) = omega arith
+begun_after f (entry.Take s k) = omega arith
+begun_after f (entry.Author m) = omega arith
+begun_after f (entry.Arrive s m) = omega arith
+begun_after f (entry.Judged id) = omega arith
+begun_after f (entry.Deliver id) = omega arith
+begun_after f (entry.Invalid id) = omega arith
+begun_after f (entry.Again s id) = omega arith
+begun_after f (entry.Offered s id) = omega arith
+begun_after f (entry.Seen s id) = omega arith
+begun_after f (entry.Asked s id) = omega arith
+begun_after f (entry.Out s now what) = omega arith
 
-count_after_all : (f : Facts) (es : List Entry) → count (after_all f es) ≡ count f + adds_all es
-count_after_all f [] = omega arith
-count_after_all f (e ∷ es) = omega (arith, count_after_all (after f e) es, count_after f e)
+held_after_all : (f : Facts) (es : List Entry) → length (after_all f es).held ≤ length f.held + adds_all es
+held_after_all f [] = omega arith
+held_after_all f (e ∷ es) = omega (arith, held_after_all (after f e) es, held_after f e)
+
+begun_after_all : (f : Facts) (es : List Entry) → (after_all f es).begun ≤ f.begun + adds_all es
+begun_after_all f [] = omega arith
+begun_after_all f (e ∷ es) = omega (arith, begun_after_all (after f e) es, begun_after f e)
 
 -- an entry that adds nothing
 abbrev AddsNone : Entry → Type 0
@@ -128,5 +147,7 @@ batch_adds clients f (entry.Asked s id ∷ rest) is = absurd is
 batch_adds clients f (entry.Out s now what ∷ rest) is = alone (entry.Out s now what) rest is.0
 
 pub one_more : (clients : Meaning) (f : Facts) (batch : List Entry) → Allowed clients f batch
-    → length (after_all f batch).held + (after_all f batch).begun ≤ length f.held + f.begun + 1
-one_more clients f batch is = omega (arith, count_after_all f batch, batch_adds clients f batch is)
+    → (length (after_all f batch).held ≤ length f.held + 1) × ((after_all f batch).begun ≤ f.begun + 1)
+one_more clients f batch is =
+    let adds = batch_adds clients f batch is in
+    (omega (arith, held_after_all f batch, adds), omega (arith, begun_after_all f batch, adds))

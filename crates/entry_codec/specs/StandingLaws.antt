@@ -25,10 +25,10 @@ PayloadsSpellOnce = (f : Facts) (bytes : List ℕ) (batch : List Entry) → ((pl
 abbrev pub AllowedHaveLatency : Type 0
 AllowedHaveLatency = (clients : Meaning) (f : Facts) (batch : List Entry) → Allowed clients f batch → AllByRecursion HasLatency batch
 
--- a batch that may follow a journal adds one message or one session at most
+-- a batch that may follow a journal adds one message at most, and one session at most
 abbrev pub AllowedAddOne : Type 0
 AllowedAddOne = (clients : Meaning) (f : Facts) (batch : List Entry) → Allowed clients f batch
-    → length (after_all f batch).held + (after_all f batch).begun ≤ length f.held + f.begun + 1
+    → (length (after_all f batch).held ≤ length f.held + 1) × ((after_all f batch).begun ≤ f.begun + 1)
 
 -- and takes one record at most on a session
 abbrev pub AllowedTakeOne : Type 0

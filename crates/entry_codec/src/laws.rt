@@ -42,7 +42,7 @@ pub fn allowed_have_latency()
     ensures { AllowedHaveLatency }
 {}
 
-/// A batch that may follow a journal adds one message or one session at most.
+/// A batch that may follow a journal adds one message at most, and one session at most.
 pub fn allowed_add_one()
     ensures { AllowedAddOne }
 {}

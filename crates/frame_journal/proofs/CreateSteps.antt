@@ -1,17 +1,16 @@
 -- A journal begun in a cleared file: what stands behind its gate, and the gate.
-use Rattle.std.proofs.Common.{◌≡◌, ◌≢◌, ℕ, ◌+◌, ◌<◌, ◌≤◌, false, eqb, ◌&&◌, List, [], ◌∷◌, ◌++◌, length, take, drop, refl, sym, ap, ◌∙◌, subst, inl, inr, arith, append-nil}
+use Rattle.std.proofs.Common.{◌≡◌, ◌≢◌, ℕ, ◌+◌, ◌<◌, ◌≤◌, false, eqb, ◌&&◌, List, [], ◌∷◌, ◌++◌, length, take, refl, sym, ap, ◌∙◌, subst, inl, inr, arith, append-nil}
 use Rattle.std.specs.Prelude.{slice_index, nat_le}
 use Rattle.std.specs.Int.{w64, to_be_bytes}
 use Rattle.std.proofs.Math.Bool.{and-false}
-use Rattle.std.proofs.lemmas.Bool.{cases_eq}
 use Rattle.std.proofs.lemmas.Bool.Decides.{eqb_tells}
 use Rattle.std.proofs.lemmas.List.{drop_all, get_or-take}
 use Rattle.outside.specs.Files.{Two, File, file_of, settled, NothingPending}
 use Rattle.outside.specs.Disk.{overwritten}
-use Rattle.outside.specs.Frames.{is_open, header_of, HasFrames}
+use Rattle.outside.specs.Frames.{is_open, HasFrames}
 use Rattle.outside.specs.Steps.{other_of, file_of-with_file, other_of-with_file}
-use Rattle.frame_journal.specs.Gates.{WritesBehind, OpensGate, KeepsFront, KeepsAllBut}
-use Rattle.frame_journal.specs.Create.{IsCleared, Creates, Prepares, ShutOrBegun, begun_bytes, behind_gate}
+use Rattle.frame_journal.specs.Gates.{WritesBehind, KeepsFront}
+use Rattle.frame_journal.specs.Create.{IsCleared, Creates, Prepares, Publishes, ShutOrBegun, ShutOrOpened, begun_bytes, behind_gate, opened}
 
 -- a file whose first byte is not 1 has no open header
 pub not_open : (bytes : List ℕ) → slice_index bytes 0 ≢ 1 → is_open bytes ≡ false
@@ -63,6 +62,15 @@ writes_prepares file generation two two' cleared written =
         frames = subst (λ (l : List ℕ). HasFrames l header []) reads (begun_frames cleared.gate generation);
         end_is = refl;
       };
+      prepared = record {
+        settled = this ∙ ap settled reads;
+        gate = cleared.gate;
+        marked = 66 ∷ 83 ∷ 80 ∷ 74 ∷ 1 ∷ to_be_bytes w64 generation;
+        payloads = [];
+        closed = cleared.closed;
+        header = refl;
+        frames = subst (λ (l : List ℕ). HasFrames l header []) reads (begun_frames cleared.gate generation);
+      };
     }
 
 pub kept_shut : (two : Two File) (file : ℕ) → IsCleared two file → (c : List ℕ) → KeepsFront (file_of two file).now 1 c → is_open c ≡ false
@@ -70,40 +78,23 @@ kept_shut two file cleared c kept =
     let front : take 1 c ≡ cleared.gate ∷ [] = kept ∙ ap (take 1) (cleared_now two file cleared) in
     not_open c (λ e. cleared.closed (sym (first_of c cleared.gate front) ∙ e))
 
--- ---- the gate
+-- ---- a journal with no frame
 
--- what was prepared is what opening its gate asks
-pub prepared_fits : (file generation : ℕ) (two two' : Two File) → Prepares file generation two two' → (NothingPending two' file) × (1 ≤ length (file_of two' file).now)
-prepared_fits file generation two two' p = (p.at_rest.settled, subst (λ (f : File). 1 ≤ length f.now) (sym p.bytes) (omega arith))
-
-opened_bytes : (gate generation : ℕ) → overwritten (gate ∷ behind_gate generation) 0 (1 ∷ []) ≡ begun_bytes generation
+opened_bytes : (gate generation : ℕ) → opened (gate ∷ behind_gate generation) ≡ begun_bytes generation
 opened_bytes gate generation = refl
 
-pub prepares_creates : (file generation : ℕ) (x y z : Two File) → Prepares file generation x y → OpensGate file 1 y z → Creates file generation x z
-prepares_creates file generation x y z p opened =
-    let f = settled (overwritten (file_of y file).now 0 (1 ∷ [])) in
-    let this : file_of z file ≡ settled (begun_bytes generation) =
-    ap (λ (t : Two File). file_of t file) opened ∙ file_of-with_file y file f
-    ∙ ap (λ (g : File). settled (overwritten g.now 0 (1 ∷ []))) p.bytes
-    ∙ ap settled (opened_bytes p.gate generation) in
-    let reads : begun_bytes generation ≡ (file_of z file).now = ap (λ (g : File). g.now) (sym this) in
-    record {
-      bytes = this;
-      other = ap (λ (t : Two File). other_of t file) opened ∙ other_of-with_file y file f ∙ p.other;
-      at_rest = record {
-        settled = this ∙ ap settled reads;
-        header = header_of 1 generation;
-        payloads = [];
-        frames = subst (λ (l : List ℕ). HasFrames l (header_of 1 generation) []) reads (begun_frames 1 generation);
-        end_is = refl;
-      };
-    }
+prepares_now : (file generation : ℕ) (two two' : Two File) (p : Prepares file generation two two') → (file_of two' file).now ≡ p.gate ∷ behind_gate generation
+prepares_now file generation two two' p = ap (λ (f : File). f.now) p.bytes
 
-pub gate_begun : (file generation : ℕ) (two two' : Two File) → Prepares file generation two two' → (c : List ℕ) → KeepsAllBut (file_of two' file).now 0 c → ShutOrBegun generation c
-gate_begun file generation two two' p c kept =
-    let now : (file_of two' file).now ≡ p.gate ∷ behind_gate generation = ap (λ (f : File). f.now) p.bytes in
-    let shape : c ≡ kept.0 ∷ behind_gate generation = kept.1 ∙ ap (λ l. take 0 l ++ kept.0 ∷ drop (0 + 1) l) now in
-    elim (cases_eq kept.0 1) [
-      | inl one ↦ inr (shape ∙ ap (λ g. g ∷ behind_gate generation) one)
-      | inr other ↦ inl (not_open c (λ e. other (sym (ap (λ (l : List ℕ). slice_index l 0) shape) ∙ e)))
+pub prepares_creates : (file generation : ℕ) (x y z : Two File) → Prepares file generation x y → Publishes file y z → Creates file generation x z
+prepares_creates file generation x y z p published =
+    let this : file_of z file ≡ settled (begun_bytes generation) =
+    published.bytes ∙ ap (λ l. settled (opened l)) (prepares_now file generation x y p) ∙ ap settled (opened_bytes p.gate generation) in
+    record { bytes = this; other = published.other ∙ p.other; at_rest = published.at_rest 15 p.at_rest }
+
+pub gate_begun : (file generation : ℕ) (two two' : Two File) → Prepares file generation two two' → (c : List ℕ) → ShutOrOpened (file_of two' file).now c → ShutOrBegun generation c
+gate_begun file generation two two' p c either =
+    elim either [
+      | inl shut ↦ inl shut
+      | inr there ↦ inr (there ∙ ap opened (prepares_now file generation two two' p) ∙ opened_bytes p.gate generation)
     ]

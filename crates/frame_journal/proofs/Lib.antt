@@ -6,3 +6,4 @@ pub mod Calm
 pub mod CreateSteps
 pub mod ClearSteps
 pub mod Read
+pub mod Prepared

@@ -1,8 +1,8 @@
 -- A file emptied for a journal, and a journal begun in it.
-use Rattle.std.specs.Prelude.{◌≡◌, ◌≢◌, ◌⊎◌, ℕ, false, List, [], ◌∷◌, ◌++◌, take}
+use Rattle.std.specs.Prelude.{◌≡◌, ◌≢◌, ◌⊎◌, ℕ, true, false, List, [], ◌∷◌, ◌++◌, take, drop}
 use Rattle.std.specs.Int.{w64, to_be_bytes}
 use Rattle.outside.specs.Files.{Two, File, file_of, settled, NothingPending}
-use Rattle.outside.specs.Frames.{is_open, header_of, IsAtRest}
+use Rattle.outside.specs.Frames.{is_open, header_of, HasFrames, IsAtRest}
 use Rattle.outside.specs.Steps.{other_of}
 
 -- the file is one byte long, which is no open gate, and nothing is pending in it
@@ -19,14 +19,42 @@ BeforeOrShut bytes left = (left ≡ bytes) ⊎ (is_open left ≡ false)
 abbrev pub behind_gate : ℕ → List ℕ
 behind_gate generation = 66 ∷ 83 ∷ 80 ∷ 74 ∷ 1 ∷ (to_be_bytes w64 generation ++ 0 ∷ [])
 
+-- A file is prepared: it has some frames and all of an open header but the gate, which is closed, and nothing is
+-- pending in it.
+pub record IsPrepared (files : Two File) (file : ℕ) : Type 0 where
+  pub settled : NothingPending files file
+  pub gate : ℕ
+  pub marked : List ℕ
+  pub payloads : List (List ℕ)
+  pub closed : gate ≢ 1
+  pub header : is_open (1 ∷ marked) ≡ true
+  pub frames : HasFrames (file_of files file).now (gate ∷ marked) payloads
+
 -- All of a journal with no frame but the gate of its header, and nothing pending in its file; the other file is as
--- before. Frames may be added to it.
+-- before. Frames may be added to it, and its gate may be opened.
 pub record Prepares (file generation : ℕ) (old new : Two File) : Type 0 where
   pub gate : ℕ
   pub closed : gate ≢ 1
   pub bytes : file_of new file ≡ settled (gate ∷ behind_gate generation)
   pub other : other_of new file ≡ other_of old file
   pub at_rest : IsAtRest new file 15
+  pub prepared : IsPrepared new file
+
+-- these bytes with an open gate in the place of their first
+abbrev pub opened : List ℕ → List ℕ
+opened bytes = 1 ∷ drop 1 bytes
+
+-- The gate of a file's header is open, and nothing is pending in the file; the other file is as before. What frames it
+-- had it has.
+pub record Publishes (file : ℕ) (old new : Two File) : Type 0 where
+  pub bytes : file_of new file ≡ settled (opened (file_of old file).now)
+  pub other : other_of new file ≡ other_of old file
+  pub header : is_open (file_of new file).now ≡ true
+  pub at_rest : (end : ℕ) → IsAtRest old file end → IsAtRest new file end
+
+-- no open header, or the bytes with an open gate
+abbrev pub ShutOrOpened : List ℕ → List ℕ → Type 0
+ShutOrOpened bytes left = (is_open left ≡ false) ⊎ (left ≡ opened bytes)
 
 -- the bytes of a journal with no frame
 abbrev pub begun_bytes : ℕ → List ℕ

@@ -10,3 +10,11 @@ pub record JournalValue : Type 0 where
   pub end : ℕ
   pub len : ℕ
   pub last : ℕ
+
+-- the journal of this generation in a prepared file with no frame, which has format 1 and 15 bytes
+abbrev pub fresh : ℕ → ℕ → JournalValue
+fresh file generation = record { file = file; format = 1; generation = generation; end = 15; len = 15; last = 0 }
+
+-- a journal that is read from its first frame on again
+abbrev pub rewound : JournalValue → JournalValue
+rewound journal = record journal { end = 15; last = 0 }

@@ -1,5 +1,7 @@
 -- What reading the next frame answers.
-use Rattle.std.specs.Prelude.{◌≡◌, ℕ, ◌+◌, ◌-◌, ◌≤◌, Bool, true, false, List, ◌∷◌, ◌++◌, length, take, drop, Option, None, Some, Result, Ok, Err}
+use Rattle.std.specs.Prelude.{◌≡◌, ℕ, ◌+◌, ◌-◌, ◌≤◌, Bool, true, false, List, ◌∷◌, ◌++◌, length, take, drop, Option, None, Some, is_some, Result, Ok, Err, IfOk}
+use Rattle.outside.specs.declared.failed.Failed.{Failed}
+use Rattle.outside.specs.Outside.{Outside, MakesJust, MakesAtMost}
 use Rattle.std.specs.Int.{w32, to_be_bytes}
 use Rattle.outside.specs.declared.limits.TheConstants.{MAX_FRAME, MAX_JOURNAL}
 use Rattle.outside.specs.Frames.{frame_at, frame_of, closed, broken, framed}
@@ -65,3 +67,32 @@ Moves old new (Ok true) = (new.file ≡ old.file) × (new.len ≡ old.len) × (n
     × (new.end ≤ MAX_JOURNAL)
 Moves old new (Ok false) = new ≡ old
 Moves old new (Err _) = new ≡ old
+
+-- a fact where the answer is a frame
+abbrev pub OnTrue : Result Bool FrameFault → Type 0 → Type 0
+OnTrue (Ok true) P = P
+OnTrue (Ok false) P = Unit {0}
+OnTrue (Err _) P = Unit {0}
+
+-- ---- how many calls of the disk it takes: one for the gate, and one more for the payload behind an open one
+
+abbrev pub GateCalls : Gate → Outside → Outside → Type 0
+GateCalls gate.Closed old new = MakesJust 1 old new
+GateCalls gate.Broken old new = MakesAtMost 1 old new
+GateCalls (gate.Open size) old new = MakesJust 1 old new
+
+pub record ReadsGate (result : Result Gate Failed) (old new : Outside) : Type 0 where
+  pub just : IfOk result (λ gate. GateCalls gate old new)
+  pub most : MakesAtMost 1 old new
+
+abbrev pub FrameCalls : Bool → Outside → Outside → Type 0
+FrameCalls true old new = MakesJust 2 old new
+FrameCalls false old new = MakesJust 1 old new
+
+pub record ReadsFrame (result : Result (Option ℕ) FrameFault) (old new : Outside) : Type 0 where
+  pub just : IfOk result (λ size. FrameCalls (is_some size) old new)
+  pub most : MakesAtMost 2 old new
+
+pub record ReadsNext (result : Result Bool FrameFault) (old new : Outside) : Type 0 where
+  pub just : IfOk result (λ more. FrameCalls more old new)
+  pub most : MakesAtMost 2 old new

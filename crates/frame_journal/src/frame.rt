@@ -5,9 +5,10 @@ ghost use Rattle.frame_journal.specs.declared.fault.FrameFault.TheVariants as fa
 ghost use Rattle.std.specs.Option.{ForSome};
 ghost use Rattle.outside.specs.Faults.{HasCause, Rose};
 ghost use Rattle.outside.specs.Files.{file_of};
-ghost use Rattle.outside.specs.Outside.{Looks};
+ghost use Rattle.outside.specs.Outside.{Looks, MakesCalls};
 ghost use Rattle.outside.specs.Disk.{Reads};
-ghost use Rattle.frame_journal.specs.Next.{IsGate, HasSize, IsNextAt, IsSizeOf};
+ghost use Rattle.frame_journal.specs.Next.{IsGate, HasSize, IsNextAt, IsSizeOf, ReadsGate};
+ghost use Rattle.frame_journal.specs.Next.{ReadsFrame};
 
 use crate::FrameFault;
 use outside::{Disk, Failed, MAX_FRAME, MAX_JOURNAL, Place};
@@ -33,6 +34,7 @@ pub fn read_gate<D: Disk>(disk: &mut D, file: u8, place: u64, len: u64) -> Resul
     ensures size { IfOk result (HasSize place) }
     ensures looks { Looks (D.tells disk.old) (D.tells disk.new) }
     ensures fault { HasCause (D.tells disk.old).disk_faults (D.tells disk.new).disk_faults result }
+    ensures calls { ReadsGate result (D.tells disk.old) (D.tells disk.new) }
 {
     if place >= len {
         return Ok(Gate::Broken);
@@ -86,6 +88,7 @@ pub fn read_payload<D: Disk>(
     ensures later { (D.tells disk.old).disk_faults ≤ (D.tells disk.new).disk_faults }
     ensures fault { IsErrOf result FrameFault.DiskFault
         → Rose (D.tells disk.old).disk_faults (D.tells disk.new).disk_faults }
+    ensures calls { MakesCalls 1 result (D.tells disk.old) (D.tells disk.new) }
     ensures undamaged { IfErr result (λ e. e ≡ FrameFault.DiskFault ⊎ e ≡ FrameFault.Memory) }
 {
     to.truncate(0);
@@ -113,6 +116,7 @@ pub fn next_at<D: Disk>(
     ensures later { (D.tells disk.old).disk_faults ≤ (D.tells disk.new).disk_faults }
     ensures fault { IsErrOf result FrameFault.DiskFault
         → Rose (D.tells disk.old).disk_faults (D.tells disk.new).disk_faults }
+    ensures calls { ReadsFrame result (D.tells disk.old) (D.tells disk.new) }
 {
     match read_gate(disk, file, place, len) {
         Ok(Gate::Closed) => Ok(None),

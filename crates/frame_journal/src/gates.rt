@@ -6,20 +6,20 @@ ghost use Rattle.outside.specs.Faults.{HasCause};
 ghost use Rattle.outside.specs.Files.{Two, File, file_of, NothingPending};
 ghost use Rattle.outside.specs.Disk.{Becomes};
 ghost use Rattle.outside.specs.Frames.{is_open};
-ghost use Rattle.outside.specs.Outside.{DiskRun};
+ghost use Rattle.outside.specs.Outside.{DiskRun, MakesCalls, MakesAtMost};
 ghost use Rattle.outside.specs.Steps.{Passed};
 ghost use Rattle.frame_journal.specs.Append.{Opens, Gated};
 ghost use Rattle.frame_journal.specs.Create.{IsCleared, Clears, Creates, Prepares, behind_gate};
 ghost use Rattle.frame_journal.specs.Create.{ShutOrBegun, BeforeOrShut, HasShutGate, ShutsGate};
-ghost use Rattle.frame_journal.specs.Create.{Shortens};
+ghost use Rattle.frame_journal.specs.Create.{Shortens, IsPrepared, Publishes, ShutOrOpened};
 ghost use Rattle.frame_journal.specs.Gates.{SyncsBoth, AnyImage, WritesBehind, OpensGate};
 ghost use Rattle.frame_journal.specs.Gates.{KeepsFront, KeepsAllBut, ReadsSame};
 
 use crate::{DiskFault, FORMAT};
 use outside::Disk;
 
-/// Syncs both files, file 0 first: after it a crash leaves what a read gives. Whatever it answers,
-/// the files read as before.
+/// Syncs both files, file 0 first, in two calls of the disk: after it a crash leaves what a read
+/// gives. Whatever it answers, the files read as before.
 pub fn barrier<D: Disk>(disk: &mut D) -> Result<(), DiskFault>
     ensures settled { OnOk result (Becomes SyncsBoth (D.tells disk.old).files
         (D.tells disk.new).files) }
@@ -29,6 +29,7 @@ pub fn barrier<D: Disk>(disk: &mut D) -> Result<(), DiskFault>
     ensures any_moment { AnyImage (D.tells disk.old) (D.tells disk.new) }
     ensures run { DiskRun (D.tells disk.old) (D.tells disk.new) }
     ensures fault { HasCause (D.tells disk.old).disk_faults (D.tells disk.new).disk_faults result }
+    ensures calls { MakesCalls 2 result (D.tells disk.old) (D.tells disk.new) }
 {
     disk.sync(0)?;
     disk.sync(1)?;
@@ -53,6 +54,7 @@ pub fn write_behind<D: Disk>(
         (KeepsFront (file_of two file).now end) }
     ensures run { DiskRun (D.tells disk.old) (D.tells disk.new) }
     ensures fault { HasCause (D.tells disk.old).disk_faults (D.tells disk.new).disk_faults result }
+    ensures calls { MakesCalls 2 result (D.tells disk.old) (D.tells disk.new) }
 {
     disk.write_at(file, end, bytes)?;
     disk.sync(file)?;
@@ -73,6 +75,7 @@ pub fn open_gate<D: Disk>(disk: &mut D, file: u8, end: u64) -> Result<(), DiskFa
         (KeepsAllBut (file_of two file).now (end - 1)) }
     ensures run { DiskRun (D.tells disk.old) (D.tells disk.new) }
     ensures fault { HasCause (D.tells disk.old).disk_faults (D.tells disk.new).disk_faults result }
+    ensures calls { MakesCalls 2 result (D.tells disk.old) (D.tells disk.new) }
 {
     disk.write_at(file, end - 1, &[1])?;
     disk.sync(file)?;
@@ -93,14 +96,15 @@ pub fn open_behind<D: Disk>(disk: &mut D, file: u8, end: u64, bytes: &[u8]) -> R
         (Gated (file_of two file).now end bytes.now) }
     ensures run { DiskRun (D.tells disk.old) (D.tells disk.new) }
     ensures fault { HasCause (D.tells disk.old).disk_faults (D.tells disk.new).disk_faults result }
+    ensures calls { MakesCalls 4 result (D.tells disk.old) (D.tells disk.new) }
 {
     write_behind(disk, file, end, bytes)?;
     open_gate(disk, file, end)
 }
 
 /// Begins a journal of this generation in a file that was cleared: all that stands behind its gate,
-/// and then the gate. At each moment the file has no open header or is that journal; after `Ok`
-/// every crash leaves the journal.
+/// and then the gate, in four calls of the disk. At each moment the file has no open header or is
+/// that journal; after `Ok` every crash leaves the journal.
 pub fn create<D: Disk>(disk: &mut D, file: u8, generation: u64) -> Result<(), DiskFault>
     requires file { file < 2 }
     requires cleared { ForSome (D.tells disk.old).files (λ two. IsCleared two file) }
@@ -110,14 +114,15 @@ pub fn create<D: Disk>(disk: &mut D, file: u8, generation: u64) -> Result<(), Di
         → Passed two (D.tells disk.old) (D.tells disk.new) file (ShutOrBegun generation) }
     ensures run { DiskRun (D.tells disk.old) (D.tells disk.new) }
     ensures fault { HasCause (D.tells disk.old).disk_faults (D.tells disk.new).disk_faults result }
+    ensures calls { MakesCalls 4 result (D.tells disk.old) (D.tells disk.new) }
 {
     prepare(disk, file, generation)?;
-    open_gate(disk, file, 1)
+    publish(disk, file)
 }
 
 /// Puts all of a journal of this generation but the gate of its header into a file that was
-/// cleared, so that frames may be added before `open_gate` at 1 makes it a journal. At each moment
-/// the file has no open header.
+/// cleared, in two calls of the disk, so that frames may be added before `publish` makes it a
+/// journal. At each moment the file has no open header.
 pub fn prepare<D: Disk>(disk: &mut D, file: u8, generation: u64) -> Result<(), DiskFault>
     requires file { file < 2 }
     requires cleared { ForSome (D.tells disk.old).files (λ two. IsCleared two file) }
@@ -127,9 +132,28 @@ pub fn prepare<D: Disk>(disk: &mut D, file: u8, generation: u64) -> Result<(), D
         → Passed two (D.tells disk.old) (D.tells disk.new) file (λ left. is_open left ≡ false) }
     ensures run { DiskRun (D.tells disk.old) (D.tells disk.new) }
     ensures fault { HasCause (D.tells disk.old).disk_faults (D.tells disk.new).disk_faults result }
+    ensures calls { MakesCalls 2 result (D.tells disk.old) (D.tells disk.new) }
 {
     let bytes = behind_gate(generation);
     write_behind(disk, file, 1, &bytes)
+}
+
+/// Makes a journal of a prepared file, in two calls of the disk: opens the gate of its header, and
+/// waits until it is on the disk. At each moment the file has no open header or is that journal;
+/// after `Ok` every crash leaves the journal.
+pub fn publish<D: Disk>(disk: &mut D, file: u8) -> Result<(), DiskFault>
+    requires file { file < 2 }
+    requires prepared { ForSome (D.tells disk.old).files (λ two. IsPrepared two file) }
+    ensures published { OnOk result (Becomes (Publishes file) (D.tells disk.old).files
+        (D.tells disk.new).files) }
+    ensures any_moment { (two : Two File) → (D.tells disk.old).files ≡ Some two
+        → Passed two (D.tells disk.old) (D.tells disk.new) file
+        (ShutOrOpened (file_of two file).now) }
+    ensures run { DiskRun (D.tells disk.old) (D.tells disk.new) }
+    ensures fault { HasCause (D.tells disk.old).disk_faults (D.tells disk.new).disk_faults result }
+    ensures calls { MakesCalls 2 result (D.tells disk.old) (D.tells disk.new) }
+{
+    open_gate(disk, file, 1)
 }
 
 // A header but for its gate, and a closed gate.
@@ -151,6 +175,7 @@ pub fn clear<D: Disk>(disk: &mut D, file: u8) -> Result<(), DiskFault>
         (BeforeOrShut (file_of two file).now) }
     ensures run { DiskRun (D.tells disk.old) (D.tells disk.new) }
     ensures fault { HasCause (D.tells disk.old).disk_faults (D.tells disk.new).disk_faults result }
+    ensures calls { MakesAtMost 6 (D.tells disk.old) (D.tells disk.new) }
 {
     shut_gate(disk, file)?;
     shorten(disk, file)
@@ -166,6 +191,7 @@ fn shut_gate<D: Disk>(disk: &mut D, file: u8) -> Result<(), DiskFault>
         (BeforeOrShut (file_of two file).now) }
     ensures run { DiskRun (D.tells disk.old) (D.tells disk.new) }
     ensures fault { HasCause (D.tells disk.old).disk_faults (D.tells disk.new).disk_faults result }
+    ensures calls { MakesAtMost 3 (D.tells disk.old) (D.tells disk.new) }
 {
     let mut gate = [0u8; 1];
     let n = disk.read_at(file, 0, &mut gate)?;
@@ -195,6 +221,7 @@ fn shorten<D: Disk>(disk: &mut D, file: u8) -> Result<(), DiskFault>
         (λ left. is_open left ≡ false) }
     ensures run { DiskRun (D.tells disk.old) (D.tells disk.new) }
     ensures fault { HasCause (D.tells disk.old).disk_faults (D.tells disk.new).disk_faults result }
+    ensures calls { MakesAtMost 3 (D.tells disk.old) (D.tells disk.new) }
 {
     let len = disk.len(file)?;
     if len <= 1 {

@@ -4,7 +4,7 @@ ghost use Rattle.std.specs.Option.{ForSome, option_map};
 ghost use Rattle.outside.specs.Faults.{HasCause};
 ghost use Rattle.outside.specs.Files.{Two, file_of};
 ghost use Rattle.outside.specs.Frames.{is_open, journal_file};
-ghost use Rattle.outside.specs.Outside.{Looks};
+ghost use Rattle.outside.specs.Outside.{Looks, MakesCalls};
 
 use crate::DiskFault;
 use outside::Disk;
@@ -53,13 +53,14 @@ fn is_open(bytes: &[u8; 14], n: usize) -> bool
 
 ghost use Rattle.frame_journal.specs.Header.{IsHeaderOf};
 
-/// Reads the header of a file: `None` exactly where it is not open.
+/// Reads the header of a file, in one call of the disk: `None` exactly where it is not open.
 pub fn read_header<D: Disk>(disk: &mut D, file: u8) -> Result<Option<Header>, DiskFault>
     requires { file < 2 }
     ensures header { IfOk result
         (λ h. ForSome (D.tells disk.old).files (λ two. IsHeaderOf (file_of two file).now h)) }
     ensures looks { Looks (D.tells disk.old) (D.tells disk.new) }
     ensures fault { HasCause (D.tells disk.old).disk_faults (D.tells disk.new).disk_faults result }
+    ensures calls { MakesCalls 1 result (D.tells disk.old) (D.tells disk.new) }
 {
     let mut bytes = [0u8; 14];
     let n = disk.read_at(file, 0, &mut bytes)?;

@@ -1,13 +1,14 @@
 //! The journal's file: its frames are read in order, and then further ones are added.
 ghost use Rattle.std.specs.Prelude.{◌≡◌, ◌+◌, ◌<◌, ◌≤◌, max, Some, length, OnOk, OnErr, IfOk};
-ghost use Rattle.std.specs.Prelude.{IsErrOf};
+ghost use Rattle.std.specs.Prelude.{IsErrOf, vec_len};
 ghost use Rattle.frame_journal.specs.Header.{Starts};
-ghost use Rattle.frame_journal.specs.Next.{IsNext, Moves};
+ghost use Rattle.frame_journal.specs.Next.{IsNext, Moves, OnTrue, ReadsNext};
+ghost use Rattle.frame_journal.specs.Journal.{fresh, rewound};
 ghost use Rattle.std.specs.Option.{ForSome};
 ghost use Rattle.outside.specs.Faults.{HasCause, Rose};
 ghost use Rattle.outside.specs.Files.{Two, File, file_of, read_files};
 ghost use Rattle.outside.specs.Links.{sent_of};
-ghost use Rattle.outside.specs.Outside.{DiskRun, Looks};
+ghost use Rattle.outside.specs.Outside.{DiskRun, Looks, MakesCalls};
 ghost use Rattle.outside.specs.Disk.{Becomes};
 ghost use Rattle.outside.specs.Frames.{IsAtRest};
 ghost use Rattle.outside.specs.Steps.{Passed};
@@ -61,6 +62,7 @@ impl Journal {
         ensures later { (D.tells disk.old).disk_faults ≤ (D.tells disk.new).disk_faults }
         ensures fault { IsErrOf result StartFault.DiskFault
             → Rose (D.tells disk.old).disk_faults (D.tells disk.new).disk_faults }
+        ensures calls { MakesCalls 3 result (D.tells disk.old) (D.tells disk.new) }
     {
         let first = read_header(disk, 0)?;
         let second = read_header(disk, 1)?;
@@ -81,9 +83,41 @@ impl Journal {
         })
     }
 
+    /// The journal of this generation in a file that was prepared and has no frame, to which frames
+    /// may be added. Which file it is is all that is asked here: `append` asks of the disk that the
+    /// file is at rest at the journal's end, as `prepare` leaves it.
+    pub fn fresh(file: u8, generation: u64) -> Journal
+        requires { file < 2 }
+        ensures { result ≡ fresh file generation }
+    {
+        Journal {
+            file,
+            format: FORMAT,
+            generation,
+            end: 15,
+            len: 15,
+            last: 0,
+        }
+    }
+
+    /// A reader of the same file from its first frame's gate on, at place 14.
+    pub fn rewind(&self) -> Journal
+        ensures { result ≡ rewound self.now }
+    {
+        Journal {
+            file: self.file,
+            format: self.format,
+            generation: self.generation,
+            end: 15,
+            len: self.len,
+            last: 0,
+        }
+    }
+
     /// Reads the next frame's payload into `to`, which afterwards holds it alone; `false` exactly
     /// at the first closed gate. `Damaged` comes exactly where no gate or no whole frame stands at
-    /// the place. After a fault the reader is unchanged, and nothing is said of `to`.
+    /// the place. After a fault the reader is unchanged, and nothing is said of `to`. It makes two
+    /// calls of the disk for a frame, and one at the gate.
     pub fn next_frame<D: Disk>(
         &mut self,
         disk: &mut D,
@@ -94,10 +128,12 @@ impl Journal {
         ensures next { ForSome (D.tells disk.old).files
             (λ two. IsNext (file_of two self.old.file).now self.old self.new to.new.items result) }
         ensures moves { Moves self.old self.new result }
+        ensures size { OnTrue result (self.new.end ≡ self.old.end + 5 + vec_len to.new) }
         ensures looks { Looks (D.tells disk.old) (D.tells disk.new) }
         ensures later { (D.tells disk.old).disk_faults ≤ (D.tells disk.new).disk_faults }
         ensures fault { IsErrOf result FrameFault.DiskFault
             → Rose (D.tells disk.old).disk_faults (D.tells disk.new).disk_faults }
+        ensures calls { ReadsNext result (D.tells disk.old) (D.tells disk.new) }
     {
         let place = self.end - 1;
         match next_at(disk, self.file, place, self.len, to) {
@@ -145,11 +181,20 @@ impl Journal {
         ensures run { DiskRun (D.tells disk.old) (D.tells disk.new) }
         ensures fault { HasCause (D.tells disk.old).disk_faults (D.tells disk.new).disk_faults
             result }
+        ensures calls { MakesCalls 4 result (D.tells disk.old) (D.tells disk.new) }
     {
         open_behind(disk, self.file, self.end, framed)?;
         self.end += framed.len() as u64;
         self.len = self.len.max(self.end);
         Ok(())
+    }
+
+    /// The number of its file, 0 or 1.
+    pub fn file(&self) -> u8
+        ensures value { result ≡ self.now.file }
+        ensures within { result < 2 }
+    {
+        self.file
     }
 
     /// The place of the closed gate plus one, at most the length of the longest journal.

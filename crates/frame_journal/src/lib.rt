@@ -8,6 +8,6 @@ mod header;
 mod journal;
 
 pub use fault::{DiskFault, FrameFault, StartFault};
-pub use gates::{barrier, clear, create, open_gate, prepare};
+pub use gates::{barrier, clear, create, prepare, publish};
 pub use header::{FORMAT, Header, read_header};
 pub use journal::Journal;

@@ -215,14 +215,14 @@ module _ (clients : Meaning) (def : GroupValue) (kind : ℕ) (known : kind_of_de
 
   there : Grows (graph_of clients f) (graph_with clients kind messages)
   there = record {
-    held = λ id h e. ap (λ hs. held_at hs id) (sym b.held) ∙ e;
-    verdict = λ id h e. verdict_at id h e;
+    held = λ id h e. record { found = h; at = ap (λ hs. held_at hs id) (sym b.held) ∙ e; same = refl };
+    verdict = λ id h x e later same. ap (clients.verdict kind) same ∙ verdict_at id h e;
   }
 
   back : Grows (graph_with clients kind messages) (graph_of clients f)
   back = record {
-    held = λ id h e. ap (λ hs. held_at hs id) b.held ∙ e;
-    verdict = λ id h e. sym (verdict_at id h (ap (λ hs. held_at hs id) b.held ∙ e));
+    held = λ id h e. record { found = h; at = ap (λ hs. held_at hs id) b.held ∙ e; same = refl };
+    verdict = λ id h x e later same. sym (verdict_at id x later) ∙ ap (clients.verdict kind) same;
   }
 
   good_same : (id : Id) → good (graph_of clients f) (length f.held) id ≡ good (graph_with clients kind messages) (length (map (arrived 0) messages)) id

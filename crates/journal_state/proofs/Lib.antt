@@ -37,4 +37,4 @@ pub mod Allowed
 pub mod Authored
 pub mod Leaving
 pub mod Fronts
-pub mod Unknown
+mod GroupsKnown

@@ -18,4 +18,3 @@ pub mod Changes
 pub mod Delivery
 pub mod Allowing
 pub mod Bringing
-pub mod Known

@@ -98,13 +98,13 @@ impl State {
         ensures err { OnErr result (self.new.facts ≡ self.old.facts) }
         ensures knows { Knows (C.meaning clients.now) self.new }
     {
-        let known = id_brought(batch.entries());
-        if !self.allows_knowing(alloc, clients, &known, &batch)? {
+        let id = id_brought(batch.entries());
+        if !self.allows_known(alloc, clients, &batch, id)? {
             return Ok(false);
         }
         self.reserve(&batch)?;
         allows_is_allowed();
-        self.take_knowing(&known, batch);
+        self.take_known(batch, id);
         Ok(true)
     }
 

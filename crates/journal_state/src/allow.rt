@@ -13,7 +13,7 @@ ghost use Rattle.sync_rules.specs.Allows.{allows, gives, ids_named, is_due, is_i
 ghost use Rattle.sync_rules.specs.Allows.{is_settling_kind, may_add_group, may_author, may_begin};
 ghost use Rattle.sync_rules.specs.Allows.{may_take, read_as, same_entry};
 ghost use Rattle.journal_state.specs.Allowing.{allows_alone, due_of, is_new, record_of};
-ghost use Rattle.journal_state.specs.Known.{IsIdOf, IsOfAll, IsOfEntry};
+ghost use Rattle.session_core.specs.Known.{IsIdOf, IsOfAll, IsOfEntry};
 ghost use Rattle.journal_state.specs.Whole.{Knows};
 
 use crate::brought_id::id_known;
@@ -347,7 +347,7 @@ impl State {
 impl State {
     /// Whether a batch that does not begin with a step may follow the journal. It fails only for
     /// want of memory.
-    #[tactic(auto, using(crate::proofs::Unknown::unknown))]
+    #[tactic(auto, using(session_core::proofs::Unknown::unknown))]
     pub fn allows<C: Clients>(
         &self,
         alloc: Global,
@@ -359,20 +359,21 @@ impl State {
         ensures { IfOk result (λ yes. yes ≡ allows (C.meaning clients.now) self.now.facts
             batch.now) }
     {
-        self.allows_knowing(alloc, clients, &None, batch)
+        self.allows_known(alloc, clients, batch, None)
     }
 
-    /// The same of a batch of whose message the id may be known.
-    pub(crate) fn allows_knowing<C: Clients>(
+    /// The same of a batch with the id of the one message that it brings, where the caller has it:
+    /// it is not computed anew.
+    pub fn allows_known<C: Clients>(
         &self,
         alloc: Global,
         clients: &C,
-        known: &Option<MessageId>,
         batch: &Batch,
+        id: Option<MessageId>,
     ) -> Result<bool, AllocError>
         requires knows { Knows (C.meaning clients.now) self.now }
         requires kind { is_settling_kind batch.now ≡ false }
-        requires named { IsOfAll known.now batch.now }
+        requires named { IsOfAll id batch.now }
         ensures { IfOk result (λ yes. yes ≡ allows (C.meaning clients.now) self.now.facts
             batch.now) }
     {
@@ -383,11 +384,11 @@ impl State {
             return Ok(false);
         }
         if let Entry::Take(session, k) = first {
-            return self.allows_take(alloc, *session, *k, known, rest);
+            return self.allows_take(alloc, *session, *k, &id, rest);
         }
         if !rest.is_empty() {
             return Ok(false);
         }
-        self.allows_alone(alloc, clients, known, first)
+        self.allows_alone(alloc, clients, &id, first)
     }
 }

@@ -2,13 +2,13 @@
 //! for its taking.
 ghost use Rattle.std.specs.Prelude.{◌≡◌};
 ghost use Rattle.sync_ids.specs.Ids.{message_id_of};
-ghost use Rattle.journal_state.specs.Known.{IsIdOf, IsOfAll};
+ghost use Rattle.session_core.specs.Known.{IsIdOf, IsOfAll};
 
 use sync_ids::{Message, MessageId};
 use sync_rules::{Entry, id_of};
 
 /// The id of the message of a batch that brings one and nothing more.
-#[tactic(auto, using(crate::proofs::Unknown::unknown))]
+#[tactic(auto, using(session_core::proofs::Unknown::unknown))]
 pub(crate) fn id_brought(entries: &[Entry]) -> Option<MessageId>
     ensures { IsOfAll result entries.now }
 {

@@ -84,11 +84,13 @@ impl State {
         })
     }
 
-    /// Shows the prover what holds of every state. It does nothing.
-    pub(crate) fn show_sound(&self)
+    /// Shows the prover what holds of every state: its held messages have distinct ids, are fewer
+    /// than 2^32 and of known groups, and its groups have distinct ids. It does nothing.
+    pub fn show_sound(&self)
         ensures { IsSound self.now }
     {
         let _held = self.messages.len();
+        self.table.show_distinct();
     }
 
     /// The number of held messages.

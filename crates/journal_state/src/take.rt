@@ -4,7 +4,7 @@ ghost use Rattle.sync_rules.specs.Clients.{Meaning};
 ghost use Rattle.sync_rules.specs.Facts.{after_all};
 ghost use Rattle.sync_rules.specs.Legal.{Allowed};
 ghost use Rattle.sync_rules.specs.Allows.{is_settling_kind};
-ghost use Rattle.journal_state.specs.Known.{IsIdOf, IsOfAll, IsOfEntry};
+ghost use Rattle.session_core.specs.Known.{IsIdOf, IsOfAll, IsOfEntry};
 ghost use Rattle.journal_state.specs.Taking.{CanTake, CanTakeAll, HasNextNumbers, HasRoom, Takes};
 ghost use Rattle.journal_state.specs.Taking.{TakesAll};
 ghost use Rattle.journal_state.specs.Whole.{Knows};
@@ -18,7 +18,7 @@ use sync_rules::{Batch, Entry, Origin, Out};
 impl State {
     /// Takes an allowed batch for which room was made, and which is not a settling batch. It takes
     /// no memory.
-    #[tactic(auto, using(crate::proofs::Unknown::unknown))]
+    #[tactic(auto, using(session_core::proofs::Unknown::unknown))]
     pub fn take(&mut self, batch: Batch)
         requires allowed { (clients : Meaning) × Allowed clients self.old.facts batch }
         requires kind { is_settling_kind batch ≡ false }
@@ -27,21 +27,22 @@ impl State {
         ensures facts { self.new.facts ≡ after_all self.old.facts batch }
         ensures knows { (clients : Meaning) → Knows clients self.old → Knows clients self.new }
     {
-        self.take_knowing(&None, batch);
+        self.take_known(batch, None);
     }
 
-    /// The same of a batch of whose message the id may be known.
-    pub(crate) fn take_knowing(&mut self, known: &Option<MessageId>, batch: Batch)
+    /// The same of a batch with the id of the one message that it brings, where the caller has it:
+    /// it is not computed anew.
+    pub fn take_known(&mut self, batch: Batch, id: Option<MessageId>)
         requires allowed { (clients : Meaning) × Allowed clients self.old.facts batch }
         requires kind { is_settling_kind batch ≡ false }
-        requires named { IsOfAll known.now batch }
+        requires named { IsOfAll id batch }
         requires room { HasRoom self.old batch }
         requires numbers { HasNextNumbers self.old.facts }
         ensures facts { self.new.facts ≡ after_all self.old.facts batch }
         ensures knows { (clients : Meaning) → Knows clients self.old → Knows clients self.new }
     {
         self.show_sound();
-        self.take_all(known, batch.into_entries());
+        self.take_all(&id, batch.into_entries());
     }
 
     /// Takes entries, one after the other.

@@ -10,7 +10,9 @@ use Rattle.outside.specs.Files.{Two, File, IsImage}
 use Rattle.outside.specs.Links.{Planned, Link, Reply, Answered, with_sent}
 use Rattle.outside.specs.Outside.{Moment, DiskCall, LinkCall, QuietCall}
 use Rattle.outside.specs.Host.{SendsPart}
-use Rattle.outside.specs.MemDisk.{Change, dialled, sent, answered, hosted, MemDiskValue, Makes, KeptFile, kept_after, both_kept, changed, files_of, links_after, link_changed, answers_after, answers_changed, with_call, bytes_each}
+use Rattle.outside.specs.Calls.{NoCall}
+use Rattle.outside.specs.Steps.{go_on_none}
+use Rattle.outside.specs.MemDisk.{Change, dialled, sent, answered, hosted, MemDiskValue, Makes, KeptFile, kept_after, both_kept, changed, files_of, links_after, link_changed, answers_after, answers_changed, with_call, bytes_each, calls_of}
 use Rattle.outside.specs.MemTold.{WasAt, was_now, files_at, kept_after-push, links_after-push}
 use Rattle.outside.specs.MemHost.{MemHostValue, Readings, links_of, IsWired, OnDisk, MakesDial, MakesSend, MakesAnswer, Replies}
 use Rattle.outside.specs.HostTold.{sent_by, links_told, each_told, each_heard, host_told}
@@ -183,16 +185,22 @@ pub record AfterCall (more : Option Change) (old new : MemDiskValue) : Type 0 wh
   pub start : new.start ≡ old.start
   pub calls : new.calls ≡ old.calls ++ option_to_list more
   pub faults : new.faults ≡ old.faults
+  pub no_call : NoCall (calls_of old) (calls_of new)
 
 pub after_one : (c : Change) (old new : MemDiskValue) → new ≡ with_call c old → AfterCall (Some c) old new
-after_one c old new e = record { start = ap (λ (d : MemDiskValue). d.start) e; calls = ap (λ (d : MemDiskValue). d.calls) e; faults = ap (λ (d : MemDiskValue). d.faults) e }
+after_one c old new e =
+    subst (λ (d : MemDiskValue). AfterCall (Some c) old d) (sym e)
+    (record {
+      start = refl;
+      calls = refl;
+      faults = refl;
+      no_call = record { goes_on = record { same_start = refl; same_failing = refl; same_stop = refl; more = c ∷ []; grown = refl; later = omega arith }; made = refl };
+    })
 
 pub after_none : (old new : MemDiskValue) → new ≡ old → AfterCall None old new
-after_none old new e = record {
-  start = ap (λ (d : MemDiskValue). d.start) e;
-  calls = ap (λ (d : MemDiskValue). d.calls) e ∙ sym (append-nil old.calls);
-  faults = ap (λ (d : MemDiskValue). d.faults) e;
-}
+after_none old new e =
+    subst (λ (d : MemDiskValue). AfterCall None old d) (sym e)
+    (record { start = refl; calls = sym (append-nil old.calls); faults = refl; no_call = record { goes_on = go_on_none (calls_of old); made = refl } })
 
 same_two : (more : Option Change) (old new : MemDiskValue) → LeavesFiles more → AfterCall more old new → files_at new.start new.calls ≡ files_at old.start old.calls
 same_two more old new leaves after =
@@ -204,6 +212,7 @@ quiet_call more old new leaves after =
     record {
       same_files = ap Some (same_two more old.disk new.disk leaves after);
       same_faults = after.faults;
+      calls = after.no_call;
       time = record { later = pass.later; nothing_else = λ t m _ w. pass.nothing_else t m w; keeps = λ t m _ w. pass.keeps t m w };
     }
 
@@ -229,6 +238,7 @@ send_call old new link n bytes after =
     record {
       same_files = ap Some (same_two more old.disk new.disk (λ _. refl) after);
       same_faults = after.faults;
+      calls = after.no_call;
       time = record {
         later = pass.later;
         nothing_else = λ t m _ w. elim (pass.nothing_else t m w) [ inl before ↦ inl before | inr now ↦ inr (send_moment old new link n bytes after m now) ];
@@ -244,6 +254,7 @@ unsent_call old new link bytes e =
     record {
       same_files = ap Some (same_two None old.disk new.disk tt after);
       same_faults = after.faults;
+      calls = after.no_call;
       time = record {
         later = pass.later;
         nothing_else = λ t m _ w. inl (subst (λ (d : MemDiskValue). WasAt sent_by d.start d.calls t m) e w);

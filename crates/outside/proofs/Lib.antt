@@ -7,3 +7,4 @@ pub mod ScriptSteps
 pub mod HostCalls
 pub mod HostLinks
 pub mod ClockSteps
+pub mod CallCounts

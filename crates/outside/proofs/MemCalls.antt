@@ -7,7 +7,8 @@ use Rattle.outside.specs.Files.{Two, File, file_of, with_file, settled}
 use Rattle.outside.specs.Disk.{Writes, Cuts, Syncs, IsTorn, after_write, after_cut, overwritten}
 use Rattle.outside.specs.Links.{Links, Link, HeardOn, sent_of, no_links}
 use Rattle.outside.specs.Outside.{Moment, DiskCall}
-use Rattle.outside.specs.MemDisk.{Change, wrote, wrote_not, cut, cut_not, synced, KeptFile, changed, kept_after, both_kept, files_of, bytes_of, MemDiskValue, disk_files, Makes}
+use Rattle.outside.specs.Calls.{OneCall}
+use Rattle.outside.specs.MemDisk.{Change, wrote, wrote_not, cut, cut_not, synced, KeptFile, changed, kept_after, both_kept, files_of, bytes_of, MemDiskValue, disk_files, Makes, calls_of}
 use Rattle.outside.specs.MemTold.{WasAt, was_before, was_kept, mem_told, disk_told, no_links_told, no_links_heard, kept_after-push}
 
 -- ---- one file of two
@@ -68,17 +69,34 @@ change_made fine failed (Ok _) old new makes = (fine, makes.outcome.calls)
 change_made fine failed (Err _) old new makes =
     elim makes.outcome.outcome [ inl listed ↦ (failed, listed.calls) | inr untraced ↦ (None, untraced.calls ∙ sym (append-nil old.calls)) ]
 
+-- the calls go on with one more
+one_call : {T E : Type 0} (fine failed : Option Change) (result : Result T E) (old new : MemDiskValue) → Makes fine failed result old new → OneCall (calls_of old) (calls_of new)
+one_call fine failed result old new makes =
+    let more = change_made fine failed result old new makes in
+    record {
+      goes_on = record {
+        same_start = makes.counts.start;
+        same_failing = makes.counts.failing;
+        same_stop = makes.counts.stop;
+        more = option_to_list more.0;
+        grown = more.1;
+        later = makes.counts.later;
+      };
+      made = makes.counts.made;
+    }
+
 pub makes_told : {T E : Type 0} (sent_by : List Change → List (List ℕ)) (fine failed : Option Change) (result : Result T E) (old new : MemDiskValue) → Makes fine failed result old new
     → (links links' : Links) → links' ≡ links
     → (s : sent_by old.calls ≡ sent_of links.told) (t : (ls : List Link) → links.told ≡ Some ls → length ls ≡ links.dialled) (h : (hs : List HeardOn) → links.heard ≡ Some hs → length hs ≡ links.dialled)
     → (s' : sent_by new.calls ≡ sent_of links'.told) (t' : (ls : List Link) → links'.told ≡ Some ls → length ls ≡ links'.dialled) (h' : (hs : List HeardOn) → links'.heard ≡ Some hs → length hs ≡ links'.dialled)
-    → DiskCall (mem_told sent_by old.start old.calls links old.faults s t h) (mem_told sent_by new.start new.calls links' new.faults s' t' h')
+    → DiskCall (mem_told sent_by (calls_of old) links old.faults s t h) (mem_told sent_by (calls_of new) links' new.faults s' t' h')
 makes_told sent_by fine failed result old new makes links links' same s t h s' t' h' =
     let more = change_made fine failed result old new makes in
     let pass = passes sent_by old.start new.start old.calls new.calls more.0 makes.counts.start more.1 in
     record {
       same_links = same;
       same_told = refl;
+      calls = one_call fine failed result old new makes;
       time = record { later = pass.later; nothing_else = λ u m _ w. pass.nothing_else u m w; keeps = λ u m _ w. pass.keeps u m w };
     }
 

@@ -1,11 +1,10 @@
 -- One more piece read or written.
-use Rattle.std.proofs.Common.{◌≡◌, ℕ, ◌+◌, ◌-◌, ◌<◌, ◌≤◌, min, Bool, true, false, eqb, List, [], ◌++◌, length, take, drop, get_or, replicate, Option, sym, ap, ◌∙◌, subst, arith, length-take, length-drop, take-append-drop, inr}
+use Rattle.std.proofs.Common.{◌≡◌, ℕ, ◌+◌, ◌-◌, ◌<◌, ◌≤◌, min, Bool, true, eqb, List, [], ◌++◌, length, take, drop, get_or, replicate, Option, sym, ap, ◌∙◌, subst, arith, length-take, length-drop, take-append-drop, inr}
 use Rattle.std.specs.Io.KnownBytes.{Appends, Consumes}
 use Rattle.std.specs.List.{list_any}
 use Rattle.std.proofs.KnownBytes.{Appends-trans, Consumes-trans}
 use Rattle.std.proofs.Math.Seq.{take-add, take-append_seam}
 use Rattle.std.proofs.lemmas.List.{take_more, take-append-le, take_all, drop-drop, drop_all}
-use Rattle.std.proofs.lemmas.Bool.{false≢true}
 use Rattle.outside.specs.Faults.{is_listed, Rose}
 use Rattle.outside.specs.Input.{ReadsPart, ReadsTooMuch}
 use Rattle.outside.specs.Streams.{Stream, Gets}
@@ -63,6 +62,6 @@ nothing_left bytes buf copied at n len is_copied is_n is_len none room =
     let long : 0 < length buf = subst (λ (l : List ℕ). 0 < length l) same room in
     drop_all (at + n) bytes (omega arith)
 
--- a call that a list has is not one that it lacks
-pub listed_twice : (b : Bool) (given items : List ℕ) (call : ℕ) → b ≡ list_any (λ y. eqb y call) given → given ≡ items → b ≡ true → is_listed items call ≡ false → ⊥
-listed_twice b given items call is_any same has hasnt = false≢true (sym hasnt ∙ ap (λ l. is_listed l call) (sym same) ∙ sym is_any ∙ has)
+-- a call that was found in a list is one that it has
+pub listed_so : (b : Bool) (given items : List ℕ) (call : ℕ) → b ≡ list_any (λ y. eqb y call) given → given ≡ items → b ≡ true → is_listed items call ≡ true
+listed_so b given items call is_any same has = ap (λ l. is_listed l call) (sym same) ∙ sym is_any ∙ has

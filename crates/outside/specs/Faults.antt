@@ -1,5 +1,5 @@
 -- Counts of faults: they never fall, and a call answers a failure only where its count rose.
-use Rattle.std.specs.Prelude.{◌≡◌, ℕ, ◌+◌, ◌-◌, ◌^◌, ◌≤◌, ◌==◌, min, List, Bool, false, Result, OnErr, MatchResult}
+use Rattle.std.specs.Prelude.{◌≡◌, ℕ, ◌+◌, ◌-◌, ◌^◌, ◌≤◌, ◌==◌, min, List, Bool, false, if◌then◌else◌, Result, OnErr, MatchResult}
 use Rattle.std.specs.List.{list_any}
 
 -- a count after one more; a count of 64 bits stands still at its end
@@ -19,8 +19,13 @@ pub record HasCause {T E : Type 0} (before after : ℕ) (result : Result T E) : 
 abbrev pub is_listed : List ℕ → ℕ → Bool
 is_listed calls call = list_any (λ c. c == call) calls
 
--- the call failed exactly where the list has it or there was no memory for it, which the count `starved` tells
+-- a count of failures stays at a call that succeeds, and rises by one at one that fails
+abbrev pub CountsFailure : {T E : Type 0} → Result T E → ℕ → ℕ → Type 0
+CountsFailure result faults faults' = MatchResult result (λ _. faults' ≡ faults) (λ _. faults' ≡ one_more faults)
+
+-- The call failed exactly where the list has it or there was no memory for it; the count `starved` rises by one where
+-- that was so, and stays else.
 abbrev pub FailsAsListed : {T E : Type 0} → List ℕ → ℕ → ℕ → ℕ → Result T E → Type 0
 FailsAsListed failing call starved starved' result =
     MatchResult result (λ _. (is_listed failing call ≡ false) × (starved' ≡ starved))
-    (λ _. is_listed failing call ≡ false → Rose starved starved')
+    (λ _. starved' ≡ (if is_listed failing call then starved else one_more starved))

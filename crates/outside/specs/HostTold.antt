@@ -3,7 +3,7 @@ use Rattle.std.specs.Prelude.{◌≡◌, ℕ, zero, suc, List, [], ◌∷◌, �
 use Rattle.std.proofs.Common.{refl, sym, ap, ◌∙◌, arith, length-append}
 use Rattle.outside.specs.Links.{Links, Link, Answered, HeardOn, Planned, changed_at}
 use Rattle.outside.specs.Outside.{Outside}
-use Rattle.outside.specs.MemDisk.{Change, wrote, wrote_not, cut, cut_not, synced, dialled, sent, answered, hosted, links_after, link_changed, answers_after, answers_changed}
+use Rattle.outside.specs.MemDisk.{Change, wrote, wrote_not, cut, cut_not, synced, dialled, sent, answered, hosted, links_after, link_changed, answers_after, answers_changed, calls_of}
 use Rattle.outside.specs.MemTold.{mem_told}
 use Rattle.outside.specs.MemHost.{MemHostValue, Readings, readings_told, upcoming_of, plans_of}
 
@@ -66,5 +66,5 @@ each_heard calls failures heard had =
 
 abbrev pub host_told : MemHostValue → Outside
 host_told host =
-    mem_told sent_by host.disk.start host.disk.calls (links_told host.disk.calls host.silences host.faults host.clock host.scripts) host.disk.faults refl (each_told host.disk.calls)
+    mem_told sent_by (calls_of host.disk) (links_told host.disk.calls host.silences host.faults host.clock host.scripts) host.disk.faults refl (each_told host.disk.calls)
     (each_heard host.disk.calls (λ i. slice_index host.silences i))

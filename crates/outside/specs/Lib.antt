@@ -5,8 +5,10 @@ pub mod Input
 pub mod Files
 pub mod Links
 pub mod Planned
-pub mod Outside
+pub mod Changes
+pub mod Calls
 pub mod Disk
+pub mod Outside
 pub mod Host
 pub mod Silent
 pub mod Images

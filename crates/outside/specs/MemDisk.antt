@@ -12,19 +12,8 @@ use Rattle.outside.specs.Faults.{one_more, is_listed}
 use Rattle.outside.specs.Files.{Two, File, file_of, with_file, settled}
 use Rattle.outside.specs.Disk.{after_write, after_cut, overwritten}
 use Rattle.outside.specs.Links.{Link, Reply, got, idle, ended, Answered, changed_at, with_sent}
-
--- a call that changed something: a write or a cut of a file, one that failed, a sync, a dial, bytes sent on a link, an
--- answer of a link; or a host was made over the disk
-pub data Change : Type 0 where
-  wrote : ℕ → ℕ → List ℕ → Change
-  wrote_not : ℕ → ℕ → List ℕ → Change
-  cut : ℕ → ℕ → Change
-  cut_not : ℕ → ℕ → Change
-  synced : ℕ → Change
-  dialled : List ℕ → Change
-  sent : ℕ → List ℕ → Change
-  answered : ℕ → Answered → Change
-  hosted : Change
+use Rattle.outside.specs.Calls.{Calls}
+pub use Rattle.outside.specs.Changes.{Change, wrote, wrote_not, cut, cut_not, synced, dialled, sent, answered, hosted}
 
 abbrev pub reply_of : KeptReply → Reply
 reply_of (kept_as.Got bytes) = got bytes.items
@@ -144,6 +133,10 @@ pub record MemDiskValue : Type 0 where
   pub faults : ℕ
   pub starved : ℕ
 
+-- what a disk in memory tells of its calls
+abbrev pub calls_of : MemDiskValue → Calls
+calls_of disk = record { start = disk.start; changes = disk.calls; failing = disk.failing; stop = disk.stop; made = disk.made }
+
 -- a disk with a call more
 abbrev pub with_call : Change → MemDiskValue → MemDiskValue
 with_call call disk = record disk { calls = disk.calls ++ call ∷ [] }
@@ -177,6 +170,7 @@ pub record Counts (old new : MemDiskValue) : Type 0 where
   pub failing : new.failing ≡ old.failing
   pub stop : new.stop ≡ old.stop
   pub made : new.made ≡ one_more old.made
+  pub later : old.made ≤ new.made
 
 -- a call that is not to fail and was made, with this change
 pub record WasMade (fine : Option Change) (old new : MemDiskValue) : Type 0 where

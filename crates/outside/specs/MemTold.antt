@@ -8,7 +8,8 @@ use Rattle.outside.specs.Disk.{after_write, after_cut, overwritten}
 use Rattle.outside.specs.Images.{image_wrote, image_unwritten, image_cut, image_uncut, settled_image, padded_le}
 use Rattle.outside.specs.Links.{Links, Link, HeardOn, sent_of, no_links}
 use Rattle.outside.specs.Outside.{Outside, Moment, IsNow}
-use Rattle.outside.specs.MemDisk.{MemDiskValue, Change, wrote, wrote_not, cut, cut_not, synced, dialled, sent, answered, hosted, KeptFile, kept, changed, kept_after, both_kept, files_of, after_wrote, after_wrote_not, link_changed, links_after}
+use Rattle.outside.specs.Calls.{Calls}
+use Rattle.outside.specs.MemDisk.{MemDiskValue, Change, wrote, wrote_not, cut, cut_not, synced, dialled, sent, answered, hosted, KeptFile, kept, changed, kept_after, both_kept, files_of, after_wrote, after_wrote_not, link_changed, links_after, calls_of}
 
 -- ---- what is kept is sound: the bytes as they read, the bytes at the last sync and the bytes of all writes are images
 
@@ -185,21 +186,22 @@ module _ (sent_by : List Change → List (List ℕ)) (start : Two (List ℕ)) (c
   pub told_since : (t : ℕ) (m : Moment) → t ≤ length calls → WasAt sent_by start calls (length calls) m → WasAt sent_by start calls t m
   told_since t m before w = record { made = w.made; since = omega (arith, w.since, before); until = w.until; image = w.image; sent = w.sent }
 
-abbrev pub mem_told : (sent_by : List Change → List (List ℕ)) (start : Two (List ℕ)) (calls : List Change) (links : Links) → ℕ
-    → sent_by calls ≡ sent_of links.told
+abbrev pub mem_told : (sent_by : List Change → List (List ℕ)) (calls : Calls) (links : Links) → ℕ
+    → sent_by calls.changes ≡ sent_of links.told
     → ((links' : List Link) → links.told ≡ Some links' → length links' ≡ links.dialled)
     → ((heard : List HeardOn) → links.heard ≡ Some heard → length heard ≡ links.dialled)
     → Outside
-mem_told sent_by start calls links faults sent_is all_told all_heard = record {
-  files = Some (files_at start calls);
+mem_told sent_by calls links faults sent_is all_told all_heard = record {
+  files = Some (files_at calls.start calls.changes);
   links = links;
-  clock = length calls;
-  moments = WasAt sent_by start calls;
+  clock = length calls.changes;
+  moments = WasAt sent_by calls.start calls.changes;
   disk_faults = faults;
-  now_is = told_now_is sent_by start calls links sent_is;
-  is_now = told_is_now sent_by start calls links sent_is;
-  reads = told_reads sent_by start calls links sent_is;
-  since = told_since sent_by start calls links sent_is;
+  calls = Some calls;
+  now_is = told_now_is sent_by calls.start calls.changes links sent_is;
+  is_now = told_is_now sent_by calls.start calls.changes links sent_is;
+  reads = told_reads sent_by calls.start calls.changes links sent_is;
+  since = told_since sent_by calls.start calls.changes links sent_is;
   all_told = all_told;
   all_heard = all_heard;
 }
@@ -212,4 +214,4 @@ pub no_links_heard : (heard : List HeardOn) → Some [] ≡ Some heard → lengt
 no_links_heard heard had = let same : [] ≡ heard = cc in ap length (sym same)
 
 abbrev pub disk_told : MemDiskValue → Outside
-disk_told disk = mem_told (λ _. []) disk.start disk.calls no_links disk.faults refl no_links_told no_links_heard
+disk_told disk = mem_told (λ _. []) (calls_of disk) no_links disk.faults refl no_links_told no_links_heard

@@ -1,5 +1,7 @@
 -- What an object tells of the outside: files, links, time, and what a crash at each moment would leave.
-use Rattle.std.specs.Prelude.{◌≡◌, ◌⊎◌, ℕ, ◌≤◌, List, length, Option, Some, is_some}
+use Rattle.std.specs.Prelude.{◌≡◌, ◌⊎◌, ℕ, ◌+◌, ◌≤◌, List, length, Option, Some, is_some, Result, OnOk}
+use Rattle.outside.specs.Calls.{Calls, CallsGoOn, OneCall, NoCall, more_calls}
+use Rattle.outside.specs.Disk.{Becomes}
 use Rattle.outside.specs.Files.{Two, File, IsImage, read_files}
 use Rattle.outside.specs.Links.{Links, HeardOn, Link, sent_of}
 
@@ -22,6 +24,8 @@ pub record Outside : Type 1 where
   pub clock : ℕ
   pub moments : ℕ → Moment → Type 0
   pub disk_faults : ℕ
+  -- the calls made of the disk, where they are told
+  pub calls : Option Calls
   -- the moments of now are those that are possible now, and the files as they read are among the images
   pub now_is : (two : Two File) (m : Moment) → files ≡ Some two → moments clock m → IsNow two links m
   pub is_now : (two : Two File) (m : Moment) → files ≡ Some two → IsNow two links m → moments clock m
@@ -41,12 +45,14 @@ pub record Elapses (old new : Outside) (during : Moment → Type 0) : Type 0 whe
 pub record DiskCall (old new : Outside) : Type 0 where
   pub same_links : new.links ≡ old.links
   pub same_told : is_some new.files ≡ is_some old.files
+  pub calls : Becomes OneCall old.calls new.calls
   pub time : Elapses old new (new.moments new.clock)
 
 -- a call on the links or the clock, with its own moments: the disk stays
 pub record LinkCall (during : Moment → Type 0) (old new : Outside) : Type 0 where
   pub same_files : new.files ≡ old.files
   pub same_faults : new.disk_faults ≡ old.disk_faults
+  pub calls : Becomes NoCall old.calls new.calls
   pub time : Elapses old new during
 
 -- the same of a call that sends nothing
@@ -64,9 +70,23 @@ pub record DiskRun (old new : Outside) : Type 0 where
   pub same_links : new.links ≡ old.links
   pub same_told : is_some new.files ≡ is_some old.files
   pub later : old.disk_faults ≤ new.disk_faults
+  pub calls : Becomes CallsGoOn old.calls new.calls
 
 -- a run of calls that only read
 pub record Looks (old new : Outside) : Type 0 where
   pub same_files : new.files ≡ old.files
   pub run : DiskRun old new
   pub moments : (two : Two File) → old.files ≡ Some two → MomentsAre old new (IsNow two old.links)
+
+-- ---- how many calls of the disk a run makes, where they are told: just so many, or no more
+
+pub record MakesJust (n : ℕ) (old new : Outside) : Type 0 where
+  pub made : Becomes (λ (a b : Calls). b.made ≡ more_calls n a.made) old.calls new.calls
+
+pub record MakesAtMost (n : ℕ) (old new : Outside) : Type 0 where
+  pub made : Becomes (λ (a b : Calls). b.made ≤ a.made + n) old.calls new.calls
+
+-- just so many where it succeeds, and no more where it fails
+pub record MakesCalls {T E : Type 0} (n : ℕ) (result : Result T E) (old new : Outside) : Type 0 where
+  pub just : OnOk result (MakesJust n old new)
+  pub most : MakesAtMost n old new

@@ -12,7 +12,9 @@ use Rattle.outside.specs.declared.host.Heard.TheVariants as heard
 use Rattle.outside.specs.Files.{Two, File, IsImage}
 use Rattle.outside.specs.Links.{Link, Links, Reply, got, idle, ended, Answered, HeardOn, nothing_heard, changed_at, with_sent, sent_of, Planned}
 use Rattle.outside.specs.Outside.{Outside, Moment, IsNow, DiskCall, LinkCall, QuietCall, DiskRun}
+use Rattle.outside.specs.Calls.{CallsGoOn}
 use Rattle.outside.specs.Disk.{Becomes}
+use Rattle.outside.specs.Steps.{calls_none, calls_then, calls_call, calls_link}
 use Rattle.outside.specs.Planned.{AnswersAsPlanned, UsesReading}
 use Rattle.outside.specs.Host.{LinkCause, Dials, AsksNonce, Hears, hear, Sends, SendsPart, ReadsClock, Grows}
 
@@ -198,6 +200,7 @@ pub record HostRun (old new : Outside) : Type 0 where
   pub later : old.disk_faults ≤ new.disk_faults
   pub clock : old.clock ≤ new.clock
   pub links : LinksGrow old.links new.links
+  pub calls : Becomes CallsGoOn old.calls new.calls
 
 reads_same : (old new : Option (List ℕ)) → new ≡ old → ReadsOn old new
 reads_same None None same = tt
@@ -353,7 +356,7 @@ grow_read reading old new r = record {
 -- ---- runs
 
 pub host_none : (o : Outside) → HostRun o o
-host_none o = record { same_files = refl; later = omega arith; clock = omega arith; links = grow_same o.links o.links refl }
+host_none o = record { same_files = refl; later = omega arith; clock = omega arith; links = grow_same o.links o.links refl; calls = calls_none o }
 
 -- one call more on the disk, and one on a link or the clock
 pub host_disk : (o0 o o' : Outside) → HostRun o0 o → DiskCall o o' → o.disk_faults ≤ o'.disk_faults → HostRun o0 o'
@@ -362,6 +365,7 @@ host_disk o0 o o' run call later = record {
   later = omega (arith, run.later, later);
   clock = omega (arith, run.clock, call.time.later);
   links = grow_then o0.links o.links o'.links run.links (grow_same o.links o'.links call.same_links);
+  calls = calls_call o0 o o' run.calls call;
 }
 
 pub host_link : (during : Moment → Type 0) (o0 o o' : Outside) → HostRun o0 o → LinkCall during o o' → LinksGrow o.links o'.links → HostRun o0 o'
@@ -370,6 +374,7 @@ host_link during o0 o o' run call grows = record {
   later = omega (arith, run.later, call.same_faults);
   clock = omega (arith, run.clock, call.time.later);
   links = grow_then o0.links o.links o'.links run.links grows;
+  calls = calls_link during o0 o o' run.calls call;
 }
 
 pub host_then : (o0 o1 o2 : Outside) → HostRun o0 o1 → HostRun o1 o2 → HostRun o0 o2
@@ -378,11 +383,12 @@ host_then o0 o1 o2 first second = record {
   later = omega (arith, first.later, second.later);
   clock = omega (arith, first.clock, second.clock);
   links = grow_then o0.links o1.links o2.links first.links second.links;
+  calls = calls_then o0 o1 o2 first.calls second.calls;
 }
 
 -- a run on the disk alone is one
 pub host_run : (o o' : Outside) → DiskRun o o' → o.clock ≤ o'.clock → HostRun o o'
-host_run o o' run clock = record { same_files = run.same_told; later = run.later; clock = clock; links = grow_same o.links o'.links run.same_links }
+host_run o o' run clock = record { same_files = run.same_told; later = run.later; clock = clock; links = grow_same o.links o'.links run.same_links; calls = run.calls }
 
 -- ---- told-ness, back and on
 

@@ -19,6 +19,7 @@ silent disk_faults dialled faults = record {
   clock = 0;
   moments = λ _ _. Unit {0};
   disk_faults = disk_faults;
+  calls = None;
   now_is = λ two _ told _. not_told two told;
   is_now = λ two _ told _. not_told two told;
   reads = λ two told. not_told two told;

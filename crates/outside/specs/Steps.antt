@@ -1,10 +1,12 @@
 -- Laws for callers: runs of calls on a disk, one call more at a time.
-use Rattle.std.specs.Prelude.{◌≡◌, ℕ, zero, suc, ◌≤◌, List, take, length, true, Option, None, Some, Ok, Err, is_some}
-use Rattle.std.proofs.Common.{refl, sym, ap, ◌∙◌, subst, inl, inr, arith}
+use Rattle.std.specs.Prelude.{◌≡◌, ℕ, zero, suc, ◌≤◌, List, [], ◌++◌, take, length, true, Option, None, Some, Ok, Err, is_some}
+use Rattle.std.proofs.Common.{refl, sym, ap, ◌∙◌, subst, inl, inr, arith, append-nil, append_assoc}
 use Rattle.outside.specs.declared.failed.Failed.{Failed}
 use Rattle.outside.specs.Files.{Two, File, IsFileImage, IsImage, file_of, with_file, settled}
 use Rattle.outside.specs.Links.{Links, sent_of}
-use Rattle.outside.specs.Outside.{Outside, Moment, IsNow, Elapses, DiskCall, MomentsAre, DiskRun, Looks}
+use Rattle.outside.specs.Outside.{Outside, Moment, IsNow, Elapses, DiskCall, LinkCall, MomentsAre, DiskRun, Looks}
+use Rattle.outside.specs.Calls.{Calls, CallsGoOn, OneCall, NoCall}
+use Rattle.outside.specs.Changes.{Change}
 use Rattle.outside.specs.Disk.{Becomes, Writes, Cuts, Syncs, after_write, after_cut, overwritten}
 
 -- ---- the two files
@@ -84,16 +86,64 @@ moments_then o0 o1 o2 P first second = record {
       elim (second.before t m earlier w) [ inl old ↦ first.before t m before old | inr p ↦ inr p ];
 }
 
+-- ---- the calls made of a disk
+
+pub becomes_none : {A : Type 0} (step : A → A → Type 0) (o : Option A) → ((a : A) → step a a) → Becomes step o o
+becomes_none step None stay = tt
+becomes_none step (Some a) stay = stay a
+
+pub becomes_map : {A : Type 0} (step step' : A → A → Type 0) (old new : Option A) → ((a b : A) → step a b → step' a b) → Becomes step old new → Becomes step' old new
+becomes_map step step' None None weaker becomes = tt
+becomes_map step step' None (Some b) weaker becomes = absurd becomes
+becomes_map step step' (Some a) None weaker becomes = absurd becomes
+becomes_map step step' (Some a) (Some b) weaker becomes = weaker a b becomes
+
+pub becomes_then : {A : Type 0} (first second both : A → A → Type 0) (o0 o1 o2 : Option A) → ((a b c : A) → first a b → second b c → both a c)
+    → Becomes first o0 o1 → Becomes second o1 o2 → Becomes both o0 o2
+becomes_then first second both None None None joined f s = tt
+becomes_then first second both None None (Some c) joined f s = absurd s
+becomes_then first second both None (Some b) o2 joined f s = absurd f
+becomes_then first second both (Some a) None o2 joined f s = absurd f
+becomes_then first second both (Some a) (Some b) None joined f s = absurd s
+becomes_then first second both (Some a) (Some b) (Some c) joined f s = joined a b c f s
+
+pub go_on_none : (a : Calls) → CallsGoOn a a
+go_on_none a = record { same_start = refl; same_failing = refl; same_stop = refl; more = []; grown = sym (append-nil a.changes); later = omega arith }
+
+pub go_on_then : (a b c : Calls) → CallsGoOn a b → CallsGoOn b c → CallsGoOn a c
+go_on_then a b c first second = record {
+  same_start = second.same_start ∙ first.same_start;
+  same_failing = second.same_failing ∙ first.same_failing;
+  same_stop = second.same_stop ∙ first.same_stop;
+  more = first.more ++ second.more;
+  grown = second.grown ∙ ap (λ (l : List Change). l ++ second.more) first.grown ∙ append_assoc a.changes first.more second.more;
+  later = omega (arith, first.later, second.later);
+}
+
+pub calls_none : (o : Outside) → Becomes CallsGoOn o.calls o.calls
+calls_none o = becomes_none CallsGoOn o.calls go_on_none
+
+pub calls_then : (o0 o1 o2 : Outside) → Becomes CallsGoOn o0.calls o1.calls → Becomes CallsGoOn o1.calls o2.calls → Becomes CallsGoOn o0.calls o2.calls
+calls_then o0 o1 o2 first second = becomes_then CallsGoOn CallsGoOn CallsGoOn o0.calls o1.calls o2.calls go_on_then first second
+
+-- one call more of the disk, and one on a link or the clock
+pub calls_call : (o0 o o' : Outside) → Becomes CallsGoOn o0.calls o.calls → DiskCall o o' → Becomes CallsGoOn o0.calls o'.calls
+calls_call o0 o o' run call = calls_then o0 o o' run (becomes_map OneCall CallsGoOn o.calls o'.calls (λ a b one. one.goes_on) call.calls)
+
+pub calls_link : (during : Moment → Type 0) (o0 o o' : Outside) → Becomes CallsGoOn o0.calls o.calls → LinkCall during o o' → Becomes CallsGoOn o0.calls o'.calls
+calls_link during o0 o o' run call = calls_then o0 o o' run (becomes_map NoCall CallsGoOn o.calls o'.calls (λ a b none. none.goes_on) call.calls)
+
 -- ---- what no run of calls on a disk changes
 
 pub run_none : (o : Outside) → DiskRun o o
-run_none o = record { same_links = refl; same_told = refl; later = omega arith }
+run_none o = record { same_links = refl; same_told = refl; later = omega arith; calls = calls_none o }
 
 pub run_call : (o0 o o' : Outside) → DiskRun o0 o → DiskCall o o' → o.disk_faults ≤ o'.disk_faults → DiskRun o0 o'
 run_call o0 o o' run call later = record {
   same_links = call.same_links ∙ run.same_links;
   same_told = call.same_told ∙ run.same_told;
   later = omega (arith, run.later, later);
+  calls = calls_call o0 o o' run.calls call;
 }
 
 pub run_then : (o0 o1 o2 : Outside) → DiskRun o0 o1 → DiskRun o1 o2 → DiskRun o0 o2
@@ -101,6 +151,7 @@ run_then o0 o1 o2 first second = record {
   same_links = second.same_links ∙ first.same_links;
   same_told = second.same_told ∙ first.same_told;
   later = omega (arith, first.later, second.later);
+  calls = calls_then o0 o1 o2 first.calls second.calls;
 }
 
 -- ---- calls that only read

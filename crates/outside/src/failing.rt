@@ -1,5 +1,5 @@
 //! Which calls are to fail.
-ghost use Rattle.std.specs.Prelude.{◌≡◌, [], ◌∷◌, ◌++◌, OnOk, OnErr};
+ghost use Rattle.std.specs.Prelude.{◌≡◌, ◌≤◌, [], ◌∷◌, ◌++◌, OnOk, OnErr};
 ghost use Rattle.outside.specs.MemHost.{Schedule, one_made, is_due};
 
 use std::alloc::{AllocError, Global};
@@ -59,6 +59,7 @@ impl Failing {
     pub fn next(&mut self) -> bool
         ensures due { result ≡ is_due self.old }
         ensures counts { self.new ≡ one_made self.old }
+        ensures later { self.old.made ≤ self.new.made }
     {
         let call = self.made;
         self.made = call.saturating_add(1);

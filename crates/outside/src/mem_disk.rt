@@ -158,6 +158,7 @@ impl MemDisk {
     fn due(&mut self) -> Due
         ensures due { IsDue self.old result }
         ensures counts { self.new ≡ record self.old { made = one_more self.old.made } }
+        ensures later { self.old.made ≤ self.new.made }
     {
         let made = self.failing.made();
         let stopped = self.stop.is_some_and(|stop| stop <= made);

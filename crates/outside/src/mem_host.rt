@@ -588,7 +588,14 @@ impl Host for MemHost {
         self.make_send(link, bytes)
     }
 
-    fn hang_up(&mut self, _link: u8) {}
+    fn hang_up(&mut self, _link: u8)
+        requires { _link < length (links_of self.old.disk) }
+        ensures call { QuietCall (host_told self.old) (host_told self.new) }
+        ensures links { (host_told self.new).links ≡ (host_told self.old).links }
+        ensures same { self.new ≡ self.old }
+    {
+        // What is heard and sent afterwards is as before: a script answers whoever asks.
+    }
 
     fn now(&mut self) -> u64
         ensures call { QuietCall (host_told self.old) (host_told self.new) }

@@ -1,7 +1,7 @@
 //! A sink into memory.
 ghost use Rattle.std.specs.Prelude.{◌≡◌, ◌<◌, ◌≤◌, [], length, Some, IfOk};
 ghost use Rattle.std.specs.Io.KnownBytes.{WriteAppends};
-ghost use Rattle.outside.specs.Faults.{HasCause, FailsAsListed, one_more};
+ghost use Rattle.outside.specs.Faults.{HasCause, CountsFailure, FailsAsListed, one_more};
 ghost use Rattle.outside.specs.MemStreams.{SinkValue};
 
 use crate::{Failed, Sink};
@@ -78,10 +78,12 @@ impl Sink for MemSink {
         ensures bytes { WriteAppends (Some self.old.bytes) (Some self.new.bytes) result bytes.now }
         ensures cause { HasCause self.old.faults self.new.faults result }
 
-        // It fails exactly where the list says so or there was no memory, and else takes all bytes.
+        // It fails exactly where the list says so or there was no memory, and else takes all bytes;
+        // its counts rise by one, and only where their cause is.
         ensures fails { FailsAsListed self.old.failing self.old.calls self.old.starved
             self.new.starved result }
         ensures takes { IfOk result (λ n. n ≡ length bytes.now) }
+        ensures counts { CountsFailure result self.old.faults self.new.faults }
         ensures calls { self.new.calls ≡ one_more self.old.calls }
         ensures failing { self.new.failing ≡ self.old.failing }
     {

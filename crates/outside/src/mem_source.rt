@@ -2,7 +2,7 @@
 ghost use Rattle.std.specs.Prelude.{◌≡◌, ℕ, ◌+◌, ◌-◌, ◌^◌, ◌≤◌, min, length, drop, Some, IfOk};
 ghost use Rattle.std.specs.Prelude.{IfErr, OnErr, OnOk, is_err};
 ghost use Rattle.std.specs.Io.KnownBytes.{ReadConsumes};
-ghost use Rattle.outside.specs.Faults.{HasCause, one_more, is_listed};
+ghost use Rattle.outside.specs.Faults.{HasCause, CountsFailure, one_more, is_listed};
 ghost use Rattle.outside.specs.MemStreams.{SourceValue};
 
 use crate::{Failed, Source};
@@ -68,6 +68,7 @@ impl Source for MemSource {
         // left.
         ensures fails { is_err result ≡ is_listed self.old.failing self.old.calls }
         ensures fills { IfOk result (λ n. n ≡ min (length buf.new) (length self.old.left)) }
+        ensures counts { CountsFailure result self.old.faults self.new.faults }
         ensures calls { self.new.calls ≡ one_more self.old.calls }
         ensures failing { self.new.failing ≡ self.old.failing }
     {

@@ -1,3 +1,4 @@
+pub mod Known
 pub mod Links
 pub mod Slots
 pub mod Taking

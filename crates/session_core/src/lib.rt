@@ -10,4 +10,4 @@ mod taking;
 
 pub use links::{keep, versions_ok};
 pub use outputs::due;
-pub use taking::take;
+pub use taking::{take, take_known};

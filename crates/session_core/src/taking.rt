@@ -1,12 +1,12 @@
 //! What a record that was heard is taken as.
 ghost use Rattle.std.specs.Prelude.{◌≡◌, ◌<◌, ◌-◌, ◌++◌, ◌&&◌, false, not, length, slice_get, IfOk};
 ghost use Rattle.std.specs.Prelude.{OnOk, MatchOption};
-ghost use Rattle.std.specs.Option.{option_to_list};
 ghost use Rattle.sync_rules.specs.Facts.{is_invisible, level_at, row_at, wanted_from};
 ghost use Rattle.sync_rules.specs.Sessions.{is_remembered, is_shown, room_after, taken_acks};
 ghost use Rattle.sync_rules.specs.Sessions.{taken_from, taken_message, taken_offer, taken_offers};
 ghost use Rattle.sync_rules.specs.Sessions.{taken_requests};
 ghost use Rattle.sync_rules.specs.Views.{group_in};
+ghost use Rattle.session_core.specs.Known.{id_arrived, IsOfAll};
 ghost use Rattle.session_core.specs.Taking.{IsShownPlace, take_of};
 
 use crate::first_ids::first_ids;
@@ -25,41 +25,63 @@ pub fn take<V: View>(
 ) -> Result<Batch, AllocError>
     ensures { IfOk result (λ batch. batch ≡ take_of (V.seen view.now).facts session.now k rec) }
 {
+    let (batch, _) = take_known(alloc, view, session, k, rec)?;
+    Ok(batch)
+}
+
+/// The same batch, and the id of the message that arrives by it, which had to be computed; `None`
+/// where none arrives. It fails only for want of memory.
+#[tactic(auto, using(crate::proofs::Arrived::record_names))]
+pub fn take_known<V: View>(
+    alloc: Global,
+    view: &V,
+    session: &Session,
+    k: u64,
+    rec: Record,
+) -> Result<(Batch, Option<MessageId>), AllocError>
+    ensures batch { IfOk result (λ taken. taken.0 ≡ take_of (V.seen view.now).facts session.now k
+        rec) }
+    ensures id { IfOk result (λ taken. taken.1 ≡ id_arrived taken.0) }
+    ensures named { IfOk result (λ taken. IsOfAll taken.1 taken.0) }
+{
     let mut entries = Vec::new(alloc);
     entries.push(Entry::Take(session.number, k))?;
-    add_record(alloc, view, session, rec, &mut entries)?;
+    let id = add_record(alloc, view, session, rec, &mut entries)?;
     match Batch::new(entries) {
-        Ok(batch) => Ok(batch),
+        Ok(batch) => Ok((batch, id)),
         Err(_) => unreachable!(),
     }
 }
 
-// Adds what a record is taken as.
+// Adds what a record is taken as, and answers the id of the message that arrives by it.
+#[tactic(auto, using(crate::proofs::Arrived::none_by_acks, crate::proofs::Arrived::none_by_offers, crate::proofs::Arrived::none_by_requests))]
 fn add_record<V: View>(
     alloc: Global,
     view: &V,
     session: &Session,
     rec: Record,
     entries: &mut Vec<Entry>,
-) -> Result<(), AllocError>
-    ensures { OnOk result (entries.new.items ≡ entries.old.items ++ taken_from
+) -> Result<Option<MessageId>, AllocError>
+    ensures entries { OnOk result (entries.new.items ≡ entries.old.items ++ taken_from
         (V.seen view.now).facts session.now.number session.now.contact rec) }
+    ensures id { IfOk result (λ id. id ≡ id_arrived (taken_from (V.seen view.now).facts
+        session.now.number session.now.contact rec)) }
 {
     match rec {
+        Record::Message(message) => add_message(view, session, message, entries),
         Record::Ack(ids) => {
             let ids = first_ids(alloc, ids.as_slice())?;
-            add_acks(view, session, ids.as_slice(), entries)
+            add_acks(view, session, ids.as_slice(), entries).map(|()| None)
         }
-        Record::Message(message) => add_message(view, session, message, entries),
         Record::Offer(ids) => {
             let ids = first_ids(alloc, ids.as_slice())?;
-            add_offers(view, session, ids.as_slice(), entries)
+            add_offers(view, session, ids.as_slice(), entries).map(|()| None)
         }
         Record::Request(ids) => {
             let ids = first_ids(alloc, ids.as_slice())?;
-            add_requests(view, session, ids.as_slice(), entries)
+            add_requests(view, session, ids.as_slice(), entries).map(|()| None)
         }
-        Record::Versions(_) | Record::Priority(_) => Ok(()),
+        Record::Versions(_) | Record::Priority(_) => Ok(None),
     }
 }
 
@@ -89,38 +111,32 @@ fn find_shown<V: View>(view: &V, contact: u8, id: &MessageId) -> Option<u32>
 
 // ---- a message
 
+// Adds what a message is taken as, and answers its id where it arrives.
 fn add_message<V: View>(
     view: &V,
     session: &Session,
     message: Message,
     entries: &mut Vec<Entry>,
-) -> Result<(), AllocError>
-    ensures { OnOk result (entries.new.items ≡ entries.old.items ++ taken_message
+) -> Result<Option<MessageId>, AllocError>
+    ensures entries { OnOk result (entries.new.items ≡ entries.old.items ++ taken_message
         (V.seen view.now).facts session.now.number session.now.contact message) }
-{
-    if let Some(entry) = message_entry(view, session, message) {
-        entries.push(entry)?;
-    }
-    Ok(())
-}
-
-// What a message is taken as.
-fn message_entry<V: View>(view: &V, session: &Session, message: Message) -> Option<Entry>
-    ensures { option_to_list result ≡ taken_message (V.seen view.now).facts session.now.number
-        session.now.contact message }
+    ensures id { IfOk result (λ id. id ≡ id_arrived (taken_message (V.seen view.now).facts
+        session.now.number session.now.contact message)) }
 {
     if view.level(session.contact, &message.group()) == Level::Invisible {
-        return None;
+        return Ok(None);
     }
     let id = id_of(&message);
     match view.find(&id) {
-        None => Some(Entry::Arrive(session.number, message)),
+        None => {
+            entries.push(Entry::Arrive(session.number, message))?;
+            Ok(Some(id))
+        }
         Some(number) => {
             if is_shown_at(view, session.contact, number) {
-                Some(Entry::Again(session.number, id))
-            } else {
-                None
+                entries.push(Entry::Again(session.number, id))?;
             }
+            Ok(None)
         }
     }
 }

@@ -89,13 +89,13 @@ printed_ends clients settling j e out out' _ two added p = absurd p
 
 -- what is told of a batch, for the batch of an entry
 of_entry : (clients : Meaning) (settling : Settling) (o o2 : Outside) (j : List (List Entry)) (e : Entry) (batch : List Entry) (result : Result (Unit {0}) Outcome) → batch ≡ e ∷ []
-    → ExtendsTold clients j batch (IsAdded clients settling j batch) o o2 result → ExtendsTold clients j (e ∷ []) (IsAdded clients settling j (e ∷ [])) o o2 result
+    → ExtendsTold clients settling j batch o o2 result → ExtendsTold clients settling j (e ∷ []) o o2 result
 of_entry clients settling o o2 j e batch result is told =
-    subst (λ (b : List Entry). ExtendsTold clients j b (IsAdded clients settling j b) o o2 result) is told
+    subst (λ (b : List Entry). ExtendsTold clients settling j b o o2 result) is told
 
 pub entry_printed : (clients : Meaning) (settling : Settling) (s : StoreValue) (e : Entry) (o o2 : Outside) (out out' : Stream) (text : List ℕ) (batch : List Entry) (u : Unit {0}) (came : Outcome)
     → batch ≡ e ∷ [] → text ≡ added_text e → DiskRun o o2
-    → ((two : Two File) → o.files ≡ Some two → (j : List (List Entry)) → Fits clients s j two → ExtendsTold clients j batch (IsAdded clients settling j batch) o o2 (Ok u))
+    → ((two : Two File) → o.files ≡ Some two → (j : List (List Entry)) → Fits clients s j two → ExtendsTold clients settling j batch o o2 (Ok u))
     → PrintsText text out out' came → EntryAdded clients settling s e o o2 out out' came
 entry_printed clients settling s e o o2 out out' text batch u came is line run told printed =
     let p : PrintsText (added_text e) out out' came = subst (λ (t : List ℕ). PrintsText t out out' came) line printed in
@@ -122,16 +122,16 @@ failed_late o o2 outcome.DiskFault by = refl
 failed_late o o2 outcome.Memory by = refl
 failed_late o o2 _ by = absurd by
 
-failed_ends : (clients : Meaning) (settling : Settling) (o o2 : Outside) (j : List (List Entry)) (e : Entry) (out out' : Stream) (came : Outcome) (P : Two File → Type 0) (two : Two File)
-    → ExtendsBy o o2 (Err came) → ExtendsEnds clients j (e ∷ []) P (Err came) two → EntryEnds clients settling j e out out' came two
-failed_ends clients settling o o2 j e out out' outcome.Full P two by ends = ends
-failed_ends clients settling o o2 j e out out' outcome.DiskFault P two by ends = tt
-failed_ends clients settling o o2 j e out out' outcome.Memory P two by ends = tt
-failed_ends clients settling o o2 j e out out' _ P two by ends = absurd by
+failed_ends : (clients : Meaning) (settling : Settling) (o o2 : Outside) (j : List (List Entry)) (e : Entry) (out out' : Stream) (came : Outcome) (two : Two File)
+    → ExtendsBy o o2 (Err came) → ExtendsEnds clients settling j (e ∷ []) (Err came) two → EntryEnds clients settling j e out out' came two
+failed_ends clients settling o o2 j e out out' outcome.Full two by ends = ends
+failed_ends clients settling o o2 j e out out' outcome.DiskFault two by ends = tt
+failed_ends clients settling o o2 j e out out' outcome.Memory two by ends = tt
+failed_ends clients settling o o2 j e out out' _ two by ends = absurd by
 
 pub entry_failed : (clients : Meaning) (settling : Settling) (s : StoreValue) (e : Entry) (o o2 : Outside) (out out' : Stream) (batch : List Entry) (came : Outcome)
     → batch ≡ e ∷ [] → IsIdle out out' → DiskRun o o2 → ExtendsBy o o2 (Err came)
-    → ((two : Two File) → o.files ≡ Some two → (j : List (List Entry)) → Fits clients s j two → ExtendsTold clients j batch (IsAdded clients settling j batch) o o2 (Err came))
+    → ((two : Two File) → o.files ≡ Some two → (j : List (List Entry)) → Fits clients s j two → ExtendsTold clients settling j batch o o2 (Err came))
     → EntryAdded clients settling s e o o2 out out' came
 entry_failed clients settling s e o o2 out out' batch came is idle run by told = record {
   run = run;
@@ -139,5 +139,5 @@ entry_failed clients settling s e o o2 out out' batch came is idle run by told =
   late = failed_late o o2 came by;
   told = λ two files j fits.
       let went = of_entry clients settling o o2 j e batch (Err came) is (told two files j fits) in
-      record { moments = went.moments; ends = λ two' files'. failed_ends clients settling o o2 j e out out' came (IsAdded clients settling j (e ∷ [])) two' by (went.ends two' files') };
+      record { moments = went.moments; ends = λ two' files'. failed_ends clients settling o o2 j e out out' came two' by (went.ends two' files') };
 }

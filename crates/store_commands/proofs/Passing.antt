@@ -33,9 +33,9 @@ module _ (r : Result (Unit {0}) Outcome) (x : Outcome) (is : IsErrAnd r (λ e. e
   pub by_on : (o o' : Outside) → ExtendsBy o o' (Err x) → ExtendsBy o o' r
   by_on o o' = passed_on (λ (q : Result (Unit {0}) Outcome). ExtendsBy o o' q) r x is
 
-  pub told_on_error : (clients : Meaning) (j : List (List Entry)) (batch : List Entry) (P : Two File → Type 0) (o o' : Outside) → ExtendsTold clients j batch P o o' (Err x)
-      → ExtendsTold clients j batch P o o' r
-  told_on_error clients j batch P o o' = passed_on (λ (q : Result (Unit {0}) Outcome). ExtendsTold clients j batch P o o' q) r x is
+  pub told_on_error : (clients : Meaning) (settling : Settling) (j : List (List Entry)) (batch : List Entry) (o o' : Outside) → ExtendsTold clients settling j batch o o' (Err x)
+      → ExtendsTold clients settling j batch o o' r
+  told_on_error clients settling j batch o o' = passed_on (λ (q : Result (Unit {0}) Outcome). ExtendsTold clients settling j batch o o' q) r x is
 
   pub entry_on : (clients : Meaning) (asked : Settling) (s : StoreValue) (e : Entry) (o o' : Outside) (out out' : Stream) → EntryAdded clients asked s e o o' out out' x
       → EntryAdded clients asked s e o o' out out' (came_to r)

@@ -20,7 +20,7 @@ use Rattle.sync_rules.specs.Clients.{Meaning}
 use Rattle.sync_rules.specs.Facts.{Facts, Id, group_at, held_at}
 use Rattle.sync_rules.specs.Steps.{is_served, verdict_in}
 use Rattle.entry_codec.specs.Standing.{Standing, stands}
-use Rattle.sync_store.specs.Refusals.{judged_answer}
+use Rattle.sync_store.specs.Refusals.{judged_answer, post_answer}
 use Rattle.sync_store.specs.Store.{StoreValue}
 use Rattle.sync_words.specs.declared.outcome.Outcome.{Outcome}
 use Rattle.sync_words.specs.declared.outcome.Outcome.TheVariants as outcome
@@ -75,6 +75,26 @@ body_other clients f m known is =
             | false ↦ λ v. message_other clients f m known v
           ] w
     ] is
+
+-- the id that comes with a yes is the message's
+judged_id : (f : Facts) (m : MessageValue) (answer : Judgement) (id : Id) → judged_answer f m answer ≡ Ok id → id ≡ message_id_of m
+judged_id f m judgement.Refuse id is = cc
+judged_id f m (judgement.Accept deps share) id is =
+    elim (list_all (is_served f m.group) deps) as (λ b. (if b then Ok (message_id_of m) else Err refused.DependencyNotDelivered) ≡ Ok id → id ≡ message_id_of m) [
+      | true ↦ λ w. cc
+      | false ↦ λ w. cc
+    ] is
+
+pub post_id : (clients : Meaning) (f : Facts) (m : MessageValue) (id : Id) → post_answer clients f m ≡ Ok id → id ≡ message_id_of m
+post_id clients f m id is = by_group (is_some (group_at f.groups m.group)) is where
+  by_held : (b : Bool) → (if b then Err refused.AlreadyHeld else judged_answer f m (verdict_in clients f.groups m)) ≡ Ok id → id ≡ message_id_of m
+  by_held true w = cc
+  by_held false w = judged_id f m (verdict_in clients f.groups m) id w
+
+  by_group : (a : Bool) → (if a then (if is_some (held_at f.held (message_id_of m)) then Err refused.AlreadyHeld else judged_answer f m (verdict_in clients f.groups m)) else Err refused.UnknownGroup) ≡ Ok id
+      → id ≡ message_id_of m
+  by_group true w = by_held (is_some (held_at f.held (message_id_of m))) w
+  by_group false w = cc
 
 -- ---- the command stopped before its body was read
 

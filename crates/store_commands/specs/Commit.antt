@@ -16,7 +16,8 @@ use Rattle.sync_store.specs.Commits.{needed}
 use Rattle.sync_store.specs.Store.{StoreValue}
 use Rattle.sync_store.specs.Fitting.{Fits}
 use Rattle.sync_store.specs.Ready.{IsReady}
-use Rattle.sync_store.specs.Moments.{JournalMoment, Leads, WithAtMost}
+use Rattle.sync_store.specs.Moments.{JournalMoment}
+use Rattle.sync_store.specs.Runs.{AddsBatch, LeadsBy}
 use Rattle.sync_store.specs.Settling.{ComesBy}
 use Rattle.sync_words.specs.declared.outcome.Outcome.{Outcome}
 use Rattle.sync_words.specs.declared.outcome.Outcome.TheVariants as outcome
@@ -105,42 +106,37 @@ pub record SettlesAs (clients : Meaning) (s s' : StoreValue) (old new : Outside)
   pub comes : ComesBy clients s s' old new more
   pub answer : SettledBy clients s' result
 
--- the sum of the room, by the answer of a commit
-abbrev pub Weighs : StoreValue → StoreValue → List Entry → Result (Unit {0}) Outcome → Type 0
-Weighs s s' batch (Ok _) = (s'.closed ≡ false) × (needed s batch ≤ s.limit)
-Weighs s s' batch (Err outcome.Full) = (s'.closed ≡ false) × (s.limit < needed s batch)
-Weighs s s' batch (Err outcome.Memory) = Unit {0}
-Weighs s s' batch (Err outcome.DiskFault) = Unit {0}
-Weighs s s' batch (Err _) = ⊥
+-- the batch, and behind it what is to follow
+pub record IsWhole (clients : Meaning) (settling : Settling) (f : Facts) (batch : List Entry) (more : List (List Entry)) : Type 0 where
+  pub rest : List (List Entry)
+  pub is : more ≡ batch ∷ rest
+  pub follows : Follows settling clients (after_all f batch) rest
 
--- the journal behind a commit, by its answer
-abbrev pub journal_by : List (List Entry) → List Entry → Result (Unit {0}) Outcome → List (List Entry)
-journal_by j batch (Ok _) = j ++ batch ∷ []
-journal_by j batch (Err _) = j
+-- the sum of the room, and which batches were added, by the answer
+abbrev pub AddedSo : Meaning → Settling → StoreValue → StoreValue → List Entry → List (List Entry) → Result (Unit {0}) Outcome → Type 0
+AddedSo clients settling s s' batch more (Ok _) =
+    (s'.closed ≡ false) × (needed s batch ≤ s.limit) × IsWhole clients settling s.state.facts batch more
+AddedSo clients settling s s' batch more (Err outcome.Full) = (s'.closed ≡ false) × (s.limit < needed s batch) × (more ≡ [])
+AddedSo clients settling s s' batch more (Err outcome.Memory) = Unit {0}
+AddedSo clients settling s s' batch more (Err outcome.DiskFault) = Unit {0}
+AddedSo clients settling s s' batch more (Err _) = ⊥
 
--- a batch was committed, or not
-pub record CommitsAs (clients : Meaning) (s s' : StoreValue) (batch : List Entry) (old new : Outside) (result : Result (Unit {0}) Outcome) : Type 0 where
-  pub answer : Weighs s s' batch result
-  pub leads : (two : Two File) → old.files ≡ Some two → (j : List (List Entry)) → Fits clients s j two
-      → Leads clients (WithAtMost j batch) (λ k. k ≡ journal_by j batch result) s' old new
+-- a batch was added to a settled store, with what is to follow it, as far as the answer says
+pub record AddsAs (clients : Meaning) (settling : Settling) (s s' : StoreValue) (batch : List Entry) (old new : Outside) (result : Result (Unit {0}) Outcome) : Type 0 where
+  pub more : List (List Entry)
+  pub adds : AddsBatch clients s.state.facts batch more
+  pub leads : LeadsBy clients s s' old new more
+  pub answer : AddedSo clients settling s s' batch more result
 
 -- ---- settling, the batch, and settling again
 
 -- by the answer
-abbrev pub ExtendsEnds : Meaning → List (List Entry) → List Entry → (Two File → Type 0) → Result (Unit {0}) Outcome → Two File → Type 0
-ExtendsEnds clients j batch P (Ok _) two = P two
-ExtendsEnds clients j batch P (Err outcome.Full) two = IsFull clients j batch two
-ExtendsEnds clients j batch P (Err _) two = Unit {0}
+abbrev pub ExtendsEnds : Meaning → Settling → List (List Entry) → List Entry → Result (Unit {0}) Outcome → Two File → Type 0
+ExtendsEnds clients settling j batch (Ok _) two = IsAdded clients settling j batch two
+ExtendsEnds clients settling j batch (Err outcome.Full) two = IsFull clients j batch two
+ExtendsEnds clients settling j batch (Err _) two = Unit {0}
 
 -- each moment stands for the journal with settling and at most the batch, and at Ok the files are so
-pub record ExtendsTold (clients : Meaning) (j : List (List Entry)) (batch : List Entry) (P : Two File → Type 0) (old new : Outside) (result : Result (Unit {0}) Outcome) : Type 0 where
+pub record ExtendsTold (clients : Meaning) (settling : Settling) (j : List (List Entry)) (batch : List Entry) (old new : Outside) (result : Result (Unit {0}) Outcome) : Type 0 where
   pub moments : MomentsAre old new (JournalMoment clients (GoesOn clients j batch) (sent_of old.links.told))
-  pub ends : (two : Two File) → new.files ≡ Some two → ExtendsEnds clients j batch P result two
-
--- the disk fits the store with the journal, all of its settling, and the batch, for which there was room
-pub record HasBatch (clients : Meaning) (j : List (List Entry)) (batch : List Entry) (s : StoreValue) (two : Two File) : Type 0 where
-  pub first : List (List Entry)
-  pub settles : AllSettling clients (facts j) first
-  pub settled : IsSettled clients (after_batches (facts j) first)
-  pub roomy : needed_by (j ++ first) batch ≤ MAX_JOURNAL
-  pub fits : Fits clients s (j ++ (first ++ batch ∷ [])) two
+  pub ends : (two : Two File) → new.files ≡ Some two → ExtendsEnds clients settling j batch result two

@@ -7,8 +7,9 @@ use Rattle.outside.specs.Files.{Two, File, read_files}
 use Rattle.outside.specs.Outside.{Outside, DiskRun}
 use Rattle.outside.specs.Streams.{Stream, IsIdle}
 use Rattle.sync_ids.specs.declared.message.TheConstants.{MAX_BODY}
+use Rattle.sync_ids.specs.Ids.{message_id_of}
 use Rattle.sync_ids.specs.Values.{MessageValue}
-use Rattle.sync_rules.specs.declared.entries.Entry.{Entry}
+use Rattle.sync_rules.specs.declared.entries.Entry.TheVariants as entry
 use Rattle.sync_rules.specs.declared.states.Refused.TheVariants as refused
 use Rattle.sync_rules.specs.Clients.{Meaning}
 use Rattle.sync_rules.specs.Facts.{Id, facts, group_at}
@@ -16,6 +17,7 @@ use Rattle.entry_codec.specs.Standing.{Standing, no_store, damaged, journal, sta
 use Rattle.sync_words.specs.declared.outcome.Outcome.{Outcome}
 use Rattle.sync_words.specs.declared.outcome.Outcome.TheVariants as outcome
 use Rattle.store_commands.specs.declared.commit.Settling.TheVariants as settling
+use Rattle.store_commands.specs.declared.plans.PlannedPost.{PlannedPost}
 use Rattle.store_commands.specs.Entries.{HasAdded}
 use Rattle.store_commands.specs.Plans.{Plan, adds, refuses, post_plan}
 use Rattle.store_commands.specs.Show.{Keeps, Rests}
@@ -88,9 +90,9 @@ HasPosted clients group timestamp old new input input' out out' outcome.Memory =
     ⊎ PostsBody clients group timestamp old new input input' out out' outcome.Memory
 HasPosted clients group timestamp old new input input' out out' came = PostsBody clients group timestamp old new input input' out out' came
 
--- a plan as it is answered, but for want of memory
-abbrev pub IsPlanned : Plan → Result Entry Outcome → Type 0
-IsPlanned plan (Ok e) = plan ≡ adds e
+-- the plan of a post as it is answered, with the message's id, but for want of memory
+abbrev pub IsPlanned : Plan → Result PlannedPost Outcome → Type 0
+IsPlanned plan (Ok post) = (plan ≡ adds (entry.Author post.message)) × (post.id ≡ message_id_of post.message)
 IsPlanned plan (Err outcome.Memory) = Unit {0}
 IsPlanned plan (Err (outcome.Refused why)) = plan ≡ refuses why
 IsPlanned plan (Err _) = ⊥

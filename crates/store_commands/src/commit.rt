@@ -6,14 +6,17 @@ ghost use Rattle.outside.specs.Outside.{DiskRun};
 ghost use Rattle.sync_rules.specs.declared.entries.Entry.{Entry};
 ghost use Rattle.sync_rules.specs.Allows.{is_settling_kind};
 ghost use Rattle.sync_rules.specs.Legal.{Allowed};
+ghost use Rattle.session_core.specs.Known.{IsOfAll};
 ghost use Rattle.sync_store.specs.Fitting.{Fits};
 ghost use Rattle.sync_store.specs.Ready.{IsReady};
-ghost use Rattle.store_commands.specs.Commit.{CommitsAs, ExtendsBy, ExtendsTold, HasBatch};
-ghost use Rattle.store_commands.specs.Commit.{IsAdded, MayFollow, SettlesAs, StaysReady};
+ghost use Rattle.store_commands.specs.Commit.{AddsAs, ExtendsBy, ExtendsTold, MayFollow};
+ghost use Rattle.store_commands.specs.Commit.{SettlesAs, StaysReady};
 ghost use Rattle.store_commands.specs.Load.{MayExtend};
 
 use outside::Disk;
+use sync_ids::MessageId;
 use sync_rules::{Batch, Clients};
+use sync_store::laws::images_stand;
 use sync_store::{Store, StoreFault};
 use sync_words::Outcome;
 
@@ -26,10 +29,12 @@ pub enum Settling {
     BeforeAndAfter,
 }
 
-/// Settles the journal, commits the batch, and settles again where that is asked for.
+/// Settles the journal, commits the batch, and settles again where that is asked for. The id is
+/// that of the one message that the batch brings, where the caller has it.
 pub fn extend<D: Disk, C: Clients>(
     store: &mut Store,
     batch: Batch,
+    id: Option<MessageId>,
     settling: Settling,
     disk: &mut D,
     clients: &C,
@@ -37,43 +42,19 @@ pub fn extend<D: Disk, C: Clients>(
     requires ready { MayExtend (C.meaning clients.now) store.old (D.tells disk.old).files }
     requires follows { MayFollow (C.meaning clients.now) store.old.state.facts batch }
     requires kind { is_settling_kind batch ≡ false }
+    requires named { IsOfAll id batch }
     ensures run { DiskRun (D.tells disk.old) (D.tells disk.new) }
     ensures by { ExtendsBy (D.tells disk.old) (D.tells disk.new) result }
     ensures told { (two : Two File) → (D.tells disk.old).files ≡ Some two → (j : List (List Entry))
         → Fits (C.meaning clients.now) store.old j two
-        → ExtendsTold (C.meaning clients.now) j batch
-        (IsAdded (C.meaning clients.now) settling j batch) (D.tells disk.old) (D.tells disk.new)
-        result }
-{
-    commit_settled(store, batch, disk, clients)?;
-    match settling {
-        Settling::Before => Ok(()),
-        Settling::BeforeAndAfter => settle(store, disk, clients),
-    }
-}
-
-// Settles the journal and commits the batch.
-fn commit_settled<D: Disk, C: Clients>(
-    store: &mut Store,
-    batch: Batch,
-    disk: &mut D,
-    clients: &C,
-) -> Result<(), Outcome>
-    requires ready { MayExtend (C.meaning clients.now) store.old (D.tells disk.old).files }
-    requires follows { MayFollow (C.meaning clients.now) store.old.state.facts batch }
-    requires kind { is_settling_kind batch ≡ false }
-    ensures run { DiskRun (D.tells disk.old) (D.tells disk.new) }
-    ensures by { ExtendsBy (D.tells disk.old) (D.tells disk.new) result }
-    ensures told { (two : Two File) → (D.tells disk.old).files ≡ Some two → (j : List (List Entry))
-        → Fits (C.meaning clients.now) store.old j two
-        → ExtendsTold (C.meaning clients.now) j batch
-        (HasBatch (C.meaning clients.now) j batch store.new) (D.tells disk.old) (D.tells disk.new)
-        result }
-    ensures ready { OnOk result (IsReady (C.meaning clients.now) store.new
-        (D.tells disk.new).files) }
+        → ExtendsTold (C.meaning clients.now) settling j batch (D.tells disk.old)
+        (D.tells disk.new) result }
 {
     settle(store, disk, clients)?;
-    commit(store, batch, disk, clients)
+    match settling {
+        Settling::Before => commit(store, batch, id, disk, clients),
+        Settling::BeforeAndAfter => commit_settled(store, batch, id, disk, clients),
+    }
 }
 
 /// Settles the journal. `Memory` and `DiskFault` are its only outcomes beside `Ok`.
@@ -103,20 +84,47 @@ pub fn settle<D: Disk, C: Clients>(
 fn commit<D: Disk, C: Clients>(
     store: &mut Store,
     batch: Batch,
+    id: Option<MessageId>,
     disk: &mut D,
     clients: &C,
 ) -> Result<(), Outcome>
     requires ready { IsReady (C.meaning clients.now) store.old (D.tells disk.old).files }
     requires allowed { Allowed (C.meaning clients.now) store.old.state.facts batch }
     requires kind { is_settling_kind batch ≡ false }
+    requires named { IsOfAll id batch }
     ensures run { DiskRun (D.tells disk.old) (D.tells disk.new) }
     ensures by { ExtendsBy (D.tells disk.old) (D.tells disk.new) result }
-    ensures committed { CommitsAs (C.meaning clients.now) store.old store.new batch
+    ensures added { AddsAs (C.meaning clients.now) Settling.Before store.old store.new batch
         (D.tells disk.old) (D.tells disk.new) result }
-    ensures ready { OnOk result (IsReady (C.meaning clients.now) store.new
-        (D.tells disk.new).files) }
 {
-    match store.commit(disk, clients, batch) {
+    images_stand();
+    match store.commit_known(disk, clients, batch, id) {
+        Ok(()) => Ok(()),
+        Err(StoreFault::Full) => Err(Outcome::Full),
+        Err(StoreFault::Memory) => Err(Outcome::Memory),
+        Err(StoreFault::DiskFault) => Err(Outcome::DiskFault),
+        Err(StoreFault::Closed) => unreachable!(),
+    }
+}
+
+// Commits the batch and settles behind it.
+fn commit_settled<D: Disk, C: Clients>(
+    store: &mut Store,
+    batch: Batch,
+    id: Option<MessageId>,
+    disk: &mut D,
+    clients: &C,
+) -> Result<(), Outcome>
+    requires ready { IsReady (C.meaning clients.now) store.old (D.tells disk.old).files }
+    requires allowed { Allowed (C.meaning clients.now) store.old.state.facts batch }
+    requires kind { is_settling_kind batch ≡ false }
+    requires named { IsOfAll id batch }
+    ensures run { DiskRun (D.tells disk.old) (D.tells disk.new) }
+    ensures by { ExtendsBy (D.tells disk.old) (D.tells disk.new) result }
+    ensures added { AddsAs (C.meaning clients.now) Settling.BeforeAndAfter store.old store.new
+        batch (D.tells disk.old) (D.tells disk.new) result }
+{
+    match store.extend_known(disk, clients, batch, id) {
         Ok(()) => Ok(()),
         Err(StoreFault::Full) => Err(Outcome::Full),
         Err(StoreFault::Memory) => Err(Outcome::Memory),

@@ -1,6 +1,8 @@
 // The commands that add one entry to a journal: `contact`, `group`, `share`.
 ghost use Rattle.std.specs.Prelude.{◌≡◌, ◌∷◌, [], ◌++◌, false, IfOk, OnOk};
 ghost use Rattle.std.specs.String.{string_bytes};
+ghost use Rattle.session_core.specs.Known.{IsIdOf, IsOfAll};
+ghost use Rattle.sync_ids.specs.Ids.{message_id_of};
 ghost use Rattle.sync_rules.specs.Allows.{is_settling_kind};
 ghost use Rattle.sync_words.specs.Outcomes.{came_to};
 ghost use Rattle.store_commands.specs.Commit.{MayFollow};
@@ -16,12 +18,13 @@ use crate::print::print_bytes;
 use outside::{Disk, Sink};
 use std::alloc::{AllocError, Global};
 use std::hash::RandomState;
-use sync_ids::{GroupDef, GroupId, group_id};
+use sync_ids::{GroupDef, GroupId, Message, MessageId, group_id};
 use sync_rules::{Batch, Clients, Entry, Level, id_of};
 use sync_store::Store;
 use sync_words::{Outcome, contact_line, group_line, level_line, posted_line};
 
 /// Adds the next contact and prints its number.
+#[tactic(auto, using(session_core::proofs::Unknown::unknown))]
 pub fn add_contact<D: Disk, W: Sink, C: Clients>(
     alloc: Global,
     hasher: RandomState,
@@ -34,10 +37,20 @@ pub fn add_contact<D: Disk, W: Sink, C: Clients>(
 {
     let store = load_store(alloc, hasher, disk, clients)?;
     let entry = plan_contact(&store)?;
-    add_entry(alloc, store, entry, Settling::Before, disk, out, clients)
+    add_entry(
+        alloc,
+        store,
+        entry,
+        None,
+        Settling::Before,
+        disk,
+        out,
+        clients,
+    )
 }
 
 /// Adds a group and prints its id.
+#[tactic(auto, using(session_core::proofs::Unknown::unknown))]
 pub fn add_group<D: Disk, W: Sink, C: Clients>(
     alloc: Global,
     hasher: RandomState,
@@ -52,10 +65,20 @@ pub fn add_group<D: Disk, W: Sink, C: Clients>(
 {
     let store = load_store(alloc, hasher, disk, clients)?;
     let entry = plan_group(&store, clients, def)?;
-    add_entry(alloc, store, entry, Settling::Before, disk, out, clients)
+    add_entry(
+        alloc,
+        store,
+        entry,
+        None,
+        Settling::Before,
+        disk,
+        out,
+        clients,
+    )
 }
 
 /// Sets the level of a group for a contact and prints it.
+#[tactic(auto, using(session_core::proofs::Unknown::unknown))]
 pub fn set_level<D: Disk, W: Sink, C: Clients>(
     alloc: Global,
     hasher: RandomState,
@@ -72,15 +95,25 @@ pub fn set_level<D: Disk, W: Sink, C: Clients>(
 {
     let store = load_store(alloc, hasher, disk, clients)?;
     let entry = plan_level(&store, contact, group, level)?;
-    add_entry(alloc, store, entry, Settling::Before, disk, out, clients)
+    add_entry(
+        alloc,
+        store,
+        entry,
+        None,
+        Settling::Before,
+        disk,
+        out,
+        clients,
+    )
 }
 
 /// Settles the journal, adds the entry, settles again where that is asked for, and prints the
-/// entry's line.
+/// entry's line. The id is that of the message that the entry brings, where the caller has it.
 pub fn add_entry<D: Disk, W: Sink, C: Clients>(
     alloc: Global,
     store: Store,
     entry: Entry,
+    id: Option<MessageId>,
     settling: Settling,
     disk: &mut D,
     out: &mut W,
@@ -89,33 +122,56 @@ pub fn add_entry<D: Disk, W: Sink, C: Clients>(
     requires ready { MayExtend (C.meaning clients.now) store (D.tells disk.old).files }
     requires follows { MayFollow (C.meaning clients.now) store.state.facts (entry ∷ []) }
     requires kind { is_settling_kind (entry ∷ []) ≡ false }
+    requires named { IsOfAll id (entry ∷ []) }
     ensures { EntryAdded (C.meaning clients.now) settling store entry (D.tells disk.old)
         (D.tells disk.new) (W.tells out.old) (W.tells out.new) (came_to result) }
 {
     let mut store = store;
-    let line = line_of(alloc, &entry)?;
+    let line = line_of(alloc, &entry, id)?;
     let batch = Batch::single(alloc, entry)?;
-    extend(&mut store, batch, settling, disk, clients)?;
+    extend(&mut store, batch, id, settling, disk, clients)?;
     print_bytes(line.as_bytes(), out)
 }
 
 // The line of an entry that a command adds.
-fn line_of(alloc: Global, entry: &Entry) -> Result<String, AllocError>
+fn line_of(
+    alloc: Global,
+    entry: &Entry,
+    id: Option<MessageId>,
+) -> Result<String, AllocError>
+    requires { IsOfAll id (entry.now ∷ []) }
     ensures { IfOk result (λ line. string_bytes line ≡ added_text entry.now) }
 {
     let mut line = String::new(alloc);
-    add_line(alloc, entry, &mut line)?;
+    add_line(alloc, entry, id, &mut line)?;
     Ok(line)
 }
 
-fn add_line(alloc: Global, entry: &Entry, to: &mut String) -> Result<(), AllocError>
+fn add_line(
+    alloc: Global,
+    entry: &Entry,
+    id: Option<MessageId>,
+    to: &mut String,
+) -> Result<(), AllocError>
+    requires { IsOfAll id (entry.now ∷ []) }
     ensures { OnOk result (string_bytes to.new ≡ string_bytes to.old ++ added_text entry.now) }
 {
     match entry {
         Entry::Contact(n) => contact_line(*n, to),
         Entry::Group(def) => group_line(alloc, &group_id(def), to),
         Entry::Level(contact, group, level) => level_line(alloc, *contact, group, *level, to),
-        Entry::Author(message) => posted_line(alloc, &id_of(message), to),
+        Entry::Author(message) => posted_line(alloc, &known_id(id, message), to),
         _ => Ok(()),
+    }
+}
+
+// The id of a message: the one that is known, or else it is computed.
+fn known_id(id: Option<MessageId>, message: &Message) -> MessageId
+    requires { IsIdOf id message.now }
+    ensures { result ≡ message_id_of message.now }
+{
+    match id {
+        Some(id) => id,
+        None => id_of(message),
     }
 }

@@ -5,7 +5,7 @@ ghost use Rattle.store_commands.specs.Plans.{contact_plan, group_plan, level_pla
 ghost use Rattle.store_commands.specs.Plans.{plan_of, post_plan};
 ghost use Rattle.store_commands.specs.Post.{IsPlanned, message_of};
 
-use sync_ids::{GroupDef, GroupId, MAX_TIMESTAMP, Message, MessageFault};
+use sync_ids::{GroupDef, GroupId, MAX_TIMESTAMP, Message, MessageFault, MessageId};
 use sync_rules::{Clients, Entry, Level, Refused};
 use sync_store::{PostFault, Store};
 use sync_words::Outcome;
@@ -39,14 +39,23 @@ pub fn plan_level(
     Ok(Entry::Level(contact, *group, level))
 }
 
-/// The message of this body in a known group.
+/// A message that a command adds, with its id.
+#[derive(Drop)]
+pub struct PlannedPost {
+    /// The message.
+    pub message: Message,
+    /// Its id.
+    pub id: MessageId,
+}
+
+/// The message of this body in a known group, with its id.
 pub fn plan_post<C: Clients>(
     store: &Store,
     clients: &C,
     group: GroupId,
     timestamp: u64,
     body: Vec<u8>,
-) -> Result<Entry, Outcome>
+) -> Result<PlannedPost, Outcome>
     requires known { is_some (group_at store.now.state.facts.groups group) ≡ true }
     requires timestamp { timestamp ≤ MAX_TIMESTAMP }
     ensures { IsPlanned (post_plan (C.meaning clients.now) store.now.state.facts
@@ -61,12 +70,16 @@ pub fn plan_post<C: Clients>(
 }
 
 // A message within its limits.
-fn plan_message<C: Clients>(store: &Store, clients: &C, message: Message) -> Result<Entry, Outcome>
+fn plan_message<C: Clients>(
+    store: &Store,
+    clients: &C,
+    message: Message,
+) -> Result<PlannedPost, Outcome>
     ensures { IsPlanned (message_plan (C.meaning clients.now) store.now.state.facts message)
         result }
 {
     match store.may_post(clients, &message) {
-        Ok(_) => Ok(Entry::Author(message)),
+        Ok(id) => Ok(PlannedPost { message, id }),
         Err(PostFault::Refused(why)) => Err(Outcome::Refused(why)),
         Err(PostFault::Memory) => Err(Outcome::Memory),
     }

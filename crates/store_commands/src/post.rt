@@ -11,7 +11,7 @@ use outside::{Disk, InputFault, Sink, Source, read_input};
 use std::alloc::Global;
 use std::hash::RandomState;
 use sync_ids::{GroupId, MAX_BODY, MAX_TIMESTAMP};
-use sync_rules::{Clients, Refused};
+use sync_rules::{Clients, Entry, Refused};
 use sync_words::Outcome;
 
 /// Reads a body from the input, adds its message to a group, settles, and prints the message's id.
@@ -31,15 +31,16 @@ pub fn post_message<D: Disk, S: Source, W: Sink, C: Clients>(
         (W.tells out.new) (came_to result) }
 {
     let store = load_store(alloc, hasher, disk, clients)?;
-    if !store.knows_group(&group) {
+    if !store.state().knows_group(&group) {
         return Err(Outcome::Refused(Refused::UnknownGroup));
     }
     let body = read_body(alloc, input)?;
-    let entry = plan_post(&store, clients, group, timestamp, body)?;
+    let post = plan_post(&store, clients, group, timestamp, body)?;
     add_entry(
         alloc,
         store,
-        entry,
+        Entry::Author(post.message),
+        Some(post.id),
         Settling::BeforeAndAfter,
         disk,
         out,

@@ -24,7 +24,7 @@ use Rattle.sync_course.specs.ToldLaws.{batches_of_commits, commits, told_asked, 
 
 -- one event that commits nothing
 module _ {P : Type 0} (step : P → Event → P → Type 0) (Before After : List (List Entry) → Type 0) (stays : (j : List (List Entry)) → Before j → After j) where
-  pub runs_quiet : (p q : P) (e : Event) (o o' : Outside) → batches_of (e ∷ []) ≡ [] → step p e q → Told (e ∷ []) o o'
+  unfoldable pub runs_quiet : (p q : P) (e : Event) (o o' : Outside) → batches_of (e ∷ []) ≡ [] → step p e q → Told (e ∷ []) o o'
       → Runs step Before After p q o o'
   runs_quiet p q e o o' none s told = record {
     events = e ∷ [];
@@ -34,7 +34,7 @@ module _ {P : Type 0} (step : P → Event → P → Type 0) (Before After : List
         subst After (sym (append-nil j) ∙ ap (λ (l : List (List Entry)). j ++ l) (sym none)) (stays j before);
   }
 
-  pub runs_none : (p : P) (o : Outside) → Runs step Before After p p o o
+  unfoldable pub runs_none : (p : P) (o : Outside) → Runs step Before After p p o o
   runs_none p o = record {
     events = [];
     path = refl;
@@ -45,7 +45,7 @@ module _ {P : Type 0} (step : P → Event → P → Type 0) (Before After : List
 -- some batches that were committed, while the links stay as they are
 module _ {P : Type 0} (step : P → Event → P → Type 0) (Before After : List (List Entry) → Type 0) (bs : List (List Entry))
     (grows : (j : List (List Entry)) → Before j → After (j ++ bs)) where
-  pub runs_commits : (p q : P) (o o' : Outside) → o'.links ≡ o.links → Path step p (commits bs) q → Runs step Before After p q o o'
+  unfoldable pub runs_commits : (p q : P) (o o' : Outside) → o'.links ≡ o.links → Path step p (commits bs) q → Runs step Before After p q o o'
   runs_commits p q o o' same path = record {
     events = commits bs;
     path = path;
@@ -70,7 +70,7 @@ module _ {P : Type 0} (step : P → Event → P → Type 0) (Before After : List
 
 module _ (clients : Meaning) (n session : ℕ) where
   -- a step at a place where this is done
-  step_at : (p q : Spot) (e : Event) (doing : _) → p.doing ≡ doing → StepOf clients n session doing e p q → LinkStep clients n session p e q
+  pub step_at : (p q : Spot) (e : Event) (doing : _) → p.doing ≡ doing → StepOf clients n session doing e p q → LinkStep clients n session p e q
   step_at p q e doing is s = subst (λ d. StepOf clients n session d e p q) (sym is) s
 
   -- ---- it asks
@@ -107,7 +107,7 @@ module _ (clients : Meaning) (n session : ℕ) where
       path_one (LinkStep clients n session) p q (Commit b)
       (step_at p q (Commit b) (Takes (item.One place r ∷ its)) takes (inr (refl, allowed, refl)))
 
-  out_path : (now room : ℕ) (what : Out) (p : Spot) → p.doing ≡ Sending now (suc room)
+  pub out_path : (now room : ℕ) (what : Out) (p : Spot) → p.doing ≡ Sending now (suc room)
       → IsDue clients p.facts (session_at p.facts.sessions session) now what → Allowed clients p.facts (out_batch session now what)
       → Path (LinkStep clients n session) p (commits (out_batch session now what ∷ [])) (out_spot now room (out_batch session now what) p)
   out_path now room what p sends due allowed =
@@ -177,7 +177,7 @@ module _ (clients : Meaning) (n session : ℕ) where
         runs_quiet (LinkStep clients n session) Before After stays p q (Read n now) o o' refl
         (step_at p q (Read n now) Waits waits (refl, sent_to, refl)) (told_read n now o o' reads)
 
-    pub runs_out : (now room : ℕ) (what : Out) (p : Spot) (o o' : Outside) → p.doing ≡ Sending now (suc room)
+    unfoldable pub runs_out : (now room : ℕ) (what : Out) (p : Spot) (o o' : Outside) → p.doing ≡ Sending now (suc room)
         → IsDue clients p.facts (session_at p.facts.sessions session) now what → Allowed clients p.facts (out_batch session now what)
         → o'.links ≡ o.links → ((j : List (List Entry)) → Before j → After (j ++ out_batch session now what ∷ []))
         → Goes p (out_spot now room (out_batch session now what) p) o o'
@@ -185,7 +185,7 @@ module _ (clients : Meaning) (n session : ℕ) where
         runs_commits (LinkStep clients n session) Before After (out_batch session now what ∷ []) grows p
         (out_spot now room (out_batch session now what) p) o o' same (out_path now room what p sends due allowed)
 
-    pub runs_put : (now room : ℕ) (bytes : List ℕ) (p : Spot) (o o' : Outside) → p.doing ≡ Puts now room
+    unfoldable pub runs_put : (now room : ℕ) (bytes : List ℕ) (p : Spot) (o o' : Outside) → p.doing ≡ Puts now room
         → Sends n bytes (Ok tt) o.links o'.links → ((j : List (List Entry)) → Before j → After j)
         → Goes p (record p { doing = Sending now room }) o o'
     runs_put now room bytes p o o' puts sends stays =
@@ -193,7 +193,7 @@ module _ (clients : Meaning) (n session : ℕ) where
         runs_quiet (LinkStep clients n session) Before After stays p q Pass o o' refl
         (step_at p q Pass (Puts now room) puts refl) (told_sent n bytes o o' sends)
 
-    pub runs_broken : (now room : ℕ) (bytes : List ℕ) (why : Failed) (p : Spot) (o o' : Outside) → p.doing ≡ Puts now room
+    unfoldable pub runs_broken : (now room : ℕ) (bytes : List ℕ) (why : Failed) (p : Spot) (o o' : Outside) → p.doing ≡ Puts now room
         → Sends n bytes (Err why) o.links o'.links → ((j : List (List Entry)) → Before j → After j)
         → Goes p (failed_spot p) o o'
     runs_broken now room bytes why p o o' puts sends stays =
@@ -201,7 +201,7 @@ module _ (clients : Meaning) (n session : ℕ) where
         (step_at p (failed_spot p) (Break n) (Puts now room) puts (refl, refl)) (told_broken n bytes why o o' sends)
 
     -- nothing more is sent in this turn
-    pub runs_sent : (now room : ℕ) (p : Spot) (o : Outside) → p.doing ≡ Sending now room → IsEnough clients p.facts session now room
+    unfoldable pub runs_sent : (now room : ℕ) (p : Spot) (o : Outside) → p.doing ≡ Sending now room → IsEnough clients p.facts session now room
         → ((j : List (List Entry)) → Before j → After j) → Goes p (record p { doing = Done }) o o
     runs_sent now room p o sends enough stays =
         runs_quiet (LinkStep clients n session) Before After stays p (record p { doing = Done }) Pass o o refl

@@ -55,7 +55,7 @@ module _ {A : Type 0} where
 -- ---- a link's turn in the run
 
 module _ (clients : Meaning) (terms : Terms) (n : ℕ) (place : Place) (within : n < length place.links) where
-  lifted_step : (p q : Spot) (e : Event) → LinkStep clients n (terms.first + n) p e q
+  pub lifted_step : (p q : Spot) (e : Event) → LinkStep clients n (terms.first + n) p e q
       → RunStep clients terms (with_spot n p place) e (with_spot n q place)
   lifted_step p q e s =
       subst (λ (o : Option Link). TurnStep clients terms n p.doing o e (with_spot n p place) (with_spot n q place))
@@ -80,7 +80,7 @@ module _ (clients : Meaning) (terms : Terms) (n : ℕ) (place : Place) (within :
       path_maps (LinkStep clients n (terms.first + n)) (RunStep clients terms) (λ (s : Spot). with_spot n s place) lifted_step p q es path
 
   module _ (Before After : List (List Entry) → Type 0) where
-    pub runs_lifted : (p q : Spot) (o o' : Outside) → Runs (LinkStep clients n (terms.first + n)) Before After p q o o'
+    unfoldable pub runs_lifted : (p q : Spot) (o o' : Outside) → Runs (LinkStep clients n (terms.first + n)) Before After p q o o'
         → Runs (RunStep clients terms) Before After (with_spot n p place) (with_spot n q place) o o'
     runs_lifted p q o o' runs = record {
       events = runs.events;

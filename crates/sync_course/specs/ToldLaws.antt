@@ -143,7 +143,7 @@ told_then es fs o o1 o2 first second = record {
 -- ---- what calls did, one behind the other
 
 module _ {P : Type 0} (step : P → Event → P → Type 0) (Before Between After : List (List Entry) → Type 0) where
-  pub runs_then : (p q r : P) (o o1 o2 : Outside) → Runs step Before Between p q o o1 → Runs step Between After q r o1 o2
+  unfoldable pub runs_then : (p q r : P) (o o1 o2 : Outside) → Runs step Before Between p q o o1 → Runs step Between After q r o1 o2
       → Runs step Before After p r o o2
   runs_then p q r o o1 o2 first second = record {
     events = first.events ++ second.events;

@@ -1,1 +1,2 @@
 mod IdLengths
+pub mod Same

@@ -1,7 +1,8 @@
 //! The definition of a group.
-ghost use Rattle.std.specs.Prelude.{◌≡◌, ◌<◌, ◌≤◌, ◌↔◌, ◌⊎◌, length, vec_len, IfOk, IsErrOf};
+ghost use Rattle.std.specs.Prelude.{◌≡◌, ◌<◌, ◌≤◌, ◌↔◌, ◌⊎◌, length, vec_len, IfOk, IsErrOf, IsTrue};
 ghost use Rattle.std.specs.String.{string_bytes, string_len};
 
+use std::alloc::{AllocError, Global};
 use std::marker::Model;
 use thiserror::Error;
 
@@ -35,6 +36,38 @@ impl Model for GroupDef {
 
     ghost invariant = { λ d. IsGroupDef
         (record { name = string_bytes d.name; major = d.major; descriptor = d.descriptor.items }) };
+}
+
+// Two definitions are equal where all their parts are.
+impl PartialEq for GroupDef {
+    ghost use Rattle.std.specs.Prelude.{◌&&◌, nat_eq};
+    ghost use Rattle.std.specs.Cmp.Lexicographic.{pointwise};
+    ghost use Rattle.std.specs.Cmp.Rules.{comparing};
+    ghost use Rattle.std.specs.Ordering.{eq_of_both, on};
+    ghost use Rattle.std.proofs.Common.{rules};
+
+    ghost eq = { eq_of_both (on (λ d. d.name) (pointwise nat_eq))
+        (eq_of_both (on (λ d. d.major) nat_eq) (on (λ d. d.descriptor) (pointwise nat_eq))) };
+
+    ghost laws = { Prim.search (comparing, rules) };
+
+    #[tactic(auto, using(crate::proofs::Same::same_told, crate::proofs::Same::same_from))]
+    fn eq(&self, other: &GroupDef) -> bool
+        ensures test { result ≡ (pointwise nat_eq self.now.name other.now.name
+            && (nat_eq self.now.major other.now.major
+            && pointwise nat_eq self.now.descriptor other.now.descriptor)) }
+        ensures same { IsTrue result ↔ (self.now ≡ other.now) }
+    {
+        self.name() == other.name()
+            && (self.major == other.major && self.descriptor() == other.descriptor())
+    }
+}
+
+impl Eq for GroupDef {
+    ghost use Rattle.std.specs.Cmp.Rules.{comparing};
+    ghost use Rattle.std.proofs.Common.{rules};
+
+    ghost laws = { Prim.search (comparing, rules) };
 }
 
 /// Why a definition was refused.
@@ -103,5 +136,16 @@ impl GroupDef {
         ensures within { IsGroupDef self.now }
     {
         self.descriptor.as_slice()
+    }
+
+    /// An equal definition in memory of its own. It fails only for want of memory.
+    pub fn copy(&self, alloc: Global) -> Result<GroupDef, AllocError>
+        ensures { IfOk result (λ copied. copied ≡ self.now) }
+    {
+        Ok(GroupDef {
+            name: String::from_str(alloc, self.name.as_str())?,
+            major: self.major,
+            descriptor: self.descriptor.as_slice().to_vec(alloc)?,
+        })
     }
 }

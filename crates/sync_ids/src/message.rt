@@ -2,6 +2,7 @@
 ghost use Rattle.std.specs.Prelude.{◌≡◌, ◌^◌, ◌<◌, ◌≤◌, ◌↔◌, length, IfOk, IsErrOf};
 
 use crate::fixed::GroupId;
+use std::alloc::{AllocError, Global};
 use std::marker::Model;
 use thiserror::Error;
 
@@ -99,5 +100,16 @@ impl Message {
         ensures within { IsMessage self.now }
     {
         self.body.as_slice()
+    }
+
+    /// An equal message in memory of its own. It fails only for want of memory.
+    pub fn copy(&self, alloc: Global) -> Result<Message, AllocError>
+        ensures { IfOk result (λ copied. copied ≡ self.now) }
+    {
+        Ok(Message {
+            group: self.group,
+            timestamp: self.timestamp,
+            body: self.body.as_slice().to_vec(alloc)?,
+        })
     }
 }

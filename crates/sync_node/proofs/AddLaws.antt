@@ -1,11 +1,11 @@
 -- A batch that is added beside the sessions.
-use Rattle.std.proofs.Common.{◌≡◌, ℕ, ◌+◌, Bool, true, false, List, [], ◌∷◌, ◌++◌, refl, sym, ap, ◌∙◌, subst, inl, inr, arith, Some, Result, append-nil, append_assoc, ◌<◌}
+use Rattle.std.proofs.Common.{◌≡◌, ℕ, ◌+◌, Bool, true, false, List, [], ◌∷◌, ◌++◌, refl, sym, ap, ◌∙◌, subst, inl, inr, arith, Some, Result, Ok, append-nil, ◌<◌}
 use Rattle.std.specs.List.{list_all}
 use Rattle.outside.specs.Files.{Two, File}
 use Rattle.outside.specs.Links.{Links, sent_of}
-use Rattle.outside.specs.Outside.{Outside, Moment}
+use Rattle.outside.specs.Outside.{Outside}
 use Rattle.outside.specs.Runs.{IsFront, Told, answers_at, front_then}
-use Rattle.outside.specs.Steps.{moments_map, moments_then, told_on}
+use Rattle.outside.specs.Steps.{moments_map}
 use Rattle.record_grammar.specs.Spelling.{spelled}
 use Rattle.record_stream.specs.Reading.{ReadsOn, fresh}
 use Rattle.sync_ids.specs.declared.records.Record.{Record}
@@ -19,25 +19,25 @@ use Rattle.sync_rules.specs.Growth.{is_silent, output_of}
 use Rattle.sync_rules.specs.Legal.{Allowed, AllSettling}
 use Rattle.sync_rules.specs.OutputLaws.{silent_adds_nothing}
 use Rattle.sync_rules.specs.StepKinds.{all_settling_only}
-use Rattle.sync_rules.specs.WorkLaws.{facts-push}
 use Rattle.sync_store.specs.Commits.{needed}
 use Rattle.sync_store.specs.Store.{StoreValue}
-use Rattle.sync_store.specs.Fitting.{Fits}
-use Rattle.sync_store.specs.Moments.{IsBetween, JournalMoment, Leads, WithAtMost}
-use Rattle.sync_store.specs.Settling.{HasSettled}
+use Rattle.sync_store.specs.Fitting.{Fits, FitsSome}
+use Rattle.sync_store.specs.Moments.{IsBetween, JournalMoment, Leads}
+use Rattle.sync_store.specs.Ready.{IsReady}
+use Rattle.sync_store.specs.Runs.{AddsBatch, ExtendsSo, HasExtended, RunsBy}
 use Rattle.sync_store.specs.declared.fault.StoreFault.{StoreFault}
 use Rattle.sync_node.specs.declared.link.Link.{Link}
-use Rattle.sync_node.specs.Adding.{AddsAtMost, AddsSettled, GoesOnSettling, IsPlain}
-use Rattle.sync_node.specs.Going.{Commits, SettlesStore}
+use Rattle.sync_node.specs.Adding.{AddsAtMost, AddsSettled, IsPlain}
+use Rattle.sync_node.specs.Going.{Commits, Goes}
 use Rattle.sync_node.specs.Joined.{IsJoined, Joined}
 use Rattle.sync_node.specs.Node.{AreAttached, KeepsJoined, KeepsSafeAnew, MayGoOn, NodeValue}
 use Rattle.sync_node.specs.Output.{Journal, heard_on, output, sent_on}
 use Rattle.sync_node.specs.Safe.{Begin, IsCoveredNow, Safe, begun_anew}
-use Rattle.sync_node.proofs.CommitLaws.{one_journal, settling_front}
+use Rattle.sync_node.proofs.CommitLaws.{goes_on_by, one_journal, settling_front}
 use Rattle.sync_node.proofs.NodeLaws.{node_of}
 use Rattle.sync_node.proofs.OutLaws.{output_with}
-use Rattle.sync_node.proofs.SafeLaws.{covered_now, told_before}
-use Rattle.sync_node.proofs.TakeLaws.{commits_then, settling_adds}
+use Rattle.sync_node.proofs.SafeLaws.{covered_now, goes_led, told_before}
+use Rattle.sync_node.proofs.TakeLaws.{settling_adds}
 
 -- ---- a plain batch
 
@@ -71,15 +71,34 @@ plain_leaves f _ plain = absurd plain
 
 -- ---- the batch, and settling behind it
 
-pub added : (clients : Meaning) (batch : List Entry) (s s1 s2 : StoreValue) (o o1 o2 : Outside)
-    → Commits clients (batch ∷ []) s s1 o o1 → SettlesStore clients s1 s2 o1 o2
-    → AddsSettled clients batch s s2 o o2
-added clients batch s s1 s2 o o1 o2 first settles = record {
-  more = settles.more;
-  settling = subst (λ (f : Facts). AllSettling clients f settles.more) first.facts settles.settling;
-  commits = commits_then clients batch settles.more s s1 s2 o o1 o2 first settles.commits;
-  settled = settles.settled;
-}
+-- the batch was committed, and the journal settled behind it
+pub extended : (clients : Meaning) (batch : List Entry) (s s' : StoreValue) (u : Unit {0})
+    (o o' : Outside) → IsReady clients s o.files → HasExtended clients s s' batch (Ok u) o o'
+    → (s'.closed ≡ false → IsReady clients s' o'.files) → AddsSettled clients batch s s' o o'
+extended clients batch s s' u o o' ready has ready' = by_more has.more has.runs has.adds has.answer
+  where
+    by_more : (more : Journal) → RunsBy clients s s' o o' more
+        → AddsBatch clients s.state.facts batch more
+        → ExtendsSo clients s s' batch more (Ok u) → AddsSettled clients batch s s' o o'
+    by_more [] runs adds answer = absurd (answer.2 refl)
+    by_more (b ∷ rest) runs adds answer = record {
+      more = rest;
+      settling = adds.1;
+      commits = subst (λ (x : List Entry). Commits clients (x ∷ rest) s s' o o') adds.0 (record {
+        goes = goes_led clients s s' o o' (λ j whole. IsBetween j (b ∷ rest) whole) (λ j whole. whole ≡ j ++ (b ∷ rest)) ready.fits runs.run runs.leads;
+        same_links = runs.run.same_links;
+        facts = runs.facts answer.0;
+        ready = ready' answer.0;
+        goes_on = goes_on_by clients (b ∷ rest) s s' o o' (λ j whole. IsBetween j (b ∷ rest) whole) runs.run ready.fits answer.0 runs.leads;
+      });
+      settled = answer.3;
+    }
+
+pub extended_goes : (clients : Meaning) (batch : List Entry) (s s' : StoreValue)
+    (result : Result (Unit {0}) StoreFault) (o o' : Outside) → FitsSome clients s o.files
+    → HasExtended clients s s' batch result o o' → Goes o o'
+extended_goes clients batch s s' result o o' fits has =
+    goes_led clients s s' o o' (λ j whole. IsBetween j has.more whole) (λ j whole. whole ≡ j ++ has.more) fits has.runs.run has.runs.leads
 
 -- ---- joined
 
@@ -229,57 +248,37 @@ leads_ok clients batch s o o' j P Q R up upq leads = record {
   ends = λ opened two files. let end = leads.ends opened two files in (end.0, upq end.0 end.1, end.2);
 }
 
-pub adds_at_most : (clients : Meaning) (j : Journal) (batch : List Entry) (whole : Journal)
-    → WithAtMost j batch whole → AddsAtMost clients j batch whole
-adds_at_most clients j batch whole with_it =
-    elim with_it [ inl same ↦ inl same | inr more ↦ inr (record { more = []; settling = tt; is = more }) ]
-
-pub settles_behind : (clients : Meaning) (j : Journal) (batch : List Entry) (whole : Journal)
-    → GoesOnSettling clients (j ++ batch ∷ []) whole → AddsAtMost clients j batch whole
-settles_behind clients j batch whole goes =
+-- a front of the batches of an extension
+at_most : (clients : Meaning) (batch : List Entry) (f : Facts) (more : Journal)
+    → AddsBatch clients f batch more → (j whole front rest : Journal) → facts j ≡ f
+    → more ≡ front ++ rest → whole ≡ j ++ front → AddsAtMost clients j batch whole
+at_most clients batch f more adds j whole [] rest same parts is = inl (is ∙ append-nil j)
+at_most clients batch f [] adds j whole (x ∷ front) rest same parts is =
+    let none : [] ≡ x ∷ (front ++ rest) = parts in
+    cc
+at_most clients batch f (b ∷ more) adds j whole (x ∷ front) rest same parts is =
+    let whole_is : b ∷ more ≡ x ∷ (front ++ rest) = parts in
+    let first : b ≡ x = cc in
+    let behind : more ≡ front ++ rest = cc in
     inr (record {
-      more = goes.more;
-      settling = subst (λ (f : Facts). AllSettling clients f goes.more) (facts-push j batch) goes.settling;
-      is = goes.is ∙ append_assoc j (batch ∷ []) goes.more;
+      more = front;
+      settling =
+          settling_front clients (after_all (facts j) batch) front rest
+          (subst (λ (l : Journal). AllSettling clients (after_all (facts j) batch) l) behind
+          (subst (λ (g : Facts). AllSettling clients (after_all g batch) more) (sym same) adds.1));
+      is = is ∙ ap (λ (y : List Entry). j ++ (y ∷ front)) (sym first ∙ adds.0);
     })
 
--- settling goes on from the journal
-pub leads_settling : (clients : Meaning) (s s' : StoreValue) (o o' : Outside)
-    (result : Result (Unit {0}) StoreFault) → HasSettled clients s s' result o o'
-    → (two : Two File) → o.files ≡ Some two → (j : Journal)
-    → Fits clients s j two → Leads clients (GoesOnSettling clients j)
-    (GoesOnSettling clients j) s' o o'
-leads_settling clients s s' o o' result has two files j fits =
-    let settles : AllSettling clients (facts j) has.more = subst (λ (f : Facts). AllSettling clients f has.more) (sym fits.facts_are) has.comes.settling in
-    leads_ok clients [] s' o o' j (IsBetween j has.more) (λ whole. whole ≡ j ++ has.more) (GoesOnSettling clients j)
-    (λ k between. record {
-      more = between.front;
-      settling = settling_front clients (facts j) between.front between.rest (subst (λ (l : Journal). AllSettling clients (facts j) l) between.parts settles);
-      is = between.is;
-    })
-    (λ k end. record { more = has.more; settling = settles; is = end })
-    (has.comes.leads two files j fits)
-
-pub add_leads : (clients : Meaning) (batch : List Entry) (s s1 s2 : StoreValue) (o o1 o2 : Outside)
-    (two : Two File) (j : Journal) → o.files ≡ Some two → Commits clients (batch ∷ []) s s1 o o1
-    → Leads clients (WithAtMost j batch) (λ k. k ≡ j ++ batch ∷ []) s1 o o1
-    → ((two1 : Two File) → o1.files ≡ Some two1 → (k : Journal) → Fits clients s1 k two1 → Leads clients (GoesOnSettling clients k) (GoesOnSettling clients k) s2 o1 o2)
-    → Leads clients (AddsAtMost clients j batch) (AddsAtMost clients j batch) s2 o o2
-add_leads clients batch s s1 s2 o o1 o2 two j files commits first second =
-    let there = told_on o o1 two commits.goes.same_files files in
-    let end = first.ends commits.ready.still_open there.0 there.1 in
-    let fits : Fits clients s1 (j ++ batch ∷ []) there.0 = subst (λ (k : Journal). Fits clients s1 k there.0) end.1 end.2 in
-    let then = second there.0 there.1 (j ++ batch ∷ []) fits in
-    let sent : sent_of o1.links.told ≡ sent_of o.links.told = ap (λ (x : Links). sent_of x.told) commits.same_links in
-    let P : Moment → Type 0 = JournalMoment clients (AddsAtMost clients j batch) (sent_of o.links.told) in
-    record {
-      moments = moments_then o o1 o2 P
-          (moments_map o o1 (JournalMoment clients (WithAtMost j batch) (sent_of o.links.told)) P
-          (λ m jm. record { whole = jm.whole; has = adds_at_most clients j batch jm.whole jm.has; stands_for = jm.stands_for; nothing_sent = jm.nothing_sent }) first.moments)
-          (moments_map o1 o2 (JournalMoment clients (GoesOnSettling clients (j ++ batch ∷ [])) (sent_of o1.links.told)) P
-          (λ m jm. record { whole = jm.whole; has = settles_behind clients j batch jm.whole jm.has; stands_for = jm.stands_for; nothing_sent = jm.nothing_sent ∙ sent }) then.moments);
-      ends = λ opened two2 files2. let last = then.ends opened two2 files2 in (last.0, settles_behind clients j batch last.0 last.1, last.2);
-    }
+pub extended_leads : (clients : Meaning) (batch : List Entry) (s s' : StoreValue)
+    (result : Result (Unit {0}) StoreFault) (o o' : Outside)
+    → HasExtended clients s s' batch result o o'
+    → (two : Two File) → o.files ≡ Some two → (j : Journal) → Fits clients s j two
+    → Leads clients (AddsAtMost clients j batch) (AddsAtMost clients j batch) s' o o'
+extended_leads clients batch s s' result o o' has two files j fits =
+    leads_ok clients batch s' o o' j (IsBetween j has.more) (λ whole. whole ≡ j ++ has.more) (AddsAtMost clients j batch)
+    (λ k between. at_most clients batch s.state.facts has.more has.adds j k between.front between.rest fits.facts_are between.parts between.is)
+    (λ k end. at_most clients batch s.state.facts has.more has.adds j k has.more [] fits.facts_are (sym (append-nil has.more)) end)
+    (has.runs.leads two files j fits)
 
 -- ---- a node
 

@@ -1,5 +1,5 @@
 -- Why links stand Failed: one call after another.
-use Rattle.std.proofs.Common.{◌≡◌, ◌≢◌, ◌⊎◌, ℕ, ◌≤◌, Bool, true, false, List, [], ◌∷◌, ◌++◌, length, set, refl, sym, ap, ◌∙◌, subst, inl, inr, arith, Some, Result, Ok, Err}
+use Rattle.std.proofs.Common.{◌≡◌, ◌≢◌, ◌⊎◌, ℕ, zero, suc, ◌≤◌, Bool, true, false, List, [], ◌∷◌, ◌++◌, length, set, refl, sym, ap, ◌∙◌, subst, inl, inr, arith, Some, Result, Ok, Err}
 use Rattle.std.specs.List.{slice_get}
 use Rattle.std.proofs.lemmas.Bool.{cases_eq, false≢true}
 use Rattle.outside.specs.declared.failed.Failed.{Failed}
@@ -12,11 +12,12 @@ use Rattle.sync_ids.specs.declared.records.Record.{Record}
 use Rattle.sync_ids.specs.declared.records.Record.TheVariants as record_kind
 use Rattle.sync_course.specs.LinkLaws.{contains_zero, zero_contained}
 use Rattle.sync_course.specs.Links.{has_zero}
+use Rattle.sync_rules.specs.declared.entries.Session.{Session}
 use Rattle.sync_store.specs.Store.{StoreValue}
 use Rattle.sync_node.specs.declared.link.Link.{Link}
 use Rattle.sync_course.specs.declared.ends.LinkEnd.{LinkEnd}
 use Rattle.sync_course.specs.declared.ends.LinkEnd.TheVariants as link_end
-use Rattle.sync_node.specs.Causes.{FailByCause, LinkGoes, LinksGo, StandsFailed}
+use Rattle.sync_node.specs.Causes.{FailByCause, LinkGoes, LinksGo, StandsFailed, sessions_of}
 use Rattle.sync_course.specs.Links.{stands_ended}
 use Rattle.sync_node.specs.Going.{Goes}
 use Rattle.sync_node.specs.Hearing.{ClosesBy, Learns}
@@ -40,25 +41,35 @@ rose_before a b c before rose = let r : one_more b ≤ c = rose in omega (arith,
 -- ---- one link
 
 -- the link did not fail
-pub link_kept : (number : ℕ) (l l' : Link) (o o' : Outside) → Goes o o' → l'.end ≡ l.end
-    → LinkGoes number l l' o o'
-link_kept number l l' o o' goes same = record { goes = goes; cause = λ failed. inl (sym same ∙ failed) }
+pub link_kept : (number : ℕ) (l l' : Link) (o o' : Outside) → Goes o o' → l'.session ≡ l.session
+    → l'.end ≡ l.end → LinkGoes number l l' o o'
+link_kept number l l' o o' goes same_session same = record {
+  same_session = same_session;
+  goes = goes;
+  cause = λ failed. inl (sym same ∙ failed);
+}
 
 pub link_unfailed : (number : ℕ) (l l' : Link) (o o' : Outside) → Goes o o'
-    → l'.end ≢ link_end.Failed → LinkGoes number l l' o o'
-link_unfailed number l l' o o' goes unfailed = record { goes = goes; cause = λ failed. absurd (unfailed failed) }
+    → l'.session ≡ l.session → l'.end ≢ link_end.Failed → LinkGoes number l l' o o'
+link_unfailed number l l' o o' goes same_session unfailed = record {
+  same_session = same_session;
+  goes = goes;
+  cause = λ failed. absurd (unfailed failed);
+}
 
 pub link_none : (number : ℕ) (l : Link) (o : Outside) → LinkGoes number l l o o
-link_none number l o = link_kept number l l o o (goes_none o) refl
+link_none number l o = link_kept number l l o o (goes_none o) refl refl
 
 -- a call on it failed
 pub link_failed : (number : ℕ) (l l' : Link) (o o' : Outside) → Goes o o'
-    → Rose (o.links.faults number) (o'.links.faults number) → LinkGoes number l l' o o'
-link_failed number l l' o o' goes rose = record { goes = goes; cause = λ failed. inr rose }
+    → l'.session ≡ l.session → Rose (o.links.faults number) (o'.links.faults number)
+    → LinkGoes number l l' o o'
+link_failed number l l' o o' goes same_session rose = record { same_session = same_session; goes = goes; cause = λ failed. inr rose }
 
 pub link_then : (number : ℕ) (l l1 l2 : Link) (o o1 o2 : Outside) → LinkGoes number l l1 o o1
     → LinkGoes number l1 l2 o1 o2 → LinkGoes number l l2 o o2
 link_then number l l1 l2 o o1 o2 first second = record {
+  same_session = second.same_session ∙ first.same_session;
   goes = goes_then o o1 o2 first.goes second.goes;
   cause = λ failed. elim (second.cause failed) [
     | inl before ↦ elim (first.cause before) [
@@ -75,8 +86,8 @@ link_sent number bytes l l' o o' sends = by_result sends.result sends.sends send
   where
     by_result : (result : Result (Unit {0}) Failed) → Sends number bytes result o.links o'.links
         → EndsBy result l l' → LinkGoes number l l' o o'
-    by_result (Ok u) went ends = link_kept number l l' o o' (goes_send o o' number bytes l l' sends) (ap (λ (x : Link). x.end) ends)
-    by_result (Err e) went ends = link_failed number l l' o o' (goes_send o o' number bytes l l' sends) went.faults.failed
+    by_result (Ok u) went ends = link_kept number l l' o o' (goes_send o o' number bytes l l' sends) (ap (λ (x : Link). x.session) ends) (ap (λ (x : Link). x.end) ends)
+    by_result (Err e) went ends = link_failed number l l' o o' (goes_send o o' number bytes l l' sends) (ap (λ (x : Link). x.session) ends) went.faults.failed
 
 -- a link that began as going, behind a commit
 pub greeted_cause : (number : ℕ) (l0 l : Link) (o o1 o2 : Outside) → Goes o o1
@@ -125,6 +136,43 @@ closes_unfailed place (record_kind.Priority nonce) old new same going =
 pub learnt_unfailed : (place : ℕ) (r : Record) (l l' : Link) → Learns place r l l'
     → l.end ≡ link_end.Going → l'.end ≢ link_end.Failed
 learnt_unfailed place r l l' learns going = closes_unfailed place r l.end l'.end learns.end going
+
+-- ---- the sessions of all links
+
+-- one link was worked on
+pub sessions_set : (place : ℕ) (links : List Link) (l l' : Link) → slice_get links place ≡ Some l
+    → l'.session ≡ l.session → sessions_of (set links place l') ≡ sessions_of links
+sessions_set place [] l l' here same = refl
+sessions_set zero (x ∷ links) l l' here same =
+    let is : x ≡ l = cc in
+    ap (λ (s : Session). s ∷ sessions_of links) (same ∙ ap (λ (y : Link). y.session) (sym is))
+sessions_set (suc place) (x ∷ links) l l' here same = ap (λ (ss : List Session). x.session ∷ ss) (sessions_set place links l l' here same)
+
+-- some were closed
+pub sessions_closed : (old new : List Link) → ClosesSome old new
+    → sessions_of new ≡ sessions_of old
+sessions_closed [] [] closes = refl
+sessions_closed [] (y ∷ new) closes = let no : suc (length new) ≡ 0 = closes.same_number in absurd (omega (arith, no))
+sessions_closed (x ∷ old) [] closes = let no : 0 ≡ suc (length old) = closes.same_number in absurd (omega (arith, no))
+sessions_closed (x ∷ old) (y ∷ new) closes =
+    let first = closes.each 0 y refl in
+    let long : suc (length new) ≡ suc (length old) = closes.same_number in
+    let was : Some x ≡ Some first.before = first.was in
+    let before : x ≡ first.before = cc in
+    let same : y.session ≡ x.session = elim first.is [
+      | inl stays ↦ ap (λ (l : Link). l.session) (stays ∙ sym before)
+      | inr closing ↦ ap (λ (l : Link). l.session) closing.1 ∙ ap (λ (l : Link). l.session) (sym before)
+    ] in
+    let rest : ClosesSome old new = record {
+      same_number = omega (arith, long);
+      each = λ number l at. let one = closes.each (suc number) l at in record { before = one.before; was = one.was; is = one.is };
+    } in
+    ap (λ (s : Session). s ∷ sessions_of new) same ∙ ap (λ (ss : List Session). x.session ∷ ss) (sessions_closed old new rest)
+
+-- links that were lent
+pub sessions_as : (links lent new kept : List Link) → lent ≡ links → kept ≡ new
+    → sessions_of new ≡ sessions_of lent → sessions_of kept ≡ sessions_of links
+sessions_as links lent new kept is is_kept same = ap sessions_of is_kept ∙ same ∙ ap sessions_of is
 
 -- ---- all links
 

@@ -9,17 +9,17 @@ use Rattle.sync_course.specs.LiftLaws.{get_set, get_within, runs_turn, runs_turn
 use Rattle.sync_course.specs.Links as course_links
 use Rattle.sync_course.specs.Links.{without_redundant}
 use Rattle.sync_course.specs.LinkTurns.{Asks, Done, Sends}
-use Rattle.sync_course.specs.ToldLaws.{breaks_then, runs_then}
+use Rattle.sync_course.specs.ToldLaws.{runs_then}
 use Rattle.sync_course.specs.Turns.{Between, Place, RunStep, Terms, Works, is_at_end, turn_ended}
 use Rattle.sync_course.specs.declared.TheConstants.{MAX_OUTPUTS}
 use Rattle.sync_node.specs.declared.link.Link.{Link}
 use Rattle.sync_course.specs.declared.ends.LinkEnd.TheVariants as link_end
 use Rattle.sync_node.specs.Ends.{MaySend}
 use Rattle.sync_node.specs.Redundant.{ClosesSome}
-use Rattle.sync_node.specs.Courses.{AllRead, BreaksReceiving, BreaksSending, BreaksTurn, FitsWith, HearsAsCourse, HearsStops, IsRead, IsReadyToSend, MakesTurn, ReadsAs, Receives, RunRuns, SendsDue, SentAsCourse, SentStops, TurnsAsCourse, TurnsStop, link_at, links_from, place_at}
+use Rattle.sync_node.specs.Courses.{AllRead, FitsWith, HaltsReceiving, HaltsSending, HaltsTurn, HearsAsCourse, HearsStops, IsRead, IsReadyToSend, MakesTurn, Receives, RunCounts, RunHalts, RunRuns, SendsDue, SentAsCourse, SentStops, TurnsAsCourse, TurnsStop, link_at, links_from, place_at}
 use Rattle.sync_node.proofs.CourseTakes.{full_then}
 use Rattle.sync_node.specs.Fulls.{FullReceiving, FullSending, FullTurn, HearsFull, SentFull, TurnsFull}
-use Rattle.sync_node.proofs.CourseRuns.{all_read, link_broken, link_in_run, link_limit, heard_with, length_from}
+use Rattle.sync_node.proofs.CourseRuns.{all_read, heard_with, length_from, link_counted, link_halted, link_in_run, link_limit, run_halts_behind}
 use Rattle.sync_node.proofs.CourseTurns.{may_end, read_on}
 
 -- ---- a whole turn
@@ -101,14 +101,16 @@ turn_made clients first n links mid links' s s' o o' quiet all turns closes exac
       };
 }
 
-pub turn_broken : (clients : Meaning) (first : ℕ) (links : List Link) (s : StoreValue)
-    (o o' : Outside) → TurnsStop clients first links s o o'
-    → BreaksTurn clients first links s o o'
-turn_broken clients first links s o o' stopped = record {
+pub turn_halted : (clients : Meaning) (first : ℕ) (links links' : List Link) (s : StoreValue)
+    (o o' : Outside) → TurnsStop clients first links links' s o o'
+    → HaltsTurn clients first links links' s o o'
+turn_halted clients first links links' s o o' stopped = record {
   stops = λ terms heard moved still made same read on.
-      breaks_then (RunStep clients terms) (FitsWith clients s o.files) (FitsWith clients s o.files) (ReadsAs clients o'.files)
-      (place_at Between links heard moved still made s.state.facts) (place_at (Works 0 Asks) links heard false still made s.state.facts) o o o'
-      (turn_begun clients terms links s o heard moved still made on) (stopped.stops terms heard false still made same read);
+      let halts = stopped.stops terms heard false still made same read in (
+        halts.0,
+        run_halts_behind clients terms (links_from 0 links' halts.0) s s o o o' (place_at Between links heard moved still made s.state.facts)
+            (place_at (Works 0 Asks) links heard false still made s.state.facts) (turn_begun clients terms links s o heard moved still made on) halts.1,
+      );
 }
 
 pub turn_limit : (clients : Meaning) (first : ℕ) (links : List Link) (s s' : StoreValue)
@@ -159,11 +161,14 @@ module _ (clients : Meaning) (first n : ℕ) (links : List Link) (l : Link) (s :
         };
   }
 
-  pub receiving_broken : (o' : Outside) → HearsStops clients n l s o o'
-      → BreaksReceiving clients first n links s o o'
-  receiving_broken o' stopped = record {
+  pub receiving_halted : (l' : Link) (o' : Outside) → HearsStops clients n l l' s o o'
+      → HaltsReceiving clients first n links (slice_set links n l') s o o'
+  receiving_halted l' o' stopped = record {
     stops = λ terms heard moved still made same read.
-        link_broken clients first n links l s o at numbered terms same heard moved still made Asks o' (stopped.stops (heard n) moved (read n l at));
+        let halts = stopped.stops (heard n) moved (read n l at) in (
+          heard_with n halts.0 heard,
+          link_halted clients first n links l s o at numbered terms same heard moved still made Asks l' o' halts.0 halts.1,
+        );
   }
 
   pub receiving_full : (s' : StoreValue) (o' : Outside) → HearsFull clients n l s s' o o'
@@ -194,16 +199,20 @@ module _ (clients : Meaning) (first n : ℕ) (links : List Link) (l : Link) (s :
             made = made;
             facts = s'.state.facts;
           }) (same_heard 0 n (slice_set links n l') heard) in
-          subst (λ (q : Place). RunRuns clients terms from q s s' o o') is
-          (link_in_run clients first n links l s o at numbered terms same heard moved still made (Sends now MAX_OUTPUTS) Done l' s' o' (heard n) (cond (nat_lt 0 outs) true moved)
+          subst (λ (q : Place). RunCounts clients terms from q s s' o o' outs) is
+          (link_counted clients first n links l s o at numbered terms same heard moved still made (Sends now MAX_OUTPUTS) Done l' s' o' (heard n) (cond (nat_lt 0 outs) true moved) outs
           (sent.runs (heard n) moved (may_end l.end may)));
     }
 
-    pub sending_broken : (o' : Outside) → SentStops clients n now l s o o'
-        → BreaksSending clients first n now links s o o'
-    sending_broken o' stopped = record {
+    pub sending_halted : (l' : Link) (o' : Outside) → SentStops clients n now l l' s o o'
+        → HaltsSending clients first n now links (slice_set links n l') s o o'
+    sending_halted l' o' stopped = record {
       stops = λ terms heard moved still made same.
-          link_broken clients first n links l s o at numbered terms same heard moved still made (Sends now MAX_OUTPUTS) o' (stopped.stops (heard n) moved (may_end l.end may));
+          subst (λ (ls : List course_links.Link). RunHalts clients terms
+          (place_at (Works n (Sends now MAX_OUTPUTS)) links heard moved still made s.state.facts) ls s o o')
+          (same_heard 0 n (slice_set links n l') heard)
+          (link_halted clients first n links l s o at numbered terms same heard moved still made (Sends now MAX_OUTPUTS) l' o' (heard n)
+          (stopped.stops (heard n) moved (may_end l.end may)));
     }
 
     pub sending_full : (s' : StoreValue) (o' : Outside) → SentFull clients n now l s s' o o'

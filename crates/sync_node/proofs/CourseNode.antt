@@ -4,7 +4,7 @@ use Rattle.outside.specs.Outside.{Outside}
 use Rattle.sync_rules.specs.Clients.{Meaning}
 use Rattle.sync_store.specs.Store.{StoreValue}
 use Rattle.sync_node.specs.declared.link.Link.{Link}
-use Rattle.sync_node.specs.Courses.{BreaksReceiving, BreaksSending, BreaksTurn, MakesTurn, Receives, SendsDue}
+use Rattle.sync_node.specs.Courses.{HaltsReceiving, HaltsSending, HaltsTurn, MakesTurn, Receives, SendsDue}
 use Rattle.sync_node.specs.Fulls.{FullReceiving, FullSending, FullTurn}
 use Rattle.sync_node.specs.Node.{NodeValue}
 use Rattle.sync_node.proofs.NodeLaws.{node_of}
@@ -22,11 +22,12 @@ module _ (clients : Meaning) (s : StoreValue) (first : ℕ) (links : List Link) 
       (subst (λ (ls : List Link). MakesTurn clients first lent ls s s' o o' quiet) (sym is_kept)
       (subst (λ (b : Bool). MakesTurn clients first lent new s s' o o' b) is_found makes)))
 
-  pub node_turn_broken : (lent : List Link) → lent ≡ links → BreaksTurn clients first lent s o o'
-      → BreaksTurn clients n.first n.links n.store o o'
-  node_turn_broken lent is_lent breaks =
-      subst (λ (x : NodeValue). BreaksTurn clients x.first x.links x.store o o') is
-      (subst (λ (ls : List Link). BreaksTurn clients first ls s o o') is_lent breaks)
+  pub node_turn_halted : (lent new kept : List Link) → lent ≡ links → kept ≡ new
+      → HaltsTurn clients first lent new s o o' → HaltsTurn clients n.first n.links kept n.store o o'
+  node_turn_halted lent new kept is_lent is_kept halts =
+      subst (λ (x : NodeValue). HaltsTurn clients x.first x.links kept x.store o o') is
+      (subst (λ (ls : List Link). HaltsTurn clients first ls kept s o o') is_lent
+      (subst (λ (ls : List Link). HaltsTurn clients first lent ls s o o') (sym is_kept) halts))
 
   -- a call on one link
   pub node_receives : (link : ℕ) (s' : StoreValue) (links' : List Link) (idle : Bool)
@@ -34,18 +35,20 @@ module _ (clients : Meaning) (s : StoreValue) (first : ℕ) (links : List Link) 
       → Receives clients n.first link n.links links' n.store s' o o' idle
   node_receives link s' links' idle receives = subst (λ (x : NodeValue). Receives clients x.first link x.links links' x.store s' o o' idle) is receives
 
-  pub node_receiving_broken : (link : ℕ) → BreaksReceiving clients first link links s o o'
-      → BreaksReceiving clients n.first link n.links n.store o o'
-  node_receiving_broken link breaks = subst (λ (x : NodeValue). BreaksReceiving clients x.first link x.links x.store o o') is breaks
+  pub node_receiving_halted : (link : ℕ) (links' : List Link)
+      → HaltsReceiving clients first link links links' s o o'
+      → HaltsReceiving clients n.first link n.links links' n.store o o'
+  node_receiving_halted link links' halts = subst (λ (x : NodeValue). HaltsReceiving clients x.first link x.links links' x.store o o') is halts
 
   pub node_sends : (link now : ℕ) (s' : StoreValue) (links' : List Link) (outs : ℕ)
       → SendsDue clients first link now links links' s s' o o' outs
       → SendsDue clients n.first link now n.links links' n.store s' o o' outs
   node_sends link now s' links' outs sends = subst (λ (x : NodeValue). SendsDue clients x.first link now x.links links' x.store s' o o' outs) is sends
 
-  pub node_sending_broken : (link now : ℕ) → BreaksSending clients first link now links s o o'
-      → BreaksSending clients n.first link now n.links n.store o o'
-  node_sending_broken link now breaks = subst (λ (x : NodeValue). BreaksSending clients x.first link now x.links x.store o o') is breaks
+  pub node_sending_halted : (link now : ℕ) (links' : List Link)
+      → HaltsSending clients first link now links links' s o o'
+      → HaltsSending clients n.first link now n.links links' n.store o o'
+  node_sending_halted link now links' halts = subst (λ (x : NodeValue). HaltsSending clients x.first link now x.links links' x.store o o') is halts
 
   -- the limit
   pub node_turn_full : (s' : StoreValue) (lent : List Link) → lent ≡ links

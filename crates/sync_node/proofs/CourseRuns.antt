@@ -9,15 +9,16 @@ use Rattle.sync_store.specs.Store.{StoreValue}
 use Rattle.sync_course.specs.CallLaws.{runs_none}
 use Rattle.sync_course.specs.Events.{Commit}
 use Rattle.sync_course.specs.PathLaws.{path_one}
-use Rattle.sync_course.specs.LiftLaws.{breaks_lifted, get_other, get_set, get_within, link_lifts, runs_lifted, runs_next, set_same}
+use Rattle.sync_course.specs.LiftLaws.{get_other, get_set, get_within, lifted_step, link_lifts, runs_lifted, runs_next, set_same}
 use Rattle.sync_course.specs.Links as course_links
 use Rattle.sync_course.specs.LinkTurns.{Asks, Doing, Done, LinkStep, Spot}
-use Rattle.sync_course.specs.ToldLaws.{breaks_then, runs_then}
+use Rattle.sync_course.specs.ToldLaws.{runs_then}
+use Rattle.sync_course.proofs.Counted.{counted_lifted}
 use Rattle.sync_course.specs.Turns.{Place, RunStep, Terms, Works, with_spot}
 use Rattle.sync_node.specs.declared.link.Link.{Link}
 use Rattle.sync_node.proofs.CourseTakes.{full_then}
 use Rattle.sync_node.specs.Fulls.{HearsFull, LinkFull, RunFull, TurnsFull}
-use Rattle.sync_node.specs.Courses.{AllRead, FitsWith, HearsStops, IsRead, LinkBreaks, LinkRuns, ReadsAs, RunBreaks, RunRuns, TurnAsCourse, TurnsAsCourse, TurnsStop, link_at, links_from, place_at, spot_at}
+use Rattle.sync_node.specs.Courses.{AllRead, FitsWith, HearsStops, IsRead, LinkCounts, LinkHalts, LinkRuns, ReadsAs, RunCounts, RunHalts, RunRuns, TurnAsCourse, TurnsAsCourse, TurnsStop, link_at, links_from, place_at, spot_at}
 
 -- ---- lists of links
 
@@ -132,6 +133,43 @@ full_lifted clients terms n place within p s s' o o' full =
       over = full.over;
     }
 
+-- a link's turn in the run, up to where it was broken off
+pub halts_lifted : (clients : Meaning) (terms : Terms) (n : ℕ) (place : Place)
+    → n < length place.links → (p : Spot) (link : course_links.Link) (s : StoreValue)
+    (o o' : Outside) → LinkHalts clients n (terms.first + n) p link s o o'
+    → RunHalts clients terms (with_spot n p place) (slice_set place.links n link) s o o'
+halts_lifted clients terms n place within p link s o o' halts = record {
+  breaks = record {
+    to = with_spot n halts.breaks.to place;
+    runs =
+        runs_lifted clients terms n place within (FitsWith clients s o.files) (ReadsAs clients o'.files) p halts.breaks.to o o' halts.breaks.runs;
+  };
+  stands = elim halts.stands [
+    | inl has ↦ inl (ap (λ (x : course_links.Link). slice_set place.links n x) has)
+    | inr will ↦
+        inr (record {
+          batch = will.batch;
+          next = with_spot n will.next place;
+          steps = lifted_step clients terms n place within halts.breaks.to will.next (Commit will.batch) will.steps;
+          has = ap (λ (x : course_links.Link). slice_set place.links n x) will.has;
+        })
+  ];
+}
+
+-- a run was broken off behind what was done
+pub run_halts_behind : (clients : Meaning) (terms : Terms) (links : List course_links.Link)
+    (s s1 : StoreValue) (o o1 o' : Outside) (p q : Place) → RunRuns clients terms p q s s1 o o1
+    → RunHalts clients terms q links s1 o1 o' → RunHalts clients terms p links s o o'
+run_halts_behind clients terms links s s1 o o1 o' p q first second = record {
+  breaks = record {
+    to = second.breaks.to;
+    runs =
+        runs_then (RunStep clients terms) (FitsWith clients s o.files) (FitsWith clients s1 o1.files) (ReadsAs clients o'.files)
+        p q second.breaks.to o o1 o' first second.breaks.runs;
+  };
+  stands = second.stands;
+}
+
 -- ---- one link in the run
 
 module _ (clients : Meaning) (first n : ℕ) (links : List Link) (l : Link) (s : StoreValue) (o : Outside) (at : slice_get links n ≡ Some l)
@@ -194,16 +232,40 @@ module _ (clients : Meaning) (first n : ℕ) (links : List Link) (l : Link) (s :
         (start_here doing)
         (subst (λ (x : Place). RunRuns clients terms (with_spot n p place) x s s' o o') (end_there doing doing' l' s'.state.facts bytes moved') lifted)
 
-    pub link_broken : (doing : Doing) (o' : Outside)
-        → LinkBreaks clients n l.session.number (spot_at doing l (heard n) moved s.state.facts) s o o'
-        → RunBreaks clients terms (place_at (Works n doing) links heard moved still made s.state.facts) s o o'
-    link_broken doing o' breaks =
+    -- the same, with the number of batches that were committed
+    pub link_counted : (doing doing' : Doing) (l' : Link) (s' : StoreValue) (o' : Outside)
+        (bytes : List ℕ) (moved' : Bool) (count : ℕ)
+        → LinkCounts clients n l.session.number (spot_at doing l (heard n) moved s.state.facts)
+        (spot_at doing' l' bytes moved' s'.state.facts) s s' o o' count
+        → RunCounts clients terms (place_at (Works n doing) links heard moved still made s.state.facts)
+        (place_at (Works n doing') (slice_set links n l') (heard_with n bytes heard) moved' still made s'.state.facts) s s' o o' count
+    link_counted doing doing' l' s' o' bytes moved' count counts =
+        let place : Place = place_at (Works n doing) links heard moved still made s.state.facts in
+        let p : Spot = spot_at doing l (heard n) moved s.state.facts in
+        let q : Spot = spot_at doing' l' bytes moved' s'.state.facts in
+        let within : n < length place.links = get_within (links_from 0 links heard) n (link_at l (heard n)) at_course in
+        let lifted : RunCounts clients terms (with_spot n p place) (with_spot n q place) s s' o o' count =
+        counted_lifted clients terms n place within (FitsWith clients s o.files) (FitsWith clients s' o'.files) p q o o' count
+        (subst (λ (k : ℕ). LinkCounts clients n k p q s s' o o' count) in_terms counts) in
+        subst (λ (x : Place). RunCounts clients terms x (place_at (Works n doing') (slice_set links n l') (heard_with n bytes heard) moved' still made s'.state.facts) s s' o o' count)
+        (start_here doing)
+        (subst (λ (x : Place). RunCounts clients terms (with_spot n p place) x s s' o o' count) (end_there doing doing' l' s'.state.facts bytes moved') lifted)
+
+    pub link_halted : (doing : Doing) (l' : Link) (o' : Outside) (bytes : List ℕ)
+        → LinkHalts clients n l.session.number (spot_at doing l (heard n) moved s.state.facts) (link_at l' bytes) s o o'
+        → RunHalts clients terms (place_at (Works n doing) links heard moved still made s.state.facts)
+        (links_from 0 (slice_set links n l') (heard_with n bytes heard)) s o o'
+    link_halted doing l' o' bytes halts =
         let place : Place = place_at (Works n doing) links heard moved still made s.state.facts in
         let p : Spot = spot_at doing l (heard n) moved s.state.facts in
         let within : n < length place.links = get_within (links_from 0 links heard) n (link_at l (heard n)) at_course in
-        subst (λ (x : Place). RunBreaks clients terms x s o o') (start_here doing)
-        (breaks_lifted clients terms n place within (FitsWith clients s o.files) (ReadsAs clients o'.files) p o o'
-        (subst (λ (k : ℕ). LinkBreaks clients n k p s o o') in_terms breaks))
+        let plain : 0 + n ≡ n = omega arith in
+        let set : slice_set (links_from 0 links heard) n (link_at l' bytes) ≡ links_from 0 (slice_set links n l') (heard_with n bytes heard) =
+        set_at 0 n links heard l' bytes ∙ ap (λ (j : ℕ). links_from 0 (slice_set links n l') (heard_with j bytes heard)) plain in
+        subst (λ (x : Place). RunHalts clients terms x (links_from 0 (slice_set links n l') (heard_with n bytes heard)) s o o') (start_here doing)
+        (subst (λ (ls : List course_links.Link). RunHalts clients terms (with_spot n p place) ls s o o') set
+        (halts_lifted clients terms n place within p (link_at l' bytes) s o o'
+        (subst (λ (k : ℕ). LinkHalts clients n k p (link_at l' bytes) s o o') in_terms halts)))
 
     pub link_limit : (doing : Doing) (s' : StoreValue) (o' : Outside)
         → LinkFull clients n l.session.number (spot_at doing l (heard n) moved s.state.facts) s s' o o'
@@ -261,16 +323,19 @@ module _ (clients : Meaning) (first n : ℕ) (links0 links : List Link) (l : Lin
         };
   }
 
-  pub turns_stop : (o' : Outside) → HearsStops clients n l s o o'
-      → TurnsStop clients first links0 s0 o0 o'
-  turns_stop o' stopped = record {
+  pub turns_stop : (l' : Link) (o' : Outside) → HearsStops clients n l l' s o o'
+      → TurnsStop clients first links0 (slice_set links n l') s0 o0 o'
+  turns_stop l' o' stopped = record {
     stops = λ terms heard moved still made same read.
         let so = a.leads terms heard moved still made same read in
-        breaks_then (RunStep clients terms) (FitsWith clients s0 o0.files) (FitsWith clients s o.files) (ReadsAs clients o'.files)
-        (place_at (Works 0 Asks) links0 heard moved still made s0.state.facts)
-        (place_at (Works n Asks) links so.heard' (cond quiet moved true) still made s.state.facts) o0 o o' so.runs
-        (link_broken clients first n links l s o at numbered terms same so.heard' (cond quiet moved true) still made Asks o'
-        (stopped.stops (so.heard' n) (cond quiet moved true) (so.has_read n l at)));
+        let halts = stopped.stops (so.heard' n) (cond quiet moved true) (so.has_read n l at) in
+        let heard' : ℕ → List ℕ = heard_with n halts.0 so.heard' in (
+          heard',
+          run_halts_behind clients terms (links_from 0 (slice_set links n l') heard') s0 s o0 o o'
+              (place_at (Works 0 Asks) links0 heard moved still made s0.state.facts)
+              (place_at (Works n Asks) links so.heard' (cond quiet moved true) still made s.state.facts) so.runs
+              (link_halted clients first n links l s o at numbered terms same so.heard' (cond quiet moved true) still made Asks l' o' halts.0 halts.1),
+        );
   }
 
   pub turns_full : (s' : StoreValue) (o' : Outside) → HearsFull clients n l s s' o o'

@@ -13,9 +13,9 @@ use Rattle.sync_rules.specs.declared.entries.Entry.{Entry}
 use Rattle.sync_rules.specs.declared.entries.Session.{Session}
 use Rattle.sync_store.specs.Ready.{IsReady}
 use Rattle.sync_store.specs.Store.{StoreValue}
-use Rattle.sync_course.specs.CallLaws.{runs_none}
+use Rattle.sync_course.specs.CallLaws.{runs_commits, runs_none}
 use Rattle.sync_course.specs.Events.{Break, Told}
-use Rattle.sync_course.specs.LiftLaws.{breaks_attached, runs_attached, runs_greeted, runs_ungreeted}
+use Rattle.sync_course.specs.LiftLaws.{runs_attached, runs_greeted, runs_ungreeted}
 use Rattle.sync_course.specs.Links as course_links
 use Rattle.sync_course.specs.Links.{link_of}
 use Rattle.sync_course.specs.ReadingLaws.{HasRead, fresh_has_read}
@@ -26,9 +26,9 @@ use Rattle.sync_node.specs.declared.link.Link.{Link}
 use Rattle.sync_course.specs.declared.ends.LinkEnd.{LinkEnd}
 use Rattle.sync_course.specs.declared.ends.LinkEnd.TheVariants as link_end
 use Rattle.sync_node.specs.CourseLaws.{fits_on}
-use Rattle.sync_node.proofs.CourseTakes.{full_here}
+use Rattle.sync_node.proofs.CourseTakes.{full_here, none_or_one}
 use Rattle.sync_node.specs.Fulls.{FullBeginning, FullStart, IsOver}
-use Rattle.sync_node.specs.Courses.{Adds, AddsSome, Begins, BreaksBeginning, BreaksStart, FitsWith, GreetsAsCourse, IsRead, ReadsAs, RunRuns, StartsAsCourse, StartsBehind, attaching_at, link_at, links_from, place_at}
+use Rattle.sync_node.specs.Courses.{Adds, AddsSome, Begins, BreaksStart, FitsWith, GreetsAsCourse, HaltsBeginning, IsRead, ReadsAs, RunHalts, RunRuns, StartsAsCourse, StartsBehind, attaching_at, link_at, links_from, place_at}
 use Rattle.sync_node.proofs.CourseRuns.{length_from}
 use Rattle.sync_node.specs.Node.{NodeValue}
 use Rattle.sync_node.specs.Sending.{EndsBy, SendsOn}
@@ -144,9 +144,25 @@ module _ (clients : Meaning) (x : Session) (s : StoreValue) (o : Outside) (batch
       → BreaksStart clients x s o o'
   start_broken o' adds = record {
     stops = λ terms left links moved still made.
-        breaks_attached clients terms (FitsWith clients s o.files) (ReadsAs clients o'.files) adds.stood.front adds.stood.others adds.stood.reads x left
-        (attaching_at (x ∷ left) links moved still made s.state.facts) o o' refl allowed adds.same_links
-        (ap (λ (b : List Entry). b ∷ []) (sym is) ∙ adds.stood.parts);
+        let p : Place = attaching_at (x ∷ left) links moved still made s.state.facts in
+        elim (none_or_one clients batch s o o' adds) [
+          | inl none ↦ record {
+            breaks = record {
+              to = p;
+              runs = runs_commits (RunStep clients terms) (FitsWith clients s o.files) (ReadsAs clients o'.files) [] none p p o o' adds.same_links refl;
+            };
+            stands = inl refl;
+          }
+          | inr one ↦ record {
+            breaks = record {
+              to = greeting_at terms left links moved still made (after_all s.state.facts (session_batch x));
+              runs =
+                  runs_attached clients terms (FitsWith clients s o.files) (ReadsAs clients o'.files) x left p o o' refl allowed adds.same_links
+                  (subst (λ (b : List Entry). (j : List (List Entry)) → FitsWith clients s o.files j → ReadsAs clients o'.files (j ++ b ∷ [])) is one);
+            };
+            stands = inl refl;
+          }
+        ];
   }
 
   -- a session that would have passed the limit
@@ -186,10 +202,13 @@ pub start_none : (clients : Meaning) (x : Session) (s : StoreValue) (o : Outside
     → BreaksStart clients x s o o
 start_none clients x s o = record {
   stops = λ terms left links moved still made. record {
-    to = attaching_at (x ∷ left) links moved still made s.state.facts;
-    runs =
-        runs_none (RunStep clients terms) (FitsWith clients s o.files) (ReadsAs clients o.files) (λ j fit. (fit.0, fit.1, fit.2.stands_for))
-        (attaching_at (x ∷ left) links moved still made s.state.facts) o;
+    breaks = record {
+      to = attaching_at (x ∷ left) links moved still made s.state.facts;
+      runs =
+          runs_none (RunStep clients terms) (FitsWith clients s o.files) (ReadsAs clients o.files) (λ j fit. (fit.0, fit.1, fit.2.stands_for))
+          (attaching_at (x ∷ left) links moved still made s.state.facts) o;
+    };
+    stands = inl refl;
   };
 }
 
@@ -231,9 +250,12 @@ module _ (clients : Meaning) (x : Session) (links : List Link) (s : StoreValue)
         (behind.starts.runs two told terms left (links_from 0 links heard) moved still made (length_from 0 links heard ∙ last));
   }
 
-  pub beginning_broken : BreaksStart clients x s o o' → BreaksBeginning clients x links s o o'
-  beginning_broken breaks = record {
-    stops = λ terms left heard moved still made. breaks.stops terms left (links_from 0 links heard) moved still made;
+  pub beginning_halted : (links' : List Link) → links' ≡ links → BreaksStart clients x s o o'
+      → HaltsBeginning clients x links links' s o o'
+  beginning_halted links' same breaks = record {
+    stops = λ terms left heard moved still made.
+        subst (λ (ls : List Link). RunHalts clients terms (place_at (Attaches (x ∷ left)) links heard moved still made s.state.facts) (links_from 0 ls heard) s o o')
+        (sym same) (breaks.stops terms left (links_from 0 links heard) moved still made);
   }
 
   pub beginning_full : (s' : StoreValue) → FullStart clients x s s' o o'
@@ -249,11 +271,11 @@ module _ (clients : Meaning) (x : Session) (links : List Link) (s : StoreValue)
         subst (λ (m : NodeValue). Begins clients y m.links links' m.store s' o o') is
         (subst (λ (z : Session). Begins clients z links links' s s' o o') same begins)
 
-    pub node_beginning_broken : BreaksBeginning clients x links s o o'
-        → BreaksBeginning clients y n.links n.store o o'
-    node_beginning_broken breaks =
-        subst (λ (m : NodeValue). BreaksBeginning clients y m.links m.store o o') is
-        (subst (λ (z : Session). BreaksBeginning clients z links s o o') same breaks)
+    pub node_beginning_halted : (links' : List Link) → HaltsBeginning clients x links links' s o o'
+        → HaltsBeginning clients y n.links links' n.store o o'
+    node_beginning_halted links' halts =
+        subst (λ (m : NodeValue). HaltsBeginning clients y m.links links' m.store o o') is
+        (subst (λ (z : Session). HaltsBeginning clients z links links' s o o') same halts)
 
     pub node_beginning_full : (s' : StoreValue) → FullBeginning clients x links s s' o o'
         → FullBeginning clients y n.links n.store s' o o'

@@ -1,6 +1,6 @@
 -- A record that is taken, the next item, and a piece, as a course has them; and a batch that would
 -- pass the limit.
-use Rattle.std.proofs.Common.{◌≡◌, ℕ, Bool, true, false, cond, List, [], ◌∷◌, ◌++◌, append-nil, refl, sym, ◌∙◌, ap, subst, inr, arith, Option, Some, None, Err}
+use Rattle.std.proofs.Common.{◌≡◌, ◌⊎◌, ℕ, Bool, true, false, cond, List, [], ◌∷◌, ◌++◌, append-nil, refl, sym, ◌∙◌, ap, subst, inl, inr, arith, Option, Some, None, Err}
 use Rattle.outside.specs.Files.{Two, File}
 use Rattle.outside.specs.Outside.{DiskRun, Outside}
 use Rattle.sync_rules.specs.declared.entries.Entry.{Entry}
@@ -32,8 +32,9 @@ use Rattle.record_stream.specs.Pieces.{ReadingsFollow}
 use Rattle.record_stream.specs.Reading.{AwaitsBytes, EndsBad, ReadsOn}
 use Rattle.sync_ids.specs.declared.records.Record.TheVariants as record_kind
 use Rattle.sync_rules.specs.Steps.{IsSettled}
-use Rattle.sync_course.specs.CallLaws.{breaks_settled, breaks_taken, runs_commits, runs_none, runs_passed, runs_settled, runs_taken}
+use Rattle.sync_course.specs.CallLaws.{runs_commits, runs_none, runs_passed, runs_settled, runs_taken}
 use Rattle.sync_course.specs.LinkLaws.{contains_zero, zero_contained}
+use Rattle.sync_course.specs.Links as course_links
 use Rattle.sync_course.specs.Links.{closes, has_zero, items_after, link_after, nonce_after, stands_behind}
 use Rattle.sync_course.specs.Events.{Commit, Event}
 use Rattle.sync_course.specs.Paths.{Runs}
@@ -43,10 +44,11 @@ use Rattle.sync_node.specs.declared.link.Link.{Link}
 use Rattle.sync_course.specs.declared.ends.LinkEnd.{LinkEnd}
 use Rattle.sync_course.specs.declared.ends.LinkEnd.TheVariants as link_end
 use Rattle.sync_node.specs.Hearing.{ClosesBy, Learns, nonce_with}
-use Rattle.sync_course.specs.ToldLaws.{breaks_then, runs_then}
+use Rattle.sync_course.specs.ToldLaws.{runs_then}
 use Rattle.sync_node.specs.Fulls.{IsOver, LinkFull, NextFull, StopsFull, TakesFull}
-use Rattle.sync_node.specs.Courses.{Adds, AddsSettling, AddsSome, AddsSomeSettling, FitsWith, IsTaking, LinkBreaks, LinkRuns, NextAsCourse, NextStops, PieceAsCourse, PieceTaken, ReadsAs, StopsAsCourse, TakesAsCourse, link_at, spot_at}
+use Rattle.sync_node.specs.Courses.{Adds, AddsSettling, AddsSome, AddsSomeSettling, FitsWith, IsTaking, LinkBreaks, LinkHalts, LinkRuns, NextAsCourse, NextStops, PieceAsCourse, PieceTaken, ReadsAs, StopsAsCourse, TakesAsCourse, link_at, spot_at}
 use Rattle.sync_node.specs.CourseLaws.{told_as}
+use Rattle.sync_node.proofs.CommitLaws.{settling_front}
 
 -- a call was broken off before anything was done
 breaks_none : (clients : Meaning) (n session : ℕ) (p : Spot) (s : StoreValue) (o : Outside)
@@ -57,6 +59,52 @@ breaks_none clients n session p s o = record {
       runs_none (LinkStep clients n session) (FitsWith clients s o.files) (ReadsAs clients o.files)
       (λ j fit. (fit.0, fit.1, fit.2.stands_for)) p o;
 }
+
+-- and the link stands as it did
+pub halts_none : (clients : Meaning) (n session : ℕ) (p : Spot) (s : StoreValue) (o : Outside)
+    → LinkHalts clients n session p p.link s o o
+halts_none clients n session p s o = record {
+  breaks = record {
+    to = p;
+    runs =
+        runs_none (LinkStep clients n session) (FitsWith clients s o.files) (ReadsAs clients o.files)
+        (λ j fit. (fit.0, fit.1, fit.2.stands_for)) p o;
+  };
+  stands = inl refl;
+}
+
+-- it was broken off behind what was done
+pub halts_behind : (clients : Meaning) (n session : ℕ) (link : course_links.Link) (s s1 : StoreValue)
+    (o o1 o' : Outside) (p q : Spot) → LinkRuns clients n session p q s s1 o o1
+    → LinkHalts clients n session q link s1 o1 o' → LinkHalts clients n session p link s o o'
+halts_behind clients n session link s s1 o o1 o' p q first second = record {
+  breaks = record {
+    to = second.breaks.to;
+    runs =
+        runs_then (LinkStep clients n session) (FitsWith clients s o.files) (FitsWith clients s1 o1.files) (ReadsAs clients o'.files)
+        p q second.breaks.to o o1 o' first second.breaks.runs;
+  };
+  stands = second.stands;
+}
+
+-- a batch that was to be committed stands in the files as they read, or it does not
+module _ (clients : Meaning) (batch : List Entry) (s : StoreValue) (o o' : Outside) where
+  abbrev pub ReadsWith : List (List Entry) → Type 0
+  ReadsWith more = (j : List (List Entry)) → FitsWith clients s o.files j → ReadsAs clients o'.files (j ++ more)
+
+  by_front : (front others : List (List Entry)) → batch ∷ [] ≡ front ++ others → ReadsWith front
+      → ReadsWith [] ⊎ ReadsWith (batch ∷ [])
+  by_front [] others parts reads = inl reads
+  by_front (x ∷ []) others parts reads =
+      let one : batch ∷ [] ≡ x ∷ others = parts in
+      let is : x ≡ batch = cc in
+      inr (subst (λ (y : List Entry). ReadsWith (y ∷ [])) is reads)
+  by_front (x ∷ (y ∷ ys)) others parts reads =
+      let two : batch ∷ [] ≡ x ∷ (y ∷ (ys ++ others)) = parts in
+      cc
+
+  pub none_or_one : AddsSome clients (batch ∷ []) s o o' → ReadsWith [] ⊎ ReadsWith (batch ∷ [])
+  none_or_one adds = by_front adds.stood.front adds.stood.others adds.stood.parts adds.stood.reads
 
 -- ---- a record that is taken
 
@@ -95,9 +143,28 @@ stops_at_commit clients session r s o o' batch is allowed adds = record {
   stops = λ n place its p takes same.
       let b : List Entry = next_take p.facts session r in
       let is_b : batch ≡ b = is ∙ ap (λ f. next_take f session r) (sym same) in
-      breaks_taken clients n session (FitsWith clients s o.files) (ReadsAs clients o'.files) adds.stood.front adds.stood.others adds.stood.reads
-      place r its p o o' takes (subst (λ f. Allowed clients f b) (sym same) (subst (Allowed clients s.state.facts) is_b allowed)) adds.same_links
-      (ap (λ (x : List Entry). x ∷ []) (sym is_b) ∙ adds.stood.parts);
+      let q : Spot = taken_spot place r its b p in
+      let may : Allowed clients p.facts b = subst (λ f. Allowed clients f b) (sym same) (subst (Allowed clients s.state.facts) is_b allowed) in
+      let step : LinkStep clients n session p (Commit b) q =
+      subst (λ (d : Doing). StepOf clients n session d (Commit b) p q) (sym takes) (inr (refl, may, refl)) in
+      elim (none_or_one clients batch s o o' adds) [
+        | inl none ↦ record {
+          breaks = record {
+            to = p;
+            runs = runs_commits (LinkStep clients n session) (FitsWith clients s o.files) (ReadsAs clients o'.files) [] none p p o o' adds.same_links refl;
+          };
+          stands = inr (record { batch = b; next = q; steps = step; has = refl });
+        }
+        | inr one ↦ record {
+          breaks = record {
+            to = q;
+            runs =
+                runs_taken clients n session (FitsWith clients s o.files) (ReadsAs clients o'.files) place r its p o o' takes may adds.same_links
+                (subst (λ (x : List Entry). (j : List (List Entry)) → FitsWith clients s o.files j → ReadsAs clients o'.files (j ++ x ∷ [])) is_b one);
+          };
+          stands = inl refl;
+        }
+      ];
 }
 
 pub stops_at_settle : (clients : Meaning) (session : ℕ) (r : Record) (s mid : StoreValue)
@@ -116,16 +183,44 @@ stops_at_settle clients session r s mid o m o' batch is allowed facts_are adds s
       runs_taken clients n session (FitsWith clients s o.files) (FitsWith clients mid m.files) place r its p o m takes
       (subst (λ f. Allowed clients f b) (sym same) (subst (Allowed clients s.state.facts) is_b allowed)) adds.same_links
       (λ j fit. subst (λ (x : List Entry). FitsWith clients mid m.files (j ++ x ∷ [])) is_b (adds.grows j fit)) in
-      breaks_then (LinkStep clients n session) (FitsWith clients s o.files) (FitsWith clients mid m.files) (ReadsAs clients o'.files) p q o m o' first
-      (breaks_settled clients n session (FitsWith clients mid m.files) (ReadsAs clients o'.files) settles.adds.stood.front settles.adds.stood.others
-      settles.adds.stood.reads (items_after r its) settles.more q m o' refl
-      (subst (λ f. AllSettling clients f settles.more) (sym q_facts) settles.settling) settles.adds.same_links settles.adds.stood.parts);
+      let front : List (List Entry) = settles.adds.stood.front in
+      let settling : AllSettling clients q.facts front =
+      settling_front clients q.facts front settles.adds.stood.others
+      (subst (λ (bs : List (List Entry)). AllSettling clients q.facts bs) settles.adds.stood.parts
+      (subst (λ f. AllSettling clients f settles.more) (sym q_facts) settles.settling)) in
+      let to : Spot = record q { facts = after_batches q.facts front } in
+      record {
+        breaks = record {
+          to = to;
+          runs =
+              runs_then (LinkStep clients n session) (FitsWith clients s o.files) (FitsWith clients mid m.files) (ReadsAs clients o'.files) p q to o m o' first
+              (runs_settled clients n session (FitsWith clients mid m.files) (ReadsAs clients o'.files) (items_after r its) front q m o' refl settling
+              settles.adds.same_links settles.adds.stood.reads);
+        };
+        stands = inl refl;
+      };
 }
 
+-- before anything was done
 pub stops_at_none : (clients : Meaning) (session : ℕ) (r : Record) (s : StoreValue) (o : Outside)
+    (batch : List Entry)
+    → batch ≡ next_take s.state.facts session r → Allowed clients s.state.facts batch
     → StopsAsCourse clients session r s o o
-stops_at_none clients session r s o = record {
-  stops = λ n place its p takes same. breaks_none clients n session p s o;
+stops_at_none clients session r s o batch is allowed = record {
+  stops = λ n place its p takes same.
+      let b : List Entry = next_take p.facts session r in
+      let is_b : batch ≡ b = is ∙ ap (λ f. next_take f session r) (sym same) in
+      let q : Spot = taken_spot place r its b p in
+      let may : Allowed clients p.facts b = subst (λ f. Allowed clients f b) (sym same) (subst (Allowed clients s.state.facts) is_b allowed) in
+      record {
+        breaks = breaks_none clients n session p s o;
+        stands = inr (record {
+          batch = b;
+          next = q;
+          steps = subst (λ (d : Doing). StepOf clients n session d (Commit b) p q) (sym takes) (inr (refl, may, refl));
+          has = refl;
+        });
+      };
 }
 
 -- ---- the limit
@@ -371,18 +466,31 @@ next_bad follow clients n place why piece left l l' s o going same_session end_i
     next_none follow clients n piece left l l' s o going same_session same_nonce settled reads none awaits
     (λ heard has. closes_behind_bad heard l'.reader place why has bad ∙ sym end_is)
 
+-- a link as a course has it, whatever its reader
+same_at : (l l' : Link) → l'.session ≡ l.session → l'.end ≡ l.end → l'.nonce ≡ l.nonce
+    → (heard : List ℕ) → link_at l heard ≡ link_at l' heard
+same_at l l' same_session same_end same_nonce heard = λ i. record {
+  contact = ap (λ x. x.contact) (sym same_session) i;
+  nonce = sym same_nonce i;
+  heard = heard;
+  stands = sym same_end i;
+}
+
 -- a record was to be taken, and the call was broken off
 pub next_stops : ReadingsFollow → (clients : Meaning) (n place : ℕ) (r : Record)
     (piece left : List ℕ) (l mid l' : Link) (s : StoreValue) (o o' : Outside)
-    → mid.session ≡ l.session → ReadsOn piece l.reader (item.One place r ∷ []) left mid.reader
-    → Learns place r mid l'
-    → StopsAsCourse clients l'.session.number r s o o' → NextStops clients n piece l s o o'
-next_stops follow clients n place r piece left l mid l' s o o' same_session reads learns stopped = record {
+    → mid.session ≡ l.session → mid.end ≡ l.end → mid.nonce ≡ l.nonce
+    → ReadsOn piece l.reader (item.One place r ∷ []) left mid.reader → Learns place r mid l'
+    → StopsAsCourse clients l'.session.number r s o o' → NextStops clients n piece l l' s o o'
+next_stops follow clients n place r piece left l mid l' s o o' same_session same_end same_nonce reads learns stopped = record {
   stops = λ heard its moved reading.
       let come = answer_comes follow heard piece left l.reader mid.reader its (item.One place r ∷ []) reading reads in
       let p : Spot = spot_at (Takes its) l heard moved s.state.facts in
-      subst (λ (k : ℕ). LinkBreaks clients n k p s o o') (ap (λ x. x.number) (learns.same_session ∙ same_session))
-      (stopped.stops n place come.0 p (ap (λ (x : List Item). Takes x) come.1) refl);
+      let whole : link_after place r (link_at l heard) ≡ link_at l' heard =
+      ap (link_after place r) (same_at l mid same_session same_end same_nonce heard) ∙ learned place r mid l' heard learns in
+      subst (λ (k : ℕ). LinkHalts clients n k p (link_at l' heard) s o o') (ap (λ x. x.number) (learns.same_session ∙ same_session))
+      (subst (λ x. LinkHalts clients n l'.session.number p x s o o') whole
+      (stopped.stops n place come.0 p (ap (λ (x : List Item). Takes x) come.1) refl));
 }
 
 -- a record was to be taken, and would have passed the limit
@@ -399,9 +507,15 @@ next_full follow clients n place r piece left l mid l' s s' o o' same_session re
       (full.fills n place come.0 p (ap (λ (x : List Item). Takes x) come.1) refl);
 }
 
-pub next_stops_at_none : (clients : Meaning) (n : ℕ) (piece : List ℕ) (l : Link) (s : StoreValue)
-    (o : Outside) → NextStops clients n piece l s o o
-next_stops_at_none clients n piece l s o = record { stops = λ heard its moved reading. breaks_none clients n l.session.number _ s o }
+pub next_stops_at_none : (clients : Meaning) (n : ℕ) (piece : List ℕ) (l l' : Link)
+    (s : StoreValue) (o : Outside) → l'.session ≡ l.session → l'.end ≡ l.end → l'.nonce ≡ l.nonce
+    → NextStops clients n piece l l' s o o
+next_stops_at_none clients n piece l l' s o same_session same_end same_nonce = record {
+  stops = λ heard its moved reading.
+      subst (λ x. LinkHalts clients n l.session.number (spot_at (Takes its) l heard moved s.state.facts) x s o o)
+      (same_at l l' same_session same_end same_nonce heard)
+      (halts_none clients n l.session.number (spot_at (Takes its) l heard moved s.state.facts) s o);
+}
 
 -- ---- a piece
 
@@ -481,14 +595,14 @@ module _ (clients : Meaning) (n : ℕ) (piece mid : List ℕ) (l m : Link) (s s1
         (spot_at Waits l' heard moved s'.state.facts) first.2 second.1;
   }
 
-  pub piece_stops : (o' : Outside) → NextStops clients n mid m s1 o1 o'
-      → NextStops clients n piece l s o o'
-  piece_stops o' b = record {
+  pub piece_stops : (l' : Link) (o' : Outside) → NextStops clients n mid m l' s1 o1 o'
+      → NextStops clients n piece l l' s o o'
+  piece_stops l' o' b = record {
     stops = λ heard its moved reading.
         let first = came_to heard its moved reading in
-        breaks_then (LinkStep clients n l.session.number) (FitsWith clients s o.files) (FitsWith clients s1 o1.files) (ReadsAs clients o'.files)
-        (spot_at (Takes its) l heard moved s.state.facts) (spot_at (Takes first.0) m heard moved s1.state.facts) o o1 o' first.2
-        (subst (λ (k : ℕ). LinkBreaks clients n k (spot_at (Takes first.0) m heard moved s1.state.facts) s1 o1 o') (ap (λ x. x.number) same_session)
+        halts_behind clients n l.session.number (link_at l' heard) s s1 o o1 o'
+        (spot_at (Takes its) l heard moved s.state.facts) (spot_at (Takes first.0) m heard moved s1.state.facts) first.2
+        (subst (λ (k : ℕ). LinkHalts clients n k (spot_at (Takes first.0) m heard moved s1.state.facts) (link_at l' heard) s1 o1 o') (ap (λ x. x.number) same_session)
         (b.stops heard first.0 moved first.1));
   }
 

@@ -21,20 +21,21 @@ use Rattle.sync_rules.specs.Legal.{Allowed}
 use Rattle.journal_state.specs.Allowing.{due_of}
 use Rattle.sync_store.specs.Store.{StoreValue}
 use Rattle.sync_course.specs.declared.TheConstants.{MAX_OUTPUTS, PIECE_LEN}
-use Rattle.sync_course.specs.CallLaws.{breaks_out, runs_asked, runs_broken, runs_closed, runs_none, runs_out, runs_put, runs_read, runs_sent, runs_unasked}
+use Rattle.sync_course.specs.CallLaws.{runs_asked, runs_closed, runs_commits, runs_none, runs_out, runs_read, runs_unasked}
 use Rattle.sync_course.specs.Links.{is_going, is_sent_to, new_items, stands_ended}
 use Rattle.sync_course.specs.LinkTurns.{Asks, Doing, Done, IsEnough, IsNothingDue, LinkStep, Puts, Sends, Spot, Takes, Waits, out_batch, out_spot}
 use Rattle.sync_course.specs.ReadingLaws.{HasRead, IsReading, ends_as, piece_comes}
-use Rattle.sync_course.specs.ToldLaws.{breaks_then, runs_then}
+use Rattle.sync_course.specs.ToldLaws.{runs_then}
+use Rattle.sync_course.proofs.Counted.{counted_broken, counted_none, counted_out, counted_put, counted_sent, counted_then}
 use Rattle.sync_node.specs.declared.link.Link.{Link}
 use Rattle.sync_course.specs.declared.ends.LinkEnd.{LinkEnd}
 use Rattle.sync_course.specs.declared.ends.LinkEnd.TheVariants as link_end
 use Rattle.sync_node.specs.Ends.{MaySend}
 use Rattle.sync_node.specs.Sending.{EndsBy, SendsOn}
 use Rattle.sync_node.specs.CourseLaws.{fits_on}
-use Rattle.sync_node.proofs.CourseTakes.{full_here, full_then}
+use Rattle.sync_node.proofs.CourseTakes.{full_here, full_then, halts_behind, halts_none, none_or_one}
 use Rattle.sync_node.specs.Fulls.{HearsFull, IsOver, LinkFull, NextFull, PutsFull, SendsFull, SentFull}
-use Rattle.sync_node.specs.Courses.{Adds, AddsSome, FitsWith, GoesOnSending, HearsAsCourse, HearsStops, IsRead, IsReadyToSend, LinkBreaks, LinkRuns, NextStops, OutsAsCourse, OutsTo, PieceTaken, PutsAsCourse, PutsStop, ReadsAs, SendsAsCourse, SendsStop, SentAsCourse, SentStops, TurnAsCourse, link_at, spot_at}
+use Rattle.sync_node.specs.Courses.{Adds, AddsSome, FitsWith, GoesOnSending, HearsAsCourse, HearsStops, IsRead, IsReadyToSend, LinkCounts, LinkHalts, LinkRuns, NextStops, OutsAsCourse, OutsTo, PieceTaken, PutsAsCourse, PutsStop, ReadsAs, SendsAsCourse, SendsStop, SentAsCourse, SentStops, TurnAsCourse, link_at, spot_at}
 
 -- ---- one after the other
 
@@ -45,23 +46,24 @@ module _ (clients : Meaning) (n number : ℕ) where
   joins s s1 s' o o1 o' p q r first second =
       runs_then (LinkStep clients n number) (FitsWith clients s o.files) (FitsWith clients s1 o1.files) (FitsWith clients s' o'.files) p q r o o1 o' first second
 
-  pub stops_behind : (s s1 : StoreValue) (o o1 o' : Outside) (p q : Spot)
-      → LinkRuns clients n number p q s s1 o o1
-      → LinkBreaks clients n number q s1 o1 o' → LinkBreaks clients n number p s o o'
-  stops_behind s s1 o o1 o' p q first second =
-      breaks_then (LinkStep clients n number) (FitsWith clients s o.files) (FitsWith clients s1 o1.files) (ReadsAs clients o'.files) p q o o1 o' first second
-
   pub stays_there : (s : StoreValue) (o : Outside) (p : Spot)
       → LinkRuns clients n number p p s s o o
   stays_there s o p = runs_none (LinkStep clients n number) (FitsWith clients s o.files) (FitsWith clients s o.files) (λ j fit. fit) p o
 
-  pub stops_there : (s : StoreValue) (o : Outside) (p : Spot) → LinkBreaks clients n number p s o o
-  stops_there s o p = record {
-    to = p;
-    runs =
-        runs_none (LinkStep clients n number) (FitsWith clients s o.files) (ReadsAs clients o.files)
-        (λ j fit. (fit.0, fit.1, fit.2.stands_for)) p o;
-  }
+module _ (clients : Meaning) (n number : ℕ) where
+  pub joins_counted : (s s1 s' : StoreValue) (o o1 o' : Outside) (p q r : Spot) (a b : ℕ)
+      → LinkCounts clients n number p q s s1 o o1 a
+      → LinkCounts clients n number q r s1 s' o1 o' b → LinkCounts clients n number p r s s' o o' (a + b)
+  joins_counted s s1 s' o o1 o' p q r a b first second =
+      counted_then (LinkStep clients n number) (FitsWith clients s o.files) (FitsWith clients s1 o1.files) (FitsWith clients s' o'.files) p q r o o1 o' a b first second
+
+  counted_there : (s : StoreValue) (o : Outside) (p : Spot) → LinkCounts clients n number p p s s o o 0
+  counted_there s o p = counted_none (LinkStep clients n number) (FitsWith clients s o.files) (FitsWith clients s o.files) (λ j fit. fit) p o
+
+  -- the same count by another name
+  counts_as : (s s' : StoreValue) (o o' : Outside) (p q : Spot) (a b : ℕ) → a ≡ b
+      → LinkCounts clients n number p q s s' o o' a → LinkCounts clients n number p q s s' o o' b
+  counts_as s s' o o' p q a b same counted = subst (λ (k : ℕ). LinkCounts clients n number p q s s' o o' k) same counted
 
 pub if_ok_then : {T E : Type 0} (r : Result T E) (P Q : T → Type 0) → ((x : T) → P x → Q x)
     → IfOk r P → IfOk r Q
@@ -167,18 +169,21 @@ module _ (clients : Meaning) (n : ℕ) (l : Link) (s : StoreValue) (o o1 : Outsi
         };
   }
 
-  pub hears_stops : ReadingsWiden → (count : ℕ) (o' : Outside)
+  pub hears_stops : ReadingsWiden → (count : ℕ) (l' : Link) (o' : Outside)
       → Hears n (heard_kind.Got count) buf o.links o1.links
       → IsCaused (heard_kind.Got count) (length buf) (o.links.faults n) (o1.links.faults n)
-      → NextStops clients n (take count buf) l s o1 o' → HearsStops clients n l s o o'
-  hears_stops widen count o' hears caused stopped = record {
+      → NextStops clients n (take count buf) l l' s o1 o' → HearsStops clients n l l' s o o'
+  hears_stops widen count l' o' hears caused stopped = record {
     stops = λ heard moved read.
         let bytes : List ℕ = take count buf in
         let its : List Item = new_items heard bytes in
         let reading : IsReading (heard ++ bytes) bytes l.reader its = piece_comes widen heard bytes l.reader (read going) in
-        stops_behind clients n l.session.number s s o o1 o' (spot_at Asks l heard moved s.state.facts)
-        (spot_at (Takes its) l (heard ++ bytes) true s.state.facts) (heard_piece count heard moved hears caused)
-        (stopped.stops (heard ++ bytes) its true reading);
+        (
+          heard ++ bytes,
+          halts_behind clients n l.session.number (link_at l' (heard ++ bytes)) s s o o1 o' (spot_at Asks l heard moved s.state.facts)
+              (spot_at (Takes its) l (heard ++ bytes) true s.state.facts) (heard_piece count heard moved hears caused)
+              (stopped.stops (heard ++ bytes) its true reading),
+        );
   }
 
   pub hears_full : ReadingsWiden → (count : ℕ) (s' : StoreValue) (o' : Outside)
@@ -245,13 +250,13 @@ module _ (clients : Meaning) (n now : ℕ) (what : Out) (l : Link) (s : StoreVal
   committed_out : (s1 : StoreValue) (o1 : Outside) → s1.state.facts ≡ after_all s.state.facts batch
       → Adds clients (batch ∷ []) s s1 o o1
       → (heard : List ℕ) (moved : Bool) (room : ℕ)
-      → LinkRuns clients n l.session.number (spot_at (Sends now (suc room)) l heard moved s.state.facts)
-      (spot_at (Puts now room) l heard true s1.state.facts) s s1 o o1
+      → LinkCounts clients n l.session.number (spot_at (Sends now (suc room)) l heard moved s.state.facts)
+      (spot_at (Puts now room) l heard true s1.state.facts) s s1 o o1 1
   committed_out s1 o1 facts_are adds heard moved room =
       let same : after_all s.state.facts (out_batch l.session.number now what) ≡ s1.state.facts =
       ap (after_all s.state.facts) (sym is) ∙ sym facts_are in
-      subst (λ f. LinkRuns clients n l.session.number (spot_at (Sends now (suc room)) l heard moved s.state.facts) (spot_at (Puts now room) l heard true f) s s1 o o1) same
-      (runs_out clients n l.session.number (FitsWith clients s o.files) (FitsWith clients s1 o1.files) now room what
+      subst (λ f. LinkCounts clients n l.session.number (spot_at (Sends now (suc room)) l heard moved s.state.facts) (spot_at (Puts now room) l heard true f) s s1 o o1 1) same
+      (counted_out clients n l.session.number (FitsWith clients s o.files) (FitsWith clients s1 o1.files) now room what
       (spot_at (Sends now (suc room)) l heard moved s.state.facts) o o1 refl allowed.2 allowed adds.same_links
       (λ j fit. subst (λ (x : List Entry). FitsWith clients s1 o1.files (j ++ x ∷ [])) is (adds.grows j fit)))
 
@@ -260,19 +265,19 @@ module _ (clients : Meaning) (n now : ℕ) (what : Out) (l : Link) (s : StoreVal
       → SendsBytes n bytes result o1.links o'.links → EndsBy result l l' → is_sent_to l.end ≡ true
       → (heard : List ℕ) (room : ℕ)
       → (doing : Doing) × GoesOnSending now room doing l'
-      × LinkRuns clients n l.session.number (spot_at (Puts now room) l heard true s1.state.facts) (spot_at doing l' heard true s1.state.facts) s1 s1 o1 o'
+      × LinkCounts clients n l.session.number (spot_at (Puts now room) l heard true s1.state.facts) (spot_at doing l' heard true s1.state.facts) s1 s1 o1 o' 0
   sent_on_link s1 o1 o' l' bytes (Ok u) same_files sends ends open_is heard room = (
     Sends now room,
     inl (refl, ap (λ x. is_sent_to x.end) ends ∙ open_is),
-    subst (λ x. LinkRuns clients n l.session.number (spot_at (Puts now room) l heard true s1.state.facts) (spot_at (Sends now room) x heard true s1.state.facts) s1 s1 o1 o') (sym ends)
-        (runs_put clients n l.session.number (FitsWith clients s1 o1.files) (FitsWith clients s1 o'.files) now room bytes
+    subst (λ x. LinkCounts clients n l.session.number (spot_at (Puts now room) l heard true s1.state.facts) (spot_at (Sends now room) x heard true s1.state.facts) s1 s1 o1 o' 0) (sym ends)
+        (counted_put clients n l.session.number (FitsWith clients s1 o1.files) (FitsWith clients s1 o'.files) now room bytes
         (spot_at (Puts now room) l heard true s1.state.facts) o1 o' refl sends (fits_on clients s1 o1 o' same_files)),
   )
   sent_on_link s1 o1 o' l' bytes (Err why) same_files sends ends open_is heard room = (
     Done,
     inr (refl, ap (λ x. is_sent_to x.end) ends),
-    subst (λ x. LinkRuns clients n l.session.number (spot_at (Puts now room) l heard true s1.state.facts) (spot_at Done x heard true s1.state.facts) s1 s1 o1 o') (sym ends)
-        (runs_broken clients n l.session.number (FitsWith clients s1 o1.files) (FitsWith clients s1 o'.files) now room bytes why
+    subst (λ x. LinkCounts clients n l.session.number (spot_at (Puts now room) l heard true s1.state.facts) (spot_at Done x heard true s1.state.facts) s1 s1 o1 o' 0) (sym ends)
+        (counted_broken clients n l.session.number (FitsWith clients s1 o1.files) (FitsWith clients s1 o'.files) now room bytes why
         (spot_at (Puts now room) l heard true s1.state.facts) o1 o' refl sends (fits_on clients s1 o1 o' same_files)),
   )
 
@@ -293,8 +298,8 @@ module _ (clients : Meaning) (n now : ℕ) (what : Out) (l : Link) (s : StoreVal
           doing = second.0;
           goes_on = second.1;
           runs =
-              joins clients n l.session.number s s1 s1 o o1 o' (spot_at (Sends now (suc room)) l heard moved s.state.facts)
-              (spot_at (Puts now room) l heard true s1.state.facts) (spot_at second.0 l' heard true s1.state.facts)
+              joins_counted clients n l.session.number s s1 s1 o o1 o' (spot_at (Sends now (suc room)) l heard moved s.state.facts)
+              (spot_at (Puts now room) l heard true s1.state.facts) (spot_at second.0 l' heard true s1.state.facts) 1 0
               (committed_out s1 o1 facts_are adds heard moved room) second.2;
         };
     same_reader = (same_of l' sends.result sends.ends).0;
@@ -303,12 +308,28 @@ module _ (clients : Meaning) (n now : ℕ) (what : Out) (l : Link) (s : StoreVal
   }
 
   pub puts_stops : (o' : Outside) → AddsSome clients (batch ∷ []) s o o'
-      → PutsStop clients n now l s o o'
+      → PutsStop clients n now l l s o o'
   puts_stops o' adds = record {
     stops = λ heard moved room.
-        breaks_out clients n l.session.number (FitsWith clients s o.files) (ReadsAs clients o'.files) adds.stood.front adds.stood.others adds.stood.reads now
-        room what (spot_at (Sends now (suc room)) l heard moved s.state.facts) o o' refl allowed.2 allowed adds.same_links
-        (ap (λ (x : List Entry). x ∷ []) (sym is) ∙ adds.stood.parts);
+        let p : Spot = spot_at (Sends now (suc room)) l heard moved s.state.facts in
+        elim (none_or_one clients batch s o o' adds) [
+          | inl none ↦ record {
+            breaks = record {
+              to = p;
+              runs = runs_commits (LinkStep clients n l.session.number) (FitsWith clients s o.files) (ReadsAs clients o'.files) [] none p p o o' adds.same_links refl;
+            };
+            stands = inl refl;
+          }
+          | inr one ↦ record {
+            breaks = record {
+              to = out_spot now room (out_batch l.session.number now what) p;
+              runs =
+                  runs_out clients n l.session.number (FitsWith clients s o.files) (ReadsAs clients o'.files) now room what p o o' refl allowed.2 allowed adds.same_links
+                  (subst (λ (x : List Entry). (j : List (List Entry)) → FitsWith clients s o.files j → ReadsAs clients o'.files (j ++ x ∷ [])) is one);
+            };
+            stands = inl refl;
+          }
+        ];
   }
 
   pub puts_full : (s' : StoreValue) (o' : Outside) → IsOver clients batch s s' o o'
@@ -323,8 +344,10 @@ module _ (clients : Meaning) (n now : ℕ) (what : Out) (l : Link) (s : StoreVal
   }
 
 pub puts_stops_there : (clients : Meaning) (n now : ℕ) (l : Link) (s : StoreValue) (o : Outside)
-    → PutsStop clients n now l s o o
-puts_stops_there clients n now l s o = record { stops = λ heard moved room. stops_there clients n l.session.number s o _ }
+    → PutsStop clients n now l l s o o
+puts_stops_there clients n now l s o = record {
+  stops = λ heard moved room. halts_none clients n l.session.number (spot_at (Sends now (suc room)) l heard moved s.state.facts) s o;
+}
 
 -- ---- a list of outputs
 
@@ -336,7 +359,7 @@ outs_none clients n now l s o = record {
     rest = omega arith;
     doing = Sends now MAX_OUTPUTS;
     goes_on = inl (refl, open_is);
-    runs = stays_there clients n l.session.number s o (spot_at (Sends now MAX_OUTPUTS) l heard moved s.state.facts);
+    runs = counted_there clients n l.session.number s o (spot_at (Sends now MAX_OUTPUTS) l heard moved s.state.facts);
   };
   same_reader = refl;
   same_session = refl;
@@ -366,18 +389,28 @@ module _ (clients : Meaning) (n now made : ℕ) (l m : Link) (s s1 : StoreValue)
   came : (heard : List ℕ) (moved : Bool)
       (first : OutsTo clients n now made l m s s1 o o1 heard moved)
       → first.doing ≡ Sends now first.room
-      → LinkRuns clients n m.session.number (spot_at (Sends now MAX_OUTPUTS) l heard moved s.state.facts)
-      (spot_at (Sends now first.room) m heard (cond (nat_lt 0 made) true moved) s1.state.facts) s s1 o o1
+      → LinkCounts clients n m.session.number (spot_at (Sends now MAX_OUTPUTS) l heard moved s.state.facts)
+      (spot_at (Sends now first.room) m heard (cond (nat_lt 0 made) true moved) s1.state.facts) s s1 o o1 made
   came heard moved first is =
-      subst (λ (k : ℕ). LinkRuns clients n k (spot_at (Sends now MAX_OUTPUTS) l heard moved s.state.facts)
-      (spot_at (Sends now first.room) m heard (cond (nat_lt 0 made) true moved) s1.state.facts) s s1 o o1) (ap (λ x. x.number) (sym a.same_session))
-      (subst (λ d. LinkRuns clients n l.session.number (spot_at (Sends now MAX_OUTPUTS) l heard moved s.state.facts)
-      (spot_at d m heard (cond (nat_lt 0 made) true moved) s1.state.facts) s s1 o o1) is first.runs)
+      subst (λ (k : ℕ). LinkCounts clients n k (spot_at (Sends now MAX_OUTPUTS) l heard moved s.state.facts)
+      (spot_at (Sends now first.room) m heard (cond (nat_lt 0 made) true moved) s1.state.facts) s s1 o o1 made) (ap (λ x. x.number) (sym a.same_session))
+      (subst (λ d. LinkCounts clients n l.session.number (spot_at (Sends now MAX_OUTPUTS) l heard moved s.state.facts)
+      (spot_at d m heard (cond (nat_lt 0 made) true moved) s1.state.facts) s s1 o o1 made) is first.runs)
 
-  back : (s' : StoreValue) (o' : Outside) (p q : Spot)
-      → LinkRuns clients n m.session.number p q s s' o o'
-      → LinkRuns clients n l.session.number p q s s' o o'
-  back s' o' p q runs = subst (λ (k : ℕ). LinkRuns clients n k p q s s' o o') (ap (λ x. x.number) a.same_session) runs
+  back : (s' : StoreValue) (o' : Outside) (p q : Spot) (count : ℕ)
+      → LinkCounts clients n m.session.number p q s s' o o' count
+      → LinkCounts clients n l.session.number p q s s' o o' count
+  back s' o' p q count runs = subst (λ (k : ℕ). LinkCounts clients n k p q s s' o o' count) (ap (λ x. x.number) a.same_session) runs
+
+  -- the place from which the next output is made
+  at_room : (heard : List ℕ) (moved : Bool)
+      (first : OutsTo clients n now made l m s s1 o o1 heard moved)
+      → first.doing ≡ Sends now first.room → (room : ℕ) → first.room ≡ suc room
+      → LinkCounts clients n m.session.number (spot_at (Sends now MAX_OUTPUTS) l heard moved s.state.facts)
+      (spot_at (Sends now (suc room)) m heard (cond (nat_lt 0 made) true moved) s1.state.facts) s s1 o o1 made
+  at_room heard moved first is room more =
+      subst (λ (k : ℕ). LinkCounts clients n m.session.number (spot_at (Sends now MAX_OUTPUTS) l heard moved s.state.facts)
+      (spot_at (Sends now k) m heard (cond (nat_lt 0 made) true moved) s1.state.facts) s s1 o o1 made) more (came heard moved first is)
 
   -- one more
   pub outs_then : (l' : Link) (s' : StoreValue) (o' : Outside) → made < MAX_OUTPUTS
@@ -411,20 +444,18 @@ module _ (clients : Meaning) (n now made : ℕ) (l m : Link) (s s1 : StoreValue)
             doing = second.doing;
             goes_on = second.goes_on;
             runs =
-                back s' o' (spot_at (Sends now MAX_OUTPUTS) l heard moved s.state.facts) _
-                (joins clients n m.session.number s s1 s' o o1 o' (spot_at (Sends now MAX_OUTPUTS) l heard moved s.state.facts)
+                back s' o' (spot_at (Sends now MAX_OUTPUTS) l heard moved s.state.facts) _ (made + 1)
+                (joins_counted clients n m.session.number s s1 s' o o1 o' (spot_at (Sends now MAX_OUTPUTS) l heard moved s.state.facts)
                 (spot_at (Sends now (suc room)) m heard (cond (nat_lt 0 made) true moved) s1.state.facts)
-                (spot_at second.doing l' heard (cond (nat_lt 0 (made + 1)) true moved) s'.state.facts)
-                (subst (λ (k : ℕ). LinkRuns clients n m.session.number (spot_at (Sends now MAX_OUTPUTS) l heard moved s.state.facts)
-                (spot_at (Sends now k) m heard (cond (nat_lt 0 made) true moved) s1.state.facts) s s1 o o1) more (came heard moved first is))
-                (subst (λ (b : Bool). LinkRuns clients n m.session.number (spot_at (Sends now (suc room)) m heard (cond (nat_lt 0 made) true moved) s1.state.facts)
-                (spot_at second.doing l' heard b s'.state.facts) s1 s' o1 o') (sym (moved_more moved)) second.runs));
+                (spot_at second.doing l' heard (cond (nat_lt 0 (made + 1)) true moved) s'.state.facts) made 1 (at_room heard moved first is room more)
+                (subst (λ (b : Bool). LinkCounts clients n m.session.number (spot_at (Sends now (suc room)) m heard (cond (nat_lt 0 made) true moved) s1.state.facts)
+                (spot_at second.doing l' heard b s'.state.facts) s1 s' o1 o' 1) (sym (moved_more moved)) second.runs));
           }
 
   -- broken off
-  pub outs_stop : (o' : Outside) → made < MAX_OUTPUTS → PutsStop clients n now m s1 o1 o'
-      → SentStops clients n now l s o o'
-  outs_stop o' less b = record {
+  pub outs_stop : (l' : Link) (o' : Outside) → made < MAX_OUTPUTS
+      → PutsStop clients n now m l' s1 o1 o' → SentStops clients n now l l' s o o'
+  outs_stop l' o' less b = record {
     stops = λ heard moved entry_open.
         let first = a.leads heard moved entry_open in
         sends_yet now first.room first.doing m first.goes_on open_is (λ is. by_room heard moved first is first.room refl);
@@ -433,16 +464,14 @@ module _ (clients : Meaning) (n now made : ℕ) (l m : Link) (s s1 : StoreValue)
       by_room : (heard : List ℕ) (moved : Bool)
           (first : OutsTo clients n now made l m s s1 o o1 heard moved)
           → first.doing ≡ Sends now first.room → (room : ℕ)
-          → first.room ≡ room → LinkBreaks clients n l.session.number (spot_at (Sends now MAX_OUTPUTS) l heard moved s.state.facts) s o o'
+          → first.room ≡ room → LinkHalts clients n l.session.number (spot_at (Sends now MAX_OUTPUTS) l heard moved s.state.facts) (link_at l' heard) s o o'
       by_room heard moved first is zero none =
           let rest : first.room + made ≡ MAX_OUTPUTS = first.rest in
           absurd (omega (arith, rest, none, less))
       by_room heard moved first is (suc room) more =
-          subst (λ (k : ℕ). LinkBreaks clients n k (spot_at (Sends now MAX_OUTPUTS) l heard moved s.state.facts) s o o') (ap (λ x. x.number) a.same_session)
-          (stops_behind clients n m.session.number s s1 o o1 o' (spot_at (Sends now MAX_OUTPUTS) l heard moved s.state.facts)
-          (spot_at (Sends now (suc room)) m heard (cond (nat_lt 0 made) true moved) s1.state.facts)
-          (subst (λ (k : ℕ). LinkRuns clients n m.session.number (spot_at (Sends now MAX_OUTPUTS) l heard moved s.state.facts)
-          (spot_at (Sends now k) m heard (cond (nat_lt 0 made) true moved) s1.state.facts) s s1 o o1) more (came heard moved first is))
+          subst (λ (k : ℕ). LinkHalts clients n k (spot_at (Sends now MAX_OUTPUTS) l heard moved s.state.facts) (link_at l' heard) s o o') (ap (λ x. x.number) a.same_session)
+          (halts_behind clients n m.session.number (link_at l' heard) s s1 o o1 o' (spot_at (Sends now MAX_OUTPUTS) l heard moved s.state.facts)
+          (spot_at (Sends now (suc room)) m heard (cond (nat_lt 0 made) true moved) s1.state.facts) (at_room heard moved first is room more).runs
           (b.stops heard (cond (nat_lt 0 made) true moved) room))
 
   -- an output would have passed the limit
@@ -465,8 +494,7 @@ module _ (clients : Meaning) (n now made : ℕ) (l m : Link) (s s1 : StoreValue)
           subst (λ (k : ℕ). LinkFull clients n k (spot_at (Sends now MAX_OUTPUTS) l heard moved s.state.facts) s s' o o') (ap (λ x. x.number) a.same_session)
           (full_then clients (LinkStep clients n m.session.number) (spot_at (Sends now MAX_OUTPUTS) l heard moved s.state.facts)
           (spot_at (Sends now (suc room)) m heard (cond (nat_lt 0 made) true moved) s1.state.facts) s s1 s' o o1 o'
-          (subst (λ (k : ℕ). LinkRuns clients n m.session.number (spot_at (Sends now MAX_OUTPUTS) l heard moved s.state.facts)
-          (spot_at (Sends now k) m heard (cond (nat_lt 0 made) true moved) s1.state.facts) s s1 o o1) more (came heard moved first is))
+          (at_room heard moved first is room more).runs
           (b.fills heard (cond (nat_lt 0 made) true moved) room))
 
 -- nothing more: nothing is due, the room is used up, or the link is closed
@@ -482,13 +510,14 @@ outs_end clients n now made l m s s1 o o1 a enough = record {
       elim first.goes_on [
         | inl sends ↦
             let mid : Spot = spot_at (Sends now first.room) m heard (cond (nat_lt 0 made) true moved) s1.state.facts in
-            joins clients n l.session.number s s1 s1 o o1 o1 p mid q
-            (subst (λ d. LinkRuns clients n l.session.number p (spot_at d m heard (cond (nat_lt 0 made) true moved) s1.state.facts) s s1 o o1) sends.0 first.runs)
-            (runs_sent clients n l.session.number (FitsWith clients s1 o1.files) (FitsWith clients s1 o1.files) now first.room mid o1 refl
+            counts_as clients n l.session.number s s1 o o1 p q (made + 0) made (omega arith)
+            (joins_counted clients n l.session.number s s1 s1 o o1 o1 p mid q made 0
+            (subst (λ d. LinkCounts clients n l.session.number p (spot_at d m heard (cond (nat_lt 0 made) true moved) s1.state.facts) s s1 o o1 made) sends.0 first.runs)
+            (counted_sent clients n l.session.number (FitsWith clients s1 o1.files) (FitsWith clients s1 o1.files) now first.room mid o1 refl
             (subst (λ (k : ℕ). IsEnough clients s1.state.facts k now first.room) (ap (λ x. x.number) a.same_session) (enough sends.1 first.room first.rest))
-            (λ j fit. fit))
+            (λ j fit. fit)))
         | inr done ↦
-            subst (λ d. LinkRuns clients n l.session.number p (spot_at d m heard (cond (nat_lt 0 made) true moved) s1.state.facts) s s1 o o1) done.0 first.runs
+            subst (λ d. LinkCounts clients n l.session.number p (spot_at d m heard (cond (nat_lt 0 made) true moved) s1.state.facts) s s1 o o1 made) done.0 first.runs
       ];
   same_reader = a.same_reader;
   end = a.end;
@@ -496,12 +525,13 @@ outs_end clients n now made l m s s1 o o1 a enough = record {
 
 pub outs_stop_there : (clients : Meaning) (n now made : ℕ) (l m : Link) (s s1 : StoreValue)
     (o o1 : Outside) → OutsAsCourse clients n now made l m s s1 o o1
-    → SentStops clients n now l s o o1
+    → SentStops clients n now l m s o o1
 outs_stop_there clients n now made l m s s1 o o1 a = record {
   stops = λ heard moved entry_open.
       let first = a.leads heard moved entry_open in
-      stops_behind clients n l.session.number s s1 o o1 o1 (spot_at (Sends now MAX_OUTPUTS) l heard moved s.state.facts) _ first.runs
-      (stops_there clients n l.session.number s1 o1 (spot_at first.doing m heard (cond (nat_lt 0 made) true moved) s1.state.facts));
+      let mid : Spot = spot_at first.doing m heard (cond (nat_lt 0 made) true moved) s1.state.facts in
+      halts_behind clients n l.session.number (link_at m heard) s s1 o o1 o1 (spot_at (Sends now MAX_OUTPUTS) l heard moved s.state.facts) mid first.runs.runs
+      (halts_none clients n l.session.number mid s1 o1);
 }
 
 -- so many outputs were made that no room is left
@@ -565,15 +595,16 @@ module _ (clients : Meaning) (n now : ℕ) (l : Link) (s : StoreValue) (o o1 : O
     runs = λ heard moved doing ready.
         joins clients n l.session.number s s s' o o1 o' (spot_at doing l heard moved s.state.facts) (spot_at (Sends now MAX_OUTPUTS) l heard moved s.state.facts)
         (spot_at Done l' heard (cond (nat_lt 0 made) true moved) s'.state.facts) (read_at heard moved doing ready)
-        (sent.runs heard moved (may_end l.end may));
+        (sent.runs heard moved (may_end l.end may)).runs;
     same_reader = sent.same_reader;
     end = sent.end;
   }
 
-  pub sends_stop : (o' : Outside) → SentStops clients n now l s o1 o' → SendsStop clients n l s o o'
-  sends_stop o' sent = record {
+  pub sends_stop : (l' : Link) (o' : Outside) → SentStops clients n now l l' s o1 o'
+      → SendsStop clients n l l' s o o'
+  sends_stop l' o' sent = record {
     stops = λ heard moved doing ready.
-        stops_behind clients n l.session.number s s o o1 o' (spot_at doing l heard moved s.state.facts) (spot_at (Sends now MAX_OUTPUTS) l heard moved s.state.facts)
+        halts_behind clients n l.session.number (link_at l' heard) s s o o1 o' (spot_at doing l heard moved s.state.facts) (spot_at (Sends now MAX_OUTPUTS) l heard moved s.state.facts)
         (read_at heard moved doing ready) (sent.stops heard moved (may_end l.end may));
   }
 
@@ -619,14 +650,17 @@ module _ (clients : Meaning) (n : ℕ) (l m : Link) (s s1 : StoreValue) (o o1 : 
         };
   }
 
-  pub turn_stops : (o' : Outside) → SendsStop clients n m s1 o1 o' → HearsStops clients n l s o o'
-  turn_stops o' sends = record {
+  pub turn_stops : (l' : Link) (o' : Outside) → SendsStop clients n m l' s1 o1 o'
+      → HearsStops clients n l l' s o o'
+  turn_stops l' o' sends = record {
     stops = λ heard moved read.
         let first = hears.leads heard moved read in
-        stops_behind clients n l.session.number s s1 o o1 o' (spot_at Asks l heard moved s.state.facts)
-        (spot_at first.doing m first.heard' (cond idle moved true) s1.state.facts) first.runs
-        (subst (λ (k : ℕ). LinkBreaks clients n k (spot_at first.doing m first.heard' (cond idle moved true) s1.state.facts) s1 o1 o') (ap (λ x. x.number) same_session)
-        (sends.stops first.heard' (cond idle moved true) first.doing first.ready));
+        let mid : Spot = spot_at first.doing m first.heard' (cond idle moved true) s1.state.facts in (
+          first.heard',
+          halts_behind clients n l.session.number (link_at l' first.heard') s s1 o o1 o' (spot_at Asks l heard moved s.state.facts) mid first.runs
+              (subst (λ (k : ℕ). LinkHalts clients n k mid (link_at l' first.heard') s1 o1 o') (ap (λ x. x.number) same_session)
+              (sends.stops first.heard' (cond idle moved true) first.doing first.ready)),
+        );
   }
 
   pub turn_full : (s' : StoreValue) (o' : Outside) → SendsFull clients n m s1 s' o1 o'

@@ -20,3 +20,5 @@ mod CourseCalls
 mod CourseJoined
 mod CourseNode
 mod CourseStart
+mod Undone
+pub mod Halts

@@ -9,6 +9,7 @@ use Rattle.outside.specs.Host.{Sends, SendsPart}
 use Rattle.outside.specs.Links.{Link, Links, sent_of, with_sent}
 use Rattle.outside.specs.Outside.{Outside, Moment, DiskRun, LinkCall, QuietCall}
 use Rattle.outside.specs.Runs.{IsFront, LinksGrow, Told, front_bytes, front_same, front_then, grow_same, grow_send, others_send, quiet_moments, send_moments, sent_at, went_out, sent_at-with_sent}
+use Rattle.outside.specs.Steps.{calls_link, calls_none}
 use Rattle.record_grammar.specs.Laws.{FrontsHaveFronts}
 use Rattle.sync_rules.specs.declared.entries.Session.{Session}
 use Rattle.sync_rules.specs.Clients.{Meaning}
@@ -37,6 +38,7 @@ goes_none o = record {
   same_dialled = refl;
   same_specs = refl;
   clock = λ two files. omega arith;
+  calls = calls_none o;
 }
 
 pub goes_disk : (o o' : Outside) → DiskRun o o'
@@ -48,6 +50,7 @@ goes_disk o o' run clock = record {
   same_dialled = ap (λ (l : Links). l.dialled) run.same_links;
   same_specs = ap (λ (l : Links). specs_of l.told) run.same_links;
   clock = clock;
+  calls = run.calls;
 }
 
 -- a run of a store's calls
@@ -67,6 +70,7 @@ goes_link during o o' call grows dialled specs = record {
   same_dialled = dialled;
   same_specs = specs;
   clock = λ two files. call.time.later;
+  calls = calls_link during o o o' (calls_none o) call;
 }
 
 -- bytes that are sent leave the specs

@@ -8,7 +8,7 @@ use Rattle.outside.specs.Files.{Two, File}
 use Rattle.outside.specs.Host.{Hears, ReadsClock}
 use Rattle.outside.specs.Links.{Answered, HeardOn}
 use Rattle.outside.specs.Outside.{Outside, Moment, LinkCall, QuietCall}
-use Rattle.outside.specs.Steps.{told_on}
+use Rattle.outside.specs.Steps.{calls_then, told_on}
 use Rattle.outside.specs.Runs.{LinksGrow, OthersKeep, Told, answered_by, answers_at, grow_hear, grow_read, grow_then, heard_at, heard_bytes, heard_here, others_hear, others_read, others_same, others_then, reply_bytes, sent_at}
 use Rattle.record_grammar.specs.Laws.{FrontsHaveFronts}
 use Rattle.record_stream.specs.Pieces.{ReadingsWiden}
@@ -61,6 +61,7 @@ goes_then o o1 o2 first second = record {
   clock = λ two files.
       let there = told_on o o1 two first.same_files files in
       omega (arith, first.clock two files, second.clock there.0 there.1);
+  calls = calls_then o o1 o2 first.calls second.calls;
 }
 
 pub elsewhere_then : (clients : Meaning) (session link : ℕ) (s s1 s2 : StoreValue)

@@ -1,5 +1,5 @@
 -- A batch that is added to a journal beside the sessions, and settling behind it.
-use Rattle.std.specs.Prelude.{◌≡◌, ◌⊎◌, List, [], ◌∷◌, ◌++◌, Result, Ok, Err}
+use Rattle.std.specs.Prelude.{◌≡◌, ◌⊎◌, List, [], ◌∷◌, ◌++◌}
 use Rattle.sync_rules.specs.declared.entries.Entry.{Entry}
 use Rattle.sync_rules.specs.declared.entries.Entry.TheVariants as entry
 use Rattle.sync_rules.specs.Clients.{Meaning}
@@ -10,7 +10,6 @@ use Rattle.sync_rules.specs.Steps.{IsSettled}
 use Rattle.sync_store.specs.Store.{StoreValue}
 use Rattle.sync_node.specs.Going.{Commits}
 use Rattle.sync_node.specs.Output.{Journal}
-use Rattle.sync_node.specs.declared.fault.Fault.{Fault}
 
 -- one entry that adds a contact, a group or a message, or sets a level
 abbrev pub IsPlain : List Entry → Type 0
@@ -19,11 +18,6 @@ IsPlain (entry.Group def ∷ []) = Unit {0}
 IsPlain (entry.Level c g l ∷ []) = Unit {0}
 IsPlain (entry.Author m ∷ []) = Unit {0}
 IsPlain _ = ⊥
-
--- the journal as the answer of a commit says
-abbrev pub IsCommitted : Journal → List Entry → Result (Unit {0}) Fault → Journal → Type 0
-IsCommitted j batch (Ok _) whole = whole ≡ j ++ batch ∷ []
-IsCommitted j batch (Err _) whole = whole ≡ j
 
 -- the journal with settling
 pub record GoesOnSettling (clients : Meaning) (j whole : Journal) : Type 0 where

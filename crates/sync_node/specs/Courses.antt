@@ -25,8 +25,8 @@ use Rattle.sync_course.specs.declared.ends.LinkEnd.TheVariants as link_end
 use Rattle.sync_node.specs.declared.node.Turned.{Turned}
 use Rattle.sync_node.specs.declared.node.Turned.TheVariants as turned
 use Rattle.sync_course.specs.LinkTurns.{Asks, Doing, Done, LinkStep, Sends, Spot, Takes, Waits}
-use Rattle.sync_course.specs.Events.{Break, Pass, Told}
-use Rattle.sync_course.specs.Paths.{Breaks, Runs}
+use Rattle.sync_course.specs.Events.{Break, Commit, Event, Pass, Told}
+use Rattle.sync_course.specs.Paths.{Breaks, Counts, Runs}
 use Rattle.sync_course.specs.Turns.{Attaches, Between, Place, RunStep, Stage, Terms, Works, is_at_end}
 
 -- the files are told, and fit the store with this journal
@@ -45,6 +45,13 @@ LinkRuns clients n session p q s s' o o' =
     Runs (LinkStep clients n session) (FitsWith clients s o.files)
     (FitsWith clients s' o'.files) p q o o'
 
+-- and so many batches were committed on the way
+abbrev pub LinkCounts : Meaning → ℕ → ℕ → Spot → Spot → StoreValue → StoreValue → Outside → Outside
+    → ℕ → Type 0
+LinkCounts clients n session p q s s' o o' count =
+    Counts (LinkStep clients n session) (FitsWith clients s o.files)
+    (FitsWith clients s' o'.files) p q o o' count
+
 -- it was broken off: the files as they read stand for the journal with the batches of some path
 abbrev pub LinkBreaks : Meaning → ℕ → ℕ → Spot → StoreValue → Outside → Outside → Type 0
 LinkBreaks clients n session p s o o' =
@@ -58,9 +65,42 @@ RunRuns clients terms p q s s' o o' =
     Runs (RunStep clients terms) (FitsWith clients s o.files)
     (FitsWith clients s' o'.files) p q o o'
 
+abbrev pub RunCounts : Meaning → Terms → Place → Place → StoreValue → StoreValue → Outside → Outside
+    → ℕ → Type 0
+RunCounts clients terms p q s s' o o' count =
+    Counts (RunStep clients terms) (FitsWith clients s o.files)
+    (FitsWith clients s' o'.files) p q o o' count
+
 abbrev pub RunBreaks : Meaning → Terms → Place → StoreValue → Outside → Outside → Type 0
 RunBreaks clients terms p s o o' =
     Breaks (RunStep clients terms) (FitsWith clients s o.files) (ReadsAs clients o'.files) p o o'
+
+-- ---- how the links stand where a call was broken off
+
+-- the next step from a place commits a batch, and leads to one that has this
+pub record CommitsTo {P : Type 0} (step : P → Event → P → Type 0) (Has : P → Type 0)
+    (place : P) : Type 0 where
+  pub batch : List Entry
+  pub next : P
+  pub steps : step place (Commit batch) next
+  pub has : Has next
+
+-- A place has this, or the next one has it: a link notes what a record says of it before the batch
+-- of the record is committed.
+abbrev pub HasOrWillHave : {P : Type 0} → (P → Event → P → Type 0) → (P → Type 0) → P → Type 0
+HasOrWillHave step Has place = Has place ⊎ CommitsTo step Has place
+
+-- a link's turn was broken off at a place where the link stands so
+pub record LinkHalts (clients : Meaning) (n session : ℕ) (p : Spot) (link : course_links.Link)
+    (s : StoreValue) (o o' : Outside) : Type 0 where
+  pub breaks : LinkBreaks clients n session p s o o'
+  pub stands : HasOrWillHave (LinkStep clients n session) (λ (q : Spot). q.link ≡ link) breaks.to
+
+-- the same of a run and all its links
+pub record RunHalts (clients : Meaning) (terms : Terms) (p : Place) (links : List course_links.Link)
+    (s : StoreValue) (o o' : Outside) : Type 0 where
+  pub breaks : RunBreaks clients terms p s o o'
+  pub stands : HasOrWillHave (RunStep clients terms) (λ (q : Place). q.links ≡ links) breaks.to
 
 -- some of these batches, from the first on, stand in the files as they read, behind the journal
 -- that the store had
@@ -115,7 +155,7 @@ pub record StopsAsCourse (clients : Meaning) (session : ℕ) (r : Record) (s : S
     (o o' : Outside) : Type 0 where
   pub stops : (n place : ℕ) (its : List Item) (p : Spot) → p.doing ≡ Takes (item.One place r ∷ its)
       → p.facts ≡ s.state.facts
-      → LinkBreaks clients n session p s o o'
+      → LinkHalts clients n session p (link_after place r p.link) s o o'
 
 -- ---- a link of the node as one of a course
 
@@ -159,11 +199,11 @@ pub record NextAsCourse (clients : Meaning) (n : ℕ) (piece left : List ℕ) (l
   pub leads : (heard : List ℕ) (its : List Item) (moved : Bool) → IsReading heard piece l.reader its
       → LeadsOn clients n heard its moved left l l' s s' o o' more
 
-pub record NextStops (clients : Meaning) (n : ℕ) (piece : List ℕ) (l : Link) (s : StoreValue)
+pub record NextStops (clients : Meaning) (n : ℕ) (piece : List ℕ) (l l' : Link) (s : StoreValue)
     (o o' : Outside) : Type 0 where
   pub stops : (heard : List ℕ) (its : List Item) (moved : Bool) → IsReading heard piece l.reader its
-      → LinkBreaks clients n l.session.number
-      (spot_at (Takes its) l heard moved s.state.facts) s o o'
+      → LinkHalts clients n l.session.number
+      (spot_at (Takes its) l heard moved s.state.facts) (link_at l' heard) s o o'
 
 -- ---- a piece
 
@@ -207,10 +247,11 @@ pub record HearsAsCourse (clients : Meaning) (n : ℕ) (l l' : Link) (s s' : Sto
   pub leads : (heard : List ℕ) (moved : Bool) → IsRead heard l
       → HearsTo clients n l l' s s' o o' heard moved idle
 
-pub record HearsStops (clients : Meaning) (n : ℕ) (l : Link) (s : StoreValue)
+pub record HearsStops (clients : Meaning) (n : ℕ) (l l' : Link) (s : StoreValue)
     (o o' : Outside) : Type 0 where
   pub stops : (heard : List ℕ) (moved : Bool) → IsRead heard l
-      → LinkBreaks clients n l.session.number (spot_at Asks l heard moved s.state.facts) s o o'
+      → (heard' : List ℕ) × LinkHalts clients n l.session.number
+      (spot_at Asks l heard moved s.state.facts) (link_at l' heard') s o o'
 
 -- ---- sending
 
@@ -224,9 +265,9 @@ pub record PutsTo (clients : Meaning) (n now : ℕ) (l l' : Link) (s s' : StoreV
     (o o' : Outside) (heard : List ℕ) (moved : Bool) (room : ℕ) : Type 0 where
   pub doing : Doing
   pub goes_on : GoesOnSending now room doing l'
-  pub runs : LinkRuns clients n l.session.number
+  pub runs : LinkCounts clients n l.session.number
       (spot_at (Sends now (suc room)) l heard moved s.state.facts)
-      (spot_at doing l' heard true s'.state.facts) s s' o o'
+      (spot_at doing l' heard true s'.state.facts) s s' o o' 1
 
 pub record PutsAsCourse (clients : Meaning) (n now : ℕ) (l l' : Link) (s s' : StoreValue)
     (o o' : Outside) : Type 0 where
@@ -236,11 +277,11 @@ pub record PutsAsCourse (clients : Meaning) (n now : ℕ) (l l' : Link) (s s' : 
   pub same_session : l'.session ≡ l.session
   pub end : (l'.end ≡ l.end) ⊎ (l'.end ≡ link_end.Failed)
 
-pub record PutsStop (clients : Meaning) (n now : ℕ) (l : Link) (s : StoreValue)
+pub record PutsStop (clients : Meaning) (n now : ℕ) (l l' : Link) (s : StoreValue)
     (o o' : Outside) : Type 0 where
   pub stops : (heard : List ℕ) (moved : Bool) (room : ℕ)
-      → LinkBreaks clients n l.session.number
-      (spot_at (Sends now (suc room)) l heard moved s.state.facts) s o o'
+      → LinkHalts clients n l.session.number
+      (spot_at (Sends now (suc room)) l heard moved s.state.facts) (link_at l' heard) s o o'
 
 -- so many outputs were made at a reading
 pub record OutsTo (clients : Meaning) (n now made : ℕ) (l l' : Link) (s s' : StoreValue)
@@ -249,9 +290,9 @@ pub record OutsTo (clients : Meaning) (n now made : ℕ) (l l' : Link) (s s' : S
   pub rest : room + made ≡ MAX_OUTPUTS
   pub doing : Doing
   pub goes_on : GoesOnSending now room doing l'
-  pub runs : LinkRuns clients n l.session.number
+  pub runs : LinkCounts clients n l.session.number
       (spot_at (Sends now MAX_OUTPUTS) l heard moved s.state.facts)
-      (spot_at doing l' heard (cond (nat_lt 0 made) true moved) s'.state.facts) s s' o o'
+      (spot_at doing l' heard (cond (nat_lt 0 made) true moved) s'.state.facts) s s' o o' made
 
 pub record OutsAsCourse (clients : Meaning) (n now made : ℕ) (l l' : Link) (s s' : StoreValue)
     (o o' : Outside) : Type 0 where
@@ -265,17 +306,17 @@ pub record OutsAsCourse (clients : Meaning) (n now made : ℕ) (l l' : Link) (s 
 pub record SentAsCourse (clients : Meaning) (n now : ℕ) (l l' : Link) (s s' : StoreValue)
     (o o' : Outside) (made : ℕ) : Type 0 where
   pub runs : (heard : List ℕ) (moved : Bool) → is_sent_to l.end ≡ true
-      → LinkRuns clients n l.session.number
+      → LinkCounts clients n l.session.number
       (spot_at (Sends now MAX_OUTPUTS) l heard moved s.state.facts)
-      (spot_at Done l' heard (cond (nat_lt 0 made) true moved) s'.state.facts) s s' o o'
+      (spot_at Done l' heard (cond (nat_lt 0 made) true moved) s'.state.facts) s s' o o' made
   pub same_reader : l'.reader ≡ l.reader
   pub end : (l'.end ≡ l.end) ⊎ (l'.end ≡ link_end.Failed)
 
-pub record SentStops (clients : Meaning) (n now : ℕ) (l : Link) (s : StoreValue)
+pub record SentStops (clients : Meaning) (n now : ℕ) (l l' : Link) (s : StoreValue)
     (o o' : Outside) : Type 0 where
   pub stops : (heard : List ℕ) (moved : Bool) → is_sent_to l.end ≡ true
-      → LinkBreaks clients n l.session.number
-      (spot_at (Sends now MAX_OUTPUTS) l heard moved s.state.facts) s o o'
+      → LinkHalts clients n l.session.number
+      (spot_at (Sends now MAX_OUTPUTS) l heard moved s.state.facts) (link_at l' heard) s o o'
 
 -- what was due on a link was sent, unless it is closed
 pub record SendsAsCourse (clients : Meaning) (n : ℕ) (l l' : Link) (s s' : StoreValue)
@@ -286,10 +327,11 @@ pub record SendsAsCourse (clients : Meaning) (n : ℕ) (l l' : Link) (s s' : Sto
   pub same_reader : l'.reader ≡ l.reader
   pub end : (l'.end ≡ l.end) ⊎ (l'.end ≡ link_end.Failed)
 
-pub record SendsStop (clients : Meaning) (n : ℕ) (l : Link) (s : StoreValue)
+pub record SendsStop (clients : Meaning) (n : ℕ) (l l' : Link) (s : StoreValue)
     (o o' : Outside) : Type 0 where
   pub stops : (heard : List ℕ) (moved : Bool) (doing : Doing) → IsReadyToSend doing l
-      → LinkBreaks clients n l.session.number (spot_at doing l heard moved s.state.facts) s o o'
+      → LinkHalts clients n l.session.number
+      (spot_at doing l heard moved s.state.facts) (link_at l' heard) s o o'
 
 -- ---- a link's turn
 
@@ -342,12 +384,13 @@ pub record TurnsAsCourse (clients : Meaning) (first n : ℕ) (links links' : Lis
       → terms.first ≡ first → AllRead heard links
       → TurnsTo clients terms n links links' s s' o o' heard moved still made quiet
 
-pub record TurnsStop (clients : Meaning) (first : ℕ) (links : List Link) (s : StoreValue)
+pub record TurnsStop (clients : Meaning) (first : ℕ) (links links' : List Link) (s : StoreValue)
     (o o' : Outside) : Type 0 where
   pub stops : (terms : Terms) (heard : ℕ → List ℕ) (moved : Bool) (still made : ℕ)
       → terms.first ≡ first → AllRead heard links
-      → RunBreaks clients terms
-      (place_at (Works 0 Asks) links heard moved still made s.state.facts) s o o'
+      → (heard' : ℕ → List ℕ) × RunHalts clients terms
+      (place_at (Works 0 Asks) links heard moved still made s.state.facts)
+      (links_from 0 links' heard') s o o'
 
 -- ---- a whole turn
 
@@ -373,7 +416,16 @@ pub record MakesTurn (clients : Meaning) (first : ℕ) (links links' : List Link
       → is_at_end terms (place_at Between links heard moved still made s.state.facts) ≡ false
       → TurnMade clients terms links links' s s' o o' heard moved still made quiet
 
--- the turn was broken off
+-- the turn was broken off, and the links stand so then, by what was heard on each
+pub record HaltsTurn (clients : Meaning) (first : ℕ) (links links' : List Link) (s : StoreValue)
+    (o o' : Outside) : Type 0 where
+  pub stops : (terms : Terms) (heard : ℕ → List ℕ) (moved : Bool) (still made : ℕ)
+      → terms.first ≡ first → AllRead heard links
+      → is_at_end terms (place_at Between links heard moved still made s.state.facts) ≡ false
+      → (heard' : ℕ → List ℕ) × RunHalts clients terms
+      (place_at Between links heard moved still made s.state.facts) (links_from 0 links' heard') s o o'
+
+-- it was broken off, whatever its links are then
 pub record BreaksTurn (clients : Meaning) (first : ℕ) (links : List Link) (s : StoreValue)
     (o o' : Outside) : Type 0 where
   pub stops : (terms : Terms) (heard : ℕ → List ℕ) (moved : Bool) (still made : ℕ)
@@ -401,29 +453,33 @@ pub record Receives (clients : Meaning) (first n : ℕ) (links links' : List Lin
       → terms.first ≡ first → AllRead heard links
       → Received clients terms n links links' s s' o o' heard moved still made idle
 
-pub record BreaksReceiving (clients : Meaning) (first n : ℕ) (links : List Link) (s : StoreValue)
-    (o o' : Outside) : Type 0 where
+-- the call was broken off, and the links stand so then
+pub record HaltsReceiving (clients : Meaning) (first n : ℕ) (links links' : List Link)
+    (s : StoreValue) (o o' : Outside) : Type 0 where
   pub stops : (terms : Terms) (heard : ℕ → List ℕ) (moved : Bool) (still made : ℕ)
       → terms.first ≡ first → AllRead heard links
-      → RunBreaks clients terms
-      (place_at (Works n Asks) links heard moved still made s.state.facts) s o o'
+      → (heard' : ℕ → List ℕ) × RunHalts clients terms
+      (place_at (Works n Asks) links heard moved still made s.state.facts)
+      (links_from 0 links' heard') s o o'
 
--- all that is due on it at this reading was sent, so many outputs, and its turn is done
+-- All that is due on it at this reading was sent, and its turn is done: so many batches were
+-- committed, and each of them is an output.
 pub record SendsDue (clients : Meaning) (first n now : ℕ) (links links' : List Link)
     (s s' : StoreValue) (o o' : Outside) (outs : ℕ) : Type 0 where
   pub has_read : (heard : ℕ → List ℕ) → AllRead heard links → AllRead heard links'
   pub runs : (terms : Terms) (heard : ℕ → List ℕ) (moved : Bool) (still made : ℕ)
       → terms.first ≡ first
-      → RunRuns clients terms
+      → RunCounts clients terms
       (place_at (Works n (Sends now MAX_OUTPUTS)) links heard moved still made s.state.facts)
-      (place_at (Works n Done) links' heard (cond (nat_lt 0 outs) true moved) still made s'.state.facts) s s' o o'
+      (place_at (Works n Done) links' heard (cond (nat_lt 0 outs) true moved) still made s'.state.facts) s s' o o' outs
 
-pub record BreaksSending (clients : Meaning) (first n now : ℕ) (links : List Link) (s : StoreValue)
-    (o o' : Outside) : Type 0 where
+pub record HaltsSending (clients : Meaning) (first n now : ℕ) (links links' : List Link)
+    (s : StoreValue) (o o' : Outside) : Type 0 where
   pub stops : (terms : Terms) (heard : ℕ → List ℕ) (moved : Bool) (still made : ℕ)
       → terms.first ≡ first
-      → RunBreaks clients terms
-      (place_at (Works n (Sends now MAX_OUTPUTS)) links heard moved still made s.state.facts) s o o'
+      → RunHalts clients terms
+      (place_at (Works n (Sends now MAX_OUTPUTS)) links heard moved still made s.state.facts)
+      (links_from 0 links' heard) s o o'
 
 -- ---- a session that begins on the next link
 
@@ -457,8 +513,8 @@ pub record BreaksStart (clients : Meaning) (session : Session) (s : StoreValue)
     (o o' : Outside) : Type 0 where
   pub stops : (terms : Terms) (left : List Session) (links : List course_links.Link) (moved : Bool)
       (still made : ℕ)
-      → RunBreaks clients terms
-      (attaching_at (session ∷ left) links moved still made s.state.facts) s o o'
+      → RunHalts clients terms
+      (attaching_at (session ∷ left) links moved still made s.state.facts) links s o o'
 
 -- that link stands behind the others
 pub record StartsBehind (clients : Meaning) (n : ℕ) (session : Session) (links links' : List Link)
@@ -479,6 +535,16 @@ pub record Begins (clients : Meaning) (session : Session) (links links' : List L
       (place_at (Attaches (session ∷ left)) links heard moved still made s.state.facts)
       (place_at (Attaches left) links' heard moved still made s'.state.facts) s s' o o'
 
+-- the call was broken off, and the links stand so then
+pub record HaltsBeginning (clients : Meaning) (session : Session) (links links' : List Link)
+    (s : StoreValue) (o o' : Outside) : Type 0 where
+  pub stops : (terms : Terms) (left : List Session) (heard : ℕ → List ℕ) (moved : Bool)
+      (still made : ℕ)
+      → RunHalts clients terms
+      (place_at (Attaches (session ∷ left)) links heard moved still made s.state.facts)
+      (links_from 0 links' heard) s o o'
+
+-- it was broken off, whatever its links are then
 pub record BreaksBeginning (clients : Meaning) (session : Session) (links : List Link)
     (s : StoreValue) (o o' : Outside) : Type 0 where
   pub stops : (terms : Terms) (left : List Session) (heard : ℕ → List ℕ) (moved : Bool)

@@ -19,6 +19,7 @@ use Rattle.sync_rules.specs.contracts.entries.Session as session
 use Rattle.record_stream.specs.Reading.{ReaderState}
 use Rattle.sync_course.specs.declared.ends.LinkEnd.{LinkEnd}
 use Rattle.sync_course.specs.declared.ends.LinkEnd.TheVariants as link_end
+use Rattle.sync_node.specs.Causes.{sessions_of}
 use Rattle.sync_node.specs.Going.{Goes}
 use Rattle.sync_node.specs.Joined.{Joined}
 use Rattle.sync_node.specs.Output.{Journal}
@@ -125,6 +126,12 @@ pub record IsNode (n : NodeValue) : Type 0 where
 -- where no call failed, the node may go on
 abbrev pub MayRun : Meaning → NodeValue → Outside → Type 0
 MayRun clients n o = n.closed ≡ false → MayGoOn clients n.links n.store o
+
+-- Whatever a call on its links answers, a node keeps the number of its first session, and on its
+-- links, as many as before, the sessions that they had.
+pub record KeepsSessions (n n' : NodeValue) : Type 0 where
+  pub same_first : n'.first ≡ n.first
+  pub same_sessions : sessions_of n'.links ≡ sessions_of n.links
 
 -- Calls on the links of a node, which was not closed, leave them joined.
 pub record KeepsJoined (clients : Meaning) (n n' : NodeValue) (o o' : Outside) : Type 0 where

@@ -13,14 +13,14 @@ ghost use Rattle.sync_node.specs.Courses.{StartsBehind};
 ghost use Rattle.sync_node.specs.Fulls.{FullStart};
 ghost use Rattle.sync_node.specs.Going.{Goes};
 ghost use Rattle.sync_node.specs.Starting.{Greets, Starts, StartsLast, StartsSafe};
-ghost use Rattle.sync_node.specs.Stays.{KeepsReady};
+ghost use Rattle.sync_node.specs.Stays.{IsUndoneBy, KeepsReady};
 ghost use Rattle.sync_node.specs.Stops.{StaysSame};
 
 use crate::fault::Fault;
 use crate::link::Link;
 use crate::sending::send_on;
-use crate::spelling::{spell_nonce, spell_versions};
 use crate::told::{cite_laws, commit};
+use output_spelling::{spell_nonce, spell_versions};
 use outside::Host;
 use record_stream::Reader;
 use std::alloc::Global;
@@ -60,6 +60,7 @@ pub(crate) fn attach_on<H: Host, C: Clients>(
     ensures run { LinksGo links.old.items links.new.items (H.tells host.old)
         (H.tells host.new) }
     ensures limit { store.new.limit ≡ store.old.limit }
+    ensures undone { IfErr result (IsUndoneBy store.old store.new host.old host.new) }
     ensures as_before { IsErrOf result Fault.Full → StaysSame (C.meaning clients.now) store.old
         store.new (H.tells host.old) (H.tells host.new) }
     ensures full { IsErrOf result Fault.Full → FullStart (C.meaning clients.now) session store.old
@@ -77,6 +78,7 @@ pub(crate) fn attach_on<H: Host, C: Clients>(
 
 // Commits a session, and then sends what it begins with. All is spelled first, so that nothing may
 // fail between the two but a send, which closes the link.
+#[tactic(auto, using(session_core::proofs::Unknown::unknown))]
 fn start<H: Host, C: Clients>(
     alloc: Global,
     store: &mut Store,
@@ -107,6 +109,7 @@ fn start<H: Host, C: Clients>(
         → Rose ((H.tells host.old).links.faults number)
         ((H.tells host.new).links.faults number)) }
     ensures limit { store.new.limit ≡ store.old.limit }
+    ensures undone { IfErr result (IsUndoneBy store.old store.new host.old host.new) }
     ensures as_before { IsErrOf result Fault.Full → StaysSame (C.meaning clients.now) store.old
         store.new (H.tells host.old) (H.tells host.new) }
     ensures full { IsErrOf result Fault.Full → FullStart (C.meaning clients.now) session store.old
@@ -118,7 +121,7 @@ fn start<H: Host, C: Clients>(
     let versions = spell_versions(alloc)?;
     let priority = spell_nonce(alloc, &session.nonce)?;
     let batch = Batch::single(alloc, Entry::Session(session))?;
-    commit(store, host, clients, batch)?;
+    commit(store, host, clients, batch, None)?;
     let Some(begun) = store.session(session.number) else {
         unreachable!()
     };

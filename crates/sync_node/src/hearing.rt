@@ -21,7 +21,7 @@ use crate::link::{Link, ended};
 use crate::told::{cite_laws, commit, settle};
 use outside::{Heard, Host};
 use record_stream::{Next, Piece};
-use session_core::{take, versions_ok};
+use session_core::{take_known, versions_ok};
 use std::alloc::Global;
 use sync_course::LinkEnd;
 use sync_ids::{Record, records_are_within};
@@ -53,7 +53,7 @@ pub(crate) fn receive_on<H: Host, C: Clients>(
         (C.meaning clients.now) number link.old link.new store.old store.new (H.tells host.old)
         (H.tells host.new)) }
     ensures stops { length buffer.old ≡ PIECE_LEN → OnErr result (HearsStops
-        (C.meaning clients.now) number link.old store.old (H.tells host.old)
+        (C.meaning clients.now) number link.old link.new store.old (H.tells host.old)
         (H.tells host.new)) }
     ensures works { OnOk result (Works (C.meaning clients.now) number [] [] link.old link.new
         store.old store.new (H.tells host.old) (H.tells host.new)) }
@@ -110,7 +110,7 @@ fn take_piece<H: Host, C: Clients>(
     ensures course { OnOk result (PieceTaken (C.meaning clients.now) number piece.old link.old
         link.new store.old store.new (H.tells host.old) (H.tells host.new)) }
     ensures stops { OnErr result (NextStops (C.meaning clients.now) number piece.old link.old
-        store.old (H.tells host.old) (H.tells host.new)) }
+        link.new store.old (H.tells host.old) (H.tells host.new)) }
     ensures works { OnOk result (Works (C.meaning clients.now) number piece.old [] link.old link.new
         store.old store.new (H.tells host.old) (H.tells host.new)) }
     ensures stays { OnErr result (StaysSafe (C.meaning clients.now) number piece.old link.old
@@ -153,7 +153,7 @@ fn take_next<H: Host, C: Clients>(
     ensures course { IfOk result (NextAsCourse (C.meaning clients.now) number piece.old piece.new
         link.old link.new store.old store.new (H.tells host.old) (H.tells host.new)) }
     ensures stops { OnErr result (NextStops (C.meaning clients.now) number piece.old link.old
-        store.old (H.tells host.old) (H.tells host.new)) }
+        link.new store.old (H.tells host.old) (H.tells host.new)) }
     ensures left { IfOk result (LeavesLess link.old piece.old link.new piece.new) }
     ensures works { OnOk result (Works (C.meaning clients.now) number piece.old piece.new link.old
         link.new store.old store.new (H.tells host.old) (H.tells host.new)) }
@@ -204,7 +204,7 @@ fn learn(link: &mut Link, place: u64, rec: &Record)
     }
 }
 
-// Commits the batch of a session's next record, and settles.
+// Commits the batch of a session's next record, with the id that was computed for it, and settles.
 fn take_one<H: Host, C: Clients>(
     alloc: Global,
     store: &mut Store,
@@ -235,7 +235,8 @@ fn take_one<H: Host, C: Clients>(
 {
     records_are_within(&rec);
     let taken = store.takes(session.number);
-    let batch = take(alloc, store, session, taken, rec)?;
-    commit(store, host, clients, batch)?;
+    let known = take_known(alloc, store, session, taken, rec)?;
+    let (batch, id) = known;
+    commit(store, host, clients, batch, id)?;
     settle(store, host, clients)
 }

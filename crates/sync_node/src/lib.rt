@@ -7,7 +7,6 @@
 //! - `turning`: the turn of one link; `hearing` takes what is heard on it, `sending` sends what is
 //!   due.
 //! - `redundant`: which of the links with one contact is kept.
-//! - `spelling`: the bytes of what is sent.
 //! - `told`: each call on the store or the host, with what it leaves.
 //! - `laws`: how a run begins and ends, for callers.
 #![tactic(auto)]
@@ -20,7 +19,6 @@ mod link;
 mod node;
 mod redundant;
 mod sending;
-mod spelling;
 mod told;
 mod turning;
 

@@ -106,19 +106,19 @@ impl Node {
     ghost use Rattle.sync_node.specs.Adding.{AddsAtMost, AddsSettled, IsPlain};
     ghost use Rattle.sync_node.specs.Output.{Journal};
     ghost use Rattle.sync_rules.specs.Steps.{IsSettled};
-    ghost use Rattle.sync_node.specs.Causes.{FailByCause};
+    ghost use Rattle.sync_node.specs.Causes.{FailByCause, PushesOne};
     ghost use Rattle.sync_store.specs.Commits.{needed};
     ghost use Rattle.sync_node.specs.Fulls.{FullBeginning, FullReceiving, FullSending};
     ghost use Rattle.sync_node.specs.Fulls.{FullTurn};
     ghost use Rattle.sync_node.specs.Going.{Goes};
-    ghost use Rattle.sync_node.specs.Node.{Answers, Attaches, IsNode, KeepsJoined, KeepsSafe};
+    ghost use Rattle.sync_node.specs.Node.{Answers, Attaches, IsNode, KeepsJoined, KeepsSafe, KeepsSessions};
     ghost use Rattle.sync_node.specs.Node.{KeepsSafeAnew};
     ghost use Rattle.sync_node.specs.Node.{MayRun, PlansSafe, StaysClosed, new_node};
-    ghost use Rattle.sync_node.specs.Courses.{Begins, BreaksBeginning};
-    ghost use Rattle.sync_node.specs.Courses.{BreaksReceiving, BreaksSending, BreaksTurn};
+    ghost use Rattle.sync_node.specs.Courses.{Begins, HaltsBeginning};
+    ghost use Rattle.sync_node.specs.Courses.{HaltsReceiving, HaltsSending, HaltsTurn};
     ghost use Rattle.sync_node.specs.Courses.{MakesTurn, Receives, SendsDue, is_still};
     ghost use Rattle.sync_node.specs.Node.{IsNode};
-    ghost use Rattle.sync_node.specs.Stays.{StaysReady};
+    ghost use Rattle.sync_node.specs.Stays.{IsUndone, IsUndoneAt, StaysReady};
     ghost use Rattle.sync_node.specs.Stops.{SendsAll};
     ghost use Rattle.sync_node.specs.Plans.{session_of};
     ghost use Rattle.sync_rules.specs.Facts.{after_all};
@@ -202,6 +202,9 @@ impl Node {
         ensures limit { self.new.store.limit ≡ self.old.store.limit }
         ensures run { Goes (H.tells host.old) (H.tells host.new) }
         ensures links { self.new.links ≡ self.old.links }
+        ensures first { self.new.first ≡ self.old.first }
+        ensures undone { IsErrOf result NodeFault.Full
+            → IsUndone self.old.store self.new.store host.old host.new }
         ensures full { IsErrOf result NodeFault.Full
             → self.old.store.limit < needed self.old.store batch }
         ensures fault { IsErrOf result NodeFault.DiskFault → Rose (H.tells host.old).disk_faults
@@ -247,9 +250,12 @@ impl Node {
         ensures course { self.old.closed ≡ false → OnOk result (Begins (C.meaning clients.now)
             (session_of self.old.store.state.facts.begun plan.now nonce) self.old.links
             self.new.links self.old.store self.new.store (H.tells host.old) (H.tells host.new)) }
-        ensures halts { self.old.closed ≡ false → OnErr result (BreaksBeginning
+        ensures halts { self.old.closed ≡ false → OnErr result (HaltsBeginning
             (C.meaning clients.now) (session_of self.old.store.state.facts.begun plan.now nonce)
-            self.old.links self.old.store (H.tells host.old) (H.tells host.new)) }
+            self.old.links self.new.links self.old.store (H.tells host.old) (H.tells host.new)) }
+        ensures links { PushesOne result self.old.links self.new.links }
+        ensures first { self.new.first ≡ self.old.first }
+        ensures undone { IsUndoneAt self.old self.new host.old host.new result }
         ensures joined { OnOk result (Attaches (C.meaning clients.now) self.old self.new
             (H.tells host.old) (H.tells host.new)) }
         ensures facts { OnOk result (self.new.store.state.facts
@@ -317,9 +323,10 @@ impl Node {
         ensures course { self.old.closed ≡ false → IfOk result (Receives (C.meaning clients.now)
             self.old.first link self.old.links self.new.links self.old.store self.new.store
             (H.tells host.old) (H.tells host.new)) }
-        ensures halts { self.old.closed ≡ false → OnErr result (BreaksReceiving
-            (C.meaning clients.now) self.old.first link self.old.links self.old.store
-            (H.tells host.old) (H.tells host.new)) }
+        ensures halts { self.old.closed ≡ false → OnErr result (HaltsReceiving
+            (C.meaning clients.now) self.old.first link self.old.links self.new.links
+            self.old.store (H.tells host.old) (H.tells host.new)) }
+        ensures kept { KeepsSessions self.old self.new }
         ensures joined { OnOk result (KeepsJoined (C.meaning clients.now) self.old self.new
             (H.tells host.old) (H.tells host.new)) }
         ensures safe { KeepsSafe (C.meaning clients.now) self.old self.new (H.tells host.old)
@@ -374,9 +381,10 @@ impl Node {
         ensures course { self.old.closed ≡ false → IfOk result (SendsDue (C.meaning clients.now)
             self.old.first link now self.old.links self.new.links self.old.store self.new.store
             (H.tells host.old) (H.tells host.new)) }
-        ensures halts { self.old.closed ≡ false → OnErr result (BreaksSending
-            (C.meaning clients.now) self.old.first link now self.old.links self.old.store
-            (H.tells host.old) (H.tells host.new)) }
+        ensures halts { self.old.closed ≡ false → OnErr result (HaltsSending
+            (C.meaning clients.now) self.old.first link now self.old.links self.new.links
+            self.old.store (H.tells host.old) (H.tells host.new)) }
+        ensures kept { KeepsSessions self.old self.new }
         ensures joined { OnOk result (KeepsJoined (C.meaning clients.now) self.old self.new
             (H.tells host.old) (H.tells host.new)) }
         ensures safe { KeepsSafe (C.meaning clients.now) self.old self.new (H.tells host.old)
@@ -426,9 +434,10 @@ impl Node {
         ensures course { self.old.closed ≡ false → IfOk result (λ turned. MakesTurn
             (C.meaning clients.now) self.old.first self.old.links self.new.links self.old.store
             self.new.store (H.tells host.old) (H.tells host.new) (is_still turned)) }
-        ensures halts { self.old.closed ≡ false → OnErr result (BreaksTurn (C.meaning clients.now)
-            self.old.first self.old.links self.old.store (H.tells host.old)
+        ensures halts { self.old.closed ≡ false → OnErr result (HaltsTurn (C.meaning clients.now)
+            self.old.first self.old.links self.new.links self.old.store (H.tells host.old)
             (H.tells host.new)) }
+        ensures kept { KeepsSessions self.old self.new }
         ensures joined { OnOk result (KeepsJoined (C.meaning clients.now) self.old self.new
             (H.tells host.old) (H.tells host.new)) }
         ensures safe { KeepsSafe (C.meaning clients.now) self.old self.new (H.tells host.old)

@@ -15,8 +15,8 @@ ghost use Rattle.sync_node.specs.Stops.{StopsSent};
 
 use crate::fault::Fault;
 use crate::link::Link;
-use crate::spelling::spell_out;
 use crate::told::{cite_laws, commit};
+use output_spelling::spell_out;
 use outside::Host;
 use std::alloc::Global;
 use sync_course::{LinkEnd, MAX_OUTPUTS};
@@ -45,7 +45,7 @@ pub(crate) fn send_all<H: Host, C: Clients>(
     ensures course { MaySend link.old.end → IfOk result (SentAsCourse (C.meaning clients.now) number
         now link.old link.new store.old store.new (H.tells host.old) (H.tells host.new)) }
     ensures stops { MaySend link.old.end → OnErr result (SentStops (C.meaning clients.now) number
-        now link.old store.old (H.tells host.old) (H.tells host.new)) }
+        now link.old link.new store.old (H.tells host.old) (H.tells host.new)) }
     ensures works { OnOk result (Works (C.meaning clients.now) number [] [] link.old link.new
         store.old store.new (H.tells host.old) (H.tells host.new)) }
     ensures stays { OnErr result (StaysSafe (C.meaning clients.now) number [] link.old store.old
@@ -73,6 +73,7 @@ pub(crate) fn send_all<H: Host, C: Clients>(
 
 // Commits an output, and then sends it. It is spelled first, so that nothing may fail between the
 // two.
+#[tactic(auto, using(session_core::proofs::Unknown::unknown))]
 fn put_out<H: Host, C: Clients>(
     alloc: Global,
     store: &mut Store,
@@ -96,8 +97,8 @@ fn put_out<H: Host, C: Clients>(
     ensures waits { OnOk result (Waits link.new) }
     ensures course { OnOk result (PutsAsCourse (C.meaning clients.now) number now link.old link.new
         store.old store.new (H.tells host.old) (H.tells host.new)) }
-    ensures stops { OnErr result (PutsStop (C.meaning clients.now) number now link.old store.old
-        (H.tells host.old) (H.tells host.new)) }
+    ensures stops { OnErr result (PutsStop (C.meaning clients.now) number now link.old link.new
+        store.old (H.tells host.old) (H.tells host.new)) }
     ensures works { OnOk result (Works (C.meaning clients.now) number [] [] link.old link.new
         store.old store.new (H.tells host.old) (H.tells host.new)) }
     ensures stays { OnErr result (StaysSafe (C.meaning clients.now) number [] link.old store.old
@@ -114,7 +115,7 @@ fn put_out<H: Host, C: Clients>(
     cite_laws();
     let bytes = spell_out(alloc, store, &out)?;
     let batch = Batch::single(alloc, Entry::Out(link.session.number, now, out))?;
-    commit(store, host, clients, batch)?;
+    commit(store, host, clients, batch, None)?;
     send_on(host, number, link, bytes.as_slice());
     Ok(())
 }

@@ -4,16 +4,16 @@ ghost use Rattle.std.specs.Prelude.{◌≡◌, ◌<◌, ◌∷◌, [], false, Li
 ghost use Rattle.outside.specs.Faults.{Rose};
 ghost use Rattle.outside.specs.Files.{Two, File};
 ghost use Rattle.outside.specs.Runs.{IsFront, Told};
+ghost use Rattle.session_core.specs.Known.{IsOfAll};
 ghost use Rattle.sync_rules.specs.Allows.{is_settling_kind};
 ghost use Rattle.sync_rules.specs.Legal.{Allowed};
 ghost use Rattle.sync_rules.specs.declared.entries.Session.{Session};
 ghost use Rattle.sync_store.specs.Commits.{needed};
 ghost use Rattle.sync_store.specs.Fitting.{Fits};
-ghost use Rattle.sync_store.specs.Moments.{Leads, WithAtMost};
+ghost use Rattle.sync_store.specs.Moments.{Leads};
 ghost use Rattle.sync_store.specs.Ready.{IsReady};
 ghost use Rattle.sync_store.specs.Store.{IsStore};
-ghost use Rattle.sync_node.specs.Adding.{AddsAtMost, AddsSettled, GoesOnSettling, IsCommitted};
-ghost use Rattle.sync_node.specs.Adding.{IsPlain};
+ghost use Rattle.sync_node.specs.Adding.{AddsAtMost, AddsSettled, IsPlain};
 ghost use Rattle.sync_node.specs.Cited.{CitedLaws};
 ghost use Rattle.sync_node.specs.Courses.{Adds, AddsSettling, AddsSome, AddsSomeSettling};
 ghost use Rattle.sync_node.specs.Fulls.{IsOver};
@@ -21,13 +21,14 @@ ghost use Rattle.sync_node.specs.Going.{Commits, Goes, SettlesStore};
 ghost use Rattle.sync_node.specs.Output.{heard_on, Journal};
 ghost use Rattle.sync_node.specs.Safe.{Begin, Safe};
 ghost use Rattle.sync_node.specs.Suits.{IsOfRun};
-ghost use Rattle.sync_node.specs.Stays.{KeepsReady};
+ghost use Rattle.sync_node.specs.Stays.{IsUndone, IsUndoneBy, KeepsReady};
 ghost use Rattle.sync_node.specs.Stops.{StaysSame};
 
 use crate::fault::Fault;
 use outside::Host;
 use record_grammar::{endings_are_of_rests, fronts_have_fronts, records_join, rests_give_nothing};
 use record_stream::{readings_follow, readings_widen};
+use sync_ids::MessageId;
 use sync_rules::{Batch, Clients};
 use sync_store::laws::images_stand;
 use sync_store::{Store, StoreFault};
@@ -45,16 +46,19 @@ pub(crate) fn cite_laws()
     rests_give_nothing();
 }
 
-/// Commits a batch, one of a run.
+/// Commits a batch, one of a run, with the id of the one message that it brings where the caller has
+/// it.
 pub(crate) fn commit<H: Host, C: Clients>(
     store: &mut Store,
     host: &mut H,
     clients: &C,
     batch: Batch,
+    id: Option<MessageId>,
 ) -> Result<(), Fault>
     requires ready { IsReady (C.meaning clients.now) store.old (H.tells host.old).files }
     requires allowed { Allowed (C.meaning clients.now) store.old.state.facts batch }
     requires kind { is_settling_kind batch ≡ false }
+    requires named { IsOfAll id batch }
     ensures ready { IfErr result (KeepsReady (C.meaning clients.now) store.new
         (H.tells host.new)) }
     ensures commits { OnOk result (Commits (C.meaning clients.now) (batch ∷ []) store.old store.new
@@ -68,22 +72,19 @@ pub(crate) fn commit<H: Host, C: Clients>(
         store.old.state.facts batch)
         → Safe (C.meaning clients.now) b plans store.old (H.tells host.old)
         → Safe (C.meaning clients.now) b later store.new (H.tells host.new) }
-    ensures leads { (two : Two File) → (H.tells host.old).files ≡ Some two → (j : Journal)
-        → Fits (C.meaning clients.now) store.old j two → Leads (C.meaning clients.now)
-        (WithAtMost j batch) (IsCommitted j batch result) store.new (H.tells host.old)
-        (H.tells host.new) }
     ensures run { Goes (H.tells host.old) (H.tells host.new) }
     ensures numbers { IsStore store.new }
     ensures limit { store.new.limit ≡ store.old.limit }
     ensures as_before { IsErrOf result Fault.Full → StaysSame (C.meaning clients.now) store.old
         store.new (H.tells host.old) (H.tells host.new) }
+    ensures undone { IfErr result (IsUndoneBy store.old store.new host.old host.new) }
     ensures full { IsErrOf result Fault.Full → IsOver (C.meaning clients.now) batch store.old
         store.new (H.tells host.old) (H.tells host.new) }
     ensures fault { IsErrOf result Fault.DiskFault → Rose (H.tells host.old).disk_faults
         (H.tells host.new).disk_faults }
 {
     cite_laws();
-    match store.commit(host, clients, batch) {
+    match store.commit_known(host, clients, batch, id) {
         Ok(()) => Ok(()),
         Err(StoreFault::Memory) => Err(Fault::Memory),
         Err(StoreFault::DiskFault) => Err(Fault::DiskFault),
@@ -110,10 +111,6 @@ pub(crate) fn settle<H: Host, C: Clients>(
     ensures safe { (b : Begin) (plans : List Session)
         → Safe (C.meaning clients.now) b plans store.old (H.tells host.old)
         → Safe (C.meaning clients.now) b plans store.new (H.tells host.new) }
-    ensures leads { (two : Two File) → (H.tells host.old).files ≡ Some two → (j : Journal)
-        → Fits (C.meaning clients.now) store.old j two → Leads (C.meaning clients.now)
-        (GoesOnSettling (C.meaning clients.now) j) (GoesOnSettling (C.meaning clients.now) j)
-        store.new (H.tells host.old) (H.tells host.new) }
     ensures run { Goes (H.tells host.old) (H.tells host.new) }
     ensures limit { store.new.limit ≡ store.old.limit }
     ensures never { IsErrOf result Fault.Full → ⊥ }
@@ -150,10 +147,16 @@ pub(crate) fn add_settled<H: Host, C: Clients>(
         store.new (H.tells host.old) (H.tells host.new) }
     ensures run { Goes (H.tells host.old) (H.tells host.new) }
     ensures limit { store.new.limit ≡ store.old.limit }
+    ensures undone { IsErrOf result Fault.Full → IsUndone store.old store.new host.old host.new }
     ensures full { IsErrOf result Fault.Full → store.old.limit < needed store.old batch }
     ensures fault { IsErrOf result Fault.DiskFault → Rose (H.tells host.old).disk_faults
         (H.tells host.new).disk_faults }
 {
-    commit(store, host, clients, batch)?;
-    settle(store, host, clients)
+    match store.extend(host, clients, batch) {
+        Ok(()) => Ok(()),
+        Err(StoreFault::Memory) => Err(Fault::Memory),
+        Err(StoreFault::DiskFault) => Err(Fault::DiskFault),
+        Err(StoreFault::Full) => Err(Fault::Full),
+        Err(StoreFault::Closed) => unreachable!(),
+    }
 }

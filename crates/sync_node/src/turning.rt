@@ -3,8 +3,8 @@ ghost use Rattle.std.specs.Prelude.{IfErr};
 ghost use Rattle.std.specs.Prelude.{◌≡◌, ℕ, ◌<◌, ◌≤◌, [], length, IfOk, IsErrOf, OnErr, OnOk};
 ghost use Rattle.outside.specs.Faults.{Rose};
 ghost use Rattle.sync_course.specs.declared.TheConstants.{PIECE_LEN};
-ghost use Rattle.sync_node.specs.Causes.{LinkGoes, LinksGo};
-ghost use Rattle.sync_node.specs.Courses.{BreaksTurn, MakesTurn};
+ghost use Rattle.sync_node.specs.Causes.{LinkGoes, LinksGo, sessions_of};
+ghost use Rattle.sync_node.specs.Courses.{HaltsTurn, MakesTurn};
 ghost use Rattle.sync_node.specs.Courses.{HearsAsCourse, HearsStops, SendsAsCourse, SendsStop};
 ghost use Rattle.sync_node.specs.Courses.{TurnAsCourse, TurnsAsCourse, TurnsStop};
 ghost use Rattle.sync_node.specs.Fulls.{FullTurn, HearsFull, SendsFull, TurnsFull};
@@ -47,8 +47,8 @@ pub(crate) fn turn_all<H: Host, C: Clients>(
         → length buffer.old ≡ PIECE_LEN → IfOk result (MakesTurn (C.meaning clients.now) first
         links.old links.new store.old store.new (H.tells host.old) (H.tells host.new)) }
     ensures halts { (first : ℕ) → AreAttached first links.old store.old.state.facts
-        → length buffer.old ≡ PIECE_LEN → OnErr result (BreaksTurn (C.meaning clients.now) first
-        links.old store.old (H.tells host.old) (H.tells host.new)) }
+        → length buffer.old ≡ PIECE_LEN → OnErr result (HaltsTurn (C.meaning clients.now) first
+        links.old links.new store.old (H.tells host.old) (H.tells host.new)) }
     ensures works { (first : ℕ) → AreAttached first links.old store.old.state.facts
         → OnOk result (LinksWork (C.meaning clients.now) first links.old links.new store.old
         store.new (H.tells host.old) (H.tells host.new)) }
@@ -58,6 +58,7 @@ pub(crate) fn turn_all<H: Host, C: Clients>(
     ensures sent { (first : ℕ) → AreAttached first links.old store.old.state.facts
         → IsErrOf result Fault.Full → LinksSent (C.meaning clients.now) first links.old store.old
         store.new (H.tells host.old) (H.tells host.new) }
+    ensures sessions { sessions_of links.new ≡ sessions_of links.old }
     ensures run { LinksGo links.old links.new (H.tells host.old) (H.tells host.new) }
     ensures limit { store.new.limit ≡ store.old.limit }
     ensures full { (first : ℕ) → AreAttached first links.old store.old.state.facts
@@ -95,7 +96,7 @@ fn turn_each<H: Host, C: Clients>(
         (H.tells host.new)) }
     ensures halts { (first : ℕ) → AreAttached first links.old store.old.state.facts
         → length buffer.old ≡ PIECE_LEN → OnErr result (TurnsStop (C.meaning clients.now) first
-        links.old store.old (H.tells host.old) (H.tells host.new)) }
+        links.old links.new store.old (H.tells host.old) (H.tells host.new)) }
     ensures works { (first : ℕ) → AreAttached first links.old store.old.state.facts
         → OnOk result (LinksWork (C.meaning clients.now) first links.old links.new store.old
         store.new (H.tells host.old) (H.tells host.new)) }
@@ -105,6 +106,7 @@ fn turn_each<H: Host, C: Clients>(
     ensures sent { (first : ℕ) → AreAttached first links.old store.old.state.facts
         → IsErrOf result Fault.Full → LinksSent (C.meaning clients.now) first links.old store.old
         store.new (H.tells host.old) (H.tells host.new) }
+    ensures sessions { sessions_of links.new ≡ sessions_of links.old }
     ensures run { LinksGo links.old links.new (H.tells host.old) (H.tells host.new) }
     ensures limit { store.new.limit ≡ store.old.limit }
     ensures full { (first : ℕ) → AreAttached first links.old store.old.state.facts
@@ -147,7 +149,7 @@ fn turn_link<H: Host, C: Clients>(
         (C.meaning clients.now) number link.old link.new store.old store.new (H.tells host.old)
         (H.tells host.new)) }
     ensures halts { length buffer.old ≡ PIECE_LEN → OnErr result (HearsStops
-        (C.meaning clients.now) number link.old store.old (H.tells host.old)
+        (C.meaning clients.now) number link.old link.new store.old (H.tells host.old)
         (H.tells host.new)) }
     ensures works { OnOk result (Works (C.meaning clients.now) number [] [] link.old link.new
         store.old store.new (H.tells host.old) (H.tells host.new)) }
@@ -191,7 +193,7 @@ fn hear_now<H: Host, C: Clients>(
         (C.meaning clients.now) number link.old link.new store.old store.new (H.tells host.old)
         (H.tells host.new)) }
     ensures stops { length buffer.old ≡ PIECE_LEN → OnErr result (HearsStops
-        (C.meaning clients.now) number link.old store.old (H.tells host.old)
+        (C.meaning clients.now) number link.old link.new store.old (H.tells host.old)
         (H.tells host.new)) }
     ensures works { OnOk result (Works (C.meaning clients.now) number [] [] link.old link.new
         store.old store.new (H.tells host.old) (H.tells host.new)) }
@@ -233,8 +235,8 @@ fn send_now<H: Host, C: Clients>(
     ensures waits { OnOk result (Waits link.new) }
     ensures course { IfOk result (SendsAsCourse (C.meaning clients.now) number link.old link.new
         store.old store.new (H.tells host.old) (H.tells host.new)) }
-    ensures halts { OnErr result (SendsStop (C.meaning clients.now) number link.old store.old
-        (H.tells host.old) (H.tells host.new)) }
+    ensures halts { OnErr result (SendsStop (C.meaning clients.now) number link.old link.new
+        store.old (H.tells host.old) (H.tells host.new)) }
     ensures works { OnOk result (Works (C.meaning clients.now) number [] [] link.old link.new
         store.old store.new (H.tells host.old) (H.tells host.new)) }
     ensures stays { OnErr result (StaysSafe (C.meaning clients.now) number [] link.old store.old

@@ -5,3 +5,8 @@ pub mod SameEntries
 pub mod TakenBack
 pub mod Allowing
 pub mod BegunLaws
+pub mod EndCounts
+pub mod GroupLaws
+pub mod NameLaws
+pub mod RecordLaws
+pub mod ServedLaws

@@ -13,6 +13,7 @@ pub mod Laws
 pub mod CountLaws
 pub mod Scans
 pub mod Hearing
+pub mod Heard
 pub mod PeerLaws
 pub mod Views
 pub mod Output
@@ -20,6 +21,7 @@ pub mod Growth
 pub mod Meeting
 pub mod Consistency
 pub mod Naming
+pub mod Knowing
 pub mod Elements
 pub mod RoundLaws
 pub mod StepLaws

@@ -1,8 +1,10 @@
 -- The rounds: both grow from round to round and with the held messages, and no message is good and bad.
-use Rattle.std.proofs.Common.{◌≡◌, ℕ, zero, suc, ◌≤◌, Bool, true, false, cond, ◌&&◌, refl, ◌∙◌, ap, subst, inl, inr, arith, Option, Some, None}
+use Rattle.std.proofs.Common.{◌≡◌, ℕ, zero, suc, ◌≤◌, Bool, true, false, cond, ◌&&◌, List, refl, ◌∙◌, ap, subst, inl, inr, arith, Option, Some, None}
 use Rattle.std.proofs.lemmas.Bool.{and_parts, and_from, or_cases, or_left, or_right, false≢true, cases_eq}
+use Rattle.sync_ids.specs.Values.{MessageValue}
 use Rattle.sync_rules.specs.declared.answers.Judgement.{Judgement}
 use Rattle.sync_rules.specs.declared.answers.Judgement.TheVariants as judgement
+use Rattle.sync_rules.specs.Lists.{same_id}
 use Rattle.sync_rules.specs.Facts.{Held, Id, held_at}
 use Rattle.sync_rules.specs.Steps.{is_beside, is_elsewhere}
 use Rattle.sync_rules.specs.Rounds.{Graph, good, good_by, good_next, bad, bad_by, bad_first, bad_more, worse_by}
@@ -97,24 +99,29 @@ disjoint g (suc k) l id h b = apart_next g k (disjoint g k) l id h b
 
 -- ---- the rounds grow with the held messages
 
--- what one graph holds, the other holds with the same verdict
+-- under an id the message of a held one is held; where it came from, which rounds never read, may be another
+pub record HoldsMessage (held : List Held) (id : Id) (h : Held) : Type 0 where
+  pub found : Held
+  pub at : held_at held id ≡ Some found
+  pub same : found.message ≡ h.message
+
+-- the messages that one graph holds, the other holds with the same verdict
 pub record Grows (g n : Graph) : Type 0 where
-  pub held : (id : Id) (h : Held) → held_at g.held id ≡ Some h → held_at n.held id ≡ Some h
-  pub verdict : (id : Id) (h : Held) → held_at g.held id ≡ Some h → n.verdict h ≡ g.verdict h
+  pub held : (id : Id) (h : Held) → held_at g.held id ≡ Some h → HoldsMessage n.held id h
+  pub verdict : (id : Id) (h x : Held) → held_at g.held id ≡ Some h → held_at n.held id ≡ Some x → x.message ≡ h.message → n.verdict x ≡ g.verdict h
 
 module _ (g n : Graph) (grows : Grows g n) where
   beside_grows : (group d : Id) (o : Option Held) → held_at g.held d ≡ o → is_beside group o ≡ true → is_beside group (held_at n.held d) ≡ true
   beside_grows group d None e b = absurd (false≢true b)
-  beside_grows group d (Some x) e b = ap (is_beside group) (grows.held d x e) ∙ b
+  beside_grows group d (Some x) e b =
+      let s = grows.held d x e in
+      ap (is_beside group) s.at ∙ (ap (λ (m : MessageValue). same_id m.group group) s.same ∙ b)
 
   elsewhere_grows : (group d : Id) (o : Option Held) → held_at g.held d ≡ o → is_elsewhere group o ≡ true → is_elsewhere group (held_at n.held d) ≡ true
   elsewhere_grows group d None e b = absurd (false≢true b)
-  elsewhere_grows group d (Some x) e b = ap (is_elsewhere group) (grows.held d x e) ∙ b
-
-  -- in the larger graph the same message is found, with the same verdict
-  moved : (F : Graph → Option Held → Bool) (G : Held → Judgement → Bool) → ((x : Held) → F n (Some x) ≡ G x (n.verdict x))
-      → (id : Id) (x : Held) → held_at g.held id ≡ Some x → G x (g.verdict x) ≡ true → F n (held_at n.held id) ≡ true
-  moved F G is id x e h = ap (F n) (grows.held id x e) ∙ (is x ∙ (ap (G x) (grows.verdict id x e) ∙ h))
+  elsewhere_grows group d (Some x) e b =
+      let s = grows.held d x e in
+      ap (is_elsewhere group) s.at ∙ (ap (λ (m : MessageValue). cond (same_id m.group group) false true) s.same ∙ b)
 
   good_by_grows : (was now : Id → Bool) → ((d : Id) → was d ≡ true → now d ≡ true) → (group : Id) (v : Judgement)
       → good_by g was group v ≡ true → good_by n now group v ≡ true
@@ -128,8 +135,10 @@ module _ (g n : Graph) (grows : Grows g n) where
       → good_next g was o ≡ true → good_next n now (held_at n.held id) ≡ true
   good_next_grows was now up id None e h = absurd (false≢true h)
   good_next_grows was now up id (Some x) e h =
-      ap (good_next n now) (grows.held id x e)
-      ∙ (ap (good_by n now x.message.group) (grows.verdict id x e) ∙ good_by_grows was now up x.message.group (g.verdict x) h)
+      let s = grows.held id x e in
+      let verdict : n.verdict s.found ≡ g.verdict x = grows.verdict id x s.found e s.at s.same in
+      ap (good_next n now) s.at
+      ∙ ((λ i. good_by n now (s.same i).group (verdict i)) ∙ good_by_grows was now up x.message.group (g.verdict x) h)
 
   pub good_grows : (k : ℕ) (id : Id) → good g k id ≡ true → good n k id ≡ true
   good_grows zero id h = absurd (false≢true h)
@@ -144,8 +153,10 @@ module _ (g n : Graph) (grows : Grows g n) where
   bad_first_grows : (id : Id) (o : Option Held) → held_at g.held id ≡ o → bad_first g o ≡ true → bad_first n (held_at n.held id) ≡ true
   bad_first_grows id None e h = absurd (false≢true h)
   bad_first_grows id (Some x) e h =
-      ap (bad_first n) (grows.held id x e)
-      ∙ (ap (bad_by n x.message.group) (grows.verdict id x e) ∙ bad_by_grows x.message.group (g.verdict x) h)
+      let s = grows.held id x e in
+      let verdict : n.verdict s.found ≡ g.verdict x = grows.verdict id x s.found e s.at s.same in
+      ap (bad_first n) s.at
+      ∙ ((λ i. bad_by n (s.same i).group (verdict i)) ∙ bad_by_grows x.message.group (g.verdict x) h)
 
   worse_by_grows : (was now : Id → Bool) → ((d : Id) → was d ≡ true → now d ≡ true) → (v : Judgement) → worse_by was v ≡ true → worse_by now v ≡ true
   worse_by_grows was now up judgement.Refuse h = h
@@ -155,8 +166,9 @@ module _ (g n : Graph) (grows : Grows g n) where
       → bad_more g was o ≡ true → bad_more n now (held_at n.held id) ≡ true
   bad_more_grows was now up id None e h = absurd (false≢true h)
   bad_more_grows was now up id (Some x) e h =
-      ap (bad_more n now) (grows.held id x e)
-      ∙ (ap (worse_by now) (grows.verdict id x e) ∙ worse_by_grows was now up (g.verdict x) h)
+      let s = grows.held id x e in
+      ap (bad_more n now) s.at
+      ∙ (ap (worse_by now) (grows.verdict id x s.found e s.at s.same) ∙ worse_by_grows was now up (g.verdict x) h)
 
   pub bad_grows : (k : ℕ) (id : Id) → bad g k id ≡ true → bad n k id ≡ true
   bad_grows zero id h = bad_first_grows id (held_at g.held id) refl h

@@ -220,15 +220,16 @@ pub groups_grow : (clients : Meaning) (groups : List Known) (held : List Held) (
     → ((h : Held) → In h held → is_some (group_at groups h.message.group) ≡ true)
     → Grows (graph clients groups held) (graph clients (groups ++ x ∷ []) held)
 groups_grow clients groups held x known = record {
-  held = λ id h e. e;
-  verdict = λ id h e. verdict_stays clients groups x h.message (known h (held_at-In held id h e));
+  held = λ id h e. record { found = h; at = e; same = refl };
+  verdict = λ id h y e later same.
+      ap (verdict_in clients (groups ++ x ∷ [])) same ∙ verdict_stays clients groups x h.message (known h (held_at-In held id h e));
 }
 
 pub held_grow : (clients : Meaning) (groups : List Known) (held : List Held) (x : Held)
     → Grows (graph clients groups held) (graph clients groups (held ++ x ∷ []))
 held_grow clients groups held x = record {
-  held = λ id h e. held_at-push held x id h e;
-  verdict = λ id h e. refl;
+  held = λ id h e. record { found = h; at = held_at-push held x id h e; same = refl };
+  verdict = λ id h y e later same. ap (verdict_in clients groups) same;
 }
 
 pub Sound-group : (clients : Meaning) (groups : List Known) (held : List Held) (invalid : Ids) (delivered : List Id) (x : Known)

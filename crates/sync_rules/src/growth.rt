@@ -15,7 +15,10 @@ ghost use Rattle.sync_rules.specs.Facts.{takes_of};
 ghost use Rattle.sync_rules.specs.Growth.{Continues, HasSameSteps, is_silent, IsStepOf};
 ghost use Rattle.sync_rules.specs.Growth.{leaves_steps, OnlySettles, output_in, output_of};
 ghost use Rattle.sync_rules.specs.Growth.{TakesOne};
+ghost use Rattle.sync_rules.specs.Heard.{HeldByRecords, SeenByRecords};
 ghost use Rattle.sync_rules.specs.Hearing.{Settles};
+ghost use Rattle.sync_rules.specs.Knowing.{CountsEnds, DeliversInOrder, GroupsLeaveSettled};
+ghost use Rattle.sync_rules.specs.Knowing.{KnowsGroups, NamesHeld};
 ghost use Rattle.sync_rules.specs.Laws.{IsKeptBy};
 ghost use Rattle.sync_rules.specs.Legal.{Allowed, AllSettling, GoesOn, IsDue, IsSettling};
 ghost use Rattle.sync_rules.specs.Legal.{IsSettlingBatch, Legal};
@@ -90,6 +93,14 @@ pub fn steps()
         → IsSettled clients (after_all f es) }
 {}
 
+/// Groups: in a legal journal the group of each held message is known, and where it is so a group
+/// that is added leaves a settled journal settled.
+pub fn groups()
+    ensures known { (clients : Meaning) (j : List (List Entry)) → Legal clients j
+        → KnowsGroups (facts j) }
+    ensures settled { GroupsLeaveSettled }
+{}
+
 /// Settling leaves all but what is judged, delivered and invalid.
 pub fn settling_leaves()
     ensures entries { (clients : Meaning) (f : Facts) (es : List Entry) → IsSettling clients f es
@@ -105,6 +116,34 @@ pub fn take_counts()
     ensures { (clients : Meaning) (f : Facts) (session k : ℕ) (rest : List Entry)
         → Allowed clients f (entry.Take session k ∷ rest)
         → TakesOne f (after_all f (entry.Take session k ∷ rest)) session }
+{}
+
+/// Records: what a contact has and what is held once a record is taken, each in one equation over
+/// the facts before. They hold of all facts, legal or not.
+pub fn records()
+    ensures seen { SeenByRecords }
+    ensures held { HeldByRecords }
+{}
+
+/// Names: a batch that may follow a legal journal names only messages that are held before it, but
+/// for those that it brings, offers or requests.
+pub fn names()
+    ensures { (clients : Meaning) (j : List (List Entry)) (b : List Entry) → Legal clients j
+        → Allowed clients (facts j) b → NamesHeld (facts j) b }
+{}
+
+/// Served: in a legal journal the dependencies of each delivered message stand before it among the
+/// delivered.
+pub fn served()
+    ensures { (clients : Meaning) (j : List (List Entry)) → Legal clients j
+        → DeliversInOrder clients (facts j) }
+{}
+
+/// Counts: in a legal and settled journal as many held messages are good as are delivered, and as
+/// many are bad as are invalid.
+pub fn counts()
+    ensures { (clients : Meaning) (j : List (List Entry)) → Legal clients j
+        → IsSettled clients (facts j) → CountsEnds clients (facts j) }
 {}
 
 /// Rounds: the good and the bad messages only grow from round to round, and where a journal is

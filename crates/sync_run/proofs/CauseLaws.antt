@@ -5,7 +5,7 @@ use Rattle.outside.specs.Faults.{Rose, one_more}
 use Rattle.outside.specs.Links.{Links}
 use Rattle.outside.specs.Outside.{Outside}
 use Rattle.outside.specs.Runs.{grow_same, grow_then}
-use Rattle.outside.specs.Steps.{told_on}
+use Rattle.outside.specs.Steps.{calls_none, calls_then, told_on}
 use Rattle.sync_node.specs.declared.link.Link.{Link}
 use Rattle.sync_course.specs.declared.ends.LinkEnd.{LinkEnd}
 use Rattle.sync_course.specs.declared.ends.LinkEnd.TheVariants as end
@@ -23,6 +23,7 @@ goes_none o = record {
   same_dialled = refl;
   same_specs = refl;
   clock = λ two files. omega arith;
+  calls = calls_none o;
 }
 
 pub goes_then : (o o1 o2 : Outside) → Goes o o1 → Goes o1 o2 → Goes o o2
@@ -35,6 +36,7 @@ goes_then o o1 o2 first second = record {
   clock = λ two files.
       let there = told_on o o1 two first.same_files files in
       omega (arith, first.clock two files, second.clock there.0 there.1);
+  calls = calls_then o o1 o2 first.calls second.calls;
 }
 
 rose_later : (a b c : ℕ) → Rose a b → b ≤ c → Rose a c

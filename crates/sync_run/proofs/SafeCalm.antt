@@ -11,6 +11,7 @@ use Rattle.outside.specs.Faults.{Rose}
 use Rattle.outside.specs.Host.{AsksNonce, Dials}
 use Rattle.outside.specs.Links.{HeardOn, Link, Links, nothing_heard}
 use Rattle.outside.specs.Outside.{IsNow, Outside, QuietCall}
+use Rattle.outside.proofs.CallCounts.{no_call_none, no_call_then, no_call_goes_on}
 use Rattle.outside.specs.Runs.{HostRun, IsFront, LinksGrow, answers_at, grow_dial, grow_nonce, grow_same, grow_then, others_dial, others_nonce}
 use Rattle.sync_node.specs.Output.{sent_on}
 use Rattle.sync_words.specs.declared.link_words.LinkWords.{LinkWords}
@@ -24,6 +25,7 @@ pub calms_none : (o : Outside) → Calms o o
 calms_none o = record {
   same_files = refl;
   same_faults = refl;
+  no_call = no_call_none o;
   later = omega arith;
   grows = grow_same o.links o.links refl;
   sent = λ link. refl;
@@ -35,6 +37,7 @@ pub calms_then : (o0 o1 o2 : Outside) → Calms o0 o1 → Calms o1 o2 → Calms 
 calms_then o0 o1 o2 first second = record {
   same_files = second.same_files ∙ first.same_files;
   same_faults = second.same_faults ∙ first.same_faults;
+  no_call = no_call_then o0 o1 o2 first.no_call second.no_call;
   later = omega (arith, first.later, second.later);
   grows = grow_then o0.links o1.links o2.links first.grows second.grows;
   sent = λ link. second.sent link ∙ first.sent link;
@@ -51,6 +54,7 @@ calms_call : (o o' : Outside) → QuietCall o o' → LinksGrow o.links o'.links 
 calms_call o o' call grows sent answers = record {
   same_files = call.same_files;
   same_faults = call.same_faults;
+  no_call = call.calls;
   later = call.time.later;
   grows = grows;
   sent = sent;
@@ -78,12 +82,13 @@ calms_nonce o o' of result call asks =
 -- ---- calls that leave all but the time
 
 pub stills_none : (o : Outside) → Stills o o
-stills_none o = record { same_files = refl; same_faults = refl; same_links = refl; later = omega arith; moments = λ two told t m before w. w }
+stills_none o = record { same_files = refl; same_faults = refl; no_call = no_call_none o; same_links = refl; later = omega arith; moments = λ two told t m before w. w }
 
 pub stills_then : (o0 o1 o2 : Outside) → Stills o0 o1 → Stills o1 o2 → Stills o0 o2
 stills_then o0 o1 o2 first second = record {
   same_files = second.same_files ∙ first.same_files;
   same_faults = second.same_faults ∙ first.same_faults;
+  no_call = no_call_then o0 o1 o2 first.no_call second.no_call;
   same_links = second.same_links ∙ first.same_links;
   later = omega (arith, first.later, second.later);
   moments = λ two told t m before w. first.moments two told t m before (second.moments two (first.same_files ∙ told) t m (omega (arith, before, first.later)) w);
@@ -93,6 +98,7 @@ pub stills_call : (o o' : Outside) → QuietCall o o' → o'.links ≡ o.links �
 stills_call o o' call same = record {
   same_files = call.same_files;
   same_faults = call.same_faults;
+  no_call = call.calls;
   same_links = same;
   later = call.time.later;
   moments = λ two told t m before w. elim (call.time.nothing_else t m before w) [
@@ -107,6 +113,7 @@ pub calms_stills : (o o' : Outside) → Stills o o' → Calms o o'
 calms_stills o o' stills = record {
   same_files = stills.same_files;
   same_faults = stills.same_faults;
+  no_call = stills.no_call;
   later = stills.later;
   grows = grow_same o.links o'.links stills.same_links;
   sent = λ link. ap (λ (l : Links). sent_on l link) stills.same_links;
@@ -116,7 +123,13 @@ calms_stills o o' stills = record {
 
 -- a run of such calls is one of a host
 pub calms_run : (o o' : Outside) → Calms o o' → HostRun o o'
-calms_run o o' calms = record { same_files = ap is_some calms.same_files; later = omega (arith, calms.same_faults); clock = calms.later; links = calms.grows }
+calms_run o o' calms = record {
+  same_files = ap is_some calms.same_files;
+  later = omega (arith, calms.same_faults);
+  clock = calms.later;
+  links = calms.grows;
+  calls = no_call_goes_on o o' calms.no_call;
+}
 
 -- ---- links that are made
 

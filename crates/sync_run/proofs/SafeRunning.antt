@@ -87,6 +87,7 @@ goes_settled clients s s' o o' r ready run settles = record {
   same_dialled = ap (λ (l : Links). l.dialled) run.same_links;
   same_specs = ap (λ (l : Links). specs_of l.told) run.same_links;
   clock = λ two told. let fit = ready.fits two told in (settles.comes.leads two told fit.0 fit.1).moments.later;
+  calls = run.calls;
 }
 
 -- calls on the disk alone leave links unused

@@ -2,6 +2,8 @@
 use Rattle.std.specs.Prelude.{◌≡◌, ◌⊎◌, ℕ, ◌+◌, ◌<◌, ◌≤◌, List, [], ◌∷◌, ◌++◌, length, map, is_some, Some, Result, Ok, Err, slice_index_or}
 use Rattle.std.specs.Option.{option_map}
 use Rattle.outside.specs.declared.failed.Failed.{Failed}
+use Rattle.outside.specs.Calls.{NoCall}
+use Rattle.outside.specs.Disk.{Becomes}
 use Rattle.outside.specs.Faults.{Rose}
 use Rattle.outside.specs.Files.{Two, File, IsImage}
 use Rattle.outside.specs.Links.{HeardOn, Link, Links}
@@ -72,11 +74,12 @@ pub record IsCalm (two : Two File) (o : Outside) (m : Moment) : Type 0 where
   pub image : IsImage two m.files
   pub same_sent : (link : ℕ) → slice_index_or m.sent link [] ≡ sent_on o.links link
 
--- Calls that change no file and send nothing. Links may be made; on each link the same was sent and
+-- Calls that ask nothing of the disk and send nothing. Links may be made; on each link the same was sent and
 -- heard.
 pub record Calms (o o' : Outside) : Type 0 where
   pub same_files : o'.files ≡ o.files
   pub same_faults : o'.disk_faults ≡ o.disk_faults
+  pub no_call : Becomes NoCall o.calls o'.calls
   pub later : o.clock ≤ o'.clock
   pub grows : LinksGrow o.links o'.links
   pub sent : (link : ℕ) → sent_on o'.links link ≡ sent_on o.links link
@@ -88,6 +91,7 @@ pub record Calms (o o' : Outside) : Type 0 where
 pub record Stills (o o' : Outside) : Type 0 where
   pub same_files : o'.files ≡ o.files
   pub same_faults : o'.disk_faults ≡ o.disk_faults
+  pub no_call : Becomes NoCall o.calls o'.calls
   pub same_links : o'.links ≡ o.links
   pub later : o.clock ≤ o'.clock
   pub moments : (two : Two File) → o.files ≡ Some two → (t : ℕ) (m : Moment) → t ≤ o.clock

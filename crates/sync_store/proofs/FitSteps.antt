@@ -4,7 +4,7 @@ use Rattle.std.specs.List.{AllByRecursion}
 use Rattle.std.specs.Option.{ForSome}
 use Rattle.std.proofs.lemmas.List.{ext_get_or}
 use Rattle.outside.specs.Files.{Two, File, IsFileImage, IsImage, NothingPending, file_of, read_files, settled}
-use Rattle.outside.specs.Frames.{HasFrames, IsAtRest, format_in}
+use Rattle.outside.specs.Frames.{HasFrames, IsAtRest, format_in, generation_in}
 use Rattle.outside.specs.Links.{sent_of}
 use Rattle.outside.specs.Disk.{Becomes}
 use Rattle.outside.specs.Outside.{Outside, Moment, MomentsAre}
@@ -27,7 +27,7 @@ use Rattle.sync_store.specs.Fitting.{Fits, FitsSome}
 use Rattle.sync_store.specs.Commits.{Gains, MayAdd}
 use Rattle.sync_store.specs.Moments.{JournalMoment, Leads, WithAtMost, Adds}
 use Rattle.sync_store.proofs.Framing.{end_framed, framed_long}
-use Rattle.sync_store.proofs.Headers.{one_format, one_journal_file}
+use Rattle.sync_store.proofs.Headers.{one_format, one_generation, one_journal_file}
 
 -- ---- the two files
 
@@ -186,6 +186,10 @@ adds_fits stand clients s new j two two' batch framed fits may appends is_with =
           ∙ one_format (file_of two' s.file).now (file_of two s.file).now fits.header more (payloads nothing j) frames fits.frames
           ∙ fits.format_is ∙ sym is_with.format;
       format_known = is_with.format ∙ fits.format_known;
+      generation_is =
+          ap (λ k. generation_in (file_of two' k).now) is_with.file
+          ∙ one_generation (file_of two' s.file).now (file_of two s.file).now fits.header more (payloads nothing j) frames fits.frames
+          ∙ fits.generation_is ∙ sym is_with.generation;
       header = fits.header;
       frames = subst (λ k. HasFrames (file_of two' k).now fits.header more) (sym is_with.file) frames;
       end_is = grows ∙ ap (λ e. e + length framed) fits.end_is ∙ sym (end_framed j batch framed may.is_framed payload_is);
@@ -229,6 +233,7 @@ pub record IsSame (s new : StoreValue) : Type 0 where
   pub facts : new.state.facts ≡ s.state.facts
   pub file : new.file ≡ s.file
   pub format : new.format ≡ s.format
+  pub generation : new.generation ≡ s.generation
   pub end : new.end ≡ s.end
 
 pub fits_same : (clients : Meaning) (s new : StoreValue) (j : List (List Entry)) (two : Two File) → Fits clients s j two → IsSame s new → Fits clients new j two
@@ -241,6 +246,7 @@ fits_same clients s new j two fits same = record {
   file_is = fits.file_is ∙ ap Some (sym same.file);
   format_is = ap (λ k. format_in (file_of two k).now) same.file ∙ fits.format_is ∙ sym same.format;
   format_known = same.format ∙ fits.format_known;
+  generation_is = ap (λ k. generation_in (file_of two k).now) same.file ∙ fits.generation_is ∙ sym same.generation;
   header = fits.header;
   frames = subst (λ k. HasFrames (file_of two k).now fits.header (payloads nothing j)) (sym same.file) fits.frames;
   end_is = same.end ∙ fits.end_is;

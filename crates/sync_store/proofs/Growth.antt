@@ -5,7 +5,7 @@ use Rattle.std.proofs.lemmas.Bool.Decides.{nat_tests}
 use Rattle.outside.specs.Files.{Two, File, file_of}
 use Rattle.outside.specs.Frames.{IsPayload}
 use Rattle.outside.specs.Disk.{Becomes}
-use Rattle.outside.specs.Outside.{Outside}
+use Rattle.outside.specs.Outside.{Outside, MakesAtMost, MakesJust}
 use Rattle.outside.specs.Steps.{Passed}
 use Rattle.frame_journal.specs.Append.{Appends, BeforeOrWith, IsFramed, framed_of, payload_of}
 use Rattle.sync_rules.specs.declared.entries.Entry.{Entry}
@@ -32,16 +32,19 @@ use Rattle.sync_store.specs.Moments.{journal_with}
 use Rattle.sync_store.specs.Settling.{BatchSo, ComesBy, IsOneBatch, MakesBatch}
 use Rattle.sync_store.proofs.FitSteps.{adds_err, adds_ok, true≢false}
 use Rattle.sync_store.proofs.Framing.{framed_length, framed_long, framed_so, payload_framed}
-use Rattle.sync_store.proofs.SettleSteps.{leads_one, leads_one_closed}
+use Rattle.sync_store.proofs.SettleSteps.{calls_closed, calls_one, leads_one, leads_one_closed}
 use Rattle.sync_store.proofs.Steps.{numbers_stay}
 
 -- ---- numbers
 
 grown_numbers : CitedLaws → (clients : Meaning) (f : Facts) (batch : List Entry) (end later : ℕ) → Allowed clients f batch → HasNumbers f end → end + 1 ≤ later → HasNumbers (after_all f batch) later
-grown_numbers laws clients f batch end later allowed numbers far = record {
-  few = omega (arith, laws.add_one clients f batch allowed, numbers.few);
-  records = λ session. omega (arith, laws.take_one clients f batch session allowed, numbers.records session);
-}
+grown_numbers laws clients f batch end later allowed numbers far =
+    let added = laws.add_one clients f batch allowed in
+    record {
+      held = omega (arith, added.0, numbers.held);
+      begun = omega (arith, added.1, numbers.begun);
+      records = λ session. omega (arith, laws.take_one clients f batch session allowed, numbers.records session);
+    }
 
 -- the numbers of a store that gained a batch
 pub grown_store : CitedLaws → (clients : Meaning) (s new : StoreValue) (batch : List Entry) (framed : List ℕ) → IsStore s → MayAdd clients s batch framed → Gains s new batch → IsStore new
@@ -135,11 +138,12 @@ filled_less clients s facts es framed f =
     let same : left_of facts ≡ left_of (after_all s.state.facts es) = ap left_of f.facts_are in
     omega (arith, fewer, same, f.some)
 
--- a store after the steps, with its file, format and limit as before
+-- a store after the steps, with its file, format, generation and limit as before
 pub record Came (s new : StoreValue) (facts : Facts) : Type 0 where
   pub facts_are : new.state.facts ≡ facts
   pub file : new.file ≡ s.file
   pub format : new.format ≡ s.format
+  pub generation : new.generation ≡ s.generation
   pub limit : new.limit ≡ s.limit
 
 -- ---- the frame was written
@@ -150,6 +154,7 @@ filled_gains clients s new facts es framed f came end closed = record {
   facts = came.facts_are ∙ f.facts_are;
   file = came.file;
   format = came.format;
+  generation = came.generation;
   end = omega (arith, end, length_by es framed f.framed_is);
   limit = came.limit;
   closed = closed;
@@ -157,36 +162,40 @@ filled_gains clients s new facts es framed f came end closed = record {
 
 pub filled_ok : JournalsStand → (clients : Meaning) (s new : StoreValue) (facts : Facts) (es : List Entry) (framed : List ℕ) (o o' : Outside) → Filled clients s facts es framed → Came s new facts
     → new.end ≡ s.end + length framed → new.closed ≡ false → ((two : Two File) → o.files ≡ Some two → Passed two o o' s.file (BeforeOrWith (file_of two s.file).now s.end framed))
-    → Becomes (Appends s.file s.end framed) o.files o'.files → ComesBy clients s new o o' (es ∷ [])
-filled_ok stand clients s new facts es framed o o' f came end closed passed becomes = record {
+    → Becomes (Appends s.file s.end framed) o.files o'.files → MakesJust 4 o o' → ComesBy clients s new o o' (es ∷ [])
+filled_ok stand clients s new facts es framed o o' f came end closed passed becomes made = record {
   settling = ((f.some, f.few, f.settling), tt);
   facts = came.facts_are ∙ f.facts_are;
   file = came.file;
   format = came.format;
+  generation = came.generation;
   limit = came.limit;
   end = λ still. omega (arith, end, length_by es framed f.framed_is, f.long);
   leads = λ two told j fits.
       leads_one clients j es new tt o o'
       (adds_ok stand clients s new j two es framed tt o o' fits (filled_may clients s facts es framed f) told (passed two told) becomes
       (filled_gains clients s new facts es framed f came end closed));
+  calls = calls_one new o o' made;
 }
 
 -- the disk failed
 pub filled_err : JournalsStand → (clients : Meaning) (s new : StoreValue) (facts : Facts) (es : List Entry) (framed : List ℕ) (e : StoreFault) (o o' : Outside) → Filled clients s facts es framed
     → Came s new facts → e ≡ fault.DiskFault → new.closed ≡ true → ((two : Two File) → o.files ≡ Some two → Passed two o o' s.file (BeforeOrWith (file_of two s.file).now s.end framed))
-    → MakesBatch clients s new (Err e) o o'
-filled_err stand clients s new facts es framed e o o' f came is closed passed = record {
+    → MakesAtMost 4 o o' → MakesBatch clients s new (Err e) o o'
+filled_err stand clients s new facts es framed e o o' f came is closed passed made = record {
   more = es ∷ [];
   comes = record {
     settling = ((f.some, f.few, f.settling), tt);
     facts = came.facts_are ∙ f.facts_are;
     file = came.file;
     format = came.format;
+    generation = came.generation;
     limit = came.limit;
     end = λ still. true≢false new.closed closed still;
     leads = λ two told j fits.
         leads_one_closed clients j es new e o o'
         (adds_err stand clients s new j two es framed e o o' fits (filled_may clients s facts es framed f) (passed two told) closed) closed;
+    calls = calls_closed new o o' closed made;
   };
   few = omega arith;
   answer = subst (λ (x : StoreFault). BatchSo clients s new (es ∷ []) (Err x)) (sym is) closed;
@@ -196,10 +205,10 @@ filled_err stand clients s new facts es framed e o o' f came is closed passed = 
 pub filled_memory : JournalsStand → (clients : Meaning) (s new : StoreValue) (facts : Facts) (es : List Entry) (framed : List ℕ) (e : StoreFault) (o o' : Outside) → Filled clients s facts es framed
     → Came s new facts → new.end ≡ s.end + length framed → new.closed ≡ false → e ≡ fault.Memory
     → ((two : Two File) → o.files ≡ Some two → Passed two o o' s.file (BeforeOrWith (file_of two s.file).now s.end framed))
-    → Becomes (Appends s.file s.end framed) o.files o'.files → MakesBatch clients s new (Err e) o o'
-filled_memory stand clients s new facts es framed e o o' f came end closed is passed becomes = record {
+    → Becomes (Appends s.file s.end framed) o.files o'.files → MakesJust 4 o o' → MakesBatch clients s new (Err e) o o'
+filled_memory stand clients s new facts es framed e o o' f came end closed is passed becomes made = record {
   more = es ∷ [];
-  comes = filled_ok stand clients s new facts es framed o o' f came end closed passed becomes;
+  comes = filled_ok stand clients s new facts es framed o o' f came end closed passed becomes made;
   few = omega arith;
   answer = subst (λ (x : StoreFault). BatchSo clients s new (es ∷ []) (Err x)) (sym is) closed;
 }
@@ -208,8 +217,8 @@ filled_memory stand clients s new facts es framed e o o' f came end closed is pa
 pub filled_whole : JournalsStand → (clients : Meaning) (s new : StoreValue) (facts : Facts) (es : List Entry) (framed : List ℕ) (n : ℕ) (u : Unit {0}) (o o' : Outside) → Filled clients s facts es framed
     → Came s new facts → new.end ≡ s.end + length framed → new.closed ≡ false
     → ((two : Two File) → o.files ≡ Some two → Passed two o o' s.file (BeforeOrWith (file_of two s.file).now s.end framed))
-    → Becomes (Appends s.file s.end framed) o.files o'.files → length es ≡ n → (n ≡ MAX_STEPS) ⊎ IsSettled clients facts → MakesBatch clients s new (Ok u) o o'
-filled_whole stand clients s new facts es framed n u o o' f came end closed passed becomes long full =
+    → Becomes (Appends s.file s.end framed) o.files o'.files → MakesJust 4 o o' → length es ≡ n → (n ≡ MAX_STEPS) ⊎ IsSettled clients facts → MakesBatch clients s new (Ok u) o o'
+filled_whole stand clients s new facts es framed n u o o' f came end closed passed becomes made long full =
     let less : left_of new.state.facts < left_of s.state.facts =
     subst (λ (g : Facts). left_of g < left_of s.state.facts) (sym came.facts_are) (filled_less clients s facts es framed f) in
     let each : IsOneBatch clients new (es ∷ []) =
@@ -219,7 +228,7 @@ filled_whole stand clients s new facts es framed n u o o' f came end closed pass
     ] in
     record {
       more = es ∷ [];
-      comes = filled_ok stand clients s new facts es framed o o' f came end closed passed becomes;
+      comes = filled_ok stand clients s new facts es framed o o' f came end closed passed becomes made;
       few = omega arith;
       answer = (closed, less, each);
     }

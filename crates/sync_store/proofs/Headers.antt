@@ -56,6 +56,9 @@ one_header a b header ps qs first second =
 pub one_format : (a b header : List ℕ) (ps qs : List (List ℕ)) → HasFrames a header ps → HasFrames b header qs → format_in a ≡ format_in b
 one_format a b header ps qs first second = (one_header a b header ps qs first second).format_is
 
+pub one_generation : (a b header : List ℕ) (ps qs : List (List ℕ)) → HasFrames a header ps → HasFrames b header qs → generation_in a ≡ generation_in b
+one_generation a b header ps qs first second = (one_header a b header ps qs first second).generation_is
+
 same_file : (m n : Two (List ℕ)) → is_open m.first ≡ is_open n.first → is_open m.second ≡ is_open n.second → generation_in m.first ≡ generation_in n.first → generation_in m.second ≡ generation_in n.second
     → journal_file m ≡ journal_file n
 same_file m n a b c d = cc

@@ -10,3 +10,4 @@ pub mod Limits
 mod Growth
 mod Due
 mod Errors
+pub mod Runs

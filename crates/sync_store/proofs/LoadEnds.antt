@@ -8,7 +8,7 @@ use Rattle.std.specs.Ordering.{nat_cmp}
 use Rattle.sync_rules.specs.Facts.{Facts, count_or, facts, nothing, takes_of}
 use Rattle.sync_rules.specs.Steps.{answer_of}
 use Rattle.outside.specs.Files.{Two, File, IsFileImage, IsImage, file_of, read_files, settled}
-use Rattle.outside.specs.Frames.{format_in, HasFrames}
+use Rattle.outside.specs.Frames.{format_in, generation_in, HasFrames}
 use Rattle.outside.specs.Links.{Links, sent_of}
 use Rattle.outside.specs.Outside.{Outside, Moment, IsNow, DiskRun, Looks}
 use Rattle.outside.specs.Disk.{Becomes}
@@ -81,7 +81,8 @@ pub starts_so_far : (clients : Meaning) (files : Option (Two File)) (j : Journal
 starts_so_far clients files j s starts fresh empty knows = record {
   knows = knows;
   numbers = record {
-    few = omega (arith, ap (λ (f : Facts). length f.held) empty, ap (λ (f : Facts). f.begun) empty, fresh);
+    held = omega (arith, ap (λ (f : Facts). length f.held) empty, fresh);
+    begun = omega (arith, ap (λ (f : Facts). f.begun) empty, fresh);
     records = λ session. no_records s.facts session j.end empty;
   };
   started = omega (arith, fresh);
@@ -93,6 +94,7 @@ starts_so_far clients files j s starts fresh empty knows = record {
       record {
         long = ap length (sym (as_read two j.file)) ∙ sym (ap (λ (v : JournalValue). v.len) is.2);
         known_format = ap (λ (v : JournalValue). v.format) is.2 ∙ is.1;
+        known_generation = ap generation_in (sym (as_read two j.file)) ∙ sym (ap (λ (v : JournalValue). v.generation) is.2);
         done = [];
         front = subst At (sym fresh) (front_start clients (read_files two) j.file is.0 is.1);
         facts_are = sym empty;
@@ -165,7 +167,7 @@ becomes_back step (Some x) None b told becomes = absurd becomes
 becomes_back step (Some x) (Some y) b told becomes = let same : y ≡ b = cc in (x, refl, subst (λ z. step x z) same becomes)
 
 abbrev pub store_of : JournalValue → StateValue → ℕ → StoreValue
-store_of j s limit = record { state = s; file = j.file; format = j.format; end = j.end; limit = limit; closed = false }
+store_of j s limit = record { state = s; file = j.file; format = j.format; generation = j.generation; end = j.end; limit = limit; closed = false }
 
 -- the disk fits the store
 pub fits_loaded : (clients : Meaning) (o0 o1 o2 : Outside) (j : JournalValue) (s : StateValue) (limit : ℕ) → Becomes SyncsBoth o0.files o1.files → o2.files ≡ o1.files → HasReadAll clients o2.files j s
@@ -186,6 +188,7 @@ fits_loaded clients o0 o1 o2 j s limit settles same all two told =
         file_is = read.front.found;
         format_is = ap format_in (sym (as_read two j.file)) ∙ read.front.format_is ∙ sym read.known_format;
         format_known = read.known_format;
+        generation_is = read.known_generation;
         header = take 14 (file_of (read_files two) j.file);
         frames = subst At (as_read two j.file) (front_frames clients (read_files two) j.file read.done j.end read.front (all.at_end two told));
         end_is = read.front.end_is;

@@ -5,7 +5,7 @@ use Rattle.sync_rules.specs.Clients.{Meaning}
 use Rattle.sync_rules.specs.Facts.{Facts, after_all, facts}
 use Rattle.sync_rules.specs.Allows.{allows}
 use Rattle.outside.specs.Files.{Two, File, file_of, read_files}
-use Rattle.outside.specs.Frames.{broken, closed, frame_at, framed}
+use Rattle.outside.specs.Frames.{broken, closed, frame_at, framed, generation_in}
 use Rattle.outside.specs.declared.disk.Place.{Place}
 use Rattle.frame_journal.specs.Journal.{JournalValue}
 use Rattle.frame_journal.specs.Next.{IsNext, Moves, NextFrame}
@@ -51,10 +51,12 @@ has_more laws clients two j j' s s' to read next played =
     let more = front_more clients (read_files two) j.file read.done j.end to next.behind played.batch read.front (next_frame_at two j j' to next) spelled batch_is payload_is played.within granted
     ((laws.decided clients (facts read.done) played.batch).0 granted) in
     let Long : JournalValue → Type 0 = λ v. length (file_of two v.file).now ≡ v.len in
+    let Generation : JournalValue → Type 0 = λ v. generation_in (file_of two v.file).now ≡ v.generation in
     let At : JournalValue → Type 0 = λ v. Front clients (read_files two) v.file (read.done ++ played.batch ∷ []) v.end in
     record {
       long = subst Long (sym next.moved) read.long;
       known_format = ap (λ (v : JournalValue). v.format) next.moved ∙ read.known_format;
+      known_generation = subst Generation (sym next.moved) read.known_generation;
       done = read.done ++ played.batch ∷ [];
       front = subst At (sym next.moved) more;
       facts_are = facts_push read.done played.batch ∙ ap (λ (f : Facts). after_all f played.batch) same ∙ sym played.facts_are;
@@ -64,8 +66,10 @@ has_more laws clients two j j' s s' to read next played =
 more_numbers : CitedLaws → (clients : Meaning) (s s' : StateValue) (to : List ℕ) (end end' : ℕ) → HasPlayed clients s s' to → HasNumbers s.facts end → end + 1 ≤ end' → HasNumbers s'.facts end'
 more_numbers laws clients s s' to end end' played numbers far =
     let allowed = (laws.decided clients s.facts played.batch).0 played.allowed in
+    let added = laws.add_one clients s.facts played.batch allowed in
     let grown : HasNumbers (after_all s.facts played.batch) end' = record {
-      few = omega (arith, laws.add_one clients s.facts played.batch allowed, numbers.few);
+      held = omega (arith, added.0, numbers.held);
+      begun = omega (arith, added.1, numbers.begun);
       records = λ session. omega (arith, laws.take_one clients s.facts played.batch session allowed, numbers.records session);
     } in
     subst (λ (f : Facts). HasNumbers f end') (sym played.facts_are) grown

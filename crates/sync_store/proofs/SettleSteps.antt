@@ -1,10 +1,11 @@
 -- Settling, one batch after another.
-use Rattle.std.proofs.Common.{◌≡◌, ◌+◌, true, false, List, [], ◌∷◌, ◌++◌, Some, Result, Ok, Err, refl, sym, ap, ◌∙◌, subst, inl, inr, arith, append-nil, append_assoc, length-append}
+use Rattle.std.proofs.Common.{◌≡◌, ℕ, ◌+◌, ◌*◌, length, true, false, List, [], ◌∷◌, ◌++◌, Some, Result, Ok, Err, refl, sym, ap, ◌∙◌, subst, inl, inr, arith, append-nil, append_assoc, length-append}
 use Rattle.std.specs.List.{AllByRecursion}
 use Rattle.outside.specs.Files.{Two, File}
 use Rattle.outside.specs.Links.{Links, sent_of}
-use Rattle.outside.specs.Outside.{Outside, DiskRun}
+use Rattle.outside.specs.Outside.{Outside, DiskRun, MakesAtMost, MakesJust}
 use Rattle.outside.specs.Steps.{moments_map, moments_then, run_none, run_then, told_back, told_on}
+use Rattle.outside.proofs.CallCounts.{just_most, just_none, just_then, most_none, most_then}
 use Rattle.sync_rules.specs.declared.entries.Entry.{Entry}
 use Rattle.sync_rules.specs.Clients.{Meaning}
 use Rattle.sync_rules.specs.Facts.{Facts, after_batches}
@@ -19,7 +20,8 @@ use Rattle.sync_store.specs.declared.fault.StoreFault.{StoreFault}
 use Rattle.sync_store.specs.declared.fault.StoreFault.TheVariants as fault
 use Rattle.sync_store.specs.Store.{StoreValue, IsStore}
 use Rattle.sync_store.specs.Fitting.{Fits, FitsSome}
-use Rattle.sync_store.specs.Moments.{JournalMoment, Leads, WithAtMost, journal_with, Adds, IsBetween}
+use Rattle.sync_store.specs.Moments.{CallsFor, JournalMoment, Leads, WithAtMost, journal_with, Adds, IsBetween}
+use Rattle.sync_store.specs.Runs.{LeadsBy}
 use Rattle.sync_store.specs.Settling.{AreFilled, BatchSo, ComesBy, HasSettled, IsFullBatch, IsOneBatch, MakesBatch, SettlesSo, settling_len}
 use Rattle.sync_store.proofs.FitSteps.{IsSame, leads_none, true≢false}
 use Rattle.sync_store.proofs.Steps.{all-append, batches_lower, filled_push, steps_in-append}
@@ -58,17 +60,39 @@ between_one j batch whole (inr with_it) = record { front = batch ∷ []; rest = 
 
 -- ---- no batch, and one
 
+-- the calls of no batch, of one, and of batches behind others
+pub calls_none : (s : StoreValue) (o : Outside) → CallsFor 0 s o o
+calls_none s o = record { just = λ still. just_none o; most = most_none 0 o }
+
+pub calls_one : (s : StoreValue) (o o' : Outside) → MakesJust 4 o o' → CallsFor 1 s o o'
+calls_one s o o' just = record { just = λ still. just; most = just_most 4 o o' just }
+
+-- a call failed
+pub calls_closed : (s : StoreValue) (o o' : Outside) → s.closed ≡ true → MakesAtMost 4 o o' → CallsFor 1 s o o'
+calls_closed s o o' closed most = record { just = λ still. true≢false s.closed closed still; most = most }
+
+pub calls_runs : (s1 s2 : StoreValue) (o0 o1 o2 : Outside) (xs ys : List (List Entry)) → s1.closed ≡ false → CallsFor (length xs) s1 o0 o1 → CallsFor (length ys) s2 o1 o2
+    → CallsFor (length (xs ++ ys)) s2 o0 o2
+calls_runs s1 s2 o0 o1 o2 xs ys still first second =
+    let all : 4 * length xs + 4 * length ys ≡ 4 * length (xs ++ ys) = omega (arith, length-append xs ys) in
+    record {
+      just = λ opened. subst (λ (n : ℕ). MakesJust n o0 o2) all (just_then (4 * length xs) (4 * length ys) o0 o1 o2 (first.just still) (second.just opened));
+      most = subst (λ (n : ℕ). MakesAtMost n o0 o2) all (most_then (4 * length xs) (4 * length ys) o0 o1 o2 first.most second.most);
+    }
+
 pub comes_none : JournalsStand → (clients : Meaning) (s new : StoreValue) (o : Outside) → IsStore s → IsSame s new → new.limit ≡ s.limit → ComesBy clients s new o o []
 comes_none stand clients s new o store same limit = record {
   settling = tt;
   facts = same.facts;
   file = same.file;
   format = same.format;
+  generation = same.generation;
   limit = limit;
   end = λ still. omega (arith, same.end);
   leads = λ two told j fits.
       leads_none stand clients (IsBetween j []) (λ whole. whole ≡ j ++ []) s new j two o fits store.roomy told same
       (record { front = []; rest = []; parts = refl; is = sym (append-nil j) }) (sym (append-nil j));
+  calls = calls_none new o;
 }
 
 pub leads_one : (clients : Meaning) (j : List (List Entry)) (batch : List Entry) (new : StoreValue) (u : Unit {0}) (o o' : Outside) → Adds clients batch (Ok u) new o o' j
@@ -92,6 +116,36 @@ leads_one_closed clients j batch new e o o' adds closed = record {
 settling_len-append : (xs ys : List (List Entry)) → settling_len (xs ++ ys) ≡ settling_len xs + settling_len ys
 settling_len-append xs ys = omega (arith, steps_in-append xs ys, length-append xs ys)
 
+-- the moments and the end of one run behind another
+pub leads_then : (clients : Meaning) (s0 s1 s2 : StoreValue) (o0 o1 o2 : Outside) (xs ys : List (List Entry)) → s1.closed ≡ false → DiskRun o0 o1
+    → LeadsBy clients s0 s1 o0 o1 xs → LeadsBy clients s1 s2 o1 o2 ys → LeadsBy clients s0 s2 o0 o2 (xs ++ ys)
+leads_then clients s0 s1 s2 o0 o1 o2 xs ys still run first second two told j fits =
+    let begun = first two told j fits in
+    let there = told_on o0 o1 two run.same_told told in
+    let mid = begun.ends still there.0 there.1 in
+    let later = second there.0 there.1 (j ++ xs) (subst (λ (k : List (List Entry)). Fits clients s1 k there.0) mid.1 mid.2) in
+    let same : sent_of o1.links.told ≡ sent_of o0.links.told = ap (λ (l : Links). sent_of l.told) run.same_links in
+    let sent0 = sent_of o0.links.told in
+    record {
+      moments =
+          moments_then o0 o1 o2 (JournalMoment clients (IsBetween j (xs ++ ys)) sent0)
+          (moments_map o0 o1 (JournalMoment clients (IsBetween j xs) sent0) (JournalMoment clients (IsBetween j (xs ++ ys)) sent0)
+          (λ m moment. record {
+            whole = moment.whole;
+            has = between_first j xs ys moment.whole moment.has;
+            stands_for = moment.stands_for;
+            nothing_sent = moment.nothing_sent;
+          }) begun.moments)
+          (moments_map o1 o2 (JournalMoment clients (IsBetween (j ++ xs) ys) (sent_of o1.links.told)) (JournalMoment clients (IsBetween j (xs ++ ys)) sent0)
+          (λ m moment. record {
+            whole = moment.whole;
+            has = between_then j xs ys moment.whole moment.has;
+            stands_for = moment.stands_for;
+            nothing_sent = moment.nothing_sent ∙ same;
+          }) later.moments);
+      ends = λ open' two' told'. let end = later.ends open' two' told' in (end.0, end.1 ∙ append_assoc j xs ys, end.2);
+    }
+
 pub comes_then : (clients : Meaning) (s0 s1 s2 : StoreValue) (o0 o1 o2 : Outside) (xs ys : List (List Entry)) → ComesBy clients s0 s1 o0 o1 xs → s1.closed ≡ false → DiskRun o0 o1
     → ComesBy clients s1 s2 o1 o2 ys → ComesBy clients s0 s2 o0 o2 (xs ++ ys)
 comes_then clients s0 s1 s2 o0 o1 o2 xs ys first still run second =
@@ -101,34 +155,11 @@ comes_then clients s0 s1 s2 o0 o1 o2 xs ys first still run second =
       facts = second.facts ∙ ap (λ (g : Facts). after_batches g ys) first.facts ∙ sym (after_batches-append f xs ys);
       file = second.file ∙ first.file;
       format = second.format ∙ first.format;
+      generation = second.generation ∙ first.generation;
       limit = second.limit ∙ first.limit;
       end = λ open'. omega (arith, first.end still, second.end open', settling_len-append xs ys);
-      leads = λ two told j fits.
-          let begun = first.leads two told j fits in
-          let there = told_on o0 o1 two run.same_told told in
-          let mid = begun.ends still there.0 there.1 in
-          let later = second.leads there.0 there.1 (j ++ xs) (subst (λ (k : List (List Entry)). Fits clients s1 k there.0) mid.1 mid.2) in
-          let same : sent_of o1.links.told ≡ sent_of o0.links.told = ap (λ (l : Links). sent_of l.told) run.same_links in
-          let sent0 = sent_of o0.links.told in
-          record {
-            moments =
-                moments_then o0 o1 o2 (JournalMoment clients (IsBetween j (xs ++ ys)) sent0)
-                (moments_map o0 o1 (JournalMoment clients (IsBetween j xs) sent0) (JournalMoment clients (IsBetween j (xs ++ ys)) sent0)
-                (λ m moment. record {
-                  whole = moment.whole;
-                  has = between_first j xs ys moment.whole moment.has;
-                  stands_for = moment.stands_for;
-                  nothing_sent = moment.nothing_sent;
-                }) begun.moments)
-                (moments_map o1 o2 (JournalMoment clients (IsBetween (j ++ xs) ys) (sent_of o1.links.told)) (JournalMoment clients (IsBetween j (xs ++ ys)) sent0)
-                (λ m moment. record {
-                  whole = moment.whole;
-                  has = between_then j xs ys moment.whole moment.has;
-                  stands_for = moment.stands_for;
-                  nothing_sent = moment.nothing_sent ∙ same;
-                }) later.moments);
-            ends = λ open' two' told'. let end = later.ends open' two' told' in (end.0, end.1 ∙ append_assoc j xs ys, end.2);
-          };
+      leads = leads_then clients s0 s1 s2 o0 o1 o2 xs ys still run first.leads second.leads;
+      calls = calls_runs s1 s2 o0 o1 o2 xs ys still first.calls second.calls;
     }
 
 -- at the end the disk fits the store
@@ -163,7 +194,7 @@ pub record SettlesOn (clients : Meaning) (s new : StoreValue) (o o' : Outside) :
 pub settles_begun : JournalsStand → (clients : Meaning) (s : StoreValue) (o : Outside) → IsStore s → SettlesOn clients s s o o
 settles_begun stand clients s o store = record {
   more = [];
-  comes = comes_none stand clients s s o store (record { facts = refl; file = refl; format = refl; end = refl }) refl;
+  comes = comes_none stand clients s s o store (record { facts = refl; file = refl; format = refl; generation = refl; end = refl }) refl;
   filled = tt;
   each = inl tt;
   run = run_none o;

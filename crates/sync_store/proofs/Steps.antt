@@ -43,7 +43,8 @@ pub numbers_stay : (clients : Meaning) (f : Facts) (es : List Entry) (end : ℕ)
 numbers_stay clients f es end settling numbers =
     let only = settling_only clients f es settling in
     record {
-      few = omega (arith, ap length only.held, only.begun, numbers.few);
+      held = omega (arith, ap length only.held, numbers.held);
+      begun = omega (arith, only.begun, numbers.begun);
       records = λ session. omega (arith, ap (λ t. takes_of t session) only.takes, numbers.records session);
     }
 

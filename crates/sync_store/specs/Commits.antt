@@ -25,6 +25,7 @@ pub record Stays (old new : StoreValue) : Type 0 where
   pub answers : new.state.answers ≡ old.state.answers
   pub file : new.file ≡ old.file
   pub format : new.format ≡ old.format
+  pub generation : new.generation ≡ old.generation
   pub end : new.end ≡ old.end
   pub limit : new.limit ≡ old.limit
   pub closed : new.closed ≡ old.closed
@@ -34,6 +35,7 @@ pub record Gains (old new : StoreValue) (batch : List Entry) : Type 0 where
   pub facts : new.state.facts ≡ after_all old.state.facts batch
   pub file : new.file ≡ old.file
   pub format : new.format ≡ old.format
+  pub generation : new.generation ≡ old.generation
   pub end : new.end ≡ old.end + 5 + payload_len batch
   pub limit : new.limit ≡ old.limit
   pub closed : new.closed ≡ false

@@ -2,7 +2,7 @@
 use Rattle.std.specs.Prelude.{◌≡◌, ℕ, ◌+◌, ◌≤◌, List, Option, Some}
 use Rattle.std.specs.List.{AllByRecursion}
 use Rattle.outside.specs.Files.{Two, File, IsImage, file_of, read_files, NothingPending}
-use Rattle.outside.specs.Frames.{HasFrames, format_in, journal_file}
+use Rattle.outside.specs.Frames.{HasFrames, format_in, generation_in, journal_file}
 use Rattle.sync_rules.specs.declared.entries.Entry.{Entry}
 use Rattle.sync_rules.specs.Clients.{Meaning}
 use Rattle.sync_rules.specs.Facts.{facts, nothing}
@@ -21,10 +21,11 @@ pub record Fits (clients : Meaning) (s : StoreValue) (j : List (List Entry)) (tw
   pub stands_for : stands clients (read_files two) ≡ journal j
   pub facts_are : facts j ≡ s.state.facts
   pub legal : Legal clients j
-  -- the journal's file is the store's, and so is its format, which is the first
+  -- the journal's file is the store's, and so are its generation and its format, which is the first
   pub file_is : journal_file (read_files two) ≡ Some s.file
   pub format_is : format_in (file_of two s.file).now ≡ s.format
   pub format_known : s.format ≡ 1
+  pub generation_is : generation_in (file_of two s.file).now ≡ s.generation
   -- its frames are the journal's batches, up to the closed gate, which is before the store's end
   pub header : List ℕ
   pub frames : HasFrames (file_of two s.file).now header (payloads nothing j)

@@ -7,6 +7,7 @@ pub mod Moments
 pub mod Begin
 pub mod Commits
 pub mod Settling
+pub mod Runs
 pub mod Refusals
 pub mod Loading
 pub mod Cited

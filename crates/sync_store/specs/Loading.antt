@@ -2,7 +2,7 @@
 use Rattle.std.specs.Prelude.{◌≡◌, ◌⊎◌, ℕ, ◌+◌, ◌-◌, ◌<◌, ◌≤◌, Bool, true, false, List, length, Option, None, Some, Result, Ok, Err}
 use Rattle.std.specs.List.{AllByRecursion}
 use Rattle.outside.specs.Files.{Two, File, file_of, read_files}
-use Rattle.outside.specs.Frames.{closed, frame_at}
+use Rattle.outside.specs.Frames.{closed, frame_at, generation_in}
 use Rattle.outside.specs.Disk.{Becomes}
 use Rattle.outside.specs.declared.disk.Place.{Place}
 use Rattle.frame_journal.specs.Gates.{SyncsBoth}
@@ -51,6 +51,7 @@ LeavesSettled old new (Err load.Memory) = Becomes SyncsBoth old new
 pub record HasRead (clients : Meaning) (two : Two File) (j : JournalValue) (s : StateValue) : Type 0 where
   pub long : length (file_of two j.file).now ≡ j.len
   pub known_format : j.format ≡ 1
+  pub known_generation : generation_in (file_of two j.file).now ≡ j.generation
   pub done : List (List Entry)
   pub front : Front clients (read_files two) j.file done j.end
   pub facts_are : facts done ≡ s.facts

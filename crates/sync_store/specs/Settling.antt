@@ -15,7 +15,7 @@ use Rattle.entry_codec.specs.declared.lengths.TheConstants.{STEP_BYTES, STEP_LEN
 use Rattle.entry_codec.specs.Standing.{room_of}
 use Rattle.sync_store.specs.Store.{StoreValue}
 use Rattle.sync_store.specs.Fitting.{Fits}
-use Rattle.sync_store.specs.Moments.{IsBetween, Leads}
+use Rattle.sync_store.specs.Moments.{CallsFor, IsBetween, Leads}
 use Rattle.sync_store.specs.declared.fault.StoreFault.{StoreFault}
 use Rattle.sync_store.specs.declared.fault.StoreFault.TheVariants as fault
 
@@ -55,16 +55,18 @@ SettlesSo clients new (Err fault.DiskFault) = new.closed ≡ true
 
 -- A store came by these settling batches to this one. Its facts are those after them, also where the disk failed at the last of
 -- them. At each moment the files stand for the journal with a front of them, and in the end, unless the store is closed, the disk
--- fits it with the journal and all of them.
+-- fits it with the journal and all of them. Each takes four calls of the disk.
 pub record ComesBy (clients : Meaning) (old new : StoreValue) (o o' : Outside) (more : List (List Entry)) : Type 0 where
   pub settling : AllSettling clients old.state.facts more
   pub facts : new.state.facts ≡ after_batches old.state.facts more
   pub file : new.file ≡ old.file
   pub format : new.format ≡ old.format
+  pub generation : new.generation ≡ old.generation
   pub limit : new.limit ≡ old.limit
   pub end : new.closed ≡ false → new.end ≡ old.end + settling_len more
   pub leads : (two : Two File) → o.files ≡ Some two → (j : List (List Entry)) → Fits clients old j two
       → Leads clients (IsBetween j more) (λ whole. whole ≡ j ++ more) new o o'
+  pub calls : CallsFor (length more) new o o'
 
 -- A store that is not closed was settled, as far as the answer says.
 pub record HasSettled (clients : Meaning) (old new : StoreValue) (result : Result (Unit {0}) StoreFault) (o o' : Outside) : Type 0 where

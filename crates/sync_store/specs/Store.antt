@@ -6,28 +6,38 @@ use Rattle.entry_codec.specs.Standing.{room_of}
 use Rattle.journal_state.specs.Whole.{StateValue, state_code}
 use Rattle.outside.specs.declared.limits.TheConstants.{MAX_JOURNAL}
 
--- The facts of the journal and the judgements of its messages; the number of the journal's file, its format, and the place of
--- its closed gate plus one; the length that commits may fill; and whether a call on the disk failed. The journal itself is not
--- kept.
+-- The facts of the journal and the judgements of its messages; the number of the journal's file, its format and generation, and
+-- the place of its closed gate plus one; the length that commits may fill; and whether a call on the disk failed. The journal
+-- itself is not kept.
 pub record StoreValue : Type 0 where
   pub state : StateValue
   pub file : ℕ
   pub format : ℕ
+  pub generation : ℕ
   pub end : ℕ
   pub limit : ℕ
   pub closed : Bool
 
 abbrev pub store_code : Coded StoreValue
 store_code =
-    code_by (StateValue × (ℕ × (ℕ × (ℕ × (ℕ × Bool)))))
-    (coded× state_code (coded× coded_ℕ (coded× coded_ℕ (coded× coded_ℕ (coded× coded_ℕ coded_bool)))))
-    (λ s. (s.state, (s.file, (s.format, (s.end, (s.limit, s.closed))))))
-    (λ p. record { state = p.0; file = p.1.0; format = p.1.1.0; end = p.1.1.1.0; limit = p.1.1.1.1.0; closed = p.1.1.1.1.1 })
+    code_by (StateValue × (ℕ × (ℕ × (ℕ × (ℕ × (ℕ × Bool))))))
+    (coded× state_code (coded× coded_ℕ (coded× coded_ℕ (coded× coded_ℕ (coded× coded_ℕ (coded× coded_ℕ coded_bool))))))
+    (λ s. (s.state, (s.file, (s.format, (s.generation, (s.end, (s.limit, s.closed)))))))
+    (λ p. record {
+      state = p.0;
+      file = p.1.0;
+      format = p.1.1.0;
+      generation = p.1.1.1.0;
+      end = p.1.1.1.1.0;
+      limit = p.1.1.1.1.1.0;
+      closed = p.1.1.1.1.1.1;
+    })
     (λ _. refl)
 
 -- the counts of a journal that ends there: each held message, each session begun and each record taken has its bytes in the file
 pub record HasNumbers (f : Facts) (end : ℕ) : Type 0 where
-  pub few : length f.held + f.begun ≤ end
+  pub held : length f.held ≤ end
+  pub begun : f.begun ≤ end
   pub records : (session : ℕ) → takes_of f.takes session ≤ end
 
 -- what every store keeps: its limit is one of a journal, settling finds its room, and its counts are bounded by its end

@@ -3,12 +3,13 @@ ghost use Rattle.std.specs.Prelude.{◌≡◌, ◌+◌, ◌^◌, ◌<◌, ◌≤
 ghost use Rattle.std.specs.Prelude.{nat_lt, IfErr, IfOk, IsErrOf, OnOk};
 ghost use Rattle.outside.specs.Faults.{HasCause, Rose};
 ghost use Rattle.outside.specs.Files.{Two, File};
-ghost use Rattle.outside.specs.Outside.{DiskRun};
+ghost use Rattle.outside.specs.Outside.{DiskRun, MakesCalls};
 ghost use Rattle.journal_state.specs.Taking.{HasRoom};
 ghost use Rattle.journal_state.specs.Whole.{Knows};
 ghost use Rattle.sync_rules.specs.declared.entries.Entry.{Entry};
 ghost use Rattle.sync_rules.specs.Allows.{allows, is_settling_kind};
 ghost use Rattle.sync_rules.specs.Legal.{Allowed};
+ghost use Rattle.session_core.specs.Known.{IsOfAll};
 ghost use Rattle.sync_store.specs.Commits.{Commits, Gains, MayAdd, Unasked, needed};
 ghost use Rattle.sync_store.specs.Fitting.{Fits};
 ghost use Rattle.sync_store.specs.Moments.{Adds};
@@ -22,6 +23,7 @@ use crate::store::Store;
 use entry_codec::{STEP_BYTES, batch_len};
 use outside::Disk;
 use std::alloc::AllocError;
+use sync_ids::MessageId;
 use sync_rules::{Batch, Clients};
 
 impl Store {
@@ -42,7 +44,9 @@ impl Store {
     /// room that settling may then need pass the limit. After `Closed`, `Full` and `Memory` all is
     /// as before, and no call on the disk was made; after `DiskFault` the store is closed, and else
     /// as before. At each moment the files stand for the journal or for it with the batch, and
-    /// after `Ok` every crash leaves the latter.
+    /// after `Ok` every crash leaves the latter. `Ok` makes four calls of the disk, `DiskFault` at
+    /// most four.
+    #[tactic(auto, using(session_core::proofs::Unknown::unknown))]
     pub fn commit<D: Disk, C: Clients>(
         &mut self,
         disk: &mut D,
@@ -63,6 +67,40 @@ impl Store {
         ensures ready { self.new.closed ≡ false
             → IsReady (C.meaning clients.now) self.new (D.tells disk.new).files }
         ensures unasked { Unasked result disk.old disk.new }
+        ensures calls { MakesCalls 4 result (D.tells disk.old) (D.tells disk.new) }
+        ensures run { DiskRun (D.tells disk.old) (D.tells disk.new) }
+        ensures numbers { IsStore self.new }
+        ensures fault { IsErrOf result StoreFault.DiskFault
+            → Rose (D.tells disk.old).disk_faults (D.tells disk.new).disk_faults }
+    {
+        self.commit_known(disk, clients, batch, None)
+    }
+
+    /// The same of a batch with the id of the one message that it brings, where the caller has it:
+    /// it is not computed anew.
+    pub fn commit_known<D: Disk, C: Clients>(
+        &mut self,
+        disk: &mut D,
+        clients: &C,
+        batch: Batch,
+        id: Option<MessageId>,
+    ) -> Result<(), StoreFault>
+        requires ready { self.old.closed ≡ false
+            → IsReady (C.meaning clients.now) self.old (D.tells disk.old).files }
+        requires allowed { self.old.closed ≡ false
+            → Allowed (C.meaning clients.now) self.old.state.facts batch }
+        requires kind { is_settling_kind batch ≡ false }
+        requires named { IsOfAll id batch }
+        ensures answer { Commits self.old self.new batch result }
+        ensures extends { self.old.closed ≡ false → (two : Two File)
+            → (D.tells disk.old).files ≡ Some two → (j : List (List Entry))
+            → Fits (C.meaning clients.now) self.old j two
+            → Adds (C.meaning clients.now) batch result self.new (D.tells disk.old)
+            (D.tells disk.new) j }
+        ensures ready { self.new.closed ≡ false
+            → IsReady (C.meaning clients.now) self.new (D.tells disk.new).files }
+        ensures unasked { Unasked result disk.old disk.new }
+        ensures calls { MakesCalls 4 result (D.tells disk.old) (D.tells disk.new) }
         ensures run { DiskRun (D.tells disk.old) (D.tells disk.new) }
         ensures numbers { IsStore self.new }
         ensures fault { IsErrOf result StoreFault.DiskFault
@@ -77,7 +115,7 @@ impl Store {
         }
         let framed = frame_batch(self.alloc, &batch)?;
         self.state.reserve(&batch)?;
-        self.add(disk, clients, framed.as_slice(), batch)
+        self.add(disk, clients, framed.as_slice(), batch, id)
     }
 
     // Whether the journal with the batch and the room for settling passes the limit.
@@ -104,10 +142,12 @@ impl Store {
         clients: &C,
         framed: &[u8],
         batch: Batch,
+        id: Option<MessageId>,
     ) -> Result<(), StoreFault>
         requires ready { IsReady (C.meaning clients.now) self.old (D.tells disk.old).files }
         requires may { MayAdd (C.meaning clients.now) self.old batch framed.now }
         requires kind { is_settling_kind batch ≡ false }
+        requires named { IsOfAll id batch }
         requires room { HasRoom self.old.state batch }
         ensures ok { OnOk result (Gains self.old self.new batch) }
         ensures err { IfErr result (λ e. (e ≡ StoreFault.DiskFault)
@@ -118,6 +158,7 @@ impl Store {
             (D.tells disk.new) j }
         ensures ready { self.new.closed ≡ false
             → IsReady (C.meaning clients.now) self.new (D.tells disk.new).files }
+        ensures calls { MakesCalls 4 result (D.tells disk.old) (D.tells disk.new) }
         ensures run { DiskRun (D.tells disk.old) (D.tells disk.new) }
         ensures numbers { IsStore self.new }
         ensures fault { HasCause (D.tells disk.old).disk_faults (D.tells disk.new).disk_faults
@@ -127,7 +168,7 @@ impl Store {
         cite_laws();
         match self.journal.append(disk, framed) {
             Ok(()) => {
-                self.state.take(batch);
+                self.state.take_known(batch, id);
                 Ok(())
             }
             Err(_) => {

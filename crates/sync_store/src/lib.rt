@@ -4,6 +4,7 @@
 
 mod begin;
 mod committing;
+mod extending;
 mod fault;
 mod frames;
 pub mod laws;

@@ -5,7 +5,7 @@ ghost use Rattle.std.specs.Option.{ForSome};
 ghost use Rattle.outside.specs.Faults.{HasCause, Rose};
 ghost use Rattle.outside.specs.Files.{Two, File, file_of};
 ghost use Rattle.outside.specs.Frames.{IsAtRest};
-ghost use Rattle.outside.specs.Outside.{DiskRun};
+ghost use Rattle.outside.specs.Outside.{DiskRun, MakesCalls};
 ghost use Rattle.outside.specs.Disk.{Becomes};
 ghost use Rattle.outside.specs.Steps.{Passed};
 ghost use Rattle.frame_journal.specs.Append.{IsFramed, Appends, BeforeOrWith};
@@ -33,7 +33,8 @@ impl Store {
     /// commit leaves room for settling. `Closed` comes exactly where an earlier call answered
     /// `DiskFault`; then all is as before, and no call on the disk is made. After `Memory` the
     /// journal is extended by the steps made before it, and after `DiskFault` the store is closed.
-    /// At each moment the files stand for the journal with a front of these batches.
+    /// At each moment the files stand for the journal with a front of these batches, each of which
+    /// takes four calls of the disk.
     pub fn settle<D: Disk, C: Clients>(
         &mut self,
         disk: &mut D,
@@ -135,6 +136,7 @@ impl Store {
         ensures any_moment { (two : Two File) → (D.tells disk.old).files ≡ Some two
             → Passed two (D.tells disk.old) (D.tells disk.new) self.old.file
             (BeforeOrWith (file_of two self.old.file).now self.old.end framed.now) }
+        ensures calls { MakesCalls 4 result (D.tells disk.old) (D.tells disk.new) }
         ensures run { DiskRun (D.tells disk.old) (D.tells disk.new) }
         ensures numbers { IsStore self.new }
         ensures fault { HasCause (D.tells disk.old).disk_faults (D.tells disk.new).disk_faults

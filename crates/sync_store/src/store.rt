@@ -1,6 +1,6 @@
 //! `Store`.
 ghost use Rattle.std.specs.Prelude.{◌≡◌, ◌+◌, ◌<◌, ◌≤◌, ◌↔◌, ◌∷◌, [], IsTrue, length, Some};
-ghost use Rattle.std.specs.Prelude.{slice_get, is_some, IfOk, IfSome};
+ghost use Rattle.std.specs.Prelude.{slice_get, IfOk, IfSome};
 ghost use Rattle.std.specs.Option.{option_map};
 ghost use Rattle.entry_codec.specs.Standing.{room_of};
 ghost use Rattle.outside.specs.declared.limits.TheConstants.{MAX_JOURNAL};
@@ -9,7 +9,7 @@ ghost use Rattle.journal_state.specs.Lent.{StandsForNodes, StandsForRows};
 ghost use Rattle.journal_state.specs.Whole.{Knows};
 ghost use Rattle.sync_rules.specs.declared.limits.TheConstants.{MAX_CONTACTS};
 ghost use Rattle.sync_rules.specs.Clients.{Meaning};
-ghost use Rattle.sync_rules.specs.Facts.{Id, group_at, session_at, takes_of};
+ghost use Rattle.sync_rules.specs.Facts.{Id, session_at, takes_of};
 ghost use Rattle.sync_rules.specs.Legal.{Allowed};
 ghost use Rattle.sync_rules.specs.Steps.{IsSettled, fate_held};
 ghost use Rattle.sync_rules.specs.Views.{IsPlace};
@@ -54,6 +54,13 @@ impl Model for Store {
 impl Store {
     ghost use Rattle.sync_store.specs.Store.{IsStore};
 
+    /// The state of the journal, lent: what is asked of a journal without a disk is asked there.
+    pub fn state(&self) -> &State
+        ensures { result.now ≡ self.now.state }
+    {
+        &self.state
+    }
+
     /// The number of held messages.
     pub fn held(&self) -> u32
         ensures { result ≡ length self.now.state.facts.held }
@@ -74,13 +81,6 @@ impl Store {
         ensures { result ≡ length self.now.state.facts.groups }
     {
         self.state.groups()
-    }
-
-    /// Whether the group is known.
-    pub fn knows_group(&self, group: &GroupId) -> bool
-        ensures { result ≡ is_some (group_at self.now.state.facts.groups group.now) }
-    {
-        self.state.knows_group(group)
     }
 
     /// The number of sessions that have begun.

@@ -1,6 +1,6 @@
 -- What steps do that are calls of one device or of one link, over plain values.
 use Rattle.std.specs.Result.{IsErrAnd}
-use Rattle.std.proofs.Common.{◌≡◌, ℕ, zero, suc, ◌<◌, ◌≤◌, List, [], ◌∷◌, ◌++◌, map, length, take, drop, append-nil, arith, refl, sym, ap, ◌∙◌, subst, Option, Some, None, Result, Ok, Err}
+use Rattle.std.proofs.Common.{◌≡◌, ℕ, zero, suc, ◌<◌, ◌≤◌, List, [], ◌∷◌, ◌++◌, map, length, take, drop, append-nil, arith, refl, sym, ap, ◌∙◌, subst, inr, Option, Some, None, Result, Ok, Err}
 use Rattle.std.specs.Prelude.{slice_index_or, slice_set}
 use Rattle.std.specs.Option.{option_map}
 use Rattle.sync_ids.specs.Values.{GroupValue, MessageValue}
@@ -16,7 +16,7 @@ use Rattle.world_devices.specs.declared.stop.StepFault.{StepFault}
 use Rattle.world_devices.specs.declared.stop.StepFault.TheVariants as fault
 use Rattle.world_links.specs.declared.link.Link.{Link}
 use Rattle.world_scripts.specs.declared.step.WorldStep.{WorldStep}
-use Rattle.sync_world.specs.Doing.{AddsEntry, DeviceDoes, DoesBy, Fills, FillsWith, with_post}
+use Rattle.sync_world.specs.Doing.{AddsEntry, AddsNoOther, DeviceDoes, DoesBy, Fills, FillsWith, LeavesBy, TriesEntry, with_post}
 use Rattle.sync_world.specs.Naming.{IsMade}
 use Rattle.sync_world.specs.Staging.{after_ran}
 use Rattle.sync_world.specs.declared.stage.Stage.{Stage}
@@ -24,20 +24,29 @@ use Rattle.sync_world.proofs.RefusingLaws.{get_at}
 
 -- ---- answers
 
--- a fault that was handed on: only a full journal has to be shown
-err_does : (made : WorldStep) (old new : Stage) (e : StepFault) → (e ≡ fault.Full → Fills made old) → DoesBy made (Err e) old new
-err_does made old new fault.Refused fills = tt
-err_does made old new fault.Full fills = fills refl
-err_does made old new fault.Memory fills = tt
+-- a fault that was handed on: a full journal has to be shown, and that no other entry was added
+err_does : (made : WorldStep) (old new : Stage) (e : StepFault) → (e ≡ fault.Full → Fills made old) → LeavesBy made old new.devices.items → DoesBy made (Err e) old new
+err_does made old new fault.Refused fills leaves = tt
+err_does made old new fault.Full fills leaves = (fills refl, leaves)
+err_does made old new fault.Memory fills leaves = leaves
 
 pub passes_does : (made : WorldStep) (old new : Stage) (r : Result (Unit {0}) StepFault) (e : StepFault) → IsErrAnd r (λ y. y ≡ e) → (e ≡ fault.Full → Fills made old)
-    → DoesBy made r old new
-passes_does made old new (Ok u) e is fills = absurd is
-passes_does made old new (Err x) e is fills = subst (λ (y : StepFault). DoesBy made (Err y) old new) (sym is) (err_does made old new e fills)
+    → LeavesBy made old new.devices.items → DoesBy made r old new
+passes_does made old new (Ok u) e is fills leaves = absurd is
+passes_does made old new (Err x) e is fills leaves = subst (λ (y : StepFault). DoesBy made (Err y) old new) (sym is) (err_does made old new e fills leaves)
 
 -- a fault that is no full journal
-pub unfilled_does : (made : WorldStep) (old new : Stage) (r : Result (Unit {0}) StepFault) (e : StepFault) → IsErrAnd r (λ y. y ≡ e) → (e ≡ fault.Full → ⊥) → DoesBy made r old new
-unfilled_does made old new r e is other = passes_does made old new r e is (λ full. absurd (other full))
+pub unfilled_does : (made : WorldStep) (old new : Stage) (r : Result (Unit {0}) StepFault) (e : StepFault) → IsErrAnd r (λ y. y ≡ e) → (e ≡ fault.Full → ⊥) → LeavesBy made old new.devices.items → DoesBy made r old new
+unfilled_does made old new r e is other leaves = passes_does made old new r e is (λ full. absurd (other full)) leaves
+
+-- what could not be made fills no journal
+pub made_unfilled : {A : Type 0} (o : Option A) (f : StepFault) → IsMade o (Err f) → f ≡ fault.Full → ⊥
+made_unfilled {A} None f made is = subst (λ (x : StepFault). IsMade {A = A} None (Err x)) is made
+made_unfilled (Some v) f made is = subst (λ (x : StepFault). IsMade (Some v) (Err x)) is made
+
+-- only memory was wanting
+pub memory_unfilled : (f : StepFault) → f ≡ fault.Memory → f ≡ fault.Full → ⊥
+memory_unfilled f is other = let both : fault.Memory ≡ fault.Full = sym is ∙ other in cc both
 
 -- ---- one device at an index
 
@@ -58,7 +67,7 @@ adds_entry o e d came devices devices' links links' was is entry_is within at ad
 
 over_full : (e : Entry) (f : StepFault) (was is : DeviceValue) → Adds e (Err f) was is → f ≡ fault.Full → IsOver e was.node
 over_full e fault.Refused was is adds full = absurd (cc full)
-over_full e fault.Full was is adds full = adds
+over_full e fault.Full was is adds full = adds.0
 over_full e fault.Memory was is adds full = absurd (cc full)
 
 -- its journal has no room for the entry
@@ -67,6 +76,13 @@ pub fills_with : (o : Option Entry) (e : Entry) (d : ℕ) (devices : List Device
 fills_with o e d devices f was is entry_is within at adds full =
     subst (λ (x : Option Entry). FillsWith x d devices) (sym entry_is)
     (record { device = was; stands = get_at devices d was within at; over = over_full e f was is adds full })
+
+-- at most that entry was added
+pub tries_entry : (o : Option Entry) (e : Entry) (d : ℕ) (devices devices' : List DeviceValue) (answer : Result Ran StepFault) (was is : DeviceValue)
+    → o ≡ Some e → d < length devices → was ≡ slice_index_or devices d was → Adds e answer was is → devices' ≡ slice_set devices d is → AddsNoOther o d devices devices'
+tries_entry o e d devices devices' answer was is entry_is within at adds is_devices =
+    inr (subst (λ (x : Option Entry). TriesEntry x d devices devices') (sym entry_is)
+    (record { was = was; is = is; answer = answer; stands = get_at devices d was within at; did = adds; devices = is_devices }))
 
 -- ---- entries
 

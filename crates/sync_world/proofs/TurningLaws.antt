@@ -1,5 +1,5 @@
 -- What a turn of a device and a session that begins do, over plain values.
-use Rattle.std.proofs.Common.{◌≡◌, ℕ, zero, suc, ◌+◌, ◌<◌, ◌≤◌, Bool, true, false, List, [], ◌∷◌, ◌++◌, map, length, drop, refl, sym, ◌∙◌, ap, subst, inl, inr, arith, Option, Some, None, Result, Ok, Err}
+use Rattle.std.proofs.Common.{◌≡◌, ℕ, zero, suc, ◌+◌, ◌<◌, ◌≤◌, Bool, true, false, List, [], ◌∷◌, ◌++◌, map, length, drop, refl, sym, ◌∙◌, ap, subst, inl, inr, arith, Option, Some, None, is_some, Result, Ok, Err}
 use Rattle.std.specs.Result.{IsErrAnd}
 use Rattle.std.specs.Prelude.{slice_get, slice_index_or, slice_set}
 use Rattle.outside.specs.Links.{Planned}
@@ -9,7 +9,7 @@ use Rattle.sync_node.specs.declared.node.Plan.{Plan}
 use Rattle.sync_rules.specs.declared.entries.Mode.{Mode}
 use Rattle.world_devices.specs.Devices.{DeviceValue}
 use Rattle.world_devices.specs.Doing.{Attaches, Turns, with_plan}
-use Rattle.world_devices.specs.Linking.{asks, end_at}
+use Rattle.world_devices.specs.Linking.{DeviceLinksStand, asks, end_at}
 use Rattle.world_devices.specs.declared.stop.Ran.{Ran}
 use Rattle.world_devices.specs.declared.stop.Ran.TheVariants as ran
 use Rattle.world_devices.specs.declared.stop.StepFault.{StepFault}
@@ -22,7 +22,7 @@ use Rattle.world_links.specs.declared.link.Link.{Link}
 use Rattle.world_links.specs.declared.moves.Side.{Side}
 use Rattle.world_links.specs.declared.moves.Side.TheVariants as side
 use Rattle.world_scripts.specs.declared.step.WorldStep.{WorldStep}
-use Rattle.sync_world.specs.Doing.{AttachesOn, CrashesOn, DoesBy, EndsOn, Fills, FillsAttaching, FillsLinking, FillsTurning, Ground, LinksTwo, PlansEndBy, PlansEndOn, PlansLinkOn, PlansLinksOn, PlansSideOn, TurnsOnce, dialled, is_asked_at, plan_of, turned_links, with_answer}
+use Rattle.sync_world.specs.Doing.{AttachesOn, CrashesOn, DoesBy, EndsOn, Fills, FillsAttaching, FillsLinking, FillsTurning, Ground, LeavesBy, LinksTwo, PlansEndBy, PlansEndOn, PlansLinkOn, PlansLinksOn, PlansSideOn, TurnsOnce, dialled, is_asked_at, plan_of, turned_links, with_answer}
 use Rattle.sync_world.specs.Naming.{nonce_of}
 use Rattle.sync_world.specs.Parts.{AttachesBy, DialsBy, TurnsBy, WhenFull}
 use Rattle.sync_world.specs.Staging.{begun_with, new_link}
@@ -129,13 +129,13 @@ when_full Fills Fills' fault.Memory turns when = tt
 pub memory_only : (Fills : Type 0) (e : StepFault) → e ≡ fault.Memory → WhenFull e Fills
 memory_only Fills e is = subst (λ (f : StepFault). WhenFull f Fills) (sym is) tt
 
-pub does_fault : (made : WorldStep) (old new : Stage) (f : StepFault) → WhenFull f (Fills made old) → DoesBy made (Err f) old new
-does_fault made old new fault.Refused when = tt
-does_fault made old new fault.Full when = when
-does_fault made old new fault.Memory when = tt
+pub does_fault : (made : WorldStep) (old new : Stage) (f : StepFault) → WhenFull f (Fills made old) → LeavesBy made old new.devices.items → DoesBy made (Err f) old new
+does_fault made old new fault.Refused when leaves = tt
+does_fault made old new fault.Full when leaves = (when, leaves)
+does_fault made old new fault.Memory when leaves = leaves
 
-pub does_handed : (made : WorldStep) (r : Result (Unit {0}) StepFault) (e : StepFault) (old new : Stage) → IsErrAnd r (λ y. y ≡ e) → WhenFull e (Fills made old) → DoesBy made r old new
-does_handed made r e old new is when = handed (λ x. DoesBy made x old new) (Fills made old) r e (does_fault made old new) is when
+pub does_handed : (made : WorldStep) (r : Result (Unit {0}) StepFault) (e : StepFault) (old new : Stage) → IsErrAnd r (λ y. y ≡ e) → WhenFull e (Fills made old) → LeavesBy made old new.devices.items → DoesBy made r old new
+does_handed made r e old new is when leaves = handed (λ x. DoesBy made x old new) (Fills made old) r e (λ f w. does_fault made old new f w leaves) is when
 
 pub attaches_handed : (d link : ℕ) (plan : Plan) (nonce : Option (List ℕ)) (r : Result Ran StepFault) (e : StepFault) (old new : Ground) → IsErrAnd r (λ y. y ≡ e)
     → WhenFull e (FillsAttaching d plan nonce old) → AttachesBy d link plan nonce r old new
@@ -144,6 +144,10 @@ attaches_handed d link plan nonce r e old new is when = handed (λ x. AttachesBy
 pub turns_handed : (d : ℕ) (r : Result (Option Bool) StepFault) (e : StepFault) (old new : Ground) → IsErrAnd r (λ y. y ≡ e) → WhenFull e (FillsTurning d old) → TurnsBy d r old new
 turns_handed d r e old new is when = handed (λ x. TurnsBy d x old new) (FillsTurning d old) r e (λ f w. w) is when
 
+-- nothing is said of what a device sent that crashed
+pub crashed_sent : (is : DeviceValue) → false ≡ true → DeviceLinksStand is
+crashed_sent is some = cc
+
 -- ---- a session that begins
 
 module _ (d link : ℕ) (plan : Plan) (nonce : Option (List ℕ)) (devices : List DeviceValue) (links : List Link) (was is : DeviceValue)
@@ -151,15 +155,16 @@ module _ (d link : ℕ) (plan : Plan) (nonce : Option (List ℕ)) (devices : Lis
   begins_at : slice_get devices d ≡ Some was
   begins_at = get_at devices d was within at
 
-  pub attach_done : (o : Option ℕ) (session number : ℕ) (links' : List Link) → o ≡ Some session → Attaches plan nonce (Ok o) was is → number ≡ was.links
+  pub attach_done : (o : Option ℕ) (session number : ℕ) (links' : List Link) → o ≡ Some session → Attaches plan nonce (Ok o) was is → DeviceLinksStand is → number ≡ was.links
       → links' ≡ map (look_link d is) (begun_with d number session link (slice_get links link) links)
       → AttachesOn d link plan nonce (record { devices = devices; links = links }) (record { devices = slice_set devices d is; links = links' })
-  attach_done o session number links' some did same written = record {
+  attach_done o session number links' some did sent same written = record {
     was = was;
     is = is;
     session = session;
     stands = begins_at;
     did = subst (λ (x : Option ℕ). Attaches plan nonce (Ok x) was is) some did;
+    sent = sent;
     devices = refl;
     links = written ∙ ap (λ (n : ℕ). map (look_link d is) (begun_with d n session link (slice_get links link) links)) same;
   }
@@ -190,9 +195,9 @@ module _ (d : ℕ) (devices : List DeviceValue) (links planned_from links_planne
   plans_here : PlansLinksOn d was planned links links_planned
   plans_here = subst (λ (ls : List Link). PlansLinksOn d was planned ls links_planned) from plans
 
-  pub turn_made : (o came : Option Bool) (devices' : List DeviceValue) (links' : List Link) → o ≡ came → Turns (Ok o) planned is → devices' ≡ slice_set devices d is
+  pub turn_made : (o came : Option Bool) (devices' : List DeviceValue) (links' : List Link) → o ≡ came → Turns (Ok o) planned is → (is_some came ≡ true → DeviceLinksStand is) → devices' ≡ slice_set devices d is
       → links' ≡ turned_links d came is links_planned → TurnsOnce d came (record { devices = devices; links = links }) (record { devices = devices'; links = links' })
-  turn_made o came devices' links' same did now are = record {
+  turn_made o came devices' links' same did sent now are = record {
     was = was;
     planned = planned;
     is = is;
@@ -200,6 +205,7 @@ module _ (d : ℕ) (devices : List DeviceValue) (links planned_from links_planne
     stands = turns_at;
     plans = plans_here;
     did = subst (λ (x : Option Bool). Turns (Ok x) planned is) same did;
+    sent = sent;
     devices = now;
     links = are;
   }

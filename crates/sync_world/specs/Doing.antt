@@ -1,5 +1,5 @@
 -- What a step makes of the devices and the links of a world, where it is made.
-use Rattle.std.specs.Prelude.{◌≡◌, ◌⊎◌, ℕ, zero, suc, ◌+◌, ◌&&◌, not, Bool, true, false, List, [], ◌∷◌, ◌++◌, map, length, Option, Some, None, Result, Ok, Err, slice_get, slice_set}
+use Rattle.std.specs.Prelude.{◌≡◌, ◌⊎◌, ℕ, zero, suc, ◌+◌, ◌&&◌, not, Bool, true, false, List, [], ◌∷◌, ◌++◌, map, length, Option, Some, None, is_some, Result, Ok, Err, slice_get, slice_set}
 use Rattle.std.specs.List.{list_any}
 use Rattle.std.specs.Option.{option_map}
 use Rattle.sync_ids.specs.Values.{GroupValue, MessageValue}
@@ -10,7 +10,7 @@ use Rattle.sync_rules.specs.declared.entries.Mode.{Mode}
 use Rattle.sync_node.specs.declared.node.Plan.{Plan}
 use Rattle.world_devices.specs.Devices.{DeviceValue}
 use Rattle.world_devices.specs.Doing.{Adds, Attaches, IsOver, Restarts, Turns, clocked, stopped, with_plan}
-use Rattle.world_devices.specs.Linking.{asks, end_at}
+use Rattle.world_devices.specs.Linking.{DeviceLinksStand, asks, end_at}
 use Rattle.world_devices.specs.declared.stop.Ran.{Ran}
 use Rattle.world_devices.specs.declared.stop.Ran.TheVariants as ran
 use Rattle.world_devices.specs.declared.stop.StepFault.{StepFault}
@@ -66,6 +66,24 @@ abbrev pub AddsEntry : Option Entry → ℕ → Ground → Ground → Type 0
 AddsEntry None d old new = ⊥
 AddsEntry (Some e) d old new = (came : Ran) × DeviceDoes (Adds e (Ok came)) d came old new
 
+-- a device made a call with some answer, and all others are as before
+pub record DeviceTries (Did : Result Ran StepFault → DeviceValue → DeviceValue → Type 0) (d : ℕ) (old new : List DeviceValue) : Type 0 where
+  pub was : DeviceValue
+  pub is : DeviceValue
+  pub answer : Result Ran StepFault
+  pub stands : slice_get old d ≡ Some was
+  pub did : Did answer was is
+  pub devices : new ≡ slice_set old d is
+
+-- a device added an entry, or at most that was added
+abbrev pub TriesEntry : Option Entry → ℕ → List DeviceValue → List DeviceValue → Type 0
+TriesEntry None d old new = ⊥
+TriesEntry (Some e) d old new = DeviceTries (Adds e) d old new
+
+-- the devices are as before, but for at most the entry at one of them
+abbrev pub AddsNoOther : Option Entry → ℕ → List DeviceValue → List DeviceValue → Type 0
+AddsNoOther e d old new = (new ≡ old) ⊎ TriesEntry e d old new
+
 -- there is such a device, and with the entry its journal would pass its limit
 pub record FillsBy (e : Entry) (d : ℕ) (devices : List DeviceValue) : Type 0 where
   pub device : DeviceValue
@@ -86,13 +104,15 @@ plan_of d e mode latency = record { contact = contact_for d e; mode = mode; late
 abbrev pub dialled : (d e : ℕ) → Ground → Ground
 dialled d e old = record { devices = old.devices; links = old.links ++ new_link d e ∷ [] }
 
--- a session of a device began on the link of this number, and all that it sent there is in flight
+-- A session of a device began on the link of this number, and all that it sent there is in flight. What the device sent is the
+-- output of its sessions, by the journal that its files hold.
 pub record AttachesOn (d link : ℕ) (plan : Plan) (nonce : Option (List ℕ)) (old new : Ground) : Type 0 where
   pub was : DeviceValue
   pub is : DeviceValue
   pub session : ℕ
   pub stands : slice_get old.devices d ≡ Some was
   pub did : Attaches plan nonce (Ok (Some session)) was is
+  pub sent : DeviceLinksStand is
   pub devices : new.devices ≡ slice_set old.devices d is
   pub links : new.links ≡ map (look_link d is) (begun_with d was.links session link (slice_get old.links link) old.links)
 
@@ -171,7 +191,8 @@ turned_links d (Some still) is links = map (look_link d is) links
 turned_links d None is links = map (left_by d) links
 
 -- One turn of a device: one answer is heard on each of its links that is still asked, and all that is due is sent. It tells
--- whether all links were still, or that the device crashed.
+-- whether all links were still, or that the device crashed. Where it did not, what it sent is the output of its sessions, by the
+-- journal that its files hold.
 pub record TurnsOnce (d : ℕ) (came : Option Bool) (old new : Ground) : Type 0 where
   pub was : DeviceValue
   pub planned : DeviceValue
@@ -180,6 +201,7 @@ pub record TurnsOnce (d : ℕ) (came : Option Bool) (old new : Ground) : Type 0 
   pub stands : slice_get old.devices d ≡ Some was
   pub plans : PlansLinksOn d was planned old.links links_planned
   pub did : Turns (Ok came) planned is
+  pub sent : is_some came ≡ true → DeviceLinksStand is
   pub devices : new.devices ≡ slice_set old.devices d is
   pub links : new.links ≡ turned_links d came is links_planned
 
@@ -305,10 +327,17 @@ pub record WasDone (made : WorldStep) (old new : Stage) : Type 0 where
   pub groups : new.groups ≡ groups_after made old.groups
   pub posts : new.posts.items ≡ posts_after made old.groups old.posts.items
 
+-- what a step leaves of the devices that found no memory or a full journal: one that adds an entry adds no other
+abbrev pub LeavesBy : WorldStep → Stage → List DeviceValue → Type 0
+LeavesBy (step.Group d kind descriptor) s new = AddsNoOther (entry_of (step.Group d kind descriptor) s) d s.devices.items new
+LeavesBy (step.Share d e group level) s new = AddsNoOther (entry_of (step.Share d e group level) s) d s.devices.items new
+LeavesBy (step.Post d group time parents text) s new = AddsNoOther (entry_of (step.Post d group time parents text) s) d s.devices.items new
+LeavesBy _ s new = Unit {0}
+
 -- What a step does that answers so: it was made as the rules of worlds have it; or a device in it would have passed the limit of
--- its journal; after a refusal all is as before (`IsSame`), and want of memory is free.
+-- its journal; after a refusal all is as before (`IsSame`); want of memory is free, and at most the step's entry is added then.
 abbrev pub DoesBy : WorldStep → Result (Unit {0}) StepFault → Stage → Stage → Type 0
 DoesBy made (Ok _) old new = WasDone made old new
 DoesBy made (Err fault.Refused) old new = Unit {0}
-DoesBy made (Err fault.Full) old new = Fills made old
-DoesBy made (Err fault.Memory) old new = Unit {0}
+DoesBy made (Err fault.Full) old new = Fills made old × LeavesBy made old new.devices.items
+DoesBy made (Err fault.Memory) old new = LeavesBy made old new.devices.items

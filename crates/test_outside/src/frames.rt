@@ -1,5 +1,8 @@
 use crate::checks::{disk_of, disk_with, holds, kept, same};
-use frame_journal::{FrameFault, Journal, StartFault, barrier, clear, create, read_header};
+use frame_journal::{
+    DiskFault, FrameFault, Journal, StartFault, barrier, clear, create, prepare, publish,
+    read_header,
+};
 use outside::{MemDisk, Pick, Untold};
 use std::process::Abort;
 
@@ -192,5 +195,48 @@ fn clear_one<R: Abort + AllocGlobal>(rt: &R, before: &[u8], after: u8) {
 fn cleared(rt: HostRuntime) {
     for (before, after) in &CLEARED {
         clear_one(&rt, before, *after);
+    }
+}
+
+// Prepares a journal in file 0, adds the payload 01 00, and only then publishes it.
+fn publish_one(disk: &mut Untold) -> Result<Journal, DiskFault> {
+    prepare(disk, 0, 1)?;
+    let mut journal = Journal::fresh(0, 1);
+    journal.append(disk, &[0, 0, 0, 2, 1, 0, 0])?;
+    publish(disk, 0)?;
+    Ok(journal)
+}
+
+#[test]
+fn published(rt: HostRuntime) {
+    let mut disk = Untold::new(disk_with(&rt, &[0]));
+    let journal = kept(&rt, publish_one(&mut disk));
+    let header = (journal.file(), journal.format(), journal.generation());
+    same(&rt, &header, &(0, 1, 1));
+    same(&rt, &disk.disk.file(0), &ROW.as_slice());
+    same(&rt, &disk.disk.calls(), &8);
+    let mut reader = journal.rewind();
+    let mut to = Vec::new(rt.alloc());
+    same(&rt, &reader.next_frame(&mut disk, &mut to), &Ok(true));
+    same(&rt, &to.as_slice(), &[1u8, 0].as_slice());
+    same(&rt, &reader.next_frame(&mut disk, &mut to), &Ok(false));
+    same(&rt, &(reader.end(), disk.disk.calls()), &(22, 11));
+}
+
+// Whatever call fails, there is no store before the gate of the header is written.
+#[test]
+fn not_published(rt: HostRuntime) {
+    for failing in 0..9u64 {
+        let mut disk = Untold::new(disk_with(&rt, &[0]));
+        kept(&rt, disk.disk.fail_at(failing));
+        let is_failed = publish_one(&mut disk).is_err();
+        let old = read_pick(&rt, &disk.disk, Pick::Old);
+        let new = read_pick(&rt, &disk.disk, Pick::New);
+        let there = |call: u64| if failing < call { NONE } else { WHOLE };
+        same(
+            &rt,
+            &(failing, is_failed, old, new),
+            &(failing, failing < 8, there(8), there(6)),
+        );
     }
 }

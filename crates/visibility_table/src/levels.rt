@@ -1,8 +1,10 @@
 //! `Levels`.
 ghost use Rattle.std.specs.Prelude.{◌≡◌, ◌-◌, ◌^◌, ◌<◌, ◌++◌, ◌∷◌, [], max, length, IfOk, OnOk};
-ghost use Rattle.std.specs.Prelude.{OnErr, MatchOption, IfSome, None, Some, slice_get};
+ghost use Rattle.std.specs.Prelude.{OnErr, MatchOption, IfSome, None, Some, false, slice_get};
 ghost use Rattle.std.specs.Option.{option_map};
 ghost use Rattle.sync_ids.specs.Ids.{group_id_of};
+ghost use Rattle.sync_rules.specs.Consistency.{ids_of_groups};
+ghost use Rattle.sync_rules.specs.Lists.{has_repeat};
 ghost use Rattle.sync_rules.specs.Facts.{group_at, known_of, level_at, put_level};
 ghost use Rattle.visibility_table.specs.Table.{after_entry, CanApply, empty_table, number_of};
 
@@ -124,6 +126,13 @@ impl Levels {
         ensures { result ≡ length self.now.groups }
     {
         self.groups.len() as u32
+    }
+
+    /// Shows the prover that no two groups have one id. It does nothing.
+    pub fn show_distinct(&self)
+        ensures { has_repeat (ids_of_groups self.now.groups) ≡ false }
+    {
+        let _groups = self.groups.len();
     }
 
     /// The number of the group of this id. `None` comes exactly where no group has it.

@@ -16,8 +16,8 @@ use Rattle.sync_store.specs.Store.{StoreValue}
 use Rattle.sync_node.specs.Adding.{AddsAtMost, AddsOne, AddsSettled}
 use Rattle.sync_node.specs.declared.link.Link.{Link}
 use Rattle.sync_node.specs.Node.{NodeValue}
-use Rattle.world_devices.specs.Devices.{DeviceValue, IsRunning}
-use Rattle.world_devices.specs.Doing.{Adds, BreaksOff, HasAdded, HoldsAtMost, IsAnew, KeepsOwn, KeepsRest, StopsIn}
+use Rattle.world_devices.specs.Devices.{DeviceValue, HostGoesOn, IsAnew, IsRunning}
+use Rattle.world_devices.specs.Doing.{Adds, BreaksOff, HasAdded, HasAtMost, HoldsAtMost, IsAhead, KeepsOwn, KeepsRest, StopsIn}
 use Rattle.world_devices.specs.Keeping.{Journal}
 use Rattle.world_devices.specs.Linking.{WhenDone}
 use Rattle.world_devices.specs.Running.{Holds}
@@ -65,11 +65,11 @@ has_added e batch s s' h h' new is added at j holds =
 
 pub adds_done : (e : Entry) (batch : List Entry) (n n' : NodeValue) (h h' : MemHostValue) (d old new : DeviceValue) → d ≡ old → batch ≡ e ∷ [] → AddsSettled bundle_meaning batch n.store n'.store (host_told h) (host_told h')
     → d.host ≡ h → new.host ≡ h' → d.node ≡ Some n → new.node ≡ Some n' → n'.links ≡ n.links → new.clock ≡ d.clock → new.stop ≡ d.stop
-    → KeepsOwn old new × ((j : Journal) → Holds j old.host → HasAdded e j new) × KeepsRest old new
-adds_done e batch n n' h h' d old new seen is added its its' was now links clock stop =
+    → HostGoesOn d.host new.host → IsAhead new.stop new.host → KeepsOwn old new × ((j : Journal) → Holds j old.host → HasAdded e j new) × KeepsRest old new
+adds_done e batch n n' h h' d old new seen is added its its' was now links clock stop since ahead =
     let P : DeviceValue → Type 0 = λ x. KeepsOwn x new × ((j : Journal) → Holds j x.host → HasAdded e j new) × KeepsRest x new in
     subst P seen (
-      record { clock = clock; stop = stop },
+      record { clock = clock; stop = stop; since = since; ahead = ahead },
       λ j holds. has_added e batch n.store n'.store h h' new is added its' j (subst (λ (x : MemHostValue). Holds j x) its holds),
       record {
         node = ap links_of now ∙ ap (λ (l : List Link). Some l) links ∙ sym (ap links_of was);
@@ -79,7 +79,7 @@ adds_done e batch n n' h h' d old new seen is added its its' was now links clock
 
 -- ---- the disk stopped
 
-at_most : (e : Entry) (batch : List Entry) (n n' : NodeValue) (h h' : MemHostValue) (links : ℕ) → batch ≡ e ∷ [] → LeadsAdding batch n n' h h' → IsRunning n h links
+pub at_most : (e : Entry) (batch : List Entry) (n n' : NodeValue) (h h' : MemHostValue) (links : ℕ) → batch ≡ e ∷ [] → LeadsAdding batch n n' h h' → IsRunning n h links
     → (j : Journal) → Holds j h → HoldsAtMost e j h'
 at_most e batch n n' h h' links is leads run j holds =
     let has = journal_of n.store h (open_of n h links run) in
@@ -97,11 +97,12 @@ at_most e batch n n' h h' links is leads run j holds =
     }
 
 pub adds_crashed : (e : Entry) (batch : List Entry) (n n' : NodeValue) (h h' : MemHostValue) (links : ℕ) (d old new : DeviceValue) → d ≡ old → batch ≡ e ∷ [] → LeadsAdding batch n n' h h' → IsRunning n h links
-    → d.host ≡ h → BreaksOff d.stop h' new → new.clock ≡ d.clock → StopsIn (λ at. (j : Journal) → Holds j old.host → HoldsAtMost e j at) old new
-adds_crashed e batch n n' h h' links d old new seen is leads run its off clock =
-    let P : DeviceValue → Type 0 = λ x. StopsIn (λ at. (j : Journal) → Holds j x.host → HoldsAtMost e j at) x new in
+    → d.host ≡ h → HostGoesOn d.host h' → BreaksOff d.stop h' new → new.clock ≡ d.clock → StopsIn (HasAtMost e old) old new
+adds_crashed e batch n n' h h' links d old new seen is leads run its since off clock =
+    let P : DeviceValue → Type 0 = λ x. StopsIn (HasAtMost e x) x new in
     subst P seen (record {
       at = h';
+      since = since;
       broken = λ j holds. at_most e batch n n' h h' links is leads run j (subst (λ (x : MemHostValue). Holds j x) its holds);
       off = off;
       clock = clock;

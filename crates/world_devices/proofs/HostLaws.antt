@@ -8,7 +8,9 @@ use Rattle.outside.specs.Host.{Dials}
 use Rattle.outside.specs.Links.{Answered, Link, Links, HeardOn}
 use Rattle.outside.specs.Outside.{Outside}
 use Rattle.outside.specs.Runs.{Told, answers_at, heard_bytes, others_dial, sent_at}
-use Rattle.outside.specs.MemDisk.{Change, hosted, MemDiskValue, KeptFile, kept_after, changed, both_kept, disk_files, files_of, fresh, links_after, answers_after}
+use Rattle.outside.specs.Calls.{CallsGoOn}
+use Rattle.outside.specs.Steps.{go_on_none, go_on_then}
+use Rattle.outside.specs.MemDisk.{Change, hosted, MemDiskValue, calls_of, KeptFile, kept_after, changed, both_kept, disk_files, files_of, fresh, links_after, answers_after}
 use Rattle.outside.specs.MemHost.{MemHostValue, Readings, Crashes, fresh_host, plans_of}
 use Rattle.outside.specs.declared.limits.TheConstants.{LINKS}
 use Rattle.world_devices.specs.Brought.{IsSilent, brought_on, planned_bytes}
@@ -17,6 +19,7 @@ use Rattle.outside.specs.declared.pick.Pick.{Pick}
 use Rattle.outside.specs.Links.{Planned}
 use Rattle.sync_store.specs.Begin.{Begins}
 use Rattle.client_basic.specs.Bodies.{bundle_meaning}
+use Rattle.world_devices.specs.Devices.{HostGoesOn}
 use Rattle.world_devices.specs.Keeping.{GoOnFrom, IsQuiet, Keeps, KeepsOn, TellsSame}
 use Rattle.world_devices.proofs.KeepLaws.{keeps_same, settled_only}
 
@@ -227,3 +230,29 @@ pub fails_scripts : (h h' : MemHostValue) (call : ℕ) (result : Result (Unit {0
     → h'.scripts ≡ h.scripts
 fails_scripts h h' call (Ok u) ok err = ap (λ (x : MemHostValue). x.scripts) ok
 fails_scripts h h' call (Err e) ok err = ap (λ (x : MemHostValue). x.scripts) err
+
+-- ---- calls of its disk
+
+-- of a host that is made over a disk
+pub calls_fresh : (h : MemHostValue) (disk : MemDiskValue) → h ≡ fresh_host disk → CallsGoOn (calls_of disk) (calls_of h.disk)
+calls_fresh h disk is =
+    subst (λ (x : MemHostValue). CallsGoOn (calls_of disk) (calls_of x.disk)) (sym is)
+    (record { same_start = refl; same_failing = refl; same_stop = refl; more = hosted ∷ []; grown = refl; later = omega arith })
+
+calls_same : (h h' : MemHostValue) → h'.disk ≡ h.disk → HostGoesOn h h'
+calls_same h h' same = subst (λ (d : MemDiskValue). CallsGoOn (calls_of h.disk) (calls_of d)) (sym same) (go_on_none (calls_of h.disk))
+
+pub calls_clocked : (h h' : MemHostValue) (clock : Readings) (result : Result (Unit {0}) AllocError) → OnOk result (h' ≡ record h { clock = clock }) → OnErr result (h' ≡ h) → HostGoesOn h h'
+calls_clocked h h' clock (Ok u) ok err = calls_same h h' (ap (λ (x : MemHostValue). x.disk) ok)
+calls_clocked h h' clock (Err e) ok err = calls_same h h' (ap (λ (x : MemHostValue). x.disk) err)
+
+pub calls_anew : (h h' : MemHostValue) (result : Result (Unit {0}) AllocError) → OnOk result (h' ≡ fresh_host h.disk) → OnErr result (h' ≡ h) → HostGoesOn h h'
+calls_anew h h' (Ok u) ok err = calls_fresh h' h.disk ok
+calls_anew h h' (Err e) ok err = calls_same h h' (ap (λ (x : MemHostValue). x.disk) err)
+
+pub calls_then : (a b c : MemHostValue) → HostGoesOn a b → HostGoesOn b c → HostGoesOn a c
+calls_then a b c first second = go_on_then (calls_of a.disk) (calls_of b.disk) (calls_of c.disk) first second
+
+-- of a host that is another one by name
+pub calls_seen : (h h' at : MemHostValue) → h ≡ h' → HostGoesOn h at → HostGoesOn h' at
+calls_seen h h' at is goes = subst (λ (x : MemHostValue). HostGoesOn x at) is goes

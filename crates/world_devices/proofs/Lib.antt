@@ -9,4 +9,5 @@ pub mod TurnLaws
 pub mod NewLaws
 pub mod AddLaws
 mod StartLaws
+pub mod GivingUpLaws
 pub mod HeldLaws

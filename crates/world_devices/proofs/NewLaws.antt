@@ -19,8 +19,8 @@ use Rattle.sync_store.specs.Refusals.{contact_answer}
 use Rattle.sync_store.specs.Store.{StoreValue}
 use Rattle.sync_node.specs.Node.{NodeValue}
 use Rattle.world_devices.specs.Cited.{SettlingLeaves}
-use Rattle.world_devices.specs.Devices.{DeviceValue, IsReadyStore, IsRunning, MayBeRunning}
-use Rattle.world_devices.specs.Doing.{Adds, IsAnew, SettlesFrom}
+use Rattle.world_devices.specs.Devices.{DeviceValue, IsAnew, IsReadyStore, IsRunning, MayBeRunning}
+use Rattle.world_devices.specs.Doing.{Adds, SettlesFrom}
 use Rattle.world_devices.specs.Linking.{IsBare, IsBareIn, IsNewDevice, IsUnlinked, KeepsLinks, LinksBy, WhenDone, new_journal}
 use Rattle.world_devices.specs.NewJournals.{new_holds}
 use Rattle.world_devices.specs.Running.{Holds}

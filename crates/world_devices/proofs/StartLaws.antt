@@ -3,7 +3,8 @@ use Rattle.std.proofs.Common.{◌≡◌, ◌≤◌, ℕ, List, [], ◌∷◌, �
 use Rattle.outside.specs.Files.{Two, File, IsImage, read_files, settled}
 use Rattle.outside.specs.HostTold.{host_told}
 use Rattle.outside.specs.Links.{Links, sent_of}
-use Rattle.outside.specs.MemDisk.{fresh}
+use Rattle.outside.specs.MemDisk.{calls_of, fresh}
+use Rattle.outside.specs.Steps.{go_on_then}
 use Rattle.outside.specs.MemHost.{Crashes, MemHostValue, fresh_host, upcoming_of}
 use Rattle.outside.specs.Outside.{Moment, Outside}
 use Rattle.outside.specs.declared.limits.TheConstants.{LINKS}
@@ -20,16 +21,17 @@ use Rattle.sync_store.specs.Settling.{HasSettled}
 use Rattle.sync_store.specs.Store.{StoreValue}
 use Rattle.sync_store.specs.declared.fault.StoreFault.{StoreFault}
 use Rattle.world_devices.specs.Brought.{IsSilent}
-use Rattle.world_devices.specs.Devices.{DeviceValue, links_made}
-use Rattle.world_devices.specs.Doing.{BreaksOff, CrashesTo, HoldsSettling, IsAnew, IsNotFull, Restarts, SettlesFrom, StandsSettling, StartsAgain}
+use Rattle.world_devices.specs.Devices.{DeviceValue, HostGoesOn, IsAnew, links_made}
+use Rattle.world_devices.specs.Doing.{BreaksOff, CrashesTo, ComesOf, HoldsSettling, IsAhead, IsNotFull, Restarts, SettlesFrom, StandsSettling, StartsAgain}
 use Rattle.world_devices.specs.Keeping.{IsQuiet, Journal, TellsSame}
+use Rattle.world_devices.specs.Linking.{IsUnlinked}
 use Rattle.world_devices.specs.Refusals.{IsNotRefused}
 use Rattle.world_devices.specs.Running.{Holds}
 use Rattle.world_devices.specs.declared.stop.Stop.{Stop}
 use Rattle.world_devices.specs.declared.stop.StepFault.{StepFault}
 use Rattle.world_devices.specs.declared.stop.StepFault.TheVariants as fault
 use Rattle.world_devices.proofs.CallLaws.{holds_fits, silent_started}
-use Rattle.world_devices.proofs.HostLaws.{quiet_same, told_host}
+use Rattle.world_devices.proofs.HostLaws.{calls_fresh, quiet_same, told_host}
 use Rattle.world_devices.proofs.KeepLaws.{settled_only}
 use Rattle.world_devices.proofs.LeaveLaws.{still_fits}
 use Rattle.world_devices.proofs.NewLaws.{holds_on}
@@ -158,36 +160,41 @@ crash_only pick h h' crashes two is left image =
     let second = settled_only start.second left.second there.second in
     (λ i. record { first = sym first i; second = sym second i })
 
-pub crashes_to : (pick : Pick) (h at h' : MemHostValue) (new : DeviceValue) → h ≡ at → Crashes pick h h' → ((j : Journal) → Holds j h' → SettlesFrom j new.host) → IsAnew new.clock new.host → new.stop ≡ None → CrashesTo pick at new
-crashes_to pick h at h' new seen crashes loads anew disarmed =
+pub crashes_to : (pick : Pick) (h at h' : MemHostValue) (new : DeviceValue) → h ≡ at → Crashes pick h h' → ((j : Journal) → Holds j h' → SettlesFrom j new.host) → IsAnew new.clock new.host → IsUnlinked new → new.stop ≡ None → HostGoesOn h' new.host → CrashesTo pick at new
+crashes_to pick h at h' new seen crashes loads anew unlinked disarmed since =
     subst (λ (x : MemHostValue). CrashesTo pick x new) seen (record {
       image = crashes.disk;
       pictured = crashes.pictured;
+      since = go_on_then (calls_of crashes.disk) (calls_of h'.disk) (calls_of new.host.disk) (calls_fresh h' crashes.disk crashes.anew) since;
       loads = λ j is. loads j (record { each = λ two told left image. ap (stands bundle_meaning) (sym (crash_only pick h h' crashes two told left image)) ∙ is });
       anew = anew;
+      unlinked = unlinked;
       disarmed = disarmed;
     })
 
 -- ---- a device that starts again over its files
 
-pub starts_again : (d old new : DeviceValue) (h : MemHostValue) → d ≡ old → (host_told h).files ≡ (host_told d.host).files → ((j : Journal) → Holds j h → SettlesFrom j new.host) → IsAnew new.clock new.host → new.clock ≡ d.clock → new.stop ≡ d.stop
-    → StartsAgain old new
-starts_again d old new h seen files loads anew clock stop =
+pub starts_again : (d old new : DeviceValue) (h : MemHostValue) → d ≡ old → (host_told h).files ≡ (host_told d.host).files → ((j : Journal) → Holds j h → SettlesFrom j new.host) → IsAnew new.clock new.host → IsUnlinked new → new.clock ≡ d.clock → new.stop ≡ d.stop
+    → HostGoesOn d.host new.host → IsAhead new.stop new.host → StartsAgain old new
+starts_again d old new h seen files loads anew unlinked clock stop since ahead =
     subst (λ (x : DeviceValue). StartsAgain x new) seen (record {
-      own = record { clock = clock; stop = stop };
+      own = record { clock = clock; stop = stop; since = since; ahead = ahead };
       anew = anew;
+      unlinked = unlinked;
       loads = λ j holds. loads j (holds_on j d.host h files holds);
     })
 
-pub restart_broken : (result : Result (Unit {0}) StepFault) (d old mid new : DeviceValue) → d ≡ old → ((j : Journal) → Holds j d.host → HoldsSettling j mid.host) → mid.stop ≡ d.stop → mid.clock ≡ d.clock → new.clock ≡ mid.clock
-    → OnOk result (BreaksOff mid.stop mid.host new) → IsNotRefused result → IsNotFull result → Restarts result old new
-restart_broken (Ok u) d old mid new seen settling stop clock went off unrefused unfilled =
+pub restart_broken : (result : Result (Unit {0}) StepFault) (d old mid new : DeviceValue) → d ≡ old → HostGoesOn d.host mid.host → ((j : Journal) → Holds j d.host → HoldsSettling j mid.host) → mid.stop ≡ d.stop → mid.clock ≡ d.clock → new.clock ≡ mid.clock
+    → OnOk result (BreaksOff mid.stop mid.host new) → ComesOf mid.host new.host → IsNotRefused result → IsNotFull result → Restarts result old new
+restart_broken (Ok u) d old mid new seen since settling stop clock went off left unrefused unfilled =
     subst (λ (x : DeviceValue). Restarts (Ok u) x new) seen (inr (record {
       at = mid.host;
+      since = since;
       broken = settling;
       off = subst (λ (s : Option Stop). BreaksOff s mid.host new) stop off;
       clock = went ∙ clock;
     }))
-restart_broken (Err fault.Refused) d old mid new seen settling stop clock went off unrefused unfilled = absurd unrefused
-restart_broken (Err fault.Full) d old mid new seen settling stop clock went off unrefused unfilled = absurd unfilled
-restart_broken (Err fault.Memory) d old mid new seen settling stop clock went off unrefused unfilled = tt
+restart_broken (Err fault.Refused) d old mid new seen since settling stop clock went off left unrefused unfilled = absurd unrefused
+restart_broken (Err fault.Full) d old mid new seen since settling stop clock went off left unrefused unfilled = absurd unfilled
+restart_broken (Err fault.Memory) d old mid new seen since settling stop clock went off left unrefused unfilled =
+    subst (λ (x : DeviceValue). Restarts (Err fault.Memory) x new) seen (record { at = mid.host; since = since; broken = settling; left = left })

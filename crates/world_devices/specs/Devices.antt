@@ -1,7 +1,9 @@
 -- A device: its host, the node on it while it runs, how many links it has had, its clock, and where its disk is to stop.
 use Rattle.std.specs.Prelude.{◌≡◌, ℕ, ◌≤◌, false, [], ◌∷◌, length, Option, Some, None, refl}
 use Rattle.std.specs.Coded.{Coded, code_by, coded×, coded_option, coded_ℕ}
-use Rattle.outside.specs.MemHost.{MemHostValue}
+use Rattle.outside.specs.Calls.{CallsGoOn}
+use Rattle.outside.specs.MemDisk.{calls_of}
+use Rattle.outside.specs.MemHost.{MemHostValue, upcoming_of}
 use Rattle.outside.specs.HostTold.{host_told}
 use Rattle.outside.specs.declared.limits.TheConstants.{LINKS, MAX_JOURNAL}
 use Rattle.outside.specs.contracts.mem_host.MemHost as mem_host
@@ -13,8 +15,8 @@ use Rattle.sync_store.specs.Store.{StoreValue}
 use Rattle.sync_store.specs.Ready.{IsReady}
 use Rattle.sync_node.specs.Adding.{IsPlain}
 use Rattle.sync_node.specs.Node.{IsNode, NodeValue, node_code, MayRun}
-use Rattle.world_devices.specs.Brought.{brought_on}
-use Rattle.world_devices.specs.Keeping.{IsSafeRun, Keeps, KeepsOn}
+use Rattle.world_devices.specs.Brought.{IsSilent, brought_on}
+use Rattle.world_devices.specs.Keeping.{IsQuiet, IsSafeRun, Keeps, KeepsOn}
 use Rattle.world_devices.specs.declared.stop.Stop.{Stop}
 use Rattle.world_devices.specs.contracts.stop.Stop as stop
 
@@ -36,6 +38,18 @@ device_code =
 -- how many links a host has
 abbrev pub links_made : MemHostValue → ℕ
 links_made host = (host_told host).links.dialled
+
+-- A host has all its links; nothing is planned on them, and nothing was heard or sent. Its clock gives this time again and again.
+pub record IsAnew (clock : ℕ) (host : MemHostValue) : Type 0 where
+  pub dialled : links_made host ≡ LINKS
+  pub silent : IsSilent host
+  pub quiet : IsQuiet (host_told host)
+  pub upcoming : upcoming_of host.clock ≡ clock ∷ []
+
+-- Calls of a host more: its disk began with the same files, which of its calls are to fail stays, and what changed it before is a
+-- front of what has changed it now.
+abbrev pub HostGoesOn : MemHostValue → MemHostValue → Type 0
+HostGoesOn old new = CallsGoOn (calls_of old.disk) (calls_of new.disk)
 
 -- a store that was loaded and settled, with the greatest limit
 pub record IsStarted (s : StoreValue) (host : MemHostValue) : Type 0 where

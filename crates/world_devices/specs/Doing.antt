@@ -1,13 +1,13 @@
 -- What calls of a device do: the entry that stands in its journal, a turn, and where a stop of its disk leads.
-use Rattle.std.specs.Prelude.{◌≡◌, ◌⊎◌, ℕ, ◌+◌, ◌<◌, ◌^◌, Bool, if◌then◌else◌, nat_lt, List, [], ◌∷◌, ◌++◌, Option, Some, None, Result, Ok, Err}
+use Rattle.std.specs.Prelude.{◌≡◌, ◌⊎◌, ℕ, ◌+◌, ◌<◌, ◌≤◌, ◌^◌, Bool, if◌then◌else◌, nat_lt, List, [], ◌∷◌, ◌++◌, Option, Some, None, Result, Ok, Err}
 use Rattle.std.specs.Option.{option_map}
 use Rattle.outside.specs.Files.{Two, File, IsImage}
 use Rattle.outside.specs.HostTold.{host_told}
 use Rattle.outside.specs.Links.{Planned}
-use Rattle.outside.specs.MemDisk.{MemDiskValue, disk_files}
-use Rattle.outside.specs.MemHost.{MemHostValue, reading_set, script_of, upcoming_of, with_script}
+use Rattle.outside.specs.Calls.{CallsGoOn}
+use Rattle.outside.specs.MemDisk.{MemDiskValue, calls_of, disk_files, files_of}
+use Rattle.outside.specs.MemHost.{MemHostValue, reading_set, script_of, with_script}
 use Rattle.outside.specs.MemImage.{Pictures}
-use Rattle.outside.specs.declared.limits.TheConstants.{LINKS}
 use Rattle.outside.specs.declared.pick.Pick.{Pick}
 use Rattle.client_basic.specs.Bodies.{bundle_meaning}
 use Rattle.entry_codec.specs.Standing.{stands, journal}
@@ -24,9 +24,9 @@ use Rattle.sync_node.specs.Fulls.{FullBeginning, FullTurn}
 use Rattle.sync_node.specs.Node.{NodeValue}
 use Rattle.sync_node.specs.Plans.{session_of}
 use Rattle.sync_node.specs.declared.node.Plan.{Plan}
-use Rattle.world_devices.specs.Brought.{IsSilent}
-use Rattle.world_devices.specs.Devices.{DeviceValue, links_made}
-use Rattle.world_devices.specs.Keeping.{IsQuiet, Journal}
+use Rattle.world_devices.specs.Devices.{DeviceValue, HostGoesOn, IsAnew}
+use Rattle.world_devices.specs.Keeping.{Journal}
+use Rattle.world_devices.specs.Linking.{IsUnlinked}
 use Rattle.world_devices.specs.Running.{Holds}
 use Rattle.world_devices.specs.declared.stop.Ran.{Ran}
 use Rattle.world_devices.specs.declared.stop.Ran.TheVariants as ran
@@ -36,19 +36,19 @@ use Rattle.world_devices.specs.declared.stop.StepFault.TheVariants as fault
 
 -- ---- what stays
 
--- the same time, and the same stop
+-- the call at which the disk of a host is to stop was not made yet
+abbrev pub IsAhead : Option Stop → MemHostValue → Type 0
+IsAhead None host = Unit {0}
+IsAhead (Some armed) host = host.disk.made ≤ armed.call
+
+-- the same time, and the same stop, which did not fall; what its disk is to fail stays
 pub record KeepsOwn (old new : DeviceValue) : Type 0 where
   pub clock : new.clock ≡ old.clock
   pub stop : new.stop ≡ old.stop
+  pub since : HostGoesOn old.host new.host
+  pub ahead : IsAhead new.stop new.host
 
 -- ---- a device that starts again
-
--- A host has all its links; nothing is planned on them, and nothing was heard or sent. Its clock gives this time again and again.
-pub record IsAnew (clock : ℕ) (host : MemHostValue) : Type 0 where
-  pub dialled : links_made host ≡ LINKS
-  pub silent : IsSilent host
-  pub quiet : IsQuiet (host_told host)
-  pub upcoming : upcoming_of host.clock ≡ clock ∷ []
 
 -- whatever a crash leaves of the files of a host stands for this journal with settling behind it, which is settled
 pub record SettlesFrom (j : Journal) (host : MemHostValue) : Type 0 where
@@ -67,27 +67,53 @@ pub record StandsSettling (j : Journal) (files : Two (List ℕ)) : Type 0 where
 pub record HoldsSettling (j : Journal) (host : MemHostValue) : Type 0 where
   pub each : (two : Two File) → (host_told host).files ≡ Some two → (left : Two (List ℕ)) → IsImage two left → StandsSettling j left
 
--- A device was started again over this image of the files of a host: what the image stands for was settled. No stop is left.
+-- files that a crash might have left of this host, or what came of these by settling
+pub record ComesOfImage (at : MemHostValue) (files : Two (List ℕ)) : Type 0 where
+  pub before : Two (List ℕ)
+  pub image : IsImage (files_of (disk_files at.disk)) before
+  pub settles : (j : Journal) → stands bundle_meaning before ≡ journal j → StandsSettling j files
+
+-- so is whatever a crash leaves of the files of another host
+pub record ComesOf (at host : MemHostValue) : Type 0 where
+  pub each : (two : Two File) → (host_told host).files ≡ Some two → (left : Two (List ℕ)) → IsImage two left → ComesOfImage at left
+
+-- A device was started again over this image of the files of a host: what the image stands for was settled. It has no links, and
+-- no stop is left.
 pub record CrashesTo (pick : Pick) (at : MemHostValue) (new : DeviceValue) : Type 0 where
   pub image : MemDiskValue
   pub pictured : Pictures pick (disk_files at.disk) image
+  pub since : CallsGoOn (calls_of image) (calls_of new.host.disk)
   pub loads : (j : Journal) → stands bundle_meaning image.start ≡ journal j → SettlesFrom j new.host
   pub anew : IsAnew new.clock new.host
+  pub unlinked : IsUnlinked new
   pub disarmed : new.stop ≡ None
 
--- the disk had come to the call that this stop names, and the device was started again over the image that it names
+-- the last call of the disk was the one that this stop names, and the device was started again over the image that it names
 pub record BreaksOff (stop : Option Stop) (at : MemHostValue) (new : DeviceValue) : Type 0 where
   pub armed : Stop
   pub is : stop ≡ Some armed
-  pub reached : armed.call < at.disk.made
+  pub fell : armed.call + 1 ≡ at.disk.made
   pub crashes : CrashesTo armed.pick at new
 
--- a call was broken off by the stop of the device: until then it had come to a host of which this holds
+-- a call was broken off by the stop of the device: until then it had come, by calls behind those of before, to a host of which this
+-- holds
 pub record StopsIn (Broken : MemHostValue → Type 0) (old new : DeviceValue) : Type 0 where
   pub at : MemHostValue
+  pub since : HostGoesOn old.host at
   pub broken : Broken at
   pub off : BreaksOff old.stop at new
   pub clock : new.clock ≡ old.clock
+
+-- A call found no memory: nothing was done; or it had come, by calls behind those of before, to a host of which this holds, and a
+-- crash may leave of the files what it might have left then, or what came of that by settling.
+pub record GivesUp (Broken : MemHostValue → Type 0) (old new : DeviceValue) : Type 0 where
+  pub at : MemHostValue
+  pub since : HostGoesOn old.host at
+  pub broken : Broken at
+  pub left : ComesOf at new.host
+
+abbrev pub GivesUpIn : (MemHostValue → Type 0) → DeviceValue → DeviceValue → Type 0
+GivesUpIn Broken old new = (new ≡ old) ⊎ GivesUp Broken old new
 
 -- ---- an entry
 
@@ -118,14 +144,19 @@ pub record KeepsRest (old new : DeviceValue) : Type 0 where
   pub node : option_map (λ (n : NodeValue). n.links) new.node ≡ option_map (λ (n : NodeValue). n.links) old.node
   pub told : (host_told new.host).links ≡ (host_told old.host).links
 
+-- at most the entry stands there in a journal that was held
+abbrev pub HasAtMost : Entry → DeviceValue → MemHostValue → Type 0
+HasAtMost e old at = (j : Journal) → Holds j old.host → HoldsAtMost e j at
+
 -- An entry is added: it stands in the journal, with settling behind it, and nothing else was done. Where the stop fell in it, at
--- most that stood in the files when the disk failed. It is full where the journal would pass its limit.
+-- most that stood in the files when the disk failed; no more stood there where it found no memory. It is full where the journal
+-- would pass its limit, and then no more stands there either.
 abbrev pub Adds : Entry → Result Ran StepFault → DeviceValue → DeviceValue → Type 0
 Adds e (Ok ran.Done) old new = KeepsOwn old new × ((j : Journal) → Holds j old.host → HasAdded e j new) × KeepsRest old new
-Adds e (Ok ran.Crashed) old new = StopsIn (λ at. (j : Journal) → Holds j old.host → HoldsAtMost e j at) old new
+Adds e (Ok ran.Crashed) old new = StopsIn (HasAtMost e old) old new
 Adds e (Err fault.Refused) old new = new ≡ old
-Adds e (Err fault.Full) old new = IsOver e old.node
-Adds e (Err fault.Memory) old new = Unit {0}
+Adds e (Err fault.Full) old new = IsOver e old.node × HasAtMost e old new.host
+Adds e (Err fault.Memory) old new = GivesUpIn (HasAtMost e old) old new
 
 -- ---- links
 
@@ -155,14 +186,21 @@ pub record FullAtBeginning (plan : Plan) (its_nonce : Option (List ℕ)) (h h' :
   pub limit : store.limit ≡ n.store.limit
   pub fills : FullBeginning bundle_meaning (next_session plan its_nonce n) n.links n.store store (host_told h) (host_told h')
 
--- a session begins on a link
+-- it had come to some place of a course
+abbrev pub BreaksAttaching : Plan → Option (List ℕ) → DeviceValue → MemHostValue → Type 0
+BreaksAttaching plan its_nonce old at = OfNode (λ n. BreaksBeginning bundle_meaning (next_session plan its_nonce n) n.links n.store (host_told old.host) (host_told at)) old.node
+
+-- the session began on its link
+abbrev pub HasAttached : Plan → Option (List ℕ) → ℕ → DeviceValue → DeviceValue → Type 0
+HasAttached plan its_nonce session old new = OfNodes (λ n n'. HasBegun plan its_nonce session old.host new.host n n') old.node new.node
+
+-- a session begins on a link; where no memory was found it may have begun too
 abbrev pub Attaches : Plan → Option (List ℕ) → Result (Option ℕ) StepFault → DeviceValue → DeviceValue → Type 0
-Attaches plan its_nonce (Ok (Some session)) old new = KeepsOwn old new × OfNodes (λ n n'. HasBegun plan its_nonce session old.host new.host n n') old.node new.node
-Attaches plan its_nonce (Ok None) old new =
-    StopsIn (λ at. OfNode (λ n. BreaksBeginning bundle_meaning (next_session plan its_nonce n) n.links n.store (host_told old.host) (host_told at)) old.node) old new
+Attaches plan its_nonce (Ok (Some session)) old new = KeepsOwn old new × HasAttached plan its_nonce session old new
+Attaches plan its_nonce (Ok None) old new = StopsIn (BreaksAttaching plan its_nonce old) old new
 Attaches plan its_nonce (Err fault.Refused) old new = new ≡ old
 Attaches plan its_nonce (Err fault.Full) old new = OfNode (λ n. FullAtBeginning plan its_nonce old.host new.host n) old.node
-Attaches plan its_nonce (Err fault.Memory) old new = Unit {0}
+Attaches plan its_nonce (Err fault.Memory) old new = GivesUpIn (BreaksAttaching plan its_nonce old) old new ⊎ ((session : ℕ) × HasAttached plan its_nonce session old new)
 
 -- one turn of a course was made, in which all was still or not
 pub record HasTurned (still : Bool) (h h' : MemHostValue) (n n' : NodeValue) : Type 0 where
@@ -175,14 +213,17 @@ pub record FullInTurn (h h' : MemHostValue) (n : NodeValue) : Type 0 where
   pub limit : store.limit ≡ n.store.limit
   pub fills : FullTurn bundle_meaning n.first n.links n.store store (host_told h) (host_told h')
 
+-- it had come to some place of a course
+abbrev pub BreaksTurning : DeviceValue → MemHostValue → Type 0
+BreaksTurning old at = OfNode (λ n. BreaksTurn bundle_meaning n.first n.links n.store (host_told old.host) (host_told at)) old.node
+
 -- a turn: one of a course, or one that was broken off
 abbrev pub Turns : Result (Option Bool) StepFault → DeviceValue → DeviceValue → Type 0
 Turns (Ok (Some still)) old new = KeepsOwn old new × OfNodes (λ n n'. HasTurned still old.host new.host n n') old.node new.node
-Turns (Ok None) old new =
-    StopsIn (λ at. OfNode (λ n. BreaksTurn bundle_meaning n.first n.links n.store (host_told old.host) (host_told at)) old.node) old new
+Turns (Ok None) old new = StopsIn (BreaksTurning old) old new
 Turns (Err fault.Refused) old new = ⊥
 Turns (Err fault.Full) old new = OfNode (λ n. FullInTurn old.host new.host n) old.node
-Turns (Err fault.Memory) old new = Unit {0}
+Turns (Err fault.Memory) old new = GivesUpIn (BreaksTurning old) old new
 
 -- ---- a host that is told something
 
@@ -214,18 +255,23 @@ stopped calls pick d = with_stop (stop_after calls pick d.host.disk.made) d
 
 -- ---- a restart
 
--- it was started again over its files, which were settled
+-- it was started again over its files, which were settled, and has no links
 pub record StartsAgain (old new : DeviceValue) : Type 0 where
   pub own : KeepsOwn old new
   pub anew : IsAnew new.clock new.host
+  pub unlinked : IsUnlinked new
   pub loads : (j : Journal) → Holds j old.host → SettlesFrom j new.host
+
+-- the files had come to some settling behind a journal that was held
+abbrev pub HasSettling : DeviceValue → MemHostValue → Type 0
+HasSettling old at = (j : Journal) → Holds j old.host → HoldsSettling j at
 
 -- it starts again; where its disk stopped in that, settling had come so far as it had, and it starts once more
 abbrev pub Restarts : Result (Unit {0}) StepFault → DeviceValue → DeviceValue → Type 0
-Restarts (Ok _) old new = StartsAgain old new ⊎ StopsIn (λ at. (j : Journal) → Holds j old.host → HoldsSettling j at) old new
+Restarts (Ok _) old new = StartsAgain old new ⊎ StopsIn (HasSettling old) old new
 Restarts (Err fault.Refused) old new = ⊥
 Restarts (Err fault.Full) old new = ⊥
-Restarts (Err fault.Memory) old new = Unit {0}
+Restarts (Err fault.Memory) old new = GivesUp (HasSettling old) old new
 
 -- a call that answers something else than that a journal is full
 abbrev pub IsNotFull : {A : Type 0} → Result A StepFault → Type 0

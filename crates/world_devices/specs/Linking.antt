@@ -18,8 +18,7 @@ use Rattle.sync_node.specs.Node.{NodeValue}
 use Rattle.sync_node.specs.Output.{output}
 use Rattle.world_laws.specs.Worlds.{HasSession}
 use Rattle.world_devices.specs.Brought.{brought_on, bytes_of, sent_by}
-use Rattle.world_devices.specs.Devices.{DeviceValue}
-use Rattle.world_devices.specs.Doing.{IsAnew}
+use Rattle.world_devices.specs.Devices.{DeviceValue, IsAnew}
 use Rattle.world_devices.specs.Keeping.{Journal}
 use Rattle.world_devices.specs.Running.{Holds}
 use Rattle.world_devices.specs.declared.stop.Ran.{Ran}

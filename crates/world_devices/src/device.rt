@@ -1,11 +1,12 @@
 //! The device and its calls.
-ghost use Rattle.std.specs.Prelude.{◌≡◌, ◌+◌, ◌≤◌, ℕ, [], true, is_some, IfOk, IsErrOf};
+ghost use Rattle.std.specs.Prelude.{◌≡◌, ◌+◌, ◌≤◌, ℕ, [], false, true, is_some, IfOk, IsErrOf};
 ghost use Rattle.std.specs.Prelude.{MatchOption};
 ghost use Rattle.std.specs.Prelude.{None, OnErr, OnOk, option_copied, option_map};
 ghost use Rattle.outside.specs.HostTold.{host_told};
 ghost use Rattle.sync_rules.specs.Legal.{suits_nonce};
 ghost use Rattle.sync_rules.specs.declared.entries.Entry.TheVariants as entry_kind;
-ghost use Rattle.world_devices.specs.Devices.{DeviceKeeps, IsReadyStore, MayAdd, links_made};
+ghost use Rattle.world_devices.specs.Devices.{DeviceKeeps, HostGoesOn, IsAnew, IsReadyStore};
+ghost use Rattle.world_devices.specs.Devices.{MayAdd, links_made};
 ghost use Rattle.world_devices.specs.Keeping.{Journal, StandsLegal};
 ghost use Rattle.world_devices.specs.Linking.{DeviceLinksStand, IsBareIn, IsNewDevice, IsUnlinked};
 ghost use Rattle.world_devices.specs.Linking.{new_journal};
@@ -17,9 +18,9 @@ ghost use Rattle.world_devices.specs.Refusals.{refuses_group, refuses_level, ref
 ghost use Rattle.world_devices.specs.Refusals.{refuses_message};
 ghost use Rattle.world_devices.specs.Brought.{IsSilent, sent_by};
 ghost use Rattle.world_devices.specs.Running.{DeviceRuns, Holds, IsStill, LeavesOn};
-ghost use Rattle.world_devices.specs.Doing.{Adds, Attaches, BreaksOff, CrashesTo, IsNotFull};
-ghost use Rattle.world_devices.specs.Doing.{HoldsSettling, IsAnew, KeepsOwn, KeepsRest};
-ghost use Rattle.world_devices.specs.Doing.{Restarts};
+ghost use Rattle.world_devices.specs.Doing.{Adds, Attaches, BreaksOff, ComesOf, CrashesTo};
+ghost use Rattle.world_devices.specs.Doing.{HoldsSettling, IsAhead, IsNotFull, KeepsOwn};
+ghost use Rattle.world_devices.specs.Doing.{KeepsRest, Restarts};
 ghost use Rattle.world_devices.specs.Doing.{SettlesFrom, Turns, clocked, stopped, with_plan};
 ghost use Rattle.world_devices.specs.Doing.{with_stop};
 ghost use Rattle.outside.specs.Script.{planned_of};
@@ -214,7 +215,7 @@ impl Device {
         self.node = None;
         self.host.restart()?;
         match self.start() {
-            Ok(()) => Ok(()),
+            Ok(()) => self.test_done(),
             Err(StartFault::DiskFault) => self.break_off(),
             Err(StartFault::Memory) => Err(StepFault::Memory),
         }
@@ -238,6 +239,7 @@ impl Device {
             → OnOk result (SettlesFrom j self.new.host) }
         ensures settling { (j : Journal) → Holds j self.old.host → HoldsSettling j self.new.host }
         ensures anew { OnOk result (IsAnew self.new.clock self.new.host) }
+        ensures calls { HostGoesOn self.old.host self.new.host }
     {
         self.node = None;
         self.links = 0;
@@ -248,7 +250,8 @@ impl Device {
         Ok(())
     }
 
-    // A call on the disk failed: it stopped there, or there was no memory for that call.
+    // A call on the disk failed: it stopped there, or there was no memory for that call. A stop
+    // falls at the last call that was made, since whoever meets a failing call makes no other.
     fn break_off(&mut self) -> Result<(), StepFault>
         requires { self.old.node ≡ None }
         ensures keeps { DeviceKeeps self.old self.new }
@@ -259,11 +262,12 @@ impl Device {
         ensures unrefused { IsNotRefused result }
         ensures clock { self.new.clock ≡ self.old.clock }
         ensures to { OnOk result (BreaksOff self.old.stop self.old.host self.new) }
+        ensures left { ComesOf self.old.host self.new.host }
         ensures unfilled { IsNotFull result }
     {
         let made = self.host.disk().calls();
         match self.stop {
-            Some(stop) if stop.call < made => self.crash(stop.pick),
+            Some(stop) if stop.call < made && made - stop.call == 1 => self.crash(stop.pick),
             _ => Err(StepFault::Memory),
         }
     }
@@ -278,6 +282,7 @@ impl Device {
         ensures unrefused { IsNotRefused result }
         ensures clock { self.new.clock ≡ self.old.clock }
         ensures to { OnOk result (CrashesTo pick self.old.host self.new) }
+        ensures left { ComesOf self.old.host self.new.host }
         ensures unfilled { IsNotFull result }
     {
         self.node = None;
@@ -300,6 +305,7 @@ impl Device {
         ensures unrefused { IsNotRefused result }
         ensures clock { self.new.clock ≡ self.old.clock }
         ensures to { OnOk result (BreaksOff self.old.stop self.old.host self.new) }
+        ensures left { ComesOf self.old.host self.new.host }
         ensures full { IsErrOf result StepFault.Full
             → (fault ≡ NodeFault.Full) × (self.new.host ≡ self.old.host) }
     {
@@ -310,15 +316,27 @@ impl Device {
         }
     }
 
-    // Whether each call on its links and its clock found memory.
-    fn test_memory(&self) -> Result<(), StepFault>
+    // Whether each call on its links and its clock found memory, and the call at which its disk is
+    // to stop was not made.
+    fn test_done(&self) -> Result<(), StepFault>
+        ensures ahead { OnOk result (IsAhead self.now.stop self.now.host) }
         ensures unrefused { IsNotRefused result }
         ensures unfilled { IsNotFull result }
     {
-        if self.host.starved() == 0 {
-            Ok(())
-        } else {
+        if self.host.starved() > 0 || self.is_passed() {
             Err(StepFault::Memory)
+        } else {
+            Ok(())
+        }
+    }
+
+    // Whether the call was made at which its disk is to stop.
+    fn is_passed(&self) -> bool
+        ensures { result ≡ false → IsAhead self.now.stop self.now.host }
+    {
+        match self.stop {
+            Some(stop) => stop.call < self.host.disk().calls(),
+            None => false,
         }
     }
 }
@@ -434,7 +452,7 @@ impl Device {
         };
         match node.add(&mut self.host, &Bundle::new(), batch) {
             Ok(()) => {
-                self.test_memory()?;
+                self.test_done()?;
                 Ok(Ran::Done)
             }
             Err(fault) => {
@@ -476,7 +494,7 @@ impl Device {
         match node.attach(&mut self.host, &Bundle::new(), self.links, plan, nonce) {
             Ok(()) => {
                 self.links += 1;
-                self.test_memory()?;
+                self.test_done()?;
                 Ok(Some(session))
             }
             Err(fault) => {
@@ -546,7 +564,7 @@ impl Device {
         };
         match node.turn(&mut self.host, &Bundle::new()) {
             Ok(turned) => {
-                self.test_memory()?;
+                self.test_done()?;
                 Ok(Some(turned == Turned::Still))
             }
             Err(fault) => {

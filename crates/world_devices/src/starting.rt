@@ -4,7 +4,7 @@ ghost use Rattle.client_basic.specs.Bodies.{bundle_meaning};
 ghost use Rattle.outside.specs.HostTold.{host_told};
 ghost use Rattle.outside.specs.declared.limits.TheConstants.{MAX_JOURNAL};
 ghost use Rattle.sync_store.specs.Ready.{IsReady};
-ghost use Rattle.world_devices.specs.Devices.{IsStarted, links_made};
+ghost use Rattle.world_devices.specs.Devices.{HostGoesOn, IsStarted, links_made};
 ghost use Rattle.world_devices.specs.Brought.{IsSilent};
 ghost use Rattle.world_devices.specs.Cited.{CitedLaws};
 ghost use Rattle.world_devices.specs.Doing.{HoldsSettling, SettlesFrom};
@@ -67,6 +67,7 @@ pub(crate) fn dial_all(host: &mut MemHost) -> Result<(), StartFault>
     ensures quiet { OnOk result (IsQuiet (host_told host.new)) }
     ensures files { (host_told host.new).files ≡ (host_told host.old).files }
     ensures scripts { host.new.scripts ≡ host.old.scripts }
+    ensures calls { HostGoesOn host.old host.new }
 {
     'links: for _link in 0..LINKS {
         match host.dial("tcp:world") {
@@ -85,6 +86,7 @@ pub(crate) fn load(
 ) -> Result<Store, StartFault>
     ensures started { IfOk result (λ store. IsStarted store host.new) }
     ensures links { (host_told host.new).links ≡ (host_told host.old).links }
+    ensures calls { HostGoesOn host.old host.new }
     ensures keeps { KeepsOn (host_told host.old) (host_told host.new) }
     ensures leaves { LeavesOn (host_told host.old) (host_told host.new) }
     ensures bare { Holds [] host.old → IfOk result (IsBare 0) }
@@ -104,6 +106,7 @@ fn settle(store: Store, host: &mut MemHost) -> Result<Store, StartFault>
     requires limit { store.limit ≡ MAX_JOURNAL }
     ensures started { IfOk result (λ store. IsStarted store host.new) }
     ensures links { (host_told host.new).links ≡ (host_told host.old).links }
+    ensures calls { HostGoesOn host.old host.new }
     ensures keeps { KeepsOn (host_told host.old) (host_told host.new) }
     ensures leaves { LeavesOn (host_told host.old) (host_told host.new) }
     ensures bare { (contacts : ℕ) → IsBare contacts store → IfOk result (IsBare contacts) }

@@ -1,24 +1,45 @@
-use Rattle.std.proofs.Common.{refl, ◌∙◌}
+use Rattle.std.proofs.Common.{◌≡◌, refl, ◌∙◌, [], ◌∷◌, Ok, Err}
+use Rattle.sync_store.specs.declared.fault.StoreFault.TheVariants as fault
+use Rattle.sync_store.proofs.Runs.{runs_commit}
+use Rattle.store_commands.proofs.Adds.{one_whole}
 use Rattle.store_commands.proofs.commit.commit.Goals as goal
 
-pub returns-in-Ok-clause-committed : goal.returns-in-Ok-clause-committed
-returns-in-Ok-clause-committed g c =
+pub returns-in-Ok-clause-added : goal.returns-in-Ok-clause-added
+returns-in-Ok-clause-added g c =
+    let clients = g.C.Clients.meaning c.args.clients.now in
     let answer = c.in-Ok.ensures.answer in
-    record { answer = (answer.2.closed, answer.1); leads = c.in-Ok.ensures.extends c.requires.ready.still_open }
+    let runs =
+    runs_commit c.images_stand.ensures clients c.args.store.now c.commit_known.new.self c.args.batch (Ok tt) _ g.D.Disk.tells c.args.disk.now c.commit_known.new.disk c.in-Ok.ensures.numbers
+    c.requires.ready.still_open c.requires.allowed answer tt c.in-Ok.ensures.run c.in-Ok.ensures.calls (c.in-Ok.ensures.extends c.requires.ready.still_open) in
+    record { more = c.args.batch ∷ []; adds = (refl, tt, tt); leads = runs.leads; answer = (answer.2.closed, answer.1, one_whole clients c.args.store.now.state.facts c.args.batch) }
 
-pub returns-in-Ok-clause-ready : goal.returns-in-Ok-clause-ready
-returns-in-Ok-clause-ready g c = c.in-Ok.ensures.ready c.in-Ok.ensures.answer.2.closed
-
-pub returns-in-Err-Full-clause-committed : goal.returns-in-Err-Full-clause-committed
-returns-in-Err-Full-clause-committed g c =
+pub returns-in-Err-Full-clause-added : goal.returns-in-Err-Full-clause-added
+returns-in-Err-Full-clause-added g c =
+    let clients = g.C.Clients.meaning c.args.clients.now in
     let answer = rw c.in-Err-Full.field-0-is at c.in-Err-Full.ensures.answer in
-    record { answer = (answer.2.closed ∙ answer.0, answer.1); leads = c.in-Err-Full.ensures.extends c.requires.ready.still_open }
+    let runs =
+    runs_commit c.images_stand.ensures clients c.args.store.now c.commit_known.new.self c.args.batch (Err fault.Full) _ g.D.Disk.tells c.args.disk.now c.commit_known.new.disk c.in-Err-Full.ensures.numbers
+    c.requires.ready.still_open c.requires.allowed answer (rw c.in-Err-Full.field-0-is at c.in-Err-Full.ensures.unasked) c.in-Err-Full.ensures.run (record { just = tt; most = c.in-Err-Full.ensures.calls.most })
+    (rw c.in-Err-Full.field-0-is at (c.in-Err-Full.ensures.extends c.requires.ready.still_open)) in
+    record { more = []; adds = tt; leads = runs.leads; answer = (answer.2.closed ∙ answer.0, answer.1, refl) }
 
-pub returns-in-Err-Memory-clause-committed : goal.returns-in-Err-Memory-clause-committed
-returns-in-Err-Memory-clause-committed g c = record { answer = tt; leads = c.in-Err-Memory.ensures.extends c.requires.ready.still_open }
+pub returns-in-Err-Memory-clause-added : goal.returns-in-Err-Memory-clause-added
+returns-in-Err-Memory-clause-added g c =
+    let clients = g.C.Clients.meaning c.args.clients.now in
+    let runs =
+    runs_commit c.images_stand.ensures clients c.args.store.now c.commit_known.new.self c.args.batch (Err fault.Memory) _ g.D.Disk.tells c.args.disk.now c.commit_known.new.disk c.in-Err-Memory.ensures.numbers
+    c.requires.ready.still_open c.requires.allowed (rw c.in-Err-Memory.field-0-is at c.in-Err-Memory.ensures.answer) (rw c.in-Err-Memory.field-0-is at c.in-Err-Memory.ensures.unasked)
+    c.in-Err-Memory.ensures.run (record { just = tt; most = c.in-Err-Memory.ensures.calls.most }) (rw c.in-Err-Memory.field-0-is at (c.in-Err-Memory.ensures.extends c.requires.ready.still_open)) in
+    record { more = []; adds = tt; leads = runs.leads; answer = tt }
 
-pub returns-in-Err-DiskFault-clause-committed : goal.returns-in-Err-DiskFault-clause-committed
-returns-in-Err-DiskFault-clause-committed g c = record { answer = tt; leads = c.in-Err-DiskFault.ensures.extends c.requires.ready.still_open }
+pub returns-in-Err-DiskFault-clause-added : goal.returns-in-Err-DiskFault-clause-added
+returns-in-Err-DiskFault-clause-added g c =
+    let clients = g.C.Clients.meaning c.args.clients.now in
+    let runs =
+    runs_commit c.images_stand.ensures clients c.args.store.now c.commit_known.new.self c.args.batch (Err fault.DiskFault) _ g.D.Disk.tells c.args.disk.now c.commit_known.new.disk c.in-Err-DiskFault.ensures.numbers
+    c.requires.ready.still_open c.requires.allowed (rw c.in-Err-DiskFault.field-0-is at c.in-Err-DiskFault.ensures.answer) tt
+    c.in-Err-DiskFault.ensures.run (record { just = tt; most = c.in-Err-DiskFault.ensures.calls.most }) (rw c.in-Err-DiskFault.field-0-is at (c.in-Err-DiskFault.ensures.extends c.requires.ready.still_open)) in
+    record { more = c.args.batch ∷ []; adds = (refl, tt, tt); leads = runs.leads; answer = tt }
 
 pub returns-in-Err-DiskFault-clause-by : goal.returns-in-Err-DiskFault-clause-by
 returns-in-Err-DiskFault-clause-by g c = (rw c.in-Err-DiskFault.field-0-is at c.in-Err-DiskFault.ensures.fault) refl

@@ -1,30 +1,28 @@
-use Rattle.store_commands.proofs.Adds.{caused_later, commits, follows_settled, settles_only}
-use Rattle.store_commands.proofs.Passing.{by_on, no_ok, told_on_error}
+use Rattle.std.proofs.Common.{refl, ◌∙◌}
+use Rattle.store_commands.proofs.Adds.{extended_whole}
 use Rattle.store_commands.proofs.commit.commit_settled.Goals as goal
 
-pub returns-in_err-settle-clause-told : goal.returns-in_err-settle-clause-told
-returns-in_err-settle-clause-told g c = λ two files j fits.
+pub returns-in-Ok-clause-added : goal.returns-in-Ok-clause-added
+returns-in-Ok-clause-added g c =
     let clients = g.C.Clients.meaning c.args.clients.now in
-    let came = c.in_err-settle.field-0.0 in
-    told_on_error c.from_residual.result came c.from_residual.ensures.1 clients j c.args.batch _ _ _
-    (settles_only clients _ _ c.args.store.now _ c.args.batch _ came two j files fits c.in_err-settle.ensures.settled)
+    let has = c.in-Ok.ensures.extended c.requires.ready.still_open in
+    record { more = has.more; adds = has.adds; leads = has.runs.leads; answer = (has.answer.0, has.answer.1, extended_whole clients _ _ c.args.batch tt _ _ has) }
 
-pub returns-in_err-settle-clause-by : goal.returns-in_err-settle-clause-by
-returns-in_err-settle-clause-by g c = by_on c.from_residual.result c.in_err-settle.field-0.0 c.from_residual.ensures.1 (g.D.Disk.tells c.args.disk.now) (g.D.Disk.tells c.settle.new.disk)
-    c.in_err-settle.ensures.by
+pub returns-in-Err-Full-clause-added : goal.returns-in-Err-Full-clause-added
+returns-in-Err-Full-clause-added g c =
+    let has = c.in-Err-Full.ensures.extended c.requires.ready.still_open in
+    let answer = rw c.in-Err-Full.field-0-is at has.answer in
+    record { more = has.more; adds = has.adds; leads = has.runs.leads; answer = (answer.2.closed ∙ c.requires.ready.still_open, answer.0, answer.1) }
 
-pub returns-in_err-settle-clause-ready : goal.returns-in_err-settle-clause-ready
-returns-in_err-settle-clause-ready g c = no_ok _ c.from_residual.result c.in_err-settle.field-0.0 c.from_residual.ensures.1
+pub returns-in-Err-Memory-clause-added : goal.returns-in-Err-Memory-clause-added
+returns-in-Err-Memory-clause-added g c =
+    let has = c.in-Err-Memory.ensures.extended c.requires.ready.still_open in
+    record { more = has.more; adds = has.adds; leads = has.runs.leads; answer = tt }
 
-pub commit-requires-clause-allowed : goal.commit-requires-clause-allowed
-commit-requires-clause-allowed g c =
-    follows_settled (g.C.Clients.meaning c.args.clients.now) _ _ c.args.store.now _ c.args.batch _ c.requires.follows c.in_ok-settle.ensures.settled
+pub returns-in-Err-DiskFault-clause-added : goal.returns-in-Err-DiskFault-clause-added
+returns-in-Err-DiskFault-clause-added g c =
+    let has = c.in-Err-DiskFault.ensures.extended c.requires.ready.still_open in
+    record { more = has.more; adds = has.adds; leads = has.runs.leads; answer = tt }
 
-pub returns-clause-by : goal.returns-clause-by
-returns-clause-by g c =
-    caused_later (g.D.Disk.tells c.args.disk.now) (g.D.Disk.tells c.settle.new.disk) (g.D.Disk.tells c.commit.new.disk) c.commit.result c.in_ok-settle.ensures.run.later c.commit.ensures.by
-
-pub returns-clause-told : goal.returns-clause-told
-returns-clause-told g c = λ two files j fits.
-    commits (g.C.Clients.meaning c.args.clients.now) _ _ _ c.args.store.now _ _ c.args.batch _ c.commit.result two j files fits c.requires.ready.limited
-    c.in_ok-settle.ensures.run c.in_ok-settle.ensures.settled c.commit.ensures.committed
+pub returns-in-Err-DiskFault-clause-by : goal.returns-in-Err-DiskFault-clause-by
+returns-in-Err-DiskFault-clause-by g c = (rw c.in-Err-DiskFault.field-0-is at c.in-Err-DiskFault.ensures.fault) refl

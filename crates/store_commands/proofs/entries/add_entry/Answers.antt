@@ -1,4 +1,6 @@
-use Rattle.std.proofs.Common.{refl, ◌∙◌}
+use Rattle.std.proofs.Common.{List, refl, subst, sym, ◌∙◌}
+use Rattle.session_core.specs.Known.{IsOfAll}
+use Rattle.sync_rules.specs.declared.entries.Entry.{Entry}
 use Rattle.sync_words.specs.declared.outcome.Outcome.TheVariants as outcome
 use Rattle.store_commands.proofs.Commits.{entry_failed, entry_none, entry_printed}
 use Rattle.store_commands.proofs.Passing.{entry_on}
@@ -28,3 +30,6 @@ pub returns : goal.returns
 returns g c =
     entry_printed (g.C.Clients.meaning c.args.clients.now) c.args.settling c.args.store c.args.entry _ _ _ _ c.as_bytes.result.now c.in_ok-batch.batch _ _
     c.in_ok-batch.ensures (c.as_bytes.ensures.value ∙ c.in_ok-line.ensures) c.in_ok-extend.ensures.run c.in_ok-extend.ensures.told c.print_bytes.ensures
+
+pub extend-requires-clause-named : goal.extend-requires-clause-named
+extend-requires-clause-named g c = subst (λ (b : List Entry). IsOfAll c.args.id b) (sym c.in_ok-batch.ensures) c.requires.named

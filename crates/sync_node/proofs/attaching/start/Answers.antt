@@ -1,3 +1,4 @@
+use Rattle.sync_node.proofs.Undone.{if_err_all, undone_none}
 use Rattle.std.proofs.Common.{arith, refl, sym, ◌∙◌, subst}
 use Rattle.record_stream.specs.Reading.{AwaitsBytes, ReaderState}
 use Rattle.sync_node.proofs.CourseStart.{start_broken, start_none, starts_course}
@@ -106,3 +107,12 @@ returns-in_err-commit-clause-full g c = λ is.
 
 pub returns-in_err-commit-clause-as_before : goal.returns-in_err-commit-clause-as_before
 returns-in_err-commit-clause-as_before g c = λ is. c.in_err-commit.ensures.as_before (ap (λ e. Err e) (err_was _ c.in_err-commit.field-0.0 _ c.from_residual-in_err-commit.ensures.1 is))
+
+pub returns-in_err-versions-clause-undone : goal.returns-in_err-versions-clause-undone
+returns-in_err-versions-clause-undone g c = if_err_all _ _ (λ e. undone_none _ _ e)
+
+pub returns-in_err-priority-clause-undone : goal.returns-in_err-priority-clause-undone
+returns-in_err-priority-clause-undone g c = if_err_all _ _ (λ e. undone_none _ _ e)
+
+pub returns-in_err-batch-clause-undone : goal.returns-in_err-batch-clause-undone
+returns-in_err-batch-clause-undone g c = if_err_all _ _ (λ e. undone_none _ _ e)

@@ -87,7 +87,7 @@ returns-in-Failed-clause-works g c =
 pub returns-in_err-take_piece-in-Got-clause-stops : goal.returns-in_err-take_piece-in-Got-clause-stops
 returns-in_err-take_piece-in-Got-clause-stops g c = λ whole.
     on_err _ _
-    (hears_stops _ _ _ _ _ _ c.recv.new.buf (c.recv.auto.buf ∙ whole) c.requires.asked c.in-Got.ensures.call.same_files c.cite_laws.ensures.widen c.in-Got.count _
+    (hears_stops _ _ _ _ _ _ c.recv.new.buf (c.recv.auto.buf ∙ whole) c.requires.asked c.in-Got.ensures.call.same_files c.cite_laws.ensures.widen c.in-Got.count _ _
     c.in-Got.ensures.links c.in-Got.ensures.answer (rw c.new-piece.ensures at c.in_err-take_piece-in-Got.ensures.stops))
 
 pub returns-in_ok-take_piece-in-Got-clause-course : goal.returns-in_ok-take_piece-in-Got-clause-course
@@ -110,23 +110,23 @@ returns-in-Failed-clause-course g c = λ whole.
 
 pub returns-in_err-take_piece-in-Got-clause-run : goal.returns-in_err-take_piece-in-Got-clause-run
 returns-in_err-take_piece-in-Got-clause-run g c =
-    link_then _ _ _ _ _ _ _ (link_kept _ _ _ _ _ (goes_heard _ _ _ _ _ c.recv.ensures.call c.recv.ensures.links) refl) c.take_piece.ensures.run
+    link_then _ _ _ _ _ _ _ (link_kept _ _ _ _ _ (goes_heard _ _ _ _ _ c.recv.ensures.call c.recv.ensures.links) refl refl) c.take_piece.ensures.run
 
 pub returns-in_ok-take_piece-in-Got-clause-run : goal.returns-in_ok-take_piece-in-Got-clause-run
 returns-in_ok-take_piece-in-Got-clause-run g c =
-    link_then _ _ _ _ _ _ _ (link_kept _ _ _ _ _ (goes_heard _ _ _ _ _ c.recv.ensures.call c.recv.ensures.links) refl) c.take_piece.ensures.run
+    link_then _ _ _ _ _ _ _ (link_kept _ _ _ _ _ (goes_heard _ _ _ _ _ c.recv.ensures.call c.recv.ensures.links) refl refl) c.take_piece.ensures.run
 
 pub returns-in-Idle-clause-run : goal.returns-in-Idle-clause-run
 returns-in-Idle-clause-run g c =
-    link_kept _ _ _ _ _ (goes_heard _ _ _ _ _ c.recv.ensures.call c.recv.ensures.links) refl
+    link_kept _ _ _ _ _ (goes_heard _ _ _ _ _ c.recv.ensures.call c.recv.ensures.links) refl refl
 
 pub returns-in-End-clause-run : goal.returns-in-End-clause-run
 returns-in-End-clause-run g c =
-    link_unfailed _ _ _ _ _ (goes_heard _ _ _ _ _ c.recv.ensures.call c.recv.ensures.links) (λ failed. ended_unfailed _ (sym c.ended-link.ensures ∙ failed))
+    link_unfailed _ _ _ _ _ (goes_heard _ _ _ _ _ c.recv.ensures.call c.recv.ensures.links) refl (λ failed. ended_unfailed _ (sym c.ended-link.ensures ∙ failed))
 
 pub returns-in-Failed-clause-run : goal.returns-in-Failed-clause-run
 returns-in-Failed-clause-run g c =
-    link_failed _ _ _ _ _ (goes_heard _ _ _ _ _ c.recv.ensures.call c.recv.ensures.links) c.in-Failed.ensures.answer
+    link_failed _ _ _ _ _ (goes_heard _ _ _ _ _ c.recv.ensures.call c.recv.ensures.links) refl c.in-Failed.ensures.answer
 
 pub returns-in_err-take_piece-in-Got-clause-full : goal.returns-in_err-take_piece-in-Got-clause-full
 returns-in_err-take_piece-in-Got-clause-full g c = λ whole is.

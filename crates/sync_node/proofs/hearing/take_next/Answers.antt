@@ -72,12 +72,12 @@ pub returns-in-Bad-clause-works : goal.returns-in-Bad-clause-works
 returns-in-Bad-clause-works g c = works_ended _ _ _ _ _ _ _ _ refl (λ going. cc) c.requires.asked
 
 pub returns-in_err-place-clause-stops : goal.returns-in_err-place-clause-stops
-returns-in_err-place-clause-stops g c = on_err _ _ (next_stops_at_none _ _ _ _ _ _)
+returns-in_err-place-clause-stops g c = on_err _ _ (next_stops_at_none _ _ _ _ _ _ _ refl refl refl)
 
 pub returns-in_err-take_one-in-One-clause-stops : goal.returns-in_err-take_one-in-One-clause-stops
 returns-in_err-take_one-in-One-clause-stops g c =
     on_err _ _
-    (next_stops c.cite_laws.ensures.follow _ _ c.in-One.place c.in-One.rec _ _ _ _ c.learn.new.link _ _ _ refl
+    (next_stops c.cite_laws.ensures.follow _ _ c.in-One.place c.in-One.rec _ _ _ _ c.learn.new.link _ _ _ refl refl refl
     (rw c.in-One.is at c.in_ok-place.ensures.stream) c.learn.ensures c.in_err-take_one-in-One.ensures.stops)
 
 pub returns-in_ok-take_one-in-One-clause-course : goal.returns-in_ok-take_one-in-One-clause-course
@@ -103,24 +103,24 @@ returns-in-Bad-clause-course g c =
     (rw c.in-Bad.is at c.in_ok-place.ensures.stream) left.0 left.1 left.2
 
 pub returns-in_err-place-clause-run : goal.returns-in_err-place-clause-run
-returns-in_err-place-clause-run g c = link_kept _ _ _ _ _ (goes_none _) refl
+returns-in_err-place-clause-run g c = link_kept _ _ _ _ _ (goes_none _) refl refl
 
 pub returns-in_err-take_one-in-One-clause-run : goal.returns-in_err-take_one-in-One-clause-run
 returns-in_err-take_one-in-One-clause-run g c =
-    link_unfailed _ _ _ _ _ c.take_one.ensures.run (learnt_unfailed c.in-One.place c.in-One.rec _ _ c.learn.ensures c.requires.asked)
+    link_unfailed _ _ _ _ _ c.take_one.ensures.run c.learn.ensures.same_session (learnt_unfailed c.in-One.place c.in-One.rec _ _ c.learn.ensures c.requires.asked)
 
 pub returns-in_ok-take_one-in-One-clause-run : goal.returns-in_ok-take_one-in-One-clause-run
 returns-in_ok-take_one-in-One-clause-run g c =
-    link_unfailed _ _ _ _ _ c.take_one.ensures.run (learnt_unfailed c.in-One.place c.in-One.rec _ _ c.learn.ensures c.requires.asked)
+    link_unfailed _ _ _ _ _ c.take_one.ensures.run c.learn.ensures.same_session (learnt_unfailed c.in-One.place c.in-One.rec _ _ c.learn.ensures c.requires.asked)
 
 pub returns-in-Skipped-clause-run : goal.returns-in-Skipped-clause-run
-returns-in-Skipped-clause-run g c = link_kept _ _ _ _ _ (goes_none _) refl
+returns-in-Skipped-clause-run g c = link_kept _ _ _ _ _ (goes_none _) refl refl
 
 pub returns-in-More-clause-run : goal.returns-in-More-clause-run
-returns-in-More-clause-run g c = link_kept _ _ _ _ _ (goes_none _) refl
+returns-in-More-clause-run g c = link_kept _ _ _ _ _ (goes_none _) refl refl
 
 pub returns-in-Bad-clause-run : goal.returns-in-Bad-clause-run
-returns-in-Bad-clause-run g c = link_unfailed _ _ _ _ _ (goes_none _) (λ failed. cc)
+returns-in-Bad-clause-run g c = link_unfailed _ _ _ _ _ (goes_none _) refl (λ failed. cc)
 
 pub returns-in_err-take_one-in-One-clause-full : goal.returns-in_err-take_one-in-One-clause-full
 returns-in_err-take_one-in-One-clause-full g c = λ is.

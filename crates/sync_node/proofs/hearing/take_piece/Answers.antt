@@ -42,7 +42,7 @@ returns-then-not-branch-clause-course g c =
 pub returns-in_err-take_next-clause-stops : goal.returns-in_err-take_next-clause-stops
 returns-in_err-take_next-clause-stops g c =
     on_err _ _
-    (piece_stops _ _ _ _ _ _ _ _ _ _ c.items.invariant.works.same_session (c.is_asked.ensures.0 c.items-test.true) c.items.invariant.course _
+    (piece_stops _ _ _ _ _ _ _ _ _ _ c.items.invariant.works.same_session (c.is_asked.ensures.0 c.items-test.true) c.items.invariant.course _ _
     c.in_err-take_next.ensures.stops)
 
 pub returns-clause-course : goal.returns-clause-course

@@ -60,11 +60,11 @@ pub returns-in_err-batch-clause-run : goal.returns-in_err-batch-clause-run
 returns-in_err-batch-clause-run g c = link_none _ _ _
 
 pub returns-in_err-commit-clause-run : goal.returns-in_err-commit-clause-run
-returns-in_err-commit-clause-run g c = link_kept _ _ _ _ _ c.commit.ensures.run refl
+returns-in_err-commit-clause-run g c = link_kept _ _ _ _ _ c.commit.ensures.run refl refl
 
 pub returns-clause-run : goal.returns-clause-run
 returns-clause-run g c =
-    link_then _ _ _ _ _ _ _ (link_kept _ _ _ _ _ c.commit.ensures.run refl)
+    link_then _ _ _ _ _ _ _ (link_kept _ _ _ _ _ c.commit.ensures.run refl refl)
     (link_sent _ _ _ _ _ _ c.send_on.ensures)
 
 pub returns-in_err-commit-clause-full : goal.returns-in_err-commit-clause-full

@@ -84,7 +84,7 @@ returns-in_default-clause-course g c = λ may.
 pub returns-in_err-put_out-clause-stops : goal.returns-in_err-put_out-clause-stops
 returns-in_err-put_out-clause-stops g c = λ may.
     on_err _ _
-    (outs_stop _ _ _ _ _ _ _ _ _ _ c.outs.invariant.course (may_end _ (c.may_send.ensures.0 c.if-may_send.true)) _ c.outs-test.true c.in_err-put_out.ensures.stops)
+    (outs_stop _ _ _ _ _ _ _ _ _ _ c.outs.invariant.course (may_end _ (c.may_send.ensures.0 c.if-may_send.true)) _ _ c.outs-test.true c.in_err-put_out.ensures.stops)
 
 pub returns-else-may_send-clause-course : goal.returns-else-may_send-clause-course
 returns-else-may_send-clause-course g c = λ may.

@@ -1,35 +1,71 @@
-use Rattle.std.proofs.Common.{inl}
-use Rattle.sync_node.proofs.AddLaws.{add_leads, added, adds_at_most, leads_ok, plain_kind}
-use Rattle.sync_node.proofs.WorkLaws.{on_ok}
-use Rattle.sync_node.proofs.WorkLaws.{goes_then}
-use Rattle.std.proofs.Common.{Err, ap}
-use Rattle.sync_node.proofs.WorkLaws.{err_was}
+use Rattle.std.proofs.Common.{Err, ap, ◌∙◌}
+use Rattle.sync_node.proofs.AddLaws.{extended, extended_goes, extended_leads, plain_kind}
 use Rattle.sync_node.proofs.told.add_settled.Goals as goal
 
-pub commit-requires-clause-kind : goal.commit-requires-clause-kind
-commit-requires-clause-kind g c = plain_kind c.args.batch c.requires.plain
+pub extend-requires-clause-kind : goal.extend-requires-clause-kind
+extend-requires-clause-kind g c = plain_kind c.args.batch c.requires.plain
 
-pub returns-in_err-commit-clause-leads : goal.returns-in_err-commit-clause-leads
-returns-in_err-commit-clause-leads g c = λ two files j fits.
-    leads_ok _ c.args.batch _ _ _ j _ _ _ (adds_at_most _ j c.args.batch) (λ k same. inl same) (c.in_err-commit.ensures.leads two files j fits)
+pub unreachable-requires : goal.unreachable-requires
+unreachable-requires g c =
+    let has = rw c.in-Err-Closed.field-0-is at (c.in-Err-Closed.ensures.extended c.requires.ready.still_open) in
+    has.answer
 
-pub settle-requires : goal.settle-requires
-settle-requires g c = record { ready = c.in_ok-commit.ensures.commits.ready }
+pub returns-in-Ok-clause-added : goal.returns-in-Ok-clause-added
+returns-in-Ok-clause-added g c =
+    extended _ c.args.batch _ _ _ _ _ c.requires.ready (c.in-Ok.ensures.extended c.requires.ready.still_open) c.in-Ok.ensures.ready
 
-pub returns-clause-added : goal.returns-clause-added
-returns-clause-added g c =
-    on_ok c.settle.result _ _ (added _ c.args.batch _ _ _ _ _ _ c.in_ok-commit.ensures.commits) c.settle.ensures.settles
+pub returns-in-Ok-clause-leads : goal.returns-in-Ok-clause-leads
+returns-in-Ok-clause-leads g c = extended_leads _ c.args.batch _ _ _ _ _ (c.in-Ok.ensures.extended c.requires.ready.still_open)
 
-pub returns-clause-leads : goal.returns-clause-leads
-returns-clause-leads g c = λ two files j fits.
-    add_leads _ c.args.batch _ _ _ _ _ _ two j files c.in_ok-commit.ensures.commits (c.in_ok-commit.ensures.leads two files j fits) c.settle.ensures.leads
+pub returns-in-Ok-clause-run : goal.returns-in-Ok-clause-run
+returns-in-Ok-clause-run g c = extended_goes _ c.args.batch _ _ _ _ _ c.requires.ready.fits (c.in-Ok.ensures.extended c.requires.ready.still_open)
 
-pub returns-clause-run : goal.returns-clause-run
-returns-clause-run g c = goes_then _ _ _ c.commit.ensures.run c.settle.ensures.run
+pub returns-in-Ok-clause-limit : goal.returns-in-Ok-clause-limit
+returns-in-Ok-clause-limit g c = (c.in-Ok.ensures.extended c.requires.ready.still_open).runs.limit
 
-pub returns-in_err-commit-clause-full : goal.returns-in_err-commit-clause-full
-returns-in_err-commit-clause-full g c =
-    λ is. (c.in_err-commit.ensures.full (ap (λ e. Err e) (err_was _ c.in_err-commit.field-0.0 _ c.from_residual.ensures.1 is))).before
+pub returns-in-Err-Memory-clause-leads : goal.returns-in-Err-Memory-clause-leads
+returns-in-Err-Memory-clause-leads g c = extended_leads _ c.args.batch _ _ _ _ _ (c.in-Err-Memory.ensures.extended c.requires.ready.still_open)
 
-pub returns-clause-full : goal.returns-clause-full
-returns-clause-full g c = λ is. absurd (c.settle.ensures.never is)
+pub returns-in-Err-Memory-clause-run : goal.returns-in-Err-Memory-clause-run
+returns-in-Err-Memory-clause-run g c = extended_goes _ c.args.batch _ _ _ _ _ c.requires.ready.fits (c.in-Err-Memory.ensures.extended c.requires.ready.still_open)
+
+pub returns-in-Err-Memory-clause-limit : goal.returns-in-Err-Memory-clause-limit
+returns-in-Err-Memory-clause-limit g c = (c.in-Err-Memory.ensures.extended c.requires.ready.still_open).runs.limit
+
+pub returns-in-Err-DiskFault-clause-leads : goal.returns-in-Err-DiskFault-clause-leads
+returns-in-Err-DiskFault-clause-leads g c = extended_leads _ c.args.batch _ _ _ _ _ (c.in-Err-DiskFault.ensures.extended c.requires.ready.still_open)
+
+pub returns-in-Err-DiskFault-clause-run : goal.returns-in-Err-DiskFault-clause-run
+returns-in-Err-DiskFault-clause-run g c = extended_goes _ c.args.batch _ _ _ _ _ c.requires.ready.fits (c.in-Err-DiskFault.ensures.extended c.requires.ready.still_open)
+
+pub returns-in-Err-DiskFault-clause-limit : goal.returns-in-Err-DiskFault-clause-limit
+returns-in-Err-DiskFault-clause-limit g c = (c.in-Err-DiskFault.ensures.extended c.requires.ready.still_open).runs.limit
+
+pub returns-in-Err-Full-clause-leads : goal.returns-in-Err-Full-clause-leads
+returns-in-Err-Full-clause-leads g c = extended_leads _ c.args.batch _ _ _ _ _ (c.in-Err-Full.ensures.extended c.requires.ready.still_open)
+
+pub returns-in-Err-Full-clause-run : goal.returns-in-Err-Full-clause-run
+returns-in-Err-Full-clause-run g c = extended_goes _ c.args.batch _ _ _ _ _ c.requires.ready.fits (c.in-Err-Full.ensures.extended c.requires.ready.still_open)
+
+pub returns-in-Err-Full-clause-limit : goal.returns-in-Err-Full-clause-limit
+returns-in-Err-Full-clause-limit g c = (c.in-Err-Full.ensures.extended c.requires.ready.still_open).runs.limit
+
+pub returns-in-Err-Memory-clause-ready : goal.returns-in-Err-Memory-clause-ready
+returns-in-Err-Memory-clause-ready g c =
+    let has = rw c.in-Err-Memory.field-0-is at (c.in-Err-Memory.ensures.extended c.requires.ready.still_open) in
+    c.in-Err-Memory.ensures.ready has.answer.0
+
+pub returns-in-Err-Full-clause-ready : goal.returns-in-Err-Full-clause-ready
+returns-in-Err-Full-clause-ready g c =
+    let has = rw c.in-Err-Full.field-0-is at (c.in-Err-Full.ensures.extended c.requires.ready.still_open) in
+    c.in-Err-Full.ensures.ready (has.answer.2.closed ∙ c.requires.ready.still_open)
+
+pub returns-in-Err-Full-clause-undone : goal.returns-in-Err-Full-clause-undone
+returns-in-Err-Full-clause-undone g c = λ is.
+    let has = rw c.in-Err-Full.field-0-is at (c.in-Err-Full.ensures.extended c.requires.ready.still_open) in
+    record { stays = has.answer.2; same_host = c.in-Err-Full.ensures.full (ap (λ e. Err e) c.in-Err-Full.field-0-is) }
+
+pub returns-in-Err-Full-clause-full : goal.returns-in-Err-Full-clause-full
+returns-in-Err-Full-clause-full g c = λ is.
+    let has = rw c.in-Err-Full.field-0-is at (c.in-Err-Full.ensures.extended c.requires.ready.still_open) in
+    has.answer.0

@@ -34,19 +34,6 @@ returns-in-Err-Full-clause-safe g c = λ b plans later more of_run safe.
     safe_commit c.cite_laws.ensures.fronts _ b plans later _ _ _ _ c.args.batch (Err store_fault.Full) more c.requires.ready.still_open c.in-Err-Full.ensures.run c.requires.allowed
     (c.in-Err-Full.ensures.extends c.requires.ready.still_open) of_run safe
 
-pub returns-in-Ok-clause-leads : goal.returns-in-Ok-clause-leads
-returns-in-Ok-clause-leads g c = c.in-Ok.ensures.extends c.requires.ready.still_open
-
-pub returns-in-Err-Memory-clause-leads : goal.returns-in-Err-Memory-clause-leads
-returns-in-Err-Memory-clause-leads g c = c.in-Err-Memory.ensures.extends c.requires.ready.still_open
-
-pub returns-in-Err-DiskFault-clause-leads : goal.returns-in-Err-DiskFault-clause-leads
-returns-in-Err-DiskFault-clause-leads g c =
-    c.in-Err-DiskFault.ensures.extends c.requires.ready.still_open
-
-pub returns-in-Err-Full-clause-leads : goal.returns-in-Err-Full-clause-leads
-returns-in-Err-Full-clause-leads g c = c.in-Err-Full.ensures.extends c.requires.ready.still_open
-
 pub returns-in-Ok-clause-adds : goal.returns-in-Ok-clause-adds
 returns-in-Ok-clause-adds g c =
     commit_adds _ _ _ c.args.batch _ _ _ c.in-Ok.ensures.run c.in-Ok.ensures.answer.2.closed
@@ -92,3 +79,15 @@ pub returns-in-Err-Full-clause-as_before : goal.returns-in-Err-Full-clause-as_be
 returns-in-Err-Full-clause-as_before g c = λ is.
     let answer = rw c.in-Err-Full.field-0-is at c.in-Err-Full.ensures.answer in
     same_commit _ _ _ _ _ c.args.batch store_fault.Full c.requires.ready c.in-Err-Full.ensures.run (answer.2.closed ∙ c.requires.ready.still_open) answer.2.facts (c.in-Err-Full.ensures.extends c.requires.ready.still_open)
+
+pub returns-in-Err-Full-clause-undone : goal.returns-in-Err-Full-clause-undone
+returns-in-Err-Full-clause-undone g c =
+    let answer = rw c.in-Err-Full.field-0-is at c.in-Err-Full.ensures.answer in
+    let unasked = rw c.in-Err-Full.field-0-is at c.in-Err-Full.ensures.unasked in
+    record { stays = answer.2; same_host = unasked }
+
+pub returns-in-Err-Memory-clause-undone : goal.returns-in-Err-Memory-clause-undone
+returns-in-Err-Memory-clause-undone g c =
+    let answer = rw c.in-Err-Memory.field-0-is at c.in-Err-Memory.ensures.answer in
+    let unasked = rw c.in-Err-Memory.field-0-is at c.in-Err-Memory.ensures.unasked in
+    record { stays = answer.2; same_host = unasked }

@@ -1,4 +1,3 @@
-use Rattle.sync_node.proofs.AddLaws.{leads_settling}
 use Rattle.sync_node.proofs.CommitLaws.{safe_settle, settled}
 use Rattle.sync_node.specs.CourseLaws.{settle_adds, settle_adds_some}
 use Rattle.sync_node.proofs.CommitLaws.{goes_settled}
@@ -19,18 +18,6 @@ returns-in-Err-Memory-clause-safe g c = λ b plans safe.
 pub returns-in-Err-DiskFault-clause-safe : goal.returns-in-Err-DiskFault-clause-safe
 returns-in-Err-DiskFault-clause-safe g c = λ b plans safe.
     safe_settle c.cite_laws.ensures.fronts _ b plans _ _ _ _ _ c.requires.ready.still_open c.in-Err-DiskFault.ensures.run (c.in-Err-DiskFault.ensures.settled c.requires.ready.still_open) safe
-
-pub returns-in-Ok-clause-leads : goal.returns-in-Ok-clause-leads
-returns-in-Ok-clause-leads g c =
-    leads_settling _ _ _ _ _ _ (c.in-Ok.ensures.settled c.requires.ready.still_open)
-
-pub returns-in-Err-Memory-clause-leads : goal.returns-in-Err-Memory-clause-leads
-returns-in-Err-Memory-clause-leads g c =
-    leads_settling _ _ _ _ _ _ (c.in-Err-Memory.ensures.settled c.requires.ready.still_open)
-
-pub returns-in-Err-DiskFault-clause-leads : goal.returns-in-Err-DiskFault-clause-leads
-returns-in-Err-DiskFault-clause-leads g c =
-    leads_settling _ _ _ _ _ _ (c.in-Err-DiskFault.ensures.settled c.requires.ready.still_open)
 
 pub returns-in-Ok-clause-adds : goal.returns-in-Ok-clause-adds
 returns-in-Ok-clause-adds g c =

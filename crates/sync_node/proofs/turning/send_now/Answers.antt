@@ -55,14 +55,14 @@ pub returns-clause-halts : goal.returns-clause-halts
 returns-clause-halts g c =
     let may = c.may_send.ensures.0 c.if-not-may_send.false in
     on_err_then c.send_all.result _ _
-    (sends_stop _ _ _ _ _ _ _ may c.now-now.ensures.links c.now-now.ensures.call.same_files _) (c.send_all.ensures.stops may)
+    (sends_stop _ _ _ _ _ _ _ may c.now-now.ensures.links c.now-now.ensures.call.same_files _ _) (c.send_all.ensures.stops may)
 
 pub returns-then-not-may_send-clause-run : goal.returns-then-not-may_send-clause-run
 returns-then-not-may_send-clause-run g c = link_none _ _ _
 
 pub returns-clause-run : goal.returns-clause-run
 returns-clause-run g c =
-    link_then _ _ _ _ _ _ _ (link_kept _ _ _ _ _ (goes_read _ _ _ c.now-now.ensures.call c.now-now.ensures.links) refl) c.send_all.ensures.run
+    link_then _ _ _ _ _ _ _ (link_kept _ _ _ _ _ (goes_read _ _ _ c.now-now.ensures.call c.now-now.ensures.links) refl refl) c.send_all.ensures.run
 
 pub returns-clause-full : goal.returns-clause-full
 returns-clause-full g c = λ is.

@@ -1,8 +1,8 @@
-use Rattle.std.proofs.Common.{arith}
+use Rattle.std.proofs.Common.{arith, ◌∙◌}
 use Rattle.sync_node.proofs.NodeLaws.{links_closed, links_may, links_then}
-use Rattle.sync_node.proofs.CourseCalls.{turn_broken, turn_made}
+use Rattle.sync_node.proofs.CourseCalls.{turn_halted, turn_made}
 use Rattle.sync_node.proofs.WorkLaws.{on_err}
-use Rattle.sync_node.proofs.CauseLaws.{links_go_closed}
+use Rattle.sync_node.proofs.CauseLaws.{links_go_closed, sessions_closed}
 use Rattle.std.proofs.Common.{Err, ap}
 use Rattle.sync_node.proofs.WorkLaws.{err_was}
 use Rattle.sync_node.proofs.CourseCalls.{turn_limit}
@@ -23,7 +23,7 @@ returns-clause-may g c =
 
 pub returns-in_err-still-clause-halts : goal.returns-in_err-still-clause-halts
 returns-in_err-still-clause-halts g c = λ first attached whole.
-    on_err _ _ (turn_broken _ first _ _ _ _ (c.in_err-still.ensures.halts first attached whole))
+    on_err _ _ (turn_halted _ first _ _ _ _ _ (c.in_err-still.ensures.halts first attached whole))
 
 pub returns-clause-course : goal.returns-clause-course
 returns-clause-course g c = λ first attached whole.
@@ -43,3 +43,7 @@ returns-in_err-still-clause-full g c = λ first attached whole is.
 
 pub returns-in_err-still-clause-sent : goal.returns-in_err-still-clause-sent
 returns-in_err-still-clause-sent g c = λ first attached is. c.in_err-still.ensures.sent first attached (ap (λ e. Err e) (err_was _ c.in_err-still.field-0.0 _ c.from_residual.ensures.1 is))
+
+pub returns-clause-sessions : goal.returns-clause-sessions
+returns-clause-sessions g c =
+    sessions_closed c.turn_each.new.links _ c.close_redundant.ensures.some ∙ c.turn_each.ensures.sessions

@@ -3,7 +3,7 @@ use Rattle.sync_node.proofs.CourseRuns.{still_else, still_then, turns_all, turns
 use Rattle.std.proofs.lemmas.Option.{slice_get-get_or}
 use Rattle.sync_node.proofs.NodeLaws.{length_set, link_able, links_fail, links_go_on, links_none, links_one, links_then}
 use Rattle.sync_node.proofs.WorkLaws.{on_err}
-use Rattle.sync_node.proofs.CauseLaws.{links_go_none, links_go_set}
+use Rattle.sync_node.proofs.CauseLaws.{links_go_none, links_go_set, sessions_set}
 use Rattle.std.proofs.Common.{Err, ap}
 use Rattle.sync_node.proofs.WorkLaws.{err_was}
 use Rattle.sync_node.proofs.CourseRuns.{turns_full}
@@ -12,7 +12,7 @@ use Rattle.sync_node.proofs.turning.turn_each.Goals as goal
 use Rattle.sync_node.proofs.turning.turn_each.Goals.{else-still, then-still}
 
 pub links-init : goal.links-init
-links-init g c = record { run = links_go_none _ _; limit = refl; may = c.requires.may; works = λ first attached. links_none _ _ _ _ _ attached; course = λ first attached whole. turns_none _ first _ _ _; whole = refl; room = c.requires.room; later = omega arith }
+links-init g c = record { sessions = refl; run = links_go_none _ _; limit = refl; may = c.requires.may; works = λ first attached. links_none _ _ _ _ _ attached; course = λ first attached whole. turns_none _ first _ _ _; whole = refl; room = c.requires.room; later = omega arith }
 
 pub turn_link-requires-clause-able : goal.turn_link-requires-clause-able
 turn_link-requires-clause-able g c =
@@ -38,6 +38,7 @@ pub links-preserved : goal.links-preserved
 links-preserved g c =
     let here = slice_get-get_or c.links.links c.links.place c.index-links-place.result (omega (arith, c.links-test.true, c.links.auto.links)) in
     record {
+      sessions = sessions_set c.links.place c.links.links _ c.turn_link.new.link here c.turn_link.ensures.run.same_session ∙ c.links.invariant.sessions;
       run = links_go_set c.links.place _ c.links.links _ c.turn_link.new.link _ _ _ c.links.invariant.run here c.turn_link.ensures.run;
       limit = c.turn_link.ensures.limit ∙ c.links.invariant.limit;
       may = links_go_on _ c.links.place c.links.links _ _ _ _ _ _ c.links.invariant.may (length_set c.links.links c.links.place c.turn_link.new.link) c.in_ok-quiet.ensures.works.goes c.in_ok-quiet.ensures.able;
@@ -65,7 +66,7 @@ returns-in_err-quiet-clause-halts g c = λ first attached whole.
     let works = c.links.invariant.works first attached in
     let here = slice_get-get_or c.links.links c.links.place c.index-links-place.result (omega (arith, c.links-test.true, c.links.auto.links)) in
     on_err _ _
-    (turns_stop _ first c.links.place _ c.links.links _ _ _ _ _ _ here (works.attached.each c.links.place _ here).numbered (c.links.invariant.course first attached whole) _
+    (turns_stop _ first c.links.place _ c.links.links _ _ _ _ _ _ here (works.attached.each c.links.place _ here).numbered (c.links.invariant.course first attached whole) c.turn_link.new.link _
     (c.in_err-quiet.ensures.halts (c.links.invariant.whole ∙ whole)))
 
 pub returns-clause-course : goal.returns-clause-course
@@ -93,3 +94,8 @@ returns-in_err-quiet-clause-sent g c = λ first attached is.
     links_stop _ first c.links.place _ c.links.links _ _ _ _ _ _ _ attached (c.links.invariant.works first attached) c.links.invariant.run.cause
     (slice_get-get_or c.links.links c.links.place c.index-links-place.result (omega (arith, c.links-test.true, c.links.auto.links)))
     (c.in_err-quiet.ensures.sent (ap (λ e. Err e) (err_was _ c.in_err-quiet.field-0.0 _ c.from_residual.ensures.1 is)))
+
+pub returns-in_err-quiet-clause-sessions : goal.returns-in_err-quiet-clause-sessions
+returns-in_err-quiet-clause-sessions g c =
+    let here = slice_get-get_or c.links.links c.links.place c.index-links-place.result (omega (arith, c.links-test.true, c.links.auto.links)) in
+    sessions_set c.links.place c.links.links _ c.turn_link.new.link here c.turn_link.ensures.run.same_session ∙ c.links.invariant.sessions

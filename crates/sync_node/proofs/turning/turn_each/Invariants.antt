@@ -1,12 +1,13 @@
 use Rattle.std.proofs.Common.{◌≡◌, ℕ, ◌<◌, ◌≤◌, length}
 use Rattle.sync_course.specs.declared.TheConstants.{PIECE_LEN}
-use Rattle.sync_node.specs.Causes.{LinksGo}
+use Rattle.sync_node.specs.Causes.{LinksGo, sessions_of}
 use Rattle.sync_node.specs.Courses.{TurnsAsCourse}
 use Rattle.sync_node.specs.Node.{AreAttached, LinksWork, MayGoOn}
 use Rattle.sync_node.proofs.turning.turn_each.Given as goal
 
 abbrev pub invariant-links : goal.invariant-links
 invariant-links g l = record {
+  sessions : sessions_of l.links ≡ sessions_of l.initial.links;
   run : LinksGo l.initial.links l.links (g.H.Disk.tells l.initial.host) (g.H.Disk.tells l.host);
   limit : l.store.limit ≡ l.initial.store.limit;
   may : MayGoOn (g.C.Clients.meaning l.clients) l.links l.store (g.H.Disk.tells l.host);

@@ -45,7 +45,7 @@ returns-in_err-quiet-clause-halts g c = λ whole. on_err _ _ (c.in_err-quiet.ens
 
 pub returns-in_err-made-clause-halts : goal.returns-in_err-made-clause-halts
 returns-in_err-made-clause-halts g c = λ whole.
-    on_err _ _ (turn_stops _ _ _ _ _ _ _ _ _ c.in_ok-quiet.ensures.works.same_session (c.in_ok-quiet.ensures.course whole) _ c.in_err-made.ensures.halts)
+    on_err _ _ (turn_stops _ _ _ _ _ _ _ _ _ c.in_ok-quiet.ensures.works.same_session (c.in_ok-quiet.ensures.course whole) _ _ c.in_err-made.ensures.halts)
 
 pub returns-then-quiet-clause-course : goal.returns-then-quiet-clause-course
 returns-then-quiet-clause-course g c = λ whole.

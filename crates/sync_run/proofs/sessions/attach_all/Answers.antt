@@ -1,3 +1,4 @@
+use Rattle.sync_node.proofs.Halts.{beginning_breaks}
 use Rattle.std.proofs.Common.{ℕ, ◌+◌, List, drop, length, arith, refl, sym, ap, ◌∙◌}
 use Rattle.sync_rules.specs.Facts.{Facts}
 use Rattle.sync_node.specs.declared.link.Link.{Link}
@@ -53,7 +54,7 @@ returns-in_err-attach-clause-halts g c =
     on_err c.from_residual.result
     (attaching_broken _ (sessions_from c.args.node.now.store.state.facts.begun c.args.links.now) c.args.links.now c.args.node.now.store.state.facts.begun c.links.link-index
     c.link-item.result _ _ _ _ _
-    (omega (arith, (c.links.invariant.node.attached c.links.invariant.still_open).begun, c.links.invariant.same_first, c.requires.first, c.links.invariant.numbered, c.links.invariant.count)) c.links-test.true c.link-item.is c.links.invariant.course _ (c.in_err-attach.ensures.halts c.links.invariant.still_open))
+    (omega (arith, (c.links.invariant.node.attached c.links.invariant.still_open).begun, c.links.invariant.same_first, c.requires.first, c.links.invariant.numbered, c.links.invariant.count)) c.links-test.true c.link-item.is c.links.invariant.course _ (beginning_breaks _ _ _ _ _ _ _ (c.in_err-attach.ensures.halts c.links.invariant.still_open)))
 
 pub returns-clause-course : goal.returns-clause-course
 returns-clause-course g c = attached_all _ _ c.args.links.now c.links.link-index _ _ _ _ _ c.links-test.false c.links.invariant.course

@@ -1,3 +1,4 @@
+use Rattle.sync_node.proofs.Halts.{turn_breaks}
 use Rattle.std.proofs.Common.{◌+◌, true, false, arith, refl, sym, ◌∙◌, inl, inr}
 use Rattle.std.proofs.lemmas.Bool.{le-leb}
 use Rattle.sync_node.specs.Node.{asked_among}
@@ -30,7 +31,7 @@ returns-in_err-turn-clause-halts g c =
     on_err c.from_residual.result (record {
       stops = λ heard read.
           turn_broken _ c.args.limits c.args.node.now.first _ _ _ _ _ _ _ _ (c.turns.invariant.course heard read) c.turns.invariant.goes_on c.turns-test.true _ _
-          c.turns.invariant.same_first (c.in_err-turn.ensures.halts c.turns.invariant.still_open);
+          c.turns.invariant.same_first (turn_breaks _ _ _ _ _ _ _ (c.in_err-turn.ensures.halts c.turns.invariant.still_open));
     })
 
 pub returns-then-is_over-clause-course : goal.returns-then-is_over-clause-course

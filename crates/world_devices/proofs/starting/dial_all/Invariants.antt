@@ -1,6 +1,6 @@
 use Rattle.std.proofs.Common.{◌≡◌}
 use Rattle.outside.specs.HostTold.{host_told}
-use Rattle.world_devices.specs.Devices.{links_made}
+use Rattle.world_devices.specs.Devices.{HostGoesOn, links_made}
 use Rattle.world_devices.specs.Keeping.{IsQuiet}
 use Rattle.world_devices.proofs.starting.dial_all.Given as goal
 
@@ -10,4 +10,5 @@ invariant-links l = record {
   quiet : IsQuiet (host_told l.host);
   files : (host_told l.host).files ≡ (host_told l.initial.host).files;
   scripts : l.host.scripts ≡ l.initial.host.scripts;
+  calls : HostGoesOn l.initial.host l.host;
 }

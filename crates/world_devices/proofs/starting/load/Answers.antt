@@ -1,5 +1,5 @@
 use Rattle.outside.specs.HostTold.{host_told}
-use Rattle.world_devices.proofs.HostLaws.{told_host}
+use Rattle.world_devices.proofs.HostLaws.{calls_then, told_host}
 use Rattle.world_devices.proofs.LeaveLaws.{leave_looks}
 use Rattle.world_devices.proofs.RunningLaws.{load_keeps}
 use Rattle.world_devices.proofs.NewLaws.{bare_loaded}
@@ -44,3 +44,12 @@ returns-in-Err-DiskFault-clause-settling c = λ j holds.
 pub returns-in-Err-clause-settling : goal.returns-in-Err-clause-settling
 returns-in-Err-clause-settling c = λ j holds.
     holds_settling j c.load.new.disk (holds_looks j c.args.host.now c.load.new.disk c.load.ensures.any_moment holds)
+
+pub returns-in-Ok-clause-calls : goal.returns-in-Ok-clause-calls
+returns-in-Ok-clause-calls c = calls_then c.args.host.now c.load.new.disk c.settle.new.host c.load.ensures.run.calls c.settle.ensures.calls
+
+pub returns-in-Err-DiskFault-clause-calls : goal.returns-in-Err-DiskFault-clause-calls
+returns-in-Err-DiskFault-clause-calls c = c.load.ensures.run.calls
+
+pub returns-in-Err-clause-calls : goal.returns-in-Err-clause-calls
+returns-in-Err-clause-calls c = c.load.ensures.run.calls

@@ -54,3 +54,12 @@ pub returns-in-Ok-clause-started : goal.returns-in-Ok-clause-started
 returns-in-Ok-clause-started c =
     let settled = c.in-Ok.ensures.settled c.requires.ready.still_open in
     record { ready = c.settle.ensures.ready settled.answer.0; settled = settled.answer.1; limit = settled.comes.limit ∙ c.requires.limit }
+
+pub returns-in-Ok-clause-calls : goal.returns-in-Ok-clause-calls
+returns-in-Ok-clause-calls c = c.settle.ensures.run.calls
+
+pub returns-in-Err-DiskFault-clause-calls : goal.returns-in-Err-DiskFault-clause-calls
+returns-in-Err-DiskFault-clause-calls c = c.settle.ensures.run.calls
+
+pub returns-clause-calls : goal.returns-clause-calls
+returns-clause-calls c = c.settle.ensures.run.calls

@@ -1,7 +1,7 @@
 use Rattle.std.proofs.Common.{List, length, sym, ap, subst, ◌∙◌, arith}
 use Rattle.std.specs.Vec.Iter.{into_iter_items}
 use Rattle.sync_rules.specs.declared.entries.Entry.{Entry}
-use Rattle.journal_state.specs.Known.{IsOfAll}
+use Rattle.session_core.specs.Known.{IsOfAll}
 use Rattle.journal_state.proofs.TakenAll.{none_left, underway_none, underway_can, underway_more, underway_whole}
 use Rattle.journal_state.proofs.state.State.take_all.Goals as goal
 

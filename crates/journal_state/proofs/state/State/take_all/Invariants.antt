@@ -1,6 +1,6 @@
 use Rattle.std.proofs.Common.{◌≡◌, length}
 use Rattle.std.specs.Vec.Iter.{into_iter_items, into_iter_len}
-use Rattle.journal_state.specs.Known.{IsOfAll}
+use Rattle.session_core.specs.Known.{IsOfAll}
 use Rattle.journal_state.proofs.TakenAll.{IsUnderway}
 use Rattle.journal_state.proofs.state.State.take_all.Given as goal
 

@@ -3,7 +3,8 @@ use Rattle.sync_node.specs.Node.{NodeValue}
 use Rattle.sync_node.proofs.AddLaws.{add_attached, add_may, node_adds, node_allowed, node_fits, node_limit}
 use Rattle.sync_node.proofs.NodeLaws.{true≢false, fault_answers, is_closed_node, is_node, node_may, stays_closed}
 use Rattle.sync_node.proofs.SafeLaws.{goes_none}
-use Rattle.std.proofs.Common.{Err}
+use Rattle.std.proofs.Common.{Err, subst}
+use Rattle.sync_store.specs.Commits.{Stays}
 use Rattle.sync_node.proofs.NodeLaws.{was_full}
 use Rattle.sync_node.proofs.AddLaws.{node_anew}
 use Rattle.sync_node.proofs.node.Node.add.Goals as goal
@@ -110,3 +111,20 @@ returns-in-Ok-clause-node g c = (invariant_of-self g c).1
 
 pub returns-in-Ok-clause-settled : goal.returns-in-Ok-clause-settled
 returns-in-Ok-clause-settled g c = c.in-Ok.ensures.added.settled
+
+pub returns-in-Err-clause-undone : goal.returns-in-Err-clause-undone
+returns-in-Err-clause-undone g c = λ is.
+    let done = c.in-Err.ensures.undone (ap (λ e. Err e) (was_full c.in-Err.fault _ c.close.ensures.fault is)) in
+    record {
+      stays = subst (λ (n : NodeValue). Stays n.store c.add_settled.new.store) c.self.view_is done.stays;
+      same_host = done.same_host;
+    }
+
+pub returns-then-self-clause-first : goal.returns-then-self-clause-first
+returns-then-self-clause-first g c = refl
+
+pub returns-in-Ok-clause-first : goal.returns-in-Ok-clause-first
+returns-in-Ok-clause-first g c = ap (λ (n : NodeValue). n.first) c.self.view_is
+
+pub returns-in-Err-clause-first : goal.returns-in-Err-clause-first
+returns-in-Err-clause-first g c = ap (λ (n : NodeValue). n.first) c.self.view_is

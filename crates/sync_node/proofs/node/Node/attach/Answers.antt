@@ -1,13 +1,15 @@
-use Rattle.std.proofs.Common.{inl, List, ℕ, arith, refl, ap, ◌∙◌, length}
+use Rattle.std.proofs.Common.{inl, List, [], ◌∷◌, ◌++◌, ℕ, arith, refl, ap, ◌∙◌, length}
 use Rattle.sync_node.specs.declared.link.Link.{Link}
 use Rattle.sync_node.specs.Node.{NodeValue}
-use Rattle.sync_node.proofs.CourseStart.{beginning_broken, begins_behind, node_beginning_broken, node_begins}
+use Rattle.sync_node.proofs.CourseStart.{beginning_halted, begins_behind, node_beginning_halted, node_begins}
 use Rattle.sync_node.proofs.AttachLaws.{attached_last, attached_may, node_attaches, node_plans, node_settled, one_longer, plan_allowed, plans_as, plans_same, session_begun}
 use Rattle.sync_node.specs.Plans.{session_of}
 use Rattle.sync_node.proofs.NodeLaws.{true≢false, fault_answers, is_closed_node, is_node, node_may, stays_closed}
 use Rattle.sync_node.proofs.SafeLaws.{goes_none}
 use Rattle.sync_node.proofs.CauseLaws.{node_causes}
-use Rattle.std.proofs.Common.{Err}
+use Rattle.std.proofs.Common.{Err, subst}
+use Rattle.sync_node.specs.Stays.{IsUndoneBy}
+use Rattle.sync_node.proofs.Undone.{undone_answer}
 use Rattle.sync_node.proofs.NodeLaws.{was_full}
 use Rattle.sync_node.proofs.CourseStart.{beginning_full, node_beginning_full}
 use Rattle.sync_node.proofs.StopLaws.{links_same, node_sends}
@@ -106,9 +108,9 @@ returns-in-Ok-clause-course g c = λ opened.
 
 pub returns-in-Err-clause-halts : goal.returns-in-Err-clause-halts
 returns-in-Err-clause-halts g c = λ opened.
-    node_beginning_broken _ (session_of c.sessions.result c.args.plan.now c.args.nonce) c.self.inside.links.items _ _ _ c.self.inside.first c.self.inside.closed _ c.self.view_is _
+    node_beginning_halted _ (session_of c.sessions.result c.args.plan.now c.args.nonce) c.self.inside.links.items _ _ _ c.self.inside.first c.self.inside.closed _ c.self.view_is _
     (ap (λ (k : ℕ). session_of k c.args.plan.now c.args.nonce) (c.sessions.ensures ∙ ap (λ (n : NodeValue). n.store.state.facts.begun) c.self.view_is))
-    (beginning_broken _ (session_of c.sessions.result c.args.plan.now c.args.nonce) c.self.inside.links.items _ _ _ c.in-Err.ensures.halts)
+    _ (beginning_halted _ (session_of c.sessions.result c.args.plan.now c.args.nonce) c.self.inside.links.items _ _ _ _ c.in-Err.ensures.same c.in-Err.ensures.halts)
 
 pub attach_on-requires-clause-last : goal.attach_on-requires-clause-last
 attach_on-requires-clause-last g c =
@@ -152,3 +154,29 @@ pub returns-in-Err-clause-sent : goal.returns-in-Err-clause-sent
 returns-in-Err-clause-sent g c = λ opened is.
     node_sends _ _ _ c.self.inside.first c.self.inside.links.items _ c.self.inside.closed _ _ _ _ c.self.view_is
     (links_same _ c.self.inside.first c.self.inside.links.items _ _ _ _ (c.self.invariant.1.attached c.if-self.false) (c.in-Err.ensures.as_before (ap (λ e. Err e) (was_full c.in-Err.fault _ c.close.ensures.fault is))))
+
+pub returns-then-self-clause-links : goal.returns-then-self-clause-links
+returns-then-self-clause-links g c = refl
+
+pub returns-in-Ok-clause-links : goal.returns-in-Ok-clause-links
+returns-in-Ok-clause-links g c = (
+  c.in-Ok.ensures.starts.link,
+  c.in-Ok.ensures.starts.pushed ∙ ap (λ (n : NodeValue). n.links ++ c.in-Ok.ensures.starts.link ∷ []) c.self.view_is,
+)
+
+pub returns-in-Err-clause-links : goal.returns-in-Err-clause-links
+returns-in-Err-clause-links g c = c.in-Err.ensures.same ∙ ap (λ (n : NodeValue). n.links) c.self.view_is
+
+pub returns-then-self-clause-first : goal.returns-then-self-clause-first
+returns-then-self-clause-first g c = refl
+
+pub returns-in-Ok-clause-first : goal.returns-in-Ok-clause-first
+returns-in-Ok-clause-first g c = ap (λ (n : NodeValue). n.first) c.self.view_is
+
+pub returns-in-Err-clause-first : goal.returns-in-Err-clause-first
+returns-in-Err-clause-first g c = ap (λ (n : NodeValue). n.first) c.self.view_is
+
+pub returns-in-Err-clause-undone : goal.returns-in-Err-clause-undone
+returns-in-Err-clause-undone g c =
+    undone_answer (Unit {0}) _ _ _ _ c.in-Err.fault _ c.close.ensures.fault
+    (subst (λ (n : NodeValue). IsUndoneBy n.store c.attach_on.new.store c.args.host.now c.attach_on.new.host c.in-Err.fault) c.self.view_is c.in-Err.ensures.undone)

@@ -3,10 +3,11 @@ use Rattle.std.specs.List.{slice_get}
 use Rattle.std.proofs.lemmas.Option.{slice_get-get_or}
 use Rattle.sync_node.specs.Node.{NodeValue}
 use Rattle.sync_node.proofs.NodeLaws.{true≢false, fault_answers, all_safe, is_closed_node, is_node, kept_long, length_set, link_able, links_go_on, links_one, node_keeps, node_may, node_safe, node_same, stays_closed}
-use Rattle.sync_node.proofs.CourseCalls.{receives, receiving_broken}
-use Rattle.sync_node.proofs.CourseNode.{node_receives, node_receiving_broken}
+use Rattle.sync_node.proofs.CourseCalls.{receives, receiving_halted}
+use Rattle.sync_node.proofs.CourseNode.{node_receives, node_receiving_halted}
 use Rattle.sync_node.proofs.SafeLaws.{goes_none}
-use Rattle.sync_node.proofs.CauseLaws.{links_go_none, links_go_set, node_causes}
+use Rattle.sync_node.specs.Causes.{sessions_of}
+use Rattle.sync_node.proofs.CauseLaws.{links_go_none, links_go_set, node_causes, sessions_set}
 use Rattle.std.proofs.Common.{Err}
 use Rattle.sync_node.proofs.NodeLaws.{was_full}
 use Rattle.sync_node.proofs.CourseCalls.{receiving_full}
@@ -134,8 +135,8 @@ returns-in-Err-clause-halts g c = λ opened.
     let within : c.args.link < length c.self.inside.links.items = omega (arith, c.requires.attached, ap (λ (n : NodeValue). length n.links) c.self.view_is) in
     let here = slice_get-get_or c.self.inside.links.items c.args.link c.index_mut.result.now within ∙ ap Some (sym c.index_mut.ensures.value) in
     let numbered = ((c.self.invariant.1.attached c.if-self.false).each c.args.link _ here).numbered in
-    node_receiving_broken _ _ c.self.inside.first _ c.self.inside.closed _ _ _ c.self.view_is c.args.link
-    (receiving_broken _ c.self.inside.first c.args.link c.self.inside.links.items _ _ _ here numbered _ (c.in-Err.ensures.stops (ap (λ (b : List ℕ). length b) c.as_mut_slice.ensures.value ∙ c.self.invariant.0)))
+    node_receiving_halted _ _ c.self.inside.first _ c.self.inside.closed _ _ _ c.self.view_is c.args.link _
+    (receiving_halted _ c.self.inside.first c.args.link c.self.inside.links.items _ _ _ here numbered c.receive_on.new.link _ (c.in-Err.ensures.stops (ap (λ (b : List ℕ). length b) c.as_mut_slice.ensures.value ∙ c.self.invariant.0)))
 
 pub returns-then-self-clause-run : goal.returns-then-self-clause-run
 returns-then-self-clause-run g c = goes_none _
@@ -174,3 +175,18 @@ returns-in-Err-clause-full g c = λ is.
 
 pub returns-in-Ok-clause-node : goal.returns-in-Ok-clause-node
 returns-in-Ok-clause-node g c = (invariant_of-self g c).1
+
+pub returns-then-self-clause-kept : goal.returns-then-self-clause-kept
+returns-then-self-clause-kept g c = record { same_first = refl; same_sessions = refl }
+
+pub returns-in-Ok-clause-kept : goal.returns-in-Ok-clause-kept
+returns-in-Ok-clause-kept g c =
+    let within : c.args.link < length c.self.inside.links.items = omega (arith, c.requires.attached, ap (λ (n : NodeValue). length n.links) c.self.view_is) in
+    let here = slice_get-get_or c.self.inside.links.items c.args.link c.index_mut.result.now within ∙ ap Some (sym c.index_mut.ensures.value) in
+    record { same_first = ap (λ (n : NodeValue). n.first) c.self.view_is; same_sessions = sessions_set c.args.link c.self.inside.links.items _ c.receive_on.new.link here c.receive_on.ensures.run.same_session ∙ ap (λ (n : NodeValue). sessions_of n.links) c.self.view_is }
+
+pub returns-in-Err-clause-kept : goal.returns-in-Err-clause-kept
+returns-in-Err-clause-kept g c =
+    let within : c.args.link < length c.self.inside.links.items = omega (arith, c.requires.attached, ap (λ (n : NodeValue). length n.links) c.self.view_is) in
+    let here = slice_get-get_or c.self.inside.links.items c.args.link c.index_mut.result.now within ∙ ap Some (sym c.index_mut.ensures.value) in
+    record { same_first = ap (λ (n : NodeValue). n.first) c.self.view_is; same_sessions = sessions_set c.args.link c.self.inside.links.items _ c.receive_on.new.link here c.receive_on.ensures.run.same_session ∙ ap (λ (n : NodeValue). sessions_of n.links) c.self.view_is }

@@ -3,10 +3,11 @@ use Rattle.std.specs.List.{slice_get}
 use Rattle.std.proofs.lemmas.Option.{slice_get-get_or}
 use Rattle.sync_node.specs.Node.{NodeValue}
 use Rattle.sync_node.proofs.NodeLaws.{true≢false, fault_answers, all_safe, is_closed_node, is_node, length_set, link_able, links_go_on, links_one, node_keeps, node_may, node_safe, node_same, stays_closed}
-use Rattle.sync_node.proofs.CourseCalls.{sending_broken, sends_due}
-use Rattle.sync_node.proofs.CourseNode.{node_sending_broken, node_sends}
+use Rattle.sync_node.proofs.CourseCalls.{sending_halted, sends_due}
+use Rattle.sync_node.proofs.CourseNode.{node_sending_halted, node_sends}
 use Rattle.sync_node.proofs.SafeLaws.{goes_none}
-use Rattle.sync_node.proofs.CauseLaws.{links_go_none, links_go_set, node_causes}
+use Rattle.sync_node.specs.Causes.{sessions_of}
+use Rattle.sync_node.proofs.CauseLaws.{links_go_none, links_go_set, node_causes, sessions_set}
 use Rattle.std.proofs.Common.{Err}
 use Rattle.sync_node.proofs.NodeLaws.{was_full}
 use Rattle.sync_node.proofs.CourseCalls.{sending_full}
@@ -120,8 +121,8 @@ returns-in-Err-clause-halts g c = λ opened.
     let here = slice_get-get_or c.self.inside.links.items c.args.link c.index_mut.result.now within ∙ ap Some (sym c.index_mut.ensures.value) in
     let numbered = ((c.self.invariant.1.attached c.if-self.false).each c.args.link _ here).numbered in
     let may = c.requires.unclosed _ (ap (λ (n : NodeValue). slice_get n.links c.args.link) (sym c.self.view_is) ∙ here) in
-    node_sending_broken _ _ c.self.inside.first _ c.self.inside.closed _ _ _ c.self.view_is c.args.link c.args.now
-    (sending_broken _ c.self.inside.first c.args.link c.self.inside.links.items _ _ _ here numbered c.args.now may _ (c.in-Err.ensures.stops may))
+    node_sending_halted _ _ c.self.inside.first _ c.self.inside.closed _ _ _ c.self.view_is c.args.link c.args.now _
+    (sending_halted _ c.self.inside.first c.args.link c.self.inside.links.items _ _ _ here numbered c.args.now may c.send_all.new.link _ (c.in-Err.ensures.stops may))
 
 pub returns-then-self-clause-run : goal.returns-then-self-clause-run
 returns-then-self-clause-run g c = goes_none _
@@ -161,3 +162,18 @@ returns-in-Err-clause-full g c = λ is.
 
 pub returns-in-Ok-clause-node : goal.returns-in-Ok-clause-node
 returns-in-Ok-clause-node g c = (invariant_of-self g c).1
+
+pub returns-then-self-clause-kept : goal.returns-then-self-clause-kept
+returns-then-self-clause-kept g c = record { same_first = refl; same_sessions = refl }
+
+pub returns-in-Ok-clause-kept : goal.returns-in-Ok-clause-kept
+returns-in-Ok-clause-kept g c =
+    let within : c.args.link < length c.self.inside.links.items = omega (arith, c.requires.attached, ap (λ (n : NodeValue). length n.links) c.self.view_is) in
+    let here = slice_get-get_or c.self.inside.links.items c.args.link c.index_mut.result.now within ∙ ap Some (sym c.index_mut.ensures.value) in
+    record { same_first = ap (λ (n : NodeValue). n.first) c.self.view_is; same_sessions = sessions_set c.args.link c.self.inside.links.items _ c.send_all.new.link here c.send_all.ensures.run.same_session ∙ ap (λ (n : NodeValue). sessions_of n.links) c.self.view_is }
+
+pub returns-in-Err-clause-kept : goal.returns-in-Err-clause-kept
+returns-in-Err-clause-kept g c =
+    let within : c.args.link < length c.self.inside.links.items = omega (arith, c.requires.attached, ap (λ (n : NodeValue). length n.links) c.self.view_is) in
+    let here = slice_get-get_or c.self.inside.links.items c.args.link c.index_mut.result.now within ∙ ap Some (sym c.index_mut.ensures.value) in
+    record { same_first = ap (λ (n : NodeValue). n.first) c.self.view_is; same_sessions = sessions_set c.args.link c.self.inside.links.items _ c.send_all.new.link here c.send_all.ensures.run.same_session ∙ ap (λ (n : NodeValue). sessions_of n.links) c.self.view_is }

@@ -3,9 +3,10 @@ use Rattle.sync_node.specs.declared.link.Link.{Link}
 use Rattle.sync_node.specs.declared.node.Turned.{Turned}
 use Rattle.sync_node.specs.Node.{NodeValue}
 use Rattle.sync_node.proofs.NodeLaws.{true≢false, fault_answers, attached_as, is_closed_node, is_node, kept_long, kept_same, links_as, may_as, node_keeps, node_may, node_safe, node_same, safe_as, some_as, stays_closed, works_safe}
-use Rattle.sync_node.proofs.CourseNode.{node_turn_broken, node_turns}
+use Rattle.sync_node.proofs.CourseNode.{node_turn_halted, node_turns}
 use Rattle.sync_node.proofs.SafeLaws.{goes_none}
-use Rattle.sync_node.proofs.CauseLaws.{links_go_as, node_causes}
+use Rattle.sync_node.specs.Causes.{sessions_of}
+use Rattle.sync_node.proofs.CauseLaws.{links_go_as, node_causes, sessions_as}
 use Rattle.std.proofs.Common.{Err}
 use Rattle.sync_node.proofs.NodeLaws.{was_full}
 use Rattle.sync_node.proofs.CourseNode.{node_turn_full}
@@ -195,7 +196,10 @@ returns-in-Ok-false-clause-course g c = λ opened.
 
 pub returns-in-Err-clause-halts : goal.returns-in-Err-clause-halts
 returns-in-Err-clause-halts g c = λ opened.
-    node_turn_broken _ _ c.self.inside.first _ c.self.inside.closed _ _ _ c.self.view_is _ c.as_mut_slice.ensures.value
+    node_turn_halted _ _ c.self.inside.first _ c.self.inside.closed _ _ _ c.self.view_is _ _ _ c.as_mut_slice.ensures.value
+    (kept_same c.self.inside.links.len c.self.inside.links.items c.turn_all.new.links
+    (omega (arith, c.as_mut_slice.ensures.len, ap (λ (ls : List Link). length ls) c.as_mut_slice.ensures.value))
+    (omega (arith, c.turn_all.auto.links, ap (λ (ls : List Link). length ls) c.as_mut_slice.ensures.value)))
     (c.in-Err.ensures.halts c.self.inside.first (attached_as c.self.inside.first _ _ _ c.as_mut_slice.ensures.value (c.self.invariant.1.attached c.if-self.false))
     (ap (λ (b : List ℕ). length b) c.as_mut_slice-2.ensures.value ∙ c.self.invariant.0))
 
@@ -259,3 +263,45 @@ returns-in-Err-clause-sent g c = λ opened is.
     (sent_as _ c.self.inside.first _ c.self.inside.links.items _ _ _ _ c.as_mut_slice.ensures.value
     (c.in-Err.ensures.sent c.self.inside.first (attached_as c.self.inside.first _ _ _ c.as_mut_slice.ensures.value (c.self.invariant.1.attached c.if-self.false))
     (ap (λ e. Err e) (was_full c.in-Err.fault _ c.close.ensures.fault is))))
+
+pub returns-then-self-clause-kept : goal.returns-then-self-clause-kept
+returns-then-self-clause-kept g c = record { same_first = refl; same_sessions = refl }
+
+pub returns-in-Ok-true-clause-kept : goal.returns-in-Ok-true-clause-kept
+returns-in-Ok-true-clause-kept g c =
+    record {
+      same_first = ap (λ (n : NodeValue). n.first) c.self.view_is;
+      same_sessions =
+      sessions_as c.self.inside.links.items _ c.turn_all.new.links _ c.as_mut_slice.ensures.value
+          (kept_same c.self.inside.links.len c.self.inside.links.items c.turn_all.new.links
+          (omega (arith, c.as_mut_slice.ensures.len, ap (λ (ls : List Link). length ls) c.as_mut_slice.ensures.value))
+          (omega (arith, c.turn_all.auto.links, ap (λ (ls : List Link). length ls) c.as_mut_slice.ensures.value)))
+          c.turn_all.ensures.sessions
+          ∙ ap (λ (n : NodeValue). sessions_of n.links) c.self.view_is;
+    }
+
+pub returns-in-Ok-false-clause-kept : goal.returns-in-Ok-false-clause-kept
+returns-in-Ok-false-clause-kept g c =
+    record {
+      same_first = ap (λ (n : NodeValue). n.first) c.self.view_is;
+      same_sessions =
+      sessions_as c.self.inside.links.items _ c.turn_all.new.links _ c.as_mut_slice.ensures.value
+          (kept_same c.self.inside.links.len c.self.inside.links.items c.turn_all.new.links
+          (omega (arith, c.as_mut_slice.ensures.len, ap (λ (ls : List Link). length ls) c.as_mut_slice.ensures.value))
+          (omega (arith, c.turn_all.auto.links, ap (λ (ls : List Link). length ls) c.as_mut_slice.ensures.value)))
+          c.turn_all.ensures.sessions
+          ∙ ap (λ (n : NodeValue). sessions_of n.links) c.self.view_is;
+    }
+
+pub returns-in-Err-clause-kept : goal.returns-in-Err-clause-kept
+returns-in-Err-clause-kept g c =
+    record {
+      same_first = ap (λ (n : NodeValue). n.first) c.self.view_is;
+      same_sessions =
+      sessions_as c.self.inside.links.items _ c.turn_all.new.links _ c.as_mut_slice.ensures.value
+          (kept_same c.self.inside.links.len c.self.inside.links.items c.turn_all.new.links
+          (omega (arith, c.as_mut_slice.ensures.len, ap (λ (ls : List Link). length ls) c.as_mut_slice.ensures.value))
+          (omega (arith, c.turn_all.auto.links, ap (λ (ls : List Link). length ls) c.as_mut_slice.ensures.value)))
+          c.turn_all.ensures.sessions
+          ∙ ap (λ (n : NodeValue). sessions_of n.links) c.self.view_is;
+    }

@@ -14,28 +14,29 @@ use Rattle.sync_store.specs.Commits.{Gains, MayAdd}
 use Rattle.sync_store.proofs.FitSteps.{adds_err, adds_ok}
 use Rattle.sync_store.proofs.Framing.{framed_long}
 use Rattle.sync_store.proofs.Growth.{grown_store}
+use Rattle.sync_store.proofs.Limits.{few_held, few_sessions}
 use Rattle.sync_store.proofs.SettleSteps.{adds_ready_fits}
 use Rattle.sync_store.proofs.store.Store.add.Goals as goal
 
 -- what the store becomes once the frame is added and the batch taken
 gained : (clients : Meaning) (s : StoreValue) (state : StateValue) (journal : JournalValue) (batch : List Entry) (framed : List ℕ) → MayAdd clients s batch framed → s.closed ≡ false
-    → state.facts ≡ after_all s.state.facts batch → journal.file ≡ s.file → journal.end ≡ s.end + length framed → journal.format ≡ s.format
-    → Gains s (record { state = state; file = journal.file; format = journal.format; end = journal.end; limit = s.limit; closed = s.closed }) batch
-gained clients s state journal batch framed may still facts file end format =
+    → state.facts ≡ after_all s.state.facts batch → journal.file ≡ s.file → journal.end ≡ s.end + length framed → journal.format ≡ s.format → journal.generation ≡ s.generation
+    → Gains s (record { state = state; file = journal.file; format = journal.format; generation = journal.generation; end = journal.end; limit = s.limit; closed = s.closed }) batch
+gained clients s state journal batch framed may still facts file end format generation =
     let long : length framed ≡ 5 + payload_len batch = framed_long framed may.is_framed ∙ ap (λ p. 5 + length p) may.payload_is in
-    record { facts = facts; file = file; format = format; end = omega (arith, end, long); limit = refl; closed = still }
+    record { facts = facts; file = file; format = format; generation = generation; end = omega (arith, end, long); limit = refl; closed = still }
 
-pub take-requires-clause-allowed : goal.take-requires-clause-allowed
-take-requires-clause-allowed g c =
+pub take_known-requires-clause-allowed : goal.take_known-requires-clause-allowed
+take_known-requires-clause-allowed g c =
     let clients = g.C.Clients.meaning c.args.clients.now in
     (clients, subst (λ (v : StoreValue). Allowed clients v.state.facts c.args.batch) (sym c.self.view_is) c.requires.may.allowed)
 
-pub take-requires-clause-numbers : goal.take-requires-clause-numbers
-take-requires-clause-numbers g c =
+pub take_known-requires-clause-numbers : goal.take_known-requires-clause-numbers
+take_known-requires-clause-numbers g c =
     let store = c.self.invariant in
     record {
-      held = omega (arith, store.numbers.few, store.roomy);
-      begun = omega (arith, store.numbers.few, store.roomy);
+      held = few_held (value_of c.self.inside) store;
+      begun = few_sessions (value_of c.self.inside) store;
       records = λ session. omega (arith, store.numbers.records session, store.roomy);
     }
 
@@ -46,7 +47,7 @@ invariant_of-self g c =
     let may = subst (λ (v : StoreValue). MayAdd clients v c.args.batch c.args.framed.now) (sym c.self.view_is) c.requires.may in
     let still : s.closed ≡ false = ap (λ (v : StoreValue). v.closed) c.self.view_is ∙ c.requires.ready.still_open in
     grown_store c.cite_laws.ensures clients s _ c.args.batch c.args.framed.now c.self.invariant may
-    (gained clients s c.take.new.self c.append.new.self c.args.batch c.args.framed.now may still c.take.ensures.facts (ap (λ (j : JournalValue). j.file) c.in-Ok.ensures.ok) (ap (λ (j : JournalValue). j.end) c.in-Ok.ensures.ok) (ap (λ (j : JournalValue). j.format) c.in-Ok.ensures.ok))
+    (gained clients s c.take_known.new.self c.append.new.self c.args.batch c.args.framed.now may still c.take_known.ensures.facts (ap (λ (j : JournalValue). j.file) c.in-Ok.ensures.ok) (ap (λ (j : JournalValue). j.end) c.in-Ok.ensures.ok) (ap (λ (j : JournalValue). j.format) c.in-Ok.ensures.ok) (ap (λ (j : JournalValue). j.generation) c.in-Ok.ensures.ok))
 
 pub returns-in-Ok-clause-extends : goal.returns-in-Ok-clause-extends
 returns-in-Ok-clause-extends g c two told j fits =
@@ -57,7 +58,7 @@ returns-in-Ok-clause-extends g c two told j fits =
     let still : s.closed ≡ false = ap (λ (v : StoreValue). v.closed) c.self.view_is ∙ c.requires.ready.still_open in
     adds_ok c.cite_laws.ensures.stand clients s _ j two c.args.batch c.args.framed.now tt (g.D.Disk.tells c.args.disk.now) (g.D.Disk.tells c.append.new.disk) fits' may told
     (c.in-Ok.ensures.any_moment two told) c.in-Ok.ensures.appended
-    (gained clients s c.take.new.self c.append.new.self c.args.batch c.args.framed.now may still c.take.ensures.facts (ap (λ (j : JournalValue). j.file) c.in-Ok.ensures.ok) (ap (λ (j : JournalValue). j.end) c.in-Ok.ensures.ok) (ap (λ (j : JournalValue). j.format) c.in-Ok.ensures.ok))
+    (gained clients s c.take_known.new.self c.append.new.self c.args.batch c.args.framed.now may still c.take_known.ensures.facts (ap (λ (j : JournalValue). j.file) c.in-Ok.ensures.ok) (ap (λ (j : JournalValue). j.end) c.in-Ok.ensures.ok) (ap (λ (j : JournalValue). j.format) c.in-Ok.ensures.ok) (ap (λ (j : JournalValue). j.generation) c.in-Ok.ensures.ok))
 
 pub returns-in-Ok-clause-ready : goal.returns-in-Ok-clause-ready
 returns-in-Ok-clause-ready g c still =
@@ -67,11 +68,11 @@ returns-in-Ok-clause-ready g c still =
     let o' = g.D.Disk.tells c.append.new.disk in
     let may = subst (λ (v : StoreValue). MayAdd clients v c.args.batch c.args.framed.now) (sym c.self.view_is) c.requires.may in
     let gains =
-    gained clients s c.take.new.self c.append.new.self c.args.batch c.args.framed.now may still c.take.ensures.facts (ap (λ (j : JournalValue). j.file) c.in-Ok.ensures.ok)
-    (ap (λ (j : JournalValue). j.end) c.in-Ok.ensures.ok) (ap (λ (j : JournalValue). j.format) c.in-Ok.ensures.ok) in
+    gained clients s c.take_known.new.self c.append.new.self c.args.batch c.args.framed.now may still c.take_known.ensures.facts (ap (λ (j : JournalValue). j.file) c.in-Ok.ensures.ok)
+    (ap (λ (j : JournalValue). j.end) c.in-Ok.ensures.ok) (ap (λ (j : JournalValue). j.format) c.in-Ok.ensures.ok) (ap (λ (j : JournalValue). j.generation) c.in-Ok.ensures.ok) in
     record {
       still_open = still;
-      knows = c.take.ensures.knows clients (subst (λ (v : StoreValue). Knows clients v.state) (sym c.self.view_is) c.requires.ready.knows);
+      knows = c.take_known.ensures.knows clients (subst (λ (v : StoreValue). Knows clients v.state) (sym c.self.view_is) c.requires.ready.knows);
       fits =
           adds_ready_fits clients s _ c.args.batch (Ok tt) o o' c.in-Ok.ensures.run
           (λ two told j fits. adds_ok c.cite_laws.ensures.stand clients s _ j two c.args.batch c.args.framed.now tt o o' fits may told (c.in-Ok.ensures.any_moment two told) c.in-Ok.ensures.appended gains)

@@ -28,7 +28,7 @@ returns-in_err-filled-clause-made g c =
     subst (λ (r : Result (Unit {0}) StoreFault). MakesBatch clients c.args.self.now new r o o) (sym (err_is c.from_residual.result fault.Memory c.from_residual.ensures.1))
     (subst (λ (v : StoreValue). MakesBatch clients v new (Err fault.Memory) o o) c.self.view_is
     (made_none clients s new fault.Memory o o
-    (comes_none c.cite_laws.ensures.stand clients s new o c.self.invariant (record { facts = facts; file = refl; format = refl; end = refl }) refl) refl still))
+    (comes_none c.cite_laws.ensures.stand clients s new o c.self.invariant (record { facts = facts; file = refl; format = refl; generation = refl; end = refl }) refl) refl still))
 
 pub frame_steps-requires-clause-steps : goal.frame_steps-requires-clause-steps
 frame_steps-requires-clause-steps g c =
@@ -92,13 +92,14 @@ returns-in_err-write-clause-made g c =
       facts_are = ap (λ (v : StoreValue). v.state.facts) failed.1;
       file = ap (λ (v : StoreValue). v.file) failed.1;
       format = ap (λ (v : StoreValue). v.format) failed.1;
+      generation = ap (λ (v : StoreValue). v.generation) failed.1;
       limit = ap (λ (v : StoreValue). v.limit) failed.1;
     } in
     let o = g.D.Disk.tells c.args.disk.now in
     let o' = g.D.Disk.tells c.write.new.disk in
     subst (λ (r : Result (Unit {0}) StoreFault). MakesBatch clients c.args.self.now c.write.new.self r o o') (sym (err_is c.from_residual-in_err-write.result e c.from_residual-in_err-write.ensures.1))
     (subst (λ (v : StoreValue). MakesBatch clients v c.write.new.self (Err e) o o') c.self.view_is
-    (filled_err c.cite_laws.ensures.stand clients s c.write.new.self c.fill-filled.new.state.facts es framed e o o' filled came failed.0 (ap (λ (v : StoreValue). v.closed) failed.1) c.in_err-write.ensures.any_moment))
+    (filled_err c.cite_laws.ensures.stand clients s c.write.new.self c.fill-filled.new.state.facts es framed e o o' filled came failed.0 (ap (λ (v : StoreValue). v.closed) failed.1) c.in_err-write.ensures.any_moment c.in_err-write.ensures.calls.most))
 
 pub returns-in_err-filled-2-clause-made : goal.returns-in_err-filled-2-clause-made
 returns-in_err-filled-2-clause-made g c =
@@ -115,6 +116,7 @@ returns-in_err-filled-2-clause-made g c =
       facts_are = ap (λ (v : StoreValue). v.state.facts) c.in_ok-write.ensures.ok;
       file = ap (λ (v : StoreValue). v.file) c.in_ok-write.ensures.ok;
       format = ap (λ (v : StoreValue). v.format) c.in_ok-write.ensures.ok;
+      generation = ap (λ (v : StoreValue). v.generation) c.in_ok-write.ensures.ok;
       limit = ap (λ (v : StoreValue). v.limit) c.in_ok-write.ensures.ok;
     } in
     let end = ap (λ (v : StoreValue). v.end) c.in_ok-write.ensures.ok in
@@ -124,7 +126,7 @@ returns-in_err-filled-2-clause-made g c =
     subst (λ (r : Result (Unit {0}) StoreFault). MakesBatch clients c.args.self.now c.write.new.self r o o') (sym (err_is c.from_residual-in_err-filled-2.result fault.Memory c.from_residual-in_err-filled-2.ensures.1))
     (subst (λ (v : StoreValue). MakesBatch clients v c.write.new.self (Err fault.Memory) o o') c.self.view_is
     (filled_memory c.cite_laws.ensures.stand clients s c.write.new.self c.fill-filled.new.state.facts es framed fault.Memory o o' filled came end closed refl c.in_ok-write.ensures.any_moment
-    c.in_ok-write.ensures.appended))
+    c.in_ok-write.ensures.appended c.in_ok-write.ensures.calls.just))
 
 pub returns-clause-made : goal.returns-clause-made
 returns-clause-made g c =
@@ -141,6 +143,7 @@ returns-clause-made g c =
       facts_are = ap (λ (v : StoreValue). v.state.facts) c.in_ok-write.ensures.ok;
       file = ap (λ (v : StoreValue). v.file) c.in_ok-write.ensures.ok;
       format = ap (λ (v : StoreValue). v.format) c.in_ok-write.ensures.ok;
+      generation = ap (λ (v : StoreValue). v.generation) c.in_ok-write.ensures.ok;
       limit = ap (λ (v : StoreValue). v.limit) c.in_ok-write.ensures.ok;
     } in
     let end = ap (λ (v : StoreValue). v.end) c.in_ok-write.ensures.ok in
@@ -148,5 +151,5 @@ returns-clause-made g c =
     let o = g.D.Disk.tells c.args.disk.now in
     let o' = g.D.Disk.tells c.write.new.disk in
     subst (λ (v : StoreValue). MakesBatch clients v c.write.new.self (Ok tt) o o') c.self.view_is
-    (filled_whole c.cite_laws.ensures.stand clients s c.write.new.self c.fill-filled.new.state.facts es framed _ tt o o' filled came end closed c.in_ok-write.ensures.any_moment c.in_ok-write.ensures.appended
+    (filled_whole c.cite_laws.ensures.stand clients s c.write.new.self c.fill-filled.new.state.facts es framed _ tt o o' filled came end closed c.in_ok-write.ensures.any_moment c.in_ok-write.ensures.appended c.in_ok-write.ensures.calls.just
     c.as_slice.ensures.len c.in_ok-filled-2.ensures.full)

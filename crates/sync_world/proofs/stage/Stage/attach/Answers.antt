@@ -92,6 +92,6 @@ pub returns-clause-attaches : goal.returns-clause-attaches
 returns-clause-attaches c =
     let within : c.args.d < length c.args.self.now.devices.items = omega arith in
     attach_done c.args.d c.args.link c.args.plan.now c.args.nonce c.args.self.now.devices.items c.args.self.now.links.items c.index_mut-device.result.now c.attach.new.self within
-    c.index_mut-device.ensures.value c.in_ok-session.field-0 c.in-Some.session c.links-at.result _ c.in-Some.is c.in_ok-session.ensures.attaches c.links-at.ensures
+    c.index_mut-device.ensures.value c.in_ok-session.field-0 c.in-Some.session c.links-at.result _ c.in-Some.is c.in_ok-session.ensures.attaches c.links_stand.ensures c.links-at.ensures
     (begun_written c.args.self.now.links.len c.args.d c.links-at.result c.in-Some.session c.args.link c.attach.new.self c.args.self.now.links.items c.as_mut_slice.result.now c.begin_at.new.links c.as_mut_slice-2.result.now c.look_all.new.links
     c.as_mut_slice.ensures.value (omega arith) c.begin_at.ensures c.as_mut_slice-2.ensures.value c.in_ok-look_all.ensures)

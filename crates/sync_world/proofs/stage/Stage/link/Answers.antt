@@ -101,7 +101,7 @@ returns-in_err-attach-2-clause-same c = λ known is.
 pub returns-in_err-link-clause-does : goal.returns-in_err-link-clause-does
 returns-in_err-link-clause-does c =
     let made = step.Link c.args.d c.args.e c.args.mode c.args.latency in
-    does_handed made c.from_residual.result c.in_err-link.field-0.0 c.args.self.now _ c.from_residual.ensures.1 (memory_only (Fills made c.args.self.now) c.in_err-link.field-0.0 c.in_err-link.ensures.dials)
+    does_handed made c.from_residual.result c.in_err-link.field-0.0 c.args.self.now _ c.from_residual.ensures.1 (memory_only (Fills made c.args.self.now) c.in_err-link.field-0.0 c.in_err-link.ensures.dials) tt
 
 pub returns-in_err-attach-clause-does : goal.returns-in_err-attach-clause-does
 returns-in_err-attach-clause-does c =
@@ -109,7 +109,7 @@ returns-in_err-attach-clause-does c =
     does_handed made c.from_residual-in_err-attach.result c.in_err-attach.field-0.0 c.args.self.now _ c.from_residual-in_err-attach.ensures.1
     (near_full c.args.d c.args.e c.args.mode c.args.latency (ground_of c.args.self.now) (ground_of c.dial.new.self) c.in_ok-link.link c.plan_for-near.result c.nonce_for.result c.in_ok-link.ensures.dials
     (plan_is c.plan_for-near.result c.args.d c.args.e c.args.mode c.args.latency c.plan_for-near.ensures.contact c.plan_for-near.ensures.mode c.plan_for-near.ensures.latency) c.nonce_for.ensures.value
-    c.in_err-attach.field-0.0 c.in_err-attach.ensures.attaches)
+    c.in_err-attach.field-0.0 c.in_err-attach.ensures.attaches) tt
 
 pub returns-in-Crashed-clause-does : goal.returns-in-Crashed-clause-does
 returns-in-Crashed-clause-does c = record {
@@ -128,7 +128,7 @@ returns-in_err-attach-2-clause-does c =
     (plan_is c.plan_for-near.result c.args.d c.args.e c.args.mode c.args.latency c.plan_for-near.ensures.contact c.plan_for-near.ensures.mode c.plan_for-near.ensures.latency) c.nonce_for.ensures.value
     c.in_ok-attach.field-0 (ground_of c.attach.new.self) c.plan_for-far.result c.in-Done.is c.in_ok-attach.ensures.attaches
     (plan_is c.plan_for-far.result c.args.e c.args.d c.args.mode c.args.latency c.plan_for-far.ensures.contact c.plan_for-far.ensures.mode c.plan_for-far.ensures.latency)
-    c.in_err-attach-2.field-0.0 c.in_err-attach-2.ensures.attaches)
+    c.in_err-attach-2.field-0.0 c.in_err-attach-2.ensures.attaches) tt
 
 pub returns-clause-does : goal.returns-clause-does
 returns-clause-does c = record {

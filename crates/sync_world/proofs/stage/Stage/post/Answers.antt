@@ -1,4 +1,5 @@
-use Rattle.std.proofs.Common.{◌<◌, ◌∙◌, ◌++◌, ◌∷◌, [], ℕ, List, length, arith, ap, Err, rules, true, slice_get}
+use Rattle.std.proofs.Common.{◌<◌, ◌∙◌, ◌++◌, ◌∷◌, [], ℕ, List, length, arith, ap, Err, rules, true, slice_get, refl, Ok, inl}
+use Rattle.world_devices.specs.declared.stop.StepFault.TheVariants as fault
 use Rattle.sync_world.proofs.GoLaws.{same_leads}
 use Rattle.sync_world.proofs.StepLaws.{leads_err, came_goes, fails_leads}
 use Rattle.world_devices.specs.Devices.{DeviceValue}
@@ -9,7 +10,7 @@ use Rattle.sync_world.proofs.RefusingLaws.{by_same, done_same, get_at, get_past,
 use Rattle.sync_rules.specs.declared.entries.Entry.TheVariants as entry
 use Rattle.world_scripts.specs.declared.step.WorldStep.TheVariants as step
 use Rattle.sync_world.specs.Doing.{entry_of}
-use Rattle.sync_world.proofs.DoingLaws.{adds_entry, fills_with, made_as, made_post, passes_does}
+use Rattle.sync_world.proofs.DoingLaws.{adds_entry, fills_with, made_as, made_post, passes_does, tries_entry, made_unfilled, memory_unfilled, unfilled_does}
 use Rattle.sync_world.proofs.stage.Stage.post.Goals as goal
 
 pub returns-in_err-ran-clause-goes : goal.returns-in_err-ran-clause-goes
@@ -61,6 +62,9 @@ returns-in_err-ran-clause-does c =
     (fills_with (entry_of made c.args.self.now) (entry.Author c.in_ok-message.message) c.args.d c.args.self.now.devices.items c.in_err-ran.field-0.0 c.index_mut-device.result.now c.author.new.self
     (made_as (λ (m : MessageValue). entry.Author m) (message_of c.args.self.now.groups c.args.self.now.posts.items c.args.group c.args.time c.args.parents.now c.args.text.now) c.in_ok-message.message c.in_ok-message.ensures)
     within c.index_mut-device.ensures.value c.in_err-ran.ensures.adds)
+    (tries_entry (entry_of made c.args.self.now) (entry.Author c.in_ok-message.message) c.args.d c.args.self.now.devices.items _ (Err c.in_err-ran.field-0.0) c.index_mut-device.result.now c.author.new.self
+    (made_as (λ (m : MessageValue). entry.Author m) (message_of c.args.self.now.groups c.args.self.now.posts.items c.args.group c.args.time c.args.parents.now c.args.text.now) c.in_ok-message.message c.in_ok-message.ensures)
+    within c.index_mut-device.ensures.value c.in_err-ran.ensures.adds refl)
 
 pub returns-clause-does : goal.returns-clause-does
 returns-clause-does c =
@@ -74,3 +78,12 @@ returns-clause-does c =
       posts = made_post (message_of c.args.self.now.groups c.args.self.now.posts.items c.args.group c.args.time c.args.parents.now c.args.text.now) c.in_ok-message.message c.args.self.now.posts.items _ c.id_of-id.result c.in_ok-message.ensures c.id_of-id.ensures
           (c.came.ensures.posts ∙ (c.in_ok-push.ensures.items ∙ ap (λ (ids : List (List ℕ)). ids ++ c.id_of-id.result ∷ []) c.in_ok-reserve.ensures.items));
     }
+
+pub returns-in_err-message-clause-does : goal.returns-in_err-message-clause-does
+returns-in_err-message-clause-does c =
+    unfilled_does (step.Post c.args.d c.args.group c.args.time c.args.parents.now c.args.text.now) c.args.self.now c.args.self.now c.from_residual.result c.in_err-message.field-0.0 c.from_residual.ensures.1
+    (made_unfilled (message_of c.args.self.now.groups c.args.self.now.posts.items c.args.group c.args.time c.args.parents.now c.args.text.now) c.in_err-message.field-0.0 c.in_err-message.ensures) (inl refl)
+
+pub returns-in_err-reserve-clause-does : goal.returns-in_err-reserve-clause-does
+returns-in_err-reserve-clause-does c =
+    unfilled_does (step.Post c.args.d c.args.group c.args.time c.args.parents.now c.args.text.now) c.args.self.now _ c.from_residual-in_err-reserve.result fault.Memory c.from_residual-in_err-reserve.ensures.1 (memory_unfilled fault.Memory refl) (inl refl)

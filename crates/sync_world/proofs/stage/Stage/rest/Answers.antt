@@ -40,7 +40,7 @@ returns-in_err-round-clause-does c =
     let below : c.rounds._round < c.args.rounds = omega arith in
     does_handed (step.Rest c.args.rounds) c.from_residual.result c.in_err-round.field-0.0 c.args.self.now _ c.from_residual.ensures.1
     (when_full (FillsFrom MAX_DEVICES 0 (ground_of c.rounds.self)) (FillsResting c.args.rounds (ground_of c.args.self.now)) c.in_err-round.field-0.0
-    (rests_full c.rounds._round c.args.rounds (ground_of c.args.self.now) (ground_of c.rounds.self) below c.rounds.invariant.rests) c.in_err-round.ensures.made)
+    (rests_full c.rounds._round c.args.rounds (ground_of c.args.self.now) (ground_of c.rounds.self) below c.rounds.invariant.rests) c.in_err-round.ensures.made) tt
 
 pub returns-in-Still-clause-does : goal.returns-in-Still-clause-does
 returns-in-Still-clause-does c =

@@ -1,4 +1,5 @@
-use Rattle.std.proofs.Common.{◌<◌, length, arith, ap, Err, rules, true, slice_get}
+use Rattle.std.proofs.Common.{◌<◌, length, arith, ap, Err, rules, true, slice_get, refl, Ok, inl}
+use Rattle.world_devices.specs.declared.stop.StepFault.TheVariants as fault
 use Rattle.sync_world.proofs.GoLaws.{same_leads}
 use Rattle.sync_world.proofs.StepLaws.{leads_err, came_goes, fails_leads}
 use Rattle.world_devices.specs.Refusals.{RefusedBy, refuses_level}
@@ -8,7 +9,8 @@ use Rattle.sync_rules.specs.declared.entries.Entry.TheVariants as entry
 use Rattle.world_laws.specs.Worlds.{contact_for}
 use Rattle.world_scripts.specs.declared.step.WorldStep.TheVariants as step
 use Rattle.sync_world.specs.Doing.{entry_of}
-use Rattle.sync_world.proofs.DoingLaws.{adds_entry, fills_with, made_level, passes_does}
+use Rattle.sync_world.specs.Naming.{group_of}
+use Rattle.sync_world.proofs.DoingLaws.{adds_entry, fills_with, made_level, passes_does, tries_entry, made_unfilled, unfilled_does}
 use Rattle.sync_world.proofs.stage.Stage.share.Goals as goal
 
 pub returns-in_err-ran-clause-goes : goal.returns-in_err-ran-clause-goes
@@ -68,6 +70,11 @@ returns-in_err-ran-clause-does c =
     (labelled_made (slice_get c.args.self.now.groups c.args.group) c.in-Some.kind c.in-Some.descriptor.now c.in_ok-group_def.field-0 c.in-Some.ensures c.in_ok-group_def.ensures)
     c.contact_for.ensures c.group_id-id.ensures)
     within c.index_mut-device.ensures.value c.in_err-ran.ensures.adds)
+    (tries_entry (entry_of made c.args.self.now) (entry.Level c.contact_for.result c.group_id-id.result c.args.level) c.args.d c.args.self.now.devices.items _ (Err c.in_err-ran.field-0.0) c.index_mut-device.result.now c.set_level.new.self
+    (made_level (group_labelled (slice_get c.args.self.now.groups c.args.group)) c.in_ok-group_def.field-0 c.contact_for.result (contact_for c.args.d c.args.e) c.group_id-id.result c.args.level
+    (labelled_made (slice_get c.args.self.now.groups c.args.group) c.in-Some.kind c.in-Some.descriptor.now c.in_ok-group_def.field-0 c.in-Some.ensures c.in_ok-group_def.ensures)
+    c.contact_for.ensures c.group_id-id.ensures)
+    within c.index_mut-device.ensures.value c.in_err-ran.ensures.adds refl)
 
 pub returns-clause-does : goal.returns-clause-does
 returns-clause-does c =
@@ -82,3 +89,8 @@ returns-clause-does c =
       groups = c.came.ensures.groups;
       posts = c.came.ensures.posts;
     }
+
+pub returns-in_err-group_def-clause-does : goal.returns-in_err-group_def-clause-does
+returns-in_err-group_def-clause-does c =
+    unfilled_does (step.Share c.args.d c.args.e c.args.group c.args.level) c.args.self.now c.args.self.now c.from_residual.result c.in_err-group_def.field-0.0 c.from_residual.ensures.1
+    (made_unfilled (group_of c.in-Some.kind c.in-Some.descriptor.now) c.in_err-group_def.field-0.0 c.in_err-group_def.ensures) (inl refl)

@@ -7,7 +7,7 @@ use Rattle.sync_world.proofs.GoLaws.{same_leads}
 use Rattle.sync_world.proofs.StepLaws.{leads_both, none_of, turn_gone, turn_kept, leads_err, leads_links, plan_fails, plans_from, turn_crashes, turn_ends, turn_fails, turn_leads, written, written_twice}
 use Rattle.world_devices.specs.Refusals.{RefusedBy}
 use Rattle.sync_world.proofs.RefusingLaws.{by_same, found}
-use Rattle.sync_world.proofs.TurningLaws.{turn_fault, turn_made, turns_handed}
+use Rattle.sync_world.proofs.TurningLaws.{crashed_sent, turn_fault, turn_made, turns_handed}
 use Rattle.sync_world.proofs.stage.Stage.turn.Goals as goal
 
 pub returns-then-d-len-clause-goes : goal.returns-then-d-len-clause-goes
@@ -78,7 +78,7 @@ pub returns-in_default-clause-turns : goal.returns-in_default-clause-turns
 returns-in_default-clause-turns c =
     let within : c.args.d < length c.args.self.now.devices.items = omega arith in
     turn_made c.args.d c.args.self.now.devices.items c.args.self.now.links.items c.as_mut_slice.result.now c.plan_all.new.links c.index_mut-device.result.now c.plan_all.new.device c.turn.new.self within
-    c.index_mut-device.ensures.value c.as_mut_slice.ensures.value c.in_ok-plan_all.ensures.exact c.in_ok-still.field-0 None _ _ (none_of c.in_ok-still.field-0 (λ x e. c.in_default.not-Some x e)) c.in_ok-still.ensures.turns
+    c.index_mut-device.ensures.value c.as_mut_slice.ensures.value c.in_ok-plan_all.ensures.exact c.in_ok-still.field-0 None _ _ (none_of c.in_ok-still.field-0 (λ x e. c.in_default.not-Some x e)) c.in_ok-still.ensures.turns (crashed_sent c.turn.new.self)
     c.came.ensures.devices (c.came.ensures.links ∙ ap (λ ls. map (left_by c.args.d) ls)
     (written c.args.self.now.links.len c.plan_all.new.links c.args.self.now.links.items (c.plan_all.ensures.number ∙ ap length c.as_mut_slice.ensures.value) (omega arith)))
 
@@ -89,6 +89,6 @@ pub returns-clause-turns : goal.returns-clause-turns
 returns-clause-turns c =
     let within : c.args.d < length c.args.self.now.devices.items = omega arith in
     turn_made c.args.d c.args.self.now.devices.items c.args.self.now.links.items c.as_mut_slice.result.now c.plan_all.new.links c.index_mut-device.result.now c.plan_all.new.device c.turn.new.self within
-    c.index_mut-device.ensures.value c.as_mut_slice.ensures.value c.in_ok-plan_all.ensures.exact c.in_ok-still.field-0 (Some c.in-Some.still) _ _ c.in-Some.is c.in_ok-still.ensures.turns refl
+    c.index_mut-device.ensures.value c.as_mut_slice.ensures.value c.in_ok-plan_all.ensures.exact c.in_ok-still.field-0 (Some c.in-Some.still) _ _ c.in-Some.is c.in_ok-still.ensures.turns (λ _. c.links_stand.ensures) refl
     (written_twice c.args.self.now.links.len c.args.d c.turn.new.self c.args.self.now.links.items c.plan_all.new.links c.look_all.new.links c.as_mut_slice-2.result.now (c.plan_all.ensures.number ∙ ap length c.as_mut_slice.ensures.value) (omega arith)
     c.as_mut_slice-2.ensures.value c.in_ok-look_all.ensures)

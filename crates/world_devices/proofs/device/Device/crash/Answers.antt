@@ -2,6 +2,7 @@ use Rattle.std.proofs.Common.{[], ap}
 use Rattle.outside.specs.HostTold.{host_told}
 use Rattle.world_devices.specs.Devices.{DeviceValue}
 use Rattle.world_devices.proofs.CallLaws.{crash_leaves, leaves_seen}
+use Rattle.world_devices.proofs.GivingUpLaws.{comes_crash, comes_crashed, comes_seen}
 use Rattle.world_devices.proofs.HostLaws.{silent_fresh}
 use Rattle.world_devices.proofs.RunningLaws.{crash_keeps, keeps_seen}
 use Rattle.world_devices.proofs.StartLaws.{crashes_to}
@@ -36,4 +37,13 @@ returns-in-Err-clause-leaves c = leaves_seen c.self.inside.host c.args.self.now.
 
 pub returns-in-Ok-clause-to : goal.returns-in-Ok-clause-to
 returns-in-Ok-clause-to c =
-    crashes_to c.args.pick c.self.inside.host c.args.self.now.host c.crash.new.self c.start.new.self (ap (λ (d : DeviceValue). d.host) c.self.view_is) c.in_ok-crash.ensures.ok c.in-Ok.ensures.loads c.in-Ok.ensures.anew c.start.ensures.stop
+    crashes_to c.args.pick c.self.inside.host c.args.self.now.host c.crash.new.self c.start.new.self (ap (λ (d : DeviceValue). d.host) c.self.view_is) c.in_ok-crash.ensures.ok c.in-Ok.ensures.loads c.in-Ok.ensures.anew c.in-Ok.ensures.links c.start.ensures.stop c.start.ensures.calls
+
+pub returns-in_err-crash-clause-left : goal.returns-in_err-crash-clause-left
+returns-in_err-crash-clause-left c = comes_seen c.self.inside.host c.args.self.now.host c.crash.new.self (ap (λ (d : DeviceValue). d.host) c.self.view_is) (comes_crash c.args.pick c.self.inside.host c.crash.new.self c.crash.result c.crash.ensures.ok c.crash.ensures.err)
+
+pub returns-in-Ok-clause-left : goal.returns-in-Ok-clause-left
+returns-in-Ok-clause-left c = comes_seen c.self.inside.host c.args.self.now.host c.start.new.self.host (ap (λ (d : DeviceValue). d.host) c.self.view_is) (comes_crashed c.args.pick c.self.inside.host c.crash.new.self c.start.new.self.host c.in_ok-crash.ensures.ok c.start.ensures.settling)
+
+pub returns-in-Err-clause-left : goal.returns-in-Err-clause-left
+returns-in-Err-clause-left c = comes_seen c.self.inside.host c.args.self.now.host c.start.new.self.host (ap (λ (d : DeviceValue). d.host) c.self.view_is) (comes_crashed c.args.pick c.self.inside.host c.crash.new.self c.start.new.self.host c.in_ok-crash.ensures.ok c.start.ensures.settling)

@@ -1,6 +1,7 @@
 use Rattle.std.proofs.Common.{◌≡◌, ℕ, [], false, sym, subst, ◌∙◌}
 use Rattle.std.specs.Result.{is_err}
-use Rattle.world_devices.specs.Doing.{IsAnew, KeepsOwn, KeepsRest}
+use Rattle.world_devices.specs.Devices.{IsAnew}
+use Rattle.world_devices.specs.Doing.{KeepsOwn, KeepsRest}
 use Rattle.world_devices.proofs.AddLaws.{anew_kept}
 use Rattle.world_devices.proofs.NewLaws.{begun_journal, unlinked_kept, when_begun, when_done}
 use Rattle.world_devices.proofs.device.Device.new.Goals as goal

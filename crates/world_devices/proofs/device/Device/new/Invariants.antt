@@ -1,5 +1,5 @@
 use Rattle.std.proofs.Common.{◌≡◌, None}
-use Rattle.world_devices.specs.Doing.{IsAnew}
+use Rattle.world_devices.specs.Devices.{IsAnew}
 use Rattle.world_devices.specs.Linking.{IsBareIn, IsUnlinked, new_journal}
 use Rattle.world_devices.specs.Running.{Holds}
 use Rattle.world_devices.proofs.device.Device.new.Given as goal

@@ -1,6 +1,5 @@
 use Rattle.std.proofs.Common.{refl, sym, ap, ◌∙◌, subst}
-use Rattle.world_devices.specs.Devices.{DeviceValue}
-use Rattle.world_devices.specs.Doing.{IsAnew}
+use Rattle.world_devices.specs.Devices.{DeviceValue, IsAnew}
 use Rattle.world_devices.specs.Linking.{IsBareIn, IsNewDevice, IsUnlinked, new_journal}
 use Rattle.world_devices.specs.Running.{Holds}
 use Rattle.world_devices.proofs.NewLaws.{new_device}

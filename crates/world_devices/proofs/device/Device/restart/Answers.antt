@@ -1,12 +1,17 @@
-use Rattle.std.proofs.Common.{[], ap, inl}
+use Rattle.std.proofs.Common.{[], Err, ap, subst}
 use Rattle.outside.specs.HostTold.{host_told}
 use Rattle.world_devices.specs.Devices.{DeviceValue}
 use Rattle.world_devices.proofs.CallLaws.{anew_leaves, runs_by}
-use Rattle.world_devices.proofs.HostLaws.{files_anew, silent_fresh}
+use Rattle.outside.specs.MemDisk.{calls_of}
+use Rattle.outside.specs.Steps.{go_on_none}
+use Rattle.world_devices.specs.Doing.{Restarts}
+use Rattle.world_devices.specs.declared.stop.StepFault.TheVariants as fault
+use Rattle.world_devices.proofs.GivingUpLaws.{comes_anew, comes_same, restart_ended, restart_failed}
+use Rattle.world_devices.proofs.HostLaws.{calls_anew, calls_then, files_anew, silent_fresh}
 use Rattle.world_devices.proofs.LeaveLaws.{leave_held}
 use Rattle.world_devices.proofs.RunningLaws.{anew_keeps, keeps_seen}
 use Rattle.world_devices.proofs.NewLaws.{holds_on}
-use Rattle.world_devices.proofs.StartLaws.{restart_broken, starts_again}
+use Rattle.world_devices.proofs.StartLaws.{holds_settling, restart_broken}
 use Rattle.world_devices.proofs.device.Device.restart.Goals as goal
 
 pub invariant_of-self : goal.invariant_of-self
@@ -46,12 +51,31 @@ pub returns-in-Err-DiskFault-clause-runs : goal.returns-in-Err-DiskFault-clause-
 returns-in-Err-DiskFault-clause-runs c =
     runs_by c.cite_laws.ensures _ c.args.self.now _ c.self.view_is (λ j holds. c.break_off.ensures.leaves _ j (c.start.ensures.leaves _ j (anew_leaves c.self.inside.host c.restart.new.self c.restart.result c.restart.ensures.ok c.restart.ensures.err _ j (leave_held _ j c.self.inside.host holds)))) c.break_off.ensures.still
 
+pub returns-in_err-restart-clause-restarts : goal.returns-in_err-restart-clause-restarts
+returns-in_err-restart-clause-restarts c =
+    restart_failed c.from_residual.result _ c.args.self.now _ c.self.inside.host c.self.view_is c.from_residual.ensures.1 (λ j holds. holds_settling j c.self.inside.host holds)
+    (comes_anew c.self.inside.host c.restart.new.self c.restart.result c.restart.ensures.ok c.restart.ensures.err)
+    (go_on_none (calls_of c.self.inside.host.disk))
+
 pub returns-in-Ok-clause-restarts : goal.returns-in-Ok-clause-restarts
 returns-in-Ok-clause-restarts c =
-    inl (starts_again _ c.args.self.now c.start.new.self c.restart.new.self c.self.view_is (files_anew c.self.inside.host c.restart.new.self c.in_ok-restart.ensures.ok) c.in-Ok.ensures.loads c.in-Ok.ensures.anew c.start.ensures.clock c.start.ensures.stop)
+    restart_ended c.test_done.result _ c.args.self.now c.start.new.self c.restart.new.self c.self.view_is (files_anew c.self.inside.host c.restart.new.self c.in_ok-restart.ensures.ok) c.in-Ok.ensures.loads
+    (λ j holds. c.start.ensures.settling j (holds_on j c.self.inside.host c.restart.new.self (files_anew c.self.inside.host c.restart.new.self c.in_ok-restart.ensures.ok) holds))
+    c.in-Ok.ensures.anew c.in-Ok.ensures.links c.start.ensures.clock c.start.ensures.stop
+    (calls_then c.self.inside.host c.restart.new.self c.start.new.self.host (calls_anew c.self.inside.host c.restart.new.self c.restart.result c.restart.ensures.ok c.restart.ensures.err) c.start.ensures.calls) c.test_done.ensures.ahead c.test_done.ensures.unrefused c.test_done.ensures.unfilled
+
+pub returns-in-Err-Memory-clause-restarts : goal.returns-in-Err-Memory-clause-restarts
+returns-in-Err-Memory-clause-restarts c =
+    subst (λ (x : DeviceValue). Restarts (Err fault.Memory) x c.start.new.self) c.self.view_is (record {
+      at = c.start.new.self.host;
+      since = (calls_then c.self.inside.host c.restart.new.self c.start.new.self.host (calls_anew c.self.inside.host c.restart.new.self c.restart.result c.restart.ensures.ok c.restart.ensures.err) c.start.ensures.calls);
+      broken = λ j holds. c.start.ensures.settling j (holds_on j c.self.inside.host c.restart.new.self (files_anew c.self.inside.host c.restart.new.self c.in_ok-restart.ensures.ok) holds);
+      left = comes_same c.start.new.self.host;
+    })
 
 pub returns-in-Err-DiskFault-clause-restarts : goal.returns-in-Err-DiskFault-clause-restarts
 returns-in-Err-DiskFault-clause-restarts c =
     restart_broken c.break_off.result _ c.args.self.now c.start.new.self c.break_off.new.self c.self.view_is
+    (calls_then c.self.inside.host c.restart.new.self c.start.new.self.host (calls_anew c.self.inside.host c.restart.new.self c.restart.result c.restart.ensures.ok c.restart.ensures.err) c.start.ensures.calls)
     (λ j holds. c.start.ensures.settling j (holds_on j c.self.inside.host c.restart.new.self (files_anew c.self.inside.host c.restart.new.self c.in_ok-restart.ensures.ok) holds))
-    c.start.ensures.stop c.start.ensures.clock c.break_off.ensures.clock c.break_off.ensures.to c.break_off.ensures.unrefused c.break_off.ensures.unfilled
+    c.start.ensures.stop c.start.ensures.clock c.break_off.ensures.clock c.break_off.ensures.to c.break_off.ensures.left c.break_off.ensures.unrefused c.break_off.ensures.unfilled

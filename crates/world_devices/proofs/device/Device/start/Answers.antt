@@ -5,7 +5,7 @@ use Rattle.outside.specs.Links.{Links}
 use Rattle.outside.specs.declared.limits.TheConstants.{LINKS}
 use Rattle.world_devices.specs.Devices.{links_made}
 use Rattle.world_devices.proofs.CallLaws.{leaves_seen, ready_still, silent_seen, silent_started, start_leaves}
-use Rattle.world_devices.proofs.HostLaws.{clock_same, quiet_same, scripts_clocked}
+use Rattle.world_devices.proofs.HostLaws.{calls_clocked, calls_seen, calls_then, clock_same, quiet_same, scripts_clocked}
 use Rattle.world_devices.proofs.RunningLaws.{begins_running, keeps_seen, quiet_told, start_keeps}
 use Rattle.outside.specs.MemHost.{MemHostValue}
 use Rattle.sync_node.specs.Node.{NodeValue}
@@ -96,3 +96,30 @@ returns-clause-anew c =
     (scripts_clocked c.dial_all.new.host c.set_clock.new.self _ c.set_clock.result c.set_clock.ensures.ok c.set_clock.ensures.err)
     (clock_same c.dial_all.new.host c.set_clock.new.self _ c.set_clock.result c.set_clock.ensures.ok c.set_clock.ensures.err)
     c.load.ensures.links (silent_seen c.self.inside.host c.args.self.now.host (ap (λ (d : DeviceValue). d.host) c.self.view_is) c.requires.silent) c.in_ok-dial_all.ensures.dialled c.in_ok-dial_all.ensures.quiet c.in_ok-set_clock.ensures.upcoming
+
+pub returns-in_err-dial_all-clause-calls : goal.returns-in_err-dial_all-clause-calls
+returns-in_err-dial_all-clause-calls c =
+    calls_seen c.self.inside.host c.args.self.now.host c.dial_all.new.host (ap (λ (d : DeviceValue). d.host) c.self.view_is) c.dial_all.ensures.calls
+
+pub returns-in_err-set_clock-clause-calls : goal.returns-in_err-set_clock-clause-calls
+returns-in_err-set_clock-clause-calls c =
+    calls_seen c.self.inside.host c.args.self.now.host c.set_clock.new.self (ap (λ (d : DeviceValue). d.host) c.self.view_is)
+    (calls_then c.self.inside.host c.dial_all.new.host c.set_clock.new.self c.dial_all.ensures.calls (calls_clocked c.dial_all.new.host c.set_clock.new.self _ c.set_clock.result c.set_clock.ensures.ok c.set_clock.ensures.err))
+
+pub returns-in_err-store-clause-calls : goal.returns-in_err-store-clause-calls
+returns-in_err-store-clause-calls c =
+    calls_seen c.self.inside.host c.args.self.now.host c.load.new.host (ap (λ (d : DeviceValue). d.host) c.self.view_is)
+    (calls_then c.self.inside.host c.set_clock.new.self c.load.new.host
+    (calls_then c.self.inside.host c.dial_all.new.host c.set_clock.new.self c.dial_all.ensures.calls (calls_clocked c.dial_all.new.host c.set_clock.new.self _ c.set_clock.result c.set_clock.ensures.ok c.set_clock.ensures.err)) c.load.ensures.calls)
+
+pub returns-in_err-new-clause-calls : goal.returns-in_err-new-clause-calls
+returns-in_err-new-clause-calls c =
+    calls_seen c.self.inside.host c.args.self.now.host c.load.new.host (ap (λ (d : DeviceValue). d.host) c.self.view_is)
+    (calls_then c.self.inside.host c.set_clock.new.self c.load.new.host
+    (calls_then c.self.inside.host c.dial_all.new.host c.set_clock.new.self c.dial_all.ensures.calls (calls_clocked c.dial_all.new.host c.set_clock.new.self _ c.set_clock.result c.set_clock.ensures.ok c.set_clock.ensures.err)) c.load.ensures.calls)
+
+pub returns-clause-calls : goal.returns-clause-calls
+returns-clause-calls c =
+    calls_seen c.self.inside.host c.args.self.now.host c.load.new.host (ap (λ (d : DeviceValue). d.host) c.self.view_is)
+    (calls_then c.self.inside.host c.set_clock.new.self c.load.new.host
+    (calls_then c.self.inside.host c.dial_all.new.host c.set_clock.new.self c.dial_all.ensures.calls (calls_clocked c.dial_all.new.host c.set_clock.new.self _ c.set_clock.result c.set_clock.ensures.ok c.set_clock.ensures.err)) c.load.ensures.calls)

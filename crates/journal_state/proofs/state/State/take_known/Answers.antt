@@ -1,10 +1,10 @@
 use Rattle.std.proofs.Common.{List, sym, ap, subst, ◌∙◌}
 use Rattle.sync_rules.specs.declared.entries.Entry.{Entry}
 use Rattle.sync_rules.specs.Facts.{after_all}
-use Rattle.journal_state.specs.Known.{IsOfAll}
+use Rattle.session_core.specs.Known.{IsOfAll}
 use Rattle.journal_state.specs.Taking.{CanTakeAll}
 use Rattle.journal_state.proofs.CanTaken.{can_batch}
-use Rattle.journal_state.proofs.state.State.take_knowing.Goals as goal
+use Rattle.journal_state.proofs.state.State.take_known.Goals as goal
 
 pub take_all-requires-clause-can : goal.take_all-requires-clause-can
 take_all-requires-clause-can c =
@@ -13,7 +13,7 @@ take_all-requires-clause-can c =
     c.requires.numbers c.show_sound.ensures.distinct)
 
 pub take_all-requires-clause-named : goal.take_all-requires-clause-named
-take_all-requires-clause-named c = subst (IsOfAll c.args.known.now) (sym c.into_entries.ensures.value) c.requires.named
+take_all-requires-clause-named c = subst (IsOfAll c.args.id) (sym c.into_entries.ensures.value) c.requires.named
 
 pub returns-clause-facts : goal.returns-clause-facts
 returns-clause-facts c = c.take_all.ensures.facts ∙ ap (after_all c.args.self.now.facts) c.into_entries.ensures.value

@@ -1,5 +1,5 @@
 -- An id that is known before a batch is tested or taken: that of the message that the batch brings.
-use Rattle.std.specs.Prelude.{◌≡◌, List, [], ◌∷◌, Option, IfSome}
+use Rattle.std.specs.Prelude.{◌≡◌, List, [], ◌∷◌, Option, None, Some, IfSome}
 use Rattle.sync_ids.specs.Ids.{message_id_of}
 use Rattle.sync_ids.specs.Values.{MessageValue}
 use Rattle.sync_rules.specs.declared.entries.Entry.{Entry}
@@ -20,3 +20,9 @@ IsOfEntry id _ = Unit {0}
 abbrev pub IsOfAll : Option Id → List Entry → Type 0
 IsOfAll id [] = Unit {0}
 IsOfAll id (e ∷ es) = IsOfEntry id e × IsOfAll id es
+
+-- the id of the first message that arrives by these entries
+abbrev pub id_arrived : List Entry → Option Id
+id_arrived [] = None
+id_arrived (entry.Arrive s m ∷ es) = Some (message_id_of m)
+id_arrived (_ ∷ es) = id_arrived es

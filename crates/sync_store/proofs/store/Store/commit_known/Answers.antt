@@ -4,14 +4,14 @@ use Rattle.sync_store.specs.Moments.{WithAtMost, journal_with}
 use Rattle.sync_store.specs.Store.{StoreValue, IsStore}
 use Rattle.sync_store.proofs.FitSteps.{leads_none, fits_same}
 use Rattle.sync_store.proofs.Growth.{fits_by, may_add, with_none}
-use Rattle.sync_store.proofs.store.Store.commit.Goals as goal
+use Rattle.sync_store.proofs.store.Store.commit_known.Goals as goal
 
 pub returns-then-is_full-clause-extends : goal.returns-then-is_full-clause-extends
 returns-then-is_full-clause-extends g c still two told j fits =
     let clients = g.C.Clients.meaning c.args.clients.now in
     let s = c.args.self.now in
     leads_none c.cite_laws.ensures.stand clients (WithAtMost j c.args.batch) (λ whole. whole ≡ j) s s j two (g.D.Disk.tells c.args.disk.now) fits (subst IsStore c.self.view_is c.self.invariant).roomy told
-    (record { facts = refl; file = refl; format = refl; end = refl }) (inl refl) refl
+    (record { facts = refl; file = refl; format = refl; generation = refl; end = refl }) (inl refl) refl
 
 pub frame_batch-requires-clause-latency : goal.frame_batch-requires-clause-latency
 frame_batch-requires-clause-latency g c =
@@ -25,7 +25,7 @@ returns-in_err-framed-clause-extends g c still two told j fits =
     let s = c.args.self.now in
     leads_none c.cite_laws.ensures.stand clients (WithAtMost j c.args.batch) (λ whole. whole ≡ journal_with j c.args.batch c.from_residual.result) s s j two (g.D.Disk.tells c.args.disk.now) fits
     (subst IsStore c.self.view_is c.self.invariant).roomy told
-    (record { facts = refl; file = refl; format = refl; end = refl }) (inl refl) (with_none j c.args.batch c.from_residual.result c.from_residual.ensures.0)
+    (record { facts = refl; file = refl; format = refl; generation = refl; end = refl }) (inl refl) (with_none j c.args.batch c.from_residual.result c.from_residual.ensures.0)
 
 pub returns-in_err-reserve-clause-extends : goal.returns-in_err-reserve-clause-extends
 returns-in_err-reserve-clause-extends g c still two told j fits =
@@ -37,6 +37,7 @@ returns-in_err-reserve-clause-extends g c still two told j fits =
       facts = c.reserve.ensures.facts ∙ ap (λ (v : StoreValue). v.state.facts) c.self.view_is;
       file = ap (λ (v : StoreValue). v.file) c.self.view_is;
       format = ap (λ (v : StoreValue). v.format) c.self.view_is;
+      generation = ap (λ (v : StoreValue). v.generation) c.self.view_is;
       end = ap (λ (v : StoreValue). v.end) c.self.view_is;
     }) (inl refl) (with_none j c.args.batch c.from_residual-in_err-reserve.result c.from_residual-in_err-reserve.ensures.0)
 
@@ -58,5 +59,6 @@ returns-clause-extends g c still two told j fits =
       facts = c.reserve.ensures.facts ∙ ap (λ (v : StoreValue). v.state.facts) c.self.view_is;
       file = ap (λ (v : StoreValue). v.file) c.self.view_is;
       format = ap (λ (v : StoreValue). v.format) c.self.view_is;
+      generation = ap (λ (v : StoreValue). v.generation) c.self.view_is;
       end = ap (λ (v : StoreValue). v.end) c.self.view_is;
     }))

@@ -1,4 +1,4 @@
-//! The bytes of what is sent.
+//! The bytes of an output, and of what a session begins with (BSP, "Records").
 ghost use Rattle.std.specs.Prelude.{◌≡◌, ◌∷◌, ◌++◌, [], IfOk, OnOk};
 ghost use Rattle.record_grammar.specs.Spelling.{spelled, spelling};
 ghost use Rattle.sync_ids.specs.declared.records.Record.TheVariants as record_kind;
@@ -13,8 +13,9 @@ use sync_ids::{MessageId, Nonce, VersionList};
 use sync_rules::{Out, View};
 use sync_store::Store;
 
-/// The bytes of an output.
-pub(crate) fn spell_out(alloc: Global, store: &Store, out: &Out) -> Result<Vec<u8>, AllocError>
+/// The bytes of an output, over the held messages of a store; none of a message that is not held.
+/// It fails only for want of memory.
+pub fn spell_out(alloc: Global, store: &Store, out: &Out) -> Result<Vec<u8>, AllocError>
     ensures { IfOk result (λ bytes. bytes.items ≡ spelled
         (records_of store.now.state.facts.held out.now)) }
 {
@@ -39,8 +40,9 @@ fn spell_message(store: &Store, id: &MessageId, to: &mut Vec<u8>) -> Result<(), 
     }
 }
 
-/// The bytes of the VERSIONS that every session begins with: the one version 0.
-pub(crate) fn spell_versions(alloc: Global) -> Result<Vec<u8>, AllocError>
+/// The bytes of the VERSIONS that every session begins with: the one version 0. It fails only for
+/// want of memory.
+pub fn spell_versions(alloc: Global) -> Result<Vec<u8>, AllocError>
     ensures { IfOk result (λ bytes. bytes.items ≡ spelling (record_kind.Versions (0 ∷ []))) }
 {
     let mut versions = Vec::new(alloc);
@@ -53,8 +55,9 @@ pub(crate) fn spell_versions(alloc: Global) -> Result<Vec<u8>, AllocError>
     Ok(bytes)
 }
 
-/// The bytes of the PRIORITY of a session that has a nonce, and none of one that has not.
-pub(crate) fn spell_nonce(alloc: Global, nonce: &Option<Nonce>) -> Result<Vec<u8>, AllocError>
+/// The bytes of the PRIORITY of a session that has a nonce, and none of one that has not. It fails
+/// only for want of memory.
+pub fn spell_nonce(alloc: Global, nonce: &Option<Nonce>) -> Result<Vec<u8>, AllocError>
     ensures { IfOk result (λ bytes. bytes.items ≡ spelled (nonce_record nonce.now)) }
 {
     let mut bytes = Vec::new(alloc);

@@ -2,7 +2,7 @@
 use Rattle.std.proofs.Common.{List, [], ◌∷◌, None}
 use Rattle.sync_rules.specs.declared.entries.Entry.{Entry}
 use Rattle.sync_rules.specs.declared.entries.Entry.TheVariants as entry
-use Rattle.journal_state.specs.Known.{IsOfEntry, IsOfAll}
+use Rattle.session_core.specs.Known.{IsOfEntry, IsOfAll}
 
 unknown_of : (e : Entry) → IsOfEntry None e
 unknown_of (entry.Contact c) = tt

@@ -1,0 +1,11 @@
+pub mod PathLaws
+pub mod Paths
+pub mod Inserting
+pub mod Raising
+pub mod Stepping
+pub mod OneWalk
+pub mod Joining
+pub mod Adding
+pub mod Windows
+pub mod Limits
+pub mod Added

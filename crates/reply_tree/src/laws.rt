@@ -1,0 +1,12 @@
+//! What is true of every walk.
+ghost use Rattle.reply_tree.specs.Walks.{HasOneWalk, HasParentsFirst};
+
+/// The items have one walk. It does nothing.
+pub fn walks_are_one()
+    ensures { HasOneWalk }
+{}
+
+/// In the walk each item stands behind what it replies to. It does nothing.
+pub fn parents_come_first()
+    ensures { HasParentsFirst }
+{}
