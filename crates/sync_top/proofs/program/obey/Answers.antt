@@ -61,6 +61,6 @@ returns-in-Sync-clause-comes g c =
     as_command clients c.args.asked (command.Sync c.in-Sync.turns c.in-Sync.quiet c.in-Sync.links) _ _ _ _ _ _ _ _ c.in-Sync.is c.of_links.ensures
     (inl (
       has_run clients _ c.in-Sync.links c.as_slice-links.result.now _ _ c.sync_links.result _ c.as_slice-links.ensures.links refl e.headline
-          (λ two files. record { rests = e.rests two files; sent = e.sent two files; sent_full = e.sent_full two files; comes = e.comes two files }) e.specs e.caused e.leaves,
+          (λ two files. record { rests = e.rests two files; sent = e.sent two files; sent_full = e.sent_full two files; comes = e.comes two files; unbegun = e.unbegun two files }) e.specs e.caused e.leaves,
       (record { same = refl; same_faults = refl }, record { same = refl; same_faults = refl }),
     ))
