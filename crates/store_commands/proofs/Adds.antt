@@ -1,5 +1,5 @@
 -- Settling, a batch, and settling again, as moments and as journals.
-use Rattle.std.proofs.Common.{◌≡◌, ◌≢◌, ℕ, ◌+◌, ◌<◌, ◌≤◌, false, List, [], ◌∷◌, ◌++◌, length, refl, sym, ap, ◌∙◌, subst, inl, inr, append_assoc, append-nil, arith, Some, Result, Ok, Err}
+use Rattle.std.proofs.Common.{◌≡◌, ◌≢◌, ℕ, ◌+◌, ◌<◌, ◌≤◌, false, List, [], ◌∷◌, ◌++◌, refl, sym, ap, ◌∙◌, subst, inl, inr, append_assoc, append-nil, arith, Some, Result, Ok, Err}
 use Rattle.outside.specs.declared.limits.TheConstants.{MAX_JOURNAL}
 use Rattle.outside.specs.Faults.{Rose}
 use Rattle.outside.specs.Files.{Two, File}
@@ -19,12 +19,12 @@ use Rattle.sync_store.specs.Commits.{needed}
 use Rattle.sync_store.specs.Store.{StoreValue}
 use Rattle.sync_store.specs.Fitting.{Fits}
 use Rattle.sync_store.specs.Moments.{IsBetween, JournalMoment}
-use Rattle.sync_store.specs.Runs.{AddsBatch, HasExtended, LeadsBy, RunsBy}
+use Rattle.sync_store.specs.Runs.{AddsBatch, HasExtended, RunsBy}
 use Rattle.sync_words.specs.declared.outcome.Outcome.{Outcome}
 use Rattle.sync_words.specs.declared.outcome.Outcome.TheVariants as outcome
 use Rattle.store_commands.specs.declared.commit.Settling.{Settling}
 use Rattle.store_commands.specs.declared.commit.Settling.TheVariants as settling
-use Rattle.store_commands.specs.Commit.{AddedSo, AddsAs, AddsAtMost, ExtendsBy, ExtendsEnds, ExtendsTold, Follows, GoesOn, IsAdded, IsWhole, SettledBy, MayFollow, SettlesAs, needed_by}
+use Rattle.store_commands.specs.Commit.{AddedSo, AddsAs, AddsAtMost, ExtendsBy, ExtendsEnds, ExtendsTold, Follows, GoesOn, IsWhole, SettledBy, MayFollow, SettlesAs, needed_by}
 
 -- ---- longer journals
 

@@ -14,7 +14,6 @@ use Rattle.entry_codec.specs.Payloads.{journal_end, payload_len}
 use Rattle.entry_codec.specs.Standing.{journal, room_of, stands}
 use Rattle.sync_store.specs.Commits.{needed}
 use Rattle.sync_store.specs.Store.{StoreValue}
-use Rattle.sync_store.specs.Fitting.{Fits}
 use Rattle.sync_store.specs.Ready.{IsReady}
 use Rattle.sync_store.specs.Moments.{JournalMoment}
 use Rattle.sync_store.specs.Runs.{AddsBatch, LeadsBy}

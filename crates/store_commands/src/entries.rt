@@ -24,7 +24,6 @@ use sync_store::Store;
 use sync_words::{Outcome, contact_line, group_line, level_line, posted_line};
 
 /// Adds the next contact and prints its number.
-#[tactic(auto, using(session_core::proofs::Unknown::unknown))]
 pub fn add_contact<D: Disk, W: Sink, C: Clients>(
     alloc: Global,
     hasher: RandomState,
@@ -50,7 +49,6 @@ pub fn add_contact<D: Disk, W: Sink, C: Clients>(
 }
 
 /// Adds a group and prints its id.
-#[tactic(auto, using(session_core::proofs::Unknown::unknown))]
 pub fn add_group<D: Disk, W: Sink, C: Clients>(
     alloc: Global,
     hasher: RandomState,
@@ -78,7 +76,6 @@ pub fn add_group<D: Disk, W: Sink, C: Clients>(
 }
 
 /// Sets the level of a group for a contact and prints it.
-#[tactic(auto, using(session_core::proofs::Unknown::unknown))]
 pub fn set_level<D: Disk, W: Sink, C: Clients>(
     alloc: Global,
     hasher: RandomState,
@@ -134,11 +131,7 @@ pub fn add_entry<D: Disk, W: Sink, C: Clients>(
 }
 
 // The line of an entry that a command adds.
-fn line_of(
-    alloc: Global,
-    entry: &Entry,
-    id: Option<MessageId>,
-) -> Result<String, AllocError>
+fn line_of(alloc: Global, entry: &Entry, id: Option<MessageId>) -> Result<String, AllocError>
     requires { IsOfAll id (entry.now ∷ []) }
     ensures { IfOk result (λ line. string_bytes line ≡ added_text entry.now) }
 {
@@ -171,7 +164,7 @@ fn known_id(id: Option<MessageId>, message: &Message) -> MessageId
     ensures { result ≡ message_id_of message.now }
 {
     match id {
-        Some(id) => id,
+        Some(known) => known,
         None => id_of(message),
     }
 }

@@ -6,7 +6,7 @@ ghost use Rattle.store_commands.specs.Post.{HasPosted, IsRead};
 use crate::commit::Settling;
 use crate::entries::add_entry;
 use crate::load::load_store;
-use crate::plans::plan_post;
+use crate::plans::{PlannedPost, plan_post};
 use outside::{Disk, InputFault, Sink, Source, read_input};
 use std::alloc::Global;
 use std::hash::RandomState;
@@ -36,11 +36,12 @@ pub fn post_message<D: Disk, S: Source, W: Sink, C: Clients>(
     }
     let body = read_body(alloc, input)?;
     let post = plan_post(&store, clients, group, timestamp, body)?;
+    let PlannedPost { message, id } = post;
     add_entry(
         alloc,
         store,
-        Entry::Author(post.message),
-        Some(post.id),
+        Entry::Author(message),
+        Some(id),
         Settling::BeforeAndAfter,
         disk,
         out,

@@ -5,8 +5,9 @@ use Rattle.std.proofs.lemmas.Bool.Decides.{nat_tests}
 use Rattle.outside.specs.Files.{Two, File, file_of}
 use Rattle.outside.specs.Frames.{IsPayload}
 use Rattle.outside.specs.Disk.{Becomes}
-use Rattle.outside.specs.Outside.{Outside, MakesAtMost, MakesJust}
+use Rattle.outside.specs.Outside.{Outside, MakesAtMost, MakesCalls, MakesJust}
 use Rattle.outside.specs.Steps.{Passed}
+use Rattle.outside.proofs.CallCounts.{most_none}
 use Rattle.frame_journal.specs.Append.{Appends, BeforeOrWith, IsFramed, framed_of, payload_of}
 use Rattle.sync_rules.specs.declared.entries.Entry.{Entry}
 use Rattle.sync_rules.specs.declared.limits.TheConstants.{MAX_STEPS}
@@ -247,6 +248,11 @@ made_none clients s new e o o' comes is still = record {
 pub with_none : (j : List (List Entry)) (batch : List Entry) (result : Result (Unit {0}) StoreFault) → IsErr result → j ≡ journal_with j batch result
 with_none j batch (Ok u) err = cc
 with_none j batch (Err e) err = refl
+
+-- an error for which no call was made
+pub no_calls : (result : Result (Unit {0}) StoreFault) (o : Outside) → IsErr result → MakesCalls 4 result o o
+no_calls (Ok u) o err = cc
+no_calls (Err e) o err = record { just = tt; most = most_none 4 o }
 
 pub some_by : (none : Bool) (n m : ℕ) → none ≡ eqb n 0 → none ≡ false → m ≡ n → 1 ≤ m
 some_by none n m is no_one same = grind (arith, nat_tests)

@@ -1,13 +1,14 @@
 -- Runs of a store's calls, one behind the other: for whoever calls a store more than once.
-use Rattle.std.proofs.Common.{◌≡◌, ◌≢◌, ℕ, ◌+◌, ◌<◌, ◌≤◌, true, false, List, [], ◌∷◌, ◌++◌, Some, Result, Ok, Err, refl, sym, ap, ◌∙◌, subst, append-nil, append_assoc, arith}
+use Rattle.std.proofs.Common.{◌≡◌, ◌≢◌, ℕ, ◌+◌, ◌≤◌, true, false, List, [], ◌∷◌, ◌++◌, Some, Result, Ok, Err, refl, sym, ap, ◌∙◌, subst, append-nil, arith}
 use Rattle.std.specs.Prelude.{IsErrOf}
+use Rattle.outside.specs.Faults.{Rose}
 use Rattle.outside.specs.Files.{Two, File}
-use Rattle.outside.specs.Links.{Links, sent_of}
+use Rattle.outside.specs.Links.{sent_of}
 use Rattle.outside.specs.Outside.{Outside, DiskRun, MakesAtMost, MakesCalls, MakesJust}
-use Rattle.outside.specs.Steps.{moments_map, moments_none, moments_then, run_none, run_then, told_back, told_on}
+use Rattle.outside.specs.Steps.{moments_none, run_none, run_then, told_back}
 use Rattle.sync_rules.specs.declared.entries.Entry.{Entry}
 use Rattle.sync_rules.specs.Clients.{Meaning}
-use Rattle.sync_rules.specs.Facts.{Facts, after_all, after_batches}
+use Rattle.sync_rules.specs.Facts.{Facts, after_batches}
 use Rattle.sync_rules.specs.Legal.{AllSettling, Allowed, GoesOn}
 use Rattle.sync_rules.specs.Settling.{after_batches-append, goes_on_both}
 use Rattle.sync_rules.specs.WorkLaws.{settling_goes_on}
@@ -17,8 +18,8 @@ use Rattle.entry_codec.specs.Standing.{room_of}
 use Rattle.sync_store.specs.Store.{StoreValue, HasNumbers, IsStore}
 use Rattle.sync_store.specs.Commits.{Commits, Stays, Unasked, needed}
 use Rattle.sync_store.specs.Fitting.{Fits, FitsSome, ImagesStand}
-use Rattle.sync_store.specs.Moments.{Adds, IsBetween, JournalMoment, Leads}
-use Rattle.sync_store.specs.Runs.{AddsBatch, ExtendsSo, HasExtended, LeadsBy, RunsBy, committed_by}
+use Rattle.sync_store.specs.Moments.{Adds, IsBetween, JournalMoment}
+use Rattle.sync_store.specs.Runs.{AddsBatch, ExtendsSo, HasExtended, RunsBy, committed_by}
 use Rattle.sync_store.specs.Settling.{HasSettled, SettlesSo}
 use Rattle.sync_store.proofs.FitSteps.{IsSame, fits_same, true≢false}
 use Rattle.sync_store.proofs.SettleSteps.{calls_closed, calls_none, calls_one, calls_runs, leads_one, leads_one_closed, leads_then}
@@ -229,3 +230,7 @@ settled_full clients s new (Err fault.DiskFault) o o' has full = cc
 -- an error that is this one
 pub full_is : (r : Result (Unit {0}) StoreFault) (e : StoreFault) → r ≡ Err e → IsErrOf r fault.Full → e ≡ fault.Full
 full_is r e same is = cc
+
+-- a count that rose behind a run rose
+pub rose_later : (a b c : ℕ) → a ≤ b → Rose b c → Rose a c
+rose_later a b c later rose = omega arith

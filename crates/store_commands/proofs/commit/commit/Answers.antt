@@ -1,4 +1,4 @@
-use Rattle.std.proofs.Common.{◌≡◌, refl, ◌∙◌, [], ◌∷◌, Ok, Err}
+use Rattle.std.proofs.Common.{refl, ◌∙◌, [], ◌∷◌, Ok, Err}
 use Rattle.sync_store.specs.declared.fault.StoreFault.TheVariants as fault
 use Rattle.sync_store.proofs.Runs.{runs_commit}
 use Rattle.store_commands.proofs.Adds.{one_whole}
@@ -20,7 +20,7 @@ returns-in-Err-Full-clause-added g c =
     let runs =
     runs_commit c.images_stand.ensures clients c.args.store.now c.commit_known.new.self c.args.batch (Err fault.Full) _ g.D.Disk.tells c.args.disk.now c.commit_known.new.disk c.in-Err-Full.ensures.numbers
     c.requires.ready.still_open c.requires.allowed answer (rw c.in-Err-Full.field-0-is at c.in-Err-Full.ensures.unasked) c.in-Err-Full.ensures.run (record { just = tt; most = c.in-Err-Full.ensures.calls.most })
-    (rw c.in-Err-Full.field-0-is at (c.in-Err-Full.ensures.extends c.requires.ready.still_open)) in
+    (c.in-Err-Full.ensures.extends c.requires.ready.still_open) in
     record { more = []; adds = tt; leads = runs.leads; answer = (answer.2.closed ∙ answer.0, answer.1, refl) }
 
 pub returns-in-Err-Memory-clause-added : goal.returns-in-Err-Memory-clause-added
@@ -29,7 +29,7 @@ returns-in-Err-Memory-clause-added g c =
     let runs =
     runs_commit c.images_stand.ensures clients c.args.store.now c.commit_known.new.self c.args.batch (Err fault.Memory) _ g.D.Disk.tells c.args.disk.now c.commit_known.new.disk c.in-Err-Memory.ensures.numbers
     c.requires.ready.still_open c.requires.allowed (rw c.in-Err-Memory.field-0-is at c.in-Err-Memory.ensures.answer) (rw c.in-Err-Memory.field-0-is at c.in-Err-Memory.ensures.unasked)
-    c.in-Err-Memory.ensures.run (record { just = tt; most = c.in-Err-Memory.ensures.calls.most }) (rw c.in-Err-Memory.field-0-is at (c.in-Err-Memory.ensures.extends c.requires.ready.still_open)) in
+    c.in-Err-Memory.ensures.run (record { just = tt; most = c.in-Err-Memory.ensures.calls.most }) (c.in-Err-Memory.ensures.extends c.requires.ready.still_open) in
     record { more = []; adds = tt; leads = runs.leads; answer = tt }
 
 pub returns-in-Err-DiskFault-clause-added : goal.returns-in-Err-DiskFault-clause-added
@@ -38,7 +38,7 @@ returns-in-Err-DiskFault-clause-added g c =
     let runs =
     runs_commit c.images_stand.ensures clients c.args.store.now c.commit_known.new.self c.args.batch (Err fault.DiskFault) _ g.D.Disk.tells c.args.disk.now c.commit_known.new.disk c.in-Err-DiskFault.ensures.numbers
     c.requires.ready.still_open c.requires.allowed (rw c.in-Err-DiskFault.field-0-is at c.in-Err-DiskFault.ensures.answer) tt
-    c.in-Err-DiskFault.ensures.run (record { just = tt; most = c.in-Err-DiskFault.ensures.calls.most }) (rw c.in-Err-DiskFault.field-0-is at (c.in-Err-DiskFault.ensures.extends c.requires.ready.still_open)) in
+    c.in-Err-DiskFault.ensures.run (record { just = tt; most = c.in-Err-DiskFault.ensures.calls.most }) (c.in-Err-DiskFault.ensures.extends c.requires.ready.still_open) in
     record { more = c.args.batch ∷ []; adds = (refl, tt, tt); leads = runs.leads; answer = tt }
 
 pub returns-in-Err-DiskFault-clause-by : goal.returns-in-Err-DiskFault-clause-by

@@ -1,5 +1,6 @@
-use Rattle.std.proofs.Common.{refl}
+use Rattle.std.proofs.Common.{refl, [], ◌∷◌}
 use Rattle.sync_words.specs.declared.outcome.Outcome.TheVariants as outcome
+use Rattle.session_core.proofs.Unknown.{unknown}
 use Rattle.store_commands.specs.declared.commit.Settling.TheVariants as settling
 use Rattle.store_commands.specs.Plans.{level_plan}
 use Rattle.store_commands.proofs.EntryLemmas.{added_entry, added_none, added_refused}
@@ -37,3 +38,6 @@ returns g c =
     let clients = g.C.Clients.meaning c.args.clients.now in
     added_entry clients (λ f. level_plan f c.args.contact c.args.group.now c.args.level) settling.Before _ _ _ _ _ c.in_ok-store.store c.in_ok-entry.entry _ c.in_ok-store.ensures.run
     c.in_ok-store.ensures.rests c.in_ok-store.ensures.opened c.in_ok-entry.ensures c.add_entry.ensures
+
+pub add_entry-requires-clause-named : goal.add_entry-requires-clause-named
+add_entry-requires-clause-named g c = unknown (c.in_ok-entry.entry ∷ [])

@@ -87,3 +87,9 @@ returns-in-Err-clause-extends g c two told j fits =
     let fits' = subst (λ (v : StoreValue). Fits clients v j two) (sym c.self.view_is) fits in
     adds_err c.cite_laws.ensures.stand clients s _ j two c.args.batch c.args.framed.now fault.DiskFault (g.D.Disk.tells c.args.disk.now) (g.D.Disk.tells c.append.new.disk) fits' may
     (c.in-Err.ensures.any_moment two told) refl
+
+pub returns-in-Ok-clause-calls : goal.returns-in-Ok-clause-calls
+returns-in-Ok-clause-calls g c = record { just = c.in-Ok.ensures.calls.just; most = c.in-Ok.ensures.calls.most }
+
+pub returns-in-Err-clause-calls : goal.returns-in-Err-clause-calls
+returns-in-Err-clause-calls g c = record { just = tt; most = c.in-Err.ensures.calls.most }

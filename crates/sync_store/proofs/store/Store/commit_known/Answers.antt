@@ -1,9 +1,10 @@
 use Rattle.std.proofs.Common.{◌≡◌, false, refl, inl, sym, ap, ◌∙◌, subst}
+use Rattle.outside.proofs.CallCounts.{most_none}
 use Rattle.sync_store.specs.Commits.{needed}
 use Rattle.sync_store.specs.Moments.{WithAtMost, journal_with}
 use Rattle.sync_store.specs.Store.{StoreValue, IsStore}
 use Rattle.sync_store.proofs.FitSteps.{leads_none, fits_same}
-use Rattle.sync_store.proofs.Growth.{fits_by, may_add, with_none}
+use Rattle.sync_store.proofs.Growth.{fits_by, may_add, no_calls, with_none}
 use Rattle.sync_store.proofs.store.Store.commit_known.Goals as goal
 
 pub returns-then-is_full-clause-extends : goal.returns-then-is_full-clause-extends
@@ -62,3 +63,15 @@ returns-clause-extends g c still two told j fits =
       generation = ap (λ (v : StoreValue). v.generation) c.self.view_is;
       end = ap (λ (v : StoreValue). v.end) c.self.view_is;
     }))
+
+pub returns-then-self-clause-calls : goal.returns-then-self-clause-calls
+returns-then-self-clause-calls g c = record { just = tt; most = most_none 4 (g.D.Disk.tells c.args.disk.now) }
+
+pub returns-then-is_full-clause-calls : goal.returns-then-is_full-clause-calls
+returns-then-is_full-clause-calls g c = record { just = tt; most = most_none 4 (g.D.Disk.tells c.args.disk.now) }
+
+pub returns-in_err-framed-clause-calls : goal.returns-in_err-framed-clause-calls
+returns-in_err-framed-clause-calls g c = no_calls c.from_residual.result (g.D.Disk.tells c.args.disk.now) c.from_residual.ensures.0
+
+pub returns-in_err-reserve-clause-calls : goal.returns-in_err-reserve-clause-calls
+returns-in_err-reserve-clause-calls g c = no_calls c.from_residual-in_err-reserve.result (g.D.Disk.tells c.args.disk.now) c.from_residual-in_err-reserve.ensures.0

@@ -1,11 +1,10 @@
-use Rattle.std.proofs.Common.{◌≡◌, false, Result, Ok, Err, ap, sym, subst, refl, ◌∙◌, arith}
+use Rattle.std.proofs.Common.{Result, Err, ap, sym, subst, ◌∙◌}
 use Rattle.sync_store.specs.declared.fault.StoreFault.{StoreFault}
 use Rattle.sync_store.specs.declared.fault.StoreFault.TheVariants as fault
-use Rattle.sync_store.specs.Commits.{Stays}
 use Rattle.sync_store.specs.Runs.{HasExtended}
 use Rattle.sync_store.proofs.Errors.{err_is}
 use Rattle.sync_store.proofs.FitSteps.{true≢false}
-use Rattle.sync_store.proofs.Runs.{closed_failed, extends_failed, extends_settled, full_is, full_unasked, settled_full}
+use Rattle.sync_store.proofs.Runs.{closed_failed, extends_failed, extends_settled, full_is, full_unasked, rose_later, settled_full}
 use Rattle.sync_store.proofs.store.Store.extend_known.Goals as goal
 
 pub returns-in_err-commit_known-clause-extended : goal.returns-in_err-commit_known-clause-extended
@@ -47,3 +46,8 @@ returns-clause-full g c is =
     let clients = g.C.Clients.meaning c.args.clients.now in
     absurd (settled_full clients c.commit_known.new.self c.settle.new.self c.settle.result (g.D.Disk.tells c.commit_known.new.disk) (g.D.Disk.tells c.settle.new.disk)
     (c.settle.ensures.settled c.in_ok-commit_known.ensures.answer.2.closed) is)
+
+pub returns-clause-fault : goal.returns-clause-fault
+returns-clause-fault g c is =
+    rose_later (g.D.Disk.tells c.args.disk.now).disk_faults (g.D.Disk.tells c.commit_known.new.disk).disk_faults (g.D.Disk.tells c.settle.new.disk).disk_faults c.commit_known.ensures.run.later
+    (c.settle.ensures.fault is)
