@@ -124,7 +124,9 @@ pub fn add_entry<D: Disk, W: Sink, C: Clients>(
         (D.tells disk.new) (W.tells out.old) (W.tells out.new) (came_to result) }
 {
     let mut store = store;
-    let line = line_of(alloc, &entry, id)?;
+    // A name of its own, since the id goes with the batch too.
+    let known = id;
+    let line = line_of(alloc, &entry, known)?;
     let batch = Batch::single(alloc, entry)?;
     extend(&mut store, batch, id, settling, disk, clients)?;
     print_bytes(line.as_bytes(), out)
