@@ -24,7 +24,7 @@ static int open_and_sync(const char *path)
 {
     int file = open(path, O_RDWR | O_CLOEXEC);
     if (file >= 0)
-        check(fsync(file) == 0, "fsync");
+        check(fdatasync(file) == 0, "fdatasync");
     return file;
 }
 
@@ -42,7 +42,7 @@ static void write_at(int file, off_t place, const unsigned char *bytes, size_t c
 {
     check(lseek(file, place, SEEK_SET) == place, "lseek");
     check(write(file, bytes, count) == (ssize_t)count, "write");
-    check(fsync(file) == 0, "fsync");
+    check(fdatasync(file) == 0, "fdatasync");
 }
 
 /* The size of the frame at the front of some bytes. */

@@ -2,7 +2,7 @@
 # Counts the calls of the store's commands on a folder, by `strace` (`apt-get install strace` brings it). The store is begun by the
 # program in a folder of its own on a disk; its 20,000 messages are put there by bench/store_file.py.
 # - each command syncs the folder at its first sync of a file, whether it made the file or not;
-# - `show`, `inbox` and `body` of 20,000 messages make at most one read in 32 KiB of the file and ten calls beside, and open the
+# - `show`, `inbox` and `body` of 20,000 messages make at most one read in 32 KiB of the file and two dozen calls beside, and open the
 #   files for reading alone; they work in a folder that may only be read (as another user, where this is root).
 # Then it times a whole `body` behind 200,000 messages against a load of the same file's bytes from memory alone: the least processor
 # time of RUNS (5) runs of each.
@@ -24,7 +24,7 @@ bsp, folder, runs = sys.argv[1], os.path.realpath(sys.argv[2]), int(sys.argv[3])
 bench = os.path.abspath('crates/bench_store/out/bench_store')
 NOTES = [Note(time, 200) for time in range(20_000)]
 STORE = os.path.join(folder, 'bsp.0')
-PIECE, OTHERS = 32 << 10, 10
+PIECE, OTHERS = 32 << 10, 24
 
 
 def expect(holds, what):

@@ -1,14 +1,19 @@
 //! The disk, the links and the clock of this machine.
 ghost use Rattle.std.specs.Prelude.{◌≡◌, ◌+◌, ◌<◌, ◌≤◌, IfOk, Ok, MatchResult, OnOk, OnErr};
-ghost use Rattle.std.specs.Prelude.{vec_len};
+ghost use Rattle.std.specs.Prelude.{vec_len, false};
+ghost use Rattle.outside_real.specs.Need.{IsUnwritten, writes};
 ghost use Rattle.outside.specs.declared.limits.TheConstants.{LINKS};
 ghost use Rattle.outside.specs.Faults.{HasCause};
 
+use crate::copying::copy_both;
 use crate::link::Link;
+use crate::lock::{Lock, lock_to_read, lock_to_stay, lock_to_write};
+use crate::need::Need;
 use crate::random::random_bytes;
-use crate::real_file::RealFile;
+use crate::store_file::StoreFile;
 use outside::{Disk, Failed, Heard, Host, LINKS, raise_at};
 use std::alloc::{AllocError, Global};
+use std::fs::{File, Files};
 use std::io;
 use std::net::Net;
 use std::rt::Runtime;
@@ -17,14 +22,15 @@ use std::time::Clock;
 /// A disk of the files `bsp.0` and `bsp.1` in a folder, the links and the clock of this machine. It
 /// tells its counts alone: of its links, and of the failures of the disk and of each link. After a
 /// sync of a file that failed each call on that file fails. A read on a socket waits for 100 ms and
-/// then answers `Idle`, one on the standard input never does; a send whose peer does not read fails
-/// within a minute.
+/// then answers `Idle`, one on the standard input never does; sends to a peer wait 100 ms each, and
+/// half a minute beside that in all.
 #[derive(Drop)]
 pub struct FileHost<R: Runtime + Net> {
     rt: R,
     alloc: Global,
-    first: RealFile<R>,
-    second: RealFile<R>,
+    first: StoreFile<R>,
+    second: StoreFile<R>,
+    lock: Option<Lock>,
     disk_faults: u64,
     links: Vec<Link<R>>,
     link_faults: [u64; LINKS],
@@ -32,24 +38,106 @@ pub struct FileHost<R: Runtime + Net> {
 }
 
 impl<R: Runtime + AllocGlobal + Net> FileHost<R> {
-    /// A host without links over the files in this folder, which need not be there.
+    /// A host without links over the files in this folder, which need not be there, and which nobody
+    /// else writes.
     pub fn new(rt: R, folder: &str) -> Result<FileHost<R>, AllocError>
         ensures no_links { IfOk result (λ h. vec_len h.links ≡ 0) }
     {
         let alloc = rt.alloc();
-        let first = RealFile::new(alloc, folder, "bsp.0")?;
-        let second = RealFile::new(alloc, folder, "bsp.1")?;
-        let links = Vec::new(alloc);
-        Ok(FileHost {
+        let first = StoreFile::open(alloc, folder, "bsp.0")?;
+        let second = StoreFile::open(alloc, folder, "bsp.1")?;
+        Ok(FileHost::over(rt, first, second))
+    }
+
+    /// A host without links that touches no file: each call on one fails.
+    pub fn shut(rt: R, folder: &str) -> Result<FileHost<R>, AllocError>
+        ensures no_links { IfOk result (λ h. vec_len h.links ≡ 0) }
+        ensures reads { IfOk result (λ h. IsUnwritten h.first.may_write h.second.may_write) }
+    {
+        let alloc = rt.alloc();
+        let first = StoreFile::shut(alloc, folder, "bsp.0")?;
+        let second = StoreFile::shut(alloc, folder, "bsp.1")?;
+        Ok(FileHost::over(rt, first, second))
+    }
+
+    fn over(rt: R, first: StoreFile<R>, second: StoreFile<R>) -> FileHost<R>
+        ensures no_links { vec_len result.links ≡ 0 }
+        ensures first { result.first ≡ first }
+        ensures second { result.second ≡ second }
+    {
+        let alloc = rt.alloc();
+        FileHost {
             rt,
             alloc,
             first,
             second,
+            lock: None,
             disk_faults: 0,
-            links,
+            links: Vec::new(alloc),
             link_faults: [0; LINKS],
-        })
+        }
     }
+}
+
+impl<R: Runtime + Files<File = File> + AllocGlobal + Net> FileHost<R> {
+    /// A host without links for what is needed of the files in this folder, among other processes
+    /// that call this: what is read stood at one time, and nobody else writes what is written here,
+    /// until the host is dropped or the process has ended. It waits for those that will be done at
+    /// once, and to write, ten seconds for one that stays. Where the files can't be had so, each
+    /// call on them fails.
+    pub fn with(rt: R, folder: &str, need: Need) -> Result<FileHost<R>, AllocError>
+        ensures no_links { IfOk result (λ h. vec_len h.links ≡ 0) }
+        ensures reads { writes need ≡ false
+            → IfOk result (λ h. IsUnwritten h.first.may_write h.second.may_write) }
+    {
+        match need {
+            Need::Nothing => FileHost::shut(rt, folder),
+            Need::Read => FileHost::reading(rt, folder),
+            Need::Write => {
+                let lock = lock_to_write(&rt, rt.alloc(), folder);
+                FileHost::locked(rt, folder, lock)
+            }
+            Need::Stay => {
+                let lock = lock_to_stay(&rt, rt.alloc(), folder);
+                FileHost::locked(rt, folder, lock)
+            }
+        }
+    }
+
+    // Over copies of the files, for which others that will be done at once are waited for.
+    fn reading(rt: R, folder: &str) -> Result<FileHost<R>, AllocError>
+        ensures no_links { IfOk result (λ h. vec_len h.links ≡ 0) }
+        ensures reads { IfOk result (λ h. IsUnwritten h.first.may_write h.second.may_write) }
+    {
+        let mut host = FileHost::shut(rt, folder)?;
+        if let Ok((first, second)) = copied(&host.rt, host.alloc, folder) {
+            host.first.read_from(first);
+            host.second.read_from(second);
+        }
+        Ok(host)
+    }
+
+    // Over the files themselves, for as long as the lock is held; over none without it.
+    fn locked(rt: R, folder: &str, lock: io::Result<Lock>) -> Result<FileHost<R>, AllocError>
+        ensures no_links { IfOk result (λ h. vec_len h.links ≡ 0) }
+    {
+        let Ok(lock) = lock else {
+            return FileHost::shut(rt, folder);
+        };
+        let mut host = FileHost::new(rt, folder)?;
+        host.lock = Some(lock);
+        Ok(host)
+    }
+}
+
+// Both files as they stood at one time. The lock ends with the call, since nothing is read later.
+fn copied<R: Files<File = File> + Clock>(
+    rt: &R,
+    alloc: Global,
+    folder: &str,
+) -> io::Result<(Vec<u8>, Vec<u8>)> {
+    let _lock = lock_to_read(rt, alloc, folder)?;
+    copy_both(rt, alloc, folder)
 }
 
 impl<R: Runtime + Net> FileHost<R> {

@@ -2,9 +2,11 @@
 ghost use Rattle.std.specs.Prelude.{◌≡◌, ◌≤◌, true, length, is_err, IfOk};
 
 use crate::ahead::{AHEAD, Ahead};
+use crate::opening::{is_there, open, open_to_write};
+use crate::size_limit::may_grow_to;
 use crate::streams::{read_full, write_full};
 use std::alloc::{AllocError, Global};
-use std::fs::{OpenFile, OpenOptions};
+use std::fs::OpenFile;
 use std::io;
 use std::io::{ErrorKind, Seek, SeekFrom};
 use std::path::{Path, PathBuf};
@@ -22,9 +24,10 @@ enum Access {
 }
 
 /// A file in a folder that no other process writes. It is opened at the first call, for reading
-/// alone, and again at the first call that writes, which makes it if it is not there; until then
-/// what is not there is empty. Its length and the bytes of reads ahead are kept. Its first sync
-/// makes its name durable too. After a sync that failed each call fails.
+/// alone, and again at the first call that writes, which makes it, for its owner alone, if it is not
+/// there; until then what is not there is empty. What is there and no regular file is a failure. Its
+/// length and the bytes of reads ahead are kept. A sync makes its bytes and its length durable, and
+/// the first one its name too. After a sync that failed each call fails.
 #[derive(Drop)]
 pub struct RealFile<R: Files> {
     folder: PathBuf,
@@ -100,6 +103,10 @@ impl<R: Files> RealFile<R> {
         ensures over { self.old.has_failed ≡ true → (is_err result ≡ true)
             × (self.new.has_failed ≡ true) }
     {
+        let end = at.saturating_add(bytes.len() as u64);
+        if !may_grow_to(end) {
+            return Err(ErrorKind::FileTooLarge.into());
+        }
         self.find_to_write(files, true)?;
         let had = self.len(files)?;
         self.forget();
@@ -107,7 +114,6 @@ impl<R: Files> RealFile<R> {
             file.seek(SeekFrom::Start(at))?;
             write_full(file, bytes)?;
         }
-        let end = at.saturating_add(bytes.len() as u64);
         self.len = Some(had.max(end));
         self.position = Some(end);
         Ok(())
@@ -133,7 +139,7 @@ impl<R: Files> RealFile<R> {
             × (self.new.has_failed ≡ true) }
         ensures fails { is_err result ≡ true → self.new.has_failed ≡ true }
     {
-        match self.sync_all(files) {
+        match self.sync_now(files) {
             Ok(()) => Ok(()),
             Err(e) => {
                 self.has_failed = true;
@@ -142,15 +148,16 @@ impl<R: Files> RealFile<R> {
         }
     }
 
-    fn sync_all(&mut self, files: &R) -> io::Result<()>
+    // What is on its device then is the bytes and the length: the times of a file are no matter here.
+    fn sync_now(&mut self, files: &R) -> io::Result<()>
         ensures over { self.old.has_failed ≡ true → (is_err result ≡ true)
             × (self.new.has_failed ≡ true) }
     {
         self.find(files)?;
         if let Some(file) = &self.file {
-            file.sync_all()?;
+            file.sync_data()?;
             if !self.is_named {
-                open(files, self.folder.as_path(), false, false)?.sync_all()?;
+                open(files, self.folder.as_path())?.sync_all()?;
                 self.is_named = true;
             }
         }
@@ -174,25 +181,20 @@ impl<R: Files> RealFile<R> {
             return Err(ErrorKind::Other.into());
         }
         if self.access == Access::Unseen {
-            match open(files, self.path.as_path(), false, false) {
-                Ok(file) => self.take(file)?,
-                Err(e) if e.kind() == ErrorKind::NotFound => {}
-                Err(e) => return Err(e),
+            if is_there(files, self.path.as_path())? {
+                let file = open(files, self.path.as_path())?;
+                self.take(file)?;
             }
             self.access = Access::Reading;
         }
         Ok(())
     }
 
-    // The file as it was found, unless it is a folder.
+    // The file as it was found.
     fn take(&mut self, file: R::File) -> io::Result<()>
         ensures { self.new.has_failed ≡ self.old.has_failed }
     {
-        let found = file.metadata()?;
-        if found.is_dir() {
-            return Err(ErrorKind::IsADirectory.into());
-        }
-        self.len = Some(found.len());
+        self.len = Some(file.metadata()?.len());
         self.position = Some(0);
         self.file = Some(file);
         Ok(())
@@ -205,7 +207,7 @@ impl<R: Files> RealFile<R> {
     {
         self.find(files)?;
         if self.access != Access::Writing && (make || self.file.is_some()) {
-            let file = open(files, self.path.as_path(), true, make)?;
+            let file = open_to_write(files, self.path.as_path(), make)?;
             if self.file.is_none() {
                 self.len = Some(0);
             }
@@ -242,12 +244,4 @@ impl<R: Files> RealFile<R> {
         }
         Ok(())
     }
-}
-
-fn open<R: Files>(files: &R, path: Path<'_>, write: bool, make: bool) -> io::Result<R::File> {
-    let mut options = OpenOptions::new();
-    options.read(true);
-    options.write(write);
-    options.create(make);
-    options.open(files, path)
 }

@@ -20,14 +20,18 @@ const WRITE_MILLISECONDS: u64 = 10;
 // How many writes one send makes at most: half a minute of waits, where each is as long as asked.
 const MOST_WRITES: u32 = 3_000;
 
-// How long one send goes on by the clock: a wait may be twice as long where the ticks are coarse.
-const SEND_SECONDS: u64 = 30;
+// How long a peer has for each send, and how far it may fall behind that in all.
+const SEND_MILLISECONDS: u64 = 100;
 
-/// A socket, and what was heard on it while it could not send.
+const MOST_BEHIND_MILLISECONDS: u64 = 30_000;
+
+/// A socket, and what was heard on it while it could not send. Its peer has 100 ms for each send,
+/// and may be half a minute behind that in all; a send that is done sooner makes up for others.
 #[derive(Drop)]
 pub struct Socket<R: Net> {
     stream: Stream<R>,
     inbox: Inbox,
+    behind: u64,
 }
 
 impl<R: Net> Socket<R> {
@@ -40,6 +44,7 @@ impl<R: Net> Socket<R> {
         Ok(Socket {
             stream,
             inbox: Inbox::new(alloc),
+            behind: 0,
         })
     }
 
@@ -59,21 +64,32 @@ impl<R: Net> Socket<R> {
         }
     }
 
-    /// Sends all bytes. Fails where the peer does not take them within half a minute.
+    /// Sends all bytes. Fails where the peer has fallen half a minute behind; then nothing is made
+    /// up for any more, and neither is a later send waited for.
     pub fn send(&mut self, clock: &impl Clock, bytes: &[u8]) -> io::Result<()> {
         let start = Instant::now(clock)?;
         let mut left = bytes;
+        let mut waited = 0;
         for _ in 0..MOST_WRITES {
             let n = self.write(left)?;
             left = &left[n..];
             if left.is_empty() {
+                self.behind = self.behind_after(waited);
                 return Ok(());
             }
-            if start.elapsed(clock)? >= Duration::from_secs(SEND_SECONDS) {
+            waited = milliseconds(start.elapsed(clock)?);
+            if self.behind_after(waited) >= MOST_BEHIND_MILLISECONDS {
                 break;
             }
         }
+        self.behind = MOST_BEHIND_MILLISECONDS;
         Err(ErrorKind::TimedOut.into())
+    }
+
+    // How far the peer is behind, in milliseconds, once a send has taken so long.
+    fn behind_after(&self, waited: u64) -> u64 {
+        let spent = self.behind.saturating_add(waited);
+        spent.saturating_sub(SEND_MILLISECONDS)
     }
 
     // Writes a front of the bytes. Where none could be written, what the peer sends is read ahead,
@@ -108,4 +124,9 @@ impl<R: Net> Socket<R> {
 // The wait was over, or a signal came. `TimedOut` is another thing: a connection that was lost.
 fn is_pause(e: &io::Error) -> bool {
     matches!(e.kind(), ErrorKind::WouldBlock | ErrorKind::Interrupted)
+}
+
+// A time in milliseconds.
+fn milliseconds(time: Duration) -> u64 {
+    u64::try_from(time.as_millis()).unwrap_or(u64::MAX)
 }

@@ -9,3 +9,4 @@ pub mod Adding
 pub mod Windows
 pub mod Limits
 pub mod Added
+pub mod SortedWalk

@@ -1,5 +1,5 @@
 -- The walk of a reply tree, over the list of the items' parents: none for a root, else the number of an earlier item.
-use Rattle.std.specs.Prelude.{◌≡◌, ℕ, ◌-◌, ◌<◌, ◌==◌, ◌&&◌, ◌||◌, ◌↔◌, nat_lt, Bool, true, false, List, [], ◌∷◌, ◌++◌, length, take, drop, Option, None, Some, slice_index, slice_index_or}
+use Rattle.std.specs.Prelude.{◌≡◌, ℕ, zero, suc, if◌then◌else◌, ◌-◌, ◌<◌, ◌==◌, ◌&&◌, ◌||◌, ◌↔◌, nat_lt, Bool, true, false, List, [], ◌∷◌, ◌++◌, length, take, drop, Option, None, Some, slice_index, slice_index_or}
 use Rattle.std.specs.List.{filter, Contains}
 
 -- the path of what an item replies to, of the paths of earlier items
@@ -45,6 +45,20 @@ pub record IsWalk (ps : List (Option ℕ)) (walk : List ℕ) : Type 0 where
   pub items : (n : ℕ) → (n < length ps) ↔ Contains walk n
   pub ascends : (i j : ℕ) → i < j → j < length walk → is_before (path_of ps (slice_index walk i)) (path_of ps (slice_index walk j)) ≡ true
 
+-- a number among others that ascend by their paths
+abbrev pub among_paths : List (Option ℕ) → ℕ → List ℕ → List ℕ
+among_paths ps n [] = n ∷ []
+among_paths ps n (m ∷ walk) = if is_before (path_of ps n) (path_of ps m) then n ∷ m ∷ walk else m ∷ among_paths ps n walk
+
+-- the numbers below one, ascending by their paths
+abbrev pub walk_below : List (Option ℕ) → ℕ → List ℕ
+walk_below ps zero = []
+walk_below ps (suc n) = among_paths ps n (walk_below ps n)
+
+-- the one walk, by sorting all numbers
+abbrev pub walk_of : List (Option ℕ) → List ℕ
+walk_of ps = walk_below ps (length ps)
+
 -- so many items of the walk from a place on
 pub record IsWindow (ps : List (Option ℕ)) (place count : ℕ) (window : List ℕ) : Type 0 where
   pub walk : List ℕ
@@ -58,6 +72,10 @@ RepliesToEarlier ps = (n p : ℕ) → slice_index_or ps n None ≡ Some p → p 
 -- the walk is one list
 abbrev pub HasOneWalk : Type 0
 HasOneWalk = (ps : List (Option ℕ)) (one other : List ℕ) → IsWalk ps one → IsWalk ps other → one ≡ other
+
+-- and it is this one
+abbrev pub IsSortedWalk : Type 0
+IsSortedWalk = (ps : List (Option ℕ)) → RepliesToEarlier ps → IsWalk ps (walk_of ps)
 
 -- in the walk an item stands behind what it replies to
 abbrev pub HasParentsFirst : Type 0

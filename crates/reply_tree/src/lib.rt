@@ -7,5 +7,5 @@ mod laws;
 mod nodes;
 mod tree;
 
-pub use laws::{parents_come_first, walks_are_one};
+pub use laws::{parents_come_first, walk_is_sorted, walks_are_one};
 pub use tree::Tree;

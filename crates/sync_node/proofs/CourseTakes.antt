@@ -46,21 +46,11 @@ use Rattle.sync_course.specs.declared.ends.LinkEnd.TheVariants as link_end
 use Rattle.sync_node.specs.Hearing.{ClosesBy, Learns, nonce_with}
 use Rattle.sync_course.specs.ToldLaws.{runs_then}
 use Rattle.sync_node.specs.Fulls.{IsOver, LinkFull, NextFull, StopsFull, TakesFull}
-use Rattle.sync_node.specs.Courses.{Adds, AddsSettling, AddsSome, AddsSomeSettling, FitsWith, IsTaking, LinkBreaks, LinkHalts, LinkRuns, NextAsCourse, NextStops, PieceAsCourse, PieceTaken, ReadsAs, StopsAsCourse, TakesAsCourse, link_at, spot_at}
+use Rattle.sync_node.specs.Courses.{Adds, AddsSettling, AddsSome, AddsSomeSettling, FitsWith, IsTaking, LinkHalts, LinkRuns, NextAsCourse, NextStops, PieceAsCourse, PieceTaken, ReadsAs, StopsAsCourse, TakesAsCourse, link_at, spot_at}
 use Rattle.sync_node.specs.CourseLaws.{told_as}
 use Rattle.sync_node.proofs.CommitLaws.{settling_front}
 
--- a call was broken off before anything was done
-breaks_none : (clients : Meaning) (n session : ℕ) (p : Spot) (s : StoreValue) (o : Outside)
-    → LinkBreaks clients n session p s o o
-breaks_none clients n session p s o = record {
-  to = p;
-  runs =
-      runs_none (LinkStep clients n session) (FitsWith clients s o.files) (ReadsAs clients o.files)
-      (λ j fit. (fit.0, fit.1, fit.2.stands_for)) p o;
-}
-
--- and the link stands as it did
+-- a call was broken off before anything was done, and the link stands as it did
 pub halts_none : (clients : Meaning) (n session : ℕ) (p : Spot) (s : StoreValue) (o : Outside)
     → LinkHalts clients n session p p.link s o o
 halts_none clients n session p s o = record {
@@ -213,7 +203,12 @@ stops_at_none clients session r s o batch is allowed = record {
       let q : Spot = taken_spot place r its b p in
       let may : Allowed clients p.facts b = subst (λ f. Allowed clients f b) (sym same) (subst (Allowed clients s.state.facts) is_b allowed) in
       record {
-        breaks = breaks_none clients n session p s o;
+        breaks = record {
+          to = p;
+          runs =
+              runs_none (LinkStep clients n session) (FitsWith clients s o.files) (ReadsAs clients o.files)
+              (λ j fit. (fit.0, fit.1, fit.2.stands_for)) p o;
+        };
         stands = inr (record {
           batch = b;
           next = q;

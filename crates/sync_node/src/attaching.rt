@@ -78,7 +78,6 @@ pub(crate) fn attach_on<H: Host, C: Clients>(
 
 // Commits a session, and then sends what it begins with. All is spelled first, so that nothing may
 // fail between the two but a send, which closes the link.
-#[tactic(auto, using(session_core::proofs::Unknown::unknown))]
 fn start<H: Host, C: Clients>(
     alloc: Global,
     store: &mut Store,

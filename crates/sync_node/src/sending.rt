@@ -73,7 +73,6 @@ pub(crate) fn send_all<H: Host, C: Clients>(
 
 // Commits an output, and then sends it. It is spelled first, so that nothing may fail between the
 // two.
-#[tactic(auto, using(session_core::proofs::Unknown::unknown))]
 fn put_out<H: Host, C: Clients>(
     alloc: Global,
     store: &mut Store,

@@ -1,8 +1,15 @@
 -- What a run leaves on the links that ends before its first session, by the calls that it made.
-use Rattle.std.proofs.Common.{◌≡◌, ℕ, List, [], sym, ◌∙◌, subst, refl, Result, Ok, Err}
+use Rattle.std.proofs.Common.{◌≡◌, ℕ, Bool, true, false, List, [], sym, ap, ◌∙◌, subst, refl, Option, Some, Result, Ok, Err}
 use Rattle.outside.specs.declared.failed.Failed.{Failed}
+use Rattle.outside.specs.Disk.{Becomes}
+use Rattle.outside.specs.Files.{Two, File}
 use Rattle.outside.specs.Links.{Links}
-use Rattle.outside.specs.Outside.{Outside}
+use Rattle.outside.specs.Outside.{DiskRun, IsNow, MomentsAre, Outside}
+use Rattle.frame_journal.specs.Gates.{ReadsSame}
+use Rattle.sync_rules.specs.Facts.{Facts, facts}
+use Rattle.entry_codec.specs.Standing.{Standing, journal}
+use Rattle.sync_store.specs.Store.{StoreValue}
+use Rattle.store_commands.specs.Load.{HasFacts}
 use Rattle.sync_words.specs.declared.link_words.LinkWords.{LinkWords}
 use Rattle.sync_course.specs.Closing.{Closing}
 use Rattle.sync_words.specs.declared.outcome.Outcome.{Outcome}
@@ -10,8 +17,10 @@ use Rattle.sync_words.specs.declared.outcome.Outcome.TheVariants as outcome
 use Rattle.sync_run.specs.declared.dialling.Dialled.{Dialled}
 use Rattle.sync_run.specs.Causes.{FailsAlone, RunCaused}
 use Rattle.sync_run.specs.Dialling.{DialsAll, MakesLinks}
-use Rattle.sync_run.specs.Leaving.{LeavesLinks}
+use Rattle.sync_run.specs.Courses.{is_unknown}
+use Rattle.sync_run.specs.Leaving.{DoesNotBegin, LeavesLinks, MayNotBegin}
 use Rattle.sync_run.proofs.CourseLinks.{no_links_made}
+use Rattle.sync_run.proofs.SafeEnds.{reads_told}
 
 -- no link was touched
 pub leaves_same : (words : List LinkWords) (o o' : Outside) (r : Result Closing Outcome) → o'.links ≡ o.links → LeavesLinks words o o' r
@@ -56,3 +65,20 @@ leaves_as words o o1 o2 o3 (Err (outcome.LinkFailed named)) first last leaves = 
       (subst (λ (b : Links). MakesLinks leaves.made o1.links b) (sym last) leaves.makes);
 }
 leaves_as words o o1 o2 o3 (Err came) first last leaves = tt
+
+-- ---- files over which no session may begin
+
+-- a load alone
+pub unbegun_loaded : (two : Two File) (o o1 : Outside) → o.files ≡ Some two → DiskRun o o1 → MomentsAre o o1 (IsNow two o.links) → Becomes ReadsSame o.files o1.files
+    → DoesNotBegin two o o1
+unbegun_loaded two o o1 told run moments reads = record {
+  same_links = run.same_links;
+  rests = record { moments = moments; kept = λ two' told'. reads_told o.files o1.files two two' reads told told' };
+}
+
+-- over a journal in which all contacts are known some session may
+pub known_begins : (words : List LinkWords) (standing : Standing) (s : StoreValue) → HasFacts standing s → is_unknown s.state.facts words ≡ false → MayNotBegin words standing → ⊥
+known_begins words standing s has known none =
+    let not_known : is_unknown (facts has.of) words ≡ true = subst (λ (st : Standing). MayNotBegin words st) has.stood none in
+    let same : is_unknown (facts has.of) words ≡ is_unknown s.state.facts words = ap (λ (f : Facts). is_unknown f words) has.are in
+    cc

@@ -23,7 +23,7 @@ use Rattle.sync_run.specs.Plans.{ArePlanned}
 use Rattle.sync_run.proofs.SafeBegin.{none_sent, nothing_sent, safe_new}
 
 -- files that read as before
-reads_told : (old new : Option (Two File)) (two two' : Two File) → Becomes ReadsSame old new → old ≡ Some two → new ≡ Some two' → read_files two' ≡ read_files two
+pub reads_told : (old new : Option (Two File)) (two two' : Two File) → Becomes ReadsSame old new → old ≡ Some two → new ≡ Some two' → read_files two' ≡ read_files two
 reads_told old new two two' becomes told told' =
     let at = becomes_told ReadsSame old new two told becomes in
     let same : two' ≡ at.0 = let it = sym told' ∙ at.1 in cc in

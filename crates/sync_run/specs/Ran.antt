@@ -13,7 +13,7 @@ use Rattle.sync_run.specs.declared.run.Limits.{Limits}
 use Rattle.sync_run.specs.Causes.{IsCaused}
 use Rattle.sync_run.specs.Courses.{ComesTo, HaveSpecs}
 use Rattle.sync_run.specs.Headline.{Headline, Rests, SentFull, SentWhole}
-use Rattle.sync_run.specs.Leaving.{LeavesLinks}
+use Rattle.sync_run.specs.Leaving.{DoesNotBegin, LeavesLinks, MayNotBegin}
 
 -- what is so where the files are told
 pub record RanTold (clients : Meaning) (limits : Limits) (words : List LinkWords) (two : Two File) (old new : Outside) (result : Result Closing Outcome) : Type 0 where
@@ -21,6 +21,8 @@ pub record RanTold (clients : Meaning) (limits : Limits) (words : List LinkWords
   pub sent : IfOk result (SentWhole clients two new)
   pub sent_full : IsErrOf result outcome.Full → SentFull clients two old new
   pub comes : ComesTo clients limits words (stands clients (read_files two)) old new result
+  -- whatever it answers
+  pub unbegun : MayNotBegin words (stands clients (read_files two)) → DoesNotBegin two old new
 
 -- a run of sessions over the links of these words came to this outcome
 pub record HasRun (clients : Meaning) (limits : Limits) (words : List LinkWords) (old new : Outside) (came : Outcome) : Type 0 where

@@ -19,7 +19,7 @@ ghost use Rattle.sync_words.specs.Links.{AreLinks};
 ghost use Rattle.sync_run.specs.Causes.{FailsAlone, IsCaused, RunCaused};
 ghost use Rattle.sync_run.specs.Courses.{ComesTo, HaveSpecs, RunComes, TestsContacts};
 ghost use Rattle.sync_run.specs.Headline.{Headline, Rests, SentFull, SentWhole};
-ghost use Rattle.sync_run.specs.Leaving.{LeavesLinks};
+ghost use Rattle.sync_run.specs.Leaving.{DoesNotBegin, LeavesLinks, MayNotBegin};
 ghost use Rattle.sync_run.specs.Parts.{BreaksRun, FullRun, RunsOver, RunsSessions, sessions_from};
 ghost use Rattle.sync_run.specs.SafeRuns.{AllMayBegin, AreUnused, AttachesAll, IsKnown, RunsSafe};
 ghost use Rattle.sync_run.specs.SafeRuns.{SendsFull, SendsWhole, SessionsSafe, SessionsSent};
@@ -53,8 +53,9 @@ pub struct Limits {
 /// run is over or all were made. At the end every link is hung up.
 ///
 /// # Errors
-/// `NoStore`, `Damaged` and `Refused(UnknownContact)` leave the journal as it is, and no link is
-/// made; `LinkFailed` names the one link whose dial or nonce failed, the journal is as it was,
+/// `NoStore`, `Damaged` and `Refused(UnknownContact)` leave the files as they read, and no link is
+/// made; nor is one, nor a byte written, whatever it answers, where one of these is due.
+/// `LinkFailed` names the one link whose dial or nonce failed, the journal is as it was,
 /// and nothing was sent or heard; `Full`, `Memory` and `DiskFault` break the run off.
 pub fn sync_links<H: Host, C: Clients>(
     alloc: Global,
@@ -82,6 +83,12 @@ pub fn sync_links<H: Host, C: Clients>(
     ensures specs { HaveSpecs links.now (H.tells host.new) }
     ensures caused { IsCaused links.now (H.tells host.old) (H.tells host.new) result }
     ensures leaves { LeavesLinks links.now (H.tells host.old) (H.tells host.new) result }
+
+    // Whatever it answers: over files that stand for no journal, or for one in which a contact of
+    // the words is not known, nothing is done.
+    ensures unbegun { (two : Two File) → (H.tells host.old).files ≡ Some two
+        → MayNotBegin links.now (stands (C.meaning clients.now) (read_files two))
+        → DoesNotBegin two (H.tells host.old) (H.tells host.new) }
 {
     let store = load_store(alloc, hasher, host, clients)?;
     test_contacts(&store, links)?;

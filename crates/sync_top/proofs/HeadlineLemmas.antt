@@ -26,7 +26,7 @@ use Rattle.sync_words.specs.Outcomes.{links_came_to}
 use Rattle.sync_top.specs.Run.{AsksSync, Comes, Covered, DoesNothing}
 
 -- nothing was sent on a host without links
-no_links : (links : List Link) → length links ≡ 0 → links ≡ []
+pub no_links : (links : List Link) → length links ≡ 0 → links ≡ []
 no_links [] none = refl
 no_links (l ∷ links) none = absurd (omega (arith, none))
 
@@ -34,7 +34,7 @@ none_sent : (o : Outside) → Told o → o.links.dialled ≡ 0 → sent_of o.lin
 none_sent o told none =
     ap sent_of told.links_are ∙ ap (λ (l : List Link). sent_of (Some l)) (no_links told.links (o.all_told told.links told.links_are ∙ none))
 
-none_at : (sent : List (List ℕ)) (link : ℕ) → sent ≡ [] → slice_index_or sent link [] ≡ []
+pub none_at : (sent : List (List ℕ)) (link : ℕ) → sent ≡ [] → slice_index_or sent link [] ≡ []
 none_at sent link none = ap (λ (s : List (List ℕ)). slice_index_or s link []) none
 
 front_of_none : (sent all : List ℕ) → sent ≡ [] → IsFront sent all

@@ -6,3 +6,4 @@ pub mod States
 pub mod Undamaged
 pub mod Complete
 pub mod Looking
+pub mod Sound

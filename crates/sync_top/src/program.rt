@@ -3,12 +3,14 @@ ghost use Rattle.std.specs.Prelude.{◌≡◌};
 ghost use Rattle.sync_top.specs.Complete.{Complete};
 ghost use Rattle.sync_top.specs.Looking.{LooksUnless};
 ghost use Rattle.sync_top.specs.Run.{AsksSync, Comes, Covered, KeepsHost, Ran, Reports};
+ghost use Rattle.sync_top.specs.Sound.{AlwaysOpens};
 ghost use Rattle.sync_top.specs.States.{TellsWhole};
 ghost use Rattle.sync_top.specs.Undamaged.{NeverDamaged};
 ghost use Rattle.commands.specs.Reading.{asks, IsWithin};
 ghost use Rattle.sync_words.specs.Words.{texts};
 ghost use Rattle.commands.specs.Reading.Asked.{Do};
 
+use crate::laws::runs_are_sound;
 use crate::streams::{group_of, list_records, try_group};
 use commands::{Command, read_words};
 use journal_play::play_says;
@@ -41,6 +43,8 @@ pub fn run<H: Host, S: Source, W: Sink, E: Sink, C: Clients>(
     requires unused { AsksSync (asks (texts words.now)) → (H.tells host.old).links.dialled ≡ 0 }
     ensures headline { Covered (C.meaning clients.now) (asks (texts words.now)) (H.tells host.old)
         (H.tells host.new) }
+    ensures opens { AlwaysOpens (C.meaning clients.now) (asks (texts words.now))
+        (H.tells host.old) (H.tells host.new) }
     ensures ran { Ran (C.meaning clients.now) (asks (texts words.now)) (H.tells host.old)
         (H.tells host.new) (S.tells input.old) (S.tells input.new) (W.tells out.old)
         (W.tells out.new) (E.tells err.old) (E.tells err.new) result }
@@ -54,8 +58,9 @@ pub fn run<H: Host, S: Source, W: Sink, E: Sink, C: Clients>(
         (H.tells host.new) (S.tells input.old) (S.tells input.new) (W.tells out.old)
         (W.tells out.new) result }
 {
-    // The law that the clause on the states rests on.
+    // The laws that the clauses on the states and on what is opened rest on.
     play_says();
+    runs_are_sound();
     let outcome = command(alloc, hasher, words, host, input, out, clients);
     report(&outcome, err)
 }

@@ -1,9 +1,9 @@
 ghost use Rattle.std.specs.Prelude.{◌<◌};
 
 use crate::checks::{holds, kept, same};
-use crate::real::real_host;
+use crate::real::{reading_host, real_host};
 use outside::{Disk, Failed, Host, Sink, Source};
-use outside_real::{FileHost, StdSink, StdSource};
+use outside_real::{EarlySource, FileHost, StdSink, StdSource};
 use std::alloc::AllocError;
 use std::fs;
 use std::fs::{File, Files, Permissions};
@@ -167,12 +167,14 @@ static NOT_SYNCED: [Call; 10] = [
     Call::Sync(1, Ok(())),
 ];
 
-// A device that can't be synced stands in the place of a file.
+// A file of the system's, which can't be synced, stands in the place of a file: the name of this
+// process.
 #[test]
 fn a_failed_sync_is_final(rt: HostRuntime) {
     let folder = "files_not_synced";
     make_folder(&rt, folder);
-    kept(&rt, symlink(&rt, "/dev/null", "files_not_synced/bsp.0"));
+    let name = "/proc/self/comm";
+    kept(&rt, symlink(&rt, name, "files_not_synced/bsp.0"));
     same(&rt, &first_apart(rt, folder, &NOT_SYNCED), &Ok(None));
     remove_folder(&rt, folder);
 }
@@ -204,6 +206,34 @@ static A_FOLDER: [Call; 3] = [
     Call::Sync(1, Err(Failed)),
 ];
 
+// The first file is a device.
+static A_DEVICE: [Call; 4] = [
+    Call::Len(0, Err(Failed)),
+    Call::Sync(0, Err(Failed)),
+    Call::Write(0, 0, b"a", Err(Failed)),
+    Call::Len(1, Ok(0)),
+];
+
+#[test]
+fn no_regular_file(rt: HostRuntime) {
+    let folder = "files_and_a_device";
+    make_folder(&rt, folder);
+    let device = "/dev/null";
+    kept(&rt, symlink(&rt, device, "files_and_a_device/bsp.0"));
+    same(&rt, &first_apart(rt, folder, &A_DEVICE), &Ok(None));
+    remove_folder(&rt, folder);
+}
+
+#[test]
+fn a_file_is_its_owners(rt: HostRuntime) {
+    let folder = "files_made";
+    make_folder(&rt, folder);
+    same(&rt, &first_apart(rt, folder, &ON_A_DISK), &Ok(None));
+    let found = kept(&rt, fs::metadata(&rt, "files_made/bsp.0"));
+    same(&rt, &(found.permissions().mode() & 0o777), &0o600);
+    remove_folder(&rt, folder);
+}
+
 #[test]
 fn calls_that_fail(rt: HostRuntime) {
     let nowhere = "no_folder";
@@ -221,6 +251,45 @@ fn dials_nothing(rt: HostRuntime, folder: &str) -> Result<bool, AllocError> {
     let mut host = real_host(rt, folder)?;
     let dialled = host.host.dial("nothing");
     Ok(dialled.is_err() && host.host.now() > 1_700_000_000_000)
+}
+
+static READ_ALONE: [Call; 6] = [
+    Call::Len(0, Ok(3)),
+    Call::Read(0, 1, 8, Ok(b"bc")),
+    Call::Write(0, 0, b"x", Err(Failed)),
+    Call::Cut(0, 0, Err(Failed)),
+    Call::Sync(0, Ok(())),
+    Call::Len(1, Ok(0)),
+];
+
+#[test]
+fn a_reader_writes_nothing(rt: HostRuntime) {
+    let folder = "files_read_alone";
+    make_folder(&rt, folder);
+    write_file(&rt, "files_read_alone/bsp.0", b"abc");
+    same(&rt, &first_read(rt, folder, &READ_ALONE), &Ok(None));
+    let bytes = kept(&rt, fs::read(&rt, "files_read_alone/bsp.0"));
+    same(&rt, &bytes.as_slice(), &b"abc".as_slice());
+    remove_folder(&rt, folder);
+}
+
+// As `first_apart`, for a host that may not write.
+fn first_read(rt: HostRuntime, folder: &str, calls: &[Call]) -> Result<Option<usize>, AllocError> {
+    let mut host = reading_host(rt, folder)?;
+    Ok(first_of(&mut host.host, calls))
+}
+
+#[test]
+fn an_input_that_is_read_early(rt: HostRuntime) {
+    let path = "an_early_stream";
+    write_file(&rt, path, b"hello");
+    let mut early = EarlySource::new(rt.alloc(), kept(&rt, fs::open(&rt, path)));
+    kept(&rt, early.read_early(3));
+    holds(&rt, "it reads all", reads_all(early));
+    let mut early = EarlySource::new(rt.alloc(), kept(&rt, fs::create(&rt, path)));
+    kept(&rt, early.read_early(3));
+    holds(&rt, "no read", refuses_a_read(early));
+    kept(&rt, fs::remove_file(&rt, path));
 }
 
 #[test]

@@ -1,7 +1,7 @@
 // A host of this machine whose drop is written out, so that whoever drops one proves one call.
 ghost use Rattle.std.specs.Prelude.{◌≡◌, vec_len, IfOk};
 
-use outside_real::FileHost;
+use outside_real::{FileHost, Need};
 use std::alloc::AllocError;
 
 /// A host of this machine.
@@ -20,5 +20,13 @@ pub(crate) fn real_host(rt: HostRuntime, folder: &str) -> Result<RealHost, Alloc
     ensures { IfOk result (λ h. vec_len h.host.links ≡ 0) }
 {
     let host = FileHost::new(rt, folder)?;
+    Ok(RealHost { host })
+}
+
+/// A host without links that reads the files in this folder, and may not write them.
+pub(crate) fn reading_host(rt: HostRuntime, folder: &str) -> Result<RealHost, AllocError>
+    ensures { IfOk result (λ h. vec_len h.host.links ≡ 0) }
+{
+    let host = FileHost::with(rt, folder, Need::Read)?;
     Ok(RealHost { host })
 }

@@ -84,12 +84,10 @@ over_of : (e : Entry) (batch : List Entry) (n : NodeValue) (node : Option NodeVa
 over_of e batch n node is single over =
     subst (λ (x : Option NodeValue). IsOver e x) (sym is) (subst (λ (b : List Entry). n.store.limit < needed n.store b) single over)
 
-failed_adding : (e : Entry) (f : StepFault) (d new : DeviceValue) (at : MemHostValue) → IsNotRefused {A = Unit {0}} (Err f) → (f ≡ fault.Full → IsOver e d.node × (new.host ≡ at))
+failed_adding : (e : Entry) (f : StepFault) (d new : DeviceValue) (at : MemHostValue) → IsNotRefused {A = Unit {0}} (Err f) → (f ≡ fault.Full → IsOver e d.node × (new.host ≡ d.host))
     → HasAtMost e d at → ComesOf at new.host → HostGoesOn d.host at → Adds e (Err f) d new
 failed_adding e fault.Refused d new at unrefused full most left since = absurd unrefused
-failed_adding e fault.Full d new at unrefused full most left since =
-    let (over, is) = full refl in
-    (over, subst (λ (x : MemHostValue). HasAtMost e d x) (sym is) most)
+failed_adding e fault.Full d new at unrefused full most left since = full refl
 failed_adding e fault.Memory d new at unrefused full most left since = inr (record { at = at; since = since; broken = most; left = left })
 
 -- an error that is passed on as it is
@@ -101,10 +99,10 @@ failed_as e (Err x) f d old new seen is adds =
 -- the call of the node failed
 pub adding_failed : (e : Entry) (batch : List Entry) (r : Result Ran StepFault) (f : StepFault) (g : NodeFault) (n n' : NodeValue) (h at : MemHostValue) (links : ℕ) (d old new : DeviceValue) → d ≡ old → IsErrAnd r (λ x. x ≡ f)
     → IsNotRefused {A = Unit {0}} (Err f) → (IsErrOf {T = Unit {0}} (Err f) fault.Full → (g ≡ node_fault.Full) × (new.host ≡ at)) → (g ≡ node_fault.Full → n.store.limit < needed n.store batch)
-    → batch ≡ e ∷ [] → d.node ≡ Some n → d.host ≡ h → LeadsAdding batch n n' h at → IsRunning n h links → ComesOf at new.host → HostGoesOn d.host at → Adds e r old new
-adding_failed e batch r f g n n' h at links d old new seen is unrefused full over single was its leads run left since =
+    → (g ≡ node_fault.Full → at ≡ h) → batch ≡ e ∷ [] → d.node ≡ Some n → d.host ≡ h → LeadsAdding batch n n' h at → IsRunning n h links → ComesOf at new.host → HostGoesOn d.host at → Adds e r old new
+adding_failed e batch r f g n n' h at links d old new seen is unrefused full over undone single was its leads run left since =
     failed_as e r f d old new seen is
-    (failed_adding e f d new at unrefused (λ filled. let both = full (ap (λ (x : StepFault). Err x) filled) in (over_of e batch n d.node was single (over both.0), both.1))
+    (failed_adding e f d new at unrefused (λ filled. let both = full (ap (λ (x : StepFault). Err x) filled) in (over_of e batch n d.node was single (over both.0), both.1 ∙ (undone both.0 ∙ sym its)))
     (λ j holds. at_most e batch n n' h at links single leads run j (subst (λ (x : MemHostValue). Holds j x) its holds)) left since)
 
 -- it was made, but its links or its clock found no memory, or the call at which the disk is to stop was passed

@@ -150,12 +150,12 @@ HasAtMost e old at = (j : Journal) → Holds j old.host → HoldsAtMost e j at
 
 -- An entry is added: it stands in the journal, with settling behind it, and nothing else was done. Where the stop fell in it, at
 -- most that stood in the files when the disk failed; no more stood there where it found no memory. It is full where the journal
--- would pass its limit, and then no more stands there either.
+-- would pass its limit, and then its host is as before.
 abbrev pub Adds : Entry → Result Ran StepFault → DeviceValue → DeviceValue → Type 0
 Adds e (Ok ran.Done) old new = KeepsOwn old new × ((j : Journal) → Holds j old.host → HasAdded e j new) × KeepsRest old new
 Adds e (Ok ran.Crashed) old new = StopsIn (HasAtMost e old) old new
 Adds e (Err fault.Refused) old new = new ≡ old
-Adds e (Err fault.Full) old new = IsOver e old.node × HasAtMost e old new.host
+Adds e (Err fault.Full) old new = IsOver e old.node × (new.host ≡ old.host)
 Adds e (Err fault.Memory) old new = GivesUpIn (HasAtMost e old) old new
 
 -- ---- links

@@ -1,3 +1,4 @@
+use Rattle.session_core.proofs.Unknown.{unknown}
 use Rattle.sync_node.proofs.Undone.{if_err_all, undone_none}
 use Rattle.std.proofs.Common.{arith, refl, sym, ◌∙◌, subst}
 use Rattle.record_stream.specs.Reading.{AwaitsBytes, ReaderState}
@@ -116,3 +117,6 @@ returns-in_err-priority-clause-undone g c = if_err_all _ _ (λ e. undone_none _ 
 
 pub returns-in_err-batch-clause-undone : goal.returns-in_err-batch-clause-undone
 returns-in_err-batch-clause-undone g c = if_err_all _ _ (λ e. undone_none _ _ e)
+
+pub commit-requires-clause-named : goal.commit-requires-clause-named
+commit-requires-clause-named g c = unknown c.in_ok-batch.batch

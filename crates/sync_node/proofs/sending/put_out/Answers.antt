@@ -1,3 +1,4 @@
+use Rattle.session_core.proofs.Unknown.{unknown}
 use Rattle.std.proofs.Common.{arith, ◌∙◌}
 use Rattle.sync_node.proofs.OutLaws.{put_able, put_stays, put_waits, put_works}
 use Rattle.sync_node.proofs.WorkLaws.{on_err, stays_none}
@@ -75,3 +76,6 @@ returns-in_err-commit-clause-full g c = λ is.
 pub returns-in_err-commit-clause-sent : goal.returns-in_err-commit-clause-sent
 returns-in_err-commit-clause-sent g c = λ is.
     stops_none _ _ _ _ _ _ _ _ c.requires.unfailed (c.in_err-commit.ensures.as_before (ap (λ e. Err e) (err_was _ c.in_err-commit.field-0.0 _ c.from_residual-in_err-commit.ensures.1 is)))
+
+pub commit-requires-clause-named : goal.commit-requires-clause-named
+commit-requires-clause-named g c = unknown c.in_ok-batch.batch

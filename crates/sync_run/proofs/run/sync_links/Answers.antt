@@ -2,7 +2,7 @@ use Rattle.std.proofs.Common.{ap, ◌∙◌}
 use Rattle.outside.specs.Links.{Links}
 use Rattle.sync_node.specs.Going.{specs_of}
 use Rattle.sync_run.proofs.CourseLinks.{links_caused, links_come, refused_caused, refused_comes, unheld_caused, unheld_comes, unloaded_caused, unloaded_comes}
-use Rattle.sync_run.proofs.LeavingLaws.{leaves_as, leaves_same}
+use Rattle.sync_run.proofs.LeavingLaws.{known_begins, leaves_as, leaves_same, unbegun_loaded}
 use Rattle.sync_run.proofs.SafeCalm.{err_is}
 use Rattle.sync_run.proofs.SafeEnds.{headline_none}
 use Rattle.sync_run.proofs.SafeRunning.{at_rest_stills, headline_run, load_rests, rests_at, rests_fault, rests_ready, sent_run, specs_disk, specs_kept}
@@ -134,3 +134,19 @@ pub returns-clause-leaves : goal.returns-clause-leaves
 returns-clause-leaves g c =
     leaves_as c.args.links.now (g.H.Disk.tells c.args.host.now) (g.H.Disk.tells c.load_store.new.disk) (g.H.Disk.tells c.run_links-ended.new.host) (g.H.Disk.tells c.hang_up_all.new.host)
     c.run_links-ended.result c.load_store.ensures.run.same_links c.hang_up_all.ensures.same_links c.run_links-ended.ensures.leaves
+
+pub returns-in_err-store-clause-unbegun : goal.returns-in_err-store-clause-unbegun
+returns-in_err-store-clause-unbegun g c = λ two told none.
+    unbegun_loaded two (g.H.Disk.tells c.args.host.now) (g.H.Disk.tells c.load_store.new.disk) told c.load_store.ensures.run (c.load_store.ensures.rests two told).moments c.load_store.ensures.reads
+
+pub returns-in_err-test_contacts-clause-unbegun : goal.returns-in_err-test_contacts-clause-unbegun
+returns-in_err-test_contacts-clause-unbegun g c = λ two told none.
+    unbegun_loaded two (g.H.Disk.tells c.args.host.now) (g.H.Disk.tells c.load_store.new.disk) told c.load_store.ensures.run (c.load_store.ensures.rests two told).moments c.load_store.ensures.reads
+
+pub returns-in_err-dialled-clause-unbegun : goal.returns-in_err-dialled-clause-unbegun
+returns-in_err-dialled-clause-unbegun g c = λ two told none.
+    unbegun_loaded two (g.H.Disk.tells c.args.host.now) (g.H.Disk.tells c.load_store.new.disk) told c.load_store.ensures.run (c.load_store.ensures.rests two told).moments c.load_store.ensures.reads
+
+pub returns-clause-unbegun : goal.returns-clause-unbegun
+returns-clause-unbegun g c = λ two told none.
+    absurd (known_begins c.args.links.now _ c.in_ok-store.store (c.in_ok-store.ensures.loaded two told) c.in_ok-test_contacts.ensures.tested none)

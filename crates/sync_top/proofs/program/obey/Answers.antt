@@ -19,7 +19,7 @@ returns-in-Contact-clause-comes g c =
 pub returns-in-Share-clause-comes : goal.returns-in-Share-clause-comes
 returns-in-Share-clause-comes g c =
     as_command (g.C.Clients.meaning c.args.clients.now) c.args.asked (command.Share c.in-Share.contact c.in-Share.group c.in-Share.level) _ _ _ _ _ _ _ _ c.in-Share.is c.of-in-Share.ensures
-    (inl (c.set_level.ensures, (record { same = refl; same_faults = refl })))
+    (inl (c.set_level-shared.ensures, (record { same = refl; same_faults = refl })))
 
 pub returns-in-Show-clause-comes : goal.returns-in-Show-clause-comes
 returns-in-Show-clause-comes g c =
@@ -39,7 +39,7 @@ returns-in-Body-clause-comes g c =
 pub returns-in-Post-clause-comes : goal.returns-in-Post-clause-comes
 returns-in-Post-clause-comes g c =
     as_command (g.C.Clients.meaning c.args.clients.now) c.args.asked (command.Post c.in-Post.group c.in-Post.timestamp) _ _ _ _ _ _ _ _ c.in-Post.is c.of-in-Post.ensures
-    (inl c.post_message.ensures)
+    (inl c.post_message-posted.ensures)
 
 pub returns-in-Ok-in-Group-clause-comes : goal.returns-in-Ok-in-Group-clause-comes
 returns-in-Ok-in-Group-clause-comes g c =
@@ -61,6 +61,6 @@ returns-in-Sync-clause-comes g c =
     as_command clients c.args.asked (command.Sync c.in-Sync.turns c.in-Sync.quiet c.in-Sync.links) _ _ _ _ _ _ _ _ c.in-Sync.is c.of_links.ensures
     (inl (
       has_run clients _ c.in-Sync.links c.as_slice-links.result.now _ _ c.sync_links.result _ c.as_slice-links.ensures.links refl e.headline
-          (λ two files. record { rests = e.rests two files; sent = e.sent two files; sent_full = e.sent_full two files; comes = e.comes two files }) e.specs e.caused e.leaves,
+          (λ two files. record { rests = e.rests two files; sent = e.sent two files; sent_full = e.sent_full two files; comes = e.comes two files; unbegun = e.unbegun two files }) e.specs e.caused e.leaves,
       (record { same = refl; same_faults = refl }, record { same = refl; same_faults = refl }),
     ))

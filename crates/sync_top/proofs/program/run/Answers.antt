@@ -3,6 +3,7 @@ use Rattle.sync_words.specs.Words.{texts}
 use Rattle.sync_top.proofs.CompleteLemmas.{complete}
 use Rattle.sync_top.proofs.HeadlineLemmas.{covers}
 use Rattle.sync_top.proofs.LookLemmas.{only_looks}
+use Rattle.sync_top.proofs.SoundLemmas.{always_opens}
 use Rattle.sync_top.proofs.StateLemmas.{tells}
 use Rattle.sync_top.proofs.UndamagedLemmas.{undamaged}
 use Rattle.sync_top.proofs.program.run.Goals as goal
@@ -42,3 +43,11 @@ pub returns-clause-looks : goal.returns-clause-looks
 returns-clause-looks g c =
     only_looks g.H.Disk.tells (g.C.Clients.meaning c.args.clients.now) c.args.host.now c.command-outcome.new.host _ _ _ _ c.command-outcome.result
     (asks (texts c.args.words.now)) c.command-outcome.ensures.comes c.command-outcome.ensures.host
+
+pub returns-clause-opens : goal.returns-clause-opens
+returns-clause-opens g c =
+    always_opens c.runs_are_sound.ensures (g.C.Clients.meaning c.args.clients.now) (asks (texts c.args.words.now)) (g.H.Disk.tells c.args.host.now)
+    (g.H.Disk.tells c.command-outcome.new.host) c.requires.unused
+    (covers (g.C.Clients.meaning c.args.clients.now) (asks (texts c.args.words.now)) (g.H.Disk.tells c.args.host.now)
+    (g.H.Disk.tells c.command-outcome.new.host) _ _ _ _ c.command-outcome.result c.requires.unused
+    c.command-outcome.ensures.comes)

@@ -72,6 +72,7 @@ returns-in_err-fail-in-Err-clause-adds c =
     let run = (running_of c.self.inside.node c.in-Some.node c.self.inside.host c.self.inside.links c.in-Some.is c.self.invariant.0) in
     adding_failed c.args.entry c.in_ok-batch.batch _ c.in_err-fail-in-Err.field-0.0 c.in-Err.fault c.in-Some.node c.add.new.self c.self.inside.host c.add.new.host c.self.inside.links _ c.args.self.now c.fail.new.self c.self.view_is
     c.from_residual-in_err-fail-in-Err.ensures.1 c.in_err-fail-in-Err.ensures.unrefused c.in_err-fail-in-Err.ensures.full (λ is. c.in-Err.ensures.full (ap (λ (x : NodeFault). Err x) is))
+    (λ is. (c.in-Err.ensures.undone (ap (λ (x : NodeFault). Err x) is)).same_host)
     c.in_ok-batch.ensures c.in-Some.is refl (c.add.ensures.leads run.unclosed) run c.fail.ensures.left c.add.ensures.run.calls
 
 pub returns-in_err-test_done-in-Ok-clause-adds : goal.returns-in_err-test_done-in-Ok-clause-adds

@@ -81,7 +81,7 @@ returns-in_err-test_done-in-Ok-clause-attaches c =
     let own = ready_store c.args.self.now.node c.in-Some-node.node c.in-Some.store.now was c.in-Some.ensures in
     let number = c.sessions-session.ensures ∙ ap (λ (s : StoreValue). s.state.facts.begun) own in
     attaches_seen c.args.plan.now c.args.nonce _ _ c.args.self.now _ c.self.view_is
-    (beginning_starved c.args.plan.now c.args.nonce _ c.in_err-test_done-in-Ok.field-0.0 c.sessions-session.result c.in-Some-node.node c.attach.new.self _ _ c.from_residual-in_err-test_done-in-Ok.ensures.1
+    (beginning_starved c.args.plan.now c.args.nonce _ c.in_err-test_done-in-Ok.field-0.0 c.sessions-session.result c.in-Some-node.node c.attach.new.self _ _ c.from_residual.ensures.1
     c.in_err-test_done-in-Ok.ensures.unrefused c.in_err-test_done-in-Ok.ensures.unfilled c.in-Some-node.is refl number c.in-Ok.ensures.joined.same_first
     (c.in-Ok.ensures.course (running_of c.self.inside.node c.in-Some-node.node c.self.inside.host c.self.inside.links c.in-Some-node.is c.self.invariant.0).unclosed) c.in-Ok.ensures.facts)
 

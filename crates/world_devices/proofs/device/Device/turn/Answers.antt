@@ -69,7 +69,7 @@ returns-in_err-fail-in-Err-clause-turns c =
 pub returns-in_err-test_done-in-Ok-clause-turns : goal.returns-in_err-test_done-in-Ok-clause-turns
 returns-in_err-test_done-in-Ok-clause-turns c =
     turns_seen _ _ c.args.self.now _ c.self.view_is
-    (turn_starved _ c.in_err-test_done-in-Ok.field-0.0 c.in-Some.node c.turn.new.self _ _ _ c.from_residual-in_err-test_done-in-Ok.ensures.1 c.in_err-test_done-in-Ok.ensures.unrefused c.in_err-test_done-in-Ok.ensures.unfilled c.in-Some.is
+    (turn_starved _ c.in_err-test_done-in-Ok.field-0.0 c.in-Some.node c.turn.new.self _ _ _ c.from_residual.ensures.1 c.in_err-test_done-in-Ok.ensures.unrefused c.in_err-test_done-in-Ok.ensures.unfilled c.in-Some.is
     (c.in-Ok.ensures.course (running_of c.self.inside.node c.in-Some.node c.self.inside.host c.self.inside.links c.in-Some.is c.self.invariant.0).unclosed) c.turn.ensures.run.calls)
 
 pub returns-in_ok-test_done-in-Ok-clause-turns : goal.returns-in_ok-test_done-in-Ok-clause-turns

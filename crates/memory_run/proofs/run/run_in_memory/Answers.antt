@@ -1,0 +1,13 @@
+use Rattle.std.proofs.Common.{◌≡◌, ap, subst, sym}
+use Rattle.outside.specs.MemHost.{MemHostValue}
+use Rattle.commands.specs.Reading.{asks}
+use Rattle.sync_words.specs.Words.{texts}
+use Rattle.memory_run.specs.Opens.{OpensInMemory}
+use Rattle.memory_run.proofs.OpensLemmas.{opens_in_memory}
+use Rattle.memory_run.proofs.run.run_in_memory.Goals as goal
+
+pub returns : goal.returns
+returns g c =
+    let clients = g.C.Clients.meaning c.args.clients.now in
+    subst (λ (h : MemHostValue). OpensInMemory clients (asks (texts c.args.words.now)) h c.run.new.host) c.into_host.ensures.host
+    (opens_in_memory clients (asks (texts c.args.words.now)) c.into_host.result c.run.new.host c.run.ensures.opens)
