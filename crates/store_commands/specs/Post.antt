@@ -9,6 +9,7 @@ use Rattle.outside.specs.Streams.{Stream, IsIdle}
 use Rattle.sync_ids.specs.declared.message.TheConstants.{MAX_BODY}
 use Rattle.sync_ids.specs.Ids.{message_id_of}
 use Rattle.sync_ids.specs.Values.{MessageValue}
+use Rattle.sync_rules.specs.declared.entries.Entry.{Entry}
 use Rattle.sync_rules.specs.declared.entries.Entry.TheVariants as entry
 use Rattle.sync_rules.specs.declared.states.Refused.TheVariants as refused
 use Rattle.sync_rules.specs.Clients.{Meaning}
