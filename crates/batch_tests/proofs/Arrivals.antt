@@ -24,7 +24,6 @@ use Rattle.batch_tests.specs.declared.given.ListKind.{ListKind}
 use Rattle.batch_tests.specs.declared.given.ListKind.TheVariants as list_kind
 use Rattle.batch_tests.specs.Listing.{record_of}
 
-
 id_itself : (a : Id) → same_id a a ≡ true
 id_itself a = (bytes_decides a a).1 refl
 

@@ -17,9 +17,7 @@ use crate::known_id::id_known;
 use session_core::due;
 use std::alloc::{AllocError, Global};
 use sync_ids::{GroupDef, GroupId, Message, MessageId, group_id};
-use sync_rules::{
-    Batch, Clients, Entry, Judgement, MAX_GROUPS, Mode, Out, Session, same_out,
-};
+use sync_rules::{Batch, Clients, Entry, Judgement, MAX_GROUPS, Mode, Out, Session, same_out};
 
 // ---- one entry
 
