@@ -177,8 +177,7 @@ module _ (clients : Meaning) (n : ℕ) (l : Link) (s : StoreValue) (o o1 : Outsi
     stops = λ heard moved read.
         let bytes : List ℕ = take count buf in
         let its : List Item = new_items heard bytes in
-        let reading : IsReading (heard ++ bytes) bytes l.reader its = piece_comes widen heard bytes l.reader (read going) in
-        (
+        let reading : IsReading (heard ++ bytes) bytes l.reader its = piece_comes widen heard bytes l.reader (read going) in (
           heard ++ bytes,
           halts_behind clients n l.session.number (link_at l' (heard ++ bytes)) s s o o1 o' (spot_at Asks l heard moved s.state.facts)
               (spot_at (Takes its) l (heard ++ bytes) true s.state.facts) (heard_piece count heard moved hears caused)

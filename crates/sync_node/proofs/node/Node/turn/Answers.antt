@@ -272,7 +272,7 @@ returns-in-Ok-true-clause-kept g c =
     record {
       same_first = ap (λ (n : NodeValue). n.first) c.self.view_is;
       same_sessions =
-      sessions_as c.self.inside.links.items _ c.turn_all.new.links _ c.as_mut_slice.ensures.value
+          sessions_as c.self.inside.links.items _ c.turn_all.new.links _ c.as_mut_slice.ensures.value
           (kept_same c.self.inside.links.len c.self.inside.links.items c.turn_all.new.links
           (omega (arith, c.as_mut_slice.ensures.len, ap (λ (ls : List Link). length ls) c.as_mut_slice.ensures.value))
           (omega (arith, c.turn_all.auto.links, ap (λ (ls : List Link). length ls) c.as_mut_slice.ensures.value)))
@@ -285,7 +285,7 @@ returns-in-Ok-false-clause-kept g c =
     record {
       same_first = ap (λ (n : NodeValue). n.first) c.self.view_is;
       same_sessions =
-      sessions_as c.self.inside.links.items _ c.turn_all.new.links _ c.as_mut_slice.ensures.value
+          sessions_as c.self.inside.links.items _ c.turn_all.new.links _ c.as_mut_slice.ensures.value
           (kept_same c.self.inside.links.len c.self.inside.links.items c.turn_all.new.links
           (omega (arith, c.as_mut_slice.ensures.len, ap (λ (ls : List Link). length ls) c.as_mut_slice.ensures.value))
           (omega (arith, c.turn_all.auto.links, ap (λ (ls : List Link). length ls) c.as_mut_slice.ensures.value)))
@@ -298,7 +298,7 @@ returns-in-Err-clause-kept g c =
     record {
       same_first = ap (λ (n : NodeValue). n.first) c.self.view_is;
       same_sessions =
-      sessions_as c.self.inside.links.items _ c.turn_all.new.links _ c.as_mut_slice.ensures.value
+          sessions_as c.self.inside.links.items _ c.turn_all.new.links _ c.as_mut_slice.ensures.value
           (kept_same c.self.inside.links.len c.self.inside.links.items c.turn_all.new.links
           (omega (arith, c.as_mut_slice.ensures.len, ap (λ (ls : List Link). length ls) c.as_mut_slice.ensures.value))
           (omega (arith, c.turn_all.auto.links, ap (λ (ls : List Link). length ls) c.as_mut_slice.ensures.value)))
