@@ -34,7 +34,7 @@ pub mod MoreHeld
 pub mod Levelled
 pub mod Served
 pub mod Allowed
-pub mod Authored
+mod Defined
 pub mod Leaving
 pub mod Fronts
 mod GroupsKnown

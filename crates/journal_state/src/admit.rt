@@ -8,8 +8,8 @@ ghost use Rattle.journal_state.specs.Stepping.{PlaysFront};
 ghost use Rattle.journal_state.specs.Taking.{HasNextNumbers};
 ghost use Rattle.journal_state.specs.Whole.{Knows};
 
-use crate::brought_id::id_brought;
 use crate::state::State;
+use batch_tests::id_brought;
 use std::alloc::{AllocError, Global};
 use sync_rules::laws::allows_is_allowed;
 use sync_rules::{Batch, Clients, Entry, MAX_STEPS, same_entry};

@@ -3,7 +3,6 @@ ghost use Rattle.std.specs.Prelude.{◌≡◌, ◌<◌, length, IfSome, MatchOpt
 ghost use Rattle.std.specs.Prelude.{slice_get};
 ghost use Rattle.std.specs.List.{list_all};
 ghost use Rattle.sync_rules.specs.Facts.{group_at};
-ghost use Rattle.sync_rules.specs.Legal.{accepts_served};
 ghost use Rattle.sync_rules.specs.Lists.{is_among};
 ghost use Rattle.sync_rules.specs.Steps.{is_served};
 ghost use Rattle.sync_rules.specs.Views.{place_of};
@@ -12,7 +11,7 @@ ghost use Rattle.visibility_table.specs.Table.{number_of};
 use crate::state::State;
 use message_graph::Fate;
 use sync_ids::{GroupId, MessageId};
-use sync_rules::{Judgement, View};
+use sync_rules::View;
 
 impl State {
     /// The number of the group of this id. `None` comes exactly where no group has it.
@@ -64,15 +63,5 @@ impl State {
             }
         }
         true
-    }
-
-    /// Whether a judgement accepts a message of this group, each of whose dependencies is served.
-    pub(crate) fn accepts_served(&self, group: &GroupId, judgement: &Judgement) -> bool
-        ensures { result ≡ accepts_served self.now.facts group.now judgement.now }
-    {
-        match judgement {
-            Judgement::Refuse => false,
-            Judgement::Accept { deps, .. } => self.serves_all(group, deps.as_slice()),
-        }
     }
 }

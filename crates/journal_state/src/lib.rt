@@ -6,8 +6,7 @@
 //! - What is asked of it: `groups` (groups, and what is served), `fates` (what became of each
 //!   message, and the steps left), `view` (what a session asks), `left` (the steps left once a
 //!   batch is there).
-//! - Whether a batch may follow: `allow`; `brought_id` (the id of the message that a batch brings,
-//!   computed once for the test and the taking).
+//! - Whether a batch may follow: `allow`, by the test of `batch_tests`.
 //! - A batch is taken: `reserve` takes its memory, and `take` then goes entry by entry through
 //!   `add` (a contact, a group, a session, a record), `hold` (a message), `levels` (a group's
 //!   level), `marks` (what is noted of a message for a contact) and `want` (what is wanted from a
@@ -19,7 +18,6 @@
 mod add;
 mod admit;
 mod allow;
-mod brought_id;
 mod deliver;
 mod fates;
 mod graph;

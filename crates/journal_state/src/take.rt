@@ -9,9 +9,9 @@ ghost use Rattle.journal_state.specs.Taking.{CanTake, CanTakeAll, HasNextNumbers
 ghost use Rattle.journal_state.specs.Taking.{TakesAll};
 ghost use Rattle.journal_state.specs.Whole.{Knows};
 
-use crate::brought_id::id_known;
 use crate::marks::Mark;
 use crate::state::State;
+use batch_tests::id_known;
 use sync_ids::{Message, MessageId};
 use sync_rules::{Batch, Entry, Origin, Out};
 

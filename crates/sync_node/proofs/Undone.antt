@@ -1,6 +1,6 @@
 -- Calls that did nothing.
 use Rattle.std.proofs.Common.{◌≡◌, refl, sym, subst, Result, Ok, Err}
-use Rattle.std.specs.Prelude.{IfErr}
+use Rattle.std.specs.Prelude.{IfErr, IsErrAnd}
 use Rattle.sync_store.specs.Commits.{Stays}
 use Rattle.sync_store.specs.Store.{StoreValue}
 use Rattle.sync_node.specs.declared.fault.Fault.{Fault}
@@ -47,3 +47,9 @@ undone_answer T n n' host host' e answer is undone = subst (λ (x : NodeFault). 
 pub if_err_all : {T E : Type 0} (r : Result T E) (P : E → Type 0) → ((e : E) → P e) → IfErr r P
 if_err_all (Ok x) P all = tt
 if_err_all (Err e) P all = all e
+
+-- what is said of the error of a call, of that which was handed on
+pub if_err_was : {T E : Type 0} (r : Result T E) (x : E) (P : E → Type 0)
+    → IsErrAnd r (λ y. y ≡ x) → P x → IfErr r P
+if_err_was (Ok a) x P is p = tt
+if_err_was (Err y) x P is p = subst P (sym is) p

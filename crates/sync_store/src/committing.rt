@@ -46,7 +46,6 @@ impl Store {
     /// as before. At each moment the files stand for the journal or for it with the batch, and
     /// after `Ok` every crash leaves the latter. `Ok` makes four calls of the disk, `DiskFault` at
     /// most four.
-    #[tactic(auto, using(session_core::proofs::Unknown::unknown))]
     pub fn commit<D: Disk, C: Clients>(
         &mut self,
         disk: &mut D,

@@ -24,7 +24,6 @@ impl Store {
     /// both all is as before, and no call on the disk was made. After `Memory` the journal is as
     /// before, or has the batch and a front of its settling; after `DiskFault` the store is
     /// closed.
-    #[tactic(auto, using(session_core::proofs::Unknown::unknown))]
     pub fn extend<D: Disk, C: Clients>(
         &mut self,
         disk: &mut D,

@@ -139,16 +139,15 @@ group_comes clients asked name descriptor given rest major def old new input inp
 
 -- ---- answers of commands
 
--- what holds of a command and an outcome holds of those that are they
-pub as_command : (clients : Meaning) (asked is : Command) (old new : Outside) (input input' out out' : Stream) (came given : Outcome) → asked ≡ is → given ≡ came
-    → Comes clients (Do is) old new input input' out out' came → Comes clients (Do asked) old new input input' out out' given
-as_command clients asked is old new input input' out out' came given same gives comes =
-    subst (λ (a : Command). Comes clients (Do a) old new input input' out out' given) (sym same)
-    (subst (λ (o : Outcome). Comes clients (Do is) old new input input' out out' o) (sym gives) comes)
+-- what holds of a command holds of one that is it
+pub as_command : (clients : Meaning) (asked is : Command) (old new : Outside) (input input' out out' : Stream) (came : Outcome) → asked ≡ is
+    → Comes clients (Do is) old new input input' out out' came → Comes clients (Do asked) old new input input' out out' came
+as_command clients asked is old new input input' out out' came same comes =
+    subst (λ (a : Command). Comes clients (Do a) old new input input' out out' came) (sym same) comes
 
-pub comes_as : (clients : Meaning) (words : Asked) (old new : Outside) (input input' out out' : Stream) (came given : Outcome) → given ≡ came
-    → Comes clients words old new input input' out out' came → Comes clients words old new input input' out out' given
-comes_as clients words old new input input' out out' came given gives = subst (λ (o : Outcome). Comes clients words old new input input' out out' o) (sym gives)
+-- the outcome that was reported is that of the command
+pub reports_as : (came came' : Outcome) (err err' : Stream) (given : Status) → came ≡ came' → Reports came err err' given → Reports came' err err' given
+reports_as came came' err err' given same reports = subst (λ (o : Outcome). Reports o err err' given) same reports
 
 -- what goes on by `?`
 passed : (P : Outcome → Type 0) (r : Result (Unit {0}) Outcome) (x : Outcome) → IsErrAnd r (λ e. e ≡ x) → P x → P (came_to r)
@@ -158,6 +157,10 @@ passed P (Err e) x is h = subst P (sym is) h
 module _ (r : Result (Unit {0}) Outcome) (x : Outcome) (is : IsErrAnd r (λ e. e ≡ x)) where
   pub came_on : came_to r ≡ x
   came_on = passed (λ (came : Outcome). came ≡ x) r x is refl
+
+  pub comes_on : (clients : Meaning) (words : Asked) (old new : Outside) (input input' out out' : Stream) → Comes clients words old new input input' out out' x
+      → Comes clients words old new input input' out out' (came_to r)
+  comes_on clients words old new input input' out out' = passed (λ (came : Outcome). Comes clients words old new input input' out out' came) r x is
 
   pub streams_on : (told : List Item → List ℕ → Type 0) (input input' out out' : Stream) → Streams told input input' out out' x → Streams told input input' out out' (came_to r)
   streams_on told input input' out out' = passed (λ (came : Outcome). Streams told input input' out out' came) r x is

@@ -6,8 +6,9 @@ ghost use Rattle.sync_top.specs.Run.{AsksSync, Comes, Covered, KeepsHost, Ran, R
 ghost use Rattle.sync_top.specs.Sound.{AlwaysOpens};
 ghost use Rattle.sync_top.specs.States.{TellsWhole};
 ghost use Rattle.sync_top.specs.Undamaged.{NeverDamaged};
-ghost use Rattle.commands.specs.Reading.{asks, IsWithin};
+ghost use Rattle.sync_words.specs.Outcomes.{came_to};
 ghost use Rattle.sync_words.specs.Words.{texts};
+ghost use Rattle.commands.specs.Reading.{asks, IsWithin};
 ghost use Rattle.commands.specs.Reading.Asked.{Do};
 
 use crate::laws::runs_are_sound;
@@ -61,7 +62,7 @@ pub fn run<H: Host, S: Source, W: Sink, E: Sink, C: Clients>(
     // The laws that the clauses on the states and on what is opened rest on.
     play_says();
     runs_are_sound();
-    let outcome = command(alloc, hasher, words, host, input, out, clients);
+    let outcome = Outcome::of(command(alloc, hasher, words, host, input, out, clients));
     report(&outcome, err)
 }
 
@@ -74,17 +75,15 @@ fn command<H: Host, S: Source, W: Sink, C: Clients>(
     input: &mut S,
     out: &mut W,
     clients: &C,
-) -> Outcome
+) -> Result<(), Outcome>
     requires unused { AsksSync (asks (texts words.now)) → (H.tells host.old).links.dialled ≡ 0 }
     ensures comes { Comes (C.meaning clients.now) (asks (texts words.now)) (H.tells host.old)
         (H.tells host.new) (S.tells input.old) (S.tells input.new) (W.tells out.old)
-        (W.tells out.new) result }
+        (W.tells out.new) (came_to result) }
     ensures host { KeepsHost (asks (texts words.now)) host.old host.new }
 {
-    match read_words(alloc, words) {
-        Ok(asked) => obey(alloc, hasher, asked, host, input, out, clients),
-        Err(fault) => Outcome::from(fault),
-    }
+    let asked = read_words(alloc, words)?;
+    obey(alloc, hasher, asked, host, input, out, clients)
 }
 
 // Does what a command says.
@@ -96,15 +95,16 @@ fn obey<H: Host, S: Source, W: Sink, C: Clients>(
     input: &mut S,
     out: &mut W,
     clients: &C,
-) -> Outcome
+) -> Result<(), Outcome>
     requires within { IsWithin asked }
     requires unused { AsksSync (Do asked) → (H.tells host.old).links.dialled ≡ 0 }
     ensures comes { Comes (C.meaning clients.now) (Do asked) (H.tells host.old) (H.tells host.new)
-        (S.tells input.old) (S.tells input.new) (W.tells out.old) (W.tells out.new) result }
+        (S.tells input.old) (S.tells input.new) (W.tells out.old) (W.tells out.new)
+        (came_to result) }
     ensures host { KeepsHost (Do asked) host.old host.new }
 {
     match asked {
-        Command::Try(name, descriptor) => Outcome::of(try_group(
+        Command::Try(name, descriptor) => try_group(
             alloc,
             hasher,
             name.as_str(),
@@ -112,31 +112,27 @@ fn obey<H: Host, S: Source, W: Sink, C: Clients>(
             input,
             out,
             clients,
-        )),
-        Command::Records => Outcome::of(list_records(alloc, input, out)),
-        Command::Init => Outcome::of(make_store(host, out)),
-        Command::Contact => Outcome::of(add_contact(alloc, hasher, host, out, clients)),
+        ),
+        Command::Records => list_records(alloc, input, out),
+        Command::Init => make_store(host, out),
+        Command::Contact => add_contact(alloc, hasher, host, out, clients),
         Command::Group(name, major, descriptor) => {
-            match group_of(alloc, name.as_str(), major, descriptor.as_str()) {
-                Ok(def) => Outcome::of(add_group(alloc, hasher, def, host, out, clients)),
-                Err(e) => Outcome::from(e),
-            }
+            let def = group_of(alloc, name.as_str(), major, descriptor.as_str())?;
+            add_group(alloc, hasher, def, host, out, clients)
         }
         Command::Share(contact, group, level) => {
-            let shared = set_level(alloc, hasher, contact, &group, level, host, out, clients);
-            Outcome::of(shared)
+            set_level(alloc, hasher, contact, &group, level, host, out, clients)
         }
         Command::Post(group, timestamp) => {
-            let posted = post_message(alloc, hasher, group, timestamp, host, input, out, clients);
-            Outcome::of(posted)
+            post_message(alloc, hasher, group, timestamp, host, input, out, clients)
         }
-        Command::Show => Outcome::of(list(alloc, hasher, Listing::Store, host, out, clients)),
-        Command::Inbox => Outcome::of(list(alloc, hasher, Listing::Inbox, host, out, clients)),
-        Command::Body(id) => Outcome::of(write_body(alloc, hasher, &id, host, out, clients)),
+        Command::Show => list(alloc, hasher, Listing::Store, host, out, clients),
+        Command::Inbox => list(alloc, hasher, Listing::Inbox, host, out, clients),
+        Command::Body(id) => write_body(alloc, hasher, &id, host, out, clients),
         Command::Sync(turns, quiet, links) => {
             let limits = Limits { turns, quiet };
-            let links = links.as_slice();
-            Outcome::of_links(sync_links(alloc, hasher, limits, links, host, clients))
+            let ends = sync_links(alloc, hasher, limits, links.as_slice(), host, clients)?;
+            Err(Outcome::Links(ends))
         }
     }
 }

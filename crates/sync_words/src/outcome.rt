@@ -1,6 +1,6 @@
 //! What a command came to.
 ghost use Rattle.std.specs.Prelude.{◌≡◌, ◌≤◌, [], length};
-ghost use Rattle.sync_words.specs.Outcomes.{came_to, ends_text, links_came_to, status_of, text_of};
+ghost use Rattle.sync_words.specs.Outcomes.{came_to, ends_text, status_of, text_of};
 
 use crate::error_lines::{
     ErrorText, add_bad_record, add_damaged, add_inside, add_link, add_no_version, add_plain,
@@ -85,16 +85,6 @@ impl Outcome {
     {
         match ended {
             Ok(()) => Outcome::Done,
-            Err(came) => came,
-        }
-    }
-
-    /// What a command came to whose run over links came to its end, or ended before with an outcome.
-    pub fn of_links(ended: Result<LinkEnds, Outcome>) -> Outcome
-        ensures { result ≡ links_came_to ended }
-    {
-        match ended {
-            Ok(ends) => Outcome::Links(ends),
             Err(came) => came,
         }
     }

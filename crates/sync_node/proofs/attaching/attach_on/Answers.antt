@@ -1,4 +1,4 @@
-use Rattle.sync_node.proofs.Undone.{if_err_all, undone_none}
+use Rattle.sync_node.proofs.Undone.{if_err_all, if_err_was, undone_none}
 use Rattle.sync_node.proofs.CourseStart.{start_none}
 use Rattle.sync_node.proofs.SafeLaws.{goes_none}
 use Rattle.sync_node.proofs.StartLaws.{starts_as_before}
@@ -49,3 +49,7 @@ returns-in_err-reader-clause-undone g c = if_err_all _ _ (λ e. undone_none _ _ 
 
 pub returns-in_err-reserve-clause-undone : goal.returns-in_err-reserve-clause-undone
 returns-in_err-reserve-clause-undone g c = if_err_all _ _ (λ e. undone_none _ _ e)
+
+pub returns-in_err-link-clause-undone : goal.returns-in_err-link-clause-undone
+returns-in_err-link-clause-undone g c =
+    if_err_was _ c.in_err-link.field-0.0 _ c.from_residual-in_err-link.ensures.1 c.in_err-link.ensures.undone

@@ -1,5 +1,5 @@
 use Rattle.session_core.proofs.Unknown.{unknown}
-use Rattle.sync_node.proofs.Undone.{if_err_all, undone_none}
+use Rattle.sync_node.proofs.Undone.{if_err_all, if_err_was, undone_none}
 use Rattle.std.proofs.Common.{arith, refl, sym, ◌∙◌, subst}
 use Rattle.record_stream.specs.Reading.{AwaitsBytes, ReaderState}
 use Rattle.sync_node.proofs.CourseStart.{start_broken, start_none, starts_course}
@@ -120,3 +120,7 @@ returns-in_err-batch-clause-undone g c = if_err_all _ _ (λ e. undone_none _ _ e
 
 pub commit-requires-clause-named : goal.commit-requires-clause-named
 commit-requires-clause-named g c = unknown c.in_ok-batch.batch
+
+pub returns-in_err-commit-clause-undone : goal.returns-in_err-commit-clause-undone
+returns-in_err-commit-clause-undone g c =
+    if_err_was _ c.in_err-commit.field-0.0 _ c.from_residual-in_err-commit.ensures.1 c.in_err-commit.ensures.undone

@@ -2,65 +2,59 @@ use Rattle.std.proofs.Common.{refl, inl}
 use Rattle.commands.specs.Reading.Asked.{Do}
 use Rattle.commands.specs.declared.command.Command.TheVariants as command
 use Rattle.sync_words.specs.declared.outcome.Outcome.TheVariants as outcome
+use Rattle.std.specs.Prelude.{Ok}
 use Rattle.sync_top.proofs.HeadlineLemmas.{has_run}
-use Rattle.sync_top.proofs.StateLemmas.{as_command, comes_as, group_comes, memory_comes}
+use Rattle.sync_top.proofs.StateLemmas.{as_command, comes_on, group_comes, memory_comes}
 use Rattle.sync_top.proofs.program.obey.Goals as goal
 
 pub returns-in-Init-clause-comes : goal.returns-in-Init-clause-comes
 returns-in-Init-clause-comes g c =
-    as_command (g.C.Clients.meaning c.args.clients.now) c.args.asked command.Init _ _ _ _ _ _ _ _ c.in-Init.is c.of-in-Init.ensures
-    (inl (c.make_store.ensures, (record { same = refl; same_faults = refl })))
+    as_command (g.C.Clients.meaning c.args.clients.now) c.args.asked command.Init _ _ _ _ _ _ _ c.in-Init.is (inl (c.make_store.ensures, (record { same = refl; same_faults = refl })))
 
 pub returns-in-Contact-clause-comes : goal.returns-in-Contact-clause-comes
 returns-in-Contact-clause-comes g c =
-    as_command (g.C.Clients.meaning c.args.clients.now) c.args.asked command.Contact _ _ _ _ _ _ _ _ c.in-Contact.is c.of-in-Contact.ensures
-    (inl (c.add_contact.ensures, (record { same = refl; same_faults = refl })))
+    as_command (g.C.Clients.meaning c.args.clients.now) c.args.asked command.Contact _ _ _ _ _ _ _ c.in-Contact.is (inl (c.add_contact.ensures, (record { same = refl; same_faults = refl })))
 
 pub returns-in-Share-clause-comes : goal.returns-in-Share-clause-comes
 returns-in-Share-clause-comes g c =
-    as_command (g.C.Clients.meaning c.args.clients.now) c.args.asked (command.Share c.in-Share.contact c.in-Share.group c.in-Share.level) _ _ _ _ _ _ _ _ c.in-Share.is c.of-in-Share.ensures
-    (inl (c.set_level-shared.ensures, (record { same = refl; same_faults = refl })))
+    as_command (g.C.Clients.meaning c.args.clients.now) c.args.asked (command.Share c.in-Share.contact c.in-Share.group c.in-Share.level) _ _ _ _ _ _ _ c.in-Share.is (inl (c.set_level.ensures, (record { same = refl; same_faults = refl })))
 
 pub returns-in-Show-clause-comes : goal.returns-in-Show-clause-comes
 returns-in-Show-clause-comes g c =
-    as_command (g.C.Clients.meaning c.args.clients.now) c.args.asked command.Show _ _ _ _ _ _ _ _ c.in-Show.is c.of-in-Show.ensures
-    (inl (c.list.ensures, (record { same = refl; same_faults = refl })))
+    as_command (g.C.Clients.meaning c.args.clients.now) c.args.asked command.Show _ _ _ _ _ _ _ c.in-Show.is (inl (c.list.ensures, (record { same = refl; same_faults = refl })))
 
 pub returns-in-Inbox-clause-comes : goal.returns-in-Inbox-clause-comes
 returns-in-Inbox-clause-comes g c =
-    as_command (g.C.Clients.meaning c.args.clients.now) c.args.asked command.Inbox _ _ _ _ _ _ _ _ c.in-Inbox.is c.of-in-Inbox.ensures
-    (inl (c.list-in-Inbox.ensures, (record { same = refl; same_faults = refl })))
+    as_command (g.C.Clients.meaning c.args.clients.now) c.args.asked command.Inbox _ _ _ _ _ _ _ c.in-Inbox.is (inl (c.list-in-Inbox.ensures, (record { same = refl; same_faults = refl })))
 
 pub returns-in-Body-clause-comes : goal.returns-in-Body-clause-comes
 returns-in-Body-clause-comes g c =
-    as_command (g.C.Clients.meaning c.args.clients.now) c.args.asked (command.Body c.in-Body.id) _ _ _ _ _ _ _ _ c.in-Body.is c.of-in-Body.ensures
-    (inl (c.write_body.ensures, (record { same = refl; same_faults = refl })))
+    as_command (g.C.Clients.meaning c.args.clients.now) c.args.asked (command.Body c.in-Body.id) _ _ _ _ _ _ _ c.in-Body.is (inl (c.write_body.ensures, (record { same = refl; same_faults = refl })))
 
 pub returns-in-Post-clause-comes : goal.returns-in-Post-clause-comes
 returns-in-Post-clause-comes g c =
-    as_command (g.C.Clients.meaning c.args.clients.now) c.args.asked (command.Post c.in-Post.group c.in-Post.timestamp) _ _ _ _ _ _ _ _ c.in-Post.is c.of-in-Post.ensures
-    (inl c.post_message-posted.ensures)
+    as_command (g.C.Clients.meaning c.args.clients.now) c.args.asked (command.Post c.in-Post.group c.in-Post.timestamp) _ _ _ _ _ _ _ c.in-Post.is
+    (inl c.post_message.ensures)
 
-pub returns-in-Ok-in-Group-clause-comes : goal.returns-in-Ok-in-Group-clause-comes
-returns-in-Ok-in-Group-clause-comes g c =
-    comes_as (g.C.Clients.meaning c.args.clients.now) (Do c.args.asked) _ _ _ _ _ _ _ _ c.of-in-Ok-in-Group.ensures
-    (group_comes (g.C.Clients.meaning c.args.clients.now) c.args.asked c.in-Group.name c.in-Group.descriptor c.as_str-in-Group.result.now c.as_str-in-Group-2.result.now
-    c.in-Group.major c.in-Ok-in-Group.def _ _ _ _ _ _ _ c.in-Group.is c.as_str-in-Group.ensures c.as_str-in-Group-2.ensures c.in-Ok-in-Group.ensures c.add_group.ensures
-    (record { same = refl; same_faults = refl }))
+pub returns-in_ok-def-in-Group-clause-comes : goal.returns-in_ok-def-in-Group-clause-comes
+returns-in_ok-def-in-Group-clause-comes g c =
+    group_comes (g.C.Clients.meaning c.args.clients.now) c.args.asked c.in-Group.name c.in-Group.descriptor c.as_str-in-Group.result.now c.as_str-in-Group-2.result.now
+    c.in-Group.major c.in_ok-def-in-Group.def _ _ _ _ _ _ _ c.in-Group.is c.as_str-in-Group.ensures c.as_str-in-Group-2.ensures c.in_ok-def-in-Group.ensures c.add_group.ensures
+    (record { same = refl; same_faults = refl })
 
-pub returns-in-Err-in-Group-clause-comes : goal.returns-in-Err-in-Group-clause-comes
-returns-in-Err-in-Group-clause-comes g c =
+pub returns-in_err-def-in-Group-clause-comes : goal.returns-in_err-def-in-Group-clause-comes
+returns-in_err-def-in-Group-clause-comes g c =
     let clients = g.C.Clients.meaning c.args.clients.now in
-    comes_as clients (Do c.args.asked) _ _ _ _ _ _ outcome.Memory _ c.from.ensures
+    comes_on c.from_residual.result outcome.Memory c.from_residual.ensures.1 clients (Do c.args.asked) _ _ _ _ _ _
     (memory_comes clients (Do c.args.asked) _ _ _ _ _ (record { same = refl; same_faults = refl }) (record { same = refl; same_faults = refl }))
 
-pub returns-in-Sync-clause-comes : goal.returns-in-Sync-clause-comes
-returns-in-Sync-clause-comes g c =
+pub returns-in_ok-ends-in-Sync-clause-comes : goal.returns-in_ok-ends-in-Sync-clause-comes
+returns-in_ok-ends-in-Sync-clause-comes g c =
     let clients = g.C.Clients.meaning c.args.clients.now in
-    let e = c.sync_links.ensures in
-    as_command clients c.args.asked (command.Sync c.in-Sync.turns c.in-Sync.quiet c.in-Sync.links) _ _ _ _ _ _ _ _ c.in-Sync.is c.of_links.ensures
+    let e = c.in_ok-ends-in-Sync.ensures in
+    as_command clients c.args.asked (command.Sync c.in-Sync.turns c.in-Sync.quiet c.in-Sync.links) _ _ _ _ _ _ _ c.in-Sync.is
     (inl (
-      has_run clients _ c.in-Sync.links c.as_slice-links.result.now _ _ c.sync_links.result _ c.as_slice-links.ensures.links refl e.headline
+      has_run clients _ c.in-Sync.links c.as_slice.result.now _ _ (Ok c.in_ok-ends-in-Sync.ends) _ c.as_slice.ensures.links refl e.headline
           (λ two files. record { rests = e.rests two files; sent = e.sent two files; sent_full = e.sent_full two files; comes = e.comes two files; unbegun = e.unbegun two files }) e.specs e.caused e.leaves,
       (record { same = refl; same_faults = refl }, record { same = refl; same_faults = refl }),
     ))

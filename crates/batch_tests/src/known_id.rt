@@ -7,9 +7,9 @@ ghost use Rattle.session_core.specs.Known.{IsIdOf, IsOfAll};
 use sync_ids::{Message, MessageId};
 use sync_rules::{Entry, id_of};
 
-/// The id of the message of a batch that brings one and nothing more.
+/// The id of the message of a batch that brings one and nothing more; `None` for another batch.
 #[tactic(auto, using(session_core::proofs::Unknown::unknown))]
-pub(crate) fn id_brought(entries: &[Entry]) -> Option<MessageId>
+pub fn id_brought(entries: &[Entry]) -> Option<MessageId>
     ensures { IsOfAll result entries.now }
 {
     match entries {
@@ -21,7 +21,7 @@ pub(crate) fn id_brought(entries: &[Entry]) -> Option<MessageId>
 }
 
 /// The id of a message, computed where it is not known.
-pub(crate) fn id_known(known: &Option<MessageId>, message: &Message) -> MessageId
+pub fn id_known(known: &Option<MessageId>, message: &Message) -> MessageId
     requires { IsIdOf known.now message.now }
     ensures { result ≡ message_id_of message.now }
 {

@@ -1,0 +1,3 @@
+mod Authored
+mod Due
+mod Arrivals
