@@ -29,14 +29,14 @@ module _ {H : Type 0} (tells : H → Outside) (clients : Meaning) (h h' : H) (in
 
   pub only_looks : (words : Asked) → Comes clients words (tells h) (tells h') input input' out out' came → KeepsHost words h h' → LooksUnless words (tells h) (tells h')
   only_looks (Usage place) comes keeps = kept keeps
-  only_looks (Do (command.Try name descriptor)) comes keeps reads = kept keeps
-  only_looks (Do command.Records) comes keeps reads = kept keeps
-  only_looks (Do command.Show) comes keeps reads = looked clients (tells h) (tells h') input input' out out' came (listing_shown listing.Store) comes
-  only_looks (Do command.Inbox) comes keeps reads = looked clients (tells h) (tells h') input input' out out' came (listing_shown listing.Inbox) comes
-  only_looks (Do (command.Body id)) comes keeps reads = looked clients (tells h) (tells h') input input' out out' came (body_shown id) comes
-  only_looks (Do command.Init) comes keeps reads = absurd (let e : true ≡ false = reads in cc)
-  only_looks (Do command.Contact) comes keeps reads = absurd (let e : true ≡ false = reads in cc)
-  only_looks (Do (command.Group name major descriptor)) comes keeps reads = absurd (let e : true ≡ false = reads in cc)
-  only_looks (Do (command.Share contact group level)) comes keeps reads = absurd (let e : true ≡ false = reads in cc)
-  only_looks (Do (command.Post group timestamp)) comes keeps reads = absurd (let e : true ≡ false = reads in cc)
-  only_looks (Do (command.Sync turns quiet links)) comes keeps reads = absurd (let e : true ≡ false = reads in cc)
+  only_looks (Do (command.Try name descriptor)) comes keeps = λ reads. kept keeps
+  only_looks (Do command.Records) comes keeps = λ reads. kept keeps
+  only_looks (Do command.Show) comes keeps = λ reads. looked clients (tells h) (tells h') input input' out out' came (listing_shown listing.Store) comes
+  only_looks (Do command.Inbox) comes keeps = λ reads. looked clients (tells h) (tells h') input input' out out' came (listing_shown listing.Inbox) comes
+  only_looks (Do (command.Body id)) comes keeps = λ reads. looked clients (tells h) (tells h') input input' out out' came (body_shown id) comes
+  only_looks (Do command.Init) comes keeps = λ reads. absurd (let e : true ≡ false = reads in cc)
+  only_looks (Do command.Contact) comes keeps = λ reads. absurd (let e : true ≡ false = reads in cc)
+  only_looks (Do (command.Group name major descriptor)) comes keeps = λ reads. absurd (let e : true ≡ false = reads in cc)
+  only_looks (Do (command.Share contact group level)) comes keeps = λ reads. absurd (let e : true ≡ false = reads in cc)
+  only_looks (Do (command.Post group timestamp)) comes keeps = λ reads. absurd (let e : true ≡ false = reads in cc)
+  only_looks (Do (command.Sync turns quiet links)) comes keeps = λ reads. absurd (let e : true ≡ false = reads in cc)
