@@ -1,6 +1,9 @@
 -- What a turn of a device does, and a session that begins on its next link.
-use Rattle.std.proofs.Common.{◌≡◌, ℕ, Bool, List, [], ◌∷◌, ◌++◌, sym, ap, subst, inl, inr, Option, Some, None, Result, Ok, Err}
+use Rattle.std.proofs.Common.{◌≡◌, ◌<◌, ℕ, Bool, false, arith, List, [], ◌∷◌, ◌++◌, sym, ap, subst, inl, inr, Option, Some, None, Result, Ok, Err}
+use Rattle.std.specs.Prelude.{◌||◌, nat_le}
 use Rattle.std.specs.Result.{IsErrAnd, IsErrOf}
+use Rattle.std.proofs.lemmas.Bool.Decides.{nat_tests}
+use Rattle.outside.specs.declared.limits.TheConstants.{LINKS}
 use denote.Enum.Bare.{sameb}
 use Rattle.outside.specs.Files.{Two, File}
 use Rattle.outside.specs.HostTold.{host_told}
@@ -25,7 +28,7 @@ use Rattle.sync_node.specs.declared.node.Turned.{Turned}
 use Rattle.sync_node.specs.declared.node.Turned.TheVariants as turned_kind
 use Rattle.world_devices.specs.Devices.{DeviceValue, HostGoesOn}
 use Rattle.world_devices.specs.Doing.{Attaches, BreaksOff, ComesOf, FullAtBeginning, FullInTurn, HasAttached, HasBegun, HasTurned, IsAhead, IsNotFull, OfNode, OfNodes, Turns, next_session}
-use Rattle.world_devices.specs.Refusals.{IsNotRefused}
+use Rattle.world_devices.specs.Refusals.{IsNotRefused, RefusedBy, refuses_link}
 use Rattle.world_devices.specs.declared.stop.StepFault.{StepFault}
 use Rattle.world_devices.specs.declared.stop.StepFault.TheVariants as fault
 use Rattle.world_devices.proofs.GivingUpLaws.{comes_same}
@@ -208,3 +211,26 @@ pub beginning_starved : (plan : Plan) (its_nonce : Option (List ℕ)) (r : Resul
 beginning_starved plan its_nonce (Ok a) e session n n' old new is unrefused unfilled was now number first begins facts_are = absurd is
 beginning_starved plan its_nonce (Err x) e session n n' old new is unrefused unfilled was now number first begins facts_are =
     starved_beginning plan its_nonce (Err e) x session old new (ap (λ (y : StepFault). Err y) (sym is)) unrefused unfilled (began plan its_nonce session n n' old new was now number first begins facts_are)
+
+-- ---- what is not refused
+
+not_refused : (e : StepFault) → IsNotRefused {A = Unit {0}} (Err e) → IsNotRefused {A = Option ℕ} (Err e)
+not_refused fault.Refused unrefused = unrefused
+not_refused fault.Full unrefused = tt
+not_refused fault.Memory unrefused = tt
+
+handed_unrefused : (r : Result (Option ℕ) StepFault) (e : StepFault) → IsErrAnd r (λ x. x ≡ e) → IsNotRefused {A = Unit {0}} (Err e) → IsNotRefused r
+handed_unrefused (Ok a) e is unrefused = tt
+handed_unrefused (Err x) e is unrefused = subst (λ (y : StepFault). IsNotRefused {A = Option ℕ} (Err y)) (sym is) (not_refused e unrefused)
+
+-- a link that a device may have, to a contact that is known
+link_allowed : (node : Option NodeValue) (n : NodeValue) (links contact : ℕ) → node ≡ Some n → links < LINKS → contact < n.store.state.facts.contacts → refuses_link node links contact ≡ false
+link_allowed node n links contact is within known =
+    let both : (nat_le LINKS links || nat_le n.store.state.facts.contacts contact) ≡ false = grind (arith, nat_tests) in
+    subst (λ (x : Option NodeValue). refuses_link x links contact ≡ false) (sym is) both
+
+-- what came of it is no refusal
+pub link_unrefused : (node : Option NodeValue) (n : NodeValue) (links contact : ℕ) (r : Result (Option ℕ) StepFault) (e : StepFault) → node ≡ Some n → links < LINKS → contact < n.store.state.facts.contacts
+    → IsErrAnd r (λ x. x ≡ e) → IsNotRefused {A = Unit {0}} (Err e) → RefusedBy (refuses_link node links contact) r
+link_unrefused node n links contact r e is within known handed unrefused =
+    subst (λ (b : Bool). RefusedBy b r) (sym (link_allowed node n links contact is within known)) (handed_unrefused r e handed unrefused)

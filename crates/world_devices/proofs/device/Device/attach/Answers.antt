@@ -1,12 +1,13 @@
 use Rattle.sync_node.proofs.Halts.{beginning_breaks}
-use Rattle.std.proofs.Common.{[], ap, refl, sym, ◌∙◌, arith, Some, None, Ok, Err}
+use Rattle.std.proofs.Common.{◌<◌, [], ap, refl, sym, ◌∙◌, arith, Some, None, Ok, Err}
 use Rattle.outside.specs.HostTold.{host_told}
+use Rattle.outside.specs.declared.limits.TheConstants.{LINKS}
 use Rattle.world_devices.specs.Devices.{DeviceValue}
 use Rattle.sync_store.specs.Store.{StoreValue}
 use Rattle.world_devices.proofs.CallLaws.{adds_link, adds_seen, attach_leaves, brings_begun, brings_unbegun, of_node, ready_store, ready_still, runs_by, runs_none}
 use Rattle.world_devices.proofs.RunningLaws.{attach_keeps, attached_running, keeps_seen, running_of}
 use Rattle.sync_node.specs.declared.fault.NodeFault.{NodeFault}
-use Rattle.world_devices.proofs.TurnLaws.{attaches_seen, beginning_broken, beginning_failed, beginning_starved, session_begun}
+use Rattle.world_devices.proofs.TurnLaws.{attaches_seen, beginning_broken, beginning_failed, beginning_starved, link_unrefused, session_begun}
 use Rattle.world_devices.proofs.device.Device.attach.Goals as goal
 
 pub invariant_of-self-in-Ok : goal.invariant_of-self-in-Ok
@@ -99,3 +100,12 @@ returns-in_ok-fail-in-Err-clause-attaches c =
     attaches_seen c.args.plan.now c.args.nonce (Ok None) _ c.args.self.now _ c.self.view_is
     (beginning_broken c.args.plan.now c.args.nonce c.in-Some-node.node c.attach.new.host _ _ c.in-Some-node.is (beginning_breaks _ _ _ _ _ _ _ (c.in-Err.ensures.halts (running_of c.self.inside.node c.in-Some-node.node c.self.inside.host c.self.inside.links c.in-Some-node.is c.self.invariant.0).unclosed)) c.attach.ensures.run.calls c.in_ok-fail-in-Err.ensures.to
     c.in_ok-fail-in-Err.ensures.clock)
+
+pub returns-in_err-fail-in-Err-clause-refused : goal.returns-in_err-fail-in-Err-clause-refused
+returns-in_err-fail-in-Err-clause-refused c =
+    let was = sym (ap (λ (d : DeviceValue). d.node) c.self.view_is) ∙ c.in-Some-node.is in
+    let own = ready_store c.args.self.now.node c.in-Some-node.node c.in-Some.store.now was c.in-Some.ensures in
+    let within : c.args.self.now.links < LINKS = omega (arith, c.if-self-ge-LINKS.false, ap (λ (d : DeviceValue). d.links) c.self.view_is) in
+    let known : c.args.plan.now.contact < c.in-Some-node.node.store.state.facts.contacts = omega (arith, c.if-self-ge-LINKS.false, ap (λ (s : StoreValue). s.state.facts.contacts) own) in
+    link_unrefused c.args.self.now.node c.in-Some-node.node c.args.self.now.links c.args.plan.now.contact _ c.in_err-fail-in-Err.field-0.0 was within known
+    c.from_residual-in_err-fail-in-Err.ensures.1 c.in_err-fail-in-Err.ensures.unrefused
