@@ -149,7 +149,7 @@ start_anew clock h0 h1 h2 h3 dial set same loaded silent dialled quiet upcoming 
 -- ---- a device that crashed
 
 -- a host that begins anew over an image leaves that image alone
-crash_only : (pick : Pick) (h h' : MemHostValue) (crashes : Crashes pick h h') (two : Two File) → (host_told h').files ≡ Some two → (left : Two (List ℕ)) → IsImage two left → crashes.disk.start ≡ left
+pub crash_only : (pick : Pick) (h h' : MemHostValue) (crashes : Crashes pick h h') (two : Two File) → (host_told h').files ≡ Some two → (left : Two (List ℕ)) → IsImage two left → crashes.disk.start ≡ left
 crash_only pick h h' crashes two is left image =
     let start = crashes.disk.start in
     let anew : h' ≡ fresh_host (fresh start) = crashes.anew ∙ ap fresh_host crashes.pictured.fresh in

@@ -11,7 +11,7 @@ use Rattle.sync_store.specs.Store.{StoreValue}
 use Rattle.sync_store.specs.Inside.{value_of}
 use Rattle.sync_store.specs.Fitting.{Fits, FitsSome}
 use Rattle.sync_store.specs.Commits.{Gains, MayAdd}
-use Rattle.sync_store.proofs.FitSteps.{adds_err, adds_ok}
+use Rattle.sync_store.proofs.FitSteps.{adds_err, adds_ok, rests}
 use Rattle.sync_store.proofs.Framing.{framed_long}
 use Rattle.sync_store.proofs.Growth.{grown_store}
 use Rattle.sync_store.proofs.Limits.{few_held, few_sessions}
@@ -93,3 +93,10 @@ returns-in-Ok-clause-calls g c = record { just = c.in-Ok.ensures.calls.just; mos
 
 pub returns-in-Err-clause-calls : goal.returns-in-Err-clause-calls
 returns-in-Err-clause-calls g c = record { just = tt; most = c.in-Err.ensures.calls.most }
+
+pub append-requires-clause-fits : goal.append-requires-clause-fits
+append-requires-clause-fits g c two told =
+    let clients = g.C.Clients.meaning c.args.clients.now in
+    let files = (g.D.Disk.tells c.args.disk.now).files in
+    let fits = subst (λ (v : StoreValue). FitsSome clients v files) (sym c.self.view_is) c.requires.ready.fits in
+    rests clients (value_of c.self.inside) files fits two told

@@ -1,6 +1,6 @@
 use Rattle.std.proofs.Common.{◌≡◌, sym, ◌∙◌, subst, Result}
 use Rattle.sync_rules.specs.Facts.{nothing}
-use Rattle.outside.specs.Steps.{looks_then}
+use Rattle.outside.specs.Steps.{looks_then, run_then}
 use Rattle.outside.specs.Files.{read_files}
 use Rattle.sync_store.specs.Store.{StoreValue}
 use Rattle.sync_store.specs.Faults.{load_of_start}
@@ -81,3 +81,17 @@ returns-clause-any_moment g c =
     let o2 = g.D.Disk.tells c.start.new.disk in
     let o3 = g.D.Disk.tells c.read_all.new.disk in
     images_then (g.D.Disk.tells c.args.disk.now) o1 o3 c.barrier.ensures.any_moment c.in_ok-barrier.ensures.settled c.barrier.ensures.run (looks_then o1 o2 o3 c.start.ensures.looks c.read_all.ensures.looks)
+
+pub returns-in_err-read_all-clause-run : goal.returns-in_err-read_all-clause-run
+returns-in_err-read_all-clause-run g c =
+    let o1 = g.D.Disk.tells c.barrier.new.disk in
+    let o2 = g.D.Disk.tells c.start.new.disk in
+    let o3 = g.D.Disk.tells c.read_all.new.disk in
+    run_then (g.D.Disk.tells c.args.disk.now) o1 o3 c.barrier.ensures.run (looks_then o1 o2 o3 c.start.ensures.looks c.read_all.ensures.looks).run
+
+pub returns-clause-run : goal.returns-clause-run
+returns-clause-run g c =
+    let o1 = g.D.Disk.tells c.barrier.new.disk in
+    let o2 = g.D.Disk.tells c.start.new.disk in
+    let o3 = g.D.Disk.tells c.read_all.new.disk in
+    run_then (g.D.Disk.tells c.args.disk.now) o1 o3 c.barrier.ensures.run (looks_then o1 o2 o3 c.start.ensures.looks c.read_all.ensures.looks).run
