@@ -1,4 +1,4 @@
-use Rattle.std.proofs.Common.{◌<◌, ◌∙◌, ◌++◌, ◌∷◌, [], ℕ, List, length, arith, ap, Err, rules, true, slice_get, refl, Ok, inl}
+use Rattle.std.proofs.Common.{◌<◌, ◌∙◌, ◌++◌, ◌∷◌, [], ℕ, List, length, arith, ap, Err, rules, true, slice_get, refl, inl}
 use Rattle.world_devices.specs.declared.stop.StepFault.TheVariants as fault
 use Rattle.sync_world.proofs.GoLaws.{same_leads}
 use Rattle.sync_world.proofs.StepLaws.{leads_err, came_goes, fails_leads}

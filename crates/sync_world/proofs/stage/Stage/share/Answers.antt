@@ -1,5 +1,4 @@
-use Rattle.std.proofs.Common.{◌<◌, length, arith, ap, Err, rules, true, slice_get, refl, Ok, inl}
-use Rattle.world_devices.specs.declared.stop.StepFault.TheVariants as fault
+use Rattle.std.proofs.Common.{◌<◌, length, arith, ap, Err, rules, true, slice_get, refl, inl}
 use Rattle.sync_world.proofs.GoLaws.{same_leads}
 use Rattle.sync_world.proofs.StepLaws.{leads_err, came_goes, fails_leads}
 use Rattle.world_devices.specs.Refusals.{RefusedBy, refuses_level}
