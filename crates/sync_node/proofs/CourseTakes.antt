@@ -196,7 +196,6 @@ pub stops_at_none : (clients : Meaning) (session : ℕ) (r : Record) (s : StoreV
     (batch : List Entry)
     → batch ≡ next_take s.state.facts session r → Allowed clients s.state.facts batch
     → StopsAsCourse clients session r s o o
-unfolding breaks_none
 stops_at_none clients session r s o batch is allowed = record {
   stops = λ n place its p takes same.
       let b : List Entry = next_take p.facts session r in

@@ -1,5 +1,5 @@
 -- Calls that did nothing.
-use Rattle.std.proofs.Common.{◌≡◌, refl, sym, subst, Result, Ok, Err}
+use Rattle.std.proofs.Common.{◌≡◌, ℕ, Bool, List, refl, sym, subst, Result, Ok, Err}
 use Rattle.std.specs.Prelude.{IfErr, IsErrAnd}
 use Rattle.sync_store.specs.Commits.{Stays}
 use Rattle.sync_store.specs.Store.{StoreValue}
@@ -7,8 +7,10 @@ use Rattle.sync_node.specs.declared.fault.Fault.{Fault}
 use Rattle.sync_node.specs.declared.fault.Fault.TheVariants as fault
 use Rattle.sync_node.specs.declared.fault.NodeFault.{NodeFault}
 use Rattle.sync_node.specs.Faults.{fault_of}
+use Rattle.sync_node.specs.declared.link.Link.{Link}
 use Rattle.sync_node.specs.Node.{NodeValue}
 use Rattle.sync_node.specs.Stays.{IsUndone, IsUndoneAt, IsUndoneBy}
+use Rattle.sync_node.proofs.NodeLaws.{node_of}
 
 pub stays_none : (s : StoreValue) → Stays s s
 stays_none s = record {
@@ -28,17 +30,17 @@ undone_none s host fault.Memory = record { stays = stays_none s; same_host = ref
 undone_none s host fault.Full = record { stays = stays_none s; same_host = refl }
 undone_none s host fault.DiskFault = tt
 
-pub undone_full : {H : Type 0} (s s' : StoreValue) (host host' : H) (e : Fault) → e ≡ fault.Full
-    → IsUndoneBy s s' host host' e → IsUndone s s' host host'
-undone_full s s' host host' e full undone = subst (λ (x : Fault). IsUndoneBy s s' host host' x) full undone
-
--- by what a node answers then
-pub undone_answer : {H : Type 0} (T : Type 0) (n n' : NodeValue) (host host' : H) (e : Fault)
-    (answer : NodeFault) → answer ≡ fault_of e → IsUndoneBy n.store n'.store host host' e
-    → IsUndoneAt {T = T} n n' host host' (Err answer)
-undone_answer T n n' host host' e answer is undone = subst (λ (x : NodeFault). IsUndoneAt {T = T} n n' host host' (Err x)) (sym is) (by_kind e undone)
+-- by what a node answers then, of whose store alone that speaks
+pub undone_answer : {H : Type 0} (T : Type 0) (s s' : StoreValue) (first : ℕ) (links : List Link)
+    (closed : Bool) (n : NodeValue) (host host' : H) (e : Fault) (answer : NodeFault)
+    → node_of s first links closed ≡ n → answer ≡ fault_of e → IsUndoneBy s s' host host' e
+    → IsUndoneAt {T = T} n (node_of s' first links closed) host host' (Err answer)
+undone_answer T s s' first links closed n host host' e answer is is_answer undone =
+    subst (λ (m : NodeValue). IsUndoneAt {T = T} m (node_of s' first links closed) host host' (Err answer)) is
+    (subst (λ (x : NodeFault). IsUndoneAt {T = T} (node_of s first links closed) (node_of s' first links closed) host host' (Err x)) (sym is_answer) (by_kind e undone))
   where
-    by_kind : (x : Fault) → IsUndoneBy n.store n'.store host host' x → IsUndoneAt {T = T} n n' host host' (Err (fault_of x))
+    by_kind : (x : Fault) → IsUndoneBy s s' host host' x
+        → IsUndoneAt {T = T} (node_of s first links closed) (node_of s' first links closed) host host' (Err (fault_of x))
     by_kind fault.Memory so = so
     by_kind fault.DiskFault so = tt
     by_kind fault.Full so = so

@@ -7,8 +7,7 @@ use Rattle.sync_node.specs.Plans.{session_of}
 use Rattle.sync_node.proofs.NodeLaws.{true≢false, fault_answers, is_closed_node, is_node, node_may, stays_closed}
 use Rattle.sync_node.proofs.SafeLaws.{goes_none}
 use Rattle.sync_node.proofs.CauseLaws.{node_causes}
-use Rattle.std.proofs.Common.{Err, subst}
-use Rattle.sync_node.specs.Stays.{IsUndoneBy}
+use Rattle.std.proofs.Common.{Err}
 use Rattle.sync_node.proofs.Undone.{undone_answer}
 use Rattle.sync_node.proofs.NodeLaws.{was_full}
 use Rattle.sync_node.proofs.CourseStart.{beginning_full, node_beginning_full}
@@ -178,5 +177,5 @@ returns-in-Err-clause-first g c = ap (λ (n : NodeValue). n.first) c.self.view_i
 
 pub returns-in-Err-clause-undone : goal.returns-in-Err-clause-undone
 returns-in-Err-clause-undone g c =
-    undone_answer (Unit {0}) _ _ _ _ c.in-Err.fault _ c.close.ensures.fault
-    (subst (λ (n : NodeValue). IsUndoneBy n.store c.attach_on.new.store c.args.host.now c.attach_on.new.host c.in-Err.fault) c.self.view_is c.in-Err.ensures.undone)
+    undone_answer (Unit {0}) c.self.inside.store c.attach_on.new.store c.self.inside.first c.self.inside.links.items c.self.inside.closed _ _ _ c.in-Err.fault _
+    c.self.view_is c.close.ensures.fault c.in-Err.ensures.undone
