@@ -9,5 +9,5 @@ use Rattle.memory_run.proofs.run.run_in_memory.Goals as goal
 pub returns : goal.returns
 returns g c =
     let clients = g.C.Clients.meaning c.args.clients.now in
-    subst (λ (h : MemHostValue). OpensInMemory clients (asks (texts c.args.words.now)) h c.run.new.host) c.into_host.ensures.host
-    (opens_in_memory clients (asks (texts c.args.words.now)) c.into_host.result c.run.new.host c.run.ensures.opens)
+    subst (λ (h : MemHostValue). OpensInMemory clients (asks (texts c.args.words.now)) h c.run-status.new.host) c.into_host-host.ensures.host
+    (opens_in_memory clients (asks (texts c.args.words.now)) c.into_host-host.result c.run-status.new.host c.run-status.ensures.opens)
