@@ -21,9 +21,8 @@ use Rattle.sync_node.specs.declared.node.Turned.TheVariants as turned
 use Rattle.sync_node.specs.Courses.{AllRead, Begins, BreaksBeginning, BreaksTurn, FitsWith, MakesTurn, ReadsAs, RunBreaks, RunRuns, is_still, links_from, place_at}
 use Rattle.sync_node.specs.Fulls.{AllSentOn, FullBeginning, FullTurn, RunFullSent}
 use Rattle.sync_node.specs.Joined.{Joined}
-use Rattle.sync_node.specs.Node.{AreAttached}
 use Rattle.sync_node.proofs.SentLaws.{joined_sent}
-use Rattle.sync_node.specs.Node.{IsNode, NodeValue, asked_among, is_going}
+use Rattle.sync_node.specs.Node.{AreAttached, IsNode, NodeValue, asked_among, is_going}
 use Rattle.sync_node.specs.Plans.{session_of}
 use Rattle.sync_run.specs.declared.dialling.Dialled.{Dialled}
 use Rattle.sync_run.specs.declared.run.Limits.{Limits}
