@@ -12,3 +12,4 @@ mod Payloads
 mod Readers
 mod ReadSteps
 mod WriteSteps
+pub mod Growing

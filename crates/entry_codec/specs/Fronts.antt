@@ -15,8 +15,8 @@ use Rattle.outside.specs.Files.{Two, file_of}
 use Rattle.outside.specs.Frames.{Frame, HasFrames, IsPayload, broken, closed, format_in, frame_at, frame_of, framed, is_broken, is_open, journal_file, size_at}
 use Rattle.entry_codec.specs.Spelling.{IsEntry}
 use Rattle.entry_codec.specs.Payloads.{batch_of, journal_end, payload, payloads}
-use Rattle.sync_rules.specs.Continuing.{legal-push}
-use Rattle.entry_codec.specs.Growing.{all_push, frames_push, length_frame, payloads_push}
+use Rattle.sync_rules.proofs.Continuing.{legal-push}
+use Rattle.entry_codec.proofs.Growing.{all_push, frames_push, length_frame, payloads_push}
 use Rattle.entry_codec.specs.Standing.{Standing, damaged, frames_from, journal, no_store, read_on, rest_from, room_of, stands, stands_in, taken_on}
 
 -- ---- frames

@@ -2,7 +2,6 @@ pub mod Spelling
 pub mod Reading
 pub mod Answers
 pub mod Payloads
-pub mod Growing
 pub mod Laws
 pub mod Standing
 pub mod StandingLaws

@@ -8,7 +8,8 @@ use Rattle.std.proofs.lemmas.List.{drop_all, get_or-take}
 use Rattle.outside.specs.Files.{Two, File, file_of, settled, NothingPending}
 use Rattle.outside.specs.Disk.{overwritten}
 use Rattle.outside.specs.Frames.{is_open, HasFrames}
-use Rattle.outside.specs.Steps.{other_of, file_of-with_file, other_of-with_file}
+use Rattle.outside.specs.Steps.{other_of}
+use Rattle.outside.proofs.CallSteps.{file_of-with_file, other_of-with_file}
 use Rattle.frame_journal.specs.Gates.{WritesBehind, KeepsFront}
 use Rattle.frame_journal.specs.Create.{IsCleared, Creates, Prepares, Publishes, ShutOrBegun, ShutOrOpened, begun_bytes, behind_gate, opened}
 

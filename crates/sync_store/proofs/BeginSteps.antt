@@ -8,7 +8,8 @@ use Rattle.outside.specs.Frames.{HasFrames, IsPayload, is_open, format_in, heade
 use Rattle.outside.specs.Links.{Links, sent_of}
 use Rattle.outside.specs.Disk.{Becomes}
 use Rattle.outside.specs.Outside.{Outside, Moment, MomentsAre, IsNow, Looks, DiskRun}
-use Rattle.outside.specs.Steps.{FileMoment, Passed, becomes_told, moments_map, moments_then}
+use Rattle.outside.specs.Steps.{FileMoment, Passed}
+use Rattle.outside.proofs.CallSteps.{becomes_told, moments_map, moments_then}
 use Rattle.frame_journal.specs.Create.{Clears, Creates, BeforeOrShut, ShutOrBegun, begun_bytes}
 use Rattle.frame_journal.specs.declared.fault.DiskFault.{DiskFault}
 use Rattle.frame_journal.specs.Gates.{SyncsBoth, AnyImage}

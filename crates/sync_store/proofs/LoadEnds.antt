@@ -12,7 +12,7 @@ use Rattle.outside.specs.Frames.{format_in, generation_in, HasFrames}
 use Rattle.outside.specs.Links.{Links, sent_of}
 use Rattle.outside.specs.Outside.{Outside, Moment, IsNow, DiskRun, Looks}
 use Rattle.outside.specs.Disk.{Becomes}
-use Rattle.outside.specs.Steps.{becomes_told, moments_map, moments_then}
+use Rattle.outside.proofs.CallSteps.{becomes_told, moments_map, moments_then}
 use Rattle.outside.specs.declared.disk.Place.{Place}
 use Rattle.frame_journal.specs.Gates.{AnyImage, SyncsBoth}
 use Rattle.frame_journal.specs.Journal.{JournalValue}

@@ -1,6 +1,6 @@
 use Rattle.std.proofs.Common.{◌∙◌, sym, ap, refl, length}
 use Rattle.outside.specs.Files.{read_files}
-use Rattle.outside.specs.Steps.{looks_then, looks_call}
+use Rattle.outside.proofs.CallSteps.{looks_then, looks_call}
 use Rattle.frame_journal.proofs.Read.{read_files_of, begun_as}
 use Rattle.frame_journal.proofs.journal.Journal.start.Goals as goal
 
