@@ -33,7 +33,7 @@ pub(crate) fn open<H: Host, C: Clients>(
     let Ok(store) = Store::load(alloc, hasher, host, clients, MAX_JOURNAL) else {
         return Err(Stop::NotBegun);
     };
-    if store.is_settled() && store.contacts() > 0 {
+    if store.state().is_settled() && store.contacts() > 0 {
         Ok(store)
     } else {
         Err(Stop::NotReady)

@@ -127,13 +127,14 @@ fn take_one<H: Host, C: Clients>(
     ensures { IsSide (C.meaning clients.now) store.new (H.tells host.new) }
 {
     records_are_within(&rec);
-    if store.is_closed() || !store.is_settled() {
+    if store.is_closed() || !store.state().is_settled() {
         return Err(Stop::NotReady);
     }
-    let Some(session) = store.session(SESSION) else {
+    let Some(session) = store.state().session(SESSION) else {
         return Err(Stop::NotReady);
     };
-    let batch = take(alloc, store, &session, store.takes(session.number), rec)?;
+    let taken = store.state().takes(session.number);
+    let batch = take(alloc, store, &session, taken, rec)?;
     store.commit(host, clients, batch)?;
     store.settle(host, clients)?;
     Ok(())
@@ -150,10 +151,10 @@ fn send_one<H: Host, C: Clients>(
     requires { IsSide (C.meaning clients.now) store.old (H.tells host.old) }
     ensures { IsSide (C.meaning clients.now) store.new (H.tells host.new) }
 {
-    if store.is_closed() || !store.is_settled() {
+    if store.is_closed() || !store.state().is_settled() {
         return Err(Stop::NotReady);
     }
-    let Some(out) = store.due_on(SESSION, now)? else {
+    let Some(out) = store.state().due_on(alloc, SESSION, now)? else {
         return Ok(false);
     };
     let bytes = spell_out(alloc, store, &out)?;

@@ -34,6 +34,7 @@ pub mod MoreHeld
 pub mod Levelled
 pub mod Served
 pub mod Allowed
+mod Due
 mod Defined
 pub mod Leaving
 pub mod Fronts

@@ -1,8 +1,11 @@
 //! Whether a batch may follow a journal, and what is due on a session.
-ghost use Rattle.std.specs.Prelude.{◌≡◌, false, IfOk, IfSome};
+ghost use Rattle.std.specs.Prelude.{◌≡◌, ◌∷◌, [], false, IfOk, IfSome};
 ghost use Rattle.sync_rules.specs.Facts.{session_at};
 ghost use Rattle.sync_rules.specs.Clients.{Meaning};
 ghost use Rattle.sync_rules.specs.Allows.{allows, is_settling_kind};
+ghost use Rattle.sync_rules.specs.Legal.{Allowed};
+ghost use Rattle.sync_rules.specs.Steps.{IsSettled};
+ghost use Rattle.sync_rules.specs.declared.entries.Entry.TheVariants as entry;
 ghost use Rattle.session_core.specs.Known.{IsOfAll};
 ghost use Rattle.journal_state.specs.Allowing.{due_of};
 ghost use Rattle.journal_state.specs.Whole.{Knows};
@@ -61,12 +64,15 @@ impl State {
     }
 
     /// What is due on the session of this number at this time, in milliseconds, by the judgements
-    /// of the clients. `None` comes exactly where nothing is due, also where there is no session.
-    /// It fails only for want of memory.
+    /// of the clients: what a settled journal may be extended by. `None` comes exactly where
+    /// nothing is due, also where there is no session. It fails only for want of memory.
     pub fn due_on(&self, alloc: Global, session: u32, now: u64) -> Result<Option<Out>, AllocError>
-        ensures { (clients : Meaning) → Knows clients self.now
+        ensures due { (clients : Meaning) → Knows clients self.now
             → IfOk result (λ what. what ≡ due_of clients self.now.facts
             (session_at self.now.facts.sessions session) now) }
+        ensures allowed { (clients : Meaning) → Knows clients self.now
+            → IsSettled clients self.now.facts → IfOk result (λ what. IfSome what
+            (λ w. Allowed clients self.now.facts (entry.Out session now w ∷ []))) }
     {
         match self.sessions.find(session) {
             None => Ok(None),

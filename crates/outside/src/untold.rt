@@ -12,10 +12,14 @@ pub struct Untold {
 }
 
 impl Untold {
+    ghost use Rattle.std.specs.Prelude.{◌≡◌};
     ghost use Rattle.outside.specs.Faults.{HasCause};
 
     /// The same disk, of which no call failed yet.
-    pub fn new(disk: MemDisk) -> Untold {
+    pub fn new(disk: MemDisk) -> Untold
+        ensures same { result.disk ≡ disk }
+        ensures unfailed { result.faults ≡ 0 }
+    {
         Untold { disk, faults: 0 }
     }
 

@@ -6,6 +6,7 @@ mod WorkLaws
 mod OutLaws
 mod TakeLaws
 mod StartLaws
+mod StateLaws
 mod NodeLaws
 mod AttachLaws
 mod CauseLaws

@@ -121,7 +121,7 @@ fn start<H: Host, C: Clients>(
     let priority = spell_nonce(alloc, &session.nonce)?;
     let batch = Batch::single(alloc, Entry::Session(session))?;
     commit(store, host, clients, batch, None)?;
-    let Some(begun) = store.session(session.number) else {
+    let Some(begun) = store.state().session(session.number) else {
         unreachable!()
     };
     let mut link = Link {

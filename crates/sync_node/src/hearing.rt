@@ -234,7 +234,7 @@ fn take_one<H: Host, C: Clients>(
         (H.tells host.new).disk_faults }
 {
     records_are_within(&rec);
-    let taken = store.takes(session.number);
+    let taken = store.state().takes(session.number);
     let known = take_known(alloc, store, session, taken, rec)?;
     let (batch, id) = known;
     commit(store, host, clients, batch, id)?;

@@ -62,7 +62,7 @@ pub(crate) fn send_all<H: Host, C: Clients>(
 {
     let mut made = 0;
     'outs: while made < MAX_OUTPUTS && link.may_send() {
-        let Some(out) = store.due_on(link.session.number, now)? else {
+        let Some(out) = store.state().due_on(alloc, link.session.number, now)? else {
             return Ok(made);
         };
         put_out(alloc, store, host, clients, number, link, now, out)?;

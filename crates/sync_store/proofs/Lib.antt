@@ -8,6 +8,5 @@ mod SettleSteps
 mod BeginSteps
 pub mod Limits
 mod Growth
-mod Due
 mod Errors
 pub mod Runs

@@ -27,17 +27,6 @@ use sync_ids::MessageId;
 use sync_rules::{Batch, Clients};
 
 impl Store {
-    /// Whether a batch that does not begin with a step may follow the journal. It fails only for
-    /// want of memory.
-    pub fn allows<C: Clients>(&self, clients: &C, batch: &Batch) -> Result<bool, AllocError>
-        requires knows { Knows (C.meaning clients.now) self.now.state }
-        requires kind { is_settling_kind batch.now ≡ false }
-        ensures { IfOk result (λ yes. yes ≡ allows (C.meaning clients.now) self.now.state.facts
-            batch.now) }
-    {
-        self.state.allows(self.alloc, clients, batch)
-    }
-
     /// Commits a batch, which may follow the journal and is no settling batch. Before its first
     /// call on the disk it takes all the memory that it needs. `Closed` comes exactly where an
     /// earlier call answered `DiskFault`; then `Full` exactly where the journal, the frame and the

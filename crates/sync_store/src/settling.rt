@@ -58,7 +58,7 @@ impl Store {
             return Err(StoreFault::Closed);
         }
         cite_laws();
-        'batches: while !self.is_settled() {
+        'batches: while !self.state().is_settled() {
             self.settle_batch(disk, clients)?;
         }
         Ok(())

@@ -90,35 +90,6 @@ impl Store {
         self.state.sessions()
     }
 
-    /// The session of this number. `None` comes exactly where there is none.
-    pub fn session(&self, number: u32) -> Option<Session>
-        ensures value { result ≡ session_at self.now.state.facts.sessions number }
-        ensures numbered { IfSome result (λ s. s.number ≡ number) }
-    {
-        self.state.session(number)
-    }
-
-    /// How many records were taken on the session of this number; 0 where there is none.
-    pub fn takes(&self, session: u32) -> u64
-        ensures { result ≡ takes_of self.now.state.facts.takes session }
-    {
-        self.state.takes(session)
-    }
-
-    /// The output that is due on the session of this number at this time in milliseconds: what a
-    /// settled journal may be extended by. `None` comes exactly where nothing is due, or where
-    /// there is no such session. It fails only for want of memory.
-    pub fn due_on(&self, session: u32, now: u64) -> Result<Option<Out>, AllocError>
-        ensures due { (clients : Meaning) → Knows clients self.now.state
-            → IfOk result (λ what. what ≡ due_of clients self.now.state.facts
-            (session_at self.now.state.facts.sessions session) now) }
-        ensures allowed { (clients : Meaning) → Knows clients self.now.state
-            → IsSettled clients self.now.state.facts → IfOk result (λ what. IfSome what
-            (λ w. Allowed clients self.now.state.facts (entry.Out session now w ∷ []))) }
-    {
-        self.state.due_on(self.alloc, session, now)
-    }
-
     /// The place of the journal's closed gate plus one, in bytes. It bounds the counts of the
     /// journal, and is itself at most the greatest length.
     pub fn end(&self) -> u64
@@ -126,14 +97,6 @@ impl Store {
         ensures numbers { IsStore self.now }
     {
         self.journal.end()
-    }
-
-    /// Whether the journal is settled.
-    pub fn is_settled(&self) -> bool
-        ensures { (clients : Meaning) → Knows clients self.now.state
-            → (IsTrue result ↔ IsSettled clients self.now.state.facts) }
-    {
-        self.state.is_settled()
     }
 
     /// The room in bytes that settling may yet need: `STEP_BYTES` for each step that is left, two

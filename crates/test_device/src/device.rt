@@ -20,6 +20,7 @@ use sync_store::{LoadFault, Store, StoreFault};
 /// A store with its disk and its clients.
 #[derive(Drop)]
 pub struct Device<D: Disk, C: Clients> {
+    alloc: Global,
     disk: D,
     store: Store,
     clients: C,
@@ -51,6 +52,7 @@ impl<D: Disk + Drop, C: Clients + Drop> Device<D, C> {
         let hasher = RandomState::new(&MemRandom(0))?;
         match Store::load(alloc, hasher, &mut disk, &clients, limit) {
             Ok(store) => Ok(Device {
+                alloc,
                 disk,
                 store,
                 clients,
@@ -82,13 +84,19 @@ impl<D: Disk + Drop, C: Clients + Drop> Device<D, C> {
     /// Whether a batch begins with no step and may follow the journal, where the store is not
     /// closed. It fails only for want of memory.
     pub fn allows(&self, batch: &Batch) -> Result<bool, AllocError> {
-        may_add(&self.store, &self.clients, batch)
+        may_add(self.alloc, &self.store, &self.clients, batch)
     }
 
     /// Commits a batch, where it may follow the journal and begins with no step. A closed store
     /// answers by itself.
     pub fn add(&mut self, batch: Batch) -> Result<(), AddFault> {
-        add(&mut self.store, &mut self.disk, &self.clients, batch)
+        add(
+            self.alloc,
+            &mut self.store,
+            &mut self.disk,
+            &self.clients,
+            batch,
+        )
     }
 
     /// Settles the journal.
@@ -106,6 +114,7 @@ impl<D: Disk + Drop, C: Clients + Drop> Device<D, C> {
 
 // Commits a batch where it may be added.
 fn add<D: Disk, C: Clients>(
+    alloc: Global,
     store: &mut Store,
     disk: &mut D,
     clients: &C,
@@ -116,7 +125,7 @@ fn add<D: Disk, C: Clients>(
     ensures { store.new.closed ≡ false
         → IsReady (C.meaning clients.now) store.new (D.tells disk.new).files }
 {
-    if !may_add(store, clients, &batch)? {
+    if !may_add(alloc, store, clients, &batch)? {
         return Err(AddFault::NotAllowed);
     }
     store.commit(disk, clients, batch)?;
@@ -125,7 +134,12 @@ fn add<D: Disk, C: Clients>(
 
 // Whether a batch may follow the journal and begins with no step; of a closed store the latter
 // alone is asked.
-fn may_add<C: Clients>(store: &Store, clients: &C, batch: &Batch) -> Result<bool, AllocError>
+fn may_add<C: Clients>(
+    alloc: Global,
+    store: &Store,
+    clients: &C,
+    batch: &Batch,
+) -> Result<bool, AllocError>
     requires { store.now.closed ≡ false → Knows (C.meaning clients.now) store.now.state }
     ensures allowed { IfOk result (λ yes. yes ≡ true → store.now.closed ≡ false
         → Allowed (C.meaning clients.now) store.now.state.facts batch.now) }
@@ -138,7 +152,7 @@ fn may_add<C: Clients>(store: &Store, clients: &C, batch: &Batch) -> Result<bool
         return Ok(true);
     }
     allows_is_allowed();
-    store.allows(clients, batch)
+    store.state().allows(alloc, clients, batch)
 }
 
 /// The place of the closed gate plus one of the journal that a disk's files stand for.

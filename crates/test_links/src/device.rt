@@ -261,7 +261,7 @@ fn batch_of<C: Clients>(
     }
     let batch = Batch::single(alloc, entry)?;
     allows_is_allowed();
-    if closed || store.allows(clients, &batch)? {
+    if closed || store.state().allows(alloc, clients, &batch)? {
         Ok(batch)
     } else {
         Err(Fault::NotAllowed)
@@ -279,7 +279,7 @@ fn may_attach(store: &Store, plan: &Plan, nonce: &Option<Nonce>) -> bool
     let is_known = u32::from(plan.contact) < store.contacts();
     let is_timed = plan.latency >= 1;
     let suits = nonce.is_none() || plan.mode == Mode::Interactive;
-    is_known && is_timed && suits && store.is_settled()
+    is_known && is_timed && suits && store.state().is_settled()
 }
 
 // Whether an entry is one that is added to a node.

@@ -86,7 +86,7 @@ fn out_of_sight(rt: HostRuntime) {
     say_out_of_sight(&rt, &mut device);
     hear_all(&rt, &mut device, 6, 0);
     let store = device.store();
-    same(&rt, &store.takes(0), &6);
+    same(&rt, &store.state().takes(0), &6);
     same(&rt, &store.held(), &1);
     leaves(
         &rt,

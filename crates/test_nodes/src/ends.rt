@@ -56,7 +56,7 @@ type State = (u64, usize, LinkEnd);
 fn ends(rt: &impl Abort, number: usize, device: &Device<Bundle>, wanted: State) {
     let (takes, sent, end) = wanted;
     let got_sent = device.host().sent(0).len();
-    let got = (number, device.store().takes(0), got_sent, device.ending(0));
+    let got = (number, device.store().state().takes(0), got_sent, device.ending(0));
     same(rt, &got, &(number, takes, sent, Some(end)));
 }
 
@@ -204,7 +204,7 @@ fn fail<R: Abort + AllocGlobal>(rt: &R, failing: Option<u64>, sent: usize) {
     ends(rt, sent, &device, (0, sent, LinkEnd::Failed));
     say(rt, &mut device, 0, &VERSIONS);
     turns(rt, &mut device, Turned::Still);
-    same(rt, &(sent, device.store().takes(0)), &(sent, 0));
+    same(rt, &(sent, device.store().state().takes(0)), &(sent, 0));
 }
 
 #[test]

@@ -160,5 +160,5 @@ fn first_priority(rt: HostRuntime) {
     turn(&rt, &mut device);
     stands(&rt, &device, 0, LinkEnd::Going);
     stands(&rt, &device, 1, LinkEnd::Redundant);
-    same(&rt, &device.store().takes(1), &3);
+    same(&rt, &device.store().state().takes(1), &3);
 }

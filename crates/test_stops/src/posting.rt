@@ -197,5 +197,5 @@ fn settle(rt: &impl Print, alloc: Global, whole: &[u8], case: Case, image: MemDi
 /// How many messages are held, how many are delivered, and whether the store is settled.
 fn counts(node: &Node) -> (u32, u32, bool) {
     let store = node.store();
-    (store.held(), store.delivered(), store.is_settled())
+    (store.held(), store.delivered(), store.state().is_settled())
 }

@@ -39,7 +39,7 @@ fn fate_of(fate: NodeFate) -> Fate {
 pub(crate) fn is_next(plain: &Plain<'_>, store: &Store) -> Result<bool> {
     let step = store.graph().next();
     let entry = next_step_in(plain.alloc, plain.batches, &Timing)?;
-    let settled = store.is_settled() == entry.is_none();
+    let settled = store.state().is_settled() == entry.is_none();
     Ok(settled && is_step(plain, step, entry.as_ref()))
 }
 

@@ -151,7 +151,7 @@ impl Device {
         ensures { MatchOption result (Unit {0}) (λ store. IsReadyStore self.now.node store.now) }
     {
         match &self.node {
-            Some(node) if node.store().is_settled() => Some(node.store()),
+            Some(node) if node.store().state().is_settled() => Some(node.store()),
             _ => None,
         }
     }

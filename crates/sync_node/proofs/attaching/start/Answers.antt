@@ -11,6 +11,7 @@ use Rattle.sync_node.proofs.WorkLaws.{goes_then}
 use Rattle.std.proofs.Common.{Err, ap}
 use Rattle.sync_node.proofs.WorkLaws.{err_was}
 use Rattle.sync_node.proofs.CourseStart.{start_full}
+use Rattle.sync_node.proofs.StateLaws.{session_told}
 use Rattle.sync_node.proofs.attaching.start.Goals as goal
 
 pub returns-in_err-versions-clause-safe : goal.returns-in_err-versions-clause-safe
@@ -38,7 +39,7 @@ returns-in_err-commit-clause-safe g c =
 
 pub unreachable-requires : goal.unreachable-requires
 unreachable-requires g c =
-    session_found _ c.args.session c.in_ok-batch.batch _ _ _ _ c.in_ok-batch.ensures c.in_ok-commit.ensures.commits (sym c.in_default.is ∙ c.session.ensures.value)
+    session_found _ c.args.session c.in_ok-batch.batch _ _ _ _ c.in_ok-batch.ensures c.in_ok-commit.ensures.commits (sym c.in_default.is ∙ session_told _ _ _ _ c.state.ensures c.session.ensures.value)
 
 pub same-reader : goal.same-reader
 same-reader g c = refl
@@ -55,7 +56,7 @@ returns-clause-starts g c =
     starts _ _ c.args.session c.in-Some.begun c.args.reader _ _ _ _ _ _ _ _ c.requires.allowed.1 c.requires.allowed
     (commits_as _ c.in_ok-batch.batch _ _ _ _ _ c.in_ok-batch.ensures c.in_ok-commit.ensures.commits)
     (first_bytes c.args.session _ _ (c.as_slice.ensures.value ∙ c.in_ok-versions.ensures) (c.as_slice-2.ensures.value ∙ c.in_ok-priority.ensures))
-    (sym c.in-Some.is ∙ c.session.ensures.value) c.in-Some.ensures.numbered refl c.requires.fresh refl (subst (λ (r : ReaderState). AwaitsBytes r) c.requires.fresh c.requires.waits) c.greet.ensures.greets
+    (sym c.in-Some.is ∙ session_told _ _ _ _ c.state.ensures c.session.ensures.value) c.in-Some.ensures.numbered refl c.requires.fresh refl (subst (λ (r : ReaderState). AwaitsBytes r) c.requires.fresh c.requires.waits) c.greet.ensures.greets
 
 pub returns-clause-safe : goal.returns-clause-safe
 returns-clause-safe g c =
@@ -80,7 +81,7 @@ returns-in_err-commit-clause-halts g c =
 pub returns-clause-course : goal.returns-clause-course
 returns-clause-course g c =
     starts_course _ c.args.session _ _ c.in_ok-batch.batch c.in_ok-batch.ensures c.requires.allowed _ c.in-Some.begun c.args.reader _ _ _ _ c.requires.ready
-    c.in_ok-commit.ensures.commits.facts c.in_ok-commit.ensures.adds (sym c.in-Some.is ∙ c.session.ensures.value) c.greet.ensures.greets.same_files
+    c.in_ok-commit.ensures.commits.facts c.in_ok-commit.ensures.adds (sym c.in-Some.is ∙ session_told _ _ _ _ c.state.ensures c.session.ensures.value) c.greet.ensures.greets.same_files
     c.requires.fresh (subst (λ (r : ReaderState). AwaitsBytes r) c.requires.fresh c.requires.waits) c.greet.ensures.told
 
 pub returns-in_err-versions-clause-run : goal.returns-in_err-versions-clause-run

@@ -7,6 +7,7 @@ use Rattle.std.proofs.Common.{Err, ap, refl}
 use Rattle.session_core.specs.Taking.{take_of}
 use Rattle.sync_node.proofs.WorkLaws.{err_was}
 use Rattle.sync_node.proofs.CourseTakes.{take_full}
+use Rattle.sync_node.proofs.StateLaws.{takes_told}
 use Rattle.sync_node.proofs.hearing.take_one.Goals as goal
 
 pub commit-requires-clause-ready : goal.commit-requires-clause-ready
@@ -14,7 +15,7 @@ commit-requires-clause-ready g c = c.requires.able.ready
 
 pub commit-requires-clause-allowed : goal.commit-requires-clause-allowed
 commit-requires-clause-allowed g c =
-    take_allowed _ _ c.takes-taken.result c.args.rec _ _ c.in_ok-known.known.0 c.requires.able c.records_are_within.ensures c.takes-taken.ensures c.in_ok-known.ensures.batch
+    take_allowed _ _ c.takes-taken.result c.args.rec _ _ c.in_ok-known.known.0 c.requires.able c.records_are_within.ensures (takes_told c.args.store.now.state _ _ _ c.state.ensures c.takes-taken.ensures) c.in_ok-known.ensures.batch
 
 pub commit-requires-clause-kind : goal.commit-requires-clause-kind
 commit-requires-clause-kind g c =
@@ -25,23 +26,23 @@ returns-in_err-known-clause-safe g c = take_safe_none _ _ _ _ _
 
 pub returns-in_err-commit-clause-safe : goal.returns-in_err-commit-clause-safe
 returns-in_err-commit-clause-safe g c =
-    take_safe _ _ _ _ _ _ _ c.in_ok-known.known.0 c.requires.able (take_is c.args.store.now.state.facts c.args.session.now c.takes-taken.result c.args.rec c.in_ok-known.known.0 c.takes-taken.ensures c.in_ok-known.ensures.batch) c.in_err-commit.ensures.safe
+    take_safe _ _ _ _ _ _ _ c.in_ok-known.known.0 c.requires.able (take_is c.args.store.now.state.facts c.args.session.now c.takes-taken.result c.args.rec c.in_ok-known.known.0 (takes_told c.args.store.now.state _ _ _ c.state.ensures c.takes-taken.ensures) c.in_ok-known.ensures.batch) c.in_err-commit.ensures.safe
 
 pub settle-requires : goal.settle-requires
 settle-requires g c = record { ready = c.in_ok-commit.ensures.commits.ready }
 
 pub returns-clause-takes : goal.returns-clause-takes
 returns-clause-takes g c =
-    let allowed = take_allowed _ _ c.takes-taken.result c.args.rec _ _ c.in_ok-known.known.0 c.requires.able c.records_are_within.ensures c.takes-taken.ensures c.in_ok-known.ensures.batch in
+    let allowed = take_allowed _ _ c.takes-taken.result c.args.rec _ _ c.in_ok-known.known.0 c.requires.able c.records_are_within.ensures (takes_told c.args.store.now.state _ _ _ c.state.ensures c.takes-taken.ensures) c.in_ok-known.ensures.batch in
     on_ok c.settle.result _ _
     (taken_on _ _ _ _ _ _ _ _ _ c.in_ok-known.known.0
-    (take_is c.args.store.now.state.facts c.args.session.now c.takes-taken.result c.args.rec c.in_ok-known.known.0 c.takes-taken.ensures c.in_ok-known.ensures.batch) allowed c.in_ok-commit.ensures.commits)
+    (take_is c.args.store.now.state.facts c.args.session.now c.takes-taken.result c.args.rec c.in_ok-known.known.0 (takes_told c.args.store.now.state _ _ _ c.state.ensures c.takes-taken.ensures) c.in_ok-known.ensures.batch) allowed c.in_ok-commit.ensures.commits)
     c.settle.ensures.settles
 
 pub returns-clause-safe : goal.returns-clause-safe
 returns-clause-safe g c =
     take_safe_then _ _ _ _ _ _ _ _ _
-    (take_safe _ _ _ _ _ _ _ c.in_ok-known.known.0 c.requires.able (take_is c.args.store.now.state.facts c.args.session.now c.takes-taken.result c.args.rec c.in_ok-known.known.0 c.takes-taken.ensures c.in_ok-known.ensures.batch) c.in_ok-commit.ensures.safe)
+    (take_safe _ _ _ _ _ _ _ c.in_ok-known.known.0 c.requires.able (take_is c.args.store.now.state.facts c.args.session.now c.takes-taken.result c.args.rec c.in_ok-known.known.0 (takes_told c.args.store.now.state _ _ _ c.state.ensures c.takes-taken.ensures) c.in_ok-known.ensures.batch) c.in_ok-commit.ensures.safe)
     c.settle.ensures.safe
 
 pub returns-in_err-known-clause-stops : goal.returns-in_err-known-clause-stops
@@ -50,35 +51,35 @@ returns-in_err-known-clause-stops g c =
     on_err _ _
     (stops_at_none _ _ c.args.rec _ _ batch
     (take_named c.args.store.now.state.facts c.args.session.now c.args.rec batch c.requires.able.known
-    (take_is c.args.store.now.state.facts c.args.session.now c.takes-taken.result c.args.rec batch c.takes-taken.ensures refl))
-    (take_allowed _ _ c.takes-taken.result c.args.rec _ _ batch c.requires.able c.records_are_within.ensures c.takes-taken.ensures refl))
+    (take_is c.args.store.now.state.facts c.args.session.now c.takes-taken.result c.args.rec batch (takes_told c.args.store.now.state _ _ _ c.state.ensures c.takes-taken.ensures) refl))
+    (take_allowed _ _ c.takes-taken.result c.args.rec _ _ batch c.requires.able c.records_are_within.ensures (takes_told c.args.store.now.state _ _ _ c.state.ensures c.takes-taken.ensures) refl))
 
 pub returns-in_err-commit-clause-stops : goal.returns-in_err-commit-clause-stops
 returns-in_err-commit-clause-stops g c =
-    let allowed = take_allowed _ _ c.takes-taken.result c.args.rec _ _ c.in_ok-known.known.0 c.requires.able c.records_are_within.ensures c.takes-taken.ensures c.in_ok-known.ensures.batch in
+    let allowed = take_allowed _ _ c.takes-taken.result c.args.rec _ _ c.in_ok-known.known.0 c.requires.able c.records_are_within.ensures (takes_told c.args.store.now.state _ _ _ c.state.ensures c.takes-taken.ensures) c.in_ok-known.ensures.batch in
     on_err _ _
     (stops_at_commit _ _ c.args.rec _ _ _ c.in_ok-known.known.0
     (take_named c.args.store.now.state.facts c.args.session.now c.args.rec c.in_ok-known.known.0 c.requires.able.known
-    (take_is c.args.store.now.state.facts c.args.session.now c.takes-taken.result c.args.rec c.in_ok-known.known.0 c.takes-taken.ensures c.in_ok-known.ensures.batch)) allowed
+    (take_is c.args.store.now.state.facts c.args.session.now c.takes-taken.result c.args.rec c.in_ok-known.known.0 (takes_told c.args.store.now.state _ _ _ c.state.ensures c.takes-taken.ensures) c.in_ok-known.ensures.batch)) allowed
     c.in_err-commit.ensures.adds_some)
 
 pub returns-clause-course : goal.returns-clause-course
 returns-clause-course g c =
-    let allowed = take_allowed _ _ c.takes-taken.result c.args.rec _ _ c.in_ok-known.known.0 c.requires.able c.records_are_within.ensures c.takes-taken.ensures c.in_ok-known.ensures.batch in
+    let allowed = take_allowed _ _ c.takes-taken.result c.args.rec _ _ c.in_ok-known.known.0 c.requires.able c.records_are_within.ensures (takes_told c.args.store.now.state _ _ _ c.state.ensures c.takes-taken.ensures) c.in_ok-known.ensures.batch in
     on_ok c.settle.result _ _
     (takes_course _ _ c.args.rec _ _ _ _ _ _ c.in_ok-known.known.0
     (take_named c.args.store.now.state.facts c.args.session.now c.args.rec c.in_ok-known.known.0 c.requires.able.known
-    (take_is c.args.store.now.state.facts c.args.session.now c.takes-taken.result c.args.rec c.in_ok-known.known.0 c.takes-taken.ensures c.in_ok-known.ensures.batch)) allowed
+    (take_is c.args.store.now.state.facts c.args.session.now c.takes-taken.result c.args.rec c.in_ok-known.known.0 (takes_told c.args.store.now.state _ _ _ c.state.ensures c.takes-taken.ensures) c.in_ok-known.ensures.batch)) allowed
     c.in_ok-commit.ensures.commits.facts c.in_ok-commit.ensures.adds)
     c.settle.ensures.adds
 
 pub returns-clause-stops : goal.returns-clause-stops
 returns-clause-stops g c =
-    let allowed = take_allowed _ _ c.takes-taken.result c.args.rec _ _ c.in_ok-known.known.0 c.requires.able c.records_are_within.ensures c.takes-taken.ensures c.in_ok-known.ensures.batch in
+    let allowed = take_allowed _ _ c.takes-taken.result c.args.rec _ _ c.in_ok-known.known.0 c.requires.able c.records_are_within.ensures (takes_told c.args.store.now.state _ _ _ c.state.ensures c.takes-taken.ensures) c.in_ok-known.ensures.batch in
     on_err_then c.settle.result _ _
     (stops_at_settle _ _ c.args.rec _ _ _ _ _ c.in_ok-known.known.0
     (take_named c.args.store.now.state.facts c.args.session.now c.args.rec c.in_ok-known.known.0 c.requires.able.known
-    (take_is c.args.store.now.state.facts c.args.session.now c.takes-taken.result c.args.rec c.in_ok-known.known.0 c.takes-taken.ensures c.in_ok-known.ensures.batch)) allowed
+    (take_is c.args.store.now.state.facts c.args.session.now c.takes-taken.result c.args.rec c.in_ok-known.known.0 (takes_told c.args.store.now.state _ _ _ c.state.ensures c.takes-taken.ensures) c.in_ok-known.ensures.batch)) allowed
     c.in_ok-commit.ensures.commits.facts c.in_ok-commit.ensures.adds)
     c.settle.ensures.adds_some
 
@@ -90,10 +91,10 @@ returns-clause-run g c = goes_then _ _ _ c.commit.ensures.run c.settle.ensures.r
 
 pub returns-in_err-commit-clause-full : goal.returns-in_err-commit-clause-full
 returns-in_err-commit-clause-full g c = λ is.
-    let allowed = take_allowed _ _ c.takes-taken.result c.args.rec _ _ c.in_ok-known.known.0 c.requires.able c.records_are_within.ensures c.takes-taken.ensures c.in_ok-known.ensures.batch in
+    let allowed = take_allowed _ _ c.takes-taken.result c.args.rec _ _ c.in_ok-known.known.0 c.requires.able c.records_are_within.ensures (takes_told c.args.store.now.state _ _ _ c.state.ensures c.takes-taken.ensures) c.in_ok-known.ensures.batch in
     take_full _ _ c.args.rec _ _ _ _ c.in_ok-known.known.0
     (take_named c.args.store.now.state.facts c.args.session.now c.args.rec c.in_ok-known.known.0 c.requires.able.known
-    (take_is c.args.store.now.state.facts c.args.session.now c.takes-taken.result c.args.rec c.in_ok-known.known.0 c.takes-taken.ensures c.in_ok-known.ensures.batch)) allowed
+    (take_is c.args.store.now.state.facts c.args.session.now c.takes-taken.result c.args.rec c.in_ok-known.known.0 (takes_told c.args.store.now.state _ _ _ c.state.ensures c.takes-taken.ensures) c.in_ok-known.ensures.batch)) allowed
     (c.in_err-commit.ensures.full (ap (λ e. Err e) (err_was _ c.in_err-commit.field-0.0 _ c.from_residual-in_err-commit.ensures.1 is)))
 
 pub returns-clause-full : goal.returns-clause-full

@@ -8,6 +8,7 @@ use Rattle.std.proofs.Common.{Err, ap}
 use Rattle.sync_node.proofs.WorkLaws.{err_was}
 use Rattle.sync_node.proofs.CourseTurns.{outs_full}
 use Rattle.sync_node.proofs.StopLaws.{stops_then}
+use Rattle.sync_node.proofs.StateLaws.{allowed_told, due_told}
 use Rattle.sync_node.proofs.sending.send_all.Goals as goal
 
 pub outs-init : goal.outs-init
@@ -36,7 +37,7 @@ put_out-requires-clause-unfailed g c = may_unfailed _ (c.may_send.ensures.0 c.if
 
 pub put_out-requires-clause-allowed : goal.put_out-requires-clause-allowed
 put_out-requires-clause-allowed g c =
-    let allowed = c.in_ok-out.ensures.allowed (g.C.Clients.meaning c.args.clients.now) c.outs.invariant.able.ready.knows c.outs.invariant.able.settled in
+    let allowed = allowed_told c.outs.store.state _ _ _ _ c.state.ensures c.in_ok-out.ensures.allowed (g.C.Clients.meaning c.args.clients.now) c.outs.invariant.able.ready.knows c.outs.invariant.able.settled in
     rw c.in-Some.is at allowed
 
 pub returns-in_err-put_out-clause-stays : goal.returns-in_err-put_out-clause-stays
@@ -77,7 +78,7 @@ returns-in_err-out-clause-stops g c =
 
 pub returns-in_default-clause-course : goal.returns-in_default-clause-course
 returns-in_default-clause-course g c = λ may.
-    let due = c.in_ok-out.ensures.due (g.C.Clients.meaning c.args.clients.now) c.outs.invariant.able.ready.knows in
+    let due = due_told c.outs.store.state _ _ _ _ c.state.ensures c.in_ok-out.ensures.due (g.C.Clients.meaning c.args.clients.now) c.outs.invariant.able.ready.knows in
     outs_end _ _ _ _ _ _ _ _ _ _ c.outs.invariant.course
     (λ open_is room rest. none_due (g.C.Clients.meaning c.args.clients.now) c.outs.store.state.facts c.outs.link.session.number c.args.now (sym due ∙ option_none _ c.in_default.not-Some) room)
 

@@ -1,10 +1,18 @@
-use Rattle.std.proofs.Common.{◌≡◌, false, sym, ◌∙◌, subst, Result}
+use Rattle.std.proofs.Common.{◌≡◌, ◌↔◌, Bool, IsTrue, false, sym, ◌∙◌, subst, Result}
+use Rattle.journal_state.specs.Whole.{Knows, StateValue}
+use Rattle.sync_rules.specs.Clients.{Meaning}
+use Rattle.sync_rules.specs.Steps.{IsSettled}
 use Rattle.sync_store.specs.declared.fault.StoreFault.{StoreFault}
 use Rattle.sync_store.specs.Settling.{HasSettled}
 use Rattle.sync_store.proofs.Errors.{err_is}
 use Rattle.sync_store.proofs.SettleSteps.{comes_fits, settled_err, settled_ok, settles_begun, settles_more}
 use Rattle.sync_store.proofs.Steps.{unsettled}
 use Rattle.sync_store.proofs.store.Store.settle.Goals as goal
+
+-- what the state tells is so of the store whose state it is
+told_of : (s t : StateValue) (yes : Bool) → t ≡ s → ((clients : Meaning) → Knows clients t → (IsTrue yes ↔ IsSettled clients t.facts))
+    → (clients : Meaning) → Knows clients s → (IsTrue yes ↔ IsSettled clients s.facts)
+told_of s t yes same told = subst (λ (v : StateValue). (clients : Meaning) → Knows clients v → (IsTrue yes ↔ IsSettled clients v.facts)) same told
 
 pub batches-init : goal.batches-init
 batches-init g c =
@@ -19,7 +27,7 @@ batches-init g c =
 pub settle_batch-requires-clause-unsettled : goal.settle_batch-requires-clause-unsettled
 settle_batch-requires-clause-unsettled g c =
     unsettled (g.C.Clients.meaning c.args.clients.now) c.batches.self.state.facts c.is_settled.result
-    (c.is_settled.ensures (g.C.Clients.meaning c.args.clients.now) c.batches.invariant.ready.knows) c.batches-test.true
+    (told_of c.batches.self.state _ c.is_settled.result c.state.ensures c.is_settled.ensures (g.C.Clients.meaning c.args.clients.now) c.batches.invariant.ready.knows) c.batches-test.true
 
 pub batches-preserved : goal.batches-preserved
 batches-preserved g c =
@@ -31,7 +39,7 @@ batches-preserved g c =
     let o1 = g.D.Disk.tells c.batches.disk in
     let o2 = g.D.Disk.tells c.settle_batch.new.disk in
     let before = c.batches.invariant in
-    let left = unsettled clients s1.state.facts c.is_settled.result (c.is_settled.ensures clients before.ready.knows) c.batches-test.true in
+    let left = unsettled clients s1.state.facts c.is_settled.result (told_of s1.state _ c.is_settled.result c.state.ensures c.is_settled.ensures clients before.ready.knows) c.batches-test.true in
     let made = c.in_ok-settle_batch.ensures.made in
     record {
       ready = record {
@@ -53,7 +61,7 @@ returns-in_err-settle_batch-clause-settled g c _ =
     let o1 = g.D.Disk.tells c.batches.disk in
     let o2 = g.D.Disk.tells c.settle_batch.new.disk in
     let before = c.batches.invariant in
-    let left = unsettled clients s1.state.facts c.is_settled.result (c.is_settled.ensures clients before.ready.knows) c.batches-test.true in
+    let left = unsettled clients s1.state.facts c.is_settled.result (told_of s1.state _ c.is_settled.result c.state.ensures c.is_settled.ensures clients before.ready.knows) c.batches-test.true in
     let e = c.in_err-settle_batch.field-0.0 in
     subst (λ (r : Result (Unit {0}) StoreFault). HasSettled clients s0 s2 r o0 o2) (sym (err_is c.from_residual.result e c.from_residual.ensures.1))
     (settled_err clients s0 s1 s2 e o0 o1 o2 before.settles before.ready.still_open left c.in_err-settle_batch.ensures.made)
@@ -74,7 +82,7 @@ returns-clause-settled g c _ =
     let clients = g.C.Clients.meaning c.args.clients.now in
     let before = c.batches.invariant in
     settled_ok clients c.args.self.now c.batches.self _ (g.D.Disk.tells c.args.disk.now) (g.D.Disk.tells c.batches.disk) before.settles before.ready.still_open
-    ((c.is_settled.ensures clients before.ready.knows).0 c.batches-test.false)
+    ((told_of c.batches.self.state _ c.is_settled.result c.state.ensures c.is_settled.ensures clients before.ready.knows).0 c.batches-test.false)
 
 pub returns-clause-numbers : goal.returns-clause-numbers
 returns-clause-numbers g c = c.batches.invariant.numbers
