@@ -15,10 +15,11 @@ use frame_journal::{DiskFault, FIRST_FORMAT, barrier, clear, create, read_header
 use outside::Disk;
 
 impl Store {
-    /// Begins a store in two files: in file 0, with format 1 and generation 1. `Exists` comes exactly where a
-    /// file has an open header, and then the files read as before. At each moment the files are as
-    /// a crash might have left them before, or, where no header was open, stand for no store or for
-    /// the empty journal; after `Ok` every crash leaves the empty journal. It takes no memory.
+    /// Begins a store in two files: in file 0, with format 1 and generation 1. `Exists` comes
+    /// exactly where a file has an open header, and then the files read as before. At each moment
+    /// the files are as a crash might have left them before, or, where no header was open, stand
+    /// for no store or for the empty journal; after `Ok` every crash leaves the empty journal. It
+    /// takes no memory.
     pub fn init<D: Disk>(disk: &mut D) -> Result<(), InitFault>
         ensures answer { ForSome (D.tells disk.old).files (λ two. IsAnswer two result) }
         ensures begun { OnOk result (Becomes Begins (D.tells disk.old).files
