@@ -1,5 +1,5 @@
 -- What holds of all spellings.
-use Rattle.std.proofs.Common.{◌≡◌, ℕ, ◌+◌, ◌*◌, ◌≤◌, List, [], ◌∷◌, ◌++◌, length, take, drop, refl, sym, ap, ◌∙◌, arith, length-append}
+use Rattle.std.proofs.Common.{◌≡◌, ℕ, ◌+◌, ◌≤◌, List, [], ◌∷◌, ◌++◌, length, take, drop, refl, sym, ap, ◌∙◌, arith, length-append}
 use Rattle.std.specs.Prelude.{Some, None}
 use Rattle.std.specs.List.{AllByRecursion, flat_map}
 use Rattle.std.proofs.lemmas.List.{append-nil, length-take-le, take_at, take-append-drop}
@@ -93,5 +93,10 @@ pub batch_not_longer : (names : List (List ℕ)) (batch : List Entry) → AllByR
     → length (flat_map (spelling_in format.Short names) batch) ≤ payload_len batch
 batch_not_longer names [] all = omega arith
 batch_not_longer names (e ∷ es) all =
-    omega (arith, (not_longer names e all.0).1, batch_not_longer names es all.1, length-append (spelling e) (spellings es),
-    length-append (spelling_in format.Short names e) (flat_map (spelling_in format.Short names) es))
+    omega (
+      arith,
+      (not_longer names e all.0).1,
+      batch_not_longer names es all.1,
+      length-append (spelling e) (spellings es),
+      length-append (spelling_in format.Short names e) (flat_map (spelling_in format.Short names) es),
+    )

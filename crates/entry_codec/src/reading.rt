@@ -85,12 +85,7 @@ fn read_moved<N: Names>(
 }
 
 // What follows the tags 8 to 10.
-fn read_step<N: Names>(
-    format: Format,
-    names: &N,
-    tag: u8,
-    front: &mut Front,
-) -> Result<Entry, Stop>
+fn read_step<N: Names>(format: Format, names: &N, tag: u8, front: &mut Front) -> Result<Entry, Stop>
     ensures { Reads (λ bytes. meant (step_of tag) (held_in format (N.named names.now) bytes))
         front.old.rest.now result front.new.rest.now }
 {

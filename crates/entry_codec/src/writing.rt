@@ -364,11 +364,7 @@ pub fn write_entry(entry: &Entry, to: &mut Vec<u8>) -> Result<(), AllocError>
 /// Appends the one spelling of an entry in format 2, where these are the names of the messages held.
 /// A session's latency is at least 1, and each message that the entry names as held has a name. It
 /// fails only for want of memory, and then leaves the bytes as they were.
-pub fn write_short<N: Names>(
-    entry: &Entry,
-    names: &N,
-    to: &mut Vec<u8>,
-) -> Result<(), AllocError>
+pub fn write_short<N: Names>(entry: &Entry, names: &N, to: &mut Vec<u8>) -> Result<(), AllocError>
     requires latency { HasLatency entry.now }
     requires named { EntryNames (λ id. is_among (N.named names.now) id ≡ true) entry.now }
     ensures ok { OnOk result
