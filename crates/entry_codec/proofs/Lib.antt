@@ -1,6 +1,8 @@
 pub mod BatchLaws
 pub mod Journals
 mod Latencies
+mod AllowedIds
+mod Places
 mod OfBatches
 mod Counts
 mod TakeCounts

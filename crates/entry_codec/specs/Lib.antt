@@ -1,3 +1,4 @@
+pub mod Naming
 pub mod Spelling
 pub mod Reading
 pub mod Answers
