@@ -21,11 +21,11 @@ use Rattle.sync_rules.specs.declared.limits.TheConstants.{MAX_WANTED}
 use Rattle.sync_rules.specs.Clients.{Meaning}
 use Rattle.sync_rules.specs.Lists.{firsts, is_among, same_id}
 use Rattle.sync_rules.specs.Consistency.{ids_of_held}
-use Rattle.sync_rules.specs.Elements.{same_id_itself}
+use Rattle.sync_rules.proofs.Elements.{same_id_itself}
 use Rattle.sync_rules.specs.Facts.{Facts, Held, after, contact_of, held_at, is_invisible, level_at, row_at, session_at, wanted_from}
 use Rattle.sync_rules.specs.Steps.{answer_of, first_or_next, first_step, is_ended, is_failing, is_served, step, step_accepted, step_by, step_open}
 use Rattle.sync_rules.specs.Sessions.{acks_due, due_by, first_id, ids_where, is_remembered, is_ripe, is_sendable, is_shown, is_shown_held, is_welcome, offers_due, offers_of, one_if, out_or, owed_to, requests_due, room_after, send_due, send_of, shared_ids, taken_acks, taken_from, taken_message, taken_message_of, taken_offers, taken_requests, wanted_of}
-use Rattle.sync_rules.specs.Outputs.{out_or-cases}
+use Rattle.sync_rules.proofs.Outputs.{out_or-cases}
 use Rattle.sync_rules.specs.Legal.{Allowed, IsDue, IsSettling}
 use Rattle.entry_codec.specs.Spelling.{EntryNames, OutNames}
 use Rattle.entry_codec.proofs.OfBatches.{OfSteps, settling_all}

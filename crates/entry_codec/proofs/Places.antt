@@ -7,7 +7,7 @@ use Rattle.std.specs.List.{slice_get}
 use Rattle.std.proofs.lemmas.Bool.{or_left, or_right, or_parts, false≢true}
 use Rattle.sync_ids.specs.Values.{AreIds}
 use Rattle.sync_rules.specs.Lists.{has_repeat, is_among, same_id}
-use Rattle.sync_rules.specs.Elements.{same_id-is, same_id_itself}
+use Rattle.sync_rules.proofs.Elements.{same_id-is, same_id_itself}
 use Rattle.entry_codec.specs.declared.naming.Format.{Format}
 use Rattle.entry_codec.specs.declared.naming.Format.TheVariants as format
 use Rattle.entry_codec.specs.Naming.{AreNames, IsNamed, held_bytes, number_or, place_in}
