@@ -15,3 +15,4 @@ mod Readers
 mod ReadSteps
 mod WriteSteps
 pub mod Growing
+pub mod FrontLaws

@@ -21,7 +21,8 @@ use Rattle.frame_journal.specs.declared.fault.StartFault.{StartFault}
 use Rattle.frame_journal.specs.declared.fault.StartFault.TheVariants as start
 use Rattle.entry_codec.specs.Payloads.{payloads}
 use Rattle.entry_codec.specs.Standing.{damaged, no_store, room_of, stands}
-use Rattle.entry_codec.specs.Fronts.{Front, front_closed, front_format, front_frames, front_none, front_start}
+use Rattle.entry_codec.specs.Fronts.{Front}
+use Rattle.entry_codec.proofs.FrontLaws.{front_closed, front_format, front_frames, front_none, front_start}
 use Rattle.journal_state.specs.Whole.{Knows, StateValue}
 use Rattle.outside.specs.declared.limits.TheConstants.{MAX_JOURNAL}
 use Rattle.sync_store.specs.Store.{StoreValue}
