@@ -8,8 +8,8 @@ ghost use Rattle.entry_codec.specs.StandingLaws.{StandingIsLegal};
 
 use sync_rules::laws::allows_is_allowed;
 
-/// Whatever `read_entry` finds where an entry is spelled in format 1 is that entry, whatever follows,
-/// and so it is with `read_short` and format 2.
+/// Whatever `read_entry` finds where an entry is spelled in format 1 is that entry, whatever
+/// follows, and so it is with `read_short` and format 2.
 pub fn spellings_read_back()
     ensures { SpellingsReadBack }
 {}

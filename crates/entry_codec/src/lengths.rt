@@ -141,7 +141,7 @@ fn named_count(entry: &Entry) -> usize
 }
 
 /// How many bytes the spelling of an entry has in format 2, whatever the names: a number has 28
-/// bytes less than an id. It has 2 bytes at least, and no more than in format 1. It takes no memory.
+/// bytes less than an id. These are 2 at least, and no more than in format 1. It takes no memory.
 pub fn short_len(entry: &Entry) -> usize
     ensures value { (names : List (List ℕ)) → result
         ≡ length (spelling_in format_kind.Short names entry.now) }

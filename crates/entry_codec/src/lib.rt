@@ -1,5 +1,5 @@
 //! Entries of a journal as bytes: in each of two formats an entry has one spelling, and no spelling
-//! begins another. In format 1 a message that is held is named by its id, in format 2 by its number.
+//! begins another. A held message is named by its id in format 1, by its number in format 2.
 #![tactic(auto)]
 
 mod batches;

@@ -179,8 +179,9 @@ pub fn read_entry(alloc: Global, bytes: &[u8]) -> Result<EntryFound, AllocError>
 }
 
 /// Reads the entry at the front of these bytes, in format 2, where these are the names of the
-/// messages held. `BadEntry` comes exactly where no front of them is the spelling of an entry within
-/// its limits; a number that names no message is no spelling. It fails only for want of memory.
+/// messages held. `BadEntry` comes exactly where no front of them is the spelling of an entry
+/// within its limits; a number that names no message is no spelling. It fails only for want of
+/// memory.
 pub fn read_short<N: Names>(
     alloc: Global,
     bytes: &[u8],

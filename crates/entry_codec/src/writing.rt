@@ -327,7 +327,8 @@ fn append_tagged<N: Names>(
     }
 }
 
-// Appends the one spelling of an entry in this format. After want of memory the bytes are as before.
+// Appends the one spelling of an entry in this format. After want of memory the bytes are as they
+// were.
 #[tactic(auto, unfolding(crate::specs::Spelling::spelling_in))]
 fn append_entry<N: Names>(
     format: Format,
@@ -361,14 +362,14 @@ pub fn write_entry(entry: &Entry, to: &mut Vec<u8>) -> Result<(), AllocError>
     append_entry(Format::Whole, &NoNames, entry, to)
 }
 
-/// Appends the one spelling of an entry in format 2, where these are the names of the messages held.
-/// A session's latency is at least 1, and each message that the entry names as held has a name. It
-/// fails only for want of memory, and then leaves the bytes as they were.
+/// Appends the one spelling of an entry in format 2, where these are the names of the messages
+/// held. A session's latency is at least 1, and each message that the entry names as held has a
+/// name. It fails only for want of memory, and then leaves the bytes as they were.
 pub fn write_short<N: Names>(entry: &Entry, names: &N, to: &mut Vec<u8>) -> Result<(), AllocError>
     requires latency { HasLatency entry.now }
     requires named { EntryNames (λ id. is_among (N.named names.now) id ≡ true) entry.now }
-    ensures ok { OnOk result
-        (to.new.items ≡ to.old.items ++ spelling_in format_kind.Short (N.named names.now) entry.now) }
+    ensures ok { OnOk result (to.new.items
+        ≡ to.old.items ++ spelling_in format_kind.Short (N.named names.now) entry.now) }
     ensures spells { OnOk result (SpellsIn format_kind.Short (N.named names.now) entry.now
         (spelling_in format_kind.Short (N.named names.now) entry.now)) }
     ensures err { OnErr result (to.new.items ≡ to.old.items) }
