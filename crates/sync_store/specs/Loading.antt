@@ -53,10 +53,10 @@ LeavesSettled old new (Err load.Memory) = Becomes SyncsBoth old new
 -- The journal of two files begins behind the header of the journal's file, where that has format 1;
 -- else it is damaged there, and where no header is open there is none.
 abbrev pub Finds : Two (List ℕ) → Result JournalValue StartFault → Type 0
-Finds files (Ok journal) =
-    (journal_file files ≡ Some journal.file)
-    × (format_in (file_of files journal.file) ≡ 1)
-    × (journal ≡ begun_at journal.file (file_of files journal.file))
+Finds files (Ok j) =
+    (journal_file files ≡ Some j.file)
+    × (format_in (file_of files j.file) ≡ 1)
+    × (j ≡ begun_at j.file (file_of files j.file))
 Finds files (Err start.NoStore) = journal_file files ≡ None
 Finds files (Err (start.Damaged place)) =
     (journal_file files ≡ Some place.file)
