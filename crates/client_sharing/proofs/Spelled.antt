@@ -1,11 +1,12 @@
 -- A definition, and what a body says, is read from its spelling and from nothing else.
-use Rattle.std.proofs.Common.{◌≡◌, ℕ, suc, ◌+◌, ◌-◌, ◌^◌, ◌<◌, ◌≤◌, Bool, true, false, cond, ◌&&◌, nat_eq}
+use Rattle.std.proofs.Common.{◌≡◌, ℕ, ◌+◌, ◌-◌, ◌^◌, ◌<◌, ◌≤◌, Bool, true, false, cond, ◌&&◌, nat_eq}
 use Rattle.std.proofs.Common.{List, [], ◌∷◌, ◌++◌, length, take, drop, refl, sym, ap, subst, ◌∙◌, arith}
-use Rattle.std.proofs.Common.{append-nil, drop-drop, eq-eqb, eqb-true, length-append, length-drop, lt-ltb}
+use Rattle.std.proofs.Common.{append-nil, drop-drop, eq-eqb, eqb-true, length-drop, lt-ltb}
 use Rattle.std.specs.Prelude.{Option, Some, None}
-use Rattle.std.specs.Int.{w16, w32, to_be_bytes, from_be_bytes}
-use Rattle.std.specs.Str.{IsUtf8, is_utf8}
+use Rattle.std.specs.Int.{w32, to_be_bytes, from_be_bytes}
 use Rattle.std.specs.Cmp.Lexicographic.{pointwise, bytes_decides}
+use Rattle.std.proofs.Math.ListN.{drop_of_length-le}
+use Rattle.std.proofs.Math.Seq.{take-length}
 use Rattle.std.proofs.lemmas.Bool.{and_from, and_parts, le-leb, leb-true, ltb-true}
 use Rattle.std.proofs.lemmas.List.{drop_at, length-take-le, take-append-drop, take_at}
 use Rattle.std.proofs.lemmas.Nat.{from_be_bytes-to_be_bytes_4}
@@ -104,7 +105,7 @@ all_spelled : (bytes : List ℕ) (d : GroupValue) (used : ℕ) → used ≡ leng
 unfolding spelling
 all_spelled bytes d used all s =
     let front : take used (2 ∷ bytes) ≡ 2 ∷ bytes =
-    ap (λ (n : ℕ). take n (2 ∷ bytes)) all ∙ grind (arith, take_at) in
+    ap (λ (n : ℕ). take n (2 ∷ bytes)) all ∙ take-length (2 ∷ bytes) in
     let same : 2 ∷ bytes ≡ 2 ∷ def_bytes d = sym front ∙ s.is in
     let rest : bytes ≡ def_bytes d = cc in
     ap def_of rest ∙ def_back d s.within
@@ -188,3 +189,43 @@ saying_told (byte ∷ rest) s e = go (stance_of byte) (def_of (drop 32 rest)) re
 
 pub saying_spelled : (body : List ℕ) (s : Saying) → (saying_of body ≡ Some s → IsSaying s body) × (IsSaying s body → saying_of body ≡ Some s)
 saying_spelled body s = (saying_told body s, λ is. ap saying_of is.is ∙ saying_back s is.whole_id is.within)
+
+-- ---- what is read of a body
+
+pub saying_none : (body : List ℕ) → length body ≡ 0 → None ≡ saying_of body
+unfolding saying_of
+saying_none [] none = refl
+saying_none (byte ∷ rest) none = absurd (omega arith)
+
+pub saying_first : (body : List ℕ) (byte : ℕ) (rest : List ℕ) (o : Option Bool) (q : Option GroupValue) → body ≡ byte ∷ rest
+    → stance_of byte ≡ o → def_of (drop 32 rest) ≡ q → saying_by o (take 32 rest) q ≡ saying_of body
+unfolding saying_of
+saying_first body byte rest o q e stance def =
+    ap (λ (x : Option Bool). saying_by x (take 32 rest) q) (sym stance)
+    ∙ ap (saying_by (stance_of byte) (take 32 rest)) (sym def) ∙ ap saying_of (sym e)
+
+no_stance : (id : List ℕ) (q : Option GroupValue) → None ≡ saying_by None id q
+no_stance id q = refl
+
+no_def : (o : Option Bool) (id : List ℕ) → None ≡ saying_by o id None
+no_def None id = refl
+no_def (Some join) id = refl
+
+-- no stance
+pub saying_no_stance : (body : List ℕ) (byte : ℕ) (rest : List ℕ) → body ≡ byte ∷ rest → stance_of byte ≡ None → None ≡ saying_of body
+saying_no_stance body byte rest e stance =
+    no_stance (take 32 rest) (def_of (drop 32 rest)) ∙ saying_first body byte rest None (def_of (drop 32 rest)) e stance refl
+
+-- no definition
+pub saying_no_def : (body : List ℕ) (byte : ℕ) (rest : List ℕ) → body ≡ byte ∷ rest → def_of (drop 32 rest) ≡ None → None ≡ saying_of body
+saying_no_def body byte rest e def =
+    no_def (stance_of byte) (take 32 rest) ∙ saying_first body byte rest (stance_of byte) None e refl def
+
+def_of_none : def_of [] ≡ None
+unfolding def_of
+def_of_none = refl
+
+-- the id is not whole
+pub saying_short : (body : List ℕ) (byte : ℕ) (rest : List ℕ) → body ≡ byte ∷ rest → length rest < 32 → None ≡ saying_of body
+saying_short body byte rest e short =
+    saying_no_def body byte rest e (let past : length rest ≤ 32 = omega arith in ap def_of (drop_of_length-le rest past) ∙ def_of_none)
