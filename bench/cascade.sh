@@ -6,7 +6,7 @@
 cd "$(dirname "$0")/.." || exit 1
 bsp=$PWD/crates/bsp/out/bsp
 if [ ! -x "$bsp" ]; then (cd crates/bsp && rt run -- try note d <stdin >/dev/null) || exit 1; fi
-exec env PYTHONPATH=bench PYTHONDONTWRITEBYTECODE=1 python3 - "$bsp" "${RUNS:-3}" <<'PY'
+exec env PYTHONPATH=bench:oracle PYTHONDONTWRITEBYTECODE=1 python3 - "$bsp" "${RUNS:-3}" <<'PY'
 import os, struct, sys, tempfile
 
 from digests import group_id, message_id

@@ -1,6 +1,6 @@
 #!/usr/bin/env bash
 # Times the commands of a store on real files, in a folder of its own on a disk. The store's file is made by
-# bench/store_file.py, and every text and every file that a command leaves is compared with what that module says.
+# oracle/store_file.py, and every text and every file that a command leaves is compared with what that module says.
 # - `post` of a note of 200 bytes to 1, 1,000 and 20,000 messages, in turns with a bare program that makes the same writes
 #   and syncs (bench/bare_append.c), with one INSERT by `sqlite3` at synchronous=FULL into a table of as many rows, and with
 #   `body` of an unknown id, which loads the store and refuses: medians of RUNS (9) runs on the clock, each with the start of
@@ -17,7 +17,7 @@ case $(stat -f -c %T "$folder") in
 tmpfs | ramfs) echo "$folder is in memory: set TMPDIR to a folder on a disk" && exit 1 ;;
 esac
 cc -O2 -o "$folder/bare_append" bench/bare_append.c || exit 1
-PYTHONDONTWRITEBYTECODE=1 PYTHONPATH=bench python3 - "$bsp" "$folder" "${RUNS:-9}" <<'PY'
+PYTHONDONTWRITEBYTECODE=1 PYTHONPATH=bench:oracle python3 - "$bsp" "$folder" "${RUNS:-9}" <<'PY'
 import os, re, shutil, subprocess, sys, time
 from statistics import median
 

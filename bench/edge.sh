@@ -1,6 +1,6 @@
 #!/usr/bin/env bash
 # Counts the calls of the store's commands on a folder, by `strace` (`apt-get install strace` brings it). The store is begun by the
-# program in a folder of its own on a disk; its 20,000 messages are put there by bench/store_file.py.
+# program in a folder of its own on a disk; its 20,000 messages are put there by oracle/store_file.py.
 # - each command syncs the folder at its first sync of a file, whether it made the file or not;
 # - `show`, `inbox` and `body` of 20,000 messages make at most one read in 32 KiB of the file and two dozen calls beside, and open the
 #   files for reading alone; they work in a folder that may only be read (as another user, where this is root).
@@ -14,7 +14,7 @@ if [ ! -x "$bsp" ]; then (cd crates/bsp && rt run -- try note d <stdin >/dev/nul
 command -v strace >/dev/null || { echo 'strace is missing: apt-get install strace' && exit 1; }
 folder=$(mktemp -d) || exit 1
 trap 'chmod -R u+rwx "$folder"; rm -rf "$folder"' EXIT
-PYTHONDONTWRITEBYTECODE=1 PYTHONPATH=bench python3 - "$bsp" "$folder" "${RUNS:-5}" <<'PY'
+PYTHONDONTWRITEBYTECODE=1 PYTHONPATH=bench:oracle python3 - "$bsp" "$folder" "${RUNS:-5}" <<'PY'
 import math, os, re, subprocess, sys, tempfile
 
 from measure import least, run

@@ -8,7 +8,7 @@
 set -eu
 cd "$(dirname "$0")/.."
 (cd crates/bench_store && rt run -- load 50 200 1 >/dev/null)
-exec env PYTHONPATH=bench PYTHONDONTWRITEBYTECODE=1 python3 - "${RUNS:-3}" "${FEW:-5000}" "${MANY:-20000}" <<'PY'
+exec env PYTHONPATH=bench:oracle PYTHONDONTWRITEBYTECODE=1 python3 - "${RUNS:-3}" "${FEW:-5000}" "${MANY:-20000}" <<'PY'
 import hashlib, math, os, struct, sys, tempfile
 
 from digests import group_id, message_id

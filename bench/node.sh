@@ -8,7 +8,7 @@
 set -eu
 cd "$(dirname "$0")/.."
 (cd crates/bench_node && rt run -- both hear 50 200 >/dev/null)
-exec env PYTHONPATH=bench PYTHONDONTWRITEBYTECODE=1 python3 - "${RUNS:-5}" <<'PY'
+exec env PYTHONPATH=bench:oracle PYTHONDONTWRITEBYTECODE=1 python3 - "${RUNS:-5}" <<'PY'
 import hashlib, struct, sys
 from multiprocessing import get_context
 

@@ -6,7 +6,7 @@
 set -eu
 cd "$(dirname "$0")/.."
 (cd crates/bench_store && rt run -- load 50 200 1 >/dev/null)
-exec env PYTHONPATH=bench PYTHONDONTWRITEBYTECODE=1 python3 - "${RUNS:-5}" "${CONTACTS:-1}" <<'PY'
+exec env PYTHONPATH=bench:oracle PYTHONDONTWRITEBYTECODE=1 python3 - "${RUNS:-5}" "${CONTACTS:-1}" <<'PY'
 import os, struct, sys, tempfile
 
 from digests import block_hash, group_id, id_over

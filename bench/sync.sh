@@ -4,8 +4,8 @@
 # writes, so the stillness that ends the run is not in it. In the same run come
 # - a bare program that makes the same writes and syncs as the store that hears (bench/bare_append.c), on its own file;
 # - `git fetch` of as many commits, each of a file with as many bytes, into a repository that has none.
-# What the store that hears has at the end is compared with what bench/store_file.py says, and the file of the bare program with
-# its file. Turns and messages a turn are read from the journals (bench/journal.py). Where `strace` is there, a tenth of the notes
+# What the store that hears has at the end is compared with what oracle/store_file.py says, and the file of the bare program with
+# its file. Turns and messages a turn are read from the journals (oracle/journal.py). Where `strace` is there, a tenth of the notes
 # go over once more under it, which tells how long each side waits for the other and for its disk.
 # MODE (batch) is that of the sessions, LATENCY (600000) theirs in milliseconds, so long that nothing is sent twice; RUNS (1) how
 # many runs are made, in turns with the others; PART (1) takes that part of the notes. In interactive mode a latency of 3000 is
@@ -21,7 +21,7 @@ case $(stat -f -c %T "$folder") in
 tmpfs | ramfs) echo "$folder is in memory: set TMPDIR to a folder on a disk" && exit 1 ;;
 esac
 cc -O2 -o "$folder/bare_append" bench/bare_append.c || exit 1
-export MODE=${MODE:-batch} LATENCY=${LATENCY:-600000} STILL=${STILL:-100} PYTHONDONTWRITEBYTECODE=1 PYTHONPATH=bench
+export MODE=${MODE:-batch} LATENCY=${LATENCY:-600000} STILL=${STILL:-100} PYTHONDONTWRITEBYTECODE=1 PYTHONPATH=bench:oracle
 python3 - "$bsp" "$folder" "${RUNS:-1}" "${PART:-1}" <<'PY'
 import os, re, shutil, subprocess, sys, time
 

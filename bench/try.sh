@@ -5,7 +5,7 @@
 cd "$(dirname "$0")/.." || exit 1
 bsp=$PWD/crates/bsp/out/bsp
 if [ ! -x "$bsp" ]; then (cd crates/bsp && rt run -- try note d <stdin >/dev/null) || exit 1; fi
-exec env PYTHONPATH=bench PYTHONDONTWRITEBYTECODE=1 python3 - "$bsp" "${RUNS:-5}" <<'PY'
+exec env PYTHONPATH=bench:oracle PYTHONDONTWRITEBYTECODE=1 python3 - "$bsp" "${RUNS:-5}" <<'PY'
 import os, sys, tempfile
 
 from digests import group_id

@@ -3,7 +3,7 @@
 #![tactic(auto)]
 
 use anyhow::{Result, anyhow};
-use frame_journal::{DiskFault, Journal, StartFault, create};
+use frame_journal::{DiskFault, FIRST_FORMAT, Journal, StartFault, create};
 use outside::{MAX_JOURNAL, MemDisk, Untold};
 use std::env;
 
@@ -27,7 +27,7 @@ fn add_frames(journal: &mut Journal, disk: &mut Untold, count: u32) -> Result<()
 }
 
 fn write_journal(disk: &mut Untold, count: u32) -> Result<(), StartFault> {
-    create(disk, 0, 1)?;
+    create(disk, 0, FIRST_FORMAT, 1)?;
     let mut journal = Journal::start(disk)?;
     add_frames(&mut journal, disk, count)?;
     Ok(())

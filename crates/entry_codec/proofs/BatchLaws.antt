@@ -6,7 +6,7 @@ use Rattle.std.proofs.lemmas.Bool.{eqb-false, eqb-true}
 use Rattle.std.proofs.lemmas.List.{append-nil}
 use Rattle.sync_rules.specs.declared.entries.Entry.{Entry}
 use Rattle.entry_codec.specs.Spelling.{IsEntry, spelling}
-use Rattle.entry_codec.specs.Reading.{byte_in, entry_in}
+use Rattle.entry_codec.specs.Reading.{byte_in, entry_by, entry_in}
 use Rattle.entry_codec.specs.Payloads.{batch_in, entries_in, followed, put_before, spellings}
 use Rattle.entry_codec.proofs.Bounds.{short}
 use Rattle.entry_codec.proofs.Entries.{IsFound, entry_back, entry_found}
@@ -16,7 +16,7 @@ use Rattle.entry_codec.proofs.Readers.{IsBytes, IsBytes-rest}
 
 -- nothing begins with an entry
 none_empty : (e : Entry) (rest : List ℕ) → entry_in [] ≡ Some (e, rest) → ⊥
-unfolding entry_in byte_in
+unfolding entry_in entry_by byte_in
 none_empty e rest h = cc
 
 entries_none : (n : ℕ) → entries_in n [] ≡ Some []

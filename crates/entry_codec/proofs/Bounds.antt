@@ -10,7 +10,9 @@ use Rattle.sync_rules.specs.declared.entries.Entry.TheVariants as entry
 use Rattle.sync_rules.specs.declared.entries.Out.{Out}
 use Rattle.sync_rules.specs.declared.entries.Out.TheVariants as out
 use Rattle.entry_codec.specs.declared.lengths.TheConstants.{MAX_SPELLING}
-use Rattle.entry_codec.specs.Spelling.{IsEntry, IsNonce, IsOut, counted, def_bytes, ids_bytes, message_bytes, nonce_bytes, out_bytes, spelling, whole}
+use Rattle.entry_codec.specs.declared.naming.Format.TheVariants as format
+use Rattle.entry_codec.specs.Naming.{held_bytes, number_or, place_in}
+use Rattle.entry_codec.specs.Spelling.{EntryNames, IsEntry, IsId, IsNonce, IsOut, OutNames, counted, def_bytes, ids_bytes, message_bytes, named_count, nonce_bytes, out_bytes, out_count, spelling, spelling_in, whole}
 
 pub length_def : (d : GroupValue) → length (def_bytes d) ≡ 7 + length d.name + length d.descriptor
 length_def d = omega (arith, length-append d.name (to_be_bytes w32 d.major ++ counted d.descriptor))
@@ -90,3 +92,77 @@ most_below (entry.Out s now what) = omega arith
 
 pub short : (e : Entry) → IsEntry e → (2 ≤ length (spelling e)) × (length (spelling e) ≤ MAX_SPELLING)
 short e is = let within = length_within e is in (within.0, omega (arith, within.1, most_below e))
+
+-- ---- the second format
+
+-- the ids of messages that are held have 32 bytes
+out_whole : (o : Out) → IsOut o → OutNames IsId o
+out_whole (out.Acks ids) is = is.whole
+out_whole (out.Requests ids) is = tt
+out_whole (out.Offers ids) is = is.whole
+out_whole (out.Send id) is = is
+
+pub ids_whole : (e : Entry) → IsEntry e → EntryNames IsId e
+ids_whole (entry.Contact c) is = tt
+ids_whole (entry.Group def) is = tt
+ids_whole (entry.Level c g l) is = tt
+ids_whole (entry.Session s) is = tt
+ids_whole (entry.Take s k) is = tt
+ids_whole (entry.Author m) is = tt
+ids_whole (entry.Arrive s m) is = tt
+ids_whole (entry.Judged id) is = is
+ids_whole (entry.Deliver id) is = is
+ids_whole (entry.Invalid id) is = is
+ids_whole (entry.Again s id) is = is.1
+ids_whole (entry.Offered s id) is = tt
+ids_whole (entry.Seen s id) is = is.1
+ids_whole (entry.Asked s id) is = is.1
+ids_whole (entry.Out s now what) is = out_whole what is.2
+
+short_ids : (names ids : List (List ℕ)) → length (flat_map (held_bytes format.Short names) ids) ≡ 4 * length ids
+short_ids names [] = refl
+short_ids names (id ∷ ids) =
+    omega (arith, length-append (to_be_bytes w32 (number_or (place_in names id))) (flat_map (held_bytes format.Short names) ids), short_ids names ids)
+
+saved_out : (names : List (List ℕ)) (o : Out) → OutNames IsId o → length (out_bytes (held_bytes format.Short names) o) + 28 * out_count o ≡ length (out_bytes whole o)
+saved_out names (out.Acks ids) is = omega (arith, short_ids names ids, length_ids ids is)
+saved_out names (out.Requests ids) is = omega arith
+saved_out names (out.Offers ids) is = omega (arith, short_ids names ids, length_ids ids is)
+saved_out names (out.Send id) is = omega (arith, is)
+
+-- a number has 28 bytes less than an id
+pub saved : (names : List (List ℕ)) (e : Entry) → EntryNames IsId e → length (spelling_in format.Short names e) + 28 * named_count e ≡ length (spelling e)
+unfolding spelling spelling_in
+saved names (entry.Contact c) is = omega arith
+saved names (entry.Group def) is = omega arith
+saved names (entry.Level c g l) is = omega arith
+saved names (entry.Session s) is = omega arith
+saved names (entry.Take s k) is = omega arith
+saved names (entry.Author m) is = omega arith
+saved names (entry.Arrive s m) is = omega arith
+saved names (entry.Judged id) is = omega (arith, is)
+saved names (entry.Deliver id) is = omega (arith, is)
+saved names (entry.Invalid id) is = omega (arith, is)
+saved names (entry.Again s id) is = omega (arith, is)
+saved names (entry.Offered s id) is = omega arith
+saved names (entry.Seen s id) is = omega (arith, is)
+saved names (entry.Asked s id) is = omega (arith, is)
+saved names (entry.Out s now what) is = omega (arith, saved_out names what is)
+
+pub short_some : (names : List (List ℕ)) (e : Entry) → 2 ≤ length (spelling_in format.Short names e)
+unfolding spelling_in
+short_some names (entry.Contact c) = omega arith
+short_some names (entry.Group def) = omega arith
+short_some names (entry.Level c g l) = omega arith
+short_some names (entry.Session s) = omega arith
+short_some names (entry.Take s k) = omega arith
+short_some names (entry.Author m) = omega (arith, length-append m.group (to_be_bytes w64 m.timestamp ++ counted m.body))
+short_some names (entry.Arrive s m) = omega arith
+short_some names (entry.Judged id) = omega arith
+short_some names (entry.Deliver id) = omega arith
+short_some names (entry.Invalid id) = omega arith
+short_some names (entry.Again s id) = omega arith
+short_some names (entry.Offered s id) = omega arith
+short_some names (entry.Seen s id) = omega arith
+short_some names (entry.Asked s id) = omega arith
+short_some names (entry.Out s now what) = omega arith

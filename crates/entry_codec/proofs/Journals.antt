@@ -19,9 +19,9 @@ use Rattle.entry_codec.specs.Spelling.{IsEntry}
 use Rattle.entry_codec.specs.Payloads.{batch_of, payload, payloads}
 use Rattle.entry_codec.specs.StandingLaws.{HoldsJournal}
 use Rattle.entry_codec.specs.Standing.{Standing, damaged, frames_from, journal, read_on, rest_from, room_of, stands, stands_in, taken_on}
-use Rattle.sync_rules.specs.Continuing.{legal-push}
-use Rattle.entry_codec.specs.Growing.{facts_push, length_frame}
-use Rattle.entry_codec.specs.Fronts.{rest_once}
+use Rattle.sync_rules.proofs.Continuing.{legal-push}
+use Rattle.entry_codec.proofs.Growing.{facts_push, length_frame}
+use Rattle.entry_codec.proofs.FrontLaws.{rest_once}
 use Rattle.entry_codec.proofs.BatchLaws.{batch_back}
 
 -- the test of a batch that is allowed

@@ -1,6 +1,8 @@
 pub mod BatchLaws
 pub mod Journals
 mod Latencies
+mod AllowedIds
+mod Places
 mod OfBatches
 mod Counts
 mod TakeCounts
@@ -12,3 +14,5 @@ mod Payloads
 mod Readers
 mod ReadSteps
 mod WriteSteps
+pub mod Growing
+pub mod FrontLaws

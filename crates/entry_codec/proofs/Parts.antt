@@ -2,7 +2,7 @@
 use Rattle.std.proofs.Common.{◌≡◌, ℕ, suc, ◌^◌, ◌<◌, ◌≤◌, Bool, true, false, List, [], ◌∷◌, ◌++◌, length, refl, sym, ap, subst, ◌∙◌, arith, lt-ltb}
 use Rattle.std.specs.Prelude.{Option, Some, None, ◌==◌, nat_le, nat_lt, if◌then◌else◌}
 use Rattle.std.specs.Int.{w16, w32, w64, to_be_bytes}
-use Rattle.std.specs.List.{flat_map}
+use Rattle.std.specs.List.{AllByRecursion, flat_map}
 use Rattle.std.specs.Str.{IsUtf8, is_utf8}
 use Rattle.std.proofs.lemmas.Str.{IsUtf8-from_is_utf8, is_utf8-from_IsUtf8}
 use Rattle.std.proofs.lemmas.Bool.{eqb-true, le-leb, leb-true, ltb-true}
@@ -17,8 +17,8 @@ use Rattle.sync_rules.specs.declared.entries.Mode.{Mode}
 use Rattle.sync_rules.specs.declared.entries.Mode.TheVariants as mode_kind
 use Rattle.sync_rules.specs.declared.entries.Out.{Out}
 use Rattle.sync_rules.specs.declared.entries.Out.TheVariants as out
-use Rattle.entry_codec.specs.Spelling.{IsDef, IsNonce, IsOut, IsSession, counted, def_bytes, ids_bytes, level_byte, message_bytes, mode_byte, nonce_bytes, out_bytes, session_bytes, whole}
-use Rattle.entry_codec.specs.Reading.{both, byte_in, chained, counted_in, def_in, def_of, flagged, front_in, id_in, ids_in, is_between, latency_in, level_in, level_of, list_in, made, message_in, message_of, mode_in, mode_of, name_in, nonce_in, be_number_in, out_in, out_of, passed, session_in, session_of, time_in}
+use Rattle.entry_codec.specs.Spelling.{IsDef, IsId, IsNonce, IsOut, IsSession, OutNames, counted, def_bytes, ids_bytes, level_byte, message_bytes, mode_byte, nonce_bytes, out_bytes, session_bytes, whole}
+use Rattle.entry_codec.specs.Reading.{IdReader, both, byte_in, chained, counted_in, def_in, def_of, flagged, front_in, id_in, ids_in, is_between, latency_in, level_in, level_of, list_in, made, message_in, message_of, mode_in, mode_of, name_in, nonce_in, be_number_in, out_in, out_of, passed, session_in, session_of, time_in}
 use Rattle.entry_codec.proofs.Readers.{IsBytes, IsReader, both_reads, byte_reads, chained_reads, chained_some, front_reads, list_reads, made_reads, made_some, meant_reads, number_reads, part, part_is, passed_reads, seen_as, wide16, wide32, wide64}
 
 -- ---- numbers and ids
@@ -268,28 +268,59 @@ ids_reads =
     (count_reads 1 MAX_IDS (omega arith)) (list_reads (λ (id : List ℕ). id) (λ id. length id ≡ 32) id_in id_reads) (λ n ids e. e.0))
     (λ ids m. ((m.some, m.few), (refl, m.whole))) (λ ids l. record { some = l.0.0; few = l.0.1; whole = l.1.1 }) (λ ids. refl)
 
-out_back : (o : Out) (more : List ℕ) → IsOut o → out_in id_in (out_bytes whole o ++ more) ≡ Some (o, more)
-unfolding out_in byte_in
-out_back (out.Acks ids) more is = ap (made out.Acks) (ids_reads.back ids more is)
-out_back (out.Requests ids) more is = ap (made out.Requests) (ids_reads.back ids more is)
-out_back (out.Offers ids) more is = ap (made out.Offers) (ids_reads.back ids more is)
-out_back (out.Send id) more is = ap (made out.Send) (id_reads.back id more is)
+-- all of a list keep two facts where all keep each
+join_all : {A : Type 0} (P Q : A → Type 0) (xs : List A) → AllByRecursion P xs → AllByRecursion Q xs → AllByRecursion (λ x. P x × Q x) xs
+join_all P Q [] p q = tt
+join_all P Q (x ∷ xs) p q = ((p.0, q.0), join_all P Q xs p.1 q.1)
 
-out_sound : (bytes rest : List ℕ) (o : Out) → IsBytes bytes → out_in id_in bytes ≡ Some (o, rest) → IsOut o × (bytes ≡ out_bytes whole o ++ rest)
-unfolding out_in
-out_sound bytes rest o fits e =
-    let c = behind_byte (out_of id_in) bytes rest o fits e in
-    let P : Type 0 = IsOut o × (bytes ≡ out_bytes whole o ++ rest) in
-    tested P c.0 0 (made out.Acks (ids_in id_in c.1)) _ (Some (o, rest))
-    (λ n h. told (ids_bytes whole) (IsIdList MAX_IDS) (ids_in id_in) ids_reads out.Acks (out_bytes whole) IsOut 0 (λ a l. l) (λ a. refl) bytes c.1 rest c.0 o c.3 c.2 n h)
-    (tested P c.0 1 (made out.Requests (ids_in id_in c.1)) _ (Some (o, rest))
-    (λ n h. told (ids_bytes whole) (IsIdList MAX_IDS) (ids_in id_in) ids_reads out.Requests (out_bytes whole) IsOut 1 (λ a l. l) (λ a. refl) bytes c.1 rest c.0 o c.3 c.2 n h)
-    (tested P c.0 2 (made out.Offers (ids_in id_in c.1)) _ (Some (o, rest))
-    (λ n h. told (ids_bytes whole) (IsIdList MAX_IDS) (ids_in id_in) ids_reads out.Offers (out_bytes whole) IsOut 2 (λ a l. l) (λ a. refl) bytes c.1 rest c.0 o c.3 c.2 n h)
-    (tested P c.0 3 (made out.Send (id_in c.1)) None (Some (o, rest))
-    (λ n h. told (λ (x : List ℕ). x) (λ x. length x ≡ 32) id_in id_reads out.Send (out_bytes whole) IsOut 3 (λ a l. l) (λ a. refl) bytes c.1 rest c.0 o c.3 c.2 n h)
-    (λ h. absurd cc))))
-    c.4
+first_all : {A : Type 0} (P Q : A → Type 0) (xs : List A) → AllByRecursion (λ x. P x × Q x) xs → AllByRecursion P xs
+first_all P Q [] all = tt
+first_all P Q (x ∷ xs) all = (all.0.0, first_all P Q xs all.1)
 
-pub out_reads : IsReader (out_bytes whole) IsOut (out_in id_in)
-out_reads = record { back = out_back; sound = out_sound }
+second_all : {A : Type 0} (P Q : A → Type 0) (xs : List A) → AllByRecursion (λ x. P x × Q x) xs → AllByRecursion Q xs
+second_all P Q [] all = tt
+second_all P Q (x ∷ xs) all = (all.0.1, second_all P Q xs all.1)
+
+-- where the ids of messages that are held are written and read in some way, and keep N
+module _ (S : List ℕ → List ℕ) (N : List ℕ → Type 0) (p : IdReader) (r : IsReader S (λ id. IsId id × N id) p) where
+  held_ids_reads : IsReader (ids_bytes S) (λ ids. IsIdList MAX_IDS ids × AllByRecursion N ids) (ids_in p)
+  unfolding ids_in
+  held_ids_reads =
+      seen_as (ids_bytes S) (ids_bytes S)
+      (λ ids. ((1 ≤ length ids) × (length ids ≤ MAX_IDS)) × ((length ids ≡ length ids) × AllByRecursion (λ id. IsId id × N id) ids))
+      (λ ids. IsIdList MAX_IDS ids × AllByRecursion N ids) (ids_in p)
+      (chained_reads (to_be_bytes w16) (λ n. (1 ≤ n) × (n ≤ MAX_IDS)) (λ bytes. passed (is_between 1 MAX_IDS) (be_number_in w16 bytes))
+      (flat_map S) (λ n ids. (length ids ≡ n) × AllByRecursion (λ id. IsId id × N id) ids) (list_in p) length
+      (count_reads 1 MAX_IDS (omega arith)) (list_reads S (λ id. IsId id × N id) p r) (λ n ids e. e.0))
+      (λ ids m. ((m.0.some, m.0.few), (refl, join_all IsId N ids m.0.whole m.1)))
+      (λ ids l. (record { some = l.0.0; few = l.0.1; whole = first_all IsId N ids l.1.1 }, second_all IsId N ids l.1.1)) (λ ids. refl)
+
+  abbrev IsOutIn : Out → Type 0
+  IsOutIn o = IsOut o × OutNames N o
+
+  out_back : (o : Out) (more : List ℕ) → IsOutIn o → out_in p (out_bytes S o ++ more) ≡ Some (o, more)
+  unfolding out_in byte_in
+  out_back (out.Acks ids) more is = ap (made out.Acks) (held_ids_reads.back ids more is)
+  out_back (out.Requests ids) more is = ap (made out.Requests) (ids_reads.back ids more is.0)
+  out_back (out.Offers ids) more is = ap (made out.Offers) (held_ids_reads.back ids more is)
+  out_back (out.Send id) more is = ap (made out.Send) (r.back id more is)
+
+  out_sound : (bytes rest : List ℕ) (o : Out) → IsBytes bytes → out_in p bytes ≡ Some (o, rest) → IsOutIn o × (bytes ≡ out_bytes S o ++ rest)
+  unfolding out_in
+  out_sound bytes rest o fits e =
+      let c = behind_byte (out_of p) bytes rest o fits e in
+      let P : Type 0 = IsOutIn o × (bytes ≡ out_bytes S o ++ rest) in
+      let L : List (List ℕ) → Type 0 = λ ids. IsIdList MAX_IDS ids × AllByRecursion N ids in
+      tested P c.0 0 (made out.Acks (ids_in p c.1)) _ (Some (o, rest))
+      (λ n h. told (ids_bytes S) L (ids_in p) held_ids_reads out.Acks (out_bytes S) IsOutIn 0 (λ a l. l) (λ a. refl) bytes c.1 rest c.0 o c.3 c.2 n h)
+      (tested P c.0 1 (made out.Requests (ids_in id_in c.1)) _ (Some (o, rest))
+      (λ n h. told (ids_bytes whole) (IsIdList MAX_IDS) (ids_in id_in) ids_reads out.Requests (out_bytes S) IsOutIn 1 (λ a l. (l, tt)) (λ a. refl) bytes c.1 rest c.0 o c.3 c.2 n h)
+      (tested P c.0 2 (made out.Offers (ids_in p c.1)) _ (Some (o, rest))
+      (λ n h. told (ids_bytes S) L (ids_in p) held_ids_reads out.Offers (out_bytes S) IsOutIn 2 (λ a l. l) (λ a. refl) bytes c.1 rest c.0 o c.3 c.2 n h)
+      (tested P c.0 3 (made out.Send (p c.1)) None (Some (o, rest))
+      (λ n h. told S (λ id. IsId id × N id) p r out.Send (out_bytes S) IsOutIn 3 (λ a l. l) (λ a. refl) bytes c.1 rest c.0 o c.3 c.2 n h)
+      (λ h. absurd cc))))
+      c.4
+
+  pub out_reads : IsReader (out_bytes S) IsOutIn (out_in p)
+  out_reads = record { back = out_back; sound = out_sound }

@@ -1,32 +1,59 @@
 -- What holds of all spellings.
-use Rattle.std.specs.Prelude.{◌≡◌, ℕ, ◌≤◌, List, [], ◌++◌, length, take}
-use Rattle.std.specs.List.{AllByRecursion}
+use Rattle.std.specs.Prelude.{◌≡◌, ℕ, ◌≤◌, true, List, [], ◌++◌, length, take}
+use Rattle.std.specs.List.{AllByRecursion, flat_map}
 use Rattle.sync_rules.specs.declared.entries.Entry.{Entry}
 use Rattle.sync_rules.specs.Clients.{Meaning}
+use Rattle.sync_rules.specs.Consistency.{ids_of_held}
 use Rattle.sync_rules.specs.Facts.{Facts}
 use Rattle.sync_rules.specs.Legal.{Allowed}
+use Rattle.sync_rules.specs.Lists.{is_among}
 use Rattle.entry_codec.specs.declared.lengths.TheConstants.{MAX_BATCH_LEN, MAX_SPELLING}
 use Rattle.entry_codec.specs.Payloads.{payload_len}
-use Rattle.entry_codec.specs.Spelling.{IsEntry, Spells}
+use Rattle.entry_codec.specs.Naming.{AreNames}
+use Rattle.entry_codec.specs.Spelling.{EntryNames, IsEntry, Spells, SpellsIn, spelling, spelling_in}
+use Rattle.entry_codec.specs.declared.naming.Format.{Format}
+use Rattle.entry_codec.specs.declared.naming.Format.TheVariants as format
 use Rattle.entry_codec.specs.declared.reading.EntryFound.{EntryFound}
 use Rattle.entry_codec.specs.declared.reading.EntryFound.TheVariants as found
 
--- What is found at the front of some bytes: an entry that so many of them spell, or none, since no front of them spells one.
+-- What is found at the front of some bytes in a format, where these are the ids held: an entry that so many of them spell,
+-- or none, since no front of them spells one.
+abbrev pub IsReadIn : Format → List (List ℕ) → List ℕ → EntryFound → Type 0
+IsReadIn f names bytes (found.One e used) = (used ≤ length bytes) × SpellsIn f names e (take used bytes)
+IsReadIn f names bytes found.BadEntry = (e : Entry) (used : ℕ) → SpellsIn f names e (take used bytes) → ⊥
+
+-- the same in the first format
 abbrev pub IsRead : List ℕ → EntryFound → Type 0
-IsRead bytes (found.One e used) = (used ≤ length bytes) × Spells e (take used bytes)
-IsRead bytes found.BadEntry = (e : Entry) (used : ℕ) → Spells e (take used bytes) → ⊥
+IsRead bytes found = IsReadIn format.Whole [] bytes found
 
--- whatever is found where an entry is spelled is that entry, whatever follows
+-- whatever is found where an entry is spelled is that entry, whatever follows, in each format
 abbrev pub SpellingsReadBack : Type 0
-SpellingsReadBack = (e : Entry) (bytes more : List ℕ) (f : EntryFound) → Spells e bytes → IsRead (bytes ++ more) f → f ≡ found.One e (length bytes)
+SpellingsReadBack = (f : Format) (names : List (List ℕ)) → AreNames names → (e : Entry) (bytes more : List ℕ) (read : EntryFound)
+    → SpellsIn f names e bytes → IsReadIn f names (bytes ++ more) read → read ≡ found.One e (length bytes)
 
--- no entry's bytes begin another's, and bytes spell one entry at most
+-- no entry's bytes begin another's, and bytes spell one entry at most, in each format
 abbrev pub NoneBeginsAnother : Type 0
-NoneBeginsAnother = (e d : Entry) (bytes more : List ℕ) → Spells e bytes → Spells d (bytes ++ more) → (e ≡ d) × (more ≡ [])
+NoneBeginsAnother = (f : Format) (names : List (List ℕ)) → AreNames names → (e d : Entry) (bytes more : List ℕ)
+    → SpellsIn f names e bytes → SpellsIn f names d (bytes ++ more) → (e ≡ d) × (more ≡ [])
 
--- every spelling has 2 to MAX_SPELLING bytes
+-- every spelling of the first format has 2 to MAX_SPELLING bytes
 abbrev pub SpellingsAreShort : Type 0
 SpellingsAreShort = (e : Entry) (bytes : List ℕ) → Spells e bytes → (2 ≤ length bytes) × (length bytes ≤ MAX_SPELLING)
+
+-- a spelling of the second format has 2 bytes or more, and is never longer than that of the first
+abbrev pub ShortIsNotLonger : Type 0
+ShortIsNotLonger = (names : List (List ℕ)) (e : Entry) → IsEntry e
+    → (2 ≤ length (spelling_in format.Short names e)) × (length (spelling_in format.Short names e) ≤ length (spelling e))
+
+-- nor are the spellings of the entries of a batch
+abbrev pub ShortBatchesAreNotLonger : Type 0
+ShortBatchesAreNotLonger = (names : List (List ℕ)) (batch : List Entry) → AllByRecursion IsEntry batch
+    → length (flat_map (spelling_in format.Short names) batch) ≤ payload_len batch
+
+-- a batch that may follow a journal names as held only what is held, each of its entries by the facts before the batch
+abbrev pub AllowedNames : Type 0
+AllowedNames = (clients : Meaning) (f : Facts) (batch : List Entry) → Allowed clients f batch
+    → AllByRecursion (EntryNames (λ id. is_among (ids_of_held f.held) id ≡ true)) batch
 
 -- A batch that may follow a journal of any facts, and whose entries are within their limits, has 2 to MAX_BATCH_LEN bytes:
 -- fewer than a frame may have.

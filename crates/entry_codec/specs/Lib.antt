@@ -1,8 +1,8 @@
+pub mod Naming
 pub mod Spelling
 pub mod Reading
 pub mod Answers
 pub mod Payloads
-pub mod Growing
 pub mod Laws
 pub mod Standing
 pub mod StandingLaws

@@ -2,6 +2,7 @@
 -- is held is read in a way that is given, as `Spelling` writes it in one; an id of another message is read whole.
 use Rattle.std.specs.Prelude.{ℕ, zero, suc, Bool, ◌==◌, ◌&&◌, nat_lt, nat_le, if◌then◌else◌, List, [], ◌∷◌, length, take, drop, Option, Some, None}
 use Rattle.std.specs.Int.{Width, w16, w32, w64, byte_len, from_be_bytes}
+use Rattle.std.specs.List.{slice_get}
 use Rattle.std.specs.Str.{is_utf8}
 use Rattle.sync_ids.specs.Values.{GroupValue, MessageValue}
 use Rattle.sync_ids.specs.declared.def.TheConstants.{MAX_DESCRIPTOR}
@@ -16,6 +17,8 @@ use Rattle.sync_rules.specs.declared.entries.Mode.TheVariants as mode_kind
 use Rattle.sync_rules.specs.declared.entries.Out.{Out}
 use Rattle.sync_rules.specs.declared.entries.Out.TheVariants as out
 use Rattle.sync_rules.specs.declared.entries.Session.{Session}
+use Rattle.entry_codec.specs.declared.naming.Format.{Format}
+use Rattle.entry_codec.specs.declared.naming.Format.TheVariants as format
 
 -- ---- how parts are put together
 
@@ -130,6 +133,11 @@ list_in p (suc n) bytes = made (λ a. a.0 ∷ a.1) (both p (list_in p n) bytes)
 abbrev pub IdReader : Type 0
 IdReader = List ℕ → Option (List ℕ × List ℕ)
 
+-- the id of a message that is held, where these are the ids held: an id, or the number of one of them
+abbrev pub held_in : Format → List (List ℕ) → IdReader
+held_in format.Whole names bytes = id_in bytes
+held_in format.Short names bytes = meant (slice_get names) (be_number_in w32 bytes)
+
 -- at least one id, each read in this way, behind their number, which has two bytes
 unfoldable pub ids_in : IdReader → List ℕ → Option (List (List ℕ) × List ℕ)
 ids_in read bytes = chained (list_in read) (passed (is_between 1 MAX_IDS) (be_number_in w16 bytes))
@@ -196,9 +204,9 @@ entry_of held tag rest =
     else moved_of held tag rest
 
 -- an entry at the front of some bytes, where the id of a message that is held is read in this way
-abbrev pub entry_by : IdReader → List ℕ → Option (Entry × List ℕ)
+unfoldable pub entry_by : IdReader → List ℕ → Option (Entry × List ℕ)
 entry_by held bytes = chained (entry_of held) (byte_in bytes)
 
--- an entry at the front of some bytes: every id is read whole
+-- an entry at the front of some bytes in the first format: every id is read whole
 unfoldable pub entry_in : List ℕ → Option (Entry × List ℕ)
 entry_in bytes = entry_by id_in bytes

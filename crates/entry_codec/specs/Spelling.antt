@@ -1,7 +1,7 @@
 -- How the entries of a journal are spelled: a tag byte, and behind it what the entry says.
 use Rattle.std.specs.Prelude.{◌≡◌, ℕ, ◌^◌, ◌<◌, ◌≤◌, List, [], ◌∷◌, ◌++◌, length, Option, Some, None}
 use Rattle.std.specs.Int.{w16, w32, w64, to_be_bytes}
-use Rattle.std.specs.List.{flat_map}
+use Rattle.std.specs.List.{AllByRecursion, flat_map}
 use Rattle.std.specs.Str.{IsUtf8}
 use Rattle.sync_ids.specs.Values.{GroupValue, IsGroupDef, IsIdList, IsMessage, MessageValue}
 use Rattle.sync_ids.specs.declared.lists.TheConstants.{MAX_IDS}
@@ -14,6 +14,9 @@ use Rattle.sync_rules.specs.declared.entries.Mode.TheVariants as mode_kind
 use Rattle.sync_rules.specs.declared.entries.Out.{Out}
 use Rattle.sync_rules.specs.declared.entries.Out.TheVariants as out
 use Rattle.sync_rules.specs.declared.entries.Session.{Session}
+use Rattle.entry_codec.specs.declared.naming.Format.{Format}
+use Rattle.entry_codec.specs.declared.naming.Format.TheVariants as format
+use Rattle.entry_codec.specs.Naming.{IsNamed, held_bytes}
 
 -- ---- parts
 
@@ -89,9 +92,13 @@ entry_bytes held (entry.Seen s id) = 13 ∷ on_session s (held id)
 entry_bytes held (entry.Asked s id) = 14 ∷ on_session s (held id)
 entry_bytes held (entry.Out s now what) = 15 ∷ on_session s (to_be_bytes w64 now ++ out_bytes held what)
 
--- the one spelling of an entry: every id is written whole
+-- the one spelling of an entry in the first format: every id is written whole
 unfoldable pub spelling : Entry → List ℕ
 spelling e = entry_bytes whole e
+
+-- the one spelling of an entry in a format, where these are the ids held
+unfoldable pub spelling_in : Format → List (List ℕ) → Entry → List ℕ
+spelling_in f names e = entry_bytes (held_bytes f names) e
 
 -- ---- limits. A clause ranges over all values of a type, also those that no program holds
 
@@ -137,10 +144,49 @@ IsEntry (entry.Seen s id) = (s < 2 ^ 32) × IsId id
 IsEntry (entry.Asked s id) = (s < 2 ^ 32) × IsId id
 IsEntry (entry.Out s now what) = (s < 2 ^ 32) × (now < 2 ^ 64) × IsOut what
 
--- these bytes spell this entry, which is within its limits
-pub record Spells (e : Entry) (bytes : List ℕ) : Type 0 where
+-- what holds of the id of each message that an entry names as one that is held
+abbrev pub OutNames : (List ℕ → Type 0) → Out → Type 0
+OutNames H (out.Acks ids) = AllByRecursion H ids
+OutNames H (out.Requests ids) = Unit {0}
+OutNames H (out.Offers ids) = AllByRecursion H ids
+OutNames H (out.Send id) = H id
+
+abbrev pub EntryNames : (List ℕ → Type 0) → Entry → Type 0
+EntryNames H (entry.Judged id) = H id
+EntryNames H (entry.Deliver id) = H id
+EntryNames H (entry.Invalid id) = H id
+EntryNames H (entry.Again s id) = H id
+EntryNames H (entry.Seen s id) = H id
+EntryNames H (entry.Asked s id) = H id
+EntryNames H (entry.Out s now what) = OutNames H what
+EntryNames H _ = Unit {0}
+
+-- how many messages an entry names as held
+abbrev pub out_count : Out → ℕ
+out_count (out.Acks ids) = length ids
+out_count (out.Requests ids) = 0
+out_count (out.Offers ids) = length ids
+out_count (out.Send id) = 1
+
+abbrev pub named_count : Entry → ℕ
+named_count (entry.Judged id) = 1
+named_count (entry.Deliver id) = 1
+named_count (entry.Invalid id) = 1
+named_count (entry.Again s id) = 1
+named_count (entry.Seen s id) = 1
+named_count (entry.Asked s id) = 1
+named_count (entry.Out s now what) = out_count what
+named_count _ = 0
+
+-- these bytes spell this entry in a format, where these are the ids held: it is within its limits and names no others
+pub record SpellsIn (f : Format) (names : List (List ℕ)) (e : Entry) (bytes : List ℕ) : Type 0 where
   pub within : IsEntry e
-  pub is : bytes ≡ spelling e
+  pub named : EntryNames (IsNamed f names) e
+  pub is : bytes ≡ spelling_in f names e
+
+-- the same in the first format, which asks for no names
+abbrev pub Spells : Entry → List ℕ → Type 0
+Spells e bytes = SpellsIn format.Whole [] e bytes
 
 -- what an entry has to keep of itself to be written: a session has a latency of at least 1
 abbrev pub HasLatency : Entry → Type 0

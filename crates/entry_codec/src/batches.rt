@@ -5,7 +5,7 @@ ghost use Rattle.entry_codec.specs.Payloads.{batch_in, payload_len, spellings};
 ghost use Rattle.entry_codec.specs.Spelling.{AddsTo, HasLatency, IsEntry};
 
 use crate::front::Front;
-use crate::reading::read_tagged;
+use crate::reading::read_whole;
 use crate::stop::Stop;
 use crate::{entry_len, write_entry};
 use std::alloc::{AllocError, Global};
@@ -21,7 +21,7 @@ pub fn read_batch(alloc: Global, bytes: &[u8]) -> Result<Option<Batch>, AllocErr
     let mut front = Front { rest: bytes };
     let mut entries = Vec::new(alloc);
     'entries: while !front.rest.is_empty() {
-        match read_tagged(alloc, &mut front) {
+        match read_whole(alloc, &mut front) {
             Ok(entry) => entries.push(entry)?,
             Err(Stop::BadEntry) => return Ok(None),
             Err(Stop::Memory) => return Err(AllocError),

@@ -4,9 +4,11 @@ ghost use Rattle.std.specs.Prelude.{nat_lt};
 ghost use Rattle.std.specs.Int.{w16, w32, w64};
 ghost use Rattle.std.specs.Str.{IsUtf8};
 ghost use Rattle.entry_codec.specs.Answers.{Reads, ReadsSlice};
-ghost use Rattle.entry_codec.specs.Reading.{byte_in, counted_in, front_in, id_in, is_between};
-ghost use Rattle.entry_codec.specs.Reading.{name_in, be_number_in, passed, time_in, latency_in};
+ghost use Rattle.entry_codec.specs.Reading.{byte_in, counted_in, front_in, held_in, id_in};
+ghost use Rattle.entry_codec.specs.Reading.{is_between, name_in, be_number_in, passed, time_in};
+ghost use Rattle.entry_codec.specs.Reading.{latency_in};
 
+use crate::naming::{Format, Names};
 use crate::stop::Stop;
 use sync_ids::{Fixed, MAX_TIMESTAMP, MessageId, Nonce};
 
@@ -74,6 +76,27 @@ impl<'a> Front<'a> {
         let mut bytes = [0; 32];
         bytes.copy_from_slice(self.read_front(32)?);
         Ok(Fixed(bytes))
+    }
+
+    // The id of a message that is held, as the format names it.
+    pub(crate) fn read_held<N: Names>(
+        &mut self,
+        format: Format,
+        names: &N,
+    ) -> Result<MessageId, Stop>
+        ensures { Reads (held_in format (N.named names.now)) self.old.rest.now result
+            self.new.rest.now }
+    {
+        match format {
+            Format::Whole => self.read_id(),
+            Format::Short => {
+                let number = self.read_u32()?;
+                match names.name(number) {
+                    Some(id) => Ok(id),
+                    None => Err(Stop::BadEntry),
+                }
+            }
+        }
     }
 
     pub(crate) fn read_nonce(&mut self) -> Result<Nonce, Stop>

@@ -1,25 +1,43 @@
 //! What holds of all spellings. Each function's clause is the law; none does anything.
-ghost use Rattle.entry_codec.specs.Laws.{NoneBeginsAnother, PayloadsFitFrames, SpellingsAreShort};
-ghost use Rattle.entry_codec.specs.Laws.{SpellingsReadBack};
+ghost use Rattle.entry_codec.specs.Laws.{AllowedNames, NoneBeginsAnother, PayloadsFitFrames};
+ghost use Rattle.entry_codec.specs.Laws.{ShortBatchesAreNotLonger, ShortIsNotLonger};
+ghost use Rattle.entry_codec.specs.Laws.{SpellingsAreShort, SpellingsReadBack};
 ghost use Rattle.entry_codec.specs.StandingLaws.{AllowedAddOne, AllowedHaveLatency, AllowedTakeOne};
 ghost use Rattle.entry_codec.specs.StandingLaws.{BatchesReadBack, JournalsStand, PayloadsSpellOnce};
 ghost use Rattle.entry_codec.specs.StandingLaws.{StandingIsLegal};
 
 use sync_rules::laws::allows_is_allowed;
 
-/// Whatever `read_entry` finds where an entry is spelled is that entry, whatever follows.
+/// Whatever `read_entry` finds where an entry is spelled in format 1 is that entry, whatever
+/// follows, and so it is with `read_short` and format 2.
 pub fn spellings_read_back()
     ensures { SpellingsReadBack }
 {}
 
-/// No entry's bytes begin another's, and bytes spell one entry at most.
+/// In each format no entry's bytes begin another's, and bytes spell one entry at most.
 pub fn none_begins_another()
     ensures { NoneBeginsAnother }
 {}
 
-/// Every spelling has 2 to `MAX_SPELLING` bytes.
+/// Every spelling of format 1 has 2 to `MAX_SPELLING` bytes.
 pub fn spellings_are_short()
     ensures { SpellingsAreShort }
+{}
+
+/// A spelling of format 2 has 2 bytes or more, and is never longer than that of format 1.
+pub fn short_is_not_longer()
+    ensures { ShortIsNotLonger }
+{}
+
+/// The spellings of a batch in format 2 are together never longer than those in format 1.
+pub fn short_batches_are_not_longer()
+    ensures { ShortBatchesAreNotLonger }
+{}
+
+/// A batch that may follow a journal names as held only messages that are held before it, so it can
+/// be written in format 2.
+pub fn allowed_names()
+    ensures { AllowedNames }
 {}
 
 /// A batch that may follow a journal has 2 to `MAX_BATCH_LEN` bytes, fewer than a frame may have.

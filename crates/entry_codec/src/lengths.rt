@@ -1,9 +1,13 @@
 //! How long the spelling of an entry is.
-ghost use Rattle.std.specs.Prelude.{◌≡◌, ◌+◌, ◌*◌, ◌≤◌, length};
+ghost use Rattle.std.specs.Prelude.{◌≡◌, ◌+◌, ◌*◌, ◌≤◌, List, length, ℕ};
 ghost use Rattle.std.specs.List.{flat_map};
 ghost use Rattle.entry_codec.specs.Spelling.{def_bytes, ids_bytes, message_bytes, out_bytes};
 ghost use Rattle.entry_codec.specs.Spelling.{session_bytes, spelling, whole};
+ghost use Rattle.entry_codec.specs.Spelling.{EntryNames, IsId, OutNames, named_count, out_count};
+ghost use Rattle.entry_codec.specs.Spelling.{spelling_in};
+ghost use Rattle.entry_codec.specs.declared.naming.Format.TheVariants as format_kind;
 
+use crate::naming::show_whole;
 use sync_ids::{GroupDef, IdList, MAX_IDS, Message, MessageId};
 use sync_rules::{Entry, Out, Session};
 
@@ -99,4 +103,50 @@ pub fn entry_len(entry: &Entry) -> usize
             + id.as_bytes().len(),
         Entry::Out(_, _, what) => 13 + out_len(what),
     }
+}
+
+// How many messages an output names as held.
+fn out_count(what: &Out) -> usize
+    ensures count { result ≡ out_count what.now }
+    ensures whole { OutNames IsId what.now }
+{
+    match what {
+        Out::Acks(ids) | Out::Offers(ids) => ids.as_slice().len(),
+        Out::Requests(_) => 0,
+        Out::Send(id) => {
+            show_whole(id);
+            1
+        }
+    }
+}
+
+// How many messages an entry names as held.
+fn named_count(entry: &Entry) -> usize
+    ensures count { result ≡ named_count entry.now }
+    ensures whole { EntryNames IsId entry.now }
+{
+    match entry {
+        Entry::Judged(id) | Entry::Deliver(id) | Entry::Invalid(id) => {
+            show_whole(id);
+            1
+        }
+        Entry::Again(_, id) | Entry::Seen(_, id) | Entry::Asked(_, id) => {
+            show_whole(id);
+            1
+        }
+        Entry::Out(_, _, what) => out_count(what),
+        Entry::Contact(_) | Entry::Group(_) | Entry::Level(_, _, _) | Entry::Session(_) => 0,
+        Entry::Take(_, _) | Entry::Author(_) | Entry::Arrive(_, _) | Entry::Offered(_, _) => 0,
+    }
+}
+
+/// How many bytes the spelling of an entry has in format 2, whatever the names: a number has 28
+/// bytes less than an id. These are 2 at least, and no more than in format 1. It takes no memory.
+pub fn short_len(entry: &Entry) -> usize
+    ensures value { (names : List (List ℕ)) → result
+        ≡ length (spelling_in format_kind.Short names entry.now) }
+    ensures some { 2 ≤ result }
+    ensures few { result ≤ length (spelling entry.now) }
+{
+    entry_len(entry) - 28 * named_count(entry)
 }

@@ -1,17 +1,19 @@
-//! Entries of a journal as bytes, in the first format: each entry has one spelling, and no spelling
-//! begins another.
+//! Entries of a journal as bytes: in each of two formats an entry has one spelling, and no spelling
+//! begins another. A held message is named by its id in format 1, by its number in format 2.
 #![tactic(auto)]
 
 mod batches;
 mod front;
 pub mod laws;
 mod lengths;
+mod naming;
 mod reading;
 mod stop;
 mod values;
 mod writing;
 
 pub use batches::{batch_len, read_batch, write_batch};
-pub use lengths::{MAX_BATCH_LEN, MAX_SPELLING, STEP_BYTES, STEP_LEN, entry_len};
-pub use reading::{EntryFound, read_entry};
-pub use writing::write_entry;
+pub use lengths::{MAX_BATCH_LEN, MAX_SPELLING, STEP_BYTES, STEP_LEN, entry_len, short_len};
+pub use naming::{Format, Names, format_of};
+pub use reading::{EntryFound, read_entry, read_short};
+pub use writing::{write_entry, write_short};

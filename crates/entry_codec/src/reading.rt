@@ -1,11 +1,13 @@
 //! Reading an entry.
 ghost use Rattle.std.specs.Prelude.{IfOk};
-ghost use Rattle.entry_codec.specs.Laws.{IsRead};
+ghost use Rattle.entry_codec.specs.Laws.{IsRead, IsReadIn};
 ghost use Rattle.entry_codec.specs.Answers.{Reads};
-ghost use Rattle.entry_codec.specs.Reading.{entry_of, entry_in, heard_of, known_of, meant};
-ghost use Rattle.entry_codec.specs.Reading.{moved_of, id_in, pair_in, step_of};
+ghost use Rattle.entry_codec.specs.Reading.{entry_by, entry_of, entry_in, heard_of, held_in};
+ghost use Rattle.entry_codec.specs.Reading.{known_of, meant, moved_of, id_in, pair_in, step_of};
+ghost use Rattle.entry_codec.specs.declared.naming.Format.TheVariants as format_kind;
 
 use crate::front::Front;
+use crate::naming::{Format, Names, NoNames};
 use crate::stop::Stop;
 use crate::values::{read_def, read_level, read_message, read_out, read_session};
 use std::alloc::{AllocError, Global};
@@ -22,11 +24,16 @@ pub enum EntryFound {
 }
 
 #[tactic(auto, unfolding(crate::specs::Reading::pair_in))]
-fn read_pair(front: &mut Front) -> Result<(u32, MessageId), Stop>
-    ensures { Reads (pair_in id_in) front.old.rest.now result front.new.rest.now }
+fn read_pair<N: Names>(
+    format: Format,
+    names: &N,
+    front: &mut Front,
+) -> Result<(u32, MessageId), Stop>
+    ensures { Reads (pair_in (held_in format (N.named names.now))) front.old.rest.now result
+        front.new.rest.now }
 {
     let session = front.read_u32()?;
-    let id = front.read_id()?;
+    let id = front.read_held(format, names)?;
     Ok((session, id))
 }
 
@@ -47,8 +54,15 @@ fn read_known(alloc: Global, tag: u8, front: &mut Front) -> Result<Entry, Stop>
 }
 
 // What follows the tags 4 to 7, and 15.
-fn read_moved(alloc: Global, tag: u8, front: &mut Front) -> Result<Entry, Stop>
-    ensures { Reads (moved_of id_in tag) front.old.rest.now result front.new.rest.now }
+fn read_moved<N: Names>(
+    alloc: Global,
+    format: Format,
+    names: &N,
+    tag: u8,
+    front: &mut Front,
+) -> Result<Entry, Stop>
+    ensures { Reads (moved_of (held_in format (N.named names.now)) tag) front.old.rest.now result
+        front.new.rest.now }
 {
     match tag {
         4 => Ok(Entry::Session(read_session(front)?)),
@@ -64,18 +78,18 @@ fn read_moved(alloc: Global, tag: u8, front: &mut Front) -> Result<Entry, Stop>
         15 => {
             let session = front.read_u32()?;
             let now = front.read_u64()?;
-            Ok(Entry::Out(session, now, read_out(alloc, front)?))
+            Ok(Entry::Out(session, now, read_out(alloc, format, names, front)?))
         }
         _ => Err(Stop::BadEntry),
     }
 }
 
 // What follows the tags 8 to 10.
-fn read_step(tag: u8, front: &mut Front) -> Result<Entry, Stop>
-    ensures { Reads (λ bytes. meant (step_of tag) (id_in bytes)) front.old.rest.now result
-        front.new.rest.now }
+fn read_step<N: Names>(format: Format, names: &N, tag: u8, front: &mut Front) -> Result<Entry, Stop>
+    ensures { Reads (λ bytes. meant (step_of tag) (held_in format (N.named names.now) bytes))
+        front.old.rest.now result front.new.rest.now }
 {
-    let id = front.read_id()?;
+    let id = front.read_held(format, names)?;
     match tag {
         8 => Ok(Entry::Judged(id)),
         9 => Ok(Entry::Deliver(id)),
@@ -85,11 +99,17 @@ fn read_step(tag: u8, front: &mut Front) -> Result<Entry, Stop>
 }
 
 // What follows the tags 11, 13 and 14.
-fn read_heard(tag: u8, front: &mut Front) -> Result<Entry, Stop>
-    ensures { Reads (λ bytes. meant (heard_of tag) (pair_in id_in bytes)) front.old.rest.now result
-        front.new.rest.now }
+fn read_heard<N: Names>(
+    format: Format,
+    names: &N,
+    tag: u8,
+    front: &mut Front,
+) -> Result<Entry, Stop>
+    ensures { Reads
+        (λ bytes. meant (heard_of tag) (pair_in (held_in format (N.named names.now)) bytes))
+        front.old.rest.now result front.new.rest.now }
 {
-    let (session, id) = read_pair(front)?;
+    let (session, id) = read_pair(format, names, front)?;
     match tag {
         11 => Ok(Entry::Again(session, id)),
         13 => Ok(Entry::Seen(session, id)),
@@ -98,32 +118,77 @@ fn read_heard(tag: u8, front: &mut Front) -> Result<Entry, Stop>
     }
 }
 
-#[tactic(auto, unfolding(crate::specs::Reading::entry_in))]
-pub(crate) fn read_tagged(alloc: Global, front: &mut Front) -> Result<Entry, Stop>
-    ensures { Reads entry_in front.old.rest.now result front.new.rest.now }
+// An entry of this format. The message of the tag 12 is not held.
+#[tactic(auto, unfolding(crate::specs::Reading::entry_by))]
+fn read_tagged<N: Names>(
+    alloc: Global,
+    format: Format,
+    names: &N,
+    front: &mut Front,
+) -> Result<Entry, Stop>
+    ensures { Reads (entry_by (held_in format (N.named names.now))) front.old.rest.now result
+        front.new.rest.now }
 {
     let tag = front.read_byte()?;
     match tag {
         1..=3 => read_known(alloc, tag, front),
-        8..=10 => read_step(tag, front),
+        8..=10 => read_step(format, names, tag, front),
         12 => {
-            let (session, id) = read_pair(front)?;
+            let (session, id) = read_pair(Format::Whole, names, front)?;
             Ok(Entry::Offered(session, id))
         }
-        11..=14 => read_heard(tag, front),
-        _ => read_moved(alloc, tag, front),
+        11 => read_heard(format, names, tag, front),
+        13 => read_heard(format, names, tag, front),
+        14 => read_heard(format, names, tag, front),
+        _ => read_moved(alloc, format, names, tag, front),
     }
 }
 
-/// Reads the entry at the front of these bytes. `BadEntry` comes exactly where no front of them is
-/// the spelling of an entry within its limits. It fails only for want of memory.
-pub fn read_entry(alloc: Global, bytes: &[u8]) -> Result<EntryFound, AllocError>
-    ensures { IfOk result (λ found. IsRead bytes.now found) }
+// An entry of the first format.
+#[tactic(auto, unfolding(crate::specs::Reading::entry_in))]
+pub(crate) fn read_whole(alloc: Global, front: &mut Front) -> Result<Entry, Stop>
+    ensures { Reads entry_in front.old.rest.now result front.new.rest.now }
 {
+    read_tagged(alloc, Format::Whole, &NoNames, front)
+}
+
+// What these bytes begin with, in this format.
+fn read_found<N: Names>(
+    alloc: Global,
+    format: Format,
+    names: &N,
+    bytes: &[u8],
+) -> Result<EntryFound, AllocError>
+    ensures { IfOk result (λ found. IsReadIn format (N.named names.now) bytes.now found) }
+{
+    names.show_names();
     let mut front = Front { rest: bytes };
-    match read_tagged(alloc, &mut front) {
+    match read_tagged(alloc, format, names, &mut front) {
         Ok(entry) => Ok(EntryFound::One(entry, bytes.len() - front.rest.len())),
         Err(Stop::BadEntry) => Ok(EntryFound::BadEntry),
         Err(Stop::Memory) => Err(AllocError),
     }
+}
+
+/// Reads the entry at the front of these bytes, in format 1. `BadEntry` comes exactly where no
+/// front of them is the spelling of an entry within its limits. It fails only for want of memory.
+pub fn read_entry(alloc: Global, bytes: &[u8]) -> Result<EntryFound, AllocError>
+    ensures { IfOk result (λ found. IsRead bytes.now found) }
+{
+    read_found(alloc, Format::Whole, &NoNames, bytes)
+}
+
+/// Reads the entry at the front of these bytes, in format 2, where these are the names of the
+/// messages held. `BadEntry` comes exactly where no front of them is the spelling of an entry
+/// within its limits; a number that names no message is no spelling. It fails only for want of
+/// memory.
+pub fn read_short<N: Names>(
+    alloc: Global,
+    bytes: &[u8],
+    names: &N,
+) -> Result<EntryFound, AllocError>
+    ensures { IfOk result
+        (λ found. IsReadIn format_kind.Short (N.named names.now) bytes.now found) }
+{
+    read_found(alloc, Format::Short, names, bytes)
 }

@@ -2,11 +2,12 @@
 ghost use Rattle.std.specs.Prelude.{◌≡◌, ◌≤◌, length, IfOk};
 ghost use Rattle.std.specs.Str.{IsUtf8};
 ghost use Rattle.entry_codec.specs.Answers.{Reads, ReadsList, ReadsText};
-ghost use Rattle.entry_codec.specs.Reading.{def_in, id_in, ids_in, level_in, list_in};
+ghost use Rattle.entry_codec.specs.Reading.{def_in, held_in, ids_in, level_in, list_in};
 ghost use Rattle.entry_codec.specs.Reading.{message_in, mode_in, name_in, nonce_in, out_in};
 ghost use Rattle.entry_codec.specs.Reading.{session_in};
 
 use crate::front::Front;
+use crate::naming::{Format, Names};
 use crate::stop::Stop;
 use std::alloc::Global;
 use sync_ids::{
@@ -110,37 +111,56 @@ pub(crate) fn read_session(front: &mut Front) -> Result<Session, Stop>
 }
 
 #[tactic(auto, unfolding(crate::specs::Reading::ids_in))]
-fn read_ids(alloc: Global, front: &mut Front) -> Result<IdList<MAX_IDS>, Stop>
-    ensures { Reads (ids_in id_in) front.old.rest.now result front.new.rest.now }
+fn read_ids<N: Names>(
+    alloc: Global,
+    format: Format,
+    names: &N,
+    front: &mut Front,
+) -> Result<IdList<MAX_IDS>, Stop>
+    ensures { Reads (ids_in (held_in format (N.named names.now))) front.old.rest.now result
+        front.new.rest.now }
 {
     let count = front.read_count(1, MAX_IDS)?;
-    match IdList::new(read_list(alloc, front, count)?) {
+    match IdList::new(read_list(alloc, format, names, front, count)?) {
         Ok(ids) => Ok(ids),
         Err(_) => unreachable!(),
     }
 }
 
-fn read_list(alloc: Global, front: &mut Front, count: usize) -> Result<Vec<MessageId>, Stop>
-    ensures read { ReadsList (list_in id_in count) front.old.rest.now result
-        front.new.rest.now }
+fn read_list<N: Names>(
+    alloc: Global,
+    format: Format,
+    names: &N,
+    front: &mut Front,
+    count: usize,
+) -> Result<Vec<MessageId>, Stop>
+    ensures read { ReadsList (list_in (held_in format (N.named names.now)) count)
+        front.old.rest.now result front.new.rest.now }
     ensures len { IfOk result (λ ids. length ids.items ≡ count) }
 {
     let mut ids = Vec::new(alloc);
     'ids: for i in 0..count {
-        ids.push(front.read_id()?)?;
+        ids.push(front.read_held(format, names)?)?;
     }
     Ok(ids)
 }
 
+// The ids that are requested are those of messages that are not held.
 #[tactic(auto, unfolding(crate::specs::Reading::out_in))]
-pub(crate) fn read_out(alloc: Global, front: &mut Front) -> Result<Out, Stop>
-    ensures { Reads (out_in id_in) front.old.rest.now result front.new.rest.now }
+pub(crate) fn read_out<N: Names>(
+    alloc: Global,
+    format: Format,
+    names: &N,
+    front: &mut Front,
+) -> Result<Out, Stop>
+    ensures { Reads (out_in (held_in format (N.named names.now))) front.old.rest.now result
+        front.new.rest.now }
 {
     match front.read_byte()? {
-        0 => Ok(Out::Acks(read_ids(alloc, front)?)),
-        1 => Ok(Out::Requests(read_ids(alloc, front)?)),
-        2 => Ok(Out::Offers(read_ids(alloc, front)?)),
-        3 => Ok(Out::Send(front.read_id()?)),
+        0 => Ok(Out::Acks(read_ids(alloc, format, names, front)?)),
+        1 => Ok(Out::Requests(read_ids(alloc, Format::Whole, names, front)?)),
+        2 => Ok(Out::Offers(read_ids(alloc, format, names, front)?)),
+        3 => Ok(Out::Send(front.read_held(format, names)?)),
         _ => Err(Stop::BadEntry),
     }
 }

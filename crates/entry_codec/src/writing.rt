@@ -1,13 +1,18 @@
 //! Spelling an entry.
-ghost use Rattle.std.specs.Prelude.{◌≡◌, ◌+◌, ◌*◌, ◌++◌, ◌∷◌, ◌≤◌, [], length, OnOk, OnErr};
+ghost use Rattle.std.specs.Prelude.{◌≡◌, ◌+◌, ◌*◌, ◌++◌, ◌∷◌, ◌≤◌, [], length, true, OnOk, OnErr};
 ghost use Rattle.std.specs.Int.{w16, w32, w64, to_be_bytes};
 ghost use Rattle.std.specs.List.{AllByRecursion, flat_map};
-ghost use Rattle.entry_codec.specs.Spelling.{AddsTo, HasLatency, IsDef, IsEntry, IsOut};
-ghost use Rattle.entry_codec.specs.Spelling.{IsSession, Spells, def_bytes, entry_bytes, ids_bytes};
-ghost use Rattle.entry_codec.specs.Spelling.{level_byte, message_bytes, mode_byte, out_bytes};
-ghost use Rattle.entry_codec.specs.Spelling.{session_bytes, spelling, whole};
+ghost use Rattle.entry_codec.specs.Naming.{IsNamed, held_bytes};
+ghost use Rattle.entry_codec.specs.Spelling.{AddsTo, EntryNames, HasLatency, IsDef, IsEntry};
+ghost use Rattle.entry_codec.specs.Spelling.{IsOut, IsSession, OutNames, Spells, SpellsIn};
+ghost use Rattle.entry_codec.specs.Spelling.{def_bytes, entry_bytes, ids_bytes, level_byte};
+ghost use Rattle.entry_codec.specs.Spelling.{message_bytes, mode_byte, out_bytes, session_bytes};
+ghost use Rattle.entry_codec.specs.Spelling.{spelling, spelling_in, whole};
+ghost use Rattle.entry_codec.specs.declared.naming.Format.TheVariants as format_kind;
 ghost use Rattle.sync_ids.specs.Values.{AreIds, IsIdList, IsMessage};
+ghost use Rattle.sync_rules.specs.Lists.{is_among};
 
+use crate::naming::{Format, Names, NoNames, show_whole};
 use std::alloc::AllocError;
 use sync_ids::{GroupDef, GroupId, IdList, MAX_IDS, Message, MessageId};
 use sync_rules::{Entry, Level, Mode, Out, Session};
@@ -75,51 +80,114 @@ fn append_session(session: &Session, to: &mut Vec<u8>) -> Result<(), AllocError>
     }
 }
 
-fn append_ids(ids: &[MessageId], to: &mut Vec<u8>) -> Result<(), AllocError>
-    ensures ok { OnOk result (to.new.items ≡ to.old.items ++ flat_map whole ids.now) }
-    ensures whole_ids { OnOk result (AreIds ids.now) }
+// The id of a message that is held, as the format names it.
+fn append_held<N: Names>(
+    format: Format,
+    names: &N,
+    id: &MessageId,
+    to: &mut Vec<u8>,
+) -> Result<(), AllocError>
+    requires { IsNamed format (N.named names.now) id.now }
+    ensures ok { OnOk result
+        (to.new.items ≡ to.old.items ++ held_bytes format (N.named names.now) id.now) }
+    ensures within { length id.now ≡ 32 }
+    ensures err { OnErr result (AddsTo to.old.items to.new.items) }
+{
+    match format {
+        Format::Whole => to.extend_from_slice(id.as_bytes()),
+        Format::Short => {
+            show_whole(id);
+            match names.number(id) {
+                Some(number) => to.extend_from_slice(&number.to_be_bytes()),
+                None => unreachable!(),
+            }
+        }
+    }
+}
+
+fn append_ids<N: Names>(
+    format: Format,
+    names: &N,
+    ids: &[MessageId],
+    to: &mut Vec<u8>,
+) -> Result<(), AllocError>
+    requires { AllByRecursion (IsNamed format (N.named names.now)) ids.now }
+    ensures ok { OnOk result (to.new.items
+        ≡ to.old.items ++ flat_map (held_bytes format (N.named names.now)) ids.now) }
     ensures err { OnErr result (AddsTo to.old.items to.new.items) }
 {
     'ids: for id in ids {
-        to.extend_from_slice(id.as_bytes())?;
+        append_held(format, names, id, to)?;
     }
     Ok(())
 }
 
-fn append_list(kind: u8, ids: &IdList<MAX_IDS>, to: &mut Vec<u8>) -> Result<(), AllocError>
-    ensures ok { OnOk result (to.new.items ≡ to.old.items ++ (kind ∷ ids_bytes whole ids.now)) }
+fn append_list<N: Names>(
+    format: Format,
+    names: &N,
+    kind: u8,
+    ids: &IdList<MAX_IDS>,
+    to: &mut Vec<u8>,
+) -> Result<(), AllocError>
+    requires { AllByRecursion (IsNamed format (N.named names.now)) ids.now }
+    ensures ok { OnOk result (to.new.items
+        ≡ to.old.items ++ (kind ∷ ids_bytes (held_bytes format (N.named names.now)) ids.now)) }
     ensures within { OnOk result (IsIdList MAX_IDS ids.now) }
     ensures err { OnErr result (AddsTo to.old.items to.new.items) }
 {
     let ids = ids.as_slice();
     to.push(kind)?;
     to.extend_from_slice(&(ids.len() as u16).to_be_bytes())?;
-    append_ids(ids, to)
+    append_ids(format, names, ids, to)
 }
 
-fn append_out(what: &Out, to: &mut Vec<u8>) -> Result<(), AllocError>
-    ensures ok { OnOk result (to.new.items ≡ to.old.items ++ out_bytes whole what.now) }
+// The ids that are requested are those of messages that are not held.
+fn append_requests(ids: &IdList<MAX_IDS>, to: &mut Vec<u8>) -> Result<(), AllocError>
+    ensures ok { OnOk result (to.new.items ≡ to.old.items ++ (1 ∷ ids_bytes whole ids.now)) }
+    ensures within { OnOk result (IsIdList MAX_IDS ids.now) }
+    ensures err { OnErr result (AddsTo to.old.items to.new.items) }
+{
+    append_list(Format::Whole, &NoNames, 1, ids, to)
+}
+
+fn append_out<N: Names>(
+    format: Format,
+    names: &N,
+    what: &Out,
+    to: &mut Vec<u8>,
+) -> Result<(), AllocError>
+    requires { OutNames (IsNamed format (N.named names.now)) what.now }
+    ensures ok { OnOk result (to.new.items
+        ≡ to.old.items ++ out_bytes (held_bytes format (N.named names.now)) what.now) }
     ensures within { OnOk result (IsOut what.now) }
     ensures err { OnErr result (AddsTo to.old.items to.new.items) }
 {
     match what {
-        Out::Acks(ids) => append_list(0, ids, to),
-        Out::Requests(ids) => append_list(1, ids, to),
-        Out::Offers(ids) => append_list(2, ids, to),
+        Out::Acks(ids) => append_list(format, names, 0, ids, to),
+        Out::Requests(ids) => append_requests(ids, to),
+        Out::Offers(ids) => append_list(format, names, 2, ids, to),
         Out::Send(id) => {
             to.push(3)?;
-            to.extend_from_slice(id.as_bytes())
+            append_held(format, names, id, to)
         }
     }
 }
 
-fn append_id(tag: u8, id: &MessageId, to: &mut Vec<u8>) -> Result<(), AllocError>
-    ensures ok { OnOk result (to.new.items ≡ to.old.items ++ (tag ∷ whole id.now)) }
+fn append_id<N: Names>(
+    format: Format,
+    names: &N,
+    tag: u8,
+    id: &MessageId,
+    to: &mut Vec<u8>,
+) -> Result<(), AllocError>
+    requires { IsNamed format (N.named names.now) id.now }
+    ensures ok { OnOk result
+        (to.new.items ≡ to.old.items ++ (tag ∷ held_bytes format (N.named names.now) id.now)) }
     ensures within { OnOk result (length id.now ≡ 32) }
     ensures err { OnErr result (AddsTo to.old.items to.new.items) }
 {
     to.push(tag)?;
-    to.extend_from_slice(id.as_bytes())
+    append_held(format, names, id, to)
 }
 
 fn append_number(tag: u8, session: u32, to: &mut Vec<u8>) -> Result<(), AllocError>
@@ -130,14 +198,23 @@ fn append_number(tag: u8, session: u32, to: &mut Vec<u8>) -> Result<(), AllocErr
     to.extend_from_slice(&session.to_be_bytes())
 }
 
-fn append_pair(tag: u8, session: u32, id: &MessageId, to: &mut Vec<u8>) -> Result<(), AllocError>
-    ensures ok { OnOk result
-        (to.new.items ≡ to.old.items ++ (tag ∷ (to_be_bytes w32 session ++ whole id.now))) }
+fn append_pair<N: Names>(
+    format: Format,
+    names: &N,
+    tag: u8,
+    session: u32,
+    id: &MessageId,
+    to: &mut Vec<u8>,
+) -> Result<(), AllocError>
+    requires { IsNamed format (N.named names.now) id.now }
+    ensures ok { OnOk result (to.new.items
+        ≡ to.old.items
+        ++ (tag ∷ (to_be_bytes w32 session ++ held_bytes format (N.named names.now) id.now))) }
     ensures within { OnOk result (length id.now ≡ 32) }
     ensures err { OnErr result (AddsTo to.old.items to.new.items) }
 {
     append_number(tag, session, to)?;
-    to.extend_from_slice(id.as_bytes())
+    append_held(format, names, id, to)
 }
 
 fn append_level(
@@ -177,22 +254,48 @@ fn append_arrival(session: u32, message: &Message, to: &mut Vec<u8>) -> Result<(
     append_message(message, to)
 }
 
-fn append_sent(session: u32, now: u64, what: &Out, to: &mut Vec<u8>) -> Result<(), AllocError>
-    ensures ok { OnOk result
-        (to.new.items ≡ to.old.items
-        ++ (15 ∷ (to_be_bytes w32 session ++ (to_be_bytes w64 now ++ out_bytes whole what.now)))) }
+fn append_sent<N: Names>(
+    format: Format,
+    names: &N,
+    session: u32,
+    now: u64,
+    what: &Out,
+    to: &mut Vec<u8>,
+) -> Result<(), AllocError>
+    requires { OutNames (IsNamed format (N.named names.now)) what.now }
+    ensures ok { OnOk result (to.new.items
+        ≡ to.old.items ++ (15
+        ∷ (to_be_bytes w32 session
+        ++ (to_be_bytes w64 now ++ out_bytes (held_bytes format (N.named names.now)) what.now)))) }
     ensures within { OnOk result (IsOut what.now) }
     ensures err { OnErr result (AddsTo to.old.items to.new.items) }
 {
     append_number(15, session, to)?;
     to.extend_from_slice(&now.to_be_bytes())?;
-    append_out(what, to)
+    append_out(format, names, what, to)
+}
+
+// A message that was offered is not held.
+fn append_offered(session: u32, id: &MessageId, to: &mut Vec<u8>) -> Result<(), AllocError>
+    ensures ok { OnOk result
+        (to.new.items ≡ to.old.items ++ (12 ∷ (to_be_bytes w32 session ++ whole id.now))) }
+    ensures within { OnOk result (length id.now ≡ 32) }
+    ensures err { OnErr result (AddsTo to.old.items to.new.items) }
+{
+    append_pair(Format::Whole, &NoNames, 12, session, id, to)
 }
 
 // After want of memory a part of the spelling may stand.
-fn append_tagged(entry: &Entry, to: &mut Vec<u8>) -> Result<(), AllocError>
-    requires { HasLatency entry.now }
-    ensures ok { OnOk result (to.new.items ≡ to.old.items ++ entry_bytes whole entry.now) }
+fn append_tagged<N: Names>(
+    format: Format,
+    names: &N,
+    entry: &Entry,
+    to: &mut Vec<u8>,
+) -> Result<(), AllocError>
+    requires latency { HasLatency entry.now }
+    requires named { EntryNames (IsNamed format (N.named names.now)) entry.now }
+    ensures ok { OnOk result (to.new.items
+        ≡ to.old.items ++ entry_bytes (held_bytes format (N.named names.now)) entry.now) }
     ensures within { OnOk result (IsEntry entry.now) }
     ensures err { OnErr result (AddsTo to.old.items to.new.items) }
 {
@@ -213,30 +316,63 @@ fn append_tagged(entry: &Entry, to: &mut Vec<u8>) -> Result<(), AllocError>
             append_message(message, to)
         }
         Entry::Arrive(session, message) => append_arrival(*session, message, to),
-        Entry::Judged(id) => append_id(8, id, to),
-        Entry::Deliver(id) => append_id(9, id, to),
-        Entry::Invalid(id) => append_id(10, id, to),
-        Entry::Again(session, id) => append_pair(11, *session, id, to),
-        Entry::Offered(session, id) => append_pair(12, *session, id, to),
-        Entry::Seen(session, id) => append_pair(13, *session, id, to),
-        Entry::Asked(session, id) => append_pair(14, *session, id, to),
-        Entry::Out(session, now, what) => append_sent(*session, *now, what, to),
+        Entry::Judged(id) => append_id(format, names, 8, id, to),
+        Entry::Deliver(id) => append_id(format, names, 9, id, to),
+        Entry::Invalid(id) => append_id(format, names, 10, id, to),
+        Entry::Again(session, id) => append_pair(format, names, 11, *session, id, to),
+        Entry::Offered(session, id) => append_offered(*session, id, to),
+        Entry::Seen(session, id) => append_pair(format, names, 13, *session, id, to),
+        Entry::Asked(session, id) => append_pair(format, names, 14, *session, id, to),
+        Entry::Out(session, now, what) => append_sent(format, names, *session, *now, what, to),
     }
 }
 
-/// Appends the one spelling of an entry. A session's latency is at least 1. It fails only for want
-/// of memory, and then leaves the bytes as they were.
-#[tactic(auto, unfolding(crate::specs::Spelling::spelling))]
+// Appends the one spelling of an entry in this format. After want of memory the bytes are as they
+// were.
+#[tactic(auto, unfolding(crate::specs::Spelling::spelling_in))]
+fn append_entry<N: Names>(
+    format: Format,
+    names: &N,
+    entry: &Entry,
+    to: &mut Vec<u8>,
+) -> Result<(), AllocError>
+    requires latency { HasLatency entry.now }
+    requires named { EntryNames (IsNamed format (N.named names.now)) entry.now }
+    ensures ok { OnOk result
+        (to.new.items ≡ to.old.items ++ spelling_in format (N.named names.now) entry.now) }
+    ensures within { OnOk result (IsEntry entry.now) }
+    ensures err { OnErr result (to.new.items ≡ to.old.items) }
+{
+    let len = to.len();
+    let appended = append_tagged(format, names, entry, to);
+    if appended.is_err() {
+        to.truncate(len);
+    }
+    appended
+}
+
+/// Appends the one spelling of an entry in format 1. A session's latency is at least 1. It fails
+/// only for want of memory, and then leaves the bytes as they were.
 pub fn write_entry(entry: &Entry, to: &mut Vec<u8>) -> Result<(), AllocError>
     requires { HasLatency entry.now }
     ensures ok { OnOk result (to.new.items ≡ to.old.items ++ spelling entry.now) }
     ensures spells { OnOk result (Spells entry.now (spelling entry.now)) }
     ensures err { OnErr result (to.new.items ≡ to.old.items) }
 {
-    let len = to.len();
-    let appended = append_tagged(entry, to);
-    if appended.is_err() {
-        to.truncate(len);
-    }
-    appended
+    append_entry(Format::Whole, &NoNames, entry, to)
+}
+
+/// Appends the one spelling of an entry in format 2, where these are the names of the messages
+/// held. A session's latency is at least 1, and each message that the entry names as held has a
+/// name. It fails only for want of memory, and then leaves the bytes as they were.
+pub fn write_short<N: Names>(entry: &Entry, names: &N, to: &mut Vec<u8>) -> Result<(), AllocError>
+    requires latency { HasLatency entry.now }
+    requires named { EntryNames (λ id. is_among (N.named names.now) id ≡ true) entry.now }
+    ensures ok { OnOk result (to.new.items
+        ≡ to.old.items ++ spelling_in format_kind.Short (N.named names.now) entry.now) }
+    ensures spells { OnOk result (SpellsIn format_kind.Short (N.named names.now) entry.now
+        (spelling_in format_kind.Short (N.named names.now) entry.now)) }
+    ensures err { OnErr result (to.new.items ≡ to.old.items) }
+{
+    append_entry(Format::Short, names, entry, to)
 }

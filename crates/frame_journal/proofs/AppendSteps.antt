@@ -12,7 +12,8 @@ use Rattle.outside.specs.Disk.{Becomes, overwritten}
 use Rattle.outside.specs.Frames.{IsPayload, HasFrames, IsAtRest, end_of, frame_of}
 use Rattle.outside.specs.Outside.{Outside}
 use Rattle.outside.specs.Links.{sent_of}
-use Rattle.outside.specs.Steps.{FileMoment, moments_map, Passed, other_of, file_of-with_file, other_of-with_file, with_file-with_file}
+use Rattle.outside.specs.Steps.{FileMoment, Passed, other_of}
+use Rattle.outside.proofs.CallSteps.{moments_map, file_of-with_file, other_of-with_file, with_file-with_file}
 use Rattle.frame_journal.specs.Append.{payload_of, IsFramed, appended, Gated, Opens, Appends, BeforeOrWith}
 use Rattle.frame_journal.specs.Gates.{WritesBehind, OpensGate, KeepsFront, KeepsAllBut}
 use Rattle.frame_journal.proofs.BehindSteps.{behind_front, behind_rest}

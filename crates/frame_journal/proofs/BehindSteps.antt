@@ -6,7 +6,8 @@ use Rattle.outside.specs.Files.{Two, File, IsFileImage, NothingPending, file_of,
 use Rattle.outside.specs.Disk.{Becomes, Writes, Syncs, after_write, overwritten}
 use Rattle.outside.specs.Images.{length-overwritten}
 use Rattle.outside.specs.Outside.{Outside, DiskCall}
-use Rattle.outside.specs.Steps.{Reached, Passed, begun, wrote_ok, wrote_err, synced_ok, synced_err, other_of, file_of-with_file, other_of-with_file}
+use Rattle.outside.specs.Steps.{Reached, Passed, other_of}
+use Rattle.outside.proofs.CallSteps.{begun, wrote_ok, wrote_err, synced_ok, synced_err, file_of-with_file, other_of-with_file}
 use Rattle.frame_journal.specs.Gates.{WritesBehind, KeepsFront}
 use Rattle.frame_journal.proofs.Torn.{settled_only, torn_front}
 

@@ -5,7 +5,7 @@ use Rattle.outside.specs.Files.{Two, File, IsFileImage, IsImage, read_files, set
 use Rattle.outside.specs.Links.{Links, sent_of}
 use Rattle.outside.specs.Outside.{Outside, IsNow, DiskCall, MomentsAre}
 use Rattle.outside.specs.Disk.{Becomes, Syncs}
-use Rattle.outside.specs.Steps.{moments_none, moments_call, becomes_told, now_images}
+use Rattle.outside.proofs.CallSteps.{moments_none, moments_call, becomes_told, now_images}
 use Rattle.frame_journal.specs.Gates.{ReadsSame}
 use Rattle.frame_journal.proofs.Torn.{settled_only}
 

@@ -9,7 +9,8 @@ use Rattle.outside.specs.Files.{Two, File, IsFileImage, NothingPending, file_of,
 use Rattle.outside.specs.Disk.{Becomes, Writes, Cuts, Syncs, Reads, after_write, after_cut, overwritten}
 use Rattle.outside.specs.Frames.{is_open}
 use Rattle.outside.specs.Outside.{Outside, DiskCall}
-use Rattle.outside.specs.Steps.{FileMoment, moments_map, moments_then, Reached, Passed, begun, looked, wrote_ok, wrote_err, synced_ok, synced_err, cut_ok, cut_err, other_of, file_of-with_file, other_of-with_file}
+use Rattle.outside.specs.Steps.{FileMoment, Reached, Passed, other_of}
+use Rattle.outside.proofs.CallSteps.{moments_map, moments_then, begun, looked, wrote_ok, wrote_err, synced_ok, synced_err, cut_ok, cut_err, file_of-with_file, other_of-with_file}
 use Rattle.frame_journal.specs.Create.{HasShutGate, ShutsGate, Shortens, Clears, BeforeOrShut}
 use Rattle.frame_journal.proofs.Torn.{settled_only, torn_byte}
 use Rattle.frame_journal.proofs.CreateSteps.{not_open}

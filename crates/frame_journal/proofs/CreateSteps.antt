@@ -8,7 +8,8 @@ use Rattle.std.proofs.lemmas.List.{drop_all, get_or-take}
 use Rattle.outside.specs.Files.{Two, File, file_of, settled, NothingPending}
 use Rattle.outside.specs.Disk.{overwritten}
 use Rattle.outside.specs.Frames.{is_open, HasFrames}
-use Rattle.outside.specs.Steps.{other_of, file_of-with_file, other_of-with_file}
+use Rattle.outside.specs.Steps.{other_of}
+use Rattle.outside.proofs.CallSteps.{file_of-with_file, other_of-with_file}
 use Rattle.frame_journal.specs.Gates.{WritesBehind, KeepsFront}
 use Rattle.frame_journal.specs.Create.{IsCleared, Creates, Prepares, Publishes, ShutOrBegun, ShutOrOpened, begun_bytes, behind_gate, opened}
 
@@ -21,17 +22,17 @@ not_open bytes shut =
 
 -- ---- what stands behind the gate
 
-behind_gate-bytes : (gate generation : ℕ) → overwritten (gate ∷ []) 1 (behind_gate generation) ≡ gate ∷ behind_gate generation
-behind_gate-bytes gate generation =
-    ap (λ l. (gate ∷ behind_gate generation) ++ l) (drop_all (1 + length (behind_gate generation)) (gate ∷ []) (omega arith)) ∙ append-nil (gate ∷ behind_gate generation)
+behind_gate-bytes : (gate format generation : ℕ) → overwritten (gate ∷ []) 1 (behind_gate format generation) ≡ gate ∷ behind_gate format generation
+behind_gate-bytes gate format generation =
+    ap (λ l. (gate ∷ behind_gate format generation) ++ l) (drop_all (1 + length (behind_gate format generation)) (gate ∷ []) (omega arith)) ∙ append-nil (gate ∷ behind_gate format generation)
 
 first_of : (c : List ℕ) (gate : ℕ) → take 1 c ≡ gate ∷ [] → slice_index c 0 ≡ gate
 first_of c gate front =
     let one : 0 < 1 = omega arith in
     sym (get_or-take 1 c 0 0 one) ∙ ap (λ l. slice_index l 0) front
 
-begun_frames : (gate generation : ℕ) → HasFrames (gate ∷ behind_gate generation) (gate ∷ 66 ∷ 83 ∷ 80 ∷ 74 ∷ 1 ∷ to_be_bytes w64 generation) []
-begun_frames gate generation = record { gate = 0; rest = []; whole = refl; closed = λ e. absurd (omega arith); long = refl; payloads_fit = λ k d below. absurd (omega arith) }
+begun_frames : (gate format generation : ℕ) → HasFrames (gate ∷ behind_gate format generation) (gate ∷ 66 ∷ 83 ∷ 80 ∷ 74 ∷ format ∷ to_be_bytes w64 generation) []
+begun_frames gate format generation = record { gate = 0; rest = []; whole = refl; closed = λ e. absurd (omega arith); long = refl; payloads_fit = λ k d below. absurd (omega arith) }
 
 -- what clearing leaves is what writing behind a gate asks
 pub cleared_fits : (two : Two File) (file : ℕ) → IsCleared two file → (NothingPending two file) × (1 ≤ length (file_of two file).now)
@@ -41,15 +42,15 @@ cleared_fits two file cleared =
 cleared_now : (two : Two File) (file : ℕ) (cleared : IsCleared two file) → (file_of two file).now ≡ cleared.gate ∷ []
 cleared_now two file cleared = ap (λ (f : File). f.now) cleared.bytes
 
-pub writes_prepares : (file generation : ℕ) (two two' : Two File) → IsCleared two file → WritesBehind file 1 (behind_gate generation) two two' → Prepares file generation two two'
-writes_prepares file generation two two' cleared written =
-    let f = settled (overwritten (file_of two file).now 1 (behind_gate generation)) in
-    let this : file_of two' file ≡ settled (cleared.gate ∷ behind_gate generation) =
+pub writes_prepares : (file format generation : ℕ) (two two' : Two File) → IsCleared two file → WritesBehind file 1 (behind_gate format generation) two two' → Prepares file format generation two two'
+writes_prepares file format generation two two' cleared written =
+    let f = settled (overwritten (file_of two file).now 1 (behind_gate format generation)) in
+    let this : file_of two' file ≡ settled (cleared.gate ∷ behind_gate format generation) =
     ap (λ (t : Two File). file_of t file) written ∙ file_of-with_file two file f
-    ∙ ap (λ l. settled (overwritten l 1 (behind_gate generation))) (cleared_now two file cleared)
-    ∙ ap settled (behind_gate-bytes cleared.gate generation) in
-    let reads : cleared.gate ∷ behind_gate generation ≡ (file_of two' file).now = ap (λ (g : File). g.now) (sym this) in
-    let header = cleared.gate ∷ 66 ∷ 83 ∷ 80 ∷ 74 ∷ 1 ∷ to_be_bytes w64 generation in
+    ∙ ap (λ l. settled (overwritten l 1 (behind_gate format generation))) (cleared_now two file cleared)
+    ∙ ap settled (behind_gate-bytes cleared.gate format generation) in
+    let reads : cleared.gate ∷ behind_gate format generation ≡ (file_of two' file).now = ap (λ (g : File). g.now) (sym this) in
+    let header = cleared.gate ∷ 66 ∷ 83 ∷ 80 ∷ 74 ∷ format ∷ to_be_bytes w64 generation in
     record {
       gate = cleared.gate;
       closed = cleared.closed;
@@ -59,17 +60,17 @@ writes_prepares file generation two two' cleared written =
         settled = this ∙ ap settled reads;
         header = header;
         payloads = [];
-        frames = subst (λ (l : List ℕ). HasFrames l header []) reads (begun_frames cleared.gate generation);
+        frames = subst (λ (l : List ℕ). HasFrames l header []) reads (begun_frames cleared.gate format generation);
         end_is = refl;
       };
       prepared = record {
         settled = this ∙ ap settled reads;
         gate = cleared.gate;
-        marked = 66 ∷ 83 ∷ 80 ∷ 74 ∷ 1 ∷ to_be_bytes w64 generation;
+        marked = 66 ∷ 83 ∷ 80 ∷ 74 ∷ format ∷ to_be_bytes w64 generation;
         payloads = [];
         closed = cleared.closed;
         header = refl;
-        frames = subst (λ (l : List ℕ). HasFrames l header []) reads (begun_frames cleared.gate generation);
+        frames = subst (λ (l : List ℕ). HasFrames l header []) reads (begun_frames cleared.gate format generation);
       };
     }
 
@@ -80,21 +81,21 @@ kept_shut two file cleared c kept =
 
 -- ---- a journal with no frame
 
-opened_bytes : (gate generation : ℕ) → opened (gate ∷ behind_gate generation) ≡ begun_bytes generation
-opened_bytes gate generation = refl
+opened_bytes : (gate format generation : ℕ) → opened (gate ∷ behind_gate format generation) ≡ begun_bytes format generation
+opened_bytes gate format generation = refl
 
-prepares_now : (file generation : ℕ) (two two' : Two File) (p : Prepares file generation two two') → (file_of two' file).now ≡ p.gate ∷ behind_gate generation
-prepares_now file generation two two' p = ap (λ (f : File). f.now) p.bytes
+prepares_now : (file format generation : ℕ) (two two' : Two File) (p : Prepares file format generation two two') → (file_of two' file).now ≡ p.gate ∷ behind_gate format generation
+prepares_now file format generation two two' p = ap (λ (f : File). f.now) p.bytes
 
-pub prepares_creates : (file generation : ℕ) (x y z : Two File) → Prepares file generation x y → Publishes file y z → Creates file generation x z
-prepares_creates file generation x y z p published =
-    let this : file_of z file ≡ settled (begun_bytes generation) =
-    published.bytes ∙ ap (λ l. settled (opened l)) (prepares_now file generation x y p) ∙ ap settled (opened_bytes p.gate generation) in
+pub prepares_creates : (file format generation : ℕ) (x y z : Two File) → Prepares file format generation x y → Publishes file y z → Creates file format generation x z
+prepares_creates file format generation x y z p published =
+    let this : file_of z file ≡ settled (begun_bytes format generation) =
+    published.bytes ∙ ap (λ l. settled (opened l)) (prepares_now file format generation x y p) ∙ ap settled (opened_bytes p.gate format generation) in
     record { bytes = this; other = published.other ∙ p.other; at_rest = published.at_rest 15 p.at_rest }
 
-pub gate_begun : (file generation : ℕ) (two two' : Two File) → Prepares file generation two two' → (c : List ℕ) → ShutOrOpened (file_of two' file).now c → ShutOrBegun generation c
-gate_begun file generation two two' p c either =
+pub gate_begun : (file format generation : ℕ) (two two' : Two File) → Prepares file format generation two two' → (c : List ℕ) → ShutOrOpened (file_of two' file).now c → ShutOrBegun format generation c
+gate_begun file format generation two two' p c either =
     elim either [
       | inl shut ↦ inl shut
-      | inr there ↦ inr (there ∙ ap opened (prepares_now file generation two two' p) ∙ opened_bytes p.gate generation)
+      | inr there ↦ inr (there ∙ ap opened (prepares_now file format generation two two' p) ∙ opened_bytes p.gate format generation)
     ]

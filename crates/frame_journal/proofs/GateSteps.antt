@@ -5,7 +5,8 @@ use Rattle.outside.specs.declared.failed.Failed.{Failed}
 use Rattle.outside.specs.Files.{Two, File, IsFileImage, NothingPending, file_of, with_file, settled}
 use Rattle.outside.specs.Disk.{Becomes, Writes, Syncs, after_write, overwritten}
 use Rattle.outside.specs.Outside.{Outside, DiskCall}
-use Rattle.outside.specs.Steps.{Reached, Passed, begun, wrote_ok, wrote_err, synced_ok, synced_err}
+use Rattle.outside.specs.Steps.{Reached, Passed}
+use Rattle.outside.proofs.CallSteps.{begun, wrote_ok, wrote_err, synced_ok, synced_err}
 use Rattle.frame_journal.specs.Gates.{KeepsAllBut}
 use Rattle.frame_journal.proofs.Torn.{settled_only, torn_byte}
 

@@ -8,7 +8,8 @@ use Rattle.std.proofs.lemmas.Bool.Decides.{nat_tests}
 use Rattle.outside.specs.Files.{Two, File, file_of, settled, NothingPending}
 use Rattle.outside.specs.Disk.{overwritten}
 use Rattle.outside.specs.Frames.{is_open, HasFrames, IsAtRest, frame_of, end_of}
-use Rattle.outside.specs.Steps.{other_of, file_of-with_file, other_of-with_file}
+use Rattle.outside.specs.Steps.{other_of}
+use Rattle.outside.proofs.CallSteps.{file_of-with_file, other_of-with_file}
 use Rattle.frame_journal.specs.Append.{payload_of, Appends}
 use Rattle.frame_journal.specs.Create.{IsPrepared, Publishes, ShutOrOpened, opened}
 use Rattle.frame_journal.specs.Gates.{OpensGate, KeepsAllBut}

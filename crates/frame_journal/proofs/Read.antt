@@ -6,7 +6,7 @@ use Rattle.outside.specs.Files.{Two, File, file_of, read_files}
 use Rattle.outside.specs.Disk.{Reads}
 use Rattle.outside.specs.Frames.{framed, format_in, generation_in}
 use Rattle.outside.specs.Outside.{Outside, DiskCall, Looks}
-use Rattle.outside.specs.Steps.{looks_none, looks_call}
+use Rattle.outside.proofs.CallSteps.{looks_none, looks_call}
 use Rattle.frame_journal.specs.Header.{begun_at}
 use Rattle.frame_journal.specs.Journal.{JournalValue}
 use Rattle.frame_journal.specs.Next.{IsOpenGate, FrameRead}

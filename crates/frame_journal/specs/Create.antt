@@ -16,8 +16,9 @@ abbrev pub BeforeOrShut : List ℕ → List ℕ → Type 0
 BeforeOrShut bytes left = (left ≡ bytes) ⊎ (is_open left ≡ false)
 
 -- a header but for its gate, and a closed gate
-abbrev pub behind_gate : ℕ → List ℕ
-behind_gate generation = 66 ∷ 83 ∷ 80 ∷ 74 ∷ 1 ∷ (to_be_bytes w64 generation ++ 0 ∷ [])
+abbrev pub behind_gate : ℕ → ℕ → List ℕ
+behind_gate format generation =
+    66 ∷ 83 ∷ 80 ∷ 74 ∷ format ∷ (to_be_bytes w64 generation ++ 0 ∷ [])
 
 -- A file is prepared: it has some frames and all of an open header but the gate, which is closed, and nothing is
 -- pending in it.
@@ -32,10 +33,10 @@ pub record IsPrepared (files : Two File) (file : ℕ) : Type 0 where
 
 -- All of a journal with no frame but the gate of its header, and nothing pending in its file; the other file is as
 -- before. Frames may be added to it, and its gate may be opened.
-pub record Prepares (file generation : ℕ) (old new : Two File) : Type 0 where
+pub record Prepares (file format generation : ℕ) (old new : Two File) : Type 0 where
   pub gate : ℕ
   pub closed : gate ≢ 1
-  pub bytes : file_of new file ≡ settled (gate ∷ behind_gate generation)
+  pub bytes : file_of new file ≡ settled (gate ∷ behind_gate format generation)
   pub other : other_of new file ≡ other_of old file
   pub at_rest : IsAtRest new file 15
   pub prepared : IsPrepared new file
@@ -57,18 +58,19 @@ abbrev pub ShutOrOpened : List ℕ → List ℕ → Type 0
 ShutOrOpened bytes left = (is_open left ≡ false) ⊎ (left ≡ opened bytes)
 
 -- the bytes of a journal with no frame
-abbrev pub begun_bytes : ℕ → List ℕ
-begun_bytes generation = header_of 1 generation ++ 0 ∷ []
+abbrev pub begun_bytes : ℕ → ℕ → List ℕ
+begun_bytes format generation = header_of format generation ++ 0 ∷ []
 
 -- A journal with no frame, and nothing pending in its file; the other file is as before.
-pub record Creates (file generation : ℕ) (old new : Two File) : Type 0 where
-  pub bytes : file_of new file ≡ settled (begun_bytes generation)
+pub record Creates (file format generation : ℕ) (old new : Two File) : Type 0 where
+  pub bytes : file_of new file ≡ settled (begun_bytes format generation)
   pub other : other_of new file ≡ other_of old file
   pub at_rest : IsAtRest new file 15
 
 -- no open header, or the journal that was asked for
-abbrev pub ShutOrBegun : ℕ → List ℕ → Type 0
-ShutOrBegun generation left = (is_open left ≡ false) ⊎ (left ≡ begun_bytes generation)
+abbrev pub ShutOrBegun : ℕ → ℕ → List ℕ → Type 0
+ShutOrBegun format generation left =
+    (is_open left ≡ false) ⊎ (left ≡ begun_bytes format generation)
 
 -- the first byte of a file is there and is no open gate
 pub record HasShutGate (bytes : List ℕ) : Type 0 where

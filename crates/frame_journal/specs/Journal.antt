@@ -1,8 +1,13 @@
 -- A journal's file as it is read and added to.
-use Rattle.std.specs.Prelude.{ℕ}
+use Rattle.std.specs.Prelude.{ℕ, Bool, ◌==◌, ◌||◌}
 
--- the number of the file, format and generation as its header has them, the place behind the gate up to which it was read, the length that is known of it, and the
--- place of the last frame read, or 0
+-- the formats that a journal's file may have
+abbrev pub is_format : ℕ → Bool
+is_format format = (format == 1) || (format == 2)
+
+-- the number of the file, format and generation as its header has them, the place behind the gate
+-- up to which it was read, the length that is known of it, and the place of the last frame read, or
+-- 0
 pub record JournalValue : Type 0 where
   pub file : ℕ
   pub format : ℕ
@@ -11,9 +16,16 @@ pub record JournalValue : Type 0 where
   pub len : ℕ
   pub last : ℕ
 
--- the journal of this generation in a prepared file with no frame, which has format 1 and 15 bytes
-abbrev pub fresh : ℕ → ℕ → JournalValue
-fresh file generation = record { file = file; format = 1; generation = generation; end = 15; len = 15; last = 0 }
+-- the journal of this format and generation in a prepared file with no frame, which has 15 bytes
+abbrev pub fresh : ℕ → ℕ → ℕ → JournalValue
+fresh file format generation = record {
+  file = file;
+  format = format;
+  generation = generation;
+  end = 15;
+  len = 15;
+  last = 0;
+}
 
 -- a journal that is read from its first frame on again
 abbrev pub rewound : JournalValue → JournalValue

@@ -1,5 +1,5 @@
 //! Syncs of both files, and the gates of a journal's file.
-ghost use Rattle.std.specs.Prelude.{◌≡◌, ◌<◌, ◌≤◌, ◌-◌, Some, false, nat_lt, not, ◌&&◌};
+ghost use Rattle.std.specs.Prelude.{◌≡◌, ◌<◌, ◌≤◌, ◌-◌, Some, true, false, nat_lt, not, ◌&&◌};
 ghost use Rattle.std.specs.Prelude.{◌==◌, length, OnOk};
 ghost use Rattle.std.specs.Option.{ForSome};
 ghost use Rattle.outside.specs.Faults.{HasCause};
@@ -13,9 +13,10 @@ ghost use Rattle.frame_journal.specs.Create.{IsCleared, Clears, Creates, Prepare
 ghost use Rattle.frame_journal.specs.Create.{ShutOrBegun, BeforeOrShut, HasShutGate, ShutsGate};
 ghost use Rattle.frame_journal.specs.Create.{Shortens, IsPrepared, Publishes, ShutOrOpened};
 ghost use Rattle.frame_journal.specs.Gates.{SyncsBoth, AnyImage, WritesBehind, OpensGate};
+ghost use Rattle.frame_journal.specs.Journal.{is_format};
 ghost use Rattle.frame_journal.specs.Gates.{KeepsFront, KeepsAllBut, ReadsSame};
 
-use crate::{DiskFault, FORMAT};
+use crate::DiskFault;
 use outside::Disk;
 
 /// Syncs both files, file 0 first, in two calls of the disk: after it a crash leaves what a read
@@ -102,31 +103,38 @@ pub fn open_behind<D: Disk>(disk: &mut D, file: u8, end: u64, bytes: &[u8]) -> R
     open_gate(disk, file, end)
 }
 
-/// Begins a journal of this generation in a file that was cleared: all that stands behind its gate,
-/// and then the gate, in four calls of the disk. At each moment the file has no open header or is
-/// that journal; after `Ok` every crash leaves the journal.
-pub fn create<D: Disk>(disk: &mut D, file: u8, generation: u64) -> Result<(), DiskFault>
+/// Begins a journal of this format and generation in a file that was cleared: all that stands
+/// behind its gate, and then the gate, in four calls of the disk. At each moment the file has no
+/// open header or is that journal; after `Ok` every crash leaves the journal.
+pub fn create<D: Disk>(disk: &mut D, file: u8, format: u8, generation: u64) -> Result<(), DiskFault>
     requires file { file < 2 }
+    requires format { is_format format ≡ true }
     requires cleared { ForSome (D.tells disk.old).files (λ two. IsCleared two file) }
-    ensures created { OnOk result (Becomes (Creates file generation) (D.tells disk.old).files
+    ensures created { OnOk result (Becomes (Creates file format generation) (D.tells disk.old).files
         (D.tells disk.new).files) }
     ensures any_moment { (two : Two File) → (D.tells disk.old).files ≡ Some two
-        → Passed two (D.tells disk.old) (D.tells disk.new) file (ShutOrBegun generation) }
+        → Passed two (D.tells disk.old) (D.tells disk.new) file (ShutOrBegun format generation) }
     ensures run { DiskRun (D.tells disk.old) (D.tells disk.new) }
     ensures fault { HasCause (D.tells disk.old).disk_faults (D.tells disk.new).disk_faults result }
     ensures calls { MakesCalls 4 result (D.tells disk.old) (D.tells disk.new) }
 {
-    prepare(disk, file, generation)?;
+    prepare(disk, file, format, generation)?;
     publish(disk, file)
 }
 
-/// Puts all of a journal of this generation but the gate of its header into a file that was
-/// cleared, in two calls of the disk, so that frames may be added before `publish` makes it a
+/// Puts all of a journal of this format and generation but the gate of its header into a file that
+/// was cleared, in two calls of the disk, so that frames may be added before `publish` makes it a
 /// journal. At each moment the file has no open header.
-pub fn prepare<D: Disk>(disk: &mut D, file: u8, generation: u64) -> Result<(), DiskFault>
+pub fn prepare<D: Disk>(
+    disk: &mut D,
+    file: u8,
+    format: u8,
+    generation: u64,
+) -> Result<(), DiskFault>
     requires file { file < 2 }
+    requires format { is_format format ≡ true }
     requires cleared { ForSome (D.tells disk.old).files (λ two. IsCleared two file) }
-    ensures prepared { OnOk result (Becomes (Prepares file generation) (D.tells disk.old).files
+    ensures prepared { OnOk result (Becomes (Prepares file format generation) (D.tells disk.old).files
         (D.tells disk.new).files) }
     ensures any_moment { (two : Two File) → (D.tells disk.old).files ≡ Some two
         → Passed two (D.tells disk.old) (D.tells disk.new) file (λ left. is_open left ≡ false) }
@@ -134,7 +142,7 @@ pub fn prepare<D: Disk>(disk: &mut D, file: u8, generation: u64) -> Result<(), D
     ensures fault { HasCause (D.tells disk.old).disk_faults (D.tells disk.new).disk_faults result }
     ensures calls { MakesCalls 2 result (D.tells disk.old) (D.tells disk.new) }
 {
-    let bytes = behind_gate(generation);
+    let bytes = behind_gate(format, generation);
     write_behind(disk, file, 1, &bytes)
 }
 
@@ -157,11 +165,11 @@ pub fn publish<D: Disk>(disk: &mut D, file: u8) -> Result<(), DiskFault>
 }
 
 // A header but for its gate, and a closed gate.
-fn behind_gate(generation: u64) -> [u8; 14]
-    ensures { result ≡ behind_gate generation }
+fn behind_gate(format: u8, generation: u64) -> [u8; 14]
+    ensures { result ≡ behind_gate format generation }
 {
     let [a, b, c, d, e, f, g, h] = generation.to_be_bytes();
-    [b'B', b'S', b'P', b'J', FORMAT, a, b, c, d, e, f, g, h, 0]
+    [b'B', b'S', b'P', b'J', format, a, b, c, d, e, f, g, h, 0]
 }
 
 /// Empties a file for a journal: at each moment it is as it was, or has no open header. After `Ok`

@@ -5,12 +5,24 @@ ghost use Rattle.outside.specs.Faults.{HasCause};
 ghost use Rattle.outside.specs.Files.{Two, file_of};
 ghost use Rattle.outside.specs.Frames.{is_open, journal_file};
 ghost use Rattle.outside.specs.Outside.{Looks, MakesCalls};
+ghost use Rattle.frame_journal.specs.Journal.{is_format};
 
 use crate::DiskFault;
 use outside::Disk;
 
-/// The format of the frames that this program reads and writes.
-pub const FORMAT: u8 = 1;
+/// The first format of a journal's file, as byte 5 of its header names it.
+pub const FIRST_FORMAT: u8 = 1;
+
+/// The second format. The frames are the same in both: a format is how the entries in them are
+/// spelled.
+pub const SECOND_FORMAT: u8 = 2;
+
+/// Whether a journal's file may have this format.
+pub fn is_format(format: u8) -> bool
+    ensures { result ≡ is_format format }
+{
+    format == FIRST_FORMAT || format == SECOND_FORMAT
+}
 
 /// What an open header says.
 #[derive(Clone, Copy, Debug, PartialEq, Eq)]

@@ -1,9 +1,9 @@
 //! The journal's file: its frames are read in order, and then further ones are added.
-ghost use Rattle.std.specs.Prelude.{◌≡◌, ◌+◌, ◌<◌, ◌≤◌, max, Some, length, OnOk, OnErr, IfOk};
+ghost use Rattle.std.specs.Prelude.{◌≡◌, ◌+◌, ◌<◌, ◌≤◌, true, max, Some, length, OnOk, OnErr, IfOk};
 ghost use Rattle.std.specs.Prelude.{IsErrOf, vec_len};
 ghost use Rattle.frame_journal.specs.Header.{Starts};
 ghost use Rattle.frame_journal.specs.Next.{IsNext, Moves, OnTrue, ReadsNext};
-ghost use Rattle.frame_journal.specs.Journal.{fresh, rewound};
+ghost use Rattle.frame_journal.specs.Journal.{fresh, is_format, rewound};
 ghost use Rattle.std.specs.Option.{ForSome};
 ghost use Rattle.outside.specs.Faults.{HasCause, Rose};
 ghost use Rattle.outside.specs.Files.{Two, File, file_of, read_files};
@@ -17,7 +17,7 @@ ghost use Rattle.frame_journal.specs.Append.{IsFramed, Appends, BeforeOrWith};
 use crate::frame::next_at;
 use crate::gates::open_behind;
 use crate::header::journal_of;
-use crate::{DiskFault, FORMAT, FrameFault, StartFault, read_header};
+use crate::{DiskFault, FrameFault, StartFault, is_format, read_header};
 use outside::{Disk, MAX_JOURNAL, Place};
 use std::marker::Model;
 
@@ -33,9 +33,9 @@ pub struct Journal {
 }
 
 impl Model for Journal {
-    ghost use Rattle.std.specs.Prelude.{◌<◌, ◌≤◌};
+    ghost use Rattle.std.specs.Prelude.{◌≡◌, ◌<◌, ◌≤◌, true};
     ghost use Rattle.outside.specs.declared.limits.TheConstants.{MAX_JOURNAL};
-    ghost use Rattle.frame_journal.specs.Journal.{JournalValue};
+    ghost use Rattle.frame_journal.specs.Journal.{JournalValue, is_format};
 
     ghost Value = { JournalValue };
 
@@ -48,13 +48,15 @@ impl Model for Journal {
       last = j.last;
     } };
 
-    ghost invariant = { λ j. (j.file < 2) × (15 ≤ j.end) × (j.end ≤ MAX_JOURNAL) };
+    ghost invariant = { λ j. (j.file < 2) × (15 ≤ j.end) × (j.end ≤ MAX_JOURNAL)
+        × (is_format j.format ≡ true) };
 }
 
 impl Journal {
     /// Finds the journal's file: the one with an open header, of two the one with the greater
     /// generation, of two equal ones file 0. `NoStore` comes exactly where no header is open,
-    /// `Damaged` exactly where that file's format is not `FORMAT`.
+    /// `Damaged` exactly where that file's format is no format of a journal (`is_format`), at the
+    /// format's place, 5.
     pub fn start<D: Disk>(disk: &mut D) -> Result<Journal, StartFault>
         ensures start { ForSome (D.tells disk.old).files (λ two. Starts (read_files two) result) }
         ensures fresh { IfOk result (λ j. (j.file < 2) × (j.end ≡ 15)) }
@@ -69,7 +71,7 @@ impl Journal {
         let Some((file, header)) = journal_of(first, second) else {
             return Err(StartFault::NoStore);
         };
-        if header.format != FORMAT {
+        if !is_format(header.format) {
             return Err(StartFault::Damaged(Place { file, at: 5 }));
         }
         let len = disk.len(file)?;
@@ -83,16 +85,17 @@ impl Journal {
         })
     }
 
-    /// The journal of this generation in a file that was prepared and has no frame, to which frames
-    /// may be added. Which file it is is all that is asked here: `append` asks of the disk that the
-    /// file is at rest at the journal's end, as `prepare` leaves it.
-    pub fn fresh(file: u8, generation: u64) -> Journal
-        requires { file < 2 }
-        ensures { result ≡ fresh file generation }
+    /// The journal of this format and generation in a file that was prepared with them and has no
+    /// frame, to which frames may be added. Nothing is asked of the file here: `append` asks of the
+    /// disk that it is at rest at the journal's end, as `prepare` leaves it.
+    pub fn fresh(file: u8, format: u8, generation: u64) -> Journal
+        requires file { file < 2 }
+        requires format { is_format format ≡ true }
+        ensures { result ≡ fresh file format generation }
     {
         Journal {
             file,
-            format: FORMAT,
+            format,
             generation,
             end: 15,
             len: 15,
@@ -205,9 +208,10 @@ impl Journal {
         self.end
     }
 
-    /// The format of its frames.
+    /// The format of its file, `FIRST_FORMAT` or `SECOND_FORMAT`.
     pub fn format(&self) -> u8
-        ensures { result ≡ self.now.format }
+        ensures value { result ≡ self.now.format }
+        ensures known { is_format result ≡ true }
     {
         self.format
     }

@@ -9,5 +9,5 @@ mod journal;
 
 pub use fault::{DiskFault, FrameFault, StartFault};
 pub use gates::{barrier, clear, create, prepare, publish};
-pub use header::{FORMAT, Header, read_header};
+pub use header::{FIRST_FORMAT, Header, SECOND_FORMAT, is_format, read_header};
 pub use journal::Journal;

@@ -12,9 +12,9 @@ use Rattle.sync_rules.specs.Facts.{Facts, Held, Id, after, after_all, after_batc
 use Rattle.sync_rules.specs.Sessions.{taken, taken_message_of, one_if}
 use Rattle.sync_rules.specs.Legal.{IsSettling, AllSettling}
 use Rattle.sync_rules.specs.Hearing.{Hears, take_batch, one_session}
-use Rattle.sync_rules.specs.StepLaws.{IsSettlingEntry, next_is_settling}
-use Rattle.sync_rules.specs.Settling.{after_batches-append}
-use Rattle.sync_rules.specs.WorkLaws.{facts-push}
+use Rattle.sync_rules.proofs.StepLaws.{IsSettlingEntry, next_is_settling}
+use Rattle.sync_rules.proofs.Settling.{after_batches-append}
+use Rattle.sync_rules.proofs.WorkLaws.{facts-push}
 use Rattle.journal_play.specs.Playing.{Plays}
 use Rattle.journal_play.specs.Fates.{is_brought, with_record, with_records}
 use Rattle.journal_play.proofs.Takes.{Alike, AllQuiet, alike_then, alike_all, quiet_if, quiet_acks, quiet_requests, quiet_offers, map_push, contact_is, welcome_by}

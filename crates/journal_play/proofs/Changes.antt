@@ -8,8 +8,8 @@ use Rattle.sync_rules.specs.Clients.{Meaning}
 use Rattle.sync_rules.specs.Lists.{same_id, is_among, has_repeat}
 use Rattle.sync_rules.specs.Facts.{Facts, Held, Id, after}
 use Rattle.sync_rules.specs.Steps.{answer_of, verdict_in}
-use Rattle.sync_rules.specs.Elements.{same_id_itself, same_id_swap, among-push}
-use Rattle.sync_rules.specs.Sound.{contains-more}
+use Rattle.sync_rules.proofs.Elements.{same_id_itself, same_id_swap, among-push}
+use Rattle.sync_rules.proofs.Sound.{contains-more}
 use Rattle.message_graph.specs.declared.nodes.Node.{Node}
 use Rattle.message_graph.specs.declared.nodes.Ending.TheVariants as ending
 use Rattle.message_graph.specs.Nodes.{change, with_answer, with_ending, ending_by}

@@ -7,12 +7,11 @@ use Rattle.sync_ids.specs.declared.records.Record.{Record}
 use Rattle.sync_rules.specs.declared.states.Fate.TheVariants as fate_kind
 use Rattle.sync_rules.specs.declared.entries.Entry.{Entry}
 use Rattle.sync_rules.specs.Clients.{Meaning}
-use Rattle.sync_rules.specs.Lists.{is_among}
+use Rattle.sync_rules.specs.Lists.{is_among, In}
 use Rattle.sync_rules.specs.Facts.{Facts, Held, held_at, arrived, facts, entries_of}
 use Rattle.sync_rules.specs.Steps.{answer_of}
-use Rattle.sync_rules.specs.Elements.{In}
-use Rattle.sync_rules.specs.Sound.{SoundFacts}
-use Rattle.sync_rules.specs.Runs.{legal_sound}
+use Rattle.sync_rules.proofs.Sound.{SoundFacts}
+use Rattle.sync_rules.proofs.Runs.{legal_sound}
 use Rattle.message_graph.specs.declared.nodes.Judged.{Judged}
 use Rattle.message_graph.specs.Nodes.{fate_by, ending_by}
 use Rattle.journal_play.specs.Texts.{Line, told, unended, line_at, text_of}

@@ -8,12 +8,12 @@ use Rattle.sync_rules.specs.declared.entries.Entry.{Entry}
 use Rattle.sync_rules.specs.declared.entries.Entry.TheVariants as entry
 use Rattle.sync_rules.specs.declared.states.Fate.{Fate}
 use Rattle.sync_rules.specs.declared.states.Fate.TheVariants as fate_kind
-use Rattle.sync_rules.specs.Lists.{same_id}
+use Rattle.sync_rules.specs.Lists.{same_id, In}
 use Rattle.sync_rules.specs.Facts.{Facts, Held, Id, held_at, arrived}
 use Rattle.sync_rules.specs.Steps.{is_ended}
 use Rattle.sync_rules.specs.Rounds.{Graph}
 use Rattle.sync_rules.specs.EntryTests.{delivers, invalidates, ends}
-use Rattle.sync_rules.specs.Elements.{In, In-append_right, same_id-is, same_id_itself, tally}
+use Rattle.sync_rules.proofs.Elements.{In-append_right, same_id-is, same_id_itself, tally}
 use Rattle.journal_play.specs.Texts.{Line, told, unended, line_of, line_at, text_of}
 use Rattle.journal_play.specs.Fates.{is_good, is_bad, is_decided, state_of, state_line}
 use Rattle.journal_play.proofs.Orders.{IsDistinct}

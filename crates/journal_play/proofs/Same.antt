@@ -9,11 +9,11 @@ use Rattle.sync_rules.specs.declared.answers.Judgement.TheVariants as judgement
 use Rattle.sync_rules.specs.declared.entries.Entry.{Entry}
 use Rattle.sync_rules.specs.declared.entries.Entry.TheVariants as entry
 use Rattle.sync_rules.specs.Clients.{Meaning}
-use Rattle.sync_rules.specs.Lists.{same_id, is_among}
+use Rattle.sync_rules.specs.Lists.{same_id, is_among, In}
 use Rattle.sync_rules.specs.Facts.{Facts, Held, Id, held_at, is_held}
 use Rattle.sync_rules.specs.Steps.{is_elsewhere, is_beside, is_failing, is_served, answer_of, step_accepted, step_open, step_by, step, first_or_next, first_step, next}
-use Rattle.sync_rules.specs.Elements.{In, same_id_itself, same_id_swap}
-use Rattle.sync_rules.specs.Sound.{held_at-id}
+use Rattle.sync_rules.proofs.Elements.{same_id_itself, same_id_swap}
+use Rattle.sync_rules.proofs.Sound.{held_at-id}
 use Rattle.message_graph.specs.declared.nodes.Node.{Node}
 use Rattle.message_graph.specs.declared.nodes.Step.{Step}
 use Rattle.message_graph.specs.declared.nodes.Step.TheVariants as graph_step

@@ -15,7 +15,7 @@ use Rattle.sync_rules.specs.declared.entries.Entry.{Entry}
 use Rattle.sync_rules.specs.declared.entries.Entry.TheVariants as entry
 use Rattle.sync_rules.specs.declared.states.Fate.TheVariants as fate_kind
 use Rattle.sync_rules.specs.Clients.{Meaning}
-use Rattle.sync_rules.specs.Lists.{same_id, is_among, firsts}
+use Rattle.sync_rules.specs.Lists.{same_id, is_among, firsts, In}
 use Rattle.sync_rules.specs.Facts.{Facts, Held, Id, held_at, is_held, arrived, after, after_all, after_batches, facts, entries_of, nothing, contact_of, takes_of, session_at, is_invisible, level_at, wanted_from}
 use Rattle.sync_rules.specs.Steps.{verdict_in, is_ended, fate, IsSettled, kind_of_def}
 use Rattle.sync_rules.specs.Sessions.{taken, taken_message, taken_message_of, is_welcome, one_if}
@@ -24,16 +24,16 @@ use Rattle.sync_rules.specs.Rounds.{Graph, good, bad, graph_of}
 use Rattle.sync_rules.specs.Laws.{Decides}
 use Rattle.sync_rules.specs.EntryTests.{delivers, invalidates, ends}
 use Rattle.sync_rules.specs.Hearing.{Hears, IsHearing, take_batch, one_session}
-use Rattle.sync_rules.specs.Elements.{In, In-push_cases, same_id_itself, tally, tally-is}
-use Rattle.sync_rules.specs.StepLaws.{IsSettlingEntry, next_is_settling}
-use Rattle.sync_rules.specs.RoundLaws.{disjoint, Grows, good_grows, bad_grows}
-use Rattle.sync_rules.specs.Sound.{SoundFacts, held_at-In}
-use Rattle.sync_rules.specs.Kept.{after_batches-is}
-use Rattle.sync_rules.specs.Runs.{legal_sound}
-use Rattle.sync_rules.specs.Flags.{scanned, delivered_scan, invalid_scan, ended_scan, ends_once}
-use Rattle.sync_rules.specs.Settling.{settled_law, goes_on_both, after_batches-append}
-use Rattle.sync_rules.specs.WorkLaws.{facts-push, settles_legal}
-use Rattle.sync_rules.specs.HearLaws.{one_session_hears, Stays, stays_all, stays_batches}
+use Rattle.sync_rules.proofs.Elements.{In-push_cases, same_id_itself, tally, tally-is}
+use Rattle.sync_rules.proofs.StepLaws.{IsSettlingEntry, next_is_settling}
+use Rattle.sync_rules.proofs.RoundLaws.{disjoint, Grows, good_grows, bad_grows}
+use Rattle.sync_rules.proofs.Sound.{SoundFacts, held_at-In}
+use Rattle.sync_rules.proofs.Kept.{after_batches-is}
+use Rattle.sync_rules.proofs.Runs.{legal_sound}
+use Rattle.sync_rules.proofs.Flags.{scanned, delivered_scan, invalid_scan, ended_scan, ends_once}
+use Rattle.sync_rules.proofs.Settling.{settled_law, goes_on_both, after_batches-append}
+use Rattle.sync_rules.proofs.WorkLaws.{facts-push, settles_legal}
+use Rattle.sync_rules.proofs.HearLaws.{one_session_hears, Stays, stays_all, stays_batches}
 use Rattle.journal_play.specs.Texts.{told, unended, text_of}
 use Rattle.journal_play.specs.Playing.{Plays, IsTextOf}
 use Rattle.journal_play.specs.Fates.{is_brought, with_record, with_records, brought, graph_with, is_good, is_bad, is_decided, state_of, state_line, SaysFates}

@@ -11,23 +11,23 @@ use Rattle.sync_rules.specs.declared.entries.Entry.TheVariants as entry
 use Rattle.sync_rules.specs.declared.states.Fate.{Fate}
 use Rattle.sync_rules.specs.declared.states.Fate.TheVariants as fate_kind
 use Rattle.sync_rules.specs.Clients.{Meaning}
-use Rattle.sync_rules.specs.Lists.{same_id, is_among}
+use Rattle.sync_rules.specs.Lists.{same_id, is_among, In}
 use Rattle.sync_rules.specs.Facts.{Facts, Held, Known, Id, held_at, is_held, after, facts, entries_of, group_at, known_of, arrived}
 use Rattle.sync_rules.specs.Steps.{verdict_in, verdict_for, verdict_by, next, kind_of_def}
 use Rattle.sync_rules.specs.Rounds.{Graph, good, good_next, bad, bad_first, bad_more}
 use Rattle.sync_rules.specs.Hearing.{Settles}
-use Rattle.sync_rules.specs.Elements.{In, same_id-is, same_id_itself, tally}
-use Rattle.sync_rules.specs.RoundLaws.{disjoint}
-use Rattle.sync_rules.specs.Sound.{SoundFacts, graph, contains-more, held_at-In, has_delivery, has_refusal}
-use Rattle.sync_rules.specs.Kept.{delivery}
-use Rattle.sync_rules.specs.Runs.{legal_sound}
-use Rattle.sync_rules.specs.WorkLaws.{facts-push, settles_step, settles_legal, settles_itself}
+use Rattle.sync_rules.proofs.Elements.{same_id-is, same_id_itself, tally}
+use Rattle.sync_rules.proofs.RoundLaws.{disjoint}
+use Rattle.sync_rules.proofs.Sound.{SoundFacts, graph, contains-more, held_at-In, has_delivery, has_refusal}
+use Rattle.sync_rules.proofs.Kept.{delivery}
+use Rattle.sync_rules.proofs.Runs.{legal_sound}
+use Rattle.sync_rules.proofs.WorkLaws.{facts-push, settles_step, settles_legal, settles_itself}
 use Rattle.message_graph.specs.declared.nodes.Node.{Node}
 use Rattle.message_graph.specs.declared.nodes.Ending.TheVariants as ending
 use Rattle.message_graph.specs.declared.nodes.Step.{Step}
 use Rattle.message_graph.specs.declared.nodes.Step.TheVariants as graph_step
 use Rattle.message_graph.specs.Nodes as nodes
-use Rattle.message_graph.specs.NodeLaws.{next_judge, next_end, there_within}
+use Rattle.message_graph.proofs.NodeLaws.{next_judge, next_end, there_within}
 use Rattle.journal_play.specs.Texts.{Line, told, line_of, line_at, text_of}
 use Rattle.journal_play.specs.Playing.{Story, node_of, judged_of, Mirrors, StandsFor}
 use Rattle.journal_play.specs.Keeping.{stepping, Reaches, IsStepped}

@@ -22,17 +22,17 @@ use Rattle.sync_rules.specs.Facts.{Facts, Held, Id, held_at, is_held, after, aft
 use Rattle.sync_rules.specs.Steps.{verdict_in, IsSettled, kind_of_def}
 use Rattle.sync_rules.specs.Sessions.{taken, taken_message, taken_message_of, taken_acks, taken_requests, taken_offers, taken_offer, is_welcome, one_if, is_shown, is_remembered, room_after}
 use Rattle.sync_rules.specs.Hearing.{Hears, take_batch, one_session}
-use Rattle.sync_rules.specs.Elements.{same_id-is, same_id_itself, same_id_swap}
-use Rattle.sync_rules.specs.Sound.{SoundFacts}
-use Rattle.sync_rules.specs.Runs.{legal_sound}
-use Rattle.sync_rules.specs.ScanLaws.{level_at_set}
-use Rattle.sync_rules.specs.Settling.{goes_on_both}
-use Rattle.sync_rules.specs.WorkLaws.{facts-push}
-use Rattle.sync_rules.specs.HearLaws.{one_session_hears}
+use Rattle.sync_rules.proofs.Elements.{same_id-is, same_id_itself, same_id_swap}
+use Rattle.sync_rules.proofs.Sound.{SoundFacts}
+use Rattle.sync_rules.proofs.Runs.{legal_sound}
+use Rattle.sync_rules.proofs.ScanLaws.{level_at_set}
+use Rattle.sync_rules.proofs.Settling.{goes_on_both}
+use Rattle.sync_rules.proofs.WorkLaws.{facts-push}
+use Rattle.sync_rules.proofs.HearLaws.{one_session_hears}
 use Rattle.sync_rules.specs.Facts.{nothing}
 use Rattle.message_graph.specs.declared.nodes.Node.{Node}
 use Rattle.message_graph.specs.Nodes as nodes
-use Rattle.message_graph.specs.NodeLaws.{number_of-node_named}
+use Rattle.message_graph.proofs.NodeLaws.{number_of-node_named}
 use Rattle.journal_play.specs.Texts.{Line, told_by, told, text_of}
 use Rattle.journal_play.specs.Playing.{Plays, Story, node_of, answer_shown, Mirrors, StandsFor, IsStoryOf}
 use Rattle.message_graph.specs.Nodes.{ending_by}

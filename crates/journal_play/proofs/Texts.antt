@@ -4,7 +4,7 @@ use Rattle.std.specs.List.{list_all}
 use Rattle.std.proofs.lemmas.Bool.{false≢true, and_parts, and_from}
 use Rattle.sync_rules.specs.declared.entries.Entry.{Entry}
 use Rattle.sync_rules.specs.Facts.{Held, Id, held_at, is_held}
-use Rattle.sync_rules.specs.Sound.{held_at-push}
+use Rattle.sync_rules.proofs.Sound.{held_at-push}
 use Rattle.journal_play.specs.Texts.{Line, told_by, told, line_at, line_in, text_of}
 
 pub told-append : (es fs : List Entry) → told (es ++ fs) ≡ told es ++ told fs

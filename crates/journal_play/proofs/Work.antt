@@ -7,7 +7,7 @@ use Rattle.message_graph.specs.declared.nodes.Ending.TheVariants as ending
 use Rattle.message_graph.specs.declared.nodes.Step.{Step}
 use Rattle.message_graph.specs.declared.nodes.Step.TheVariants as graph_step
 use Rattle.message_graph.specs.Nodes.{next, with_answer, with_ending, after_step}
-use Rattle.message_graph.specs.NodeLaws.{next_judge, next_end, length-change}
+use Rattle.message_graph.proofs.NodeLaws.{next_judge, next_end, length-change}
 use Rattle.journal_play.specs.Keeping.{IsDone}
 
 abbrev pub left : {A : Type 0} → Option A → ℕ

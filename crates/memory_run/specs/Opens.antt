@@ -3,7 +3,8 @@ use Rattle.std.specs.Prelude.{◌≡◌, ◌⊎◌, ℕ, ◌≤◌, List, [], le
 use Rattle.outside.specs.Files.{Two, File, IsImage, read_files}
 use Rattle.outside.specs.HostTold as told
 use Rattle.outside.specs.HostTold.{host_told}
-use Rattle.outside.specs.MemDisk.{Change, MemDiskValue}
+use Rattle.outside.specs.Changes.{Change}
+use Rattle.outside.specs.MemDisk.{MemDiskValue}
 use Rattle.outside.specs.MemHost.{MemHostValue}
 use Rattle.outside.specs.MemTold.{files_at}
 use Rattle.sync_rules.specs.Clients.{Meaning}

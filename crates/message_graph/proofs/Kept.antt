@@ -17,7 +17,7 @@ use Rattle.message_graph.proofs.Positions.{place_pushed}
 use Rattle.message_graph.proofs.Linked.{same_refl, same_equal}
 use Rattle.message_graph.proofs.Counts.{counted, count_all, counts_enlisted, counts_unlisted}
 use Rattle.message_graph.proofs.Missing.{Differs, lack_times, missing_doomed, missing_same, missing_served, fewer_served, fewer_failed, waits_told, waits_same, waits_open_same, told_times-ended, told_times-unjudged}
-use Rattle.message_graph.specs.NodeLaws.{HasAnswer, there_within, length-change}
+use Rattle.message_graph.proofs.NodeLaws.{HasAnswer, there_within, length-change}
 use Rattle.message_graph.proofs.Changes.{node_there, wait_there, group_there, dependencies_there, dependent_within, get-change_same, get-change_other, dependencies-change_other, number_of-change, differs-change, get-push_cases, dependencies_at-push, number_of-push, differs-push}
 
 or_true : (b : Bool) → (b || true) ≡ true

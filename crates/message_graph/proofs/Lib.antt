@@ -8,3 +8,4 @@ pub mod Named
 pub mod Steps
 pub mod Changes
 pub mod Kept
+pub mod NodeLaws

@@ -2,4 +2,3 @@ pub mod Nodes
 pub mod Waits
 pub mod Links
 pub mod Whole
-pub mod NodeLaws

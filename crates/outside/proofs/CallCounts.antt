@@ -5,7 +5,7 @@ use Rattle.outside.specs.Calls.{Calls, CallsGoOn, OneCall, NoCall, more_calls}
 use Rattle.outside.specs.Disk.{Becomes}
 use Rattle.outside.specs.Outside.{Outside, Moment, DiskCall, LinkCall, MakesJust, MakesAtMost, MakesCalls}
 use Rattle.outside.specs.MemDisk.{MemDiskValue, hosted, with_call, calls_of}
-use Rattle.outside.specs.Steps.{becomes_none, becomes_map, becomes_then, go_on_none, go_on_then}
+use Rattle.outside.proofs.CallSteps.{becomes_none, becomes_map, becomes_then, go_on_none, go_on_then}
 
 -- ---- just so many
 

@@ -11,7 +11,7 @@ use Rattle.outside.specs.Links.{Planned, Link, Reply, Answered, with_sent}
 use Rattle.outside.specs.Outside.{Moment, DiskCall, LinkCall, QuietCall}
 use Rattle.outside.specs.Host.{SendsPart}
 use Rattle.outside.specs.Calls.{NoCall}
-use Rattle.outside.specs.Steps.{go_on_none}
+use Rattle.outside.proofs.CallSteps.{go_on_none}
 use Rattle.outside.specs.MemDisk.{Change, dialled, sent, answered, hosted, MemDiskValue, Makes, KeptFile, kept_after, both_kept, changed, files_of, links_after, link_changed, answers_after, answers_changed, with_call, bytes_each, calls_of}
 use Rattle.outside.specs.MemTold.{WasAt, was_now, files_at, kept_after-push, links_after-push}
 use Rattle.outside.specs.MemHost.{MemHostValue, Readings, links_of, IsWired, OnDisk, MakesDial, MakesSend, MakesAnswer, Replies}

@@ -8,3 +8,5 @@ pub mod HostCalls
 pub mod HostLinks
 pub mod ClockSteps
 pub mod CallCounts
+pub mod RunLaws
+pub mod CallSteps

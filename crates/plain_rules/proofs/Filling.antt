@@ -9,8 +9,8 @@ use Rattle.sync_rules.specs.Hearing.{Settles}
 use Rattle.plain_rules.specs.Settling.{AddsSettling, with_last}
 use Rattle.sync_rules.specs.declared.limits.TheConstants.{MAX_STEPS}
 use Rattle.sync_rules.specs.Left.{left_of}
-use Rattle.sync_rules.specs.LeftLaws.{steps_lower}
-use Rattle.sync_rules.specs.WorkLaws.{facts-push}
+use Rattle.sync_rules.proofs.LeftLaws.{steps_lower}
+use Rattle.sync_rules.proofs.WorkLaws.{facts-push}
 
 with_last-is : (old : List (List Entry)) (b : List Entry) (e : Entry) → with_last (old ++ b ∷ []) e ≡ old ++ (b ++ e ∷ []) ∷ []
 with_last-is [] b e = refl

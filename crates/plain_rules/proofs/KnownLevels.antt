@@ -11,8 +11,8 @@ use Rattle.sync_rules.specs.Facts.{Facts, Id, facts, group_at, level_at, is_invi
 use Rattle.sync_rules.specs.Scans.{level_then, last_level, last_level_in}
 use Rattle.plain_rules.specs.KnownLevels.{knows_level, all_entries}
 use Rattle.sync_rules.specs.Views.{KnowsShown}
-use Rattle.sync_rules.specs.Elements.{same_id-is}
-use Rattle.sync_rules.specs.ScanLaws.{level_found}
+use Rattle.sync_rules.proofs.Elements.{same_id-is}
+use Rattle.sync_rules.proofs.ScanLaws.{level_found}
 use Rattle.sync_rules.specs.Sessions.{is_welcome}
 
 module _ (f : Facts) (contact : ℕ) (group : Id) (seen : is_invisible (level_at f.levels contact group) ≡ false) where

@@ -12,7 +12,7 @@ use Rattle.sync_rules.specs.Facts.{Facts, Held, Id, after, after_all, after_batc
 use Rattle.sync_rules.specs.Sessions.{ids_where, first_id, owed_to, offers_of, send_of}
 use Rattle.plain_rules.specs.Lines.{line_of, lines_of, line_by, lines_in, lines_among, line_ids, line_place, is_line_owed, is_line_offered, is_line_sent}
 use Rattle.sync_rules.specs.Views.{place_of, IsPlace, IsFound, group_in, is_seen_in}
-use Rattle.sync_rules.specs.Elements.{same_id-is}
+use Rattle.sync_rules.proofs.Elements.{same_id-is}
 
 lines_of-push : (hs : List Held) (h : Held) → lines_of (hs ++ h ∷ []) ≡ lines_of hs ++ line_of h ∷ []
 lines_of-push [] h = refl

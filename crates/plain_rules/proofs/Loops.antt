@@ -2,8 +2,8 @@
 use Rattle.std.proofs.Common.{◌≡◌, ℕ, zero, suc, ◌+◌, ◌<◌, ◌≤◌, Bool, true, false, cond, List, [], ◌∷◌, ◌++◌, take, drop, get_or, length, add-one, refl, sym, ◌∙◌, ap, arith, append-nil}
 use Rattle.sync_rules.specs.declared.entries.Entry.{Entry}
 use Rattle.sync_rules.specs.Facts.{Facts, after, after_all, facts}
-use Rattle.sync_rules.specs.Kept.{after_all-append}
-use Rattle.sync_rules.specs.WorkLaws.{facts-push}
+use Rattle.sync_rules.proofs.Kept.{after_all-append}
+use Rattle.sync_rules.proofs.WorkLaws.{facts-push}
 
 -- a choice of the same
 pub same_conds : {A : Type 0} (a : Bool) (x : A) → x ≡ cond a x x

@@ -9,7 +9,7 @@ use Rattle.sync_rules.specs.declared.entries.Out.TheVariants as out
 use Rattle.sync_rules.specs.Lists.{same_id, is_among}
 use Rattle.sync_rules.specs.Facts.{Facts, Id, Row, after, after_all, nothing, contact_of, latency_of, row_at, row_or, no_row, pair_cmp, row_heard, row_seen, row_asked, row_acked, row_offered, row_sent}
 use Rattle.plain_rules.specs.Rows.{row_then}
-use Rattle.sync_rules.specs.RowLaws.{row_at_change, row_at_firsts}
+use Rattle.sync_rules.proofs.RowLaws.{row_at_change, row_at_firsts}
 use Rattle.plain_rules.proofs.Loops.{entries_more, same_conds}
 
 both_conds : {A : Type 0} (a b : Bool) (x y : A) → cond (a && b) x y ≡ cond a (cond b x y) y

@@ -6,7 +6,7 @@ use Rattle.sync_rules.specs.declared.entries.Session.{Session}
 use Rattle.sync_rules.specs.Facts.{Facts, after, after_all, after_batches, nothing, facts, session_at}
 use Rattle.sync_rules.specs.Scans.{first_of_two}
 use Rattle.plain_rules.specs.Sessions.{session_named, first_session, first_session_in}
-use Rattle.sync_rules.specs.ScanLaws.{first-none, first-assoc}
+use Rattle.sync_rules.proofs.ScanLaws.{first-none, first-assoc}
 
 session-push : (sessions : List Session) (x : Session) (n : ℕ)
     → session_at (sessions ++ x ∷ []) n ≡ first_of_two (session_at sessions n) (cond (nat_eq x.number n) (Some x) None)

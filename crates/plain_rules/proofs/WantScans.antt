@@ -11,9 +11,9 @@ use Rattle.sync_rules.specs.Lists.{same_id, is_among, without}
 use Rattle.sync_rules.specs.Facts.{Facts, Held, Id, after, after_all, nothing, facts, held_at, is_held, contact_of, ids_or, wanted_from, with_want, without_each}
 use Rattle.sync_rules.specs.Scans.{first_of_two, first_message, message_at}
 use Rattle.plain_rules.specs.Wants.{wanted_in, WantsAre, lines_without, want_then}
-use Rattle.sync_rules.specs.Elements.{same_id_swap}
-use Rattle.sync_rules.specs.PeerFacts.{want_changed, want_dropped}
-use Rattle.sync_rules.specs.ScanLaws.{held_after_all}
+use Rattle.sync_rules.proofs.Elements.{same_id_swap}
+use Rattle.sync_rules.proofs.PeerFacts.{want_changed, want_dropped}
+use Rattle.sync_rules.proofs.ScanLaws.{held_after_all}
 use Rattle.plain_rules.proofs.Loops.{batches_more, entries_more, same_conds}
 
 some_message : (o : Option Held) → is_some (message_at o) ≡ is_some o

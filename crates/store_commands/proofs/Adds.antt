@@ -5,14 +5,14 @@ use Rattle.outside.specs.Faults.{Rose}
 use Rattle.outside.specs.Files.{Two, File}
 use Rattle.outside.specs.Links.{Links, sent_of}
 use Rattle.outside.specs.Outside.{Outside, Moment, MomentsAre, DiskRun}
-use Rattle.outside.specs.Steps.{moments_map, moments_then, told_on}
+use Rattle.outside.proofs.CallSteps.{moments_map, moments_then, told_on}
 use Rattle.sync_rules.specs.declared.entries.Entry.{Entry}
 use Rattle.sync_rules.specs.Clients.{Meaning}
 use Rattle.sync_rules.specs.Facts.{Facts, facts, after_all, after_batches}
 use Rattle.sync_rules.specs.Legal.{Allowed, AllSettling}
 use Rattle.sync_rules.specs.Steps.{IsSettled}
-use Rattle.sync_rules.specs.Continuing.{facts-append}
-use Rattle.sync_rules.specs.Settling.{after_batches-append}
+use Rattle.sync_rules.proofs.Continuing.{facts-append}
+use Rattle.sync_rules.proofs.Settling.{after_batches-append}
 use Rattle.entry_codec.specs.Payloads.{journal_end, payload_len}
 use Rattle.entry_codec.specs.Standing.{journal, room_of}
 use Rattle.sync_store.specs.Commits.{needed}

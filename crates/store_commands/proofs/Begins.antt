@@ -5,7 +5,7 @@ use Rattle.outside.specs.Disk.{Becomes}
 use Rattle.outside.specs.Faults.{Rose}
 use Rattle.outside.specs.Files.{Two, File}
 use Rattle.outside.specs.Outside.{Outside, MomentsAre, DiskRun}
-use Rattle.outside.specs.Steps.{becomes_told}
+use Rattle.outside.proofs.CallSteps.{becomes_told}
 use Rattle.frame_journal.specs.Gates.{SyncsBoth}
 use Rattle.sync_store.specs.Begin.{Begins, InitMoment, IsAnswer}
 use Rattle.sync_store.specs.declared.fault.InitFault.TheVariants as init

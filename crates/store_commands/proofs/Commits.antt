@@ -4,7 +4,7 @@ use Rattle.std.proofs.lemmas.List.{ext_get_or}
 use Rattle.outside.specs.Files.{Two, File, IsFileImage, IsImage, NothingPending, read_files, settled}
 use Rattle.outside.specs.Links.{sent_of}
 use Rattle.outside.specs.Outside.{Outside, Moment, DiskRun}
-use Rattle.outside.specs.Steps.{moments_none, run_none}
+use Rattle.outside.proofs.CallSteps.{moments_none, run_none}
 use Rattle.outside.specs.Streams.{Stream, IsIdle}
 use Rattle.sync_rules.specs.declared.entries.Entry.{Entry}
 use Rattle.sync_rules.specs.Clients.{Meaning}

@@ -241,7 +241,7 @@ judged_follows clients f m (judgement.Accept deps share) e known new verdict is 
       | false ↦ λ served w. cc
     ] refl is
 
-message_follows : (clients : Meaning) (f : Facts) (m : MessageValue) (e : Entry) → message_plan clients f m ≡ adds e → MayAdd clients f e
+pub message_follows : (clients : Meaning) (f : Facts) (m : MessageValue) (e : Entry) → message_plan clients f m ≡ adds e → MayAdd clients f e
 message_follows clients f m e is =
     elim (is_some (group_at f.groups m.group)) as (λ b. is_some (group_at f.groups m.group) ≡ b → planned (λ (id : Id). entry.Author m) (if b
     then (if is_some (held_at f.held (message_id_of m)) then Err refused.AlreadyHeld else judged_answer f m (verdict_in clients f.groups m))

@@ -3,7 +3,7 @@ use Rattle.std.proofs.Common.{◌≡◌, ap, ◌∙◌, sym, Option, Some}
 use Rattle.outside.specs.Disk.{Becomes}
 use Rattle.outside.specs.Files.{Two, File, read_files}
 use Rattle.outside.specs.Outside.{Outside}
-use Rattle.outside.specs.Steps.{becomes_told}
+use Rattle.outside.proofs.CallSteps.{becomes_told}
 use Rattle.frame_journal.specs.Gates.{AnyImage, SyncsBoth}
 use Rattle.store_commands.specs.Show.{Rests}
 

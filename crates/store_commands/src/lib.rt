@@ -18,9 +18,11 @@ mod print;
 mod show;
 
 pub use commit::{Settling, settle};
-pub use entries::{add_contact, add_group, set_level};
+pub use entries::{add_contact, add_entry, add_group, set_level};
 pub use init::make_store;
 pub use listing::{Listing, add_listing};
 pub use load::load_store;
+pub use plans::{PlannedPost, plan_message};
 pub use post::post_message;
+pub use print::print_bytes;
 pub use show::{list, write_body};

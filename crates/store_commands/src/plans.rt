@@ -69,8 +69,8 @@ pub fn plan_post<C: Clients>(
     }
 }
 
-// A message within its limits.
-fn plan_message<C: Clients>(
+/// The message, within its limits, with its id.
+pub fn plan_message<C: Clients>(
     store: &Store,
     clients: &C,
     message: Message,

@@ -12,9 +12,9 @@ use Rattle.sync_course.specs.Events.{Event, batches_of}
 use Rattle.sync_course.specs.Paths.{Counts}
 use Rattle.sync_course.specs.LinkTurns.{Sends as Sending, Puts, Done, Spot, LinkStep, IsEnough, failed_spot, out_batch, out_spot}
 use Rattle.sync_course.specs.Turns.{Place, RunStep, Terms, with_spot}
-use Rattle.sync_course.specs.ToldLaws.{batches_of-append, runs_then}
-use Rattle.sync_course.specs.CallLaws.{runs_broken, runs_commits, runs_none, runs_out, runs_put, runs_quiet, runs_sent}
-use Rattle.sync_course.specs.LiftLaws.{runs_lifted}
+use Rattle.sync_course.proofs.ToldLaws.{batches_of-append, runs_then}
+use Rattle.sync_course.proofs.CallLaws.{runs_broken, runs_commits, runs_none, runs_out, runs_put, runs_quiet, runs_sent}
+use Rattle.sync_course.proofs.LiftLaws.{runs_lifted}
 
 -- one behind the other
 module _ {P : Type 0} (step : P → Event → P → Type 0) (Before Between After : List (List Entry) → Type 0) where

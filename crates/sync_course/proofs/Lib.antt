@@ -1,1 +1,16 @@
 pub mod Counted
+pub mod CallLaws
+pub mod EndLaws
+pub mod LiftLaws
+pub mod LinkLaws
+pub mod MoveLaws
+pub mod PathLaws
+pub mod QuietLaws
+pub mod SuitLaws
+pub mod ToldLaws
+pub mod CountLaws
+pub mod IdleLaws
+pub mod KeptLaws
+pub mod OutLaws
+pub mod ReadingLaws
+pub mod RunLaws

@@ -7,7 +7,7 @@ use Rattle.sync_rules.specs.declared.entries.Entry.{Entry}
 use Rattle.sync_rules.specs.declared.entries.Entry.TheVariants as entry
 use Rattle.sync_rules.specs.declared.entries.Session.{Session}
 use Rattle.sync_rules.specs.Clients.{Meaning}
-use Rattle.sync_rules.specs.Elements.{In}
+use Rattle.sync_rules.specs.Lists.{In}
 use Rattle.sync_rules.specs.Facts.{Facts, after_all, takes_of}
 use Rattle.sync_rules.specs.Legal.{IsSettlingBatch}
 use Rattle.sync_rules.specs.Sessions.{taken}

@@ -4,8 +4,9 @@ use Rattle.std.specs.List.{list_all}
 use Rattle.outside.specs.Files.{Two, File}
 use Rattle.outside.specs.Links.{Links, sent_of}
 use Rattle.outside.specs.Outside.{Outside}
-use Rattle.outside.specs.Runs.{IsFront, Told, answers_at, front_then}
-use Rattle.outside.specs.Steps.{moments_map}
+use Rattle.outside.specs.Runs.{IsFront, Told, answers_at}
+use Rattle.outside.proofs.RunLaws.{front_then}
+use Rattle.outside.proofs.CallSteps.{moments_map}
 use Rattle.record_grammar.specs.Spelling.{spelled}
 use Rattle.record_stream.specs.Reading.{ReadsOn, fresh}
 use Rattle.sync_ids.specs.declared.records.Record.{Record}
@@ -17,8 +18,8 @@ use Rattle.sync_rules.specs.Clients.{Meaning}
 use Rattle.sync_rules.specs.Facts.{Facts, after_all, facts, session_at, takes_of}
 use Rattle.sync_rules.specs.Growth.{is_silent, output_of}
 use Rattle.sync_rules.specs.Legal.{Allowed, AllSettling}
-use Rattle.sync_rules.specs.OutputLaws.{silent_adds_nothing}
-use Rattle.sync_rules.specs.StepKinds.{all_settling_only}
+use Rattle.sync_rules.proofs.OutputLaws.{silent_adds_nothing}
+use Rattle.sync_rules.proofs.StepKinds.{all_settling_only}
 use Rattle.sync_store.specs.Commits.{needed}
 use Rattle.sync_store.specs.Store.{StoreValue}
 use Rattle.sync_store.specs.Fitting.{Fits, FitsSome}

@@ -9,13 +9,14 @@ use Rattle.outside.specs.Files.{Two, File, read_files}
 use Rattle.outside.specs.Host.{AsksNonce, Dials}
 use Rattle.outside.specs.Links.{HeardOn, Link, Links, sent_of}
 use Rattle.outside.specs.Outside.{DiskRun, Moment, Outside, QuietCall}
-use Rattle.outside.specs.Runs.{IsFront, LinksGrow, Told, answers_at, front_same, grow_dial, grow_nonce, grow_same, others_dial, sent_at}
-use Rattle.outside.specs.Steps.{becomes_told}
+use Rattle.outside.specs.Runs.{IsFront, LinksGrow, Told, answers_at, sent_at}
+use Rattle.outside.proofs.RunLaws.{front_same, grow_dial, grow_nonce, grow_same, others_dial}
+use Rattle.outside.proofs.CallSteps.{becomes_told}
 use Rattle.record_grammar.specs.Laws.{FrontsHaveFronts}
 use Rattle.sync_rules.specs.declared.entries.Session.{Session}
 use Rattle.sync_rules.specs.Clients.{Meaning}
 use Rattle.sync_rules.specs.Facts.{Facts}
-use Rattle.sync_rules.specs.StepKinds.{all_settling_only}
+use Rattle.sync_rules.proofs.StepKinds.{all_settling_only}
 use Rattle.sync_store.specs.declared.fault.StoreFault.{StoreFault}
 use Rattle.sync_store.specs.Fitting.{Fits, ImagesStand}
 use Rattle.sync_store.specs.Loading.{StandsFor}

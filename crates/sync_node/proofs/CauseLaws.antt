@@ -10,7 +10,7 @@ use Rattle.record_grammar.specs.declared.stream.Ending.{Ending}
 use Rattle.record_grammar.specs.declared.stream.Ending.TheVariants as ending_kind
 use Rattle.sync_ids.specs.declared.records.Record.{Record}
 use Rattle.sync_ids.specs.declared.records.Record.TheVariants as record_kind
-use Rattle.sync_course.specs.LinkLaws.{contains_zero, zero_contained}
+use Rattle.sync_course.proofs.LinkLaws.{contains_zero, zero_contained}
 use Rattle.sync_course.specs.Links.{has_zero}
 use Rattle.sync_rules.specs.declared.entries.Session.{Session}
 use Rattle.sync_store.specs.Store.{StoreValue}

@@ -2,15 +2,16 @@
 use Rattle.std.proofs.Common.{◌≡◌, ℕ, ◌++◌, false, List, [], ◌∷◌, refl, sym, ◌∙◌, subst, inl, inr, Some, Result, Ok, Err, append-nil}
 use Rattle.outside.specs.Files.{Two, File}
 use Rattle.outside.specs.Outside.{Outside, DiskRun}
-use Rattle.outside.specs.Runs.{IsFront, Told, front_same}
+use Rattle.outside.specs.Runs.{IsFront, Told}
+use Rattle.outside.proofs.RunLaws.{front_same}
 use Rattle.record_grammar.specs.Laws.{FrontsHaveFronts}
 use Rattle.sync_rules.specs.declared.entries.Entry.{Entry}
 use Rattle.sync_rules.specs.declared.entries.Session.{Session}
 use Rattle.sync_rules.specs.Clients.{Meaning}
-use Rattle.sync_rules.specs.Continuing.{legal-append, legal-push}
+use Rattle.sync_rules.proofs.Continuing.{legal-append, legal-push}
 use Rattle.sync_rules.specs.Facts.{Facts, after_all, facts}
 use Rattle.sync_rules.specs.Legal.{Allowed, AllSettling, Legal}
-use Rattle.sync_rules.specs.WorkLaws.{settling_goes_on}
+use Rattle.sync_rules.proofs.WorkLaws.{settling_goes_on}
 use Rattle.entry_codec.specs.Standing.{journal}
 use Rattle.sync_store.specs.Store.{StoreValue}
 use Rattle.sync_store.specs.Commits as store_commits

@@ -5,11 +5,11 @@ use Rattle.std.proofs.lemmas.Bool.{cases_eq, ne_eqb}
 use Rattle.outside.specs.Outside.{Outside}
 use Rattle.sync_rules.specs.Clients.{Meaning}
 use Rattle.sync_store.specs.Store.{StoreValue}
-use Rattle.sync_course.specs.LiftLaws.{get_set, get_within, runs_turn, runs_turn_ended}
+use Rattle.sync_course.proofs.LiftLaws.{get_set, get_within, runs_turn, runs_turn_ended}
 use Rattle.sync_course.specs.Links as course_links
 use Rattle.sync_course.specs.Links.{without_redundant}
 use Rattle.sync_course.specs.LinkTurns.{Asks, Done, Sends}
-use Rattle.sync_course.specs.ToldLaws.{runs_then}
+use Rattle.sync_course.proofs.ToldLaws.{runs_then}
 use Rattle.sync_course.specs.Turns.{Between, Place, RunStep, Terms, Works, is_at_end, turn_ended}
 use Rattle.sync_course.specs.declared.TheConstants.{MAX_OUTPUTS}
 use Rattle.sync_node.specs.declared.link.Link.{Link}

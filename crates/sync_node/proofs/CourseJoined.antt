@@ -7,7 +7,8 @@ use Rattle.record_grammar.specs.Stream.{items}
 use Rattle.sync_rules.specs.Clients.{Meaning}
 use Rattle.sync_rules.specs.Facts.{Facts}
 use Rattle.sync_store.specs.Store.{StoreValue}
-use Rattle.sync_course.specs.ReadingLaws.{IsReading, none_come}
+use Rattle.sync_course.specs.Reading.{IsReading}
+use Rattle.sync_course.proofs.ReadingLaws.{none_come}
 use Rattle.sync_node.specs.declared.link.Link.{Link}
 use Rattle.sync_node.specs.Courses.{AllRead}
 use Rattle.sync_node.specs.Joined.{Joined}

@@ -7,8 +7,9 @@ use Rattle.std.specs.declared.cmp.Ordering.TheVariants as ordering
 use Rattle.std.specs.Prelude.{nat_lt, slice_get, slice_set}
 use Rattle.sync_course.specs.Links as course_links
 use Rattle.sync_course.specs.Links.{beats, is_beaten, is_before, is_going, is_kept, without_redundant}
-use Rattle.sync_course.specs.KeptLaws.{closed_upto, closed_whole, closes_next}
-use Rattle.sync_course.specs.LiftLaws.{set_same}
+use Rattle.sync_course.specs.Redundant.{closed_upto}
+use Rattle.sync_course.proofs.KeptLaws.{closed_whole, closes_next}
+use Rattle.sync_course.proofs.LiftLaws.{set_same}
 use Rattle.sync_node.specs.declared.link.Link.{Link}
 use Rattle.sync_course.specs.declared.ends.LinkEnd.{LinkEnd}
 use Rattle.sync_course.specs.declared.ends.LinkEnd.TheVariants as link_end

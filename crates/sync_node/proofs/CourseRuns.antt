@@ -6,13 +6,13 @@ use Rattle.outside.specs.Outside.{Outside}
 use Rattle.sync_rules.specs.Clients.{Meaning}
 use Rattle.sync_rules.specs.Facts.{Facts}
 use Rattle.sync_store.specs.Store.{StoreValue}
-use Rattle.sync_course.specs.CallLaws.{runs_none}
+use Rattle.sync_course.proofs.CallLaws.{runs_none}
 use Rattle.sync_course.specs.Events.{Commit}
-use Rattle.sync_course.specs.PathLaws.{path_one}
-use Rattle.sync_course.specs.LiftLaws.{get_other, get_set, get_within, lifted_step, link_lifts, runs_lifted, runs_next, set_same}
+use Rattle.sync_course.proofs.PathLaws.{path_one}
+use Rattle.sync_course.proofs.LiftLaws.{get_other, get_set, get_within, lifted_step, link_lifts, runs_lifted, runs_next, set_same}
 use Rattle.sync_course.specs.Links as course_links
 use Rattle.sync_course.specs.LinkTurns.{Asks, Doing, Done, LinkStep, Spot}
-use Rattle.sync_course.specs.ToldLaws.{runs_then}
+use Rattle.sync_course.proofs.ToldLaws.{runs_then}
 use Rattle.sync_course.proofs.Counted.{counted_lifted}
 use Rattle.sync_course.specs.Turns.{Place, RunStep, Terms, Works, with_spot}
 use Rattle.sync_node.specs.declared.link.Link.{Link}

@@ -8,24 +8,25 @@ use Rattle.record_stream.specs.Reading.{AwaitsBytes, ReaderState, fresh}
 use Rattle.sync_rules.specs.Clients.{Meaning}
 use Rattle.sync_rules.specs.Facts.{Facts, after_all, facts, session_at}
 use Rattle.sync_rules.specs.Legal.{Allowed, Legal}
-use Rattle.sync_rules.specs.SessionLaws.{legal_sessions}
+use Rattle.sync_rules.proofs.SessionLaws.{legal_sessions}
 use Rattle.sync_rules.specs.declared.entries.Entry.{Entry}
 use Rattle.sync_rules.specs.declared.entries.Session.{Session}
 use Rattle.sync_store.specs.Ready.{IsReady}
 use Rattle.sync_store.specs.Store.{StoreValue}
-use Rattle.sync_course.specs.CallLaws.{runs_commits, runs_none}
+use Rattle.sync_course.proofs.CallLaws.{runs_commits, runs_none}
 use Rattle.sync_course.specs.Events.{Break, Told}
-use Rattle.sync_course.specs.LiftLaws.{runs_attached, runs_greeted, runs_ungreeted}
+use Rattle.sync_course.proofs.LiftLaws.{runs_attached, runs_greeted, runs_ungreeted}
 use Rattle.sync_course.specs.Links as course_links
 use Rattle.sync_course.specs.Links.{link_of}
-use Rattle.sync_course.specs.ReadingLaws.{HasRead, fresh_has_read}
-use Rattle.sync_course.specs.RunLaws.{get_push_cases}
-use Rattle.sync_course.specs.ToldLaws.{runs_then, told_broken, told_greeted, told_sent, told_ungreeted}
+use Rattle.sync_course.specs.Reading.{HasRead}
+use Rattle.sync_course.proofs.ReadingLaws.{fresh_has_read}
+use Rattle.sync_course.proofs.RunLaws.{get_push_cases}
+use Rattle.sync_course.proofs.ToldLaws.{runs_then, told_broken, told_greeted, told_sent, told_ungreeted}
 use Rattle.sync_course.specs.Turns.{Attaches, Greets, Place, RunStep, Terms}
 use Rattle.sync_node.specs.declared.link.Link.{Link}
 use Rattle.sync_course.specs.declared.ends.LinkEnd.{LinkEnd}
 use Rattle.sync_course.specs.declared.ends.LinkEnd.TheVariants as link_end
-use Rattle.sync_node.specs.CourseLaws.{fits_on}
+use Rattle.sync_node.proofs.CourseLaws.{fits_on}
 use Rattle.sync_node.proofs.CourseTakes.{full_here, none_or_one}
 use Rattle.sync_node.specs.Fulls.{FullBeginning, FullStart, IsOver}
 use Rattle.sync_node.specs.Stops.{StaysSame}

@@ -32,23 +32,24 @@ use Rattle.record_stream.specs.Pieces.{ReadingsFollow}
 use Rattle.record_stream.specs.Reading.{AwaitsBytes, EndsBad, ReadsOn}
 use Rattle.sync_ids.specs.declared.records.Record.TheVariants as record_kind
 use Rattle.sync_rules.specs.Steps.{IsSettled}
-use Rattle.sync_course.specs.CallLaws.{runs_commits, runs_none, runs_passed, runs_settled, runs_taken}
-use Rattle.sync_course.specs.LinkLaws.{contains_zero, zero_contained}
+use Rattle.sync_course.proofs.CallLaws.{runs_commits, runs_none, runs_passed, runs_settled, runs_taken}
+use Rattle.sync_course.proofs.LinkLaws.{contains_zero, zero_contained}
 use Rattle.sync_course.specs.Links as course_links
 use Rattle.sync_course.specs.Links.{closes, has_zero, items_after, link_after, nonce_after, stands_behind}
 use Rattle.sync_course.specs.Events.{Commit, Event}
 use Rattle.sync_course.specs.Paths.{Runs}
 use Rattle.sync_course.specs.LinkTurns.{Doing, LinkStep, Spot, StepOf, Takes, Waits, all_taken_spot, next_take, taken_spot}
-use Rattle.sync_course.specs.ReadingLaws.{HasRead, IsReading, answer_comes, closes_behind_bad, goes_on_behind_more, none_come}
+use Rattle.sync_course.specs.Reading.{HasRead, IsReading}
+use Rattle.sync_course.proofs.ReadingLaws.{answer_comes, closes_behind_bad, goes_on_behind_more, none_come}
 use Rattle.sync_node.specs.declared.link.Link.{Link}
 use Rattle.sync_course.specs.declared.ends.LinkEnd.{LinkEnd}
 use Rattle.sync_course.specs.declared.ends.LinkEnd.TheVariants as link_end
 use Rattle.sync_node.specs.Hearing.{ClosesBy, Learns, nonce_with}
-use Rattle.sync_course.specs.ToldLaws.{runs_then}
+use Rattle.sync_course.proofs.ToldLaws.{runs_then}
 use Rattle.sync_course.specs.Turns.{Place, RunStep, Terms}
 use Rattle.sync_node.specs.Fulls.{IsOver, LinkFull, NextFull, RunFullSent, StopsFull, TakesFull}
 use Rattle.sync_node.specs.Courses.{Adds, AddsSettling, AddsSome, AddsSomeSettling, FitsWith, IsTaking, LinkHalts, LinkRuns, NextAsCourse, NextStops, PieceAsCourse, PieceTaken, ReadsAs, RunRuns, StopsAsCourse, TakesAsCourse, link_at, spot_at}
-use Rattle.sync_node.specs.CourseLaws.{told_as}
+use Rattle.sync_node.proofs.CourseLaws.{told_as}
 use Rattle.sync_node.proofs.CommitLaws.{settling_front}
 
 -- a call was broken off before anything was done, and the link stands as it did

@@ -21,18 +21,19 @@ use Rattle.sync_rules.specs.Legal.{Allowed}
 use Rattle.journal_state.specs.Allowing.{due_of}
 use Rattle.sync_store.specs.Store.{StoreValue}
 use Rattle.sync_course.specs.declared.TheConstants.{MAX_OUTPUTS, PIECE_LEN}
-use Rattle.sync_course.specs.CallLaws.{runs_asked, runs_closed, runs_commits, runs_none, runs_out, runs_read, runs_unasked}
+use Rattle.sync_course.proofs.CallLaws.{runs_asked, runs_closed, runs_commits, runs_none, runs_out, runs_read, runs_unasked}
 use Rattle.sync_course.specs.Links.{is_going, is_sent_to, new_items, stands_ended}
 use Rattle.sync_course.specs.LinkTurns.{Asks, Doing, Done, IsEnough, IsNothingDue, LinkStep, Puts, Sends, Spot, Takes, Waits, out_batch, out_spot}
-use Rattle.sync_course.specs.ReadingLaws.{HasRead, IsReading, ends_as, piece_comes}
-use Rattle.sync_course.specs.ToldLaws.{runs_then}
+use Rattle.sync_course.specs.Reading.{HasRead, IsReading}
+use Rattle.sync_course.proofs.ReadingLaws.{ends_as, piece_comes}
+use Rattle.sync_course.proofs.ToldLaws.{runs_then}
 use Rattle.sync_course.proofs.Counted.{counted_broken, counted_none, counted_out, counted_put, counted_sent, counted_then}
 use Rattle.sync_node.specs.declared.link.Link.{Link}
 use Rattle.sync_course.specs.declared.ends.LinkEnd.{LinkEnd}
 use Rattle.sync_course.specs.declared.ends.LinkEnd.TheVariants as link_end
 use Rattle.sync_node.specs.Ends.{MaySend}
 use Rattle.sync_node.specs.Sending.{EndsBy, SendsOn}
-use Rattle.sync_node.specs.CourseLaws.{fits_on}
+use Rattle.sync_node.proofs.CourseLaws.{fits_on}
 use Rattle.sync_node.proofs.CourseTakes.{full_here, full_then, halts_behind, halts_none, none_or_one}
 use Rattle.sync_node.specs.Fulls.{HearsFull, IsOver, LinkFull, NextFull, PutsFull, SendsFull, SentFull}
 use Rattle.sync_node.specs.Courses.{Adds, AddsSome, FitsWith, GoesOnSending, HearsAsCourse, HearsStops, IsRead, IsReadyToSend, LinkCounts, LinkHalts, LinkRuns, NextStops, OutsAsCourse, OutsTo, PieceTaken, PutsAsCourse, PutsStop, ReadsAs, SendsAsCourse, SendsStop, SentAsCourse, SentStops, TurnAsCourse, link_at, spot_at}

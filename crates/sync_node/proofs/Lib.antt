@@ -24,3 +24,4 @@ mod CourseNode
 mod CourseStart
 mod Undone
 pub mod Halts
+pub mod CourseLaws

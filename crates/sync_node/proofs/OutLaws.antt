@@ -6,7 +6,8 @@ use Rattle.outside.specs.Files.{Two, File}
 use Rattle.outside.specs.Host.{Sends, SendsPart}
 use Rattle.outside.specs.Links.{Links}
 use Rattle.outside.specs.Outside.{Outside, LinkCall}
-use Rattle.outside.specs.Runs.{IsFront, Told, answers_at, front_same, grow_send, heard_bytes, others_same, others_send, others_then, sent_here, went_out}
+use Rattle.outside.specs.Runs.{IsFront, Told, answers_at, heard_bytes}
+use Rattle.outside.proofs.RunLaws.{front_same, grow_send, others_same, others_send, others_then, sent_here, went_out}
 use Rattle.record_grammar.specs.Laws.{FrontsHaveFronts}
 use Rattle.record_grammar.specs.Spelling.{spelled}
 use Rattle.record_stream.specs.Reading.{AwaitsBytes, ReadsOn, fresh}
@@ -20,7 +21,7 @@ use Rattle.sync_rules.specs.Facts.{Facts, facts, session_at, takes_of}
 use Rattle.sync_rules.specs.Growth.{output_of}
 use Rattle.sync_rules.specs.Legal.{Legal}
 use Rattle.sync_rules.specs.Output.{records_of}
-use Rattle.sync_rules.specs.StepKinds.{settled_stays}
+use Rattle.sync_rules.proofs.StepKinds.{settled_stays}
 use Rattle.sync_rules.specs.Steps.{IsSettled}
 use Rattle.entry_codec.specs.Standing.{room_of}
 use Rattle.outside.specs.declared.limits.TheConstants.{MAX_JOURNAL}

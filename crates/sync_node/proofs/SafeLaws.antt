@@ -8,8 +8,9 @@ use Rattle.outside.specs.Files.{Two, File, read_files}
 use Rattle.outside.specs.Host.{Sends, SendsPart}
 use Rattle.outside.specs.Links.{Link, Links, sent_of, with_sent}
 use Rattle.outside.specs.Outside.{Outside, Moment, DiskRun, LinkCall, QuietCall}
-use Rattle.outside.specs.Runs.{IsFront, LinksGrow, Told, front_bytes, front_same, front_then, grow_same, grow_send, others_send, quiet_moments, send_moments, sent_at, went_out, sent_at-with_sent}
-use Rattle.outside.specs.Steps.{calls_link, calls_none}
+use Rattle.outside.specs.Runs.{IsFront, LinksGrow, Told, sent_at}
+use Rattle.outside.proofs.RunLaws.{front_bytes, front_same, front_then, grow_same, grow_send, others_send, quiet_moments, send_moments, went_out, sent_at-with_sent}
+use Rattle.outside.proofs.CallSteps.{calls_link, calls_none}
 use Rattle.record_grammar.specs.Laws.{FrontsHaveFronts}
 use Rattle.sync_rules.specs.declared.entries.Session.{Session}
 use Rattle.sync_rules.specs.Clients.{Meaning}

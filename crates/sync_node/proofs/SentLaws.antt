@@ -6,7 +6,7 @@ use Rattle.outside.specs.Links.{Links}
 use Rattle.outside.specs.Outside.{Outside}
 use Rattle.sync_rules.specs.Clients.{Meaning}
 use Rattle.sync_store.specs.Store.{StoreValue}
-use Rattle.sync_course.specs.LiftLaws.{get_other}
+use Rattle.sync_course.proofs.LiftLaws.{get_other}
 use Rattle.sync_course.specs.Links as course_links
 use Rattle.sync_course.specs.declared.ends.LinkEnd.TheVariants as link_end
 use Rattle.sync_node.specs.declared.link.Link.{Link}

@@ -7,7 +7,8 @@ use Rattle.outside.specs.Files.{Two, File}
 use Rattle.outside.specs.Host.{Sends}
 use Rattle.outside.specs.Links.{Links}
 use Rattle.outside.specs.Outside.{Outside}
-use Rattle.outside.specs.Runs.{IsFront, Told, answers_at, front_same, front_then, heard_bytes, others_same, others_send, others_then, sent_here}
+use Rattle.outside.specs.Runs.{IsFront, Told, answers_at, heard_bytes}
+use Rattle.outside.proofs.RunLaws.{front_same, front_then, others_same, others_send, others_then, sent_here}
 use Rattle.record_grammar.specs.Laws.{FrontsHaveFronts}
 use Rattle.record_grammar.specs.Spelling.{spelled, spelling}
 use Rattle.record_grammar.specs.Stream.{records_of}
@@ -23,9 +24,9 @@ use Rattle.sync_rules.specs.Facts.{Facts, facts, session_at, takes_of}
 use Rattle.sync_rules.specs.Growth.{output_of}
 use Rattle.sync_rules.specs.Legal.{Allowed, Legal}
 use Rattle.sync_rules.specs.Output.{first_records, nonce_record, sent}
-use Rattle.sync_rules.specs.OutputLaws.{sent_begins}
-use Rattle.sync_rules.specs.SessionLaws.{legal_sessions}
-use Rattle.sync_rules.specs.StepKinds.{settled_stays}
+use Rattle.sync_rules.proofs.OutputLaws.{sent_begins}
+use Rattle.sync_rules.proofs.SessionLaws.{legal_sessions}
+use Rattle.sync_rules.proofs.StepKinds.{settled_stays}
 use Rattle.sync_rules.specs.Steps.{IsSettled}
 use Rattle.entry_codec.specs.Standing.{room_of}
 use Rattle.outside.specs.declared.limits.TheConstants.{MAX_JOURNAL}

@@ -6,7 +6,7 @@ use Rattle.outside.specs.Faults.{Rose}
 use Rattle.outside.specs.Files.{Two, File}
 use Rattle.outside.specs.Links.{Links}
 use Rattle.outside.specs.Outside.{DiskRun, Outside}
-use Rattle.outside.specs.Runs.{others_same, others_then}
+use Rattle.outside.proofs.RunLaws.{others_same, others_then}
 use Rattle.sync_rules.specs.declared.entries.Entry.{Entry}
 use Rattle.sync_rules.specs.declared.entries.Session.{Session}
 use Rattle.sync_rules.specs.Clients.{Meaning}

@@ -2,7 +2,8 @@
 -- is heard, and where more sessions are planned.
 use Rattle.std.proofs.Common.{◌≡◌, ℕ, ◌+◌, List, [], ◌∷◌, ◌++◌, ap, ◌∙◌, subst, inl, inr, append_assoc}
 use Rattle.std.proofs.lemmas.Grind.{flat_map-append}
-use Rattle.outside.specs.Runs.{IsFront, front_then}
+use Rattle.outside.specs.Runs.{IsFront}
+use Rattle.outside.proofs.RunLaws.{front_then}
 use Rattle.sync_ids.specs.declared.records.Record.{Record}
 use Rattle.record_grammar.specs.Laws.{FrontsHaveFronts}
 use Rattle.record_grammar.specs.Spelling.{spelling, spelled}
@@ -11,12 +12,12 @@ use Rattle.sync_rules.specs.declared.entries.Entry.{Entry}
 use Rattle.sync_rules.specs.declared.entries.Entry.TheVariants as entry
 use Rattle.sync_rules.specs.declared.entries.Session.{Session}
 use Rattle.sync_rules.specs.Clients.{Meaning}
-use Rattle.sync_rules.specs.Continuing.{facts-append}
+use Rattle.sync_rules.proofs.Continuing.{facts-append}
 use Rattle.sync_rules.specs.Facts.{Facts, after_all, after_batches, facts}
 use Rattle.sync_rules.specs.Growth.{output_of}
 use Rattle.sync_rules.specs.Legal.{AllSettling, Legal}
 use Rattle.sync_rules.specs.Output.{sent}
-use Rattle.sync_rules.specs.OutputLaws.{sent_append}
+use Rattle.sync_rules.proofs.OutputLaws.{sent_append}
 use Rattle.sync_node.specs.Output.{AreOutput, Journal, output}
 use Rattle.sync_node.specs.Suits.{AllSuit, IsOfRun, Suits, SuitsRun}
 use Rattle.sync_node.proofs.Fronts.{front_get}

@@ -5,7 +5,8 @@ use Rattle.std.proofs.lemmas.Bool.{ne_eqb}
 use Rattle.std.proofs.lemmas.List.{length-append}
 use Rattle.outside.specs.Links.{Links}
 use Rattle.outside.specs.Outside.{Outside}
-use Rattle.outside.specs.Runs.{Told, front_same, others_same}
+use Rattle.outside.specs.Runs.{Told}
+use Rattle.outside.proofs.RunLaws.{front_same, others_same}
 use Rattle.record_grammar.specs.Laws.{RecordsJoin}
 use Rattle.record_grammar.specs.Spelling.{spelled}
 use Rattle.record_grammar.specs.Stream.{items, records, records_of}
@@ -24,8 +25,8 @@ use Rattle.sync_rules.specs.Clients.{Meaning}
 use Rattle.sync_rules.specs.Facts.{Facts, after_all, after_batches, contact_in, contact_of, facts, session_at, takes_of}
 use Rattle.sync_rules.specs.Growth.{OnlySettles, TakesOne, output_of}
 use Rattle.sync_rules.specs.Legal.{Allowed, AllSettling}
-use Rattle.sync_rules.specs.OutputLaws.{settling_silent, silent_adds_nothing, take_silent}
-use Rattle.sync_rules.specs.StepKinds.{all_settling_only, takes_one}
+use Rattle.sync_rules.proofs.OutputLaws.{settling_silent, silent_adds_nothing, take_silent}
+use Rattle.sync_rules.proofs.StepKinds.{all_settling_only, takes_one}
 use Rattle.sync_rules.specs.Sessions.{taken_from}
 use Rattle.sync_store.specs.Store.{StoreValue}
 use Rattle.sync_store.specs.Fitting.{Fits}

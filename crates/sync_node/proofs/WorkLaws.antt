@@ -8,8 +8,9 @@ use Rattle.outside.specs.Files.{Two, File}
 use Rattle.outside.specs.Host.{Hears, ReadsClock}
 use Rattle.outside.specs.Links.{Answered, HeardOn}
 use Rattle.outside.specs.Outside.{Outside, Moment, LinkCall, QuietCall}
-use Rattle.outside.specs.Steps.{calls_then, told_on}
-use Rattle.outside.specs.Runs.{LinksGrow, OthersKeep, Told, answered_by, answers_at, grow_hear, grow_read, grow_then, heard_at, heard_bytes, heard_here, others_hear, others_read, others_same, others_then, reply_bytes, sent_at}
+use Rattle.outside.proofs.CallSteps.{calls_then, told_on}
+use Rattle.outside.specs.Runs.{LinksGrow, OthersKeep, Told, answered_by, answers_at, heard_at, heard_bytes, reply_bytes, sent_at}
+use Rattle.outside.proofs.RunLaws.{grow_hear, grow_read, grow_then, heard_here, others_hear, others_read, others_same, others_then}
 use Rattle.record_grammar.specs.Laws.{FrontsHaveFronts}
 use Rattle.record_stream.specs.Pieces.{ReadingsWiden}
 use Rattle.record_stream.specs.Reading.{ReadsOn, fresh}

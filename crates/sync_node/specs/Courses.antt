@@ -18,7 +18,7 @@ use Rattle.sync_rules.specs.Facts.{Facts, after_batches}
 use Rattle.sync_course.specs.Links as course_links
 use Rattle.sync_course.specs.Links.{is_going, is_kept, is_sent_to, items_after, link_after}
 use Rattle.sync_course.specs.declared.TheConstants.{MAX_OUTPUTS}
-use Rattle.sync_course.specs.ReadingLaws.{HasRead, IsReading}
+use Rattle.sync_course.specs.Reading.{HasRead, IsReading}
 use Rattle.sync_node.specs.declared.link.Link.{Link}
 use Rattle.sync_course.specs.declared.ends.LinkEnd.{LinkEnd}
 use Rattle.sync_course.specs.declared.ends.LinkEnd.TheVariants as link_end

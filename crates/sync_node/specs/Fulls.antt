@@ -15,7 +15,7 @@ use Rattle.sync_course.specs.Links as course_links
 use Rattle.sync_course.specs.Links.{is_sent_to}
 use Rattle.sync_course.specs.LinkTurns.{Asks, Doing, LinkStep, Sends, Spot, Takes}
 use Rattle.sync_course.specs.Paths.{Runs}
-use Rattle.sync_course.specs.ReadingLaws.{IsReading}
+use Rattle.sync_course.specs.Reading.{IsReading}
 use Rattle.sync_course.specs.Turns.{Attaches, Between, Place, RunStep, Terms, Works, is_at_end}
 use Rattle.sync_course.specs.declared.TheConstants.{MAX_OUTPUTS}
 use Rattle.sync_course.specs.declared.ends.LinkEnd.TheVariants as link_end

@@ -21,4 +21,3 @@ pub mod Plans
 pub mod Cited
 pub mod Courses
 pub mod Fulls
-pub mod CourseLaws

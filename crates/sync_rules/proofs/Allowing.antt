@@ -16,11 +16,11 @@ use Rattle.sync_rules.specs.Facts.{Facts, group_at, held_at, session_at, takes_o
 use Rattle.sync_rules.specs.Steps.{IsSettled, next, kind_of_def, verdict_in}
 use Rattle.sync_rules.specs.Sessions.{due}
 use Rattle.sync_rules.specs.Legal.{Allowed, IsDue, IsSettling, IsSettlingBatch, MayAddGroup, MayAuthor, MayBegin, MayTake, accepts_served, suits_nonce}
-use Rattle.sync_rules.specs.StepLaws.{IsSettlingEntry, next_is_settling}
+use Rattle.sync_rules.proofs.StepLaws.{IsSettlingEntry, next_is_settling}
 use Rattle.sync_rules.specs.Allows.{allows, alone, gives, is_due, is_empty, is_settled, is_settling, is_some_of, may_add_group, may_author, may_begin, may_take, read_as, same_entry, settles}
 use Rattle.sync_rules.proofs.SameEntries.{both_decide, same_entry-is, some_out-Decides}
 use Rattle.sync_rules.proofs.TakenBack.{WholeIds, gives_some, some_gives}
-use Rattle.sync_rules.specs.Elements.{same_id_itself}
+use Rattle.sync_rules.proofs.Elements.{same_id_itself}
 
 itself : (b : Bool) → Decides b (b ≡ true)
 itself b = (λ h. h, λ h. h)

@@ -6,9 +6,10 @@ use Rattle.sync_rules.specs.Clients.{Meaning}
 use Rattle.sync_rules.specs.Facts.{Facts, Held, after, after_all, nothing, facts, entries_of, contact_of, authored, arrived}
 use Rattle.sync_rules.specs.Legal.{Legal}
 use Rattle.sync_rules.specs.Laws.{HasOrigin}
-use Rattle.sync_rules.specs.Elements.{In, In-push_cases}
-use Rattle.sync_rules.specs.Kept.{Fits, AllFit, MayArrive, after_batches-is}
-use Rattle.sync_rules.specs.Runs.{legal_fits}
+use Rattle.sync_rules.specs.Lists.{In}
+use Rattle.sync_rules.proofs.Elements.{In-push_cases}
+use Rattle.sync_rules.proofs.Kept.{Fits, AllFit, MayArrive, after_batches-is}
+use Rattle.sync_rules.proofs.Runs.{legal_fits}
 
 -- what an entry brings to these facts
 abbrev Brings : Facts → Entry → Held → Type 0

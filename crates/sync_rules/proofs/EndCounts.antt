@@ -11,11 +11,11 @@ use Rattle.sync_rules.specs.Rounds.{bad, good, graph_of}
 use Rattle.sync_rules.specs.Legal.{Legal}
 use Rattle.sync_rules.specs.Consistency.{IsConsistent, ids_of_held}
 use Rattle.sync_rules.specs.Knowing.{CountsEnds}
-use Rattle.sync_rules.specs.Elements.{same_id-is, same_id_itself, same_id_swap, tally, tally-is}
-use Rattle.sync_rules.specs.Sound.{SoundFacts}
-use Rattle.sync_rules.specs.Runs.{legal_sound}
-use Rattle.sync_rules.specs.Settling.{bad_if_invalid, bad_is_invalid, good_if_delivered, good_is_delivered}
-use Rattle.sync_rules.specs.ConsistencyLaws.{legal_consistent}
+use Rattle.sync_rules.proofs.Elements.{same_id-is, same_id_itself, same_id_swap, tally, tally-is}
+use Rattle.sync_rules.proofs.Sound.{SoundFacts}
+use Rattle.sync_rules.proofs.Runs.{legal_sound}
+use Rattle.sync_rules.proofs.Settling.{bad_if_invalid, bad_is_invalid, good_if_delivered, good_is_delivered}
+use Rattle.sync_rules.proofs.ConsistencyLaws.{legal_consistent}
 
 -- ---- counts
 

@@ -12,9 +12,9 @@ use Rattle.sync_rules.specs.Facts.{Facts, Held, after, facts, group_at, known_of
 use Rattle.sync_rules.specs.Steps.{first_or_next, first_step, step, step_by}
 use Rattle.sync_rules.specs.Legal.{Legal}
 use Rattle.sync_rules.specs.Knowing.{GroupsLeaveSettled, KnowsGroups}
-use Rattle.sync_rules.specs.Elements.{In}
-use Rattle.sync_rules.specs.Sound.{SoundFacts, verdict_stays}
-use Rattle.sync_rules.specs.Runs.{legal_sound}
+use Rattle.sync_rules.specs.Lists.{In}
+use Rattle.sync_rules.proofs.Sound.{SoundFacts, verdict_stays}
+use Rattle.sync_rules.proofs.Runs.{legal_sound}
 
 all_from : {A : Type 0} (test : A → Bool) (xs : List A) → ((x : A) → In x xs → test x ≡ true) → list_all test xs ≡ true
 all_from test [] each = refl

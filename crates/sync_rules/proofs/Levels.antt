@@ -9,11 +9,11 @@ use Rattle.sync_rules.specs.Lists.{same_id}
 use Rattle.sync_rules.specs.Facts.{Facts, Id, after, after_all, nothing, facts, entries_of, group_at, level_at, is_invisible, known_of}
 use Rattle.sync_rules.specs.Legal.{Legal}
 use Rattle.sync_rules.specs.Views.{KnowsShown}
-use Rattle.sync_rules.specs.Elements.{same_id-is}
-use Rattle.sync_rules.specs.Sound.{group_at-push}
-use Rattle.sync_rules.specs.Kept.{Fits, AllFit, after_batches-is}
-use Rattle.sync_rules.specs.Runs.{legal_fits}
-use Rattle.sync_rules.specs.ScanLaws.{level_at_set, level_found}
+use Rattle.sync_rules.proofs.Elements.{same_id-is}
+use Rattle.sync_rules.proofs.Sound.{group_at-push}
+use Rattle.sync_rules.proofs.Kept.{Fits, AllFit, after_batches-is}
+use Rattle.sync_rules.proofs.Runs.{legal_fits}
+use Rattle.sync_rules.proofs.ScanLaws.{level_at_set, level_found}
 
 -- ---- legal journals
 

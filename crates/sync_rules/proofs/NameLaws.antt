@@ -18,11 +18,11 @@ use Rattle.sync_rules.specs.Legal.{Allowed, IsSettling, Legal}
 use Rattle.sync_rules.specs.Growth.{IsStepOf}
 use Rattle.sync_rules.specs.Output.{NamesTheOpen}
 use Rattle.sync_rules.specs.Knowing.{NamesHeld, held_named, held_names}
-use Rattle.sync_rules.specs.Elements.{same_id_itself}
-use Rattle.sync_rules.specs.Sound.{SoundFacts}
-use Rattle.sync_rules.specs.Runs.{legal_sound}
-use Rattle.sync_rules.specs.Outputs.{out_named}
-use Rattle.sync_rules.specs.StepKinds.{next_is_step, settling_only}
+use Rattle.sync_rules.proofs.Elements.{same_id_itself}
+use Rattle.sync_rules.proofs.Sound.{SoundFacts}
+use Rattle.sync_rules.proofs.Runs.{legal_sound}
+use Rattle.sync_rules.proofs.Outputs.{out_named}
+use Rattle.sync_rules.proofs.StepKinds.{next_is_step, settling_only}
 
 -- the names of an entry are held in this list
 abbrev are_held : List Held → Entry → Bool

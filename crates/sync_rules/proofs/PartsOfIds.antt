@@ -4,7 +4,7 @@ use Rattle.std.proofs.lemmas.Bool.{or_cases, or_left, or_right, or_parts, falseâ
 use Rattle.sync_ids.specs.Values.{AreIds}
 use Rattle.sync_rules.specs.Lists.{same_id, is_among, has_repeat, firsts, firsts_after, unless_among}
 use Rattle.sync_rules.specs.Facts.{Id}
-use Rattle.sync_rules.specs.Elements.{same_id-is, same_id_itself}
+use Rattle.sync_rules.proofs.Elements.{same_id-is, same_id_itself}
 
 -- what is kept of a list of ids by taking a part of it
 pub record IsPart (part all : List Id) : Type 0 where

@@ -16,9 +16,9 @@ use Rattle.sync_rules.specs.Sessions.{is_remembered, is_shown, is_welcome, one_i
 use Rattle.sync_rules.specs.PeerLaws.{is_shown_seen}
 use Rattle.sync_rules.specs.Growth.{leaves_steps}
 use Rattle.sync_rules.specs.Heard.{HeldByRecords, SeenByRecords, is_new_or_shown, says_seen}
-use Rattle.sync_rules.specs.Elements.{same_id-is}
-use Rattle.sync_rules.specs.RowLaws.{among-firsts, seen_step}
-use Rattle.sync_rules.specs.StepKinds.{all_of_acks, all_of_offers, all_of_record, all_of_requests, is_of_record, is_taken_on, left_all, same_steps_all}
+use Rattle.sync_rules.proofs.Elements.{same_id-is}
+use Rattle.sync_rules.proofs.RowLaws.{among-firsts, seen_step}
+use Rattle.sync_rules.proofs.StepKinds.{all_of_acks, all_of_offers, all_of_record, all_of_requests, is_of_record, is_taken_on, left_all, same_steps_all}
 
 -- ---- entries of records, one after the other
 

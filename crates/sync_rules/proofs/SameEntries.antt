@@ -11,7 +11,7 @@ use Rattle.sync_rules.specs.declared.entries.Out.{Out}
 use Rattle.sync_rules.specs.declared.entries.Out.TheVariants as out
 use Rattle.sync_rules.specs.Lists.{same_id}
 use Rattle.sync_rules.specs.Facts.{Id}
-use Rattle.sync_rules.specs.Elements.{same_id-is, same_id_itself}
+use Rattle.sync_rules.proofs.Elements.{same_id-is, same_id_itself}
 use Rattle.sync_rules.specs.Allows.{same_ids, same_message, same_pair, is_arrive, is_again, is_offered, is_seen, is_asked, is_judged, is_deliver, is_invalid, same_entry, is_acks, is_requests, is_offers, is_send, same_out, is_some_of}
 
 -- ---- tests of two things

@@ -4,15 +4,15 @@ use Rattle.std.proofs.lemmas.Bool.{and_parts, and_from, false≢true}
 use Rattle.sync_rules.specs.declared.entries.Entry.{Entry}
 use Rattle.sync_rules.specs.declared.entries.Entry.TheVariants as entry
 use Rattle.sync_rules.specs.Clients.{Meaning}
-use Rattle.sync_rules.specs.Lists.{is_among}
+use Rattle.sync_rules.specs.Lists.{is_among, In}
 use Rattle.sync_rules.specs.Facts.{Facts, Held, Id, Known, after, after_all, arrived, authored, contact_of, entries_of, facts, group_at, held_at, known_of, nothing}
 use Rattle.sync_rules.specs.Steps.{is_beside, next}
 use Rattle.sync_rules.specs.Legal.{Legal}
 use Rattle.sync_rules.specs.Knowing.{AreServed, DeliversInOrder, IsServedBehind}
-use Rattle.sync_rules.specs.Elements.{In, all_weaker}
-use Rattle.sync_rules.specs.Sound.{SoundFacts, held_at-In, held_at-push, verdict_stays}
-use Rattle.sync_rules.specs.Kept.{AllFit, Fits, after_batches-is, delivery, sound_after}
-use Rattle.sync_rules.specs.Runs.{legal_fits, sound_nothing}
+use Rattle.sync_rules.proofs.Elements.{all_weaker}
+use Rattle.sync_rules.proofs.Sound.{SoundFacts, held_at-In, held_at-push, verdict_stays}
+use Rattle.sync_rules.proofs.Kept.{AllFit, Fits, after_batches-is, delivery, sound_after}
+use Rattle.sync_rules.proofs.Runs.{legal_fits, sound_nothing}
 
 -- ---- what each of some messages keeps, all keep
 

@@ -15,7 +15,7 @@ use Rattle.sync_rules.specs.declared.entries.Entry.TheVariants as entry
 use Rattle.sync_rules.specs.Lists.{is_among, firsts}
 use Rattle.sync_rules.specs.Facts.{Facts, Held, Id, contact_of, held_at, is_invisible, level_at, row_at, wanted_from}
 use Rattle.sync_rules.specs.Sessions.{is_shown, is_shown_held, is_welcome, one_if, is_remembered, room_after, taken, taken_acks, taken_message_of, taken_offers, taken_requests}
-use Rattle.sync_rules.specs.RowLaws.{firsts_distinct}
+use Rattle.sync_rules.proofs.RowLaws.{firsts_distinct}
 use Rattle.sync_rules.specs.Allows.{gives, ids_named, is_id_list, is_message, is_record, is_whole, is_within, read_as, same_entry}
 use Rattle.sync_rules.proofs.SameEntries.{arrive_itself, pair_itself, same_entries-is}
 use Rattle.sync_rules.proofs.PartsOfIds.{IsPart, part_none, part_skip, part_keep, firsts_of_distinct, firsts_few, firsts_whole}

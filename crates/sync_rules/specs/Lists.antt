@@ -1,8 +1,14 @@
 -- Lists of ids, an id being the list of its bytes.
-use Rattle.std.specs.Prelude.{◌≡◌, ℕ, ◌≤◌, Bool, true, false, cond, ◌||◌, nat_eq, List, [], ◌∷◌, length}
+use Rattle.std.specs.Prelude.{◌≡◌, ℕ, ◌≤◌, ◌⊎◌, Bool, true, false, cond, ◌||◌, nat_eq, List, [], ◌∷◌, length}
 use Rattle.std.specs.List.{list_any}
 use Rattle.std.specs.Cmp.Lexicographic.{pointwise}
 use Rattle.sync_rules.specs.declared.limits.TheConstants.{MAX_DEPS}
+
+-- an element of a list
+module _ {A : Type 0} where
+  abbrev pub In : A → List A → Type 0
+  In x [] = ⊥
+  In x (y ∷ ys) = (x ≡ y) ⊎ In x ys
 
 -- whether two ids are the same bytes
 abbrev pub same_id : List ℕ → List ℕ → Bool

@@ -240,7 +240,7 @@ fn last_level_over(j: &[Batch], contact: u8, group: &GroupId) -> Level
 // ---- the facts
 
 /// Whether the message of this id was judged.
-#[tactic(auto, using(crate::specs::ScanLaws::judged_found))]
+#[tactic(auto, using(crate::proofs::ScanLaws::judged_found))]
 pub fn is_judged_in(j: &[Batch], id: &MessageId) -> bool
     ensures { result ≡ fin_set.contains (facts j.now).judged id.now }
 {
@@ -248,7 +248,7 @@ pub fn is_judged_in(j: &[Batch], id: &MessageId) -> bool
 }
 
 /// Whether the message of this id was delivered.
-#[tactic(auto, using(crate::specs::ScanLaws::delivered_found))]
+#[tactic(auto, using(crate::proofs::ScanLaws::delivered_found))]
 pub fn is_delivered_in(j: &[Batch], id: &MessageId) -> bool
     ensures { result ≡ is_among (facts j.now).delivered id.now }
 {
@@ -256,7 +256,7 @@ pub fn is_delivered_in(j: &[Batch], id: &MessageId) -> bool
 }
 
 /// Whether the message of this id is invalid.
-#[tactic(auto, using(crate::specs::ScanLaws::invalid_found))]
+#[tactic(auto, using(crate::proofs::ScanLaws::invalid_found))]
 pub fn is_invalid_in(j: &[Batch], id: &MessageId) -> bool
     ensures { result ≡ fin_set.contains (facts j.now).invalid id.now }
 {
@@ -264,7 +264,7 @@ pub fn is_invalid_in(j: &[Batch], id: &MessageId) -> bool
 }
 
 /// The first held message of this id.
-#[tactic(auto, using(crate::specs::ScanLaws::held_found))]
+#[tactic(auto, using(crate::proofs::ScanLaws::held_found))]
 pub fn held_in<'a>(j: &'a [Batch], id: &MessageId) -> Option<&'a Message>
     ensures { option_copied result ≡ message_at (held_at (facts j.now).held id.now) }
 {
@@ -272,7 +272,7 @@ pub fn held_in<'a>(j: &'a [Batch], id: &MessageId) -> Option<&'a Message>
 }
 
 /// The first known definition of this group id.
-#[tactic(auto, using(crate::specs::ScanLaws::group_found))]
+#[tactic(auto, using(crate::proofs::ScanLaws::group_found))]
 pub fn group_in<'a>(j: &'a [Batch], id: &GroupId) -> Option<&'a GroupDef>
     ensures { option_copied result ≡ def_at (group_at (facts j.now).groups id.now) }
 {
@@ -301,7 +301,7 @@ pub fn judge_in<C: Clients>(
 
 /// The group's level for the contact: what the last Level entry of the pair says, else Invisible.
 /// It takes no memory.
-#[tactic(auto, using(crate::specs::ScanLaws::level_found))]
+#[tactic(auto, using(crate::proofs::ScanLaws::level_found))]
 pub fn level_in(j: &[Batch], contact: u8, group: &GroupId) -> Level
     ensures { result ≡ level_at (facts j.now).levels contact group.now }
 {

@@ -38,7 +38,7 @@ fn is_in_another_group(message: Option<&Message>, group: &GroupId) -> bool
 }
 
 // Whether the dependency makes a message of this group invalid.
-#[tactic(auto, using(crate::specs::ScanLaws::elsewhere_found))]
+#[tactic(auto, using(crate::proofs::ScanLaws::elsewhere_found))]
 fn is_failing_in(j: &[Batch], group: &GroupId, dependency: &MessageId) -> bool
     ensures { result ≡ is_failing (facts j.now) group.now dependency.now }
 {
@@ -46,7 +46,7 @@ fn is_failing_in(j: &[Batch], group: &GroupId, dependency: &MessageId) -> bool
 }
 
 // Whether the dependency is a delivered message of this group.
-#[tactic(auto, using(crate::specs::ScanLaws::beside_found))]
+#[tactic(auto, using(crate::proofs::ScanLaws::beside_found))]
 fn is_served_in(j: &[Batch], group: &GroupId, dependency: &MessageId) -> bool
     ensures { result ≡ is_served (facts j.now) group.now dependency.now }
 {

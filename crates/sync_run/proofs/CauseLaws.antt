@@ -4,8 +4,8 @@ use Rattle.std.specs.Prelude.{map, slice_get}
 use Rattle.outside.specs.Faults.{Rose, one_more}
 use Rattle.outside.specs.Links.{Links}
 use Rattle.outside.specs.Outside.{Outside}
-use Rattle.outside.specs.Runs.{grow_same, grow_then}
-use Rattle.outside.specs.Steps.{calls_none, calls_then, told_on}
+use Rattle.outside.proofs.RunLaws.{grow_same, grow_then}
+use Rattle.outside.proofs.CallSteps.{calls_none, calls_then, told_on}
 use Rattle.sync_node.specs.declared.link.Link.{Link}
 use Rattle.sync_course.specs.declared.ends.LinkEnd.{LinkEnd}
 use Rattle.sync_course.specs.declared.ends.LinkEnd.TheVariants as end

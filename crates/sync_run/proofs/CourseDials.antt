@@ -10,9 +10,9 @@ use Rattle.sync_rules.specs.Clients.{Meaning}
 use Rattle.sync_rules.specs.Facts.{facts}
 use Rattle.sync_store.specs.Store.{StoreValue}
 use Rattle.sync_course.specs.Events.{Event, GrowsBy, RoseIf, Told, has_failure, heard_after, readings_of}
-use Rattle.sync_course.specs.ToldLaws.{told_none}
+use Rattle.sync_course.proofs.ToldLaws.{told_none}
 use Rattle.sync_course.specs.Turns.{first_place}
-use Rattle.sync_node.specs.CourseLaws.{fits_on}
+use Rattle.sync_node.proofs.CourseLaws.{fits_on}
 use Rattle.sync_node.specs.Courses.{FitsWith, ReadsAs}
 use Rattle.sync_node.specs.Going.{Goes}
 use Rattle.sync_node.specs.Output.{Journal}

@@ -7,7 +7,8 @@ use Rattle.outside.specs.Faults.{Rose, one_more}
 use Rattle.outside.specs.Files.{Two, File, read_files}
 use Rattle.outside.specs.Links.{HeardOn, Links}
 use Rattle.outside.specs.Outside.{DiskRun, Outside}
-use Rattle.outside.specs.Runs.{Told, grow_same}
+use Rattle.outside.proofs.RunLaws.{grow_same}
+use Rattle.outside.specs.Runs.{Told}
 use Rattle.frame_journal.specs.Gates.{ReadsSame}
 use Rattle.sync_rules.specs.declared.states.Refused.{Refused}
 use Rattle.sync_rules.specs.declared.states.Refused.TheVariants as refused

@@ -8,10 +8,10 @@ use Rattle.sync_rules.specs.declared.entries.Session.{Session}
 use Rattle.sync_rules.specs.Clients.{Meaning}
 use Rattle.sync_rules.specs.Facts.{Facts}
 use Rattle.sync_store.specs.Store.{StoreValue}
-use Rattle.sync_course.specs.CallLaws.{runs_none}
-use Rattle.sync_course.specs.LiftLaws.{runs_all_attached, runs_ended}
+use Rattle.sync_course.proofs.CallLaws.{runs_none}
+use Rattle.sync_course.proofs.LiftLaws.{runs_all_attached, runs_ended}
 use Rattle.sync_course.specs.Links as course_links
-use Rattle.sync_course.specs.ToldLaws.{breaks_then, runs_then}
+use Rattle.sync_course.proofs.ToldLaws.{breaks_then, runs_then}
 use Rattle.sync_course.specs.Turns.{Attaches, Between, Ended, Place, RunStep, Stage, Terms, is_at_end, is_over, over_by, some_going}
 use Rattle.sync_node.specs.declared.link.Link.{Link}
 use Rattle.sync_course.specs.declared.ends.LinkEnd.{LinkEnd}

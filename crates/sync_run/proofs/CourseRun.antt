@@ -10,7 +10,7 @@ use Rattle.sync_rules.specs.declared.entries.Session.{Session}
 use Rattle.sync_rules.specs.Clients.{Meaning}
 use Rattle.sync_rules.specs.Facts.{Facts, after_all, after_batches, facts}
 use Rattle.sync_rules.specs.Legal.{AllSettling, Legal}
-use Rattle.sync_rules.specs.StepKinds.{all_settling_only}
+use Rattle.sync_rules.proofs.StepKinds.{all_settling_only}
 use Rattle.sync_rules.specs.Steps.{IsSettled}
 use Rattle.entry_codec.specs.Payloads.{journal_end}
 use Rattle.entry_codec.specs.Standing.{room_of}
@@ -20,12 +20,12 @@ use Rattle.sync_store.specs.Moments.{IsBetween}
 use Rattle.sync_store.specs.Settling.{ComesBy}
 use Rattle.sync_store.specs.Store.{StoreValue}
 use Rattle.sync_course.specs.Events.{Event, batches_of}
-use Rattle.sync_course.specs.LiftLaws.{breaks_begun, runs_begun, runs_settled_begun}
+use Rattle.sync_course.proofs.LiftLaws.{breaks_begun, runs_begun, runs_settled_begun}
 use Rattle.sync_course.specs.Quiet.{EndsQuiet}
-use Rattle.sync_course.specs.ToldLaws.{breaks_then, runs_then}
+use Rattle.sync_course.proofs.ToldLaws.{breaks_then, runs_then}
 use Rattle.sync_course.specs.Turns.{Attaches, Course, Ended, Place, RunStep, Terms, first_place, is_over}
 use Rattle.sync_node.specs.declared.link.Link.{Link}
-use Rattle.sync_node.specs.CourseLaws.{fits_grown, reads_front}
+use Rattle.sync_node.proofs.CourseLaws.{fits_grown, reads_front}
 use Rattle.sync_node.specs.Courses.{FitsWith, ReadsAs, RunBreaks, RunRuns, place_at}
 use Rattle.sync_node.specs.Fulls.{RunFullSent}
 use Rattle.sync_node.specs.Joined.{Joined}

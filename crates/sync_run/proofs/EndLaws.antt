@@ -16,13 +16,14 @@ use Rattle.sync_rules.specs.Clients.{Meaning}
 use Rattle.sync_rules.specs.Facts.{Facts}
 use Rattle.sync_course.specs.declared.ends.LinkEnd.{LinkEnd}
 use Rattle.sync_course.specs.declared.ends.LinkEnd.TheVariants as end
-use Rattle.sync_course.specs.CountLaws.{pending}
+use Rattle.sync_course.specs.Pending.{pending}
 use Rattle.sync_course.specs.Events.{Event, Commit, Hear, Miss, Read, Break, Pass}
-use Rattle.sync_course.specs.LiftLaws.{get_other, get_set, get_within}
+use Rattle.sync_course.proofs.LiftLaws.{get_other, get_set, get_within}
 use Rattle.sync_course.specs.Links.{Link, closes, is_going, items_after, link_after, link_of, stands_behind, stands_ended}
 use Rattle.sync_course.specs.LinkTurns.{Asks, Done, Doing, LinkStep, PassesItem, Puts, SendsNext, Sends, Spot, StepOf, Takes, TakesNext, Waits, heard_spot}
 use Rattle.sync_course.specs.Paths.{Path}
-use Rattle.sync_course.specs.RunLaws.{get_push_cases, pending_at, redundant_get}
+use Rattle.sync_course.specs.Pending.{pending_at}
+use Rattle.sync_course.proofs.RunLaws.{get_push_cases, redundant_get}
 use Rattle.sync_course.specs.Turns.{Attaches, Between, Course, Ended, EndsTurn, GoesToNext, Greets, Place, RunStep, Settles, Stage, StageStep, Terms, TurnStep, Works, first_place, is_at_end, spot_of, turn_ended, with_spot}
 use Rattle.sync_run.specs.Ends.{AllStandByHeard, StandsByHeard}
 

@@ -6,7 +6,8 @@ use Rattle.std.proofs.lemmas.Bool.{cases_eq, ne_eqb}
 use Rattle.std.proofs.lemmas.Grind.{flat_map-append}
 use Rattle.outside.specs.Links.{Answered, HeardOn, Reply, changed_at, ended, got, hear_failure, hear_reply, idle, nothing_heard}
 use Rattle.outside.specs.Outside.{Outside}
-use Rattle.outside.specs.Runs.{answers_at, changed_at_other, changed_at_same, heard_bytes, reply_bytes}
+use Rattle.outside.specs.Runs.{answers_at, heard_bytes, reply_bytes}
+use Rattle.outside.proofs.RunLaws.{changed_at_other, changed_at_same}
 use Rattle.record_grammar.specs.declared.stream.Item.{Item}
 use Rattle.record_grammar.specs.declared.stream.Item.TheVariants as item
 use Rattle.sync_rules.specs.declared.entries.Entry.{Entry}
@@ -17,7 +18,7 @@ use Rattle.sync_course.specs.declared.ends.LinkEnd.{LinkEnd}
 use Rattle.sync_course.specs.declared.ends.LinkEnd.TheVariants as end
 use Rattle.sync_course.specs.declared.TheConstants.{PIECE_LEN}
 use Rattle.sync_course.specs.Events.{Break, Commit, Event, Hear, Miss, Pass, Read, heard_after, heard_by}
-use Rattle.sync_course.specs.LiftLaws.{get_other, get_set, get_within}
+use Rattle.sync_course.proofs.LiftLaws.{get_other, get_set, get_within}
 use Rattle.sync_course.specs.Links.{Link, closed_from, link_of}
 use Rattle.sync_course.specs.LinkTurns.{Asks, Done, Doing, LinkStep, PassesItem, Puts, SendsNext, Sends, Spot, StepOf, Takes, TakesNext, Waits, heard_spot}
 use Rattle.sync_course.specs.Paths.{Path}

@@ -6,14 +6,15 @@ use Rattle.std.proofs.lemmas.Grind.{same_number_lists}
 use Rattle.outside.specs.Files.{Two, File, IsFileImage, IsImage, NothingPending, read_files, settled}
 use Rattle.outside.specs.Links.{HeardOn, Link, Links, sent_of}
 use Rattle.outside.specs.Outside.{DiskRun, Moment, Outside}
-use Rattle.outside.specs.Runs.{IsFront, Told, answers_at, heard_bytes, told_before}
-use Rattle.outside.specs.Steps.{told_back}
+use Rattle.outside.specs.Runs.{IsFront, Told, answers_at, heard_bytes}
+use Rattle.outside.proofs.RunLaws.{told_before}
+use Rattle.outside.proofs.CallSteps.{told_back}
 use Rattle.record_grammar.specs.Stream.{records}
 use Rattle.sync_rules.specs.declared.entries.Entry.{Entry}
 use Rattle.sync_rules.specs.declared.entries.Entry.TheVariants as entry
 use Rattle.sync_rules.specs.declared.entries.Session.{Session}
 use Rattle.sync_rules.specs.Clients.{Meaning}
-use Rattle.sync_rules.specs.Continuing.{facts-append}
+use Rattle.sync_rules.proofs.Continuing.{facts-append}
 use Rattle.sync_rules.specs.Facts.{Facts, after_all, after_batches, facts}
 use Rattle.sync_rules.specs.Legal.{AllSettling}
 use Rattle.entry_codec.specs.Standing.{journal, stands}

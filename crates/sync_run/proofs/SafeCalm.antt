@@ -12,7 +12,8 @@ use Rattle.outside.specs.Host.{AsksNonce, Dials}
 use Rattle.outside.specs.Links.{HeardOn, Link, Links, nothing_heard}
 use Rattle.outside.specs.Outside.{IsNow, Outside, QuietCall}
 use Rattle.outside.proofs.CallCounts.{no_call_none, no_call_then, no_call_goes_on}
-use Rattle.outside.specs.Runs.{HostRun, IsFront, LinksGrow, answers_at, grow_dial, grow_nonce, grow_same, grow_then, others_dial, others_nonce}
+use Rattle.outside.specs.Runs.{HostRun, IsFront, LinksGrow, answers_at}
+use Rattle.outside.proofs.RunLaws.{grow_dial, grow_nonce, grow_same, grow_then, others_dial, others_nonce}
 use Rattle.sync_node.specs.Output.{sent_on}
 use Rattle.sync_words.specs.declared.link_words.LinkWords.{LinkWords}
 use Rattle.sync_run.specs.declared.dialling.Dialled.{Dialled}

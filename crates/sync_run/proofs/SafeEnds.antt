@@ -4,7 +4,7 @@ use Rattle.outside.specs.Disk.{Becomes}
 use Rattle.outside.specs.Files.{Two, File, read_files}
 use Rattle.outside.specs.Links.{Links, sent_of}
 use Rattle.outside.specs.Outside.{DiskRun, IsNow, Moment, MomentsAre, Outside}
-use Rattle.outside.specs.Steps.{becomes_told}
+use Rattle.outside.proofs.CallSteps.{becomes_told}
 use Rattle.frame_journal.specs.Gates.{ReadsSame}
 use Rattle.sync_rules.specs.declared.entries.Session.{Session}
 use Rattle.sync_rules.specs.Clients.{Meaning}

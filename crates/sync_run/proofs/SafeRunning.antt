@@ -8,7 +8,8 @@ use Rattle.outside.specs.Disk.{Becomes}
 use Rattle.outside.specs.Files.{Two, File, read_files, settled}
 use Rattle.outside.specs.Links.{Link, Links}
 use Rattle.outside.specs.Outside.{DiskRun, IsNow, MomentsAre, Outside}
-use Rattle.outside.specs.Runs.{IsFront, Told, answers_at, grow_same}
+use Rattle.outside.specs.Runs.{IsFront, Told, answers_at}
+use Rattle.outside.proofs.RunLaws.{grow_same}
 use Rattle.frame_journal.specs.Gates.{ReadsSame, SyncsBoth}
 use Rattle.sync_rules.specs.declared.entries.Mode.{Mode}
 use Rattle.sync_rules.specs.declared.entries.Mode.TheVariants as mode
@@ -17,7 +18,7 @@ use Rattle.sync_rules.specs.Clients.{Meaning}
 use Rattle.sync_rules.specs.Facts.{Facts, facts}
 use Rattle.sync_rules.specs.Growth.{OnlySettles}
 use Rattle.sync_rules.specs.Legal.{suits_nonce}
-use Rattle.sync_rules.specs.StepKinds.{all_settling_only}
+use Rattle.sync_rules.proofs.StepKinds.{all_settling_only}
 use Rattle.entry_codec.specs.Standing.{journal, stands}
 use Rattle.sync_store.specs.Store.{StoreValue}
 use Rattle.sync_store.specs.Fitting.{Fits}

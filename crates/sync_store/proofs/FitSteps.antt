@@ -8,15 +8,16 @@ use Rattle.outside.specs.Frames.{HasFrames, IsAtRest, format_in, generation_in}
 use Rattle.outside.specs.Links.{sent_of}
 use Rattle.outside.specs.Disk.{Becomes}
 use Rattle.outside.specs.Outside.{Outside, Moment, MomentsAre}
-use Rattle.outside.specs.Steps.{FileMoment, Passed, becomes_told, image_file, image_other, moments_map, moments_none, other_of}
+use Rattle.outside.specs.Steps.{FileMoment, Passed, other_of}
+use Rattle.outside.proofs.CallSteps.{becomes_told, image_file, image_other, moments_map, moments_none}
 use Rattle.frame_journal.specs.Append.{payload_of, Appends, BeforeOrWith}
 use Rattle.sync_rules.specs.declared.entries.Entry.{Entry}
 use Rattle.sync_rules.specs.Clients.{Meaning}
 use Rattle.sync_rules.specs.Facts.{Facts, after_all, facts, nothing}
 use Rattle.sync_rules.specs.Legal.{Allowed, Legal}
 use Rattle.entry_codec.specs.Payloads.{journal_end, payload, payload_len, payloads}
-use Rattle.sync_rules.specs.Continuing.{legal-push}
-use Rattle.entry_codec.specs.Growing.{all_push, facts_push, payloads_push}
+use Rattle.sync_rules.proofs.Continuing.{legal-push}
+use Rattle.entry_codec.proofs.Growing.{all_push, facts_push, payloads_push}
 use Rattle.entry_codec.specs.Spelling.{IsEntry}
 use Rattle.entry_codec.specs.Standing.{stands, journal, room_of}
 use Rattle.entry_codec.specs.StandingLaws.{JournalsStand}

@@ -7,7 +7,7 @@ use Rattle.frame_journal.specs.Append.{framed_of, payload_of, IsFramed}
 use Rattle.sync_rules.specs.declared.entries.Entry.{Entry}
 use Rattle.sync_rules.specs.Facts.{facts}
 use Rattle.entry_codec.specs.Payloads.{journal_end, payload}
-use Rattle.entry_codec.specs.Growing.{journal_end_push}
+use Rattle.entry_codec.proofs.Growing.{journal_end_push}
 
 be_long : (n : ℕ) → length (to_be_bytes w32 n) ≡ 4
 be_long n = refl

@@ -14,10 +14,10 @@ use Rattle.sync_rules.specs.declared.limits.TheConstants.{MAX_STEPS}
 use Rattle.sync_rules.specs.Clients.{Meaning}
 use Rattle.sync_rules.specs.Facts.{Facts, after_all}
 use Rattle.sync_rules.specs.Left.{left_of}
-use Rattle.sync_rules.specs.LeftLaws.{steps_lower}
+use Rattle.sync_rules.proofs.LeftLaws.{steps_lower}
 use Rattle.sync_rules.specs.Legal.{Allowed, IsSettling}
 use Rattle.sync_rules.specs.Steps.{IsSettled}
-use Rattle.sync_rules.specs.WorkLaws.{allowed_settling}
+use Rattle.sync_rules.proofs.WorkLaws.{allowed_settling}
 use Rattle.entry_codec.specs.declared.lengths.TheConstants.{STEP_LEN}
 use Rattle.entry_codec.specs.Payloads.{payload_len, spellings}
 use Rattle.entry_codec.specs.Spelling.{IsEntry}

@@ -1,5 +1,5 @@
 -- The begin and the end of a load.
-use Rattle.std.proofs.Common.{◌≡◌, ℕ, ◌+◌, ◌≤◌, false, List, [], length, map, take, refl, sym, ap, subst, ◌∙◌, arith}
+use Rattle.std.proofs.Common.{◌≡◌, ◌≢◌, ℕ, ◌+◌, ◌≤◌, true, false, List, [], length, map, take, refl, sym, ap, subst, ◌∙◌, arith}
 use Rattle.std.specs.Prelude.{Option, None, Some, Ok, Err}
 use Rattle.std.proofs.lemmas.Grind.{same_number_lists}
 use Rattle.sync_rules.specs.Clients.{Meaning}
@@ -12,16 +12,17 @@ use Rattle.outside.specs.Frames.{format_in, generation_in, HasFrames}
 use Rattle.outside.specs.Links.{Links, sent_of}
 use Rattle.outside.specs.Outside.{Outside, Moment, IsNow, DiskRun, Looks}
 use Rattle.outside.specs.Disk.{Becomes}
-use Rattle.outside.specs.Steps.{becomes_told, moments_map, moments_then}
+use Rattle.outside.proofs.CallSteps.{becomes_told, moments_map, moments_then}
 use Rattle.outside.specs.declared.disk.Place.{Place}
 use Rattle.frame_journal.specs.Gates.{AnyImage, SyncsBoth}
-use Rattle.frame_journal.specs.Journal.{JournalValue}
+use Rattle.frame_journal.specs.Journal.{JournalValue, is_format}
 use Rattle.frame_journal.specs.Header.{Starts}
 use Rattle.frame_journal.specs.declared.fault.StartFault.{StartFault}
 use Rattle.frame_journal.specs.declared.fault.StartFault.TheVariants as start
 use Rattle.entry_codec.specs.Payloads.{payloads}
 use Rattle.entry_codec.specs.Standing.{damaged, no_store, room_of, stands}
-use Rattle.entry_codec.specs.Fronts.{Front, front_closed, front_format, front_frames, front_none, front_start}
+use Rattle.entry_codec.specs.Fronts.{Front}
+use Rattle.entry_codec.proofs.FrontLaws.{front_closed, front_format, front_frames, front_none, front_start}
 use Rattle.journal_state.specs.Whole.{Knows, StateValue}
 use Rattle.outside.specs.declared.limits.TheConstants.{MAX_JOURNAL}
 use Rattle.sync_store.specs.Store.{StoreValue}
@@ -30,7 +31,7 @@ use Rattle.sync_store.specs.Ready.{IsReady}
 use Rattle.sync_store.specs.Faults.{load_of_start}
 use Rattle.sync_store.specs.declared.fault.LoadFault.{LoadFault}
 use Rattle.sync_store.specs.declared.fault.LoadFault.TheVariants as load
-use Rattle.sync_store.specs.Loading.{AreDamaged, HasReadAll, IsLoaded, LeavesSettled, ReadsAll, SoFar, StandsFor}
+use Rattle.sync_store.specs.Loading.{AreDamaged, Finds, HasReadAll, IsLoaded, LeavesSettled, ReadsAll, SoFar, StandsFor}
 use Rattle.sync_store.proofs.LoadSteps.{as_read}
 
 -- ---- the barrier
@@ -70,13 +71,44 @@ barrier_told o0 o1 two settles told =
 
 -- ---- the header
 
+not_first : (format : ℕ) → is_format format ≡ false → format ≢ 1
+not_first format none first = let known : is_format format ≡ true = ap is_format first in cc
+
+-- what is not begun at is not found
+pub finds_none : (files : Two (List ℕ)) (e : StartFault) → Starts files (Err e) → Finds files (Err e)
+finds_none files start.NoStore starts = starts
+finds_none files start.DiskFault starts = tt
+finds_none files (start.Damaged place) starts =
+    (starts.0, not_first (format_in (file_of files place.file)) starts.1, starts.2)
+
+-- the format of a reader is that of its file
+format_of_file : (files : Two (List ℕ)) (j : JournalValue) → Starts files (Ok j)
+    → j.format ≡ format_in (file_of files j.file)
+format_of_file files j starts = ap (λ (v : JournalValue). v.format) starts.2
+
+-- a journal of the first format is found
+pub finds_first : (files : Two (List ℕ)) (j : JournalValue) → j.format ≡ 1 → Starts files (Ok j)
+    → Finds files (Ok j)
+finds_first files j first starts =
+    (starts.0, sym (format_of_file files j starts) ∙ first, starts.2)
+
+-- one of another format is not
+pub finds_other : (files : Two (List ℕ)) (j : JournalValue) (place : Place) → j.format ≢ 1
+    → place.file ≡ j.file → place.at ≡ 5 → Starts files (Ok j)
+    → Finds files (Err (start.Damaged place))
+finds_other files j place other file at starts = (
+  starts.0 ∙ ap (λ n. Some n) (sym file),
+  λ e. other (format_of_file files j starts ∙ ap (λ n. format_in (file_of files n)) (sym file) ∙ e),
+  at,
+)
+
 no_records : (f : Facts) (session end : ℕ) → f ≡ nothing → takes_of f.takes session ≤ end
 no_records f session end empty =
     let none : takes_of f.takes session ≡ 0 = ap (λ (g : Facts). takes_of g.takes session) empty ∙ ap count_or (fin_map.get-empty nat_cmp session) in
     omega (arith, none)
 
 -- the first gate
-pub starts_so_far : (clients : Meaning) (files : Option (Two File)) (j : JournalValue) (s : StateValue) → ((two : Two File) → files ≡ Some two → Starts (read_files two) (Ok j)) → (j.end ≡ 15)
+pub starts_so_far : (clients : Meaning) (files : Option (Two File)) (j : JournalValue) (s : StateValue) → ((two : Two File) → files ≡ Some two → Finds (read_files two) (Ok j)) → (j.end ≡ 15)
     → s.facts ≡ nothing → Knows clients s → SoFar clients files j s
 starts_so_far clients files j s starts fresh empty knows = record {
   knows = knows;
@@ -101,13 +133,13 @@ starts_so_far clients files j s starts fresh empty knows = record {
       };
 }
 
-starts_none : (clients : Meaning) (o0 o1 : Outside) (two : Two File) → Becomes SyncsBoth o0.files o1.files → ((mid : Two File) → o1.files ≡ Some mid → Starts (read_files mid) (Err start.NoStore))
+starts_none : (clients : Meaning) (o0 o1 : Outside) (two : Two File) → Becomes SyncsBoth o0.files o1.files → ((mid : Two File) → o1.files ≡ Some mid → Finds (read_files mid) (Err start.NoStore))
     → o0.files ≡ Some two → stands clients (read_files two) ≡ no_store
 starts_none clients o0 o1 two settles starts told =
     let mid = barrier_told o0 o1 two settles told in
     ap (stands clients) (sym mid.2) ∙ front_none clients (read_files mid.0) (starts mid.0 mid.1)
 
-starts_damaged : (clients : Meaning) (o0 o1 : Outside) (two : Two File) (place : Place) → Becomes SyncsBoth o0.files o1.files → ((mid : Two File) → o1.files ≡ Some mid → Starts (read_files mid) (Err (start.Damaged place)))
+starts_damaged : (clients : Meaning) (o0 o1 : Outside) (two : Two File) (place : Place) → Becomes SyncsBoth o0.files o1.files → ((mid : Two File) → o1.files ≡ Some mid → Finds (read_files mid) (Err (start.Damaged place)))
     → o0.files ≡ Some two → stands clients (read_files two) ≡ damaged place.file place.at
 starts_damaged clients o0 o1 two place settles starts told =
     let mid = barrier_told o0 o1 two settles told in
@@ -115,7 +147,7 @@ starts_damaged clients o0 o1 two place settles starts told =
     ap (stands clients) (sym mid.2) ∙ front_format clients (read_files mid.0) place.file is.0 is.1 ∙ ap (λ (n : ℕ). damaged place.file n) (sym is.2)
 
 -- no journal was found
-pub starts_fault : (clients : Meaning) (o0 o1 : Outside) (two : Two File) (e : StartFault) → Becomes SyncsBoth o0.files o1.files → ((mid : Two File) → o1.files ≡ Some mid → Starts (read_files mid) (Err e))
+pub starts_fault : (clients : Meaning) (o0 o1 : Outside) (two : Two File) (e : StartFault) → Becomes SyncsBoth o0.files o1.files → ((mid : Two File) → o1.files ≡ Some mid → Finds (read_files mid) (Err e))
     → o0.files ≡ Some two → IsLoaded clients (read_files two) (Err (load_of_start e))
 starts_fault clients o0 o1 two start.NoStore settles starts told = starts_none clients o0 o1 two settles starts told
 starts_fault clients o0 o1 two start.DiskFault settles starts told = tt

@@ -12,9 +12,10 @@ use Rattle.frame_journal.specs.Next.{IsNext, Moves, NextFrame}
 use Rattle.frame_journal.specs.declared.fault.FrameFault.{FrameFault}
 use Rattle.frame_journal.specs.declared.fault.FrameFault.TheVariants as frame
 use Rattle.entry_codec.specs.Payloads.{batch_of, payload}
-use Rattle.entry_codec.specs.Growing.{facts_push}
+use Rattle.entry_codec.proofs.Growing.{facts_push}
 use Rattle.entry_codec.specs.Standing.{Standing, damaged, room_of, stands}
-use Rattle.entry_codec.specs.Fronts.{Front, front_broken, front_full, front_more, front_refused, front_unread}
+use Rattle.entry_codec.specs.Fronts.{Front}
+use Rattle.entry_codec.proofs.FrontLaws.{front_broken, front_full, front_more, front_refused, front_unread}
 use Rattle.journal_state.specs.Whole.{StateValue}
 use Rattle.outside.specs.declared.limits.TheConstants.{MAX_JOURNAL}
 use Rattle.sync_store.specs.Cited.{CitedLaws}

@@ -5,13 +5,13 @@ use Rattle.outside.specs.Faults.{Rose}
 use Rattle.outside.specs.Files.{Two, File}
 use Rattle.outside.specs.Links.{sent_of}
 use Rattle.outside.specs.Outside.{Outside, DiskRun, MakesAtMost, MakesCalls, MakesJust}
-use Rattle.outside.specs.Steps.{moments_none, run_none, run_then, told_back}
+use Rattle.outside.proofs.CallSteps.{moments_none, run_none, run_then, told_back}
 use Rattle.sync_rules.specs.declared.entries.Entry.{Entry}
 use Rattle.sync_rules.specs.Clients.{Meaning}
 use Rattle.sync_rules.specs.Facts.{Facts, after_batches}
 use Rattle.sync_rules.specs.Legal.{AllSettling, Allowed, GoesOn}
-use Rattle.sync_rules.specs.Settling.{after_batches-append, goes_on_both}
-use Rattle.sync_rules.specs.WorkLaws.{settling_goes_on}
+use Rattle.sync_rules.proofs.Settling.{after_batches-append, goes_on_both}
+use Rattle.sync_rules.proofs.WorkLaws.{settling_goes_on}
 use Rattle.sync_store.specs.declared.fault.StoreFault.{StoreFault}
 use Rattle.sync_store.specs.declared.fault.StoreFault.TheVariants as fault
 use Rattle.entry_codec.specs.Standing.{room_of}

@@ -4,17 +4,17 @@ use Rattle.std.specs.List.{AllByRecursion}
 use Rattle.outside.specs.Files.{Two, File}
 use Rattle.outside.specs.Links.{Links, sent_of}
 use Rattle.outside.specs.Outside.{Outside, DiskRun, MakesAtMost, MakesJust}
-use Rattle.outside.specs.Steps.{moments_map, moments_then, run_none, run_then, told_back, told_on}
+use Rattle.outside.proofs.CallSteps.{moments_map, moments_then, run_none, run_then, told_back, told_on}
 use Rattle.outside.proofs.CallCounts.{just_most, just_none, just_then, most_none, most_then}
 use Rattle.sync_rules.specs.declared.entries.Entry.{Entry}
 use Rattle.sync_rules.specs.Clients.{Meaning}
 use Rattle.sync_rules.specs.Facts.{Facts, after_batches}
 use Rattle.sync_rules.specs.Left.{left_of}
-use Rattle.sync_rules.specs.LeftLaws.{left_few}
+use Rattle.sync_rules.proofs.LeftLaws.{left_few}
 use Rattle.sync_rules.specs.Legal.{AllSettling}
 use Rattle.sync_rules.specs.Steps.{IsSettled}
-use Rattle.sync_rules.specs.Settling.{after_batches-append}
-use Rattle.entry_codec.specs.Growing.{settling-append}
+use Rattle.sync_rules.proofs.Settling.{after_batches-append}
+use Rattle.entry_codec.proofs.Growing.{settling-append}
 use Rattle.entry_codec.specs.StandingLaws.{JournalsStand}
 use Rattle.sync_store.specs.declared.fault.StoreFault.{StoreFault}
 use Rattle.sync_store.specs.declared.fault.StoreFault.TheVariants as fault

@@ -8,9 +8,9 @@ use Rattle.sync_rules.specs.Clients.{Meaning}
 use Rattle.sync_rules.specs.Facts.{Facts, after, after_all, after_batches, takes_of}
 use Rattle.sync_rules.specs.Left.{left_of}
 use Rattle.sync_rules.specs.Growth.{IsStepOf}
-use Rattle.sync_rules.specs.LeftLaws.{steps_lower}
+use Rattle.sync_rules.proofs.LeftLaws.{steps_lower}
 use Rattle.sync_rules.specs.Legal.{AllSettling, IsSettling}
-use Rattle.sync_rules.specs.StepKinds.{next_is_step, settling_only}
+use Rattle.sync_rules.proofs.StepKinds.{next_is_step, settling_only}
 use Rattle.sync_rules.specs.Steps.{IsSettled, next}
 use Rattle.sync_store.specs.Settling.{AreFilled, IsFullBatch, IsStep, steps_in}
 use Rattle.sync_store.specs.Store.{HasNumbers}

@@ -1,12 +1,15 @@
 -- What a load answers, and how far it has come.
-use Rattle.std.specs.Prelude.{◌≡◌, ◌⊎◌, ℕ, ◌+◌, ◌-◌, ◌<◌, ◌≤◌, Bool, true, false, List, length, Option, None, Some, Result, Ok, Err}
+use Rattle.std.specs.Prelude.{◌≡◌, ◌≢◌, ◌⊎◌, ℕ, ◌+◌, ◌-◌, ◌<◌, ◌≤◌, Bool, true, false, List, length, Option, None, Some, Result, Ok, Err}
 use Rattle.std.specs.List.{AllByRecursion}
 use Rattle.outside.specs.Files.{Two, File, file_of, read_files}
-use Rattle.outside.specs.Frames.{closed, frame_at, generation_in}
+use Rattle.outside.specs.Frames.{closed, format_in, frame_at, generation_in, journal_file}
 use Rattle.outside.specs.Disk.{Becomes}
 use Rattle.outside.specs.declared.disk.Place.{Place}
 use Rattle.frame_journal.specs.Gates.{SyncsBoth}
+use Rattle.frame_journal.specs.Header.{begun_at}
 use Rattle.frame_journal.specs.Journal.{JournalValue}
+use Rattle.frame_journal.specs.declared.fault.StartFault.{StartFault}
+use Rattle.frame_journal.specs.declared.fault.StartFault.TheVariants as start
 use Rattle.sync_rules.specs.declared.entries.Entry.{Entry}
 use Rattle.sync_rules.specs.Clients.{Meaning}
 use Rattle.sync_rules.specs.Facts.{after_all, facts, nothing}
@@ -44,6 +47,22 @@ LeavesSettled old new (Err load.NoStore) = Becomes SyncsBoth old new
 LeavesSettled old new (Err (load.Damaged place)) = Becomes SyncsBoth old new
 LeavesSettled old new (Err load.DiskFault) = Unit {0}
 LeavesSettled old new (Err load.Memory) = Becomes SyncsBoth old new
+
+-- ---- where a reader begins
+
+-- The journal of two files begins behind the header of the journal's file, where that has format 1;
+-- else it is damaged there, and where no header is open there is none.
+abbrev pub Finds : Two (List ℕ) → Result JournalValue StartFault → Type 0
+Finds files (Ok j) =
+    (journal_file files ≡ Some j.file)
+    × (format_in (file_of files j.file) ≡ 1)
+    × (j ≡ begun_at j.file (file_of files j.file))
+Finds files (Err start.NoStore) = journal_file files ≡ None
+Finds files (Err (start.Damaged place)) =
+    (journal_file files ≡ Some place.file)
+    × (format_in (file_of files place.file) ≢ 1)
+    × (place.at ≡ 5)
+Finds files (Err start.DiskFault) = Unit {0}
 
 -- ---- how far a reader has come
 

@@ -11,14 +11,15 @@ ghost use Rattle.sync_store.specs.Begin.{Begins, InitMoment, IsAnswer, IsFree, h
 use crate::InitFault;
 use crate::laws::cite_laws;
 use crate::store::Store;
-use frame_journal::{DiskFault, barrier, clear, create, read_header};
+use frame_journal::{DiskFault, FIRST_FORMAT, barrier, clear, create, read_header};
 use outside::Disk;
 
 impl Store {
-    /// Begins a store in two files: in file 0, with generation 1. `Exists` comes exactly where a
-    /// file has an open header, and then the files read as before. At each moment the files are as
-    /// a crash might have left them before, or, where no header was open, stand for no store or for
-    /// the empty journal; after `Ok` every crash leaves the empty journal. It takes no memory.
+    /// Begins a store in two files: in file 0, with format 1 and generation 1. `Exists` comes
+    /// exactly where a file has an open header, and then the files read as before. At each moment
+    /// the files are as a crash might have left them before, or, where no header was open, stand
+    /// for no store or for the empty journal; after `Ok` every crash leaves the empty journal. It
+    /// takes no memory.
     pub fn init<D: Disk>(disk: &mut D) -> Result<(), InitFault>
         ensures answer { ForSome (D.tells disk.old).files (λ two. IsAnswer two result) }
         ensures begun { OnOk result (Becomes Begins (D.tells disk.old).files
@@ -81,6 +82,6 @@ fn begin<D: Disk>(disk: &mut D) -> Result<(), DiskFault>
 {
     cite_laws();
     clear(disk, 0)?;
-    create(disk, 0, 1)?;
+    create(disk, 0, FIRST_FORMAT, 1)?;
     Ok(())
 }

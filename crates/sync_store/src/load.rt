@@ -1,5 +1,6 @@
 //! Loading a store: the journal is read batch by batch, and never held.
 ghost use Rattle.std.specs.Prelude.{◌≡◌, ◌+◌, ◌-◌, ◌<◌, ◌≤◌, IfOk, IsErrOf, Some};
+ghost use Rattle.std.specs.Option.{ForSome};
 ghost use Rattle.outside.specs.Faults.{Rose};
 ghost use Rattle.outside.specs.Disk.{Becomes};
 ghost use Rattle.outside.specs.Files.{Two, File, read_files};
@@ -8,7 +9,7 @@ ghost use Rattle.frame_journal.specs.Gates.{AnyImage, ReadsSame};
 ghost use Rattle.journal_state.specs.Taking.{HasNextNumbers};
 ghost use Rattle.journal_state.specs.Whole.{Knows};
 ghost use Rattle.sync_rules.specs.Facts.{nothing};
-ghost use Rattle.sync_store.specs.Loading.{HasItsRoom, IsLoaded, LeavesSettled, Plays, ReadsAll};
+ghost use Rattle.sync_store.specs.Loading.{Finds, HasItsRoom, IsLoaded, LeavesSettled, Plays, ReadsAll};
 ghost use Rattle.sync_store.specs.Loading.{SoFar, Turns};
 ghost use Rattle.sync_store.specs.Ready.{IsReady};
 ghost use Rattle.sync_store.specs.Store.{IsStore};
@@ -17,12 +18,31 @@ use crate::LoadFault;
 use crate::laws::cite_laws;
 use crate::store::Store;
 use entry_codec::{STEP_BYTES, read_batch};
-use frame_journal::{Journal, barrier};
+use frame_journal::{FIRST_FORMAT, Journal, StartFault, barrier};
 use journal_state::State;
 use outside::{Disk, MAX_JOURNAL, Place};
 use std::alloc::Global;
 use std::hash::RandomState;
 use sync_rules::Clients;
+
+// Finds the journal's file where it has the first format; the entries of another are not read yet.
+fn start<D: Disk>(disk: &mut D) -> Result<Journal, StartFault>
+    ensures start { ForSome (D.tells disk.old).files (λ two. Finds (read_files two) result) }
+    ensures fresh { IfOk result (λ j. (j.file < 2) × (j.end ≡ 15)) }
+    ensures looks { Looks (D.tells disk.old) (D.tells disk.new) }
+    ensures later { (D.tells disk.old).disk_faults ≤ (D.tells disk.new).disk_faults }
+    ensures fault { IsErrOf result StartFault.DiskFault
+        → Rose (D.tells disk.old).disk_faults (D.tells disk.new).disk_faults }
+{
+    let journal = Journal::start(disk)?;
+    if journal.format() != FIRST_FORMAT {
+        return Err(StartFault::Damaged(Place {
+            file: journal.file(),
+            at: 5,
+        }));
+    }
+    Ok(journal)
+}
 
 // Plays the last frame that was read.
 fn play<C: Clients>(
@@ -146,7 +166,7 @@ impl Store {
             → Rose (D.tells disk.old).disk_faults (D.tells disk.new).disk_faults }
     {
         barrier(disk)?;
-        let mut journal = Journal::start(disk)?;
+        let mut journal = start(disk)?;
         let mut state = State::new(alloc, hasher)?;
         read_all(alloc, disk, clients, &mut journal, &mut state)?;
         Ok(Store {

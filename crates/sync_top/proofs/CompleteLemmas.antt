@@ -6,7 +6,7 @@ use Rattle.outside.specs.declared.limits.TheConstants.{MAX_JOURNAL}
 use Rattle.outside.specs.Faults.{Rose}
 use Rattle.outside.specs.Files.{Two, File, read_files}
 use Rattle.outside.specs.Outside.{Outside}
-use Rattle.outside.specs.Steps.{told_on}
+use Rattle.outside.proofs.CallSteps.{told_on}
 use Rattle.outside.specs.Streams.{IsIdle, Stream}
 use Rattle.record_grammar.specs.Stream.{ending}
 use Rattle.record_grammar.specs.declared.stream.Ending.{Ending}

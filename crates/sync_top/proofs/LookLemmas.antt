@@ -1,7 +1,7 @@
 -- Commands that may not write leave the files as they are.
 use Rattle.std.proofs.Common.{◌≡◌, true, false, sym, subst, inl, inr, ◌⊎◌}
 use Rattle.outside.specs.Outside.{Outside}
-use Rattle.outside.specs.Steps.{looks_none, run_none}
+use Rattle.outside.proofs.CallSteps.{looks_none, run_none}
 use Rattle.outside.specs.Streams.{Stream, IsIdle}
 use Rattle.sync_rules.specs.Clients.{Meaning}
 use Rattle.sync_rules.specs.Facts.{Facts}

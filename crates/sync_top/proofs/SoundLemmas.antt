@@ -13,8 +13,8 @@ use Rattle.sync_rules.specs.Facts.{Facts, after_all, after_batches, facts, nothi
 use Rattle.sync_rules.specs.Laws.{BringsOnce, EndsOnce, HasOwnOrigin, IsInOrder, JudgesOnce}
 use Rattle.sync_rules.specs.Legal.{Allowed, IsSettlingBatch, Legal}
 use Rattle.sync_rules.specs.Output.{SendsTheOpen}
-use Rattle.sync_rules.specs.Settling.{after_batches-append, goes_on_back}
-use Rattle.sync_rules.specs.StepLaws.{next_is_settling}
+use Rattle.sync_rules.proofs.Settling.{after_batches-append, goes_on_back}
+use Rattle.sync_rules.proofs.StepLaws.{next_is_settling}
 use Rattle.entry_codec.specs.Standing.{Standing, journal, stands}
 use Rattle.entry_codec.specs.StandingLaws.{StandingIsLegal}
 use Rattle.sync_course.specs.Suits.{TakesHeard}

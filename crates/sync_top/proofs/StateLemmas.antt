@@ -5,7 +5,7 @@ use Rattle.std.specs.Io.KnownBytes.{Appends}
 use Rattle.std.proofs.lemmas.List.{take_all}
 use Rattle.outside.specs.Files.{read_files}
 use Rattle.outside.specs.Outside.{Outside}
-use Rattle.outside.specs.Steps.{looks_none, run_none}
+use Rattle.outside.proofs.CallSteps.{looks_none, run_none}
 use Rattle.outside.specs.Streams.{Stream, IsIdle}
 use Rattle.record_grammar.specs.Stream.{items, records, records_of}
 use Rattle.record_grammar.specs.declared.stream.Item.{Item}

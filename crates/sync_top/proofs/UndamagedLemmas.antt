@@ -4,7 +4,7 @@ use Rattle.std.specs.Prelude.{◌⊎◌, ◌&&◌, ◌||◌, if◌then◌else◌
 use Rattle.outside.specs.Files.{Two, File, IsImage, read_files}
 use Rattle.outside.specs.Frames.{generation_in, is_open, journal_file}
 use Rattle.outside.specs.Outside.{Outside, Moment, MomentsAre, IsNow}
-use Rattle.outside.specs.Steps.{moments_map, moments_none}
+use Rattle.outside.proofs.CallSteps.{moments_map, moments_none}
 use Rattle.outside.specs.Streams.{IsIdle, Stream}
 use Rattle.sync_rules.specs.declared.entries.Entry.{Entry}
 use Rattle.sync_rules.specs.declared.states.Refused.TheVariants as refused

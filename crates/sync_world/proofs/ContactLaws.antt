@@ -3,7 +3,7 @@ use Rattle.std.proofs.Common.{◌≡◌, ℕ, ◌+◌, ◌≤◌, false, List, [
 use Rattle.std.specs.Prelude.{IsErrOf}
 use Rattle.std.proofs.lemmas.Bool.{cases_eq}
 use Rattle.sync_rules.specs.Clients.{Meaning}
-use Rattle.sync_rules.specs.Continuing.{continues_journals}
+use Rattle.sync_rules.proofs.Continuing.{continues_journals}
 use Rattle.sync_rules.specs.Facts.{Facts, facts}
 use Rattle.world_laws.specs.Worlds.{AreSteps, IsStep, Journal, World, journal_at, journal_in, last_of}
 use Rattle.world_devices.specs.declared.stop.StepFault.{StepFault}

@@ -11,8 +11,8 @@ use Rattle.client_basic.specs.Bodies.{bundle_meaning}
 use Rattle.record_grammar.specs.Stream.{records}
 use Rattle.sync_ids.specs.declared.records.Record.{Record}
 use Rattle.sync_node.specs.Node.{NodeValue}
-use Rattle.sync_rules.specs.Continuing.{legal-append}
-use Rattle.sync_rules.specs.Elements.{In}
+use Rattle.sync_rules.proofs.Continuing.{legal-append}
+use Rattle.sync_rules.specs.Lists.{In}
 use Rattle.sync_rules.specs.Facts.{Extends}
 use Rattle.sync_rules.specs.Legal.{Legal}
 use Rattle.world_laws.specs.Worlds.{Journal, World, journal_at, journal_in}

@@ -6,7 +6,8 @@ use Rattle.sync_ids.specs.declared.records.Record.{Record}
 use Rattle.sync_ids.specs.Records.{IsRecord}
 use Rattle.record_grammar.specs.Spelling.{spelled}
 use Rattle.record_grammar.specs.Stream.{records}
-use Rattle.sync_rules.specs.Elements.{In, In-append_left}
+use Rattle.sync_rules.specs.Lists.{In}
+use Rattle.sync_rules.proofs.Elements.{In-append_left}
 use Rattle.world_links.specs.Ends.{EndValue}
 use Rattle.world_laws.specs.Worlds.{End}
 use Rattle.sync_world.specs.Cited.{RecordLaws}

@@ -19,7 +19,7 @@ use Rattle.entry_codec.specs.Spelling.{IsEntry, IsNonce}
 use Rattle.sync_rules.specs.declared.entries.Entry.{Entry}
 use Rattle.sync_rules.specs.declared.entries.Entry.TheVariants as entry
 use Rattle.sync_rules.specs.Clients.{Meaning}
-use Rattle.sync_rules.specs.DueLaws.{sent_within}
+use Rattle.sync_rules.proofs.DueLaws.{sent_within}
 use Rattle.sync_rules.specs.Facts.{entries_of}
 use Rattle.sync_rules.specs.Naming.{BringsWithin, IsWholeNonce}
 use Rattle.sync_rules.specs.Output.{sent}

@@ -8,11 +8,11 @@ use Rattle.sync_rules.specs.declared.entries.Entry.{Entry}
 use Rattle.sync_rules.specs.declared.entries.Entry.TheVariants as entry
 use Rattle.sync_rules.specs.declared.entries.Session.{Session}
 use Rattle.sync_rules.specs.Clients.{Meaning}
-use Rattle.sync_rules.specs.Elements.{In}
+use Rattle.sync_rules.specs.Lists.{In}
 use Rattle.sync_rules.specs.Facts.{Facts, after_all}
 use Rattle.sync_rules.specs.Legal.{IsSettlingBatch}
 use Rattle.sync_rules.specs.Output.{sent}
-use Rattle.sync_rules.specs.StepKinds.{next_is_step}
+use Rattle.sync_rules.proofs.StepKinds.{next_is_step}
 use Rattle.sync_node.specs.Output.{output}
 use Rattle.sync_node.specs.Suits.{AllSuit, Suits}
 use Rattle.world_links.specs.Ends.{EndValue, flight_behind}

@@ -6,7 +6,8 @@ use Rattle.sync_ids.specs.declared.records.Record.{Record}
 use Rattle.sync_rules.specs.declared.entries.Entry.{Entry}
 use Rattle.sync_rules.specs.declared.entries.Entry.TheVariants as entry
 use Rattle.sync_rules.specs.Clients.{Meaning}
-use Rattle.sync_rules.specs.Elements.{In, In-append_cases, In-append_left, In-append_right}
+use Rattle.sync_rules.specs.Lists.{In}
+use Rattle.sync_rules.proofs.Elements.{In-append_cases, In-append_left, In-append_right}
 use Rattle.sync_rules.specs.Facts.{Facts, after_all, facts}
 use Rattle.sync_rules.specs.Legal.{GoesOn}
 use Rattle.sync_rules.specs.Output.{sent}

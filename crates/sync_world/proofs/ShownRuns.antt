@@ -3,7 +3,8 @@ use Rattle.std.proofs.Common.{◌≡◌, ℕ, zero, suc, Bool, true, false, List
 use Rattle.std.specs.Prelude.{slice_get, slice_set}
 use Rattle.sync_ids.specs.declared.records.Record.{Record}
 use Rattle.sync_rules.specs.Clients.{Meaning}
-use Rattle.sync_rules.specs.Elements.{In, In-append_right}
+use Rattle.sync_rules.specs.Lists.{In}
+use Rattle.sync_rules.proofs.Elements.{In-append_right}
 use Rattle.sync_rules.specs.Facts.{Extends}
 use Rattle.sync_rules.specs.Output.{sent}
 use Rattle.sync_node.specs.Output.{output}

@@ -6,7 +6,7 @@ use Rattle.outside.specs.Runs.{IsFront}
 use Rattle.sync_ids.specs.declared.records.Record.{Record}
 use Rattle.record_grammar.specs.Stream.{records}
 use Rattle.sync_rules.specs.Clients.{Meaning}
-use Rattle.sync_rules.specs.Elements.{In}
+use Rattle.sync_rules.specs.Lists.{In}
 use Rattle.world_links.specs.declared.link.Link.{Link}
 use Rattle.world_links.specs.declared.moves.Side.{Side}
 use Rattle.world_links.specs.declared.moves.Side.TheVariants as side

@@ -9,7 +9,7 @@ use Rattle.sync_rules.specs.Facts.{facts}
 use Rattle.world_laws.specs.Worlds.{AreSteps, Journal, World, journal_at, journal_in, last_of}
 use Rattle.world_devices.specs.Devices.{DeviceValue}
 use Rattle.world_devices.specs.Linking.{IsNewDevice, IsUnlinked, new_journal}
-use Rattle.world_devices.specs.NewJournals.{new_holds, new_knows}
+use Rattle.world_devices.proofs.NewJournals.{new_holds, new_knows}
 use Rattle.world_links.specs.declared.link.Link.{Link}
 use Rattle.world_devices.specs.declared.stop.StepFault.{StepFault}
 use Rattle.world_devices.specs.declared.stop.StepFault.TheVariants as fault

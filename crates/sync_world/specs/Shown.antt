@@ -8,7 +8,7 @@ use Rattle.record_grammar.specs.Spelling.{spelled, spelling}
 use Rattle.record_grammar.specs.Stream.{records}
 use Rattle.entry_codec.specs.Spelling.{IsEntry}
 use Rattle.sync_rules.specs.Clients.{Meaning}
-use Rattle.sync_rules.specs.Elements.{In}
+use Rattle.sync_rules.specs.Lists.{In}
 use Rattle.sync_rules.specs.Facts.{facts}
 use Rattle.sync_rules.specs.Legal.{GoesOn, Legal}
 use Rattle.world_links.specs.declared.link.Link.{Link}

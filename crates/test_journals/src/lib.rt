@@ -20,3 +20,7 @@ mod plays;
 mod rules;
 #[cfg(test)]
 mod sessions;
+#[cfg(test)]
+mod short_entries;
+#[cfg(test)]
+mod two_names;

@@ -1,7 +1,10 @@
+ghost use Rattle.std.specs.Prelude.{◌≡◌, true};
+ghost use Rattle.frame_journal.specs.Journal.{is_format};
+
 use crate::checks::{disk_of, disk_with, holds, kept, same};
 use frame_journal::{
-    DiskFault, FrameFault, Journal, StartFault, barrier, clear, create, prepare, publish,
-    read_header,
+    DiskFault, FIRST_FORMAT, FrameFault, Journal, SECOND_FORMAT, StartFault, barrier, clear,
+    create, prepare, publish, read_header,
 };
 use outside::{MemDisk, Pick, Untold};
 use std::process::Abort;
@@ -9,6 +12,12 @@ use std::process::Abort;
 // A journal of generation 1 with the payload 01 00.
 const ROW: [u8; 22] = [
     1, b'B', b'S', b'P', b'J', 1, 0, 0, 0, 0, 0, 0, 0, 1, 1, 0, 0, 0, 2, 1, 0, 0,
+];
+
+// A journal of the second format and generation 2, with the payloads 01 00 and 01 01.
+const SECOND: [u8; 29] = [
+    1, b'B', b'S', b'P', b'J', 2, 0, 0, 0, 0, 0, 0, 0, 2, 1, 0, 0, 0, 2, 1, 0, 1, 0, 0, 0, 2, 1, 1,
+    0,
 ];
 
 // What reading the whole of a disk ends with.
@@ -110,6 +119,46 @@ fn lengths_and_generations(rt: HostRuntime) {
     ends(&rt, 2, &other, &ROW, Ending::Damaged(0, 5));
     other[13] = 2;
     ends(&rt, 3, &ROW, &other, Ending::Damaged(1, 5));
+    ends(&rt, 4, &ROW, &SECOND, Ending::Frames(2));
+    ends(&rt, 5, &other, &SECOND, Ending::Damaged(0, 5));
+}
+
+// The format that a header names, and what reading the journal ends with.
+static FORMATS: [(u8, Ending); 5] = [
+    (0, Ending::Damaged(0, 5)),
+    (1, Ending::Frames(1)),
+    (2, Ending::Frames(1)),
+    (3, Ending::Damaged(0, 5)),
+    (255, Ending::Damaged(0, 5)),
+];
+
+#[test]
+fn formats(rt: HostRuntime) {
+    for (format, expected) in &FORMATS {
+        let mut bytes = ROW;
+        bytes[5] = *format;
+        ends(&rt, usize::from(*format), &bytes, &[], *expected);
+    }
+}
+
+// Begins a journal of the second format in file 1, and adds two frames.
+fn begin_second(disk: &mut Untold) -> Result<Journal, StartFault> {
+    create(disk, 1, SECOND_FORMAT, 2)?;
+    let mut journal = Journal::start(disk)?;
+    journal.append(disk, &[0, 0, 0, 2, 1, 0, 0])?;
+    journal.append(disk, &[0, 0, 0, 2, 1, 1, 0])?;
+    Ok(journal)
+}
+
+// A newer journal of the second format stands beside an older one of the first.
+#[test]
+fn second_format(rt: HostRuntime) {
+    let mut disk = Untold::new(disk_of(&rt, &ROW, &[0]));
+    let journal = kept(&rt, begin_second(&mut disk));
+    let header = (journal.file(), journal.format(), journal.generation());
+    same(&rt, &header, &(1, 2, 2));
+    same(&rt, &disk.disk.file(0), &ROW.as_slice());
+    same(&rt, &disk.disk.file(1), &SECOND.as_slice());
 }
 
 // Clears file 0, begins a journal in it and adds the payload 01 00, with this call failing.
@@ -122,7 +171,7 @@ fn written<R: Abort + AllocGlobal>(rt: &R, failing: u64) -> MemDisk {
 }
 
 fn write_all(disk: &mut Untold) -> Result<(), StartFault> {
-    create(disk, 0, 1)?;
+    create(disk, 0, FIRST_FORMAT, 1)?;
     let mut journal = Journal::start(disk)?;
     journal.append(disk, &[0, 0, 0, 2, 1, 0, 0])?;
     Ok(())
@@ -198,29 +247,40 @@ fn cleared(rt: HostRuntime) {
     }
 }
 
-// Prepares a journal in file 0, adds the payload 01 00, and only then publishes it.
-fn publish_one(disk: &mut Untold) -> Result<Journal, DiskFault> {
-    prepare(disk, 0, 1)?;
-    let mut journal = Journal::fresh(0, 1);
+// Prepares a journal of this format in file 0, adds the payload 01 00, and only then publishes it.
+fn publish_one(disk: &mut Untold, format: u8) -> Result<Journal, DiskFault>
+    requires { is_format format ≡ true }
+{
+    prepare(disk, 0, format, 1)?;
+    let mut journal = Journal::fresh(0, format, 1);
     journal.append(disk, &[0, 0, 0, 2, 1, 0, 0])?;
     publish(disk, 0)?;
     Ok(journal)
 }
 
-#[test]
-fn published(rt: HostRuntime) {
-    let mut disk = Untold::new(disk_with(&rt, &[0]));
-    let journal = kept(&rt, publish_one(&mut disk));
+fn published_in<R: Abort + AllocGlobal>(rt: &R, format: u8)
+    requires { is_format format ≡ true }
+{
+    let mut disk = Untold::new(disk_with(rt, &[0]));
+    let journal = kept(rt, publish_one(&mut disk, format));
     let header = (journal.file(), journal.format(), journal.generation());
-    same(&rt, &header, &(0, 1, 1));
-    same(&rt, &disk.disk.file(0), &ROW.as_slice());
-    same(&rt, &disk.disk.calls(), &8);
+    same(rt, &header, &(0, format, 1));
+    let mut bytes = ROW;
+    bytes[5] = format;
+    same(rt, &disk.disk.file(0), &bytes.as_slice());
+    same(rt, &disk.disk.calls(), &8);
     let mut reader = journal.rewind();
     let mut to = Vec::new(rt.alloc());
-    same(&rt, &reader.next_frame(&mut disk, &mut to), &Ok(true));
-    same(&rt, &to.as_slice(), &[1u8, 0].as_slice());
-    same(&rt, &reader.next_frame(&mut disk, &mut to), &Ok(false));
-    same(&rt, &(reader.end(), disk.disk.calls()), &(22, 11));
+    same(rt, &reader.next_frame(&mut disk, &mut to), &Ok(true));
+    same(rt, &to.as_slice(), &[1u8, 0].as_slice());
+    same(rt, &reader.next_frame(&mut disk, &mut to), &Ok(false));
+    same(rt, &(reader.end(), disk.disk.calls()), &(22, 11));
+}
+
+#[test]
+fn published(rt: HostRuntime) {
+    published_in(&rt, FIRST_FORMAT);
+    published_in(&rt, SECOND_FORMAT);
 }
 
 // Whatever call fails, there is no store before the gate of the header is written.
@@ -229,7 +289,7 @@ fn not_published(rt: HostRuntime) {
     for failing in 0..9u64 {
         let mut disk = Untold::new(disk_with(&rt, &[0]));
         kept(&rt, disk.disk.fail_at(failing));
-        let is_failed = publish_one(&mut disk).is_err();
+        let is_failed = publish_one(&mut disk, SECOND_FORMAT).is_err();
         let old = read_pick(&rt, &disk.disk, Pick::Old);
         let new = read_pick(&rt, &disk.disk, Pick::New);
         let there = |call: u64| if failing < call { NONE } else { WHOLE };

@@ -1,6 +1,6 @@
 //! Plays the cases of its input over a host in memory, by the commands of a node, and prints what
 //! each run of `sync` came to: its status, its lines, what was sent on each link, and the files that
-//! it left. What it must print was made by `bench/run_model.py`, a node by plain scans that shares
+//! it left. What it must print was made by `oracle/run_model.py`, a node by plain scans that shares
 //! nothing with this one.
 //!
 //! A case is a line `case NAME` and lines of these forms:

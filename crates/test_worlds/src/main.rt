@@ -1,5 +1,5 @@
 //! Plays the worlds of its input, as the program `bsp_replay` does, and prints what each came to: its
-//! status, and what it wrote to both outputs. What it must print was made by `bench/world_model.py`,
+//! status, and what it wrote to both outputs. What it must print was made by `oracle/world_model.py`,
 //! worlds by plain scans that share nothing with this one.
 //!
 //! A zero byte stands between two cases. A case is three lines, and then a script as it is:

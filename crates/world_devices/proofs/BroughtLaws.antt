@@ -5,7 +5,8 @@ use Rattle.std.proofs.lemmas.Grind.{flat_map-append}
 use Rattle.std.proofs.lemmas.List.{take-append-drop}
 use Rattle.outside.specs.Links.{Answered, HeardOn, Planned, Reply, piece, pause, close, failure, got, idle, ended, hear_failure, hear_reply, changed_at, nothing_heard}
 use Rattle.outside.specs.Planned.{UsesPlan, pieces, plan_after, reply_to}
-use Rattle.outside.specs.Runs.{changed_at_other, changed_at_same, heard_bytes, reply_bytes}
+use Rattle.outside.specs.Runs.{heard_bytes, reply_bytes}
+use Rattle.outside.proofs.RunLaws.{changed_at_other, changed_at_same}
 use Rattle.outside.specs.HostTold.{heard_on, host_told, length-changed_at}
 use Rattle.outside.specs.MemDisk.{answers_after}
 use Rattle.outside.specs.MemHost.{MemHostValue, plans_of}

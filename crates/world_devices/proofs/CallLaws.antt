@@ -14,7 +14,8 @@ use Rattle.entry_codec.specs.Standing.{stands, journal}
 use Rattle.sync_course.specs.Events.{Event}
 use Rattle.sync_course.specs.Events as events
 use Rattle.sync_rules.specs.declared.entries.Session.{Session}
-use Rattle.sync_rules.specs.Elements.{In, In-append_left}
+use Rattle.sync_rules.specs.Lists.{In}
+use Rattle.sync_rules.proofs.Elements.{In-append_left}
 use Rattle.sync_rules.specs.Facts.{Facts, after_all, facts, session_at}
 use Rattle.sync_node.specs.Courses.{AllRead, BreaksBeginning, BreaksTurn, Begins, MakesTurn}
 use Rattle.std.specs.Option.{option_map}
@@ -33,7 +34,7 @@ use Rattle.sync_course.specs.declared.ends.LinkEnd.TheVariants as link_end
 use Rattle.sync_rules.specs.Legal.{Legal}
 use Rattle.sync_rules.specs.declared.entries.Entry.TheVariants as entry
 use Rattle.sync_rules.specs.Consistency.{IsConsistent}
-use Rattle.sync_rules.specs.ConsistencyLaws.{legal_consistent}
+use Rattle.sync_rules.proofs.ConsistencyLaws.{legal_consistent}
 use Rattle.sync_store.specs.Fitting.{Fits}
 use Rattle.sync_node.specs.declared.node.Plan.{Plan}
 use Rattle.sync_node.specs.Plans.{session_of}

@@ -7,10 +7,12 @@ use Rattle.outside.specs.Files.{Two, File, IsImage, settled}
 use Rattle.outside.specs.Host.{Dials}
 use Rattle.outside.specs.Links.{Answered, Link, Links, HeardOn}
 use Rattle.outside.specs.Outside.{Outside}
-use Rattle.outside.specs.Runs.{Told, answers_at, heard_bytes, others_dial, sent_at}
+use Rattle.outside.specs.Runs.{Told, answers_at, heard_bytes, sent_at}
+use Rattle.outside.proofs.RunLaws.{others_dial}
 use Rattle.outside.specs.Calls.{CallsGoOn}
-use Rattle.outside.specs.Steps.{go_on_none, go_on_then}
-use Rattle.outside.specs.MemDisk.{Change, hosted, MemDiskValue, calls_of, KeptFile, kept_after, changed, both_kept, disk_files, files_of, fresh, links_after, answers_after}
+use Rattle.outside.proofs.CallSteps.{go_on_none, go_on_then}
+use Rattle.outside.specs.Changes.{Change, hosted}
+use Rattle.outside.specs.MemDisk.{MemDiskValue, calls_of, KeptFile, kept_after, changed, both_kept, disk_files, files_of, fresh, links_after, answers_after}
 use Rattle.outside.specs.MemHost.{MemHostValue, Readings, Crashes, fresh_host, plans_of}
 use Rattle.outside.specs.declared.limits.TheConstants.{LINKS}
 use Rattle.world_devices.specs.Brought.{IsSilent, brought_on, planned_bytes}

@@ -6,7 +6,8 @@ use Rattle.std.proofs.lemmas.List.{ext_get_or}
 use Rattle.outside.specs.Files.{Two, File, IsFileImage, read_files, settled}
 use Rattle.outside.specs.Links.{Link, HeardOn, sent_of}
 use Rattle.outside.specs.Outside.{Outside, Moment}
-use Rattle.outside.specs.Runs.{IsFront, Told, answers_at, front_then, front_same, heard_bytes, sent_at}
+use Rattle.outside.specs.Runs.{IsFront, Told, answers_at, heard_bytes, sent_at}
+use Rattle.outside.proofs.RunLaws.{front_then, front_same}
 use Rattle.frame_journal.specs.Gates.{AnyImage}
 use Rattle.client_basic.specs.Bodies.{bundle_meaning}
 use Rattle.record_grammar.specs.Spelling.{spelling}

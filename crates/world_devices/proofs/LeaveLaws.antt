@@ -15,11 +15,11 @@ use Rattle.entry_codec.specs.StandingLaws.{StandingIsLegal}
 use Rattle.sync_rules.specs.declared.entries.Entry.{Entry}
 use Rattle.sync_rules.specs.declared.entries.Entry.TheVariants as entry
 use Rattle.sync_rules.specs.declared.entries.Session.{Session}
-use Rattle.sync_rules.specs.Continuing.{facts-append, legal-back}
-use Rattle.sync_rules.specs.Elements.{In}
+use Rattle.sync_rules.proofs.Continuing.{facts-append, legal-back}
+use Rattle.sync_rules.specs.Lists.{In}
 use Rattle.sync_rules.specs.Facts.{Facts, after_all, after_batches, facts}
 use Rattle.sync_rules.specs.Legal.{AllSettling, IsSettlingBatch}
-use Rattle.sync_rules.specs.StepLaws.{next_is_settling}
+use Rattle.sync_rules.proofs.StepLaws.{next_is_settling}
 use Rattle.sync_store.specs.Store.{StoreValue}
 use Rattle.sync_store.specs.Fitting.{Fits}
 use Rattle.sync_store.specs.Moments.{IsBetween, Leads}

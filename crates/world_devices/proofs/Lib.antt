@@ -11,3 +11,4 @@ pub mod AddLaws
 mod StartLaws
 pub mod GivingUpLaws
 pub mod HeldLaws
+pub mod NewJournals

@@ -22,7 +22,7 @@ use Rattle.world_devices.specs.Cited.{SettlingLeaves}
 use Rattle.world_devices.specs.Devices.{DeviceValue, IsAnew, IsReadyStore, IsRunning, MayBeRunning}
 use Rattle.world_devices.specs.Doing.{Adds, SettlesFrom}
 use Rattle.world_devices.specs.Linking.{IsBare, IsBareIn, IsNewDevice, IsUnlinked, KeepsLinks, LinksBy, WhenDone, new_journal}
-use Rattle.world_devices.specs.NewJournals.{new_holds}
+use Rattle.world_devices.proofs.NewJournals.{new_holds}
 use Rattle.world_devices.specs.Running.{Holds}
 use Rattle.world_devices.specs.declared.starting.StartFault.{StartFault}
 use Rattle.world_devices.specs.declared.stop.Ran.{Ran}

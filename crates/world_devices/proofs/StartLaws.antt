@@ -4,7 +4,7 @@ use Rattle.outside.specs.Files.{Two, File, IsImage, read_files, settled}
 use Rattle.outside.specs.HostTold.{host_told}
 use Rattle.outside.specs.Links.{Links, sent_of}
 use Rattle.outside.specs.MemDisk.{calls_of, fresh}
-use Rattle.outside.specs.Steps.{go_on_then}
+use Rattle.outside.proofs.CallSteps.{go_on_then}
 use Rattle.outside.specs.MemHost.{Crashes, MemHostValue, fresh_host, upcoming_of}
 use Rattle.outside.specs.Outside.{Moment, Outside}
 use Rattle.outside.specs.declared.limits.TheConstants.{LINKS}

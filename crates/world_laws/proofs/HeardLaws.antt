@@ -10,18 +10,18 @@ use Rattle.sync_rules.specs.declared.entries.Entry.{Entry}
 use Rattle.sync_rules.specs.declared.entries.Entry.TheVariants as entry
 use Rattle.sync_rules.specs.declared.entries.Session.{Session}
 use Rattle.sync_rules.specs.Clients.{Meaning}
-use Rattle.sync_rules.specs.ConsistencyLaws.{held_at-cases}
-use Rattle.sync_rules.specs.Continuing.{continues_all}
-use Rattle.sync_rules.specs.Elements.{In, same_id-is, same_id_itself}
+use Rattle.sync_rules.proofs.ConsistencyLaws.{held_at-cases}
+use Rattle.sync_rules.proofs.Continuing.{continues_all}
+use Rattle.sync_rules.specs.Lists.{In, firsts, is_among, same_id}
+use Rattle.sync_rules.proofs.Elements.{same_id-is, same_id_itself}
 use Rattle.sync_rules.specs.Facts.{Facts, Held, Id, after, after_all, arrived, authored, contact_in, contact_of, entries_of, held_at, row_at, session_at}
 use Rattle.sync_rules.specs.Laws.{IsAuthored}
 use Rattle.sync_rules.specs.Legal.{Allowed, GoesOn, IsSettling}
-use Rattle.sync_rules.specs.Lists.{firsts, is_among, same_id}
 use Rattle.sync_rules.specs.Meeting.{AllMeet, Meets}
 use Rattle.sync_rules.specs.PeerLaws.{is_shown_seen, is_with}
-use Rattle.sync_rules.specs.RowLaws.{among-firsts, seen_step}
+use Rattle.sync_rules.proofs.RowLaws.{among-firsts, seen_step}
 use Rattle.sync_rules.specs.Sessions.{is_remembered, is_welcome, one_if, room_after, taken, taken_acks, taken_message, taken_message_of, taken_offer, taken_offers, taken_requests}
-use Rattle.sync_rules.specs.StepLaws.{IsSettlingEntry, next_is_settling}
+use Rattle.sync_rules.proofs.StepLaws.{IsSettlingEntry, next_is_settling}
 use Rattle.world_laws.specs.Worlds.{AllHeard, IsHeard, names}
 
 -- ---- what the entries of a record say

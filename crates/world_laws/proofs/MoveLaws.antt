@@ -2,7 +2,8 @@
 use Rattle.std.proofs.Common.{ℕ, zero, suc, Bool, true, false, ◌⊎◌, List, [], ◌∷◌, ◌++◌, append-nil, refl, sym, inl, inr, Option, Some, None}
 use Rattle.sync_ids.specs.declared.records.Record.{Record}
 use Rattle.sync_rules.specs.Clients.{Meaning}
-use Rattle.sync_rules.specs.Elements.{In, In-append_cases}
+use Rattle.sync_rules.specs.Lists.{In}
+use Rattle.sync_rules.proofs.Elements.{In-append_cases}
 use Rattle.world_laws.specs.Worlds.{End, IsStep, Journal, Link, Way, WayRuns, WaysRun, World, journal_at, link_in, way_in, way_of}
 use Rattle.world_laws.specs.Moves.{Carry, Cut, Lose, Move, Repeat, Swap, first_of, flight_after, given_by, link_after, links_after, other_after, receiver_after, sender_after, world_after}
 

@@ -6,7 +6,7 @@ use Rattle.sync_rules.specs.declared.entries.Mode.{Mode}
 use Rattle.sync_rules.specs.declared.entries.Mode.TheVariants as mode_kind
 use Rattle.sync_rules.specs.declared.entries.Out.{Out}
 use Rattle.sync_rules.specs.declared.entries.Session.{Session}
-use Rattle.sync_rules.specs.Elements.{In}
+use Rattle.sync_rules.specs.Lists.{In}
 use Rattle.sync_rules.specs.Facts.{Facts, Held, Id, Row, row_at}
 use Rattle.sync_rules.specs.Sessions.{acks_due, due_by, first_id, ids_where, is_ripe, is_sendable, offers_due, offers_of, out_or, owed_to, requests_due, send_due, send_of, wanted_of}
 

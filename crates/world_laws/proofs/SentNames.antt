@@ -12,23 +12,23 @@ use Rattle.sync_rules.specs.declared.entries.Out.TheVariants as out
 use Rattle.sync_rules.specs.declared.entries.Session.{Session}
 use Rattle.sync_rules.specs.Clients.{Meaning}
 use Rattle.sync_rules.specs.Consistency.{HasHeld, IsConsistent}
-use Rattle.sync_rules.specs.ConsistencyLaws.{consistent_after, consistent_nothing}
-use Rattle.sync_rules.specs.Continuing.{continues_all}
-use Rattle.sync_rules.specs.DueLaws.{due_names_distinct}
-use Rattle.sync_rules.specs.Elements.{In, In-append_cases, In-append_left, same_id-is}
+use Rattle.sync_rules.proofs.ConsistencyLaws.{consistent_after, consistent_nothing}
+use Rattle.sync_rules.proofs.Continuing.{continues_all}
+use Rattle.sync_rules.proofs.DueLaws.{due_names_distinct}
+use Rattle.sync_rules.specs.Lists.{In, is_among}
+use Rattle.sync_rules.proofs.Elements.{In-append_cases, In-append_left, same_id-is}
 use Rattle.sync_rules.specs.Facts.{Extends, Facts, Held, Id, after, after_all, contact_in, entries_of, facts, held_at, is_held, nothing, session_at}
 use Rattle.sync_rules.specs.Growth.{output_by, output_in, output_of}
-use Rattle.sync_rules.specs.Kept.{after_batches-is, sound_after}
+use Rattle.sync_rules.proofs.Kept.{after_batches-is, sound_after}
 use Rattle.sync_rules.specs.Legal.{Legal}
-use Rattle.sync_rules.specs.Lists.{is_among}
 use Rattle.sync_rules.specs.Meeting.{AllMeet, Meets}
-use Rattle.sync_rules.specs.MeetingLaws.{legal_meets, meets_fits}
+use Rattle.sync_rules.proofs.MeetingLaws.{legal_meets, meets_fits}
 use Rattle.sync_rules.specs.Naming.{NamesDistinct}
 use Rattle.sync_rules.specs.Output.{first_records, message_record, nonce_record, records_of, sent}
-use Rattle.sync_rules.specs.Outputs.{FoundIn}
-use Rattle.sync_rules.specs.OutputLaws.{sent_append, sent_is}
-use Rattle.sync_rules.specs.Runs.{sound_nothing}
-use Rattle.sync_rules.specs.Sound.{SoundFacts}
+use Rattle.sync_rules.proofs.Outputs.{FoundIn}
+use Rattle.sync_rules.proofs.OutputLaws.{sent_append, sent_is}
+use Rattle.sync_rules.proofs.Runs.{sound_nothing}
+use Rattle.sync_rules.proofs.Sound.{SoundFacts}
 use Rattle.world_laws.specs.Worlds.{IsSent, Journal, names}
 
 -- a message that is held under its id

@@ -12,19 +12,18 @@ use Rattle.sync_rules.specs.declared.entries.Entry.TheVariants as entry
 use Rattle.sync_rules.specs.declared.entries.Session.{Session}
 use Rattle.sync_rules.specs.Clients.{Meaning}
 use Rattle.sync_rules.specs.Consistency.{HasRows}
-use Rattle.sync_rules.specs.ConsistencyLaws.{legal_consistent}
-use Rattle.sync_rules.specs.Continuing.{continues_journals, facts-append, legal-append}
-use Rattle.sync_rules.specs.Elements.{In}
+use Rattle.sync_rules.proofs.ConsistencyLaws.{legal_consistent}
+use Rattle.sync_rules.proofs.Continuing.{continues_journals, facts-append, legal-append}
+use Rattle.sync_rules.specs.Lists.{In, is_among}
 use Rattle.sync_rules.specs.Facts.{Extends, Facts, Held, Id, Row, after_all, entries_of, facts, held_at, is_held, is_level_shared, level_at, row_at, row_or, session_at}
-use Rattle.sync_rules.specs.Kept.{after_batches-is}
+use Rattle.sync_rules.proofs.Kept.{after_batches-is}
 use Rattle.sync_rules.specs.Laws.{IsAuthored}
 use Rattle.sync_rules.specs.Legal.{Legal}
-use Rattle.sync_rules.specs.Lists.{is_among}
-use Rattle.sync_rules.specs.MeetingLaws.{goes_on_meets}
-use Rattle.sync_rules.specs.Outputs.{entries_of-append}
+use Rattle.sync_rules.proofs.MeetingLaws.{goes_on_meets}
+use Rattle.sync_rules.proofs.Outputs.{entries_of-append}
 use Rattle.sync_rules.specs.Output.{sent}
 use Rattle.sync_rules.specs.Sessions.{is_author, shared_ids}
-use Rattle.sync_rules.specs.Sound.{held_at-In, held_at-id}
+use Rattle.sync_rules.proofs.Sound.{held_at-In, held_at-id}
 use Rattle.world_laws.specs.Theorem.{HeldIsWritten, IsNewWorld, IsSoundWorld, IsWritten, RestIsDone, SeenIsHeld}
 use Rattle.world_laws.specs.Worlds.{AreSteps, HasSession, IsSent, IsStep, Journal, Link, Linked, Runs, WasGiven, Way, WayRuns, WaysRun, World, contact_for, journal_at, last_of, link_in, new_end, way_at, way_in, way_of}
 use Rattle.world_laws.proofs.SentNames.{SentHeld, sent_message, sent_named, sent_stays}

@@ -3,11 +3,10 @@ use Rattle.std.specs.Prelude.{◌≡◌, ℕ, ◌≤◌, Bool, true, ◌||◌, [
 use Rattle.sync_rules.specs.declared.entries.Session.{Session}
 use Rattle.sync_ids.specs.declared.records.Record.{Record}
 use Rattle.sync_rules.specs.Clients.{Meaning}
-use Rattle.sync_rules.specs.Elements.{In}
+use Rattle.sync_rules.specs.Lists.{In, is_among}
 use Rattle.sync_rules.specs.Facts.{Facts, Held, Id, entries_of, facts, held_at, is_held, is_level_shared, level_at, row_at, session_at}
 use Rattle.sync_rules.specs.Laws.{IsAuthored}
 use Rattle.sync_rules.specs.Legal.{Legal}
-use Rattle.sync_rules.specs.Lists.{is_among}
 use Rattle.sync_rules.specs.Sessions.{due, is_author, shared_ids}
 use Rattle.world_laws.specs.Worlds.{HasSession, IsSent, Way, World, contact_for, journal_at, way_at}
 

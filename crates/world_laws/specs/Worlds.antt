@@ -8,10 +8,9 @@ use Rattle.sync_rules.specs.declared.entries.Entry.{Entry}
 use Rattle.sync_rules.specs.declared.entries.Entry.TheVariants as entry
 use Rattle.sync_rules.specs.declared.entries.Session.{Session}
 use Rattle.sync_rules.specs.Clients.{Meaning}
-use Rattle.sync_rules.specs.Elements.{In}
+use Rattle.sync_rules.specs.Lists.{In, same_id, is_among}
 use Rattle.sync_rules.specs.Facts.{Facts, Id, after_all, facts, session_at}
 use Rattle.sync_rules.specs.Legal.{GoesOn}
-use Rattle.sync_rules.specs.Lists.{same_id, is_among}
 use Rattle.sync_rules.specs.Output.{sent}
 use Rattle.sync_rules.specs.Sessions.{taken}
 

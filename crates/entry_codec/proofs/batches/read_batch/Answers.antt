@@ -10,12 +10,12 @@ use Rattle.entry_codec.proofs.batches.read_batch.Goals.{In-Ok-new}
 pub entries-smaller : goal.entries-smaller
 entries-smaller c =
     let fits : IsBytes c.args.bytes.now = λ i. omega (arith, c.type_inv.bytes i) in
-    rest_shorter c.args.bytes.now c.entries.front.rest.now c.read_tagged.new.front.rest.now c.entries.entries.items c.in-Ok.entry fits c.entries.invariant c.in-Ok.ensures
+    rest_shorter c.args.bytes.now c.entries.front.rest.now c.read_whole.new.front.rest.now c.entries.entries.items c.in-Ok.entry fits c.entries.invariant c.in-Ok.ensures
 
 pub entries-preserved : goal.entries-preserved
 entries-preserved c =
     let fits : IsBytes c.args.bytes.now = λ i. omega (arith, c.type_inv.bytes i) in
-    let more = in_more c.args.bytes.now c.entries.front.rest.now c.read_tagged.new.front.rest.now c.entries.entries.items c.in-Ok.entry fits c.entries.invariant c.in-Ok.ensures in
+    let more = in_more c.args.bytes.now c.entries.front.rest.now c.read_whole.new.front.rest.now c.entries.entries.items c.in-Ok.entry fits c.entries.invariant c.in-Ok.ensures in
     rw (c.in_ok-push-in-Ok.ensures.items) more
 
 pub returns-in-Err-BadEntry-clause-exact : goal.returns-in-Err-BadEntry-clause-exact

@@ -1,11 +1,8 @@
-use Rattle.std.proofs.Common.{◌≡◌, ◌++◌, length, take}
-use Rattle.std.specs.List.{AllByRecursion, flat_map}
-use Rattle.entry_codec.specs.Spelling.{whole}
+use Rattle.std.proofs.Common.{◌≡◌, ◌++◌, take}
+use Rattle.std.specs.List.{flat_map}
+use Rattle.entry_codec.specs.Naming.{held_bytes}
 use Rattle.entry_codec.proofs.writing.append_ids.Given as goal
 
--- the ids so far are written, and each has 32 bytes
+-- the ids so far are written
 abbrev pub invariant-ids : goal.invariant-ids
-invariant-ids l = record {
-  so_far : l.to.items ≡ l.fn.to.items ++ flat_map whole (take l.id-index l.ids);
-  whole_ids : AllByRecursion (λ id. length id ≡ 32) (take l.id-index l.ids);
-}
+invariant-ids g l = l.to.items ≡ l.fn.to.items ++ flat_map (held_bytes l.format (g.N.Names.named l.names)) (take l.id-index l.ids)

@@ -1,6 +1,6 @@
 use Rattle.std.proofs.Common.{◌≡◌, min, ◌-◌, length, rules, refl}
 use Rattle.outside.specs.Files.{file_of}
-use Rattle.outside.specs.Steps.{looks_none}
+use Rattle.outside.proofs.CallSteps.{looks_none}
 use Rattle.frame_journal.proofs.Read.{looks_once, gate_count, gate_front}
 use Rattle.frame_journal.proofs.frame.read_gate.Goals as goal
 

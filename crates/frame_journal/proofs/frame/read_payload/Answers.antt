@@ -1,4 +1,4 @@
-use Rattle.outside.specs.Steps.{looks_none}
+use Rattle.outside.proofs.CallSteps.{looks_none}
 use Rattle.frame_journal.proofs.Read.{looks_once}
 use Rattle.frame_journal.proofs.frame.read_payload.Goals as goal
 

@@ -1,7 +1,7 @@
 use Rattle.std.proofs.Common.{◌≡◌, inr, false}
 use Rattle.outside.specs.Files.{file_of}
 use Rattle.outside.specs.Frames.{is_open}
-use Rattle.outside.specs.Steps.{becomes_told}
+use Rattle.outside.proofs.CallSteps.{becomes_told}
 use Rattle.frame_journal.specs.Create.{ShutsGate, Shortens, Clears, BeforeOrShut}
 use Rattle.frame_journal.proofs.ClearSteps.{on_ok_map, becomes_new, becomes_then, clears, passed_then}
 use Rattle.frame_journal.proofs.gates.clear.Goals as goal

@@ -19,8 +19,8 @@ returns-clause-prepared g c =
     let file = c.args.file in
     let P : List ℕ → Type 0 = λ l. Becomes (WritesBehind file 1 l) o.files o'.files in
     on_ok_map c.write_behind.result _ _
-    (λ written. becomes_map (WritesBehind file 1 (behind_gate c.args.generation)) (Prepares file c.args.generation) o.files o'.files
-    (λ (two two' : Two File) told. writes_prepares file c.args.generation two two' (c.requires.cleared two told)) (subst P c.behind_gate-bytes.ensures written))
+    (λ written. becomes_map (WritesBehind file 1 (behind_gate c.args.format c.args.generation)) (Prepares file c.args.format c.args.generation) o.files o'.files
+    (λ (two two' : Two File) told. writes_prepares file c.args.format c.args.generation two two' (c.requires.cleared two told)) (subst P c.behind_gate-bytes.ensures written))
     c.write_behind.ensures.written
 
 pub returns-clause-any_moment : goal.returns-clause-any_moment

@@ -2,7 +2,7 @@
 use Rattle.std.proofs.Common.{◌≡◌, List, sym, subst, refl}
 use Rattle.sync_rules.specs.declared.entries.Entry.{Entry}
 use Rattle.sync_rules.specs.Hearing.{IsHearing, one_session}
-use Rattle.sync_rules.specs.HearLaws.{one_session_hears}
+use Rattle.sync_rules.proofs.HearLaws.{one_session_hears}
 use Rattle.plain_rules.proofs.hearing.begin_session.Goals as goal
 
 pub returns-clause-hearing : goal.returns-clause-hearing

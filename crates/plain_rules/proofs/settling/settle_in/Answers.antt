@@ -3,7 +3,7 @@ use Rattle.std.proofs.Common.{List, sym, ◌∙◌, ap}
 use Rattle.sync_rules.specs.declared.entries.Entry.{Entry}
 use Rattle.sync_rules.specs.Facts.{facts}
 use Rattle.sync_rules.specs.Steps.{next}
-use Rattle.sync_rules.specs.WorkLaws.{settles_then, settles_legal}
+use Rattle.sync_rules.proofs.WorkLaws.{settles_then, settles_legal}
 use Rattle.plain_rules.proofs.Filling.{fewer_left}
 use Rattle.plain_rules.proofs.settling.settle_in.Goals as goal
 

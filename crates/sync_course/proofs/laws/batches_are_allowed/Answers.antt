@@ -1,4 +1,4 @@
-use Rattle.sync_course.specs.MoveLaws.{path_moves}
+use Rattle.sync_course.proofs.MoveLaws.{path_moves}
 use Rattle.sync_course.proofs.laws.batches_are_allowed.Goals as goal
 
 pub returns-clause-allowed : goal.returns-clause-allowed

@@ -1,7 +1,7 @@
-use Rattle.sync_rules.specs.Continuing.{front_itself}
+use Rattle.sync_rules.proofs.Continuing.{front_itself}
 use Rattle.sync_rules.specs.Facts.{facts}
-use Rattle.sync_course.specs.RunLaws.{first_sound}
-use Rattle.sync_course.specs.SuitLaws.{path_suits}
+use Rattle.sync_course.proofs.RunLaws.{first_sound}
+use Rattle.sync_course.proofs.SuitLaws.{path_suits}
 use Rattle.sync_course.specs.Suits.{heard_on}
 use Rattle.sync_course.specs.Turns.{first_place}
 use Rattle.sync_course.proofs.laws.batches_suit.Goals as goal

@@ -1,4 +1,4 @@
-use Rattle.sync_course.specs.IdleLaws.{ends_quiet, ends_unfinished}
+use Rattle.sync_course.proofs.IdleLaws.{ends_quiet, ends_unfinished}
 use Rattle.sync_course.proofs.laws.idle_links_end_quiet.Goals as goal
 
 pub returns-clause-quiet : goal.returns-clause-quiet

@@ -1,4 +1,4 @@
-use Rattle.sync_course.specs.LiftLaws.{link_lifts, others_keep}
+use Rattle.sync_course.proofs.LiftLaws.{link_lifts, others_keep}
 use Rattle.sync_course.proofs.laws.links_lift.Goals as goal
 
 pub returns-clause-lifts : goal.returns-clause-lifts

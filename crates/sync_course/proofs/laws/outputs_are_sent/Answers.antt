@@ -1,10 +1,10 @@
 use Rattle.std.proofs.Common.{subst, sym}
-use Rattle.sync_rules.specs.Continuing.{legal-append}
+use Rattle.sync_rules.proofs.Continuing.{legal-append}
 use Rattle.sync_rules.specs.Facts.{Facts}
 use Rattle.sync_rules.specs.Legal.{GoesOn}
-use Rattle.sync_rules.specs.OutputLaws.{sent_append}
+use Rattle.sync_rules.proofs.OutputLaws.{sent_append}
 use Rattle.sync_course.specs.Events.{batches_of}
-use Rattle.sync_course.specs.MoveLaws.{path_moves}
+use Rattle.sync_course.proofs.MoveLaws.{path_moves}
 use Rattle.sync_course.proofs.laws.outputs_are_sent.Goals as goal
 
 pub returns : goal.returns

@@ -1,5 +1,5 @@
 use Rattle.sync_course.specs.LinkTurns.{LinkStep}
-use Rattle.sync_course.specs.PathLaws.{path_parts, path_push, path_then}
+use Rattle.sync_course.proofs.PathLaws.{path_parts, path_push, path_then}
 use Rattle.sync_course.specs.Turns.{RunStep}
 use Rattle.sync_course.proofs.laws.paths_join.Goals as goal
 

@@ -1,4 +1,4 @@
-use Rattle.sync_course.specs.KeptLaws.{closed_whole, closes_next, kept_rather}
+use Rattle.sync_course.proofs.KeptLaws.{closed_whole, closes_next, kept_rather}
 use Rattle.sync_course.proofs.laws.redundant_links_have_better.Goals as goal
 
 pub returns-clause-better : goal.returns-clause-better

@@ -1,5 +1,5 @@
 use Rattle.sync_rules.specs.Facts.{facts}
-use Rattle.sync_course.specs.RunLaws.{first_sound, path_sound}
+use Rattle.sync_course.proofs.RunLaws.{first_sound, path_sound}
 use Rattle.sync_course.specs.Turns.{first_place}
 use Rattle.sync_course.proofs.laws.takes_are_fronts.Goals as goal
 

@@ -1,7 +1,7 @@
 use Rattle.std.proofs.Common.{Ok, Err}
 use Rattle.sync_store.specs.declared.fault.StoreFault.TheVariants as store_fault
 use Rattle.sync_node.proofs.CommitLaws.{committed, safe_commit}
-use Rattle.sync_node.specs.CourseLaws.{commit_adds, commit_adds_some}
+use Rattle.sync_node.proofs.CourseLaws.{commit_adds, commit_adds_some}
 use Rattle.sync_node.proofs.CommitLaws.{goes_adds}
 use Rattle.sync_node.proofs.CourseTakes.{over_limit}
 use Rattle.sync_store.specs.declared.fault.StoreFault.TheVariants as store_fault

@@ -1,5 +1,5 @@
 use Rattle.sync_node.proofs.CommitLaws.{safe_settle, settled}
-use Rattle.sync_node.specs.CourseLaws.{settle_adds, settle_adds_some}
+use Rattle.sync_node.proofs.CourseLaws.{settle_adds, settle_adds_some}
 use Rattle.sync_node.proofs.CommitLaws.{goes_settled}
 use Rattle.sync_node.proofs.told.settle.Goals as goal
 

@@ -1,4 +1,4 @@
-use Rattle.sync_rules.specs.Continuing.{continues_after, continues_all, continues_batches, continues_journals, continues_then}
+use Rattle.sync_rules.proofs.Continuing.{continues_after, continues_all, continues_batches, continues_journals, continues_then}
 use Rattle.sync_rules.proofs.growth.continues.Goals as goal
 
 pub returns-clause-one : goal.returns-clause-one

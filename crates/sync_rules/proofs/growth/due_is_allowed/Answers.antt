@@ -1,4 +1,4 @@
-use Rattle.sync_rules.specs.DueLaws.{due_allowed, due_names_distinct}
+use Rattle.sync_rules.proofs.DueLaws.{due_allowed, due_names_distinct}
 use Rattle.sync_rules.proofs.growth.due_is_allowed.Goals as goal
 
 pub returns-clause-allowed : goal.returns-clause-allowed

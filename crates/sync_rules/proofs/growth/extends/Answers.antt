@@ -1,6 +1,6 @@
-use Rattle.sync_rules.specs.WorkLaws.{facts-push}
-use Rattle.sync_rules.specs.Kept.{after_batches-is}
-use Rattle.sync_rules.specs.Continuing.{extends_itself, extends_then, facts-append}
+use Rattle.sync_rules.proofs.WorkLaws.{facts-push}
+use Rattle.sync_rules.proofs.Kept.{after_batches-is}
+use Rattle.sync_rules.proofs.Continuing.{extends_itself, extends_then, facts-append}
 use Rattle.sync_rules.proofs.growth.extends.Goals as goal
 
 pub returns-clause-itself : goal.returns-clause-itself

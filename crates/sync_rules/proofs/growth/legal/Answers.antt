@@ -1,5 +1,5 @@
-use Rattle.sync_rules.specs.WorkLaws.{allowed_settling, settling_goes_on, settles_legal}
-use Rattle.sync_rules.specs.Continuing.{legal-push, legal-append, legal-front, legal-back}
+use Rattle.sync_rules.proofs.WorkLaws.{allowed_settling, settling_goes_on, settles_legal}
+use Rattle.sync_rules.proofs.Continuing.{legal-push, legal-append, legal-front, legal-back}
 use Rattle.sync_rules.proofs.growth.legal.Goals as goal
 
 pub returns-clause-push : goal.returns-clause-push

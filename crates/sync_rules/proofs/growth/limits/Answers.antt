@@ -1,4 +1,4 @@
-use Rattle.sync_rules.specs.DueLaws.{limits_all, legal_limits, records_within, sent_within}
+use Rattle.sync_rules.proofs.DueLaws.{limits_all, legal_limits, records_within, sent_within}
 use Rattle.sync_rules.proofs.growth.limits.Goals as goal
 
 pub returns-clause-entries : goal.returns-clause-entries

@@ -1,4 +1,4 @@
-use Rattle.sync_rules.specs.MeetingLaws.{allowed_meets, each_meets}
+use Rattle.sync_rules.proofs.MeetingLaws.{allowed_meets, each_meets}
 use Rattle.sync_rules.proofs.growth.meets.Goals as goal
 
 pub returns-clause-batch : goal.returns-clause-batch

@@ -1,5 +1,5 @@
-use Rattle.sync_rules.specs.RoundLaws.{good_le, bad_le}
-use Rattle.sync_rules.specs.Settling.{rounds_grow}
+use Rattle.sync_rules.proofs.RoundLaws.{good_le, bad_le}
+use Rattle.sync_rules.proofs.Settling.{rounds_grow}
 use Rattle.sync_rules.proofs.growth.rounds.Goals as goal
 
 pub returns-clause-good : goal.returns-clause-good

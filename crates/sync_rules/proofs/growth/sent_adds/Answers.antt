@@ -1,5 +1,5 @@
-use Rattle.sync_rules.specs.OutputLaws.{sent_whole, sent_append, sent_push, sent_begins, silent_adds_nothing, settling_silent, take_silent}
-use Rattle.sync_rules.specs.DueLaws.{one_record}
+use Rattle.sync_rules.proofs.OutputLaws.{sent_whole, sent_append, sent_push, sent_begins, silent_adds_nothing, settling_silent, take_silent}
+use Rattle.sync_rules.proofs.DueLaws.{one_record}
 use Rattle.sync_rules.proofs.growth.sent_adds.Goals as goal
 
 pub returns-clause-whole : goal.returns-clause-whole

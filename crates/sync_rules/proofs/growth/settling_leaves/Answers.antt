@@ -1,4 +1,4 @@
-use Rattle.sync_rules.specs.StepKinds.{settling_only, all_settling_only, settles_only}
+use Rattle.sync_rules.proofs.StepKinds.{settling_only, all_settling_only, settles_only}
 use Rattle.sync_rules.proofs.growth.settling_leaves.Goals as goal
 
 pub returns-clause-entries : goal.returns-clause-entries

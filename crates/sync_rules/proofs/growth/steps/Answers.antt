@@ -1,4 +1,4 @@
-use Rattle.sync_rules.specs.StepKinds.{next_is_step, same_next, settled_stays}
+use Rattle.sync_rules.proofs.StepKinds.{next_is_step, same_next, settled_stays}
 use Rattle.sync_rules.proofs.growth.steps.Goals as goal
 
 pub returns-clause-kinds : goal.returns-clause-kinds

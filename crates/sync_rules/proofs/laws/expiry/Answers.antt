@@ -1,5 +1,5 @@
 use Rattle.sync_rules.specs.Facts.{entries_of}
-use Rattle.sync_rules.specs.PeerFacts.{expiry_law, no_expiry_law}
+use Rattle.sync_rules.proofs.PeerFacts.{expiry_law, no_expiry_law}
 use Rattle.sync_rules.proofs.laws.expiry.Goals as goal
 
 pub returns-clause-none : goal.returns-clause-none

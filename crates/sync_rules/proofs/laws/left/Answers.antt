@@ -1,4 +1,4 @@
-use Rattle.sync_rules.specs.LeftLaws.{left_few, step_lowers, steps_lower}
+use Rattle.sync_rules.proofs.LeftLaws.{left_few, step_lowers, steps_lower}
 use Rattle.sync_rules.proofs.laws.left.Goals as goal
 
 pub returns-clause-step : goal.returns-clause-step

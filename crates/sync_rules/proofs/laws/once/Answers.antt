@@ -1,4 +1,4 @@
-use Rattle.sync_rules.specs.Flags.{brings_once, judges_once, ends_once}
+use Rattle.sync_rules.proofs.Flags.{brings_once, judges_once, ends_once}
 use Rattle.sync_rules.proofs.laws.once.Goals as goal
 
 pub returns-clause-brings : goal.returns-clause-brings

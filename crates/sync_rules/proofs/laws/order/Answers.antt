@@ -1,4 +1,4 @@
-use Rattle.sync_rules.specs.Flags.{delivers_in_order}
+use Rattle.sync_rules.proofs.Flags.{delivers_in_order}
 use Rattle.sync_rules.proofs.laws.order.Goals as goal
 
 pub returns : goal.returns

@@ -1,5 +1,5 @@
 use Rattle.sync_rules.specs.Facts.{facts}
-use Rattle.sync_rules.specs.Sound.{held_at-In}
+use Rattle.sync_rules.proofs.Sound.{held_at-In}
 use Rattle.sync_rules.proofs.Coming.{has_origin}
 use Rattle.sync_rules.proofs.laws.origin.Goals as goal
 

@@ -1,4 +1,4 @@
-use Rattle.sync_rules.specs.Outputs.{sends_the_open}
+use Rattle.sync_rules.proofs.Outputs.{sends_the_open}
 use Rattle.sync_rules.proofs.laws.output.Goals as goal
 
 pub returns : goal.returns

@@ -1,5 +1,5 @@
 use Rattle.sync_rules.specs.Facts.{entries_of}
-use Rattle.sync_rules.specs.PeerFacts.{owed_law}
+use Rattle.sync_rules.proofs.PeerFacts.{owed_law}
 use Rattle.sync_rules.proofs.laws.owed.Goals as goal
 
 pub returns : goal.returns

@@ -1,4 +1,4 @@
-use Rattle.sync_rules.specs.Settling.{prefix_legal}
+use Rattle.sync_rules.proofs.Settling.{prefix_legal}
 use Rattle.sync_rules.proofs.laws.prefix.Goals as goal
 
 pub returns : goal.returns

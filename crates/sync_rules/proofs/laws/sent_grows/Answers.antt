@@ -1,4 +1,4 @@
-use Rattle.sync_rules.specs.Outputs.{sent_only_grows}
+use Rattle.sync_rules.proofs.Outputs.{sent_only_grows}
 use Rattle.sync_rules.proofs.laws.sent_grows.Goals as goal
 
 pub returns : goal.returns

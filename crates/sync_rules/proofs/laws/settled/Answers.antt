@@ -1,5 +1,5 @@
-use Rattle.sync_rules.specs.RoundLaws.{disjoint}
-use Rattle.sync_rules.specs.Settling.{settled_law, rounds_grow}
+use Rattle.sync_rules.proofs.RoundLaws.{disjoint}
+use Rattle.sync_rules.proofs.Settling.{settled_law, rounds_grow}
 use Rattle.sync_rules.proofs.laws.settled.Goals as goal
 
 pub returns-clause-decided : goal.returns-clause-decided

@@ -1,5 +1,5 @@
 use Rattle.sync_rules.specs.Facts.{entries_of}
-use Rattle.sync_rules.specs.PeerFacts.{tries_law, cut_law}
+use Rattle.sync_rules.proofs.PeerFacts.{tries_law, cut_law}
 use Rattle.sync_rules.proofs.laws.tries.Goals as goal
 
 pub returns-clause-count : goal.returns-clause-count

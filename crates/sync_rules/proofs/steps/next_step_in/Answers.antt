@@ -1,7 +1,7 @@
 -- The first step among all batches is the next step of the journal.
 use Rattle.std.proofs.Common.{◌≡◌, IfOk, Option, subst}
 use Rattle.sync_rules.specs.declared.entries.Entry.{Entry}
-use Rattle.sync_rules.specs.ScanLaws.{next_found}
+use Rattle.sync_rules.proofs.ScanLaws.{next_found}
 use Rattle.sync_rules.proofs.steps.next_step_in.Goals as goal
 
 pub returns : goal.returns

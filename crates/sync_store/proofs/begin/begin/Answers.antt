@@ -1,5 +1,5 @@
 use Rattle.std.proofs.Common.{refl}
-use Rattle.outside.specs.Steps.{becomes_told}
+use Rattle.outside.proofs.CallSteps.{becomes_told}
 use Rattle.frame_journal.specs.Create.{Clears}
 use Rattle.sync_store.proofs.BeginSteps.{begin_then, begun_becomes, clear_moments}
 use Rattle.sync_store.proofs.begin.begin.Goals as goal

@@ -1,4 +1,4 @@
-use Rattle.outside.specs.Steps.{looks_none}
+use Rattle.outside.proofs.CallSteps.{looks_none}
 use Rattle.sync_store.proofs.LoadSteps.{all_read, turns_false}
 use Rattle.sync_store.proofs.load.read_all.Goals as goal
 

@@ -2,7 +2,7 @@ use Rattle.std.proofs.Common.{ap, refl, ◌∙◌, arith}
 use Rattle.outside.specs.MemHost.{MemHostValue}
 use Rattle.outside.specs.HostTold.{host_told}
 use Rattle.outside.specs.MemDisk.{calls_of}
-use Rattle.outside.specs.Steps.{go_on_none}
+use Rattle.outside.proofs.CallSteps.{go_on_none}
 use Rattle.world_devices.proofs.HostLaws.{calls_then, quiet_dialled, quiet_none, told_host}
 use Rattle.world_devices.proofs.starting.dial_all.Goals as goal
 

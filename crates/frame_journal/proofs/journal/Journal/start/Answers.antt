@@ -1,6 +1,7 @@
 use Rattle.std.proofs.Common.{◌∙◌, sym, ap, refl, length}
 use Rattle.outside.specs.Files.{read_files}
-use Rattle.outside.specs.Steps.{looks_then, looks_call}
+use Rattle.outside.proofs.CallSteps.{looks_then, looks_call}
+use Rattle.frame_journal.specs.Journal.{is_format}
 use Rattle.frame_journal.proofs.Read.{read_files_of, begun_as}
 use Rattle.frame_journal.proofs.journal.Journal.start.Goals as goal
 
@@ -9,12 +10,16 @@ returns-in_default-clause-start g c two told =
     let told1 = c.read_header.ensures.looks.same_files ∙ told in
     c.in_default.ensures.file (read_files two) (c.in_ok-first.ensures.header two told) (c.in_ok-second.ensures.header two told1)
 
-pub returns-then-header-ne-FORMAT-clause-start : goal.returns-then-header-ne-FORMAT-clause-start
-returns-then-header-ne-FORMAT-clause-start g c two told =
+pub returns-then-not-is_format-clause-start : goal.returns-then-not-is_format-clause-start
+returns-then-not-is_format-clause-start g c two told =
     let told1 = c.read_header.ensures.looks.same_files ∙ told in
     let h1 = c.in_ok-first.ensures.header two told in
     let h2 = c.in_ok-second.ensures.header two told1 in
-    (c.in-Some.ensures.file (read_files two) h1 h2, λ e. c.if-header-ne-FORMAT.true ((c.in-Some.ensures.header (read_files two) h1 h2).1 ∙ e), refl)
+    let header = c.in-Some.ensures.header (read_files two) h1 h2 in (
+      c.in-Some.ensures.file (read_files two) h1 h2,
+      ap is_format (sym header.1) ∙ sym c.is_format.ensures ∙ c.if-not-is_format.true,
+      refl,
+    )
 
 pub returns-in_err-len-clause-looks : goal.returns-in_err-len-clause-looks
 returns-in_err-len-clause-looks g c =
@@ -32,7 +37,7 @@ returns-clause-start g c two told =
     let header = c.in-Some.ensures.header (read_files two) h1 h2 in
     let long = c.in_ok-len.ensures.length two told2 ∙ sym (ap length (read_files_of two c.in-Some.file)) in (
       c.in-Some.ensures.file (read_files two) h1 h2,
-      sym header.1 ∙ c.if-header-ne-FORMAT.false,
+      ap is_format (sym header.1) ∙ sym c.is_format.ensures ∙ c.if-not-is_format.false,
       begun_as c.in-Some.file _ _ _ _ header.1 header.2 long,
     )
 

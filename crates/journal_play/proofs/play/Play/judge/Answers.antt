@@ -3,7 +3,7 @@ use Rattle.std.proofs.Common.{◌≡◌, Some, length, ap, ◌∙◌}
 use Rattle.std.specs.String.{string_bytes}
 use Rattle.message_graph.specs.declared.nodes.Node.{Node}
 use Rattle.message_graph.specs.Nodes.{Shown, with_answer}
-use Rattle.message_graph.specs.NodeLaws.{length-change}
+use Rattle.message_graph.proofs.NodeLaws.{length-change}
 use Rattle.journal_play.specs.Playing.{Played, judged_of}
 use Rattle.journal_play.proofs.Calls.{judge_is, on_ok, either_way}
 use Rattle.journal_play.proofs.play.Play.judge.Goals as goal

@@ -6,7 +6,7 @@ use Rattle.message_graph.specs.Nodes.{Shown, next, number_of, with_ending}
 use Rattle.message_graph.specs.Waits.{Waits, told_times, wait_at, group_at}
 use Rattle.message_graph.specs.Links.{count_before, last_before}
 use Rattle.message_graph.specs.Whole.{ending_step, ending_news}
-use Rattle.message_graph.specs.NodeLaws.{next_end, there_within, length-change}
+use Rattle.message_graph.proofs.NodeLaws.{next_end, there_within, length-change}
 use Rattle.message_graph.proofs.Changes.{read_there, set-change}
 use Rattle.message_graph.proofs.Kept.{end_kept, waiters_inside, many_waits}
 use Rattle.message_graph.proofs.graph.Graph.end.Goals as goal

@@ -3,7 +3,7 @@ use Rattle.message_graph.specs.declared.nodes.Node.{Node}
 use Rattle.message_graph.specs.declared.nodes.Step.TheVariants as step
 use Rattle.message_graph.specs.Nodes.{Shown, next, node_named, with_answer}
 use Rattle.message_graph.specs.Waits.{Waits, waiting_open}
-use Rattle.message_graph.specs.NodeLaws.{next_judge, there_within, length-change}
+use Rattle.message_graph.proofs.NodeLaws.{next_judge, there_within, length-change}
 use Rattle.message_graph.proofs.Changes.{read_there, set-change}
 use Rattle.message_graph.proofs.Kept.{judged_kept, many_waits}
 use Rattle.message_graph.proofs.graph.Graph.judged.Goals as goal

@@ -1,4 +1,4 @@
-use Rattle.outside.specs.Steps.{becomes_told}
+use Rattle.outside.proofs.CallSteps.{becomes_told}
 use Rattle.frame_journal.specs.Gates.{SyncsBoth}
 use Rattle.sync_store.proofs.BeginSteps.{init_then}
 use Rattle.sync_store.proofs.store.Store.init.Goals as goal

@@ -1,6 +1,6 @@
 use Rattle.std.proofs.Common.{◌≡◌, sym, ◌∙◌, subst, Result}
 use Rattle.sync_rules.specs.Facts.{nothing}
-use Rattle.outside.specs.Steps.{looks_then, run_then}
+use Rattle.outside.proofs.CallSteps.{looks_then, run_then}
 use Rattle.outside.specs.Files.{read_files}
 use Rattle.sync_store.specs.Store.{StoreValue}
 use Rattle.sync_store.specs.Faults.{load_of_start}

@@ -3,7 +3,7 @@ use Rattle.outside.specs.HostTold.{host_told}
 use Rattle.world_devices.specs.Devices.{DeviceValue}
 use Rattle.world_devices.proofs.CallLaws.{anew_leaves, runs_by}
 use Rattle.outside.specs.MemDisk.{calls_of}
-use Rattle.outside.specs.Steps.{go_on_none}
+use Rattle.outside.proofs.CallSteps.{go_on_none}
 use Rattle.world_devices.specs.Doing.{Restarts}
 use Rattle.world_devices.specs.declared.stop.StepFault.TheVariants as fault
 use Rattle.world_devices.proofs.GivingUpLaws.{comes_anew, comes_same, restart_ended, restart_failed}

@@ -1,0 +1,167 @@
+-- A run of one link that is always Idle, where nothing is due on its session: it ends after as many turns as were to be quiet, or after
+-- the turns that it may make where these are fewer.
+use Rattle.std.proofs.Common.{◌≡◌, ℕ, zero, suc, ◌+◌, ◌<◌, ◌≤◌, Bool, true, false, cond, ◌&&◌, ◌||◌, nat_le, List, [], ◌∷◌, ◌++◌, refl, sym, ◌∙◌, ap, inl, inr, arith}
+use Rattle.std.specs.Prelude.{nat_lt}
+use Rattle.std.proofs.lemmas.Bool.{le-leb, lt-leb, lt-ltb}
+use Rattle.sync_rules.specs.declared.entries.Entry.TheVariants as entry
+use Rattle.sync_rules.specs.declared.entries.Session.{Session}
+use Rattle.sync_rules.specs.Clients.{Meaning}
+use Rattle.sync_rules.specs.Facts.{Facts, after_all, session_at}
+use Rattle.sync_rules.specs.Legal.{Allowed}
+use Rattle.sync_rules.specs.Steps.{IsSettled}
+use Rattle.sync_course.specs.declared.TheConstants.{MAX_OUTPUTS}
+use Rattle.sync_course.specs.declared.ends.LinkEnd.TheVariants as end
+use Rattle.sync_course.specs.Closing.{Closing, closing}
+use Rattle.sync_course.specs.Events.{Pass}
+use Rattle.sync_course.specs.Links.{Link, beats, link_of, without_redundant}
+use Rattle.sync_course.specs.LinkTurns.{Asks, Done, IsNothingDue, Sends, Spot, Waits}
+use Rattle.sync_course.specs.Paths.{Path}
+use Rattle.sync_course.proofs.PathLaws.{path_then}
+use Rattle.sync_course.proofs.KeptLaws.{not_itself}
+use Rattle.sync_course.specs.Turns.{Attaches, Between, Course, Ended, Greets, Place, RunStep, Terms, Works, attached, first_place, is_at_end, is_over, turn_ended, with_spot}
+use Rattle.sync_course.specs.Idle.{greeting, idle_turn, idle_turns, idle_run, idle_place, idle_end}
+
+-- the closing of a run whose one link is still asked
+closed : Bool → Closing
+closed over = record { over = over; ends = end.Going ∷ [] }
+
+beats_itself : (i : ℕ) (a : Link) (b : Bool) → beats i a i a ≡ b → b ≡ false
+beats_itself i a true is = not_itself i a is
+beats_itself i a false is = refl
+
+one_link : (link : Link) → without_redundant (link ∷ []) ≡ link ∷ []
+one_link link =
+    let none : beats 0 link 0 link ≡ false = beats_itself 0 link (beats 0 link 0 link) refl in
+    ap (λ (b : Bool). record link { stands = cond (b || false) end.Redundant link.stands } ∷ []) none
+
+module _ (clients : Meaning) (terms : Terms) (s : Session) (now : ℕ) (f : Facts)
+    (nothing_due : IsNothingDue clients f (session_at f.sessions (terms.first + 0)) now) where
+  idle_turn_path : (n : ℕ) → is_at_end terms (idle_place s n f) ≡ false
+      → Path (RunStep clients terms) (idle_place s n f) (idle_turn now) (idle_place s (suc n) f)
+  idle_turn_path n on =
+      let link : Link = link_of s end.Going in
+      let p1 : Place = record (idle_place s n f) { stage = Works 0 Asks; moved = false } in
+      let heard : Spot = record { doing = Waits; link = link; moved = false; facts = f } in
+      let read : Spot = record { doing = Sends now MAX_OUTPUTS; link = link; moved = false; facts = f } in
+      let done : Spot = record { doing = Done; link = link; moved = false; facts = f } in
+      let p5 : Place = record (with_spot 0 done p1) { stage = Works 1 Asks } in
+      let begins : p1 ≡ cond (is_at_end terms (idle_place s n f)) (record (idle_place s n f) { stage = Ended }) p1 =
+      ap (λ (b : Bool). cond b (record (idle_place s n f) { stage = Ended }) p1) (sym on) in
+      let ends : idle_place s (suc n) f ≡ turn_ended p5 =
+      ap (λ (links : List Link). record {
+        stage = Between;
+        links = links;
+        moved = false;
+        still = suc n;
+        made = suc n;
+        facts = f;
+      }) (sym (one_link link)) in (
+        p1,
+        begins,
+        (
+          with_spot 0 heard p1,
+          inl (record { spot = heard; steps = (refl, refl, refl); leads = refl }),
+          (
+            with_spot 0 read p1,
+            inl (record { spot = read; steps = (refl, refl, refl); leads = refl }),
+            (
+              with_spot 0 done p1,
+              inl (record { spot = done; steps = (nothing_due, refl); leads = refl }),
+              (
+                p5,
+                inr refl,
+                (idle_place s (suc n) f, ends, refl),
+              ),
+            ),
+          ),
+        ),
+      )
+
+  idle_turns_path : (n : ℕ) → ((k : ℕ) → k < n → is_at_end terms (idle_place s k f) ≡ false)
+      → Path (RunStep clients terms) (idle_place s 0 f) (idle_turns now n) (idle_place s n f)
+  idle_turns_path zero on = refl
+  idle_turns_path (suc n) on =
+      path_then (RunStep clients terms) (idle_place s 0 f) (idle_place s n f) (idle_place s (suc n) f) (idle_turns now n) (idle_turn now)
+      (idle_turns_path n (λ k less. on k (omega (arith, less)))) (idle_turn_path n (on n (omega arith)))
+
+  idle_end_path : (n : ℕ) → is_at_end terms (idle_place s n f) ≡ true → Path (RunStep clients terms) (idle_place s n f) (Pass ∷ []) (idle_end s n f)
+  idle_end_path n over =
+      let ends : idle_end s n f ≡ cond (is_at_end terms (idle_place s n f)) (idle_end s n f)
+      (record (idle_place s n f) { stage = Works 0 Asks; moved = false }) =
+      ap (λ (b : Bool). cond b (idle_end s n f) (record (idle_place s n f) { stage = Works 0 Asks; moved = false })) (sym over) in
+      (idle_end s n f, ends, refl)
+
+module _ (clients : Meaning) (terms : Terms) (s : Session) (now : ℕ) (f : Facts) (numbered : terms.first ≡ f.begun) (settled : IsSettled clients f)
+    (allowed : Allowed clients f (entry.Session s ∷ []))
+    (nothing_due : IsNothingDue clients (after_all f (entry.Session s ∷ []))
+    (session_at (after_all f (entry.Session s ∷ [])).sessions (terms.first + 0)) now) where
+  -- the facts once the session began
+  abbrev began : Facts
+  began = after_all f (entry.Session s ∷ [])
+
+  greeting_path : Path (RunStep clients terms) (first_place (s ∷ []) f) (greeting s) (idle_place s 0 began)
+  greeting_path =
+      let p0 : Place = first_place (s ∷ []) f in
+      let p1 : Place = record p0 { stage = Attaches (s ∷ []) } in
+      let p2 : Place = record p1 { stage = Greets s []; facts = began } in
+      let p3 : Place = attached s [] p2 in
+      (p1, (settled, refl), (p2, (refl, allowed, refl), (p3, refl, (idle_place s 0 began, refl, refl))))
+
+  idle_course : (n : ℕ) → ((k : ℕ) → k < n → is_at_end terms (idle_place s k began) ≡ false) → is_at_end terms (idle_place s n began) ≡ true
+      → Course clients terms (s ∷ []) f (idle_run s now n) (idle_end s n began)
+  idle_course n on over = record {
+    numbered = numbered;
+    path =
+        path_then (RunStep clients terms) (first_place (s ∷ []) f) (idle_place s 0 began) (idle_end s n began) (greeting s)
+        (idle_turns now n ++ Pass ∷ []) greeting_path
+        (path_then (RunStep clients terms) (idle_place s 0 began) (idle_place s n began) (idle_end s n began) (idle_turns now n) (Pass ∷ [])
+        (idle_turns_path clients terms s now began nothing_due n on) (idle_end_path clients terms s now began nothing_due n over));
+    at_end = refl;
+  }
+
+  -- not over and with turns left
+  goes_on_at : (k : ℕ) → k < terms.quiet → k < terms.turns → is_at_end terms (idle_place s k began) ≡ false
+  goes_on_at k quiet turns =
+      let a : nat_le terms.quiet k ≡ false = lt-leb terms.quiet k quiet in
+      let b : nat_le terms.turns k ≡ false = lt-leb terms.turns k turns in
+      ap (λ (x : Bool). (nat_lt 0 k && x) || nat_le terms.turns k) a ∙ ap (λ (x : Bool). (nat_lt 0 k && false) || x) b ∙ never (nat_lt 0 k)
+    where
+      never : (x : Bool) → ((x && false) || false) ≡ false
+      never true = refl
+      never false = refl
+
+  -- as many turns as were to be quiet: the link is quiet
+  pub ends_quiet : 0 < terms.quiet → terms.quiet ≤ terms.turns
+      → Course clients terms (s ∷ []) f (idle_run s now terms.quiet) (idle_end s terms.quiet began)
+      × (closing terms.quiet (idle_end s terms.quiet began) ≡ record { over = true; ends = end.Going ∷ [] })
+  unfolding closed
+  ends_quiet some enough =
+      let a : nat_lt 0 terms.quiet ≡ true = lt-ltb 0 terms.quiet some in
+      let b : nat_le terms.quiet terms.quiet ≡ true = le-leb terms.quiet terms.quiet (omega arith) in
+      let over : is_over terms.quiet (idle_place s terms.quiet began) ≡ true =
+      ap (λ (x : Bool). x && nat_le terms.quiet terms.quiet) a ∙ b in (
+        idle_course terms.quiet
+            (λ k less. goes_on_at k less (omega (arith, less, enough)))
+            (ap (λ (x : Bool). x || nat_le terms.turns terms.quiet) over),
+        ap closed over,
+      )
+
+  -- fewer turns than were to be quiet: it is unfinished
+  pub ends_unfinished : 0 < terms.turns → terms.turns < terms.quiet
+      → Course clients terms (s ∷ []) f (idle_run s now terms.turns) (idle_end s terms.turns began)
+      × (closing terms.quiet (idle_end s terms.turns began) ≡ record { over = false; ends = end.Going ∷ [] })
+  unfolding closed
+  ends_unfinished some fewer =
+      let a : nat_le terms.quiet terms.turns ≡ false = lt-leb terms.quiet terms.turns fewer in
+      let b : nat_le terms.turns terms.turns ≡ true = le-leb terms.turns terms.turns (omega arith) in
+      let not_over : is_over terms.quiet (idle_place s terms.turns began) ≡ false =
+      ap (λ (x : Bool). nat_lt 0 terms.turns && x) a ∙ none (nat_lt 0 terms.turns) in (
+        idle_course terms.turns
+            (λ k less. goes_on_at k (omega (arith, less, fewer)) less)
+            (ap (λ (x : Bool). x || nat_le terms.turns terms.turns) not_over ∙ b),
+        ap closed not_over,
+      )
+    where
+      none : (x : Bool) → (x && false) ≡ false
+      none true = refl
+      none false = refl

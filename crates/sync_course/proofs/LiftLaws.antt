@@ -1,0 +1,243 @@
+-- A link's turn as a part of the run, and the steps of the run between the turns of its links.
+use Rattle.std.proofs.Common.{◌≡◌, ℕ, zero, suc, ◌+◌, ◌<◌, Bool, true, false, cond, List, [], ◌∷◌, ◌++◌, length, refl, sym, ap, subst, inl, inr, arith, Option, None, Some}
+use Rattle.std.specs.Prelude.{slice_get, slice_set}
+use Rattle.outside.specs.Outside.{Outside}
+use Rattle.sync_rules.specs.declared.entries.Entry.{Entry}
+use Rattle.sync_rules.specs.declared.entries.Entry.TheVariants as entry
+use Rattle.sync_rules.specs.declared.entries.Session.{Session}
+use Rattle.sync_rules.specs.Clients.{Meaning}
+use Rattle.sync_rules.specs.Facts.{after_all, after_batches}
+use Rattle.sync_rules.specs.Legal.{Allowed, AllSettling}
+use Rattle.sync_rules.specs.Steps.{IsSettled}
+use Rattle.sync_course.specs.Events.{Event, Commit, Break, Pass, Told}
+use Rattle.sync_course.specs.Paths.{Path, Runs, Breaks}
+use Rattle.sync_course.proofs.PathLaws.{path_maps, path_one}
+use Rattle.sync_course.proofs.ToldLaws.{commits, told_pass}
+use Rattle.sync_course.proofs.CallLaws.{breaks_commits, runs_commits, runs_quiet}
+use Rattle.sync_course.specs.Links.{Link}
+use Rattle.sync_course.specs.LinkTurns.{Asks, Doing, Done, LinkStep, Spot}
+use Rattle.sync_course.specs.Turns.{Attaches, Between, Ended, Greets, Place, RunStep, Settles, StageStep, Terms, TurnStep, Works, attached, is_at_end, spot_of, turn_ended, unattached, with_spot}
+
+-- ---- one item of a list
+
+module _ {A : Type 0} where
+  pub get_set : (xs : List A) (n : ℕ) (x : A) → n < length xs → slice_get (slice_set xs n x) n ≡ Some x
+  get_set [] n x within = absurd (omega arith)
+  get_set (y ∷ xs) zero x within = refl
+  get_set (y ∷ xs) (suc n) x within = get_set xs n x (omega arith)
+
+  pub set_twice : (xs : List A) (n : ℕ) (x y : A) → slice_set (slice_set xs n x) n y ≡ slice_set xs n y
+  set_twice [] n x y = refl
+  set_twice (z ∷ xs) zero x y = refl
+  set_twice (z ∷ xs) (suc n) x y = ap (λ (l : List A). z ∷ l) (set_twice xs n x y)
+
+  pub get_other : (xs : List A) (n i : ℕ) (x : A) → (i ≡ n → ⊥) → slice_get (slice_set xs n x) i ≡ slice_get xs i
+  get_other [] n i x other = refl
+  get_other (y ∷ xs) zero zero x other = absurd (other refl)
+  get_other (y ∷ xs) zero (suc i) x other = refl
+  get_other (y ∷ xs) (suc n) zero x other = refl
+  get_other (y ∷ xs) (suc n) (suc i) x other = get_other xs n i x (λ same. other (ap suc same))
+
+  pub set_same : (xs : List A) (n : ℕ) (x : A) → slice_get xs n ≡ Some x → slice_set xs n x ≡ xs
+  set_same [] n x at = refl
+  set_same (y ∷ xs) zero x at = let same : y ≡ x = cc in ap (λ (z : A). z ∷ xs) (sym same)
+  set_same (y ∷ xs) (suc n) x at = ap (λ (l : List A). y ∷ l) (set_same xs n x at)
+
+  pub get_within : (xs : List A) (n : ℕ) (x : A) → slice_get xs n ≡ Some x → n < length xs
+  get_within [] n x at = cc
+  get_within (y ∷ xs) zero x at = omega arith
+  get_within (y ∷ xs) (suc n) x at = let rest : n < length xs = get_within xs n x at in omega (arith, rest)
+
+  pub get_past : (xs : List A) → slice_get xs (length xs) ≡ None
+  get_past [] = refl
+  get_past (y ∷ xs) = get_past xs
+
+-- ---- a link's turn in the run
+
+module _ (clients : Meaning) (terms : Terms) (n : ℕ) (place : Place) (within : n < length place.links) where
+  pub lifted_step : (p q : Spot) (e : Event) → LinkStep clients n (terms.first + n) p e q
+      → RunStep clients terms (with_spot n p place) e (with_spot n q place)
+  lifted_step p q e s =
+      subst (λ (o : Option Link). TurnStep clients terms n p.doing o e (with_spot n p place) (with_spot n q place))
+      (sym (get_set place.links n p.link within))
+      (inl (record {
+        spot = q;
+        steps = s;
+        leads =
+            ap (λ (l : List Link). record {
+              stage = Works n q.doing;
+              links = l;
+              moved = q.moved;
+              still = place.still;
+              made = place.made;
+              facts = q.facts;
+            }) (sym (set_twice place.links n p.link q.link));
+      }))
+
+  pub link_lifts : (p q : Spot) (es : List Event) → Path (LinkStep clients n (terms.first + n)) p es q
+      → Path (RunStep clients terms) (with_spot n p place) es (with_spot n q place)
+  link_lifts p q es path =
+      path_maps (LinkStep clients n (terms.first + n)) (RunStep clients terms) (λ (s : Spot). with_spot n s place) lifted_step p q es path
+
+  module _ (Before After : List (List Entry) → Type 0) where
+    unfoldable pub runs_lifted : (p q : Spot) (o o' : Outside) → Runs (LinkStep clients n (terms.first + n)) Before After p q o o'
+        → Runs (RunStep clients terms) Before After (with_spot n p place) (with_spot n q place) o o'
+    runs_lifted p q o o' runs = record {
+      events = runs.events;
+      path = link_lifts p q runs.events runs.path;
+      told = runs.told;
+      journal = runs.journal;
+    }
+
+    pub breaks_lifted : (p : Spot) (o o' : Outside) → Breaks (LinkStep clients n (terms.first + n)) Before After p o o'
+        → Breaks (RunStep clients terms) Before After (with_spot n p place) o o'
+    breaks_lifted p o o' breaks = record {
+      to = with_spot n breaks.to place;
+      runs = runs_lifted p breaks.to o o' breaks.runs;
+    }
+
+-- a place at which a link has its turn is one of those that its spots give
+pub at_spot : (n : ℕ) (doing : Doing) (link : Link) (place : Place) → place.stage ≡ Works n doing → slice_get place.links n ≡ Some link
+    → with_spot n (spot_of doing link place) place ≡ place
+at_spot n doing link place works at =
+    λ i. record {
+      stage = sym works i;
+      links = set_same place.links n link at i;
+      moved = place.moved;
+      still = place.still;
+      made = place.made;
+      facts = place.facts;
+    }
+
+-- a link's turn leaves the other links
+pub others_keep : (n i : ℕ) (spot : Spot) (place : Place) → (i ≡ n → ⊥)
+    → slice_get (with_spot n spot place).links i ≡ slice_get place.links i
+others_keep n i spot place other = get_other place.links n i spot.link other
+
+-- ---- the steps of the run itself
+
+module _ (clients : Meaning) (terms : Terms) where
+  -- a step at a place of this stage
+  stage_at : (p q : Place) (e : Event) (stage : _) → p.stage ≡ stage → StageStep clients terms stage e p q → RunStep clients terms p e q
+  stage_at p q e stage is s = subst (λ d. StageStep clients terms d e p q) (sym is) s
+
+  settling_path : (sessions : List Session) (p : Place) (bs : List (List Entry)) → p.stage ≡ Settles sessions → AllSettling clients p.facts bs
+      → Path (RunStep clients terms) p (commits bs) (record p { facts = after_batches p.facts bs })
+  settling_path sessions p [] is settling = refl
+  settling_path sessions p (b ∷ bs) is settling =
+      let q : Place = record p { facts = after_all p.facts b } in
+      (q, stage_at p q (Commit b) (Settles sessions) is (settling.0, refl), settling_path sessions q bs is settling.1)
+
+  -- the next link has its turn
+  next_step : (n : ℕ) (link : Link) (p : Place) → p.stage ≡ Works n Done → slice_get p.links n ≡ Some link
+      → RunStep clients terms p Pass (record p { stage = Works (suc n) Asks })
+  next_step n link p works at =
+      let q : Place = record p { stage = Works (suc n) Asks } in
+      stage_at p q Pass (Works n Done) works (subst (λ (o : Option Link). TurnStep clients terms n Done o Pass p q) (sym at) (inr refl))
+
+  -- a turn ends
+  end_step : (p : Place) → p.stage ≡ Works (length p.links) Asks → RunStep clients terms p Pass (turn_ended p)
+  end_step p works =
+      stage_at p (turn_ended p) Pass (Works (length p.links) Asks) works
+      (subst (λ (o : Option Link). TurnStep clients terms (length p.links) Asks o Pass p (turn_ended p)) (sym (get_past p.links)) refl)
+
+  begin_step : (p : Place) → p.stage ≡ Between → is_at_end terms p ≡ false
+      → RunStep clients terms p Pass (record p { stage = Works 0 Asks; moved = false })
+  begin_step p between on =
+      let q : Place = record p { stage = Works 0 Asks; moved = false } in
+      stage_at p q Pass Between between (ap (λ (b : Bool). cond b (record p { stage = Ended }) q) (sym on))
+
+  stop_step : (p : Place) → p.stage ≡ Between → is_at_end terms p ≡ true → RunStep clients terms p Pass (record p { stage = Ended })
+  stop_step p between over =
+      let q : Place = record p { stage = Ended } in
+      stage_at p q Pass Between between
+      (ap (λ (b : Bool). cond b q (record p { stage = Works 0 Asks; moved = false })) (sym over))
+
+  module _ (Before After : List (List Entry) → Type 0) where
+    abbrev pub Leads : Place → Place → Outside → Outside → Type 0
+    Leads p q o o' = Runs (RunStep clients terms) Before After p q o o'
+
+    -- a run settles its journal, at its begin
+    pub runs_begun : (sessions : List Session) (bs : List (List Entry)) (p : Place) (o o' : Outside) → p.stage ≡ Settles sessions
+        → AllSettling clients p.facts bs → o'.links ≡ o.links → ((j : List (List Entry)) → Before j → After (j ++ bs))
+        → Leads p (record p { facts = after_batches p.facts bs }) o o'
+    runs_begun sessions bs p o o' settles settling same grows =
+        runs_commits (RunStep clients terms) Before After bs grows p (record p { facts = after_batches p.facts bs }) o o' same
+        (settling_path sessions p bs settles settling)
+
+    -- a session begins
+    pub runs_attached : (s : Session) (left : List Session) (p : Place) (o o' : Outside) → p.stage ≡ Attaches (s ∷ left)
+        → Allowed clients p.facts (entry.Session s ∷ []) → o'.links ≡ o.links
+        → ((j : List (List Entry)) → Before j → After (j ++ (entry.Session s ∷ []) ∷ []))
+        → Leads p (record p { stage = Greets s left; facts = after_all p.facts (entry.Session s ∷ []) }) o o'
+    runs_attached s left p o o' attaches allowed same grows =
+        let b : List Entry = entry.Session s ∷ [] in
+        let q : Place = record p { stage = Greets s left; facts = after_all p.facts b } in
+        runs_commits (RunStep clients terms) Before After (b ∷ []) grows p q o o' same
+        (path_one (RunStep clients terms) p q (Commit b) (stage_at p q (Commit b) (Attaches (s ∷ left)) attaches (refl, allowed, refl)))
+
+    -- broken off there: a front of the batches stands
+    module _ (front others : List (List Entry)) (grows : (j : List (List Entry)) → Before j → After (j ++ front)) where
+      pub breaks_begun : (sessions : List Session) (bs : List (List Entry)) (p : Place) (o o' : Outside) → p.stage ≡ Settles sessions
+          → AllSettling clients p.facts bs → o'.links ≡ o.links → bs ≡ front ++ others → Breaks (RunStep clients terms) Before After p o o'
+      breaks_begun sessions bs p o o' settles settling same parts =
+          breaks_commits (RunStep clients terms) Before After bs front others parts grows p (record p { facts = after_batches p.facts bs }) o o' same
+          (settling_path sessions p bs settles settling)
+
+      pub breaks_attached : (s : Session) (left : List Session) (p : Place) (o o' : Outside) → p.stage ≡ Attaches (s ∷ left)
+          → Allowed clients p.facts (entry.Session s ∷ []) → o'.links ≡ o.links → (entry.Session s ∷ []) ∷ [] ≡ front ++ others
+          → Breaks (RunStep clients terms) Before After p o o'
+      breaks_attached s left p o o' attaches allowed same parts =
+          let b : List Entry = entry.Session s ∷ [] in
+          let q : Place = record p { stage = Greets s left; facts = after_all p.facts b } in
+          breaks_commits (RunStep clients terms) Before After (b ∷ []) front others parts grows p q o o' same
+          (path_one (RunStep clients terms) p q (Commit b) (stage_at p q (Commit b) (Attaches (s ∷ left)) attaches (refl, allowed, refl)))
+
+    module _ (stays : (j : List (List Entry)) → Before j → After j) where
+      passes : (p q : Place) (o o' : Outside) → RunStep clients terms p Pass q → Told (Pass ∷ []) o o' → Leads p q o o'
+      passes p q o o' s told = runs_quiet (RunStep clients terms) Before After stays p q Pass o o' refl s told
+
+      -- the journal is settled, at the begin
+      pub runs_settled_begun : (sessions : List Session) (p : Place) (o : Outside) → p.stage ≡ Settles sessions → IsSettled clients p.facts
+          → Leads p (record p { stage = Attaches sessions }) o o
+      runs_settled_begun sessions p o settles settled =
+          let q : Place = record p { stage = Attaches sessions } in
+          passes p q o o (stage_at p q Pass (Settles sessions) settles (settled, refl)) (told_pass o o refl)
+
+      -- a session greeted; all sends of its greeting are told as one event
+      pub runs_greeted : (s : Session) (left : List Session) (p : Place) (o o' : Outside) → p.stage ≡ Greets s left → Told (Pass ∷ []) o o'
+          → Leads p (attached s left p) o o'
+      runs_greeted s left p o o' greets told = passes p (attached s left p) o o' (stage_at p (attached s left p) Pass (Greets s left) greets refl) told
+
+      -- its greeting failed
+      pub runs_ungreeted : (s : Session) (left : List Session) (p : Place) (o o' : Outside) → p.stage ≡ Greets s left
+          → Told (Break (length p.links) ∷ []) o o' → Leads p (unattached s left p) o o'
+      runs_ungreeted s left p o o' greets told =
+          runs_quiet (RunStep clients terms) Before After stays p (unattached s left p) (Break (length p.links)) o o' refl
+          (stage_at p (unattached s left p) (Break (length p.links)) (Greets s left) greets (refl, refl)) told
+
+      -- all sessions began
+      pub runs_all_attached : (p : Place) (o : Outside) → p.stage ≡ Attaches [] → Leads p (record p { stage = Between }) o o
+      runs_all_attached p o attaches =
+          let q : Place = record p { stage = Between } in
+          passes p q o o (stage_at p q Pass (Attaches []) attaches refl) (told_pass o o refl)
+
+      -- a turn begins
+      pub runs_turn : (p : Place) (o : Outside) → p.stage ≡ Between → is_at_end terms p ≡ false
+          → Leads p (record p { stage = Works 0 Asks; moved = false }) o o
+      runs_turn p o between on =
+          passes p (record p { stage = Works 0 Asks; moved = false }) o o (begin_step p between on) (told_pass o o refl)
+
+      -- the turn of a link ended, and the next link has its
+      pub runs_next : (n : ℕ) (link : Link) (p : Place) (o : Outside) → p.stage ≡ Works n Done → slice_get p.links n ≡ Some link
+          → Leads p (record p { stage = Works (suc n) Asks }) o o
+      runs_next n link p o works at =
+          passes p (record p { stage = Works (suc n) Asks }) o o (next_step n link p works at) (told_pass o o refl)
+
+      -- a turn of all links ended
+      pub runs_turn_ended : (p : Place) (o : Outside) → p.stage ≡ Works (length p.links) Asks → Leads p (turn_ended p) o o
+      runs_turn_ended p o works = passes p (turn_ended p) o o (end_step p works) (told_pass o o refl)
+
+      -- the run ended
+      pub runs_ended : (p : Place) (o : Outside) → p.stage ≡ Between → is_at_end terms p ≡ true → Leads p (record p { stage = Ended }) o o
+      runs_ended p o between over = passes p (record p { stage = Ended }) o o (stop_step p between over) (told_pass o o refl)

@@ -1,0 +1,346 @@
+-- What is told of events one behind the other, and of the events of single calls.
+use Rattle.std.proofs.Common.{◌≡◌, ◌⊎◌, ℕ, ◌≤◌, le_of_eq, le_refl, Bool, true, false, ◌||◌, nat_eq, eqb-true, List, [], ◌∷◌, ◌++◌, length, take, append-nil, append_assoc, refl, sym, ◌∙◌, ap, subst, inl, inr, arith, Option, None, Some, Ok, Err}
+use Rattle.std.specs.Option.{option_map}
+use Rattle.std.proofs.lemmas.Bool.{cases_eq}
+use Rattle.outside.specs.declared.failed.Failed.{Failed}
+use Rattle.outside.specs.declared.host.Heard.{Heard}
+use Rattle.outside.specs.declared.host.Heard.TheVariants as answer
+use Rattle.outside.specs.Faults.{Rose, one_more}
+use Rattle.outside.specs.Host.{Grows, Hears, IsCaused, ReadsClock, Sends}
+use Rattle.outside.specs.Disk.{Becomes}
+use Rattle.outside.specs.Links.{HeardOn, Links, Planned, changed_at, got, idle, ended, hear_reply}
+use Rattle.outside.specs.Planned.{AnswersAsPlanned, UsesPlan, UsesReading}
+use Rattle.outside.specs.Outside.{Outside}
+use Rattle.sync_rules.specs.declared.entries.Entry.{Entry}
+use Rattle.sync_course.specs.declared.TheConstants.{PIECE_LEN}
+use Rattle.sync_course.specs.Events.{Event, Commit, Hear, Miss, Read, Break, Pass, asked_event, batches_of, readings_of, heard_by, heard_after, is_failure, has_failure, GrowsBy, PlansAfter, RoseIf, Through, Told, UpcomingAfter}
+use Rattle.sync_course.specs.Paths.{Runs, Breaks}
+use Rattle.sync_course.proofs.PathLaws.{path_then}
+
+-- ---- lists of events
+
+pub batches_of-append : (es fs : List Event) → batches_of (es ++ fs) ≡ batches_of es ++ batches_of fs
+batches_of-append [] fs = refl
+batches_of-append (Commit b ∷ es) fs = ap (λ (l : List (List Entry)). b ∷ l) (batches_of-append es fs)
+batches_of-append (Hear link reply ∷ es) fs = batches_of-append es fs
+batches_of-append (Miss link ∷ es) fs = batches_of-append es fs
+batches_of-append (Read link now ∷ es) fs = batches_of-append es fs
+batches_of-append (Break link ∷ es) fs = batches_of-append es fs
+batches_of-append (Pass ∷ es) fs = batches_of-append es fs
+
+pub readings_of-append : (es fs : List Event) → readings_of (es ++ fs) ≡ readings_of es ++ readings_of fs
+readings_of-append [] fs = refl
+readings_of-append (Commit b ∷ es) fs = readings_of-append es fs
+readings_of-append (Hear link reply ∷ es) fs = readings_of-append es fs
+readings_of-append (Miss link ∷ es) fs = readings_of-append es fs
+readings_of-append (Read link now ∷ es) fs = ap (λ (l : List ℕ). now ∷ l) (readings_of-append es fs)
+readings_of-append (Break link ∷ es) fs = readings_of-append es fs
+readings_of-append (Pass ∷ es) fs = readings_of-append es fs
+
+heard_after-append : (es fs : List Event) (heard : List HeardOn) → heard_after (es ++ fs) heard ≡ heard_after fs (heard_after es heard)
+heard_after-append [] fs heard = refl
+heard_after-append (e ∷ es) fs heard = heard_after-append es fs (heard_by e heard)
+
+or_append : (a b c : Bool) → (a || (b || c)) ≡ ((a || b) || c)
+or_append true b c = refl
+or_append false b c = refl
+
+has_failure-append : (link : ℕ) (es fs : List Event) → has_failure link (es ++ fs) ≡ (has_failure link es || has_failure link fs)
+has_failure-append link [] fs = refl
+has_failure-append link (e ∷ es) fs =
+    ap (λ (b : Bool). is_failure link e || b) (has_failure-append link es fs)
+    ∙ or_append (is_failure link e) (has_failure link es) (has_failure link fs)
+
+-- ---- what is told grows
+
+heard_none : (heard : Option (List HeardOn)) → heard ≡ option_map (heard_after []) heard
+heard_none None = refl
+heard_none (Some heard) = refl
+
+heard_then : (es fs : List Event) (heard : Option (List HeardOn))
+    → option_map (heard_after fs) (option_map (heard_after es) heard) ≡ option_map (heard_after (es ++ fs)) heard
+heard_then es fs None = refl
+heard_then es fs (Some heard) = ap (λ (h : List HeardOn). Some h) (sym (heard_after-append es fs heard))
+
+grows_none : (readings : Option (List ℕ)) → GrowsBy [] readings readings
+grows_none None = tt
+grows_none (Some readings) = sym (append-nil readings)
+
+grows_then : (more others : List ℕ) (a b c : Option (List ℕ)) → GrowsBy more a b → GrowsBy others b c → GrowsBy (more ++ others) a c
+grows_then more others a b None first second = tt
+grows_then more others a None (Some c) first second = absurd second
+grows_then more others None (Some b) (Some c) first second = absurd first
+grows_then more others (Some a) (Some b) (Some c) first second =
+    second ∙ ap (λ (l : List ℕ). l ++ others) first ∙ append_assoc a more others
+
+rose_then : (a b : Bool) (x y z : ℕ) → RoseIf a x y → RoseIf b y z → RoseIf (a || b) x z
+rose_then true true x y z first second = let f : one_more x ≤ y = first in let s : one_more y ≤ z = second in omega (arith, f, s)
+rose_then true false x y z first second = let f : one_more x ≤ y = first in let s : y ≤ z = second in omega (arith, f, s)
+rose_then false true x y z first second = let f : x ≤ y = first in let s : one_more y ≤ z = second in omega (arith, f, s)
+rose_then false false x y z first second = let f : x ≤ y = first in let s : y ≤ z = second in omega (arith, f, s)
+
+-- ---- what is left
+
+through_then : {A : Type 0} (step : Event → A → A → Type 0) (es fs : List Event) (a b c : A) → Through step es a b → Through step fs b c
+    → Through step (es ++ fs) a c
+through_then step [] fs a b c first second = subst (λ x. Through step fs x c) first second
+through_then step (e ∷ es) fs a b c first second = (first.0, first.1, through_then step es fs first.0 b c first.2 second)
+
+becomes_stays : {A : Type 0} (R : A → A → Type 0) → ((x : A) → R x x) → (a b : Option A) → b ≡ a → Becomes R a b
+becomes_stays R stays None None same = tt
+becomes_stays R stays None (Some b) same = cc
+becomes_stays R stays (Some a) None same = cc
+becomes_stays R stays (Some a) (Some b) same = let one : b ≡ a = cc in subst (λ x. R a x) (sym one) (stays a)
+
+becomes_map : {A : Type 0} (R S : A → A → Type 0) → ((x y : A) → R x y → S x y) → (a b : Option A) → Becomes R a b → Becomes S a b
+becomes_map R S then None None becomes = tt
+becomes_map R S then None (Some b) becomes = becomes
+becomes_map R S then (Some a) None becomes = becomes
+becomes_map R S then (Some a) (Some b) becomes = then a b becomes
+
+left_then : {A : Type 0} (step : Event → A → A → Type 0) (es fs : List Event) (a b c : Option A) → Becomes (Through step es) a b
+    → Becomes (Through step fs) b c → Becomes (Through step (es ++ fs)) a c
+left_then step es fs None None None first second = tt
+left_then step es fs None None (Some c) first second = absurd second
+left_then step es fs None (Some b) c first second = absurd first
+left_then step es fs (Some a) None c first second = absurd first
+left_then step es fs (Some a) (Some b) None first second = absurd second
+left_then step es fs (Some a) (Some b) (Some c) first second = through_then step es fs a b c first second
+
+-- one event, which leaves what it was
+left_same : {A : Type 0} (step : Event → A → A → Type 0) (e : Event) → ((x : A) → step e x x) → (a b : Option A) → b ≡ a
+    → Becomes (Through step (e ∷ [])) a b
+left_same step e stays a b same = becomes_stays (Through step (e ∷ [])) (λ x. (x, stays x, refl)) a b same
+
+-- and one that does not
+left_one : {A : Type 0} (R : A → A → Type 0) (step : Event → A → A → Type 0) (e : Event) → ((x y : A) → R x y → step e x y) → (a b : Option A)
+    → Becomes R a b → Becomes (Through step (e ∷ [])) a b
+left_one R step e then a b becomes = becomes_map R (Through step (e ∷ [])) (λ x y r. (y, then x y r, refl)) a b becomes
+
+pub told_none : (o : Outside) → Told [] o o
+told_none o = record {
+  heard = heard_none o.links.heard;
+  readings = grows_none o.links.readings;
+  faults = λ link. omega arith;
+  planned = becomes_stays (Through PlansAfter []) (λ x. refl) o.links.planned o.links.planned refl;
+  upcoming = becomes_stays (Through UpcomingAfter []) (λ x. refl) o.links.upcoming o.links.upcoming refl;
+}
+
+pub told_then : (es fs : List Event) (o o1 o2 : Outside) → Told es o o1 → Told fs o1 o2 → Told (es ++ fs) o o2
+told_then es fs o o1 o2 first second = record {
+  heard = second.heard ∙ ap (option_map (heard_after fs)) first.heard ∙ heard_then es fs o.links.heard;
+  readings =
+      subst (λ (more : List ℕ). GrowsBy more o.links.readings o2.links.readings) (sym (readings_of-append es fs))
+      (grows_then (readings_of es) (readings_of fs) o.links.readings o1.links.readings o2.links.readings first.readings second.readings);
+  faults = λ link.
+      subst (λ (b : Bool). RoseIf b (o.links.faults link) (o2.links.faults link)) (sym (has_failure-append link es fs))
+      (rose_then (has_failure link es) (has_failure link fs) (o.links.faults link) (o1.links.faults link) (o2.links.faults link)
+      (first.faults link) (second.faults link));
+  planned = left_then PlansAfter es fs o.links.planned o1.links.planned o2.links.planned first.planned second.planned;
+  upcoming = left_then UpcomingAfter es fs o.links.upcoming o1.links.upcoming o2.links.upcoming first.upcoming second.upcoming;
+}
+
+-- ---- what calls did, one behind the other
+
+module _ {P : Type 0} (step : P → Event → P → Type 0) (Before Between After : List (List Entry) → Type 0) where
+  unfoldable pub runs_then : (p q r : P) (o o1 o2 : Outside) → Runs step Before Between p q o o1 → Runs step Between After q r o1 o2
+      → Runs step Before After p r o o2
+  runs_then p q r o o1 o2 first second = record {
+    events = first.events ++ second.events;
+    path = path_then step p q r first.events second.events first.path second.path;
+    told = told_then first.events second.events o o1 o2 first.told second.told;
+    journal = λ j before.
+        subst After
+        (append_assoc j (batches_of first.events) (batches_of second.events)
+        ∙ ap (λ (l : List (List Entry)). j ++ l) (sym (batches_of-append first.events second.events)))
+        (second.journal (j ++ batches_of first.events) (first.journal j before));
+  }
+
+  pub breaks_then : (p q : P) (o o1 o2 : Outside) → Runs step Before Between p q o o1 → Breaks step Between After q o1 o2
+      → Breaks step Before After p o o2
+  breaks_then p q o o1 o2 first second = record { to = second.to; runs = runs_then p q second.to o o1 o2 first second.runs }
+
+-- ---- single calls
+
+-- batches that were committed
+abbrev pub commits : List (List Entry) → List Event
+commits [] = []
+commits (b ∷ bs) = Commit b ∷ commits bs
+
+pub batches_of_commits : (bs : List (List Entry)) → batches_of (commits bs) ≡ bs
+batches_of_commits [] = refl
+batches_of_commits (b ∷ bs) = ap (λ (l : List (List Entry)). b ∷ l) (batches_of_commits bs)
+
+commits_heard : (bs : List (List Entry)) (heard : List HeardOn) → heard_after (commits bs) heard ≡ heard
+commits_heard [] heard = refl
+commits_heard (b ∷ bs) heard = commits_heard bs heard
+
+commits_read : (bs : List (List Entry)) → readings_of (commits bs) ≡ []
+commits_read [] = refl
+commits_read (b ∷ bs) = commits_read bs
+
+commits_succeed : (link : ℕ) (bs : List (List Entry)) → has_failure link (commits bs) ≡ false
+commits_succeed link [] = refl
+commits_succeed link (b ∷ bs) = commits_succeed link bs
+
+commits_plan : (bs : List (List Entry)) (plans : ℕ → List Planned) → Through PlansAfter (commits bs) plans plans
+commits_plan [] plans = refl
+commits_plan (b ∷ bs) plans = (plans, refl, commits_plan bs plans)
+
+commits_upcoming : (bs : List (List Entry)) (readings : List ℕ) → Through UpcomingAfter (commits bs) readings readings
+commits_upcoming [] readings = refl
+commits_upcoming (b ∷ bs) readings = (readings, refl, commits_upcoming bs readings)
+
+option_map_same : {A : Type 0} (f : A → A) → ((x : A) → f x ≡ x) → (o : Option A) → o ≡ option_map f o
+option_map_same f same None = refl
+option_map_same f same (Some x) = ap (λ y. Some y) (sym (same x))
+
+-- batches that were committed while the links stayed as they were
+pub told_commits : (bs : List (List Entry)) (o o' : Outside) → o'.links ≡ o.links → Told (commits bs) o o'
+told_commits bs o o' same = record {
+  heard = ap (λ (l : Links). l.heard) same ∙ option_map_same (heard_after (commits bs)) (commits_heard bs) o.links.heard;
+  readings =
+      subst (λ (l : Links). GrowsBy (readings_of (commits bs)) o.links.readings l.readings) (sym same)
+      (subst (λ (r : List ℕ). GrowsBy r o.links.readings o.links.readings) (sym (commits_read bs)) (grows_none o.links.readings));
+  faults = λ link.
+      subst (λ (l : Links). RoseIf (has_failure link (commits bs)) (o.links.faults link) (l.faults link)) (sym same)
+      (subst (λ (b : Bool). RoseIf b (o.links.faults link) (o.links.faults link)) (sym (commits_succeed link bs)) (le_refl (o.links.faults link)));
+  planned =
+      becomes_stays (Through PlansAfter (commits bs)) (commits_plan bs) o.links.planned o'.links.planned (ap (λ (l : Links). l.planned) same);
+  upcoming =
+      becomes_stays (Through UpcomingAfter (commits bs)) (commits_upcoming bs) o.links.upcoming o'.links.upcoming
+      (ap (λ (l : Links). l.upcoming) same);
+}
+
+-- nothing that is told of
+pub told_pass : (o o' : Outside) → o'.links ≡ o.links → Told (Pass ∷ []) o o'
+told_pass o o' same = record {
+  heard = (told_commits [] o o' same).heard;
+  readings = (told_commits [] o o' same).readings;
+  faults = (told_commits [] o o' same).faults;
+  planned = left_same PlansAfter Pass (λ x. refl) o.links.planned o'.links.planned (ap (λ (l : Links). l.planned) same);
+  upcoming = left_same UpcomingAfter Pass (λ x. refl) o.links.upcoming o'.links.upcoming (ap (λ (l : Links). l.upcoming) same);
+}
+
+-- a count of a link that rose where the call of another one failed
+other_faults : (n link : ℕ) (old new : ℕ → ℕ) → old n ≤ new n → ((i : ℕ) → (i ≡ n → ⊥) → new i ≡ old i) → old link ≤ new link
+other_faults n link old new later others =
+    elim (cases_eq link n) [
+      | inl same ↦ subst (λ (i : ℕ). old i ≤ new i) (sym same) later
+      | inr other ↦ le_of_eq (sym (others link other))
+    ]
+
+failed_faults : (n link : ℕ) (old new : ℕ → ℕ) → Rose (old n) (new n) → old n ≤ new n → ((i : ℕ) → (i ≡ n → ⊥) → new i ≡ old i)
+    → RoseIf (nat_eq n link || false) (old link) (new link)
+failed_faults n link old new rose later others =
+    elim (nat_eq n link) as (λ b. nat_eq n link ≡ b → RoseIf (b || false) (old link) (new link)) [
+      | true ↦ λ is. subst (λ (i : ℕ). Rose (old i) (new i)) (eqb-true n link is) rose
+      | false ↦ λ is. other_faults n link old new later others
+    ] refl
+
+-- a link was asked
+pub told_asked : (link : ℕ) (given : Heard) (buf : List ℕ) (o o' : Outside) → length buf ≡ PIECE_LEN
+    → Hears link given buf o.links o'.links → IsCaused given (length buf) (o.links.faults link) (o'.links.faults link)
+    → Told (asked_event link given buf ∷ []) o o'
+told_asked link (answer.Got n) buf o o' whole hears caused = record {
+  heard = hears.heard ∙ ap (λ (room : ℕ). option_map (changed_at link (hear_reply room (got (take n buf)))) o.links.heard) whole;
+  readings = subst (λ (r : Option (List ℕ)). GrowsBy [] o.links.readings r) (sym hears.same_readings) (grows_none o.links.readings);
+  faults = λ i. other_faults link i o.links.faults o'.links.faults hears.later hears.others;
+  planned =
+      left_one (AnswersAsPlanned link (answer.Got n) buf) PlansAfter (Hear link (got (take n buf)))
+      (λ x y uses. subst (λ (room : ℕ). UsesPlan link room (Some (got (take n buf))) x y) whole uses) o.links.planned o'.links.planned
+      hears.planned;
+  upcoming = left_same UpcomingAfter (Hear link (got (take n buf))) (λ x. refl) o.links.upcoming o'.links.upcoming hears.same_upcoming;
+}
+told_asked link answer.Idle buf o o' whole hears caused = record {
+  heard = hears.heard ∙ ap (λ (room : ℕ). option_map (changed_at link (hear_reply room idle)) o.links.heard) whole;
+  readings = subst (λ (r : Option (List ℕ)). GrowsBy [] o.links.readings r) (sym hears.same_readings) (grows_none o.links.readings);
+  faults = λ i. other_faults link i o.links.faults o'.links.faults hears.later hears.others;
+  planned =
+      left_one (AnswersAsPlanned link answer.Idle buf) PlansAfter (Hear link idle)
+      (λ x y uses. subst (λ (room : ℕ). UsesPlan link room (Some idle) x y) whole uses) o.links.planned o'.links.planned
+      hears.planned;
+  upcoming = left_same UpcomingAfter (Hear link idle) (λ x. refl) o.links.upcoming o'.links.upcoming hears.same_upcoming;
+}
+told_asked link answer.End buf o o' whole hears caused = record {
+  heard = hears.heard ∙ ap (λ (room : ℕ). option_map (changed_at link (hear_reply room ended)) o.links.heard) whole;
+  readings = subst (λ (r : Option (List ℕ)). GrowsBy [] o.links.readings r) (sym hears.same_readings) (grows_none o.links.readings);
+  faults = λ i. other_faults link i o.links.faults o'.links.faults hears.later hears.others;
+  planned =
+      left_one (AnswersAsPlanned link answer.End buf) PlansAfter (Hear link ended)
+      (λ x y uses. subst (λ (room : ℕ). UsesPlan link room (Some ended) x y) whole uses) o.links.planned o'.links.planned
+      hears.planned;
+  upcoming = left_same UpcomingAfter (Hear link ended) (λ x. refl) o.links.upcoming o'.links.upcoming hears.same_upcoming;
+}
+told_asked link answer.Failed buf o o' whole hears caused = record {
+  heard = hears.heard;
+  readings = subst (λ (r : Option (List ℕ)). GrowsBy [] o.links.readings r) (sym hears.same_readings) (grows_none o.links.readings);
+  faults = λ i. failed_faults link i o.links.faults o'.links.faults caused hears.later hears.others;
+  planned =
+      left_one (AnswersAsPlanned link answer.Failed buf) PlansAfter (Miss link)
+      (λ x y uses. subst (λ (room : ℕ). UsesPlan link room None x y ⊎ (y ≡ x)) whole uses) o.links.planned o'.links.planned
+      hears.planned;
+  upcoming = left_same UpcomingAfter (Miss link) (λ x. refl) o.links.upcoming o'.links.upcoming hears.same_upcoming;
+}
+
+grows_one : (now : ℕ) (old new : Option (List ℕ)) → Grows now old new → GrowsBy (now ∷ []) old new
+grows_one now old None grows = tt
+grows_one now None (Some new) grows = absurd grows
+grows_one now (Some old) (Some new) grows = grows
+
+-- the clock was read
+pub told_read : (link now : ℕ) (o o' : Outside) → ReadsClock now o.links o'.links → Told (Read link now ∷ []) o o'
+told_read link now o o' reads = record {
+  heard = reads.same_heard ∙ option_map_same (heard_after []) (λ heard. refl) o.links.heard;
+  readings = grows_one now o.links.readings o'.links.readings reads.readings;
+  faults = λ i. le_of_eq (ap (λ (f : ℕ → ℕ). f i) (sym reads.same_faults));
+  planned = left_same PlansAfter (Read link now) (λ x. refl) o.links.planned o'.links.planned reads.same_planned;
+  upcoming = left_one (UsesReading now) UpcomingAfter (Read link now) (λ x y uses. uses) o.links.upcoming o'.links.upcoming reads.upcoming;
+}
+
+-- all bytes were sent
+pub told_sent : (link : ℕ) (bytes : List ℕ) (o o' : Outside) → Sends link bytes (Ok tt) o.links o'.links → Told (Pass ∷ []) o o'
+told_sent link bytes o o' sends = record {
+  heard = sends.same_heard ∙ option_map_same (heard_after []) (λ heard. refl) o.links.heard;
+  readings = subst (λ (r : Option (List ℕ)). GrowsBy [] o.links.readings r) (sym sends.same_readings) (grows_none o.links.readings);
+  faults = λ i. other_faults link i o.links.faults o'.links.faults sends.faults.later sends.faults.others;
+  planned = left_same PlansAfter Pass (λ x. refl) o.links.planned o'.links.planned sends.same_planned;
+  upcoming = left_same UpcomingAfter Pass (λ x. refl) o.links.upcoming o'.links.upcoming sends.same_upcoming;
+}
+
+-- a send failed
+pub told_broken : (link : ℕ) (bytes : List ℕ) (why : Failed) (o o' : Outside) → Sends link bytes (Err why) o.links o'.links
+    → Told (Break link ∷ []) o o'
+told_broken link bytes why o o' sends = record {
+  heard = sends.same_heard ∙ option_map_same (heard_after []) (λ heard. refl) o.links.heard;
+  readings = subst (λ (r : Option (List ℕ)). GrowsBy [] o.links.readings r) (sym sends.same_readings) (grows_none o.links.readings);
+  faults = λ i. failed_faults link i o.links.faults o'.links.faults sends.faults.failed sends.faults.later sends.faults.others;
+  planned = left_same PlansAfter (Break link) (λ x. refl) o.links.planned o'.links.planned sends.same_planned;
+  upcoming = left_same UpcomingAfter (Break link) (λ x. refl) o.links.upcoming o'.links.upcoming sends.same_upcoming;
+}
+
+-- nothing that is told of, before what is told
+pub told_behind_pass : (es : List Event) (o o' : Outside) → Told (Pass ∷ es) o o' → Told es o o'
+told_behind_pass es o o' told = record {
+  heard = told.heard;
+  readings = told.readings;
+  faults = told.faults;
+  planned =
+      becomes_map (Through PlansAfter (Pass ∷ es)) (Through PlansAfter es) (λ x y t. subst (λ z. Through PlansAfter es z y) t.1 t.2) o.links.planned
+      o'.links.planned told.planned;
+  upcoming =
+      becomes_map (Through UpcomingAfter (Pass ∷ es)) (Through UpcomingAfter es) (λ x y t. subst (λ z. Through UpcomingAfter es z y) t.1 t.2)
+      o.links.upcoming o'.links.upcoming told.upcoming;
+}
+
+-- two sends of a greeting, told as one event: both went out, or the second one failed
+pub told_greeted : (link : ℕ) (first second : List ℕ) (o mid o' : Outside) → Sends link first (Ok tt) o.links mid.links
+    → Sends link second (Ok tt) mid.links o'.links → Told (Pass ∷ []) o o'
+told_greeted link first second o mid o' one two =
+    told_behind_pass (Pass ∷ []) o o' (told_then (Pass ∷ []) (Pass ∷ []) o mid o' (told_sent link first o mid one) (told_sent link second mid o' two))
+
+pub told_ungreeted : (link : ℕ) (first second : List ℕ) (why : Failed) (o mid o' : Outside) → Sends link first (Ok tt) o.links mid.links
+    → Sends link second (Err why) mid.links o'.links → Told (Break link ∷ []) o o'
+told_ungreeted link first second why o mid o' one two =
+    told_behind_pass (Break link ∷ []) o o'
+    (told_then (Pass ∷ []) (Break link ∷ []) o mid o' (told_sent link first o mid one) (told_broken link second why mid o' two))

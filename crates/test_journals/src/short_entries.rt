@@ -1,0 +1,140 @@
+// Entries in format 2 against bytes that were written by hand, where two messages are held: whole,
+// cut at each byte, with a number that names no message, and beside format 1.
+
+ghost use Rattle.std.specs.Prelude.{◌≡◌, true};
+ghost use Rattle.sync_rules.specs.Lists.{is_among};
+ghost use Rattle.entry_codec.specs.Spelling.{EntryNames, HasLatency};
+
+use crate::checks::{made, same};
+use crate::fixtures::list;
+use crate::two_names::TwoNames;
+use entry_codec::{EntryFound, entry_len, read_short, short_len, write_short};
+use std::alloc::Global;
+use std::process::Abort;
+use sync_ids::{Fixed, MessageId};
+use sync_rules::{Entry, Out};
+
+const FIRST: MessageId = Fixed(*b"AAAAAAAAAAAAAAAAAAAAAAAAAAAAAAAA");
+
+const SECOND: MessageId = Fixed(*b"BBBBBBBBBBBBBBBBBBBBBBBBBBBBBBBB");
+
+const OTHER: MessageId = Fixed(*b"0123456789abcdef0123456789ABCDEF");
+
+// How many bytes the entry takes that the bytes begin with; none where there is no such entry.
+fn used_in(rt: &impl Abort, alloc: Global, names: &TwoNames, bytes: &[u8]) -> Option<usize> {
+    match made(rt, read_short(alloc, bytes, names)) {
+        EntryFound::One(_, used) => Some(used),
+        EntryFound::BadEntry => None,
+    }
+}
+
+fn text_of(rt: &impl Abort, alloc: Global, entry: &Entry) -> String {
+    made(rt, format!(in alloc; "{entry:?}"))
+}
+
+// The entry is read of these bytes, of which it takes all, and of no front of them; in format 1 it
+// has so many bytes.
+fn check(rt: &impl Abort, alloc: Global, entry: Entry, bytes: &[u8], whole: usize) {
+    let names = made(rt, TwoNames::new(FIRST, SECOND));
+    same(rt, &(short_len(&entry), entry_len(&entry)), &(bytes.len(), whole));
+    match made(rt, read_short(alloc, bytes, &names)) {
+        EntryFound::One(again, used) => {
+            same(rt, &used, &bytes.len());
+            same(rt, &text_of(rt, alloc, &again), &text_of(rt, alloc, &entry));
+        }
+        EntryFound::BadEntry => panic!(rt; "not read"),
+    }
+    for cut in 0..bytes.len() {
+        same(rt, &(cut, used_in(rt, alloc, &names, &bytes[..cut])), &(cut, None));
+    }
+}
+
+#[test]
+fn steps_and_marks(rt: HostRuntime) {
+    let alloc = rt.alloc();
+    check(&rt, alloc, Entry::Contact(7), b"\x01\x07", 2);
+    check(&rt, alloc, Entry::Judged(FIRST), b"\x08\x00\x00\x00\x00", 33);
+    check(&rt, alloc, Entry::Deliver(SECOND), b"\x09\x00\x00\x00\x01", 33);
+    check(&rt, alloc, Entry::Invalid(FIRST), b"\x0a\x00\x00\x00\x00", 33);
+    let again = b"\x0b\xff\xfe\xfd\xfc\x00\x00\x00\x01";
+    check(&rt, alloc, Entry::Again(0xfffe_fdfc, SECOND), again, 37);
+    let offered = b"\x0c\x00\x00\x00\x030123456789abcdef0123456789ABCDEF";
+    check(&rt, alloc, Entry::Offered(3, OTHER), offered, 37);
+    let seen = b"\x0d\x00\x00\x00\x03\x00\x00\x00\x01";
+    check(&rt, alloc, Entry::Seen(3, SECOND), seen, 37);
+    let asked = b"\x0e\x00\x00\x00\x03\x00\x00\x00\x00";
+    check(&rt, alloc, Entry::Asked(3, FIRST), asked, 37);
+}
+
+#[test]
+fn outputs(rt: HostRuntime) {
+    let alloc = rt.alloc();
+    let acks =
+        b"\x0f\x00\x00\x00\x02\x00\x00\x00\x00\x00\x00\x03\xe8\x00\x00\x02\x00\x00\x00\x01\x00\x00\x00\x00";
+    let out = Out::Acks(list(&rt, alloc, &[SECOND, FIRST]));
+    check(&rt, alloc, Entry::Out(2, 1000, out), acks, 80);
+    let requests =
+        b"\x0f\x00\x00\x00\x02\x00\x00\x00\x00\x00\x00\x03\xe8\x01\x00\x010123456789abcdef0123456789ABCDEF";
+    let out = Out::Requests(list(&rt, alloc, &[OTHER]));
+    check(&rt, alloc, Entry::Out(2, 1000, out), requests, 48);
+    let offers =
+        b"\x0f\x00\x00\x00\x02\x00\x00\x00\x00\x00\x00\x03\xe8\x02\x00\x01\x00\x00\x00\x01";
+    let out = Out::Offers(list(&rt, alloc, &[SECOND]));
+    check(&rt, alloc, Entry::Out(2, 1000, out), offers, 48);
+    let send = b"\x0f\x00\x00\x00\x02\x00\x00\x00\x00\x00\x00\x03\xe8\x03\x00\x00\x00\x01";
+    check(&rt, alloc, Entry::Out(2, 1000, Out::Send(SECOND)), send, 46);
+}
+
+// A number that is not below the number of held messages is no spelling.
+#[test]
+fn numbers_of_none(rt: HostRuntime) {
+    let names = made(&rt, TwoNames::new(FIRST, SECOND));
+    let cases: &[(&[u8], Option<usize>)] = &[
+        (b"\x08\x00\x00\x00\x01", Some(5)),
+        (b"\x08\x00\x00\x00\x02", None),
+        (b"\x09\xff\xff\xff\xff", None),
+        (b"\x0b\x00\x00\x00\x00\x00\x00\x00\x02", None),
+        (
+            b"\x0f\x00\x00\x00\x00\x00\x00\x00\x00\x00\x00\x00\x00\x00\x00\x02\x00\x00\x00\x00\x00\x00\x00\x02",
+            None,
+        ),
+        (
+            b"\x0f\x00\x00\x00\x00\x00\x00\x00\x00\x00\x00\x00\x00\x02\x00\x00",
+            None,
+        ),
+        (
+            b"\x0f\x00\x00\x00\x00\x00\x00\x00\x00\x00\x00\x00\x00\x03\x00\x00\x01\x00",
+            None,
+        ),
+    ];
+    for (bytes, want) in cases {
+        let used = used_in(&rt, rt.alloc(), &names, bytes);
+        same(&rt, &(*bytes, used), &(*bytes, *want));
+    }
+}
+
+fn check_written(rt: &impl Abort, alloc: Global, names: &TwoNames, entry: &Entry, bytes: &[u8])
+    requires latency { HasLatency entry.now }
+    requires named { EntryNames (λ id. is_among names.now id ≡ true) entry.now }
+{
+    let mut written = Vec::new(alloc);
+    made(rt, write_short(entry, names, &mut written));
+    same(rt, &written.as_slice(), &bytes);
+}
+
+#[test]
+fn written(rt: HostRuntime) {
+    let alloc = rt.alloc();
+    let names = made(&rt, TwoNames::new(FIRST, SECOND));
+    let second = names.second();
+    let judged = Entry::Judged(second);
+    check_written(&rt, alloc, &names, &judged, b"\x08\x00\x00\x00\x01");
+    let seen = Entry::Seen(3, second);
+    check_written(&rt, alloc, &names, &seen, b"\x0d\x00\x00\x00\x03\x00\x00\x00\x01");
+    let offered = Entry::Offered(3, OTHER);
+    let bytes = b"\x0c\x00\x00\x00\x030123456789abcdef0123456789ABCDEF";
+    check_written(&rt, alloc, &names, &offered, bytes);
+    let send = Entry::Out(2, 1000, Out::Send(second));
+    let bytes = b"\x0f\x00\x00\x00\x02\x00\x00\x00\x00\x00\x00\x03\xe8\x03\x00\x00\x00\x01";
+    check_written(&rt, alloc, &names, &send, bytes);
+}
