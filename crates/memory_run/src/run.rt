@@ -62,14 +62,7 @@ pub fn run_in_memory<C: Clients>(
     let mut out = MemSink::new(alloc, Vec::new(alloc));
     let mut err = MemSink::new(alloc, Vec::new(alloc));
     let status = run(
-        alloc,
-        hasher,
-        words,
-        &mut host,
-        &mut input,
-        &mut out,
-        &mut err,
-        clients,
+        alloc, hasher, words, &mut host, &mut input, &mut out, &mut err, clients,
     );
     Came {
         status,

@@ -371,8 +371,8 @@ module _ (clients : Meaning) (first n : ℕ) (links0 links : List Link) (l : Lin
         (link_limit_sent clients first n links l s o at numbered terms same so.heard' (cond quiet moved true) still made Asks (Joined clients links s o) s' o'
         (full.fills (so.heard' n) (cond quiet moved true) (so.has_read n l at))
         (λ joined to.
-            subst (λ (k : ℕ). AllSentOn clients k (slice_set (links_from 0 links so.heard') n to) s' o') (sym same)
-            (stopped_sent clients first n links l s s' o o' so.heard' works.attached at stops joined to)));
+        subst (λ (k : ℕ). AllSentOn clients k (slice_set (links_from 0 links so.heard') n to) s' o') (sym same)
+        (stopped_sent clients first n links l s s' o o' so.heard' works.attached at stops joined to)));
   }
 
   -- the same, by the number of the next link and whether all were still

@@ -166,9 +166,9 @@ module _ (clients : Meaning) (sessions : List Session) (links : List Dialled) (f
         (AllSentOn clients terms.first (links_from 0 nodes silent) s o) s0 s s' o0 o o'
         (so_next.runs two files terms)
         (λ joined.
-            joined_sent clients terms.first nodes silent s o
-            (λ k l there. (attached.each k l there).numbered ∙ ap (λ (n : ℕ). n + k) (named ∙ sym same))
-            (joins (subst (λ (ls : List Link). Joined clients ls s0 o0) (sym none) joined)))
+        joined_sent clients terms.first nodes silent s o
+        (λ k l there. (attached.each k l there).numbered ∙ ap (λ (n : ℕ). n + k) (named ∙ sym same))
+        (joins (subst (λ (ls : List Link). Joined clients ls s0 o0) (sym none) joined)))
         (full.fills terms left silent false 0 0);
   }
 
