@@ -61,7 +61,7 @@ module _ (p : Id → Bool) where
       ] refl
 
   kept_push : (ids : List Id) (x : Id) → filter p (ids ++ x ∷ []) ≡ filter p ids ++ cond (p x) (x ∷ []) []
-  kept_push [] x = elim (p x) as (λ b. cond b (x ∷ []) [] ≡ cond b (x ∷ []) []) [ | true ↦ refl | false ↦ refl ]
+  kept_push [] x = elim (p x) as (λ b. cond b (x ∷ []) [] ≡ cond b (x ∷ []) []) [ true ↦ refl | false ↦ refl ]
   kept_push (y ∷ ids) x =
       elim (p y) as (λ b. cond b (y ∷ filter p (ids ++ x ∷ [])) (filter p (ids ++ x ∷ [])) ≡ cond b (y ∷ filter p ids) (filter p ids) ++ cond (p x) (x ∷ []) []) [
         | true ↦ ap (λ (zs : List Id). y ∷ zs) (kept_push ids x)
