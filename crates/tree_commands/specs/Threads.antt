@@ -1,5 +1,6 @@
 -- A tree of messages by their arrival numbers.
-use Rattle.std.specs.Prelude.{◌≡◌, ℕ, suc, ◌<◌, ◌==◌, cond, List, [], ◌∷◌, ◌++◌, length, Option, None, Some, slice_index_or}
+use Rattle.std.specs.Prelude.{◌≡◌, ℕ, suc, ◌<◌, ◌==◌, cond, List, [], ◌∷◌, ◌++◌, length, Option}
+use Rattle.std.specs.Prelude.{None, Some, slice_index_or}
 use Rattle.std.specs.Option.{option_map}
 
 -- the arrival numbers of the items, what each replies to, and how many messages are held

@@ -1,5 +1,7 @@
--- What `tree` prints: a part of the walk of the replies in a group, by the facts of the journal and the meaning of its clients.
-use Rattle.std.specs.Prelude.{◌≡◌, ℕ, suc, ◌<◌, cond, if◌then◌else◌, List, [], ◌∷◌, ◌++◌, take, drop, Option, None, Some, is_some, slice_get, slice_index_or}
+-- What `tree` prints: a part of the walk of the replies in a group, by the facts of the journal and
+-- the meaning of its clients.
+use Rattle.std.specs.Prelude.{◌≡◌, ℕ, suc, ◌<◌, cond, if◌then◌else◌, List, [], ◌∷◌, ◌++◌, take}
+use Rattle.std.specs.Prelude.{drop, Option, None, Some, is_some, slice_get, slice_index_or}
 use Rattle.std.specs.Fmt.{decimal}
 use Rattle.std.specs.List.{filter, flat_map}
 use Rattle.std.specs.Option.{option_map}
@@ -45,14 +47,17 @@ place_if ids (Some id) = place_among ids id
 -- of each message the place of what it replies to, among the earlier ones
 abbrev pub parents_behind : Meaning → Facts → (earlier : List Id) → List Id → List (Option ℕ)
 parents_behind clients f earlier [] = []
-parents_behind clients f earlier (id ∷ ids) = place_if earlier (replied_by clients f (held_at f.held id)) ∷ parents_behind clients f (earlier ++ id ∷ []) ids
+parents_behind clients f earlier (id ∷ ids) =
+    place_if earlier (replied_by clients f (held_at f.held id)) ∷ parents_behind clients f
+    (earlier ++ id ∷ []) ids
 
 abbrev pub parents_of : Meaning → Facts → List Id → List (Option ℕ)
 parents_of clients f ids = parents_behind clients f [] ids
 
 -- ---- the text
 
--- a message of the walk: how many stand above it, how many there are below it and itself, and its id
+-- a message of the walk: how many stand above it, how many there are below it and itself, and its
+-- id
 abbrev pub tree_text : (depth size : ℕ) (id : List ℕ) → List ℕ
 tree_text depth size id = decimal depth ++ (32 ∷ decimal size ++ (32 ∷ encode_lower id ++ 10 ∷ []))
 
@@ -67,7 +72,8 @@ walk_text ids ps from count = flat_map (item_line ids ps) (take count (drop from
 abbrev pub tree_shown : Meaning → Window → Facts → Showing
 tree_shown clients w f =
     if is_some (group_at f.groups w.group)
-    then shows (walk_text (delivered_in f w.group) (parents_of clients f (delivered_in f w.group)) w.from w.count)
+    then shows (walk_text (delivered_in f w.group) (parents_of clients f (delivered_in f w.group))
+    w.from w.count)
     else denies refused.UnknownGroup
 
 -- ---- what a parent is
@@ -79,9 +85,13 @@ pub record HasParent (ids : List Id) (ps : List (Option ℕ)) (n : ℕ) (id : Id
   pub parent : slice_get ps n ≡ Some (Some place)
   pub there : slice_get ids place ≡ Some id
 
--- In a legal journal each message whose verdict has a dependency replies to the first one, which stands before it in the tree.
+-- In a legal journal each message whose verdict has a dependency replies to the first one, which
+-- stands before it in the tree.
 abbrev pub RepliesToFirst : Type 0
 RepliesToFirst =
-    (clients : Meaning) (j : List (List Entry)) → Legal clients j → (group : Id) (n : ℕ) (id first : Id)
-    → slice_get (delivered_in (facts j) group) n ≡ Some id → replied_by clients (facts j) (held_at (facts j).held id) ≡ Some first
-    → HasParent (delivered_in (facts j) group) (parents_of clients (facts j) (delivered_in (facts j) group)) n first
+    (clients : Meaning) (j : List (List Entry)) → Legal clients j
+    → (group : Id) (n : ℕ) (id first : Id)
+    → slice_get (delivered_in (facts j) group) n ≡ Some id
+    → replied_by clients (facts j) (held_at (facts j).held id) ≡ Some first
+    → HasParent (delivered_in (facts j) group)
+    (parents_of clients (facts j) (delivered_in (facts j) group)) n first
