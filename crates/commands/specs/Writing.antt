@@ -15,4 +15,5 @@ may_write (command.Post group timestamp) = true
 may_write command.Show = false
 may_write command.Inbox = false
 may_write (command.Body id) = false
+may_write (command.Tree group from count) = false
 may_write (command.Sync turns quiet links) = true
