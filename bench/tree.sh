@@ -10,7 +10,7 @@ cd "$(dirname "$0")/.."
 (cd crates/bench_tree && rt run -- 10 100 >/dev/null)
 bsp=$PWD/crates/bsp/out/bsp
 if [ ! -x "$bsp" ]; then (cd crates/bsp && rt run -- try note d <stdin >/dev/null); fi
-exec env PYTHONPATH=bench PYTHONDONTWRITEBYTECODE=1 python3 - "$bsp" "${RUNS:-5}" "${CHAINS:-20000 100000}" <<'PY'
+exec env PYTHONPATH=bench:oracle PYTHONDONTWRITEBYTECODE=1 python3 - "$bsp" "${RUNS:-5}" "${CHAINS:-20000 100000}" <<'PY'
 import os, struct, sys, tempfile
 
 from digests import group_id, message_id
