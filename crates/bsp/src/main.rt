@@ -3,7 +3,7 @@
 
 mod need;
 
-use crate::need::{need_of, reads_input};
+use crate::need::need_of;
 use arguments::words;
 use client_basic::Bundle;
 use commands::{WordsFault, read_words};
@@ -29,7 +29,7 @@ fn main(rt: HostRuntime) -> ExitCode {
     match read_words(alloc, words.as_slice()) {
         Ok(command) => {
             // Nobody waits for this one while it waits for its input.
-            if reads_input(&command) && input.read_early(MAX_BODY + 1).is_err() {
+            if command.reads_body() && input.read_early(MAX_BODY + 1).is_err() {
                 return ended(&Outcome::Memory, &mut err);
             }
             need = need_of(&command);

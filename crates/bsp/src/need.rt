@@ -1,6 +1,7 @@
-//! What a command needs of the files of a store, and of its input.
+//! What a command needs of the files of a store.
 ghost use Rattle.std.specs.Prelude.{◌≡◌};
-ghost use Rattle.commands.specs.Writing.{may_write};
+ghost use Rattle.bsp.specs.Needs.{touches};
+ghost use Rattle.commands.specs.Writing.{may_write, uses_store};
 ghost use Rattle.outside_real.specs.Need.{writes};
 
 use commands::Command;
@@ -8,7 +9,8 @@ use outside_real::Need;
 
 /// What a command needs of the files of the store in its folder.
 pub fn need_of(command: &Command) -> Need
-    ensures { writes result ≡ may_write command.now }
+    ensures writes { writes result ≡ may_write command.now }
+    ensures touches { touches result ≡ uses_store command.now }
 {
     match command {
         Command::Try(_, _) | Command::Records => Need::Nothing,
@@ -16,9 +18,4 @@ pub fn need_of(command: &Command) -> Need
         _ if command.may_write() => Need::Write,
         _ => Need::Read,
     }
-}
-
-/// Whether a command reads a body from its input, which comes when it comes.
-pub fn reads_input(command: &Command) -> bool {
-    matches!(command, Command::Post(_, _))
 }

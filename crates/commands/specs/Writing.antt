@@ -1,4 +1,4 @@
--- Which commands may write the files of a store.
+-- Which commands use the files of a store, which may write them, and which read the body of a message.
 use Rattle.std.specs.Prelude.{Bool, true, false}
 use Rattle.commands.specs.declared.command.Command.{Command}
 use Rattle.commands.specs.declared.command.Command.TheVariants as command
@@ -17,3 +17,14 @@ may_write command.Inbox = false
 may_write (command.Body id) = false
 may_write (command.Tree group from count) = false
 may_write (command.Sync turns quiet links) = true
+
+-- those that write a message, whose body is their input
+abbrev pub reads_body : Command → Bool
+reads_body (command.Post group timestamp) = true
+reads_body _ = false
+
+-- those that are about a store; the others are about a stream alone
+abbrev pub uses_store : Command → Bool
+uses_store (command.Try name descriptor) = false
+uses_store command.Records = false
+uses_store _ = true

@@ -1,6 +1,6 @@
 //! The commands.
 ghost use Rattle.std.specs.Prelude.{◌≡◌};
-ghost use Rattle.commands.specs.Writing.{may_write};
+ghost use Rattle.commands.specs.Writing.{may_write, reads_body};
 
 use sync_ids::{GroupId, MessageId};
 use sync_rules::Level;
@@ -38,6 +38,13 @@ pub enum Command {
 }
 
 impl Command {
+    /// Whether the command reads the body of a message from its input, which comes when it comes.
+    pub fn reads_body(&self) -> bool
+        ensures { result ≡ reads_body self.now }
+    {
+        matches!(self, Command::Post(_, _))
+    }
+
     /// Whether the command may write the files of a store.
     pub fn may_write(&self) -> bool
         ensures { result ≡ may_write self.now }

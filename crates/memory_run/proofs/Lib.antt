@@ -1,1 +1,2 @@
 pub mod OpensLemmas
+mod RanLemmas

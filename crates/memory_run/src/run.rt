@@ -2,6 +2,7 @@
 ghost use Rattle.commands.specs.Reading.{asks};
 ghost use Rattle.sync_words.specs.Words.{texts};
 ghost use Rattle.memory_run.specs.Opens.{OpensInMemory};
+ghost use Rattle.memory_run.specs.Ran.{RanInMemory};
 
 use crate::fresh::FreshHost;
 use outside::{MemHost, MemSink, MemSource};
@@ -10,10 +11,13 @@ use std::hash::RandomState;
 use sync_rules::Clients;
 use sync_top::{Status, run};
 
-/// What a command came to: its status, what it wrote to both outputs, and the host that it left.
+/// What a command came to: its status, what it left of its source, what it wrote to both outputs,
+/// and the host that it left.
 pub struct Came {
     /// The status.
     pub status: Status,
+    /// The source, behind what was read.
+    pub input: MemSource,
     /// The output.
     pub out: MemSink,
     /// The error output.
@@ -27,6 +31,7 @@ impl Drop for Came {
     fn drop(self) {
         let Came {
             status: _,
+            input: _,
             out: _,
             err: _,
             host: _,
@@ -37,7 +42,8 @@ impl Drop for Came {
 /// Runs the command of these words, those after the program's name, over a host in memory, reading
 /// this source. Of the words of `sync` it holds of every such host: whatever its links answer and
 /// whichever of its calls fail, and after however many of its calls a crash comes, its files stand
-/// for a sound journal, or are as a crash might have left them before, nothing being sent.
+/// for a sound journal, or are as a crash might have left them before, nothing being sent. What the
+/// words ask for came to an outcome, and the status and the error output tell it.
 pub fn run_in_memory<C: Clients>(
     alloc: Global,
     hasher: RandomState,
@@ -46,24 +52,21 @@ pub fn run_in_memory<C: Clients>(
     source: MemSource,
     clients: &C,
 ) -> Came
-    ensures { OpensInMemory (C.meaning clients.now) (asks (texts words.now)) fresh result.host }
+    ensures opens { OpensInMemory (C.meaning clients.now) (asks (texts words.now)) fresh
+        result.host }
+    ensures ran { RanInMemory (C.meaning clients.now) (asks (texts words.now)) fresh result.host
+        source result.input result.out result.err result.status }
 {
     let mut host = fresh.into_host();
-    let mut source = source;
+    let mut input = source;
     let mut out = MemSink::new(alloc, Vec::new(alloc));
     let mut err = MemSink::new(alloc, Vec::new(alloc));
     let status = run(
-        alloc,
-        hasher,
-        words,
-        &mut host,
-        &mut source,
-        &mut out,
-        &mut err,
-        clients,
+        alloc, hasher, words, &mut host, &mut input, &mut out, &mut err, clients,
     );
     Came {
         status,
+        input,
         out,
         err,
         host,

@@ -17,7 +17,8 @@ use Rattle.sync_course.specs.declared.ends.LinkEnd.TheVariants as link_end
 use Rattle.sync_node.specs.Ends.{MaySend}
 use Rattle.sync_node.specs.Redundant.{ClosesSome}
 use Rattle.sync_node.specs.Courses.{AllRead, FitsWith, HaltsReceiving, HaltsSending, HaltsTurn, HearsAsCourse, HearsStops, IsRead, IsReadyToSend, MakesTurn, Receives, RunCounts, RunHalts, RunRuns, SendsDue, SentAsCourse, SentStops, TurnsAsCourse, TurnsStop, link_at, links_from, place_at}
-use Rattle.sync_node.proofs.CourseTakes.{full_then}
+use Rattle.sync_node.proofs.CourseTakes.{full_sent_then}
+use Rattle.sync_node.specs.Joined.{Joined}
 use Rattle.sync_node.specs.Fulls.{FullReceiving, FullSending, FullTurn, HearsFull, SentFull, TurnsFull}
 use Rattle.sync_node.proofs.CourseRuns.{all_read, heard_with, length_from, link_counted, link_halted, link_in_run, link_limit, run_halts_behind}
 use Rattle.sync_node.proofs.CourseTurns.{may_end, read_on}
@@ -118,8 +119,9 @@ pub turn_limit : (clients : Meaning) (first : ℕ) (links : List Link) (s s' : S
     → FullTurn clients first links s s' o o'
 turn_limit clients first links s s' o o' full = record {
   fills = λ terms heard moved still made same read on.
-      full_then clients (RunStep clients terms) (place_at Between links heard moved still made s.state.facts)
-      (place_at (Works 0 Asks) links heard false still made s.state.facts) s s s' o o o' (turn_begun clients terms links s o heard moved still made on)
+      full_sent_then clients terms (place_at Between links heard moved still made s.state.facts)
+      (place_at (Works 0 Asks) links heard false still made s.state.facts) (Joined clients links s o) (Joined clients links s o) s s s' o o o'
+      (turn_begun clients terms links s o heard moved still made on) (λ joined. joined)
       (full.fills terms heard false still made same read);
 }
 

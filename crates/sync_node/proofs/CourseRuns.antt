@@ -16,8 +16,12 @@ use Rattle.sync_course.proofs.ToldLaws.{runs_then}
 use Rattle.sync_course.proofs.Counted.{counted_lifted}
 use Rattle.sync_course.specs.Turns.{Place, RunStep, Terms, Works, with_spot}
 use Rattle.sync_node.specs.declared.link.Link.{Link}
-use Rattle.sync_node.proofs.CourseTakes.{full_then}
-use Rattle.sync_node.specs.Fulls.{HearsFull, LinkFull, RunFull, TurnsFull}
+use Rattle.sync_node.proofs.CourseTakes.{full_sent_then}
+use Rattle.sync_node.proofs.SentLaws.{stopped_sent}
+use Rattle.sync_node.specs.Fulls.{AllSentOn, HearsFull, LinkFull, RunFull, RunFullSent, TurnsFull}
+use Rattle.sync_node.specs.Joined.{Joined}
+use Rattle.sync_node.specs.Node.{LinksWork}
+use Rattle.sync_node.specs.Stops.{StopsSent}
 use Rattle.sync_node.specs.Courses.{AllRead, FitsWith, HearsStops, IsRead, LinkCounts, LinkHalts, LinkRuns, ReadsAs, RunCounts, RunHalts, RunRuns, TurnAsCourse, TurnsAsCourse, TurnsStop, link_at, links_from, place_at, spot_at}
 
 -- ---- lists of links
@@ -277,6 +281,23 @@ module _ (clients : Meaning) (first n : ℕ) (links : List Link) (l : Link) (s :
         subst (λ (x : Place). RunFull clients terms x s s' o o') (start_here doing)
         (full_lifted clients terms n place within p s s' o o' (subst (λ (k : ℕ). LinkFull clients n k p s s' o o') in_terms full))
 
+    -- the same, with what was sent
+    pub link_limit_sent : (doing : Doing) (Given : Type 0) (s' : StoreValue) (o' : Outside)
+        → LinkFull clients n l.session.number (spot_at doing l (heard n) moved s.state.facts) s s' o o'
+        → (Given → (to : course_links.Link) → AllSentOn clients terms.first (slice_set (links_from 0 links heard) n to) s' o')
+        → RunFullSent clients terms (place_at (Works n doing) links heard moved still made s.state.facts) Given s s' o o'
+    unfolding full_lifted
+    link_limit_sent doing Given s' o' full sent =
+        let place : Place = place_at (Works n doing) links heard moved still made s.state.facts in
+        let p : Spot = spot_at doing l (heard n) moved s.state.facts in
+        let within : n < length place.links = get_within (links_from 0 links heard) n (link_at l (heard n)) at_course in
+        let here : LinkFull clients n (terms.first + n) p s s' o o' = subst (λ (k : ℕ). LinkFull clients n k p s s' o o') in_terms full in
+        subst (λ (x : Place). RunFullSent clients terms x Given s s' o o') (start_here doing)
+        (record {
+          full = full_lifted clients terms n place within p s s' o o' here;
+          sent = λ given. sent given here.to.link;
+        })
+
 -- ---- one link more
 
 module _ (clients : Meaning) (first n : ℕ) (links0 links : List Link) (l : Link) (s0 s : StoreValue) (o0 o : Outside) (quiet : Bool)
@@ -339,14 +360,19 @@ module _ (clients : Meaning) (first n : ℕ) (links0 links : List Link) (l : Lin
   }
 
   pub turns_full : (s' : StoreValue) (o' : Outside) → HearsFull clients n l s s' o o'
+      → LinksWork clients first links0 links s0 s o0 o → StopsSent clients n [] l s s' o o'
       → TurnsFull clients first links0 s0 s' o0 o'
-  turns_full s' o' full = record {
+  turns_full s' o' full works stops = record {
     fills = λ terms heard moved still made same read.
         let so = a.leads terms heard moved still made same read in
-        full_then clients (RunStep clients terms) (place_at (Works 0 Asks) links0 heard moved still made s0.state.facts)
-        (place_at (Works n Asks) links so.heard' (cond quiet moved true) still made s.state.facts) s0 s s' o0 o o' so.runs
-        (link_limit clients first n links l s o at numbered terms same so.heard' (cond quiet moved true) still made Asks s' o'
-        (full.fills (so.heard' n) (cond quiet moved true) (so.has_read n l at)));
+        full_sent_then clients terms (place_at (Works 0 Asks) links0 heard moved still made s0.state.facts)
+        (place_at (Works n Asks) links so.heard' (cond quiet moved true) still made s.state.facts) (Joined clients links0 s0 o0) (Joined clients links s o) s0 s s' o0 o o'
+        so.runs works.joined
+        (link_limit_sent clients first n links l s o at numbered terms same so.heard' (cond quiet moved true) still made Asks (Joined clients links s o) s' o'
+        (full.fills (so.heard' n) (cond quiet moved true) (so.has_read n l at))
+        (λ joined to.
+        subst (λ (k : ℕ). AllSentOn clients k (slice_set (links_from 0 links so.heard') n to) s' o') (sym same)
+        (stopped_sent clients first n links l s s' o o' so.heard' works.attached at stops joined to)));
   }
 
   -- the same, by the number of the next link and whether all were still

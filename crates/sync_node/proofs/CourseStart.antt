@@ -29,6 +29,8 @@ use Rattle.sync_course.specs.declared.ends.LinkEnd.TheVariants as link_end
 use Rattle.sync_node.proofs.CourseLaws.{fits_on}
 use Rattle.sync_node.proofs.CourseTakes.{full_here, none_or_one}
 use Rattle.sync_node.specs.Fulls.{FullBeginning, FullStart, IsOver}
+use Rattle.sync_node.specs.Stops.{StaysSame}
+use Rattle.sync_node.proofs.SentLaws.{same_sent}
 use Rattle.sync_node.specs.Courses.{Adds, AddsSome, Begins, BreaksStart, FitsWith, GreetsAsCourse, HaltsBeginning, IsRead, ReadsAs, RunHalts, RunRuns, StartsAsCourse, StartsBehind, attaching_at, link_at, links_from, place_at}
 use Rattle.sync_node.proofs.CourseRuns.{length_from}
 use Rattle.sync_node.specs.Node.{NodeValue}
@@ -169,11 +171,15 @@ module _ (clients : Meaning) (x : Session) (s : StoreValue) (o : Outside) (batch
   -- a session that would have passed the limit
   pub start_full : (s' : StoreValue) (o' : Outside) → IsOver clients batch s s' o o'
       → FullStart clients x s s' o o'
+  unfolding full_here
   start_full s' o' over = record {
-    fills = λ terms left links moved still made.
-        full_here clients (RunStep clients terms) (attaching_at (x ∷ left) links moved still made s.state.facts)
-        (greeting_at terms left links moved still made (after_all s.state.facts (session_batch x))) (session_batch x) s s' o o' (refl, allowed, refl)
-        (subst (λ (b : List Entry). IsOver clients b s s' o o') is over);
+    fills = λ terms left links moved still made. record {
+      full =
+          full_here clients (RunStep clients terms) (attaching_at (x ∷ left) links moved still made s.state.facts)
+          (greeting_at terms left links moved still made (after_all s.state.facts (session_batch x))) (session_batch x) s s' o o' (refl, allowed, refl)
+          (subst (λ (b : List Entry). IsOver clients b s s' o o') is over);
+      sent = λ sent. sent;
+    };
   }
 
   pub starts_course : (n : ℕ) (begun : Session) (reader : ReaderState) (l : Link) (s1 : StoreValue)
@@ -260,8 +266,12 @@ module _ (clients : Meaning) (x : Session) (links : List Link) (s : StoreValue)
   }
 
   pub beginning_full : (s' : StoreValue) → FullStart clients x s s' o o'
-      → FullBeginning clients x links s s' o o'
-  beginning_full s' full = record { fills = λ terms left heard moved still made. full.fills terms left (links_from 0 links heard) moved still made }
+      → StaysSame clients s s' o o' → FullBeginning clients x links s s' o o'
+  beginning_full s' full same = record {
+    fills = λ terms left heard moved still made.
+        let fills = full.fills terms left (links_from 0 links heard) moved still made in
+        record { full = fills.full; sent = λ sent. fills.sent (same_sent clients terms.first (links_from 0 links heard) s s' o o' same sent) };
+  }
 
   -- as the node is seen
   module _ (first : ℕ) (closed : Bool) (n : NodeValue) (is : node_of s first links closed ≡ n)

@@ -46,8 +46,9 @@ use Rattle.sync_course.specs.declared.ends.LinkEnd.{LinkEnd}
 use Rattle.sync_course.specs.declared.ends.LinkEnd.TheVariants as link_end
 use Rattle.sync_node.specs.Hearing.{ClosesBy, Learns, nonce_with}
 use Rattle.sync_course.proofs.ToldLaws.{runs_then}
-use Rattle.sync_node.specs.Fulls.{IsOver, LinkFull, NextFull, StopsFull, TakesFull}
-use Rattle.sync_node.specs.Courses.{Adds, AddsSettling, AddsSome, AddsSomeSettling, FitsWith, IsTaking, LinkHalts, LinkRuns, NextAsCourse, NextStops, PieceAsCourse, PieceTaken, ReadsAs, StopsAsCourse, TakesAsCourse, link_at, spot_at}
+use Rattle.sync_course.specs.Turns.{Place, RunStep, Terms}
+use Rattle.sync_node.specs.Fulls.{IsOver, LinkFull, NextFull, RunFullSent, StopsFull, TakesFull}
+use Rattle.sync_node.specs.Courses.{Adds, AddsSettling, AddsSome, AddsSomeSettling, FitsWith, IsTaking, LinkHalts, LinkRuns, NextAsCourse, NextStops, PieceAsCourse, PieceTaken, ReadsAs, RunRuns, StopsAsCourse, TakesAsCourse, link_at, spot_at}
 use Rattle.sync_node.proofs.CourseLaws.{told_as}
 use Rattle.sync_node.proofs.CommitLaws.{settling_front}
 
@@ -234,6 +235,16 @@ full_then clients step p q s s1 s' o o1 o' first second = record {
   next = second.next;
   steps = second.steps;
   over = second.over;
+}
+
+-- the same of a run, with what was sent
+pub full_sent_then : (clients : Meaning) (terms : Terms) (p q : Place) (Given Given' : Type 0) (s s1 s' : StoreValue) (o o1 o' : Outside)
+    → RunRuns clients terms p q s s1 o o1 → (Given → Given') → RunFullSent clients terms q Given' s1 s' o1 o'
+    → RunFullSent clients terms p Given s s' o o'
+unfolding full_then
+full_sent_then clients terms p q Given Given' s s1 s' o o1 o' first leads second = record {
+  full = full_then clients (RunStep clients terms) p q s s1 s' o o1 o' first second.full;
+  sent = λ given. second.sent (leads given);
 }
 
 -- at the place itself

@@ -13,6 +13,7 @@ mod CauseLaws
 mod StopLaws
 mod BeginLaws
 mod AddLaws
+pub mod SentLaws
 mod CourseTakes
 mod CourseTurns
 mod CourseRuns

@@ -1,6 +1,6 @@
 -- Where a call answers Full: it led to a place of the course from which the next step commits a
 -- batch with which the journal, the batch's frame and the room for settling would pass the limit.
-use Rattle.std.specs.Prelude.{◌≡◌, ℕ, suc, ◌<◌, Bool, true, false, List, ◌∷◌}
+use Rattle.std.specs.Prelude.{◌≡◌, ◌≢◌, ℕ, suc, ◌+◌, ◌<◌, Bool, true, false, List, ◌∷◌, Some, slice_get}
 use Rattle.outside.specs.Outside.{Outside}
 use Rattle.record_grammar.specs.declared.stream.Item.{Item}
 use Rattle.record_grammar.specs.declared.stream.Item.TheVariants as item
@@ -18,7 +18,9 @@ use Rattle.sync_course.specs.Paths.{Runs}
 use Rattle.sync_course.specs.Reading.{IsReading}
 use Rattle.sync_course.specs.Turns.{Attaches, Between, Place, RunStep, Terms, Works, is_at_end}
 use Rattle.sync_course.specs.declared.TheConstants.{MAX_OUTPUTS}
-use Rattle.sync_node.specs.Courses.{AllRead, FitsWith, IsRead, IsReadyToSend, attaching_at, place_at, spot_at}
+use Rattle.sync_course.specs.declared.ends.LinkEnd.TheVariants as link_end
+use Rattle.sync_node.specs.Courses.{AllRead, FitsWith, IsRead, IsReadyToSend, attaching_at, links_from, place_at, spot_at}
+use Rattle.sync_node.specs.Joined.{IsAllSent, Joined}
 use Rattle.sync_node.specs.declared.link.Link.{Link}
 
 -- the place that the call led to, and the batch; the store is as that place has it
@@ -37,6 +39,20 @@ LinkFull clients n session p s s' o o' = StopsFull clients (LinkStep clients n s
 
 abbrev pub RunFull : Meaning → Terms → Place → StoreValue → StoreValue → Outside → Outside → Type 0
 RunFull clients terms p s s' o o' = StopsFull clients (RunStep clients terms) p s s' o o'
+
+-- on each of these links that has not failed all output of its session was sent; the first session
+-- has this number
+abbrev pub AllSentOn : Meaning → ℕ → List course_links.Link → StoreValue → Outside → Type 0
+AllSentOn clients first links s o =
+    (i : ℕ) (l : course_links.Link) → slice_get links i ≡ Some l → l.stands ≢ link_end.Failed
+    → IsAllSent clients (first + i) i s o
+
+-- the same of a run; and where this was so before, each link that has not failed at the place that
+-- the call led to has sent the whole
+pub record RunFullSent (clients : Meaning) (terms : Terms) (p : Place) (Given : Type 0)
+    (s s' : StoreValue) (o o' : Outside) : Type 0 where
+  pub full : RunFull clients terms p s s' o o'
+  pub sent : Given → AllSentOn clients terms.first full.to.links s' o'
 
 -- a batch that was to be committed would pass the limit, and nothing was done
 pub record IsOver (clients : Meaning) (batch : List Entry) (s s' : StoreValue)
@@ -92,8 +108,9 @@ pub record TurnsFull (clients : Meaning) (first : ℕ) (links : List Link) (s s'
     (o o' : Outside) : Type 0 where
   pub fills : (terms : Terms) (heard : ℕ → List ℕ) (moved : Bool) (still made : ℕ)
       → terms.first ≡ first → AllRead heard links
-      → RunFull clients terms
-      (place_at (Works 0 Asks) links heard moved still made s.state.facts) s s' o o'
+      → RunFullSent clients terms
+      (place_at (Works 0 Asks) links heard moved still made s.state.facts)
+      (Joined clients links s o) s s' o o'
 
 -- a whole turn
 pub record FullTurn (clients : Meaning) (first : ℕ) (links : List Link) (s s' : StoreValue)
@@ -101,8 +118,9 @@ pub record FullTurn (clients : Meaning) (first : ℕ) (links : List Link) (s s' 
   pub fills : (terms : Terms) (heard : ℕ → List ℕ) (moved : Bool) (still made : ℕ)
       → terms.first ≡ first → AllRead heard links
       → is_at_end terms (place_at Between links heard moved still made s.state.facts) ≡ false
-      → RunFull clients terms
-      (place_at Between links heard moved still made s.state.facts) s s' o o'
+      → RunFullSent clients terms
+      (place_at Between links heard moved still made s.state.facts)
+      (Joined clients links s o) s s' o o'
 
 -- one call on the link of this number: to ask it, and to send what is due at a reading
 pub record FullReceiving (clients : Meaning) (first n : ℕ) (links : List Link) (s s' : StoreValue)
@@ -124,12 +142,14 @@ pub record FullStart (clients : Meaning) (session : Session) (s s' : StoreValue)
     (o o' : Outside) : Type 0 where
   pub fills : (terms : Terms) (left : List Session) (links : List course_links.Link) (moved : Bool)
       (still made : ℕ)
-      → RunFull clients terms
-      (attaching_at (session ∷ left) links moved still made s.state.facts) s s' o o'
+      → RunFullSent clients terms
+      (attaching_at (session ∷ left) links moved still made s.state.facts)
+      (AllSentOn clients terms.first links s' o') s s' o o'
 
 pub record FullBeginning (clients : Meaning) (session : Session) (links : List Link)
     (s s' : StoreValue) (o o' : Outside) : Type 0 where
   pub fills : (terms : Terms) (left : List Session) (heard : ℕ → List ℕ) (moved : Bool)
       (still made : ℕ)
-      → RunFull clients terms
-      (place_at (Attaches (session ∷ left)) links heard moved still made s.state.facts) s s' o o'
+      → RunFullSent clients terms
+      (place_at (Attaches (session ∷ left)) links heard moved still made s.state.facts)
+      (AllSentOn clients terms.first (links_from 0 links heard) s o) s s' o o'

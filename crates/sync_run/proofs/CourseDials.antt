@@ -150,6 +150,7 @@ module _ (clients : Meaning) (limits : Limits) (words : List LinkWords) (links :
     next = filled.next;
     steps = filled.steps;
     over = filled.over;
+    sent = filled.sent;
   }
 
   pub run_comes : (r : Result Closing Outcome) → RunsOver clients limits (sessions_from (facts j).begun links) j o1 o r → RunComes clients limits words j o0 o r

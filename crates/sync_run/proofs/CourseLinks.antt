@@ -8,6 +8,7 @@ use Rattle.outside.specs.Files.{Two, File, read_files}
 use Rattle.outside.specs.Links.{HeardOn, Links}
 use Rattle.outside.specs.Outside.{DiskRun, Outside}
 use Rattle.outside.proofs.RunLaws.{grow_same}
+use Rattle.outside.specs.Runs.{Told}
 use Rattle.frame_journal.specs.Gates.{ReadsSame}
 use Rattle.sync_rules.specs.declared.states.Refused.{Refused}
 use Rattle.sync_rules.specs.declared.states.Refused.TheVariants as refused
@@ -18,7 +19,7 @@ use Rattle.sync_store.specs.Fitting.{Fits, FitsSome}
 use Rattle.sync_store.specs.Store.{StoreValue}
 use Rattle.sync_course.specs.Events.{Event, GrowsBy, RoseIf, has_failure, heard_after, readings_of}
 use Rattle.sync_node.specs.Courses.{FitsWith, ReadsAs}
-use Rattle.sync_node.specs.Output.{Journal, heard_on}
+use Rattle.sync_node.specs.Output.{Journal, heard_on, sent_on}
 use Rattle.store_commands.specs.Load.{HasFacts, IsLoaded, LoadedBy}
 use Rattle.sync_words.specs.declared.link_words.LinkWords.{LinkWords}
 use Rattle.sync_course.specs.Closing.{Closing}
@@ -80,9 +81,26 @@ module _ (clients : Meaning) (limits : Limits) (words : List LinkWords) (j : Jou
     reads = reads_as clients o2.files o3.files _ files was.reads;
   }
 
+  told_as : Told o3 → Told o2
+  told_as told = record {
+    two = told.two;
+    files_are = sym files ∙ told.files_are;
+    links = told.links;
+    links_are = ap (λ (l : Links). l.told) (sym last) ∙ told.links_are;
+    heard = told.heard;
+    heard_are = ap (λ (l : Links). l.heard) (sym last) ∙ told.heard_are;
+  }
+
   full_as : WasFull clients limits words j o1 o2 → WasFull clients limits words j o0 o3
   unfolding was_as
-  full_as was = record { run = was_as was.run; batch = was.batch; next = was.next; steps = was.steps; over = was.over }
+  full_as was = record {
+    run = was_as was.run;
+    batch = was.batch;
+    next = was.next;
+    steps = was.steps;
+    over = was.over;
+    sent = λ told i l there unfailed. ap (λ (ls : Links). sent_on ls i) last ∙ was.sent (told_as told) i l there unfailed;
+  }
 
   comes_as : (r : Result Closing Outcome) → RunComes clients limits words j o1 o2 r → RunComes clients limits words j o0 o3 r
   comes_as (Ok ends) comes = ran_as ends comes

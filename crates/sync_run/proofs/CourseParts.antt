@@ -19,8 +19,10 @@ use Rattle.sync_course.specs.declared.ends.LinkEnd.TheVariants as link_end
 use Rattle.sync_node.specs.declared.node.Turned.{Turned}
 use Rattle.sync_node.specs.declared.node.Turned.TheVariants as turned
 use Rattle.sync_node.specs.Courses.{AllRead, Begins, BreaksBeginning, BreaksTurn, FitsWith, MakesTurn, ReadsAs, RunBreaks, RunRuns, is_still, links_from, place_at}
-use Rattle.sync_node.specs.Fulls.{FullBeginning, FullTurn, RunFull}
-use Rattle.sync_node.specs.Node.{IsNode, NodeValue, asked_among, is_going}
+use Rattle.sync_node.specs.Fulls.{AllSentOn, FullBeginning, FullTurn, RunFullSent}
+use Rattle.sync_node.specs.Joined.{Joined}
+use Rattle.sync_node.proofs.SentLaws.{joined_sent}
+use Rattle.sync_node.specs.Node.{AreAttached, IsNode, NodeValue, asked_among, is_going}
 use Rattle.sync_node.specs.Plans.{session_of}
 use Rattle.sync_run.specs.declared.dialling.Dialled.{Dialled}
 use Rattle.sync_run.specs.declared.run.Limits.{Limits}
@@ -94,16 +96,19 @@ module _ (clients : Meaning) (sessions left : List Session) (session : Session) 
   }
 
 -- a batch would have passed the limit, behind a run of calls
-pub full_then : (clients : Meaning) (terms : Terms) (p q : Place) (s0 s s' : StoreValue) (o0 o o' : Outside) → RunRuns clients terms p q s0 s o0 o → RunFull clients terms q s s' o o'
-    → RunFull clients terms p s0 s' o0 o'
-full_then clients terms p q s0 s s' o0 o o' first full = record {
-  to = full.to;
-  runs =
-      runs_then (RunStep clients terms) (FitsWith clients s0 o0.files) (FitsWith clients s o.files) (FitsWith clients s' o'.files) p q full.to o0 o o' first full.runs;
-  batch = full.batch;
-  next = full.next;
-  steps = full.steps;
-  over = full.over;
+pub full_then : (clients : Meaning) (terms : Terms) (p q : Place) (Given Given' : Type 0) (s0 s s' : StoreValue) (o0 o o' : Outside) → RunRuns clients terms p q s0 s o0 o → (Given → Given')
+    → RunFullSent clients terms q Given' s s' o o' → RunFullSent clients terms p Given s0 s' o0 o'
+full_then clients terms p q Given Given' s0 s s' o0 o o' first leads second = record {
+  full = record {
+    to = second.full.to;
+    runs =
+        runs_then (RunStep clients terms) (FitsWith clients s0 o0.files) (FitsWith clients s o.files) (FitsWith clients s' o'.files) p q second.full.to o0 o o' first second.full.runs;
+    batch = second.full.batch;
+    next = second.full.next;
+    steps = second.full.steps;
+    over = second.full.over;
+  };
+  sent = λ given. second.sent (leads given);
 }
 
 pub sessions_all : (clients : Meaning) (sessions : List Session) (links : List Link) (s0 s : StoreValue) (o0 o : Outside)
@@ -150,14 +155,21 @@ module _ (clients : Meaning) (sessions : List Session) (links : List Dialled) (f
       (session_more clients sessions (sessions_from (suc s.state.facts.begun) (drop (i + 1) links)) (session_of s.state.facts.begun d.plan d.nonce) nodes s0 s o0 o so_next
       nodes' s' o' told begins)
 
-  pub attaching_full : (s' : StoreValue) (o' : Outside) → FullBeginning clients (session_of s.state.facts.begun d.plan d.nonce) nodes s s' o o'
+  pub attaching_full : (number : ℕ) (nodes0 : List Link) (s' : StoreValue) (o' : Outside) → number ≡ s0.state.facts.begun → AreAttached number nodes s.state.facts → nodes0 ≡ []
+      → (Joined clients nodes0 s0 o0 → Joined clients nodes s o) → FullBeginning clients (session_of s.state.facts.begun d.plan d.nonce) nodes s s' o o'
       → FullSessions clients sessions s0 s' o0 o'
-  attaching_full s' o' full = record {
-    fills = λ two files terms.
+  attaching_full number nodes0 s' o' named attached none joins full = record {
+    fills = λ two files terms same.
         let left : List Session = sessions_from (suc s.state.facts.begun) (drop (i + 1) links) in
         full_then clients terms (before_sessions sessions s0.state.facts)
-        (place_at (Attaches (session_of s.state.facts.begun d.plan d.nonce ∷ left)) nodes silent false 0 0 s.state.facts) s0 s s' o0 o o'
-        (so_next.runs two files terms) (full.fills terms left silent false 0 0);
+        (place_at (Attaches (session_of s.state.facts.begun d.plan d.nonce ∷ left)) nodes silent false 0 0 s.state.facts) (Joined clients [] s0 o0)
+        (AllSentOn clients terms.first (links_from 0 nodes silent) s o) s0 s s' o0 o o'
+        (so_next.runs two files terms)
+        (λ joined.
+        joined_sent clients terms.first nodes silent s o
+        (λ k l there. (attached.each k l there).numbered ∙ ap (λ (n : ℕ). n + k) (named ∙ sym same))
+        (joins (subst (λ (ls : List Link). Joined clients ls s0 o0) (sym none) joined)))
+        (full.fills terms left silent false 0 0);
   }
 
   pub attaching_broken : (o' : Outside) → BreaksBeginning clients (session_of s.state.facts.begun d.plan d.nonce) nodes s o o' → BreaksSessions clients sessions s0 o0 o'
@@ -262,9 +274,10 @@ module _ (clients : Meaning) (limits : Limits) (first : ℕ) (from : Place) (lin
         breaks_then (RunStep clients (terms_at limits first)) (FitsWith clients s0 o0.files) (FitsWith clients s o.files) (ReadsAs clients o'.files) from place o0 o o'
         so.runs (breaks.stops (terms_at limits first) so.heard so.moved still made (sym same) so.has_read not_at_end)
 
-    pub turn_full : (at : ℕ) (s' : StoreValue) (o' : Outside) → at ≡ first → FullTurn clients at links s s' o o' → RunFull clients (terms_at limits first) from s0 s' o0 o'
-    turn_full at s' o' same full =
-        full_then clients (terms_at limits first) from place s0 s s' o0 o o' so.runs
+    pub turn_full : (at : ℕ) (Given : Type 0) (s' : StoreValue) (o' : Outside) → at ≡ first → (Given → Joined clients links s o) → FullTurn clients at links s s' o o'
+        → RunFullSent clients (terms_at limits first) from Given s0 s' o0 o'
+    turn_full at Given s' o' same joins full =
+        full_then clients (terms_at limits first) from place Given (Joined clients links s o) s0 s s' o0 o o' so.runs joins
         (full.fills (terms_at limits first) so.heard so.moved still made (sym same) so.has_read not_at_end)
 
   pub turns_end : (over : Bool) → over ≡ over_by limits.quiet still (nat_lt 0 (asked_among links)) → (over || nat_le limits.turns made) ≡ true
@@ -305,17 +318,18 @@ run_ends clients limits first at sessions links links' s0 s s' o0 o o' over same
 }
 
 pub run_full : (clients : Meaning) (limits : Limits) (first at : ℕ) (sessions : List Session) (links : List Link) (s0 s s' : StoreValue) (o0 o o' : Outside) → at ≡ first
+    → (nodes0 : List Link) → nodes0 ≡ [] → (Joined clients nodes0 s0 o0 → Joined clients links s o)
     → SessionsBegin clients sessions links s0 s o0 o → FullTurns clients limits at links s s' o o' → FullRun clients limits first sessions s0 s' o0 o'
-run_full clients limits first at sessions links s0 s s' o0 o o' same begins turns = record {
+run_full clients limits first at sessions links s0 s s' o0 o o' same nodes0 none joins begins turns = record {
   fills = λ two files.
-      full_then clients (terms_at limits first) (before_sessions sessions s0.state.facts) (before_turns links silent s.state.facts) s0 s s' o0 o o'
-      (begins.runs two files (terms_at limits first))
+      full_then clients (terms_at limits first) (before_sessions sessions s0.state.facts) (before_turns links silent s.state.facts) (Joined clients [] s0 o0) (Joined clients links s o) s0 s s' o0 o o'
+      (begins.runs two files (terms_at limits first)) (λ joined. joins (subst (λ (ls : List Link). Joined clients ls s0 o0) (sym none) joined))
       ((subst (λ (k : ℕ). FullTurns clients limits k links s s' o o') same turns).fills silent begins.has_read);
 }
 
-pub run_unfilled : (clients : Meaning) (limits : Limits) (first : ℕ) (sessions : List Session) (s0 s' : StoreValue) (o0 o' : Outside) → FullSessions clients sessions s0 s' o0 o'
-    → FullRun clients limits first sessions s0 s' o0 o'
-run_unfilled clients limits first sessions s0 s' o0 o' full = record { fills = λ two files. full.fills two files (terms_at limits first) }
+pub run_unfilled : (clients : Meaning) (limits : Limits) (first : ℕ) (sessions : List Session) (s0 s' : StoreValue) (o0 o' : Outside) → first ≡ s0.state.facts.begun
+    → FullSessions clients sessions s0 s' o0 o' → FullRun clients limits first sessions s0 s' o0 o'
+run_unfilled clients limits first sessions s0 s' o0 o' same full = record { fills = λ two files. full.fills two files (terms_at limits first) same }
 
 pub run_unbegun : (clients : Meaning) (limits : Limits) (first : ℕ) (sessions : List Session) (s0 : StoreValue) (o0 o' : Outside)
     → BreaksSessions clients sessions s0 o0 o' → BreaksRun clients limits first sessions s0 o0 o'

@@ -1,9 +1,10 @@
 -- A run over a journal, from its first place on: settling, the sessions on the links that were dialled, and its end.
-use Rattle.std.proofs.Common.{◌≡◌, ℕ, ◌<◌, Bool, true, false, List, ◌++◌, refl, sym, ◌∙◌, ap, subst, arith, Some, Result, Ok, Err}
+use Rattle.std.proofs.Common.{◌≡◌, ℕ, ◌<◌, Bool, true, false, List, [], ◌++◌, refl, sym, ◌∙◌, ap, subst, arith, Some, Result, Ok, Err}
 use Rattle.std.specs.Prelude.{IsErrAnd}
 use Rattle.outside.specs.declared.limits.TheConstants.{MAX_JOURNAL}
 use Rattle.outside.specs.Files.{Two, File}
 use Rattle.outside.specs.Outside.{DiskRun, Outside}
+use Rattle.outside.specs.Runs.{Told}
 use Rattle.sync_rules.specs.declared.entries.Entry.{Entry}
 use Rattle.sync_rules.specs.declared.entries.Session.{Session}
 use Rattle.sync_rules.specs.Clients.{Meaning}
@@ -14,7 +15,7 @@ use Rattle.sync_rules.specs.Steps.{IsSettled}
 use Rattle.entry_codec.specs.Payloads.{journal_end}
 use Rattle.entry_codec.specs.Standing.{room_of}
 use Rattle.sync_store.specs.Commits.{needed}
-use Rattle.sync_store.specs.Fitting.{FitsSome}
+use Rattle.sync_store.specs.Fitting.{Fits, FitsSome}
 use Rattle.sync_store.specs.Moments.{IsBetween}
 use Rattle.sync_store.specs.Settling.{ComesBy}
 use Rattle.sync_store.specs.Store.{StoreValue}
@@ -26,7 +27,8 @@ use Rattle.sync_course.specs.Turns.{Attaches, Course, Ended, Place, RunStep, Ter
 use Rattle.sync_node.specs.declared.link.Link.{Link}
 use Rattle.sync_node.proofs.CourseLaws.{fits_grown, reads_front}
 use Rattle.sync_node.specs.Courses.{FitsWith, ReadsAs, RunBreaks, RunRuns, place_at}
-use Rattle.sync_node.specs.Fulls.{RunFull}
+use Rattle.sync_node.specs.Fulls.{RunFullSent}
+use Rattle.sync_node.specs.Joined.{Joined}
 use Rattle.sync_node.specs.Node.{NodeValue}
 use Rattle.sync_node.specs.Output.{Journal}
 use Rattle.sync_course.specs.Closing.{Closing}
@@ -92,8 +94,17 @@ module _ (clients : Meaning) (limits : Limits) (links : List Dialled) (j : Journ
   }
 
   -- the next batch would have passed the limit
-  filled_by : (s : StoreValue) (o : Outside) → s.limit ≡ MAX_JOURNAL → RunFull clients terms (first_place sessions (facts j)) s0 s o0 o → RunFilled clients limits sessions j o0 o
-  filled_by s o limit full =
+  -- the files that are told are those that the disk has
+  fits_told : (s : StoreValue) (o : Outside) (k : Journal) → FitsWith clients s o.files k → (told : Told o) → Fits clients s k told.two
+  fits_told s o k fit told =
+      let both : Some fit.0 ≡ Some told.two = sym fit.1 ∙ told.files_are in
+      let same : fit.0 ≡ told.two = cc in
+      subst (λ (t : Two File). Fits clients s k t) same fit.2
+
+  filled_by : (Given : Type 0) (s : StoreValue) (o : Outside) → s.limit ≡ MAX_JOURNAL → Given → RunFullSent clients terms (first_place sessions (facts j)) Given s0 s o0 o
+      → RunFilled clients limits sessions j o0 o
+  filled_by Given s o limit given filled =
+      let full = filled.full in
       let fit_now : FitsWith clients s o.files (j ++ batches_of full.runs.events) = full.runs.journal j fit in
       record {
         run = record {
@@ -107,6 +118,9 @@ module _ (clients : Meaning) (limits : Limits) (links : List Dialled) (j : Journ
         next = full.next;
         steps = full.steps;
         over = sum_over s (j ++ batches_of full.runs.events) full.batch fit_now.2.end_is fit_now.2.facts_are limit full.over;
+        sent = λ told i l there unfailed.
+            filled.sent given i l there unfailed told (j ++ batches_of full.runs.events)
+            (fits_told s o (j ++ batches_of full.runs.events) fit_now told);
       }
 
   -- ---- settling
@@ -164,13 +178,13 @@ module _ (clients : Meaning) (limits : Limits) (links : List Dialled) (j : Journ
           (before_sessions sessions s1.state.facts) o0 o1 o here
           ((subst (λ (k : ℕ). BreaksRun clients limits k (sessions_from k links) s1 o1 o) begun_same here_too).stops told.0 told.1)
 
-      pub run_fills : (t s : StoreValue) (o : Outside) → t ≡ s1 → s.limit ≡ MAX_JOURNAL
+      pub run_fills : (t s : StoreValue) (o : Outside) → t ≡ s1 → s.limit ≡ MAX_JOURNAL → Joined clients [] s1 o1
           → FullRun clients limits t.state.facts.begun (sessions_from t.state.facts.begun links) t s o1 o → RunFilled clients limits sessions j o0 o
-      run_fills t s o same limit full =
+      run_fills t s o same limit joined full =
           let here_too : FullRun clients limits s1.state.facts.begun (sessions_from s1.state.facts.begun links) s1 s o1 o =
           subst (λ (x : StoreValue). FullRun clients limits x.state.facts.begun (sessions_from x.state.facts.begun links) x s o1 o) same full in
-          filled_by s o limit
-          (full_then clients terms (first_place sessions (facts j)) (before_sessions sessions s1.state.facts) s0 s1 s o0 o1 o here
+          filled_by (Joined clients [] s1 o1) s o limit joined
+          (full_then clients terms (first_place sessions (facts j)) (before_sessions sessions s1.state.facts) (Joined clients [] s1 o1) (Joined clients [] s1 o1) s0 s1 s o0 o1 o here (λ given. given)
           ((subst (λ (k : ℕ). FullRun clients limits k (sessions_from k links) s1 s o1 o) begun_same here_too).fills told.0 told.1))
 
       module _ (t : StoreValue) (nodes : List Link) (s : StoreValue) (o : Outside) (over : Bool) (same : t ≡ s1)
@@ -243,12 +257,12 @@ module _ (clients : Meaning) (limits : Limits) (links : List Dialled) (s0 s1 : S
         broken_by clients limits links j s0 o0 fit o
         (run_stops clients limits links j s0 o0 fit s1 o1 settles.more run settles.comes settles.answer.0 settles.answer.1 n.store o is breaks)
 
-    pub over_filled : (s : StoreValue) (o : Outside) → s0.limit ≡ MAX_JOURNAL → s.limit ≡ n.store.limit
+    pub over_filled : (s : StoreValue) (o : Outside) → s0.limit ≡ MAX_JOURNAL → s.limit ≡ n.store.limit → Joined clients [] s1 o1
         → FullRun clients limits n.store.state.facts.begun (sessions_from n.store.state.facts.begun links) n.store s o1 o
         → RunFilled clients limits (sessions_from (facts j).begun links) j o0 o
-    over_filled s o limited same full =
+    over_filled s o limited same joined full =
         run_fills clients limits links j s0 o0 fit s1 o1 settles.more run settles.comes settles.answer.0 settles.answer.1 n.store s o is
-        (same ∙ ap (λ (x : StoreValue). x.limit) is ∙ settles.comes.limit ∙ limited) full
+        (same ∙ ap (λ (x : StoreValue). x.limit) is ∙ settles.comes.limit ∙ limited) joined full
 
     module _ (nodes : List Link) (s : StoreValue) (o : Outside) (over : Bool)
         (runs : RunsSessions clients limits n.store.state.facts.begun (sessions_from n.store.state.facts.begun links) nodes n.store s o1 o over) where

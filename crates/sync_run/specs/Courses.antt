@@ -1,12 +1,12 @@
 -- What a run of sessions does, as a course: the journal, the answers heard and the readings of the clock are those of a path of
 -- events, and it closes as the links are said to have ended.
-use Rattle.std.specs.Prelude.{◌≡◌, ℕ, zero, suc, ◌<◌, Bool, true, false, nat_le, List, [], ◌∷◌, ◌++◌, length, map, Some, Result, Ok, Err}
+use Rattle.std.specs.Prelude.{◌≡◌, ◌≢◌, ℕ, zero, suc, ◌+◌, ◌<◌, Bool, true, false, nat_le, List, [], ◌∷◌, ◌++◌, length, map, Some, Result, Ok, Err, slice_get}
 use Rattle.std.specs.List.{list_any}
 use Rattle.std.specs.Option.{option_map}
 use Rattle.outside.specs.declared.limits.TheConstants.{MAX_JOURNAL}
 use Rattle.outside.specs.Links.{HeardOn, Link, nothing_heard}
 use Rattle.outside.specs.Outside.{Outside}
-use Rattle.outside.specs.Runs.{IsFront}
+use Rattle.outside.specs.Runs.{IsFront, Told}
 use Rattle.sync_rules.specs.declared.entries.Entry.{Entry}
 use Rattle.sync_rules.specs.declared.entries.Session.{Session}
 use Rattle.sync_rules.specs.declared.states.Refused.{Refused}
@@ -16,10 +16,12 @@ use Rattle.sync_rules.specs.Facts.{Facts, facts}
 use Rattle.entry_codec.specs.Standing.{Standing, damaged, journal, no_store}
 use Rattle.sync_course.specs.Closing.{Closing, closing}
 use Rattle.sync_course.specs.Events.{Commit, Event, GrowsBy, RoseIf, batches_of, has_failure, heard_after, readings_of}
+use Rattle.sync_course.specs.Links as course_links
 use Rattle.sync_course.specs.Quiet.{EndsQuiet}
 use Rattle.sync_course.specs.Turns.{Broken, Course, Place, RunStep, Terms, is_over}
 use Rattle.sync_node.specs.Courses.{ReadsAs}
-use Rattle.sync_node.specs.Output.{Journal}
+use Rattle.sync_course.specs.declared.ends.LinkEnd.TheVariants as end
+use Rattle.sync_node.specs.Output.{Journal, output, sent_on}
 use Rattle.store_commands.specs.Commit.{needed_by}
 use Rattle.sync_words.specs.declared.link_words.LinkWords.{LinkWords}
 use Rattle.sync_words.specs.declared.outcome.Outcome.{Outcome}
@@ -81,14 +83,21 @@ pub record WasBroken (clients : Meaning) (limits : Limits) (words : List LinkWor
   pub hears : HearsRun events old new
   pub reads : ReadsAs clients new.files (begin ++ batches_of events)
 
+-- on each link that has not failed at this place of a run all output of its session was sent, as this journal has it
+abbrev pub SentAt : (begin whole : Journal) → Place → Outside → Type 0
+SentAt begin whole place new =
+    Told new → (i : ℕ) (l : course_links.Link) → slice_get place.links i ≡ Some l → l.stands ≢ end.Failed
+    → sent_on new.links i ≡ output whole ((facts begin).begun + i)
+
 -- The same at Full: from that place the next step of the course commits a batch with which the journal, the batch's frame and the
--- room for settling pass the greatest length of a journal.
+-- room for settling pass the greatest length of a journal; and a link that has not failed there has sent the whole.
 pub record WasFull (clients : Meaning) (limits : Limits) (words : List LinkWords) (begin : Journal) (old new : Outside) : Type 0 where
   pub run : WasBroken clients limits words begin old new
   pub batch : List Entry
   pub next : Place
   pub steps : RunStep clients (terms_of limits begin) run.last (Commit batch) next
   pub over : MAX_JOURNAL < needed_by (begin ++ batches_of run.events) batch
+  pub sent : SentAt begin (begin ++ batches_of run.events) run.last new
 
 -- some contact of the words is not known
 abbrev pub is_unknown : Facts → List LinkWords → Bool

@@ -14,7 +14,8 @@ use Rattle.sync_course.specs.Quiet.{EndsQuiet}
 use Rattle.sync_course.specs.Turns.{Attaches, Between, Broken, Course, Ended, Place, RunStep, Terms, is_over}
 use Rattle.sync_node.specs.declared.link.Link.{Link}
 use Rattle.sync_node.specs.Courses.{AllRead, ReadsAs, RunBreaks, RunRuns, place_at}
-use Rattle.sync_node.specs.Fulls.{RunFull}
+use Rattle.sync_node.specs.Fulls.{RunFullSent}
+use Rattle.sync_node.specs.Joined.{Joined}
 use Rattle.sync_node.specs.Output.{Journal}
 use Rattle.sync_node.specs.Plans.{session_of}
 use Rattle.store_commands.specs.Commit.{needed_by}
@@ -22,7 +23,7 @@ use Rattle.sync_words.specs.declared.outcome.Outcome.{Outcome}
 use Rattle.sync_words.specs.declared.outcome.Outcome.TheVariants as outcome
 use Rattle.sync_run.specs.declared.dialling.Dialled.{Dialled}
 use Rattle.sync_run.specs.declared.run.Limits.{Limits}
-use Rattle.sync_run.specs.Courses.{terms_at, terms_of}
+use Rattle.sync_run.specs.Courses.{SentAt, terms_at, terms_of}
 
 -- the sessions of links that were dialled; the first has this number
 abbrev pub sessions_from : ℕ → List Dialled → List Session
@@ -62,8 +63,8 @@ pub record BreaksSessions (clients : Meaning) (sessions : List Session) (s : Sto
 
 -- the batch of the next of these sessions would have passed the limit
 pub record FullSessions (clients : Meaning) (sessions : List Session) (s s' : StoreValue) (o o' : Outside) : Type 0 where
-  pub fills : (two : Two File) → o.files ≡ Some two → (terms : Terms)
-      → RunFull clients terms (before_sessions sessions s.state.facts) s s' o o'
+  pub fills : (two : Two File) → o.files ≡ Some two → (terms : Terms) → terms.first ≡ s.state.facts.begun
+      → RunFullSent clients terms (before_sessions sessions s.state.facts) (Joined clients [] s o) s s' o o'
 
 -- ---- the turns are made
 
@@ -95,7 +96,7 @@ pub record BreaksTurns (clients : Meaning) (limits : Limits) (first : ℕ) (link
 -- a batch would have passed the limit
 pub record FullTurns (clients : Meaning) (limits : Limits) (first : ℕ) (links : List Link) (s s' : StoreValue) (o o' : Outside) : Type 0 where
   pub fills : (heard : ℕ → List ℕ) → AllRead heard links
-      → RunFull clients (terms_at limits first) (before_turns links heard s.state.facts) s s' o o'
+      → RunFullSent clients (terms_at limits first) (before_turns links heard s.state.facts) (Joined clients links s o) s s' o o'
 
 -- ---- both
 
@@ -110,7 +111,7 @@ pub record BreaksRun (clients : Meaning) (limits : Limits) (first : ℕ) (sessio
 
 pub record FullRun (clients : Meaning) (limits : Limits) (first : ℕ) (sessions : List Session) (s s' : StoreValue) (o o' : Outside) : Type 0 where
   pub fills : (two : Two File) → o.files ≡ Some two
-      → RunFull clients (terms_at limits first) (before_sessions sessions s.state.facts) s s' o o'
+      → RunFullSent clients (terms_at limits first) (before_sessions sessions s.state.facts) (Joined clients [] s o) s s' o o'
 
 -- ---- the run on links that were dialled
 
@@ -132,13 +133,15 @@ pub record RunBroken (clients : Meaning) (limits : Limits) (sessions : List Sess
   pub told : Told events o o'
   pub reads : ReadsAs clients o'.files (j ++ batches_of events)
 
--- the same at a place from which the next step commits a batch that passes the greatest length of a journal
+-- the same at a place from which the next step commits a batch that passes the greatest length of a journal, and at which each
+-- link that has not failed has sent the whole
 pub record RunFilled (clients : Meaning) (limits : Limits) (sessions : List Session) (j : Journal) (o o' : Outside) : Type 0 where
   pub run : RunBroken clients limits sessions j o o'
   pub batch : List Entry
   pub next : Place
   pub steps : RunStep clients (terms_of limits j) run.last (Commit batch) next
   pub over : MAX_JOURNAL < needed_by (j ++ batches_of run.events) batch
+  pub sent : SentAt j (j ++ batches_of run.events) run.last o'
 
 abbrev pub RunsOver : Meaning → Limits → List Session → Journal → Outside → Outside → Result Closing Outcome → Type 0
 RunsOver clients limits sessions j o o' (Ok ends) = RunEnded clients limits sessions j o o' ends

@@ -63,7 +63,7 @@ pub fn run<H: Host, S: Source, W: Sink, E: Sink, C: Clients>(
     // The laws that the clauses on the states and on what is opened rest on.
     play_says();
     runs_are_sound();
-    let outcome = Outcome::of(command(alloc, hasher, words, host, input, out, clients));
+    let outcome = command(alloc, hasher, words, host, input, out, clients);
     report(&outcome, err)
 }
 
@@ -76,18 +76,48 @@ fn command<H: Host, S: Source, W: Sink, C: Clients>(
     input: &mut S,
     out: &mut W,
     clients: &C,
-) -> Result<(), Outcome>
+) -> Outcome
     requires unused { AsksSync (asks (texts words.now)) → (H.tells host.old).links.dialled ≡ 0 }
     ensures comes { Comes (C.meaning clients.now) (asks (texts words.now)) (H.tells host.old)
         (H.tells host.new) (S.tells input.old) (S.tells input.new) (W.tells out.old)
-        (W.tells out.new) (came_to result) }
+        (W.tells out.new) result }
     ensures host { KeepsHost (asks (texts words.now)) host.old host.new }
 {
-    let asked = read_words(alloc, words)?;
-    obey(alloc, hasher, asked, host, input, out, clients)
+    match read_words(alloc, words) {
+        Ok(asked) => obey_any(alloc, hasher, asked, host, input, out, clients),
+        Err(fault) => Outcome::from(fault),
+    }
 }
 
-// Does what a command says.
+// Does what a command says, also one that runs over links.
+fn obey_any<H: Host, S: Source, W: Sink, C: Clients>(
+    alloc: Global,
+    hasher: RandomState,
+    asked: Command,
+    host: &mut H,
+    input: &mut S,
+    out: &mut W,
+    clients: &C,
+) -> Outcome
+    requires within { IsWithin asked }
+    requires unused { AsksSync (Do asked) → (H.tells host.old).links.dialled ≡ 0 }
+    ensures comes { Comes (C.meaning clients.now) (Do asked) (H.tells host.old) (H.tells host.new)
+        (S.tells input.old) (S.tells input.new) (W.tells out.old) (W.tells out.new) result }
+    ensures host { KeepsHost (Do asked) host.old host.new }
+{
+    match asked {
+        Command::Sync(turns, quiet, links) => {
+            let limits = Limits { turns, quiet };
+            match sync_links(alloc, hasher, limits, links.as_slice(), host, clients) {
+                Ok(ends) => Outcome::Links(ends),
+                Err(came) => came,
+            }
+        }
+        asked => Outcome::of(obey(alloc, hasher, asked, host, input, out, clients)),
+    }
+}
+
+// Does what a command says that runs over no links.
 fn obey<H: Host, S: Source, W: Sink, C: Clients>(
     alloc: Global,
     hasher: RandomState,
@@ -98,7 +128,7 @@ fn obey<H: Host, S: Source, W: Sink, C: Clients>(
     clients: &C,
 ) -> Result<(), Outcome>
     requires within { IsWithin asked }
-    requires unused { AsksSync (Do asked) → (H.tells host.old).links.dialled ≡ 0 }
+    requires alone { AsksSync (Do asked) → ⊥ }
     ensures comes { Comes (C.meaning clients.now) (Do asked) (H.tells host.old) (H.tells host.new)
         (S.tells input.old) (S.tells input.new) (W.tells out.old) (W.tells out.new)
         (came_to result) }
@@ -134,11 +164,7 @@ fn obey<H: Host, S: Source, W: Sink, C: Clients>(
             let window = Window { group, from, count };
             print_tree(alloc, hasher, &window, host, out, clients)
         }
-        Command::Sync(turns, quiet, links) => {
-            let limits = Limits { turns, quiet };
-            let ends = sync_links(alloc, hasher, limits, links.as_slice(), host, clients)?;
-            Err(Outcome::Links(ends))
-        }
+        Command::Sync(_, _, _) => unreachable!(),
     }
 }
 

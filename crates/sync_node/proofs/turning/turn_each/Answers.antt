@@ -88,6 +88,7 @@ returns-in_err-quiet-clause-full g c = λ first attached whole is.
     let here = slice_get-get_or c.links.links c.links.place c.index-links-place.result (omega (arith, c.links-test.true, c.links.auto.links)) in
     turns_full _ first c.links.place _ c.links.links _ _ _ _ _ _ here (works.attached.each c.links.place _ here).numbered (c.links.invariant.course first attached whole) _ _
     (c.in_err-quiet.ensures.full (c.links.invariant.whole ∙ whole) (ap (λ e. Err e) (err_was _ c.in_err-quiet.field-0.0 _ c.from_residual.ensures.1 is)))
+    works (c.in_err-quiet.ensures.sent (ap (λ e. Err e) (err_was _ c.in_err-quiet.field-0.0 _ c.from_residual.ensures.1 is)))
 
 pub returns-in_err-quiet-clause-sent : goal.returns-in_err-quiet-clause-sent
 returns-in_err-quiet-clause-sent g c = λ first attached is.

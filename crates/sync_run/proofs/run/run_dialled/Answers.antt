@@ -5,7 +5,8 @@ use Rattle.sync_run.specs.Parts.{RunsOver, sessions_from}
 use Rattle.sync_rules.specs.Facts.{facts}
 use Rattle.sync_run.proofs.CourseRun.{over_broken, over_closed, over_filled, over_settling, over_unclosed, over_unmade, passed}
 use Rattle.sync_run.proofs.SafeCalm.{err_is}
-use Rattle.sync_run.proofs.SafeRunning.{goes_settled, node_begins, node_may, node_sends, rests_at, rests_fault, rests_ready, rests_stays, runs_node, runs_settling}
+use Rattle.sync_run.proofs.SafeBegin.{joined_none}
+use Rattle.sync_run.proofs.SafeRunning.{unused_disk, goes_settled, node_begins, node_may, node_sends, rests_at, rests_fault, rests_ready, rests_stays, runs_node, runs_settling}
 use Rattle.sync_run.proofs.CauseLaws.{ends_rose, goes_then}
 use Rattle.std.proofs.Common.{refl}
 use Rattle.sync_run.proofs.SafeFull.{dialled_full, err_was, settled_unfull}
@@ -130,7 +131,9 @@ returns-in-Err-DiskFault-clause-course g c = λ j fit.
 pub returns-in-Err-Full-clause-course : goal.returns-in-Err-Full-clause-course
 returns-in-Err-Full-clause-course g c = λ j fit.
     over_filled _ c.args.limits c.args.links.now _ _ _ _ c.in_ok-settle.field-0 c.settle.ensures.run c.in_ok-settle.ensures.settled j fit c.in_ok-node.node
-    (ap (λ (n : NodeValue). n.store) c.in_ok-node.ensures) _ _ c.requires.limited c.run_node.ensures.limit (c.in-Err-Full.ensures.full (ap (λ e. Err e) c.in-Err-Full.field-0-is))
+    (ap (λ (n : NodeValue). n.store) c.in_ok-node.ensures) _ _ c.requires.limited c.run_node.ensures.limit
+    (joined_none _ c.settle.new.store _ (unused_disk _ _ c.settle.ensures.run c.requires.unused))
+    (c.in-Err-Full.ensures.full (ap (λ e. Err e) c.in-Err-Full.field-0-is))
 
 pub returns-in_err-settle-clause-sent_full : goal.returns-in_err-settle-clause-sent_full
 returns-in_err-settle-clause-sent_full g c = λ is.

@@ -1,4 +1,4 @@
-use Rattle.std.proofs.Common.{sym, ◌∙◌}
+use Rattle.std.proofs.Common.{refl, sym, ◌∙◌}
 use Rattle.std.proofs.lemmas.Result.{IfOk-weaker, on_err_weaker}
 use Rattle.sync_run.proofs.CauseLaws.{causes_then, goes_then}
 use Rattle.sync_run.proofs.CourseParts.{err_same, on_err, run_breaks, run_ends, run_full, run_unfilled, run_unbegun}
@@ -44,9 +44,10 @@ returns-clause-sent g c = λ is.
 
 pub returns-in_err-attach_all-clause-full : goal.returns-in_err-attach_all-clause-full
 returns-in_err-attach_all-clause-full g c = λ is.
-    run_unfilled _ _ _ _ _ _ _ _
+    run_unfilled _ _ _ _ _ _ _ _ refl
     (c.in_err-attach_all.ensures.full (err_same c.from_residual.result c.in_err-attach_all.field-0.0 _ c.from_residual.ensures.1 is))
 
 pub returns-clause-full : goal.returns-clause-full
 returns-clause-full g c = λ is.
-    run_full _ _ _ _ _ _ _ _ _ _ _ _ (c.in_ok-attach_all.ensures.joined.same_first ∙ sym c.requires.first) c.in_ok-attach_all.ensures.course (c.make_turns.ensures.full is)
+    run_full _ _ _ _ _ _ _ _ _ _ _ _ (c.in_ok-attach_all.ensures.joined.same_first ∙ sym c.requires.first) c.args.node.now.links c.requires.none c.in_ok-attach_all.ensures.joined.joined
+    c.in_ok-attach_all.ensures.course (c.make_turns.ensures.full is)

@@ -112,5 +112,6 @@ pub returns-in_err-attach-clause-full : goal.returns-in_err-attach-clause-full
 returns-in_err-attach-clause-full g c = λ is.
     attaching_full _ (sessions_from c.args.node.now.store.state.facts.begun c.args.links.now) c.args.links.now c.args.node.now.store.state.facts.begun c.links.link-index
     c.link-item.result _ _ _ _ _
-    (omega (arith, (c.links.invariant.node.attached c.links.invariant.still_open).begun, c.links.invariant.same_first, c.requires.first, c.links.invariant.numbered, c.links.invariant.count)) c.links-test.true c.link-item.is c.links.invariant.course _ _
+    (omega (arith, (c.links.invariant.node.attached c.links.invariant.still_open).begun, c.links.invariant.same_first, c.requires.first, c.links.invariant.numbered, c.links.invariant.count)) c.links-test.true c.link-item.is c.links.invariant.course c.links.node.first c.args.node.now.links _ _
+    (c.links.invariant.same_first ∙ sym c.requires.first) (c.links.invariant.node.attached c.links.invariant.still_open) c.requires.none c.links.invariant.begun.joined
     (c.in_err-attach.ensures.full (err_same c.from_residual.result c.in_err-attach.field-0.0 _ c.from_residual.ensures.1 is))

@@ -126,6 +126,6 @@ returns-in_err-turn-clause-sent g c = λ is.
 pub returns-in_err-turn-clause-full : goal.returns-in_err-turn-clause-full
 returns-in_err-turn-clause-full g c = λ is. record {
   fills = λ heard read.
-      turn_full _ c.args.limits c.args.node.now.first _ _ _ _ _ _ _ _ (c.turns.invariant.course heard read) c.turns.invariant.goes_on c.turns-test.true _ _ _
-      c.turns.invariant.same_first (c.in_err-turn.ensures.full (err_same c.from_residual.result c.in_err-turn.field-0.0 _ c.from_residual.ensures.1 is));
+      turn_full _ c.args.limits c.args.node.now.first _ _ _ _ _ _ _ _ (c.turns.invariant.course heard read) c.turns.invariant.goes_on c.turns-test.true _ _ _ _
+      c.turns.invariant.same_first c.turns.invariant.joined.joined (c.in_err-turn.ensures.full (err_same c.from_residual.result c.in_err-turn.field-0.0 _ c.from_residual.ensures.1 is));
 }

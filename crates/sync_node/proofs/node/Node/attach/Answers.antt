@@ -139,7 +139,8 @@ pub returns-in-Err-clause-full : goal.returns-in-Err-clause-full
 returns-in-Err-clause-full g c = λ is.
     node_beginning_full _ (session_of c.sessions.result c.args.plan.now c.args.nonce) c.self.inside.links.items _ _ _ c.self.inside.first c.self.inside.closed _ c.self.view_is _
     (ap (λ (k : ℕ). session_of k c.args.plan.now c.args.nonce) (c.sessions.ensures ∙ ap (λ (n : NodeValue). n.store.state.facts.begun) c.self.view_is)) _
-    (beginning_full _ (session_of c.sessions.result c.args.plan.now c.args.nonce) c.self.inside.links.items _ _ _ _ (c.in-Err.ensures.full (ap (λ e. Err e) (was_full c.in-Err.fault _ c.close.ensures.fault is))))
+    (beginning_full _ (session_of c.sessions.result c.args.plan.now c.args.nonce) c.self.inside.links.items _ _ _ _ (c.in-Err.ensures.full (ap (λ e. Err e) (was_full c.in-Err.fault _ c.close.ensures.fault is)))
+    (c.in-Err.ensures.as_before (ap (λ e. Err e) (was_full c.in-Err.fault _ c.close.ensures.fault is))))
 
 pub returns-in-Ok-clause-facts : goal.returns-in-Ok-clause-facts
 returns-in-Ok-clause-facts g c =
