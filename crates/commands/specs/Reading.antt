@@ -5,7 +5,7 @@ use Rattle.std.specs.List.{list_any}
 use Rattle.sync_ids.specs.declared.def.TheConstants.{MAX_NAME, MAX_DESCRIPTOR}
 use Rattle.sync_ids.specs.declared.message.TheConstants.{MAX_TIMESTAMP}
 use Rattle.outside.specs.declared.limits.TheConstants.{LINKS}
-use Rattle.commands.specs.declared.grammar.TheConstants.{MAX_CONTACT, MAX_MAJOR, MAX_TURNS}
+use Rattle.commands.specs.declared.grammar.TheConstants.{MAX_CONTACT, MAX_MAJOR, MAX_TURNS, MAX_WALK}
 use Rattle.commands.specs.declared.links.TheConstants.{FIRST_LINK, LINK_WORDS, MAX_LATENCY}
 use Rattle.sync_words.specs.declared.link_words.LinkWords.{LinkWords}
 use Rattle.commands.specs.declared.command.Command.{Command}
@@ -69,6 +69,12 @@ asks_post = word_then id_in (λ group. word_then (number_in MAX_TIMESTAMP) (λ t
 abbrev pub asks_body : Rest
 asks_body = word_then id_in (λ id. ends (command.Body id))
 
+-- a group, a place of the walk and a number of messages
+abbrev pub asks_tree : Rest
+asks_tree =
+    word_then id_in (λ group. word_then (number_in MAX_WALK) (λ from. word_then (number_in MAX_WALK) (λ count.
+    ends (command.Tree group from count))))
+
 -- whether one of the links is over the standard input and output
 abbrev pub has_std : List LinkWords → Bool
 has_std links = list_any (λ (link : LinkWords). is_std link.spec) links
@@ -118,6 +124,7 @@ asks_of word =
     else if bytes_eq word (codes "share") then asks_share
     else if bytes_eq word (codes "post") then asks_post
     else if bytes_eq word (codes "body") then asks_body
+    else if bytes_eq word (codes "tree") then asks_tree
     else if bytes_eq word (codes "sync") then asks_sync
     else ends_or_usage (plain_in word)
 

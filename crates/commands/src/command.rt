@@ -29,6 +29,9 @@ pub enum Command {
     Inbox,
     /// `body ID`: writes the body of a message.
     Body(MessageId),
+    /// `tree GROUP FROM COUNT`: prints so many messages of the walk of a group's replies, from a
+    /// place on.
+    Tree(GroupId, u32, u32),
     /// `sync TURNS QUIET` and the words of each link: runs sessions over the links, at most so many
     /// turns, and until so many turns in a row were still.
     Sync(u32, u32, LinkList),
@@ -57,7 +60,8 @@ impl Command {
             | Command::Records
             | Command::Show
             | Command::Inbox
-            | Command::Body(_) => false,
+            | Command::Body(_)
+            | Command::Tree(_, _, _) => false,
         }
     }
 }

@@ -1,7 +1,7 @@
 //! What the words of a command line ask for.
 ghost use Rattle.std.specs.Prelude.{◌≡◌, drop, IfOk, IfSome};
 ghost use Rattle.commands.specs.Reading.{asks, asks_of, asks_try, asks_group, asks_share};
-ghost use Rattle.commands.specs.Reading.{asks_post, asks_body, asks_sync, ends};
+ghost use Rattle.commands.specs.Reading.{asks_post, asks_body, asks_sync, asks_tree, ends};
 ghost use Rattle.commands.specs.Reading.{IsReadAs, IsWithin, plain_in};
 ghost use Rattle.sync_words.specs.Words.{texts};
 
@@ -18,6 +18,9 @@ pub const MAX_CONTACT: u64 = MAX_CONTACTS as u64 - 1;
 
 // The greatest major version of a client.
 const MAX_MAJOR: u64 = 4_294_967_295;
+
+// The greatest place of a walk, and the most messages of it.
+const MAX_WALK: u64 = 4_294_967_295;
 
 /// The most turns of a run, and the most still turns behind which it is over.
 pub const MAX_TURNS: u64 = 1_000_000;
@@ -47,6 +50,7 @@ fn read_command(alloc: Global, word: &str, words: &[String]) -> Result<Command, 
         "share" => read_share(words),
         "post" => read_post(words),
         "body" => read_body(words),
+        "tree" => read_tree(words),
         "sync" => read_sync(alloc, words),
         word => match plain(word) {
             Some(command) => read_end(words, 1, command),
@@ -125,6 +129,16 @@ fn read_body(words: &[String]) -> Result<Command, WordsFault>
 {
     let id = id_at(words, 1)?;
     read_end(words, 2, Command::Body(id))
+}
+
+fn read_tree(words: &[String]) -> Result<Command, WordsFault>
+    ensures read { IsReadAs (asks_tree 1 (drop 1 (texts words.now))) result }
+    ensures within { IfOk result IsWithin }
+{
+    let group = id_at(words, 1)?;
+    let from = number_at(words, 2, MAX_WALK)?;
+    let count = number_at(words, 3, MAX_WALK)?;
+    read_end(words, 4, Command::Tree(group, from as u32, count as u32))
 }
 
 fn read_sync(alloc: Global, words: &[String]) -> Result<Command, WordsFault>

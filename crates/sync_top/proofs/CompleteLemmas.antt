@@ -37,6 +37,7 @@ use Rattle.store_commands.specs.Plans.{Plan, adds, contact_plan, group_plan, lev
 use Rattle.store_commands.specs.Post.{HasPosted, PostsBody}
 use Rattle.store_commands.specs.Show.{HasLooked}
 use Rattle.store_commands.specs.Shown.{Showing, body_shown, denies, listing_shown, shows}
+use Rattle.tree_commands.specs.Trees.{tree_shown}
 use Rattle.sync_node.specs.Courses.{ReadsAs}
 use Rattle.sync_top.specs.declared.input.TheConstants.{MAX_INPUT}
 use Rattle.sync_top.specs.Complete.{BytesDecide, ComesOut, Complete, HasRoom, MayAdd, MayPost, MayShow, NothingFails, Serves, status_at, status_by}
@@ -234,6 +235,11 @@ command_comes_out clients command.Inbox old new input input' out out' came comes
     store_done clients old new input input' out out' fails (λ (o : Outcome). HasLooked clients (listing_shown listing.Inbox) old new out out' o × IsIdle input input') came (λ did. looked_done clients old new input input' out out' fails (listing_shown listing.Inbox) came did.0 serves) comes
 command_comes_out clients (command.Body id) old new input input' out out' came comes serves fails =
     store_done clients old new input input' out out' fails (λ (o : Outcome). HasLooked clients (body_shown id) old new out out' o × IsIdle input input') came (λ did. looked_done clients old new input input' out out' fails (body_shown id) came did.0 serves) comes
+command_comes_out clients (command.Tree group from count) old new input input' out out' came comes serves fails =
+    store_done clients old new input input' out out' fails
+    (λ (o : Outcome). HasLooked clients (tree_shown clients (record { group = group; from = from; count = count })) old new out out' o × IsIdle input input') came
+    (λ did. looked_done clients old new input input' out out' fails (tree_shown clients (record { group = group; from = from; count = count }))
+    came did.0 serves) comes
 command_comes_out clients (command.Sync turns quiet links) old new input input' out out' came comes serves fails =
     elim comes [
       | inl did ↦ run_comes_out clients (record { turns = turns; quiet = quiet }) links old new fails.disk fails.links came did.0 serves

@@ -12,6 +12,7 @@ use Rattle.commands.specs.declared.command.Command.TheVariants as command
 use Rattle.store_commands.specs.Show.{HasLooked}
 use Rattle.store_commands.specs.Shown.{Showing, body_shown, listing_shown}
 use Rattle.store_commands.specs.declared.listing.Listing.TheVariants as listing
+use Rattle.tree_commands.specs.Trees.{tree_shown}
 use Rattle.sync_top.specs.Looking.{LooksUnless, OnlyLooks}
 use Rattle.sync_top.specs.Run.{Comes, ComesOfStore, KeepsHost}
 
@@ -34,6 +35,8 @@ module _ {H : Type 0} (tells : H → Outside) (clients : Meaning) (h h' : H) (in
   only_looks (Do command.Show) comes keeps = λ reads. looked clients (tells h) (tells h') input input' out out' came (listing_shown listing.Store) comes
   only_looks (Do command.Inbox) comes keeps = λ reads. looked clients (tells h) (tells h') input input' out out' came (listing_shown listing.Inbox) comes
   only_looks (Do (command.Body id)) comes keeps = λ reads. looked clients (tells h) (tells h') input input' out out' came (body_shown id) comes
+  only_looks (Do (command.Tree group from count)) comes keeps =
+      λ reads. looked clients (tells h) (tells h') input input' out out' came (tree_shown clients (record { group = group; from = from; count = count })) comes
   only_looks (Do command.Init) comes keeps = λ reads. absurd (let e : true ≡ false = reads in cc)
   only_looks (Do command.Contact) comes keeps = λ reads. absurd (let e : true ≡ false = reads in cc)
   only_looks (Do (command.Group name major descriptor)) comes keeps = λ reads. absurd (let e : true ≡ false = reads in cc)

@@ -26,6 +26,7 @@ use Rattle.store_commands.specs.Plans.{Plan, contact_plan, group_plan, level_pla
 use Rattle.store_commands.specs.Post.{HasPosted, PostsBody, StopsShort}
 use Rattle.store_commands.specs.Show.{HasLooked}
 use Rattle.store_commands.specs.Shown.{Showing, body_shown, listing_shown}
+use Rattle.tree_commands.specs.Trees.{tree_shown}
 use Rattle.sync_top.specs.Run.{Comes, ComesOfStore, Covered, KeepsHost}
 use Rattle.sync_top.specs.Undamaged.{NeverDamaged, RunUndamaged, StandsForSome, Undamaged}
 use Rattle.outside.specs.Runs.{Told}
@@ -142,4 +143,8 @@ module _ {H : Type 0} (tells : H → Outside) (clients : Meaning) (h h' : H) (in
       of_store clients (tells h) (tells h') (λ o. HasLooked clients (listing_shown listing.Inbox) (tells h) (tells h') out out' o × IsIdle input input') input input' out out' came (λ did. of_looked clients (tells h) (tells h') _ out out' came did.0) comes
   undamaged (Do (command.Body id)) comes keeps covered =
       of_store clients (tells h) (tells h') (λ o. HasLooked clients (body_shown id) (tells h) (tells h') out out' o × IsIdle input input') input input' out out' came (λ did. of_looked clients (tells h) (tells h') _ out out' came did.0) comes
+  undamaged (Do (command.Tree group from count)) comes keeps covered =
+      of_store clients (tells h) (tells h')
+      (λ o. HasLooked clients (tree_shown clients (record { group = group; from = from; count = count })) (tells h) (tells h') out out' o × IsIdle input input') input
+      input' out out' came (λ did. of_looked clients (tells h) (tells h') _ out out' came did.0) comes
   undamaged (Do (command.Sync turns quiet links)) comes keeps covered = of_run clients (tells h) (tells h') links covered

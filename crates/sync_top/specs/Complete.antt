@@ -39,6 +39,7 @@ use Rattle.store_commands.specs.Post.{IsBody, message_of}
 use Rattle.store_commands.specs.Shown.{Showing, body_shown, listing_shown, shows}
 use Rattle.sync_run.specs.declared.run.Limits.{Limits}
 use Rattle.sync_run.specs.Courses.{RanToEnd, WasBroken, is_unknown, terms_of}
+use Rattle.tree_commands.specs.Trees.{tree_shown}
 use Rattle.sync_top.specs.declared.input.TheConstants.{MAX_INPUT}
 
 -- ---- nothing stands in the way
@@ -100,6 +101,8 @@ Serves clients (command.Post group timestamp) old new input input' = MayPost cli
 Serves clients command.Show old new input input' = MayShow clients (listing_shown listing.Store) old.files
 Serves clients command.Inbox old new input input' = MayShow clients (listing_shown listing.Inbox) old.files
 Serves clients (command.Body id) old new input input' = MayShow clients (body_shown id) old.files
+Serves clients (command.Tree group from count) old new input input' =
+    MayShow clients (tree_shown clients (record { group = group; from = from; count = count })) old.files
 Serves clients (command.Sync turns quiet links) old new input input' = MaySync clients (record { turns = turns; quiet = quiet }) links old new
 
 -- ---- what it then comes to

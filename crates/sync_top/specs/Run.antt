@@ -31,6 +31,7 @@ use Rattle.sync_words.specs.declared.outcome.Outcome.{Outcome}
 use Rattle.sync_words.specs.declared.outcome.Outcome.TheVariants as outcome
 use Rattle.sync_words.specs.Outcomes.{status_of, text_of}
 use Rattle.outside.specs.Streams.{Stream, IsIdle, GetsFront, Gets}
+use Rattle.tree_commands.specs.Trees.{tree_shown}
 use Rattle.sync_top.specs.RecordText.{items_text}
 use Rattle.commands.specs.Reading.{Asked}
 use Rattle.commands.specs.Reading.Asked.{Usage, Do}
@@ -141,6 +142,9 @@ Comes clients (Do command.Inbox) old new input input' out out' came =
     ComesOfStore (λ did. HasLooked clients (listing_shown listing.Inbox) old new out out' did × IsIdle input input') old new input input' out out' came
 Comes clients (Do (command.Body id)) old new input input' out out' came =
     ComesOfStore (λ did. HasLooked clients (body_shown id) old new out out' did × IsIdle input input') old new input input' out out' came
+Comes clients (Do (command.Tree group from count)) old new input input' out out' came =
+    ComesOfStore (λ did. HasLooked clients (tree_shown clients (record { group = group; from = from; count = count })) old new out out' did × IsIdle input input') old new input input'
+    out out' came
 Comes clients (Do (command.Sync turns quiet links)) old new input input' out out' came =
     ComesOfStore (λ did. HasRun clients (record { turns = turns; quiet = quiet }) links old new did × Untouched input input' out out') old new input input' out out' came
 

@@ -24,6 +24,7 @@ use store_commands::{
 use sync_rules::Clients;
 use sync_run::{Limits, sync_links};
 use sync_words::{Outcome, Status};
+use tree_commands::{Window, print_tree};
 
 /// Runs the command that the words ask for: it reads `input`, writes its text to `out` and its
 /// line, if it has one, to `err`, and says what it came to. The words are those after the program's
@@ -159,6 +160,10 @@ fn obey<H: Host, S: Source, W: Sink, C: Clients>(
         Command::Show => list(alloc, hasher, Listing::Store, host, out, clients),
         Command::Inbox => list(alloc, hasher, Listing::Inbox, host, out, clients),
         Command::Body(id) => write_body(alloc, hasher, &id, host, out, clients),
+        Command::Tree(group, from, count) => {
+            let window = Window { group, from, count };
+            print_tree(alloc, hasher, &window, host, out, clients)
+        }
         Command::Sync(_, _, _) => unreachable!(),
     }
 }

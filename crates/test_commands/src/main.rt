@@ -21,6 +21,7 @@ mod stops;
 mod stored;
 mod streams;
 mod tally;
+mod trees;
 mod want;
 mod words;
 
@@ -40,9 +41,10 @@ enum Table {
     Failing,
     Loads,
     Streams,
+    Trees,
 }
 
-static TABLES: [(&str, Table); 10] = [
+static TABLES: [(&str, Table); 11] = [
     ("session", Table::Session),
     ("stored", Table::Stored),
     ("refusals", Table::Refusals),
@@ -53,6 +55,7 @@ static TABLES: [(&str, Table); 10] = [
     ("failing calls", Table::Failing),
     ("refusals behind a load", Table::Loads),
     ("streams", Table::Streams),
+    ("trees", Table::Trees),
 ];
 
 fn main(rt: HostRuntime) -> Result<()> {
@@ -76,5 +79,6 @@ fn play_table(table: Table, tally: &mut Tally) -> Result<()> {
         Table::Failing => failing::play_all(tally),
         Table::Loads => refusals::play_loads(tally),
         Table::Streams => streams::play_all(tally),
+        Table::Trees => trees::play_all(tally),
     }
 }

@@ -103,7 +103,7 @@ fn unread(words: &str) -> Order<'_> {
     }
 }
 
-static OF_A_STORE: [&str; 8] = [
+static OF_A_STORE: [&str; 9] = [
     "contact",
     "group note 0 d",
     "group chat 0 d",
@@ -112,13 +112,14 @@ static OF_A_STORE: [&str; 8] = [
     "show",
     "inbox",
     "body 3443418c0382800e42ae01fb9d676b7b25405d2875809cf8d6808f04741c96a4",
+    "tree 76ff4980d3b5f63962cee45401b6b1bb92efe989c27de4629aac92b18163e6e0 0 10",
 ];
 
 static BEGUN: [&str; 4] = [EMPTY, ONE, HELD, "00"];
 
 const UNREAD: &str = "post 76ff4980d3b5f63962cee45401b6b1bb92efe989c27de4629aac92b18163e6e0 0";
 
-static REFUSALS: [Refusal; 32] = [
+static REFUSALS: [Refusal; 34] = [
     Refusal {
         before: ONE,
         words: "group chat 0 d",
@@ -310,5 +311,17 @@ static REFUSALS: [Refusal; 32] = [
         words: "body 3443418c0382800e42ae01fb9d676b7b25405d2875809cf8d6808f04741c96a4",
         input: b"",
         line: "unknown message",
+    },
+    Refusal {
+        before: ONE,
+        words: "tree 76ff4980d3b5f63962cee45401b6b1bb92efe989c27de4629aac92b18163e6e0 0 10",
+        input: b"",
+        line: "unknown group",
+    },
+    Refusal {
+        before: HELD,
+        words: "tree c1af82673999b1a2e9fa43bb9059dffe0c9aae24bcb4e2d70ebeaa554b9a5736 0 0",
+        input: b"",
+        line: "unknown group",
     },
 ];

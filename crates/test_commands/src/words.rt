@@ -68,7 +68,7 @@ static LONG: [(Long, u32); 3] = [
     ),
 ];
 
-static WRONG: [(&str, u32); 79] = [
+static WRONG: [(&str, u32); 91] = [
     ("", 0),
     (" ", 0),
     ("Init", 0),
@@ -250,4 +250,46 @@ static WRONG: [(&str, u32); 79] = [
         1,
     ),
     ("body x y", 1),
+    ("tree", 1),
+    ("tree x 0 1", 1),
+    (
+        "tree 76ff4980d3b5f63962cee45401b6b1bb92efe989c27de4629aac92b18163e6e0",
+        2,
+    ),
+    (
+        "tree 76ff4980d3b5f63962cee45401b6b1bb92efe989c27de4629aac92b18163e6e0 0",
+        3,
+    ),
+    (
+        "tree 76ff4980d3b5f63962cee45401b6b1bb92efe989c27de4629aac92b18163e6e0 4294967296 1",
+        2,
+    ),
+    (
+        "tree 76ff4980d3b5f63962cee45401b6b1bb92efe989c27de4629aac92b18163e6e0 0 4294967296",
+        3,
+    ),
+    (
+        "tree 76ff4980d3b5f63962cee45401b6b1bb92efe989c27de4629aac92b18163e6e0 -1 1",
+        2,
+    ),
+    (
+        "tree 76ff4980d3b5f63962cee45401b6b1bb92efe989c27de4629aac92b18163e6e0 00 1",
+        2,
+    ),
+    (
+        "tree 76ff4980d3b5f63962cee45401b6b1bb92efe989c27de4629aac92b18163e6e0 0 ",
+        3,
+    ),
+    (
+        "tree 76ff4980d3b5f63962cee45401b6b1bb92efe989c27de4629aac92b18163e6e0 0 x",
+        3,
+    ),
+    (
+        "tree 76ff4980d3b5f63962cee45401b6b1bb92efe989c27de4629aac92b18163e6e0 0 1 x",
+        4,
+    ),
+    (
+        "tree 76ff4980d3b5f63962cee45401b6b1bb92efe989c27de4629aac92b18163e6e00 0 1",
+        1,
+    ),
 ];

@@ -31,6 +31,11 @@ pub returns-in-Body-clause-comes : goal.returns-in-Body-clause-comes
 returns-in-Body-clause-comes g c =
     as_command (g.C.Clients.meaning c.args.clients.now) c.args.asked (command.Body c.in-Body.id) _ _ _ _ _ _ _ c.in-Body.is (inl (c.write_body.ensures, (record { same = refl; same_faults = refl })))
 
+pub returns-in-Tree-clause-comes : goal.returns-in-Tree-clause-comes
+returns-in-Tree-clause-comes g c =
+    as_command (g.C.Clients.meaning c.args.clients.now) c.args.asked (command.Tree c.in-Tree.group c.in-Tree.from c.in-Tree.count) _ _ _ _ _ _ _ c.in-Tree.is
+    (inl (c.print_tree.ensures, (record { same = refl; same_faults = refl })))
+
 pub returns-in-Post-clause-comes : goal.returns-in-Post-clause-comes
 returns-in-Post-clause-comes g c =
     as_command (g.C.Clients.meaning c.args.clients.now) c.args.asked (command.Post c.in-Post.group c.in-Post.timestamp) _ _ _ _ _ _ _ c.in-Post.is
