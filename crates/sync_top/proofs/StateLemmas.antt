@@ -20,6 +20,7 @@ use Rattle.sync_words.specs.declared.outcome.Outcome.{Outcome}
 use Rattle.sync_words.specs.declared.outcome.Outcome.TheVariants as outcome
 use Rattle.sync_words.specs.declared.status.Status.{Status}
 use Rattle.sync_words.specs.Outcomes.{came_to, status_of}
+use Rattle.sync_words.specs.declared.link_words.LinkWords.{LinkWords}
 use Rattle.commands.specs.Reading.{Asked, IsReadAs, words_came}
 use Rattle.commands.specs.Reading.Asked.{Usage, Do}
 use Rattle.commands.specs.declared.command.Command.{Command}
@@ -30,7 +31,7 @@ use Rattle.store_commands.specs.declared.commit.Settling.TheVariants as settling
 use Rattle.store_commands.specs.Entries.{HasAdded}
 use Rattle.store_commands.specs.Plans.{group_plan}
 use Rattle.sync_top.specs.declared.input.TheConstants.{MAX_INPUT}
-use Rattle.sync_top.specs.Run.{Comes, DoesNothing, KeepsHost, Reports, ReadsStream, ReadsWhole, Streams, TriesClient}
+use Rattle.sync_top.specs.Run.{AsksSync, Comes, DoesNothing, KeepsHost, Reports, ReadsStream, ReadsWhole, Streams, TriesClient}
 use Rattle.sync_top.specs.States.{TellsStates, TellsGroup, TellsWhole}
 
 module _ (law : (clients : Meaning) (kind : ℕ) (def : GroupValue) (records : List Record) (text : List ℕ)
@@ -144,6 +145,17 @@ pub as_command : (clients : Meaning) (asked is : Command) (old new : Outside) (i
     → Comes clients (Do is) old new input input' out out' came → Comes clients (Do asked) old new input input' out out' came
 as_command clients asked is old new input input' out out' came same comes =
     subst (λ (a : Command). Comes clients (Do a) old new input input' out out' came) (sym same) comes
+
+-- what is said of an outcome is said of one that is it
+pub came_as : (clients : Meaning) (asked : Command) (old new : Outside) (input input' out out' : Stream) (came given : Outcome) → given ≡ came → Comes clients (Do asked) old new input input' out out' came
+    → Comes clients (Do asked) old new input input' out out' given
+came_as clients asked old new input input' out out' came given same comes =
+    subst (λ (o : Outcome). Comes clients (Do asked) old new input input' out out' o) (sym same) comes
+
+-- a command that is not `sync` does not ask for a run
+pub asks_none : (asked : Command) → ((turns quiet : ℕ) (links : List LinkWords) → asked ≡ command.Sync turns quiet links → ⊥) → AsksSync (Do asked) → ⊥
+asks_none (command.Sync turns quiet links) other asks = other turns quiet links refl
+asks_none _ other asks = asks
 
 -- the outcome that was reported is that of the command
 pub reports_as : (came came' : Outcome) (err err' : Stream) (given : Status) → came ≡ came' → Reports came err err' given → Reports came' err err' given

@@ -10,9 +10,9 @@ use Rattle.sync_store.proofs.Steps.{unsettled}
 use Rattle.sync_store.proofs.store.Store.settle.Goals as goal
 
 -- what the state tells is so of the store whose state it is
-told_of : (s t : StateValue) (yes : Bool) → t ≡ s → ((clients : Meaning) → Knows clients t → (IsTrue yes ↔ IsSettled clients t.facts))
-    → (clients : Meaning) → Knows clients s → (IsTrue yes ↔ IsSettled clients s.facts)
-told_of s t yes same told = subst (λ (v : StateValue). (clients : Meaning) → Knows clients v → (IsTrue yes ↔ IsSettled clients v.facts)) same told
+told_of : (s t : StateValue) (answer : Bool) → t ≡ s → ((clients : Meaning) → Knows clients t → (IsTrue answer ↔ IsSettled clients t.facts))
+    → (clients : Meaning) → Knows clients s → (IsTrue answer ↔ IsSettled clients s.facts)
+told_of s t answer same told = subst (λ (v : StateValue). (clients : Meaning) → Knows clients v → (IsTrue answer ↔ IsSettled clients v.facts)) same told
 
 pub batches-init : goal.batches-init
 batches-init g c =
