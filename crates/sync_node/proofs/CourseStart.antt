@@ -27,7 +27,7 @@ use Rattle.sync_node.specs.declared.link.Link.{Link}
 use Rattle.sync_course.specs.declared.ends.LinkEnd.{LinkEnd}
 use Rattle.sync_course.specs.declared.ends.LinkEnd.TheVariants as link_end
 use Rattle.sync_node.proofs.CourseLaws.{fits_on}
-use Rattle.sync_node.proofs.CourseTakes.{full_here, none_or_one}
+use Rattle.sync_node.proofs.CourseTakes.{full_sent_here, none_or_one}
 use Rattle.sync_node.specs.Fulls.{FullBeginning, FullStart, IsOver}
 use Rattle.sync_node.specs.Stops.{StaysSame}
 use Rattle.sync_node.proofs.SentLaws.{same_sent}
@@ -171,15 +171,11 @@ module _ (clients : Meaning) (x : Session) (s : StoreValue) (o : Outside) (batch
   -- a session that would have passed the limit
   pub start_full : (s' : StoreValue) (o' : Outside) → IsOver clients batch s s' o o'
       → FullStart clients x s s' o o'
-  unfolding full_here
   start_full s' o' over = record {
-    fills = λ terms left links moved still made. record {
-      full =
-          full_here clients (RunStep clients terms) (attaching_at (x ∷ left) links moved still made s.state.facts)
-          (greeting_at terms left links moved still made (after_all s.state.facts (session_batch x))) (session_batch x) s s' o o' (refl, allowed, refl)
-          (subst (λ (b : List Entry). IsOver clients b s s' o o') is over);
-      sent = λ sent. sent;
-    };
+    fills = λ terms left links moved still made.
+        full_sent_here clients terms (attaching_at (x ∷ left) links moved still made s.state.facts)
+        (greeting_at terms left links moved still made (after_all s.state.facts (session_batch x))) (session_batch x) s s' o o' (refl, allowed, refl)
+        (subst (λ (b : List Entry). IsOver clients b s s' o o') is over);
   }
 
   pub starts_course : (n : ℕ) (begun : Session) (reader : ReaderState) (l : Link) (s1 : StoreValue)

@@ -47,7 +47,7 @@ use Rattle.sync_course.specs.declared.ends.LinkEnd.TheVariants as link_end
 use Rattle.sync_node.specs.Hearing.{ClosesBy, Learns, nonce_with}
 use Rattle.sync_course.proofs.ToldLaws.{runs_then}
 use Rattle.sync_course.specs.Turns.{Place, RunStep, Terms}
-use Rattle.sync_node.specs.Fulls.{IsOver, LinkFull, NextFull, RunFullSent, StopsFull, TakesFull}
+use Rattle.sync_node.specs.Fulls.{AllSentOn, IsOver, LinkFull, NextFull, RunFullSent, StopsFull, TakesFull}
 use Rattle.sync_node.specs.Courses.{Adds, AddsSettling, AddsSome, AddsSomeSettling, FitsWith, IsTaking, LinkHalts, LinkRuns, NextAsCourse, NextStops, PieceAsCourse, PieceTaken, ReadsAs, RunRuns, StopsAsCourse, TakesAsCourse, link_at, spot_at}
 use Rattle.sync_node.proofs.CourseLaws.{told_as}
 use Rattle.sync_node.proofs.CommitLaws.{settling_front}
@@ -261,6 +261,15 @@ full_here clients step p next batch s s' o o' steps over = record {
   next = next;
   steps = steps;
   over = over.over;
+}
+
+pub full_sent_here : (clients : Meaning) (terms : Terms) (p next : Place) (batch : List Entry) (s s' : StoreValue) (o o' : Outside)
+    → RunStep clients terms p (Commit batch) next → IsOver clients batch s s' o o'
+    → RunFullSent clients terms p (AllSentOn clients terms.first p.links s' o') s s' o o'
+unfolding full_here
+full_sent_here clients terms p next batch s s' o o' steps over = record {
+  full = full_here clients (RunStep clients terms) p next batch s s' o o' steps over;
+  sent = λ sent. sent;
 }
 
 -- a commit that answered Full did nothing
