@@ -5,7 +5,8 @@ use Rattle.std.specs.List.{list_any}
 use Rattle.sync_ids.specs.declared.def.TheConstants.{MAX_NAME, MAX_DESCRIPTOR}
 use Rattle.sync_ids.specs.declared.message.TheConstants.{MAX_TIMESTAMP}
 use Rattle.outside.specs.declared.limits.TheConstants.{LINKS}
-use Rattle.commands.specs.declared.grammar.TheConstants.{MAX_CONTACT, MAX_MAJOR, MAX_TURNS, MAX_WALK}
+use Rattle.commands.specs.declared.grammar.TheConstants.{MAX_CONTACT, MAX_MAJOR, MAX_TURNS}
+use Rattle.commands.specs.declared.grammar.TheConstants.{MAX_WALK}
 use Rattle.commands.specs.declared.links.TheConstants.{FIRST_LINK, LINK_WORDS, MAX_LATENCY}
 use Rattle.sync_words.specs.declared.link_words.LinkWords.{LinkWords}
 use Rattle.commands.specs.declared.command.Command.{Command}
@@ -72,8 +73,9 @@ asks_body = word_then id_in (λ id. ends (command.Body id))
 -- a group, a place of the walk and a number of messages
 abbrev pub asks_tree : Rest
 asks_tree =
-    word_then id_in (λ group. word_then (number_in MAX_WALK) (λ from. word_then (number_in MAX_WALK) (λ count.
-    ends (command.Tree group from count))))
+    word_then id_in (λ group.
+    word_then (number_in MAX_WALK) (λ from.
+    word_then (number_in MAX_WALK) (λ count. ends (command.Tree group from count))))
 
 -- whether one of the links is over the standard input and output
 abbrev pub has_std : List LinkWords → Bool

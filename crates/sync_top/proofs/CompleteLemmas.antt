@@ -235,10 +235,14 @@ command_comes_out clients command.Inbox old new input input' out out' came comes
     store_done clients old new input input' out out' fails (λ (o : Outcome). HasLooked clients (listing_shown listing.Inbox) old new out out' o × IsIdle input input') came (λ did. looked_done clients old new input input' out out' fails (listing_shown listing.Inbox) came did.0 serves) comes
 command_comes_out clients (command.Body id) old new input input' out out' came comes serves fails =
     store_done clients old new input input' out out' fails (λ (o : Outcome). HasLooked clients (body_shown id) old new out out' o × IsIdle input input') came (λ did. looked_done clients old new input input' out out' fails (body_shown id) came did.0 serves) comes
-command_comes_out clients (command.Tree group from count) old new input input' out out' came comes serves fails =
+command_comes_out clients (command.Tree group from count) old new input input' out out' came comes
+    serves fails =
     store_done clients old new input input' out out' fails
-    (λ (o : Outcome). HasLooked clients (tree_shown clients (record { group = group; from = from; count = count })) old new out out' o × IsIdle input input') came
-    (λ did. looked_done clients old new input input' out out' fails (tree_shown clients (record { group = group; from = from; count = count }))
+    (λ (o : Outcome). HasLooked clients
+    (tree_shown clients (record { group = group; from = from; count = count })) old new out out'
+    o × IsIdle input input') came
+    (λ did. looked_done clients old new input input' out out' fails
+    (tree_shown clients (record { group = group; from = from; count = count }))
     came did.0 serves) comes
 command_comes_out clients (command.Sync turns quiet links) old new input input' out out' came comes serves fails =
     elim comes [

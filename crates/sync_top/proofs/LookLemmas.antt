@@ -36,7 +36,8 @@ module _ {H : Type 0} (tells : H → Outside) (clients : Meaning) (h h' : H) (in
   only_looks (Do command.Inbox) comes keeps = λ reads. looked clients (tells h) (tells h') input input' out out' came (listing_shown listing.Inbox) comes
   only_looks (Do (command.Body id)) comes keeps = λ reads. looked clients (tells h) (tells h') input input' out out' came (body_shown id) comes
   only_looks (Do (command.Tree group from count)) comes keeps =
-      λ reads. looked clients (tells h) (tells h') input input' out out' came (tree_shown clients (record { group = group; from = from; count = count })) comes
+      λ reads. looked clients (tells h) (tells h') input input' out out' came
+      (tree_shown clients (record { group = group; from = from; count = count })) comes
   only_looks (Do command.Init) comes keeps = λ reads. absurd (let e : true ≡ false = reads in cc)
   only_looks (Do command.Contact) comes keeps = λ reads. absurd (let e : true ≡ false = reads in cc)
   only_looks (Do (command.Group name major descriptor)) comes keeps = λ reads. absurd (let e : true ≡ false = reads in cc)

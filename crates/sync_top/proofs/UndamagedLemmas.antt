@@ -145,6 +145,9 @@ module _ {H : Type 0} (tells : H → Outside) (clients : Meaning) (h h' : H) (in
       of_store clients (tells h) (tells h') (λ o. HasLooked clients (body_shown id) (tells h) (tells h') out out' o × IsIdle input input') input input' out out' came (λ did. of_looked clients (tells h) (tells h') _ out out' came did.0) comes
   undamaged (Do (command.Tree group from count)) comes keeps covered =
       of_store clients (tells h) (tells h')
-      (λ o. HasLooked clients (tree_shown clients (record { group = group; from = from; count = count })) (tells h) (tells h') out out' o × IsIdle input input') input
-      input' out out' came (λ did. of_looked clients (tells h) (tells h') _ out out' came did.0) comes
+      (λ o. HasLooked clients
+      (tree_shown clients (record { group = group; from = from; count = count })) (tells h)
+      (tells h') out out' o × IsIdle input input') input
+      input' out out' came (λ did. of_looked clients (tells h) (tells h') _ out out' came did.0)
+      comes
   undamaged (Do (command.Sync turns quiet links)) comes keeps covered = of_run clients (tells h) (tells h') links covered

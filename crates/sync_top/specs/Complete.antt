@@ -102,7 +102,8 @@ Serves clients command.Show old new input input' = MayShow clients (listing_show
 Serves clients command.Inbox old new input input' = MayShow clients (listing_shown listing.Inbox) old.files
 Serves clients (command.Body id) old new input input' = MayShow clients (body_shown id) old.files
 Serves clients (command.Tree group from count) old new input input' =
-    MayShow clients (tree_shown clients (record { group = group; from = from; count = count })) old.files
+    MayShow clients (tree_shown clients (record { group = group; from = from; count = count }))
+    old.files
 Serves clients (command.Sync turns quiet links) old new input input' = MaySync clients (record { turns = turns; quiet = quiet }) links old new
 
 -- ---- what it then comes to

@@ -143,7 +143,9 @@ Comes clients (Do command.Inbox) old new input input' out out' came =
 Comes clients (Do (command.Body id)) old new input input' out out' came =
     ComesOfStore (λ did. HasLooked clients (body_shown id) old new out out' did × IsIdle input input') old new input input' out out' came
 Comes clients (Do (command.Tree group from count)) old new input input' out out' came =
-    ComesOfStore (λ did. HasLooked clients (tree_shown clients (record { group = group; from = from; count = count })) old new out out' did × IsIdle input input') old new input input'
+    ComesOfStore (λ did. HasLooked clients
+    (tree_shown clients (record { group = group; from = from; count = count })) old new out out'
+    did × IsIdle input input') old new input input'
     out out' came
 Comes clients (Do (command.Sync turns quiet links)) old new input input' out out' came =
     ComesOfStore (λ did. HasRun clients (record { turns = turns; quiet = quiet }) links old new did × Untouched input input' out out') old new input input' out out' came

@@ -101,6 +101,28 @@ fn show_post(rt: &impl Abort, alloc: Global, group: &GroupId, timestamp: u64, to
     add(rt, to, &["post ", group.as_str(), "+", timestamp.as_str()]);
 }
 
+fn show_tree(
+    rt: &impl Abort,
+    alloc: Global,
+    group: &GroupId,
+    from: u32,
+    count: u32,
+    to: &mut String,
+) {
+    let group = hex(rt, alloc, group);
+    let from = decimal(rt, alloc, u64::from(from));
+    let count = decimal(rt, alloc, u64::from(count));
+    let parts = [
+        "tree ",
+        group.as_str(),
+        "+",
+        from.as_str(),
+        "+",
+        count.as_str(),
+    ];
+    add(rt, to, &parts);
+}
+
 // The command with its parts.
 fn show(rt: &impl Abort, alloc: Global, command: &Command, to: &mut String) {
     match command {
@@ -126,6 +148,7 @@ fn show(rt: &impl Abort, alloc: Global, command: &Command, to: &mut String) {
         Command::Show => add(rt, to, &["show"]),
         Command::Inbox => add(rt, to, &["inbox"]),
         Command::Body(id) => add(rt, to, &["body ", hex(rt, alloc, id).as_str()]),
+        Command::Tree(group, from, count) => show_tree(rt, alloc, group, *from, *count, to),
         Command::Sync(turns, quiet, links) => {
             show_sync(rt, alloc, *turns, *quiet, to);
             for link in links.as_slice() {
@@ -179,7 +202,12 @@ const LAST: &str =
 
 const BODY: &str = "body 3443418c0382800e42ae01fb9d676b7b25405d2875809cf8d6808f04741c96a4";
 
-static COMMANDS: [(&[&str], &str); 60] = [
+const FRONT: &str = "tree 76ff4980d3b5f63962cee45401b6b1bb92efe989c27de4629aac92b18163e6e0+0+10";
+
+const END: &str =
+    "tree 76ff4980d3b5f63962cee45401b6b1bb92efe989c27de4629aac92b18163e6e0+4294967295+4294967295";
+
+static COMMANDS: [(&[&str], &str); 69] = [
     (&[], "usage 0"),
     (&[""], "usage 0"),
     (&["Try", "note", "d"], "usage 0"),
@@ -240,6 +268,15 @@ static COMMANDS: [(&[&str], &str); 60] = [
     (&["body", "x"], "usage 1"),
     (&["body", ID, "x"], "usage 2"),
     (&["body", ID, ID], "usage 2"),
+    (&["tree", GROUP, "0", "10"], FRONT),
+    (&["tree", UPPER, "4294967295", "4294967295"], END),
+    (&["tree"], "usage 1"),
+    (&["tree", "x", "0", "10"], "usage 1"),
+    (&["tree", GROUP], "usage 2"),
+    (&["tree", GROUP, "4294967296", "10"], "usage 2"),
+    (&["tree", GROUP, "0"], "usage 3"),
+    (&["tree", GROUP, "0", "4294967296"], "usage 3"),
+    (&["tree", GROUP, "0", "10", "x"], "usage 4"),
 ];
 
 #[test]

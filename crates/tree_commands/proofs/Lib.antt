@@ -1,1 +1,6 @@
 pub mod Numbers
+pub mod Parents
+pub mod Places
+pub mod Gathers
+pub mod Walked
+pub mod Replies

@@ -5,12 +5,14 @@ use Rattle.std.proofs.Common.{subst, arith, is_some}
 use Rattle.std.specs.List.{Contains, flat_map}
 use Rattle.std.proofs.lemmas.List.{get_or-drop, get_or-take, get_or_default, length-take}
 use Rattle.std.proofs.lemmas.List.{length-map}
-use Rattle.std.proofs.Common.{length-drop}
+use Rattle.std.proofs.Common.{◌++◌, length-drop}
+use Rattle.std.proofs.lemmas.Option.{get_or_from_slice_get}
 use Rattle.reply_tree.specs.Walks.{HasOneWalk, IsSortedWalk, IsWalk, IsWindow, walk_of}
 use Rattle.sync_rules.specs.declared.states.Refused.TheVariants as refused
 use Rattle.sync_rules.specs.Clients.{Meaning}
 use Rattle.sync_rules.specs.Facts.{Facts, Id, group_at}
 use Rattle.store_commands.specs.Shown.{Showing, denies, shows}
+use Rattle.store_commands.proofs.Lines.{more_lines}
 use Rattle.journal_state.specs.Whole.{id_at}
 use Rattle.tree_commands.specs.declared.tree.Window.{Window}
 use Rattle.tree_commands.specs.Gathered.{HasKind, IsThreadOf}
@@ -83,3 +85,13 @@ shown_unknown clients f w none =
     ap (λ o. if is_some o then shows
     (walk_text (delivered_in f w.group) (parents_of clients f (delivered_in f w.group)) w.from
     w.count) else denies refused.UnknownGroup) none
+
+-- ---- lines
+
+-- one line more
+pub more_line : (line : ℕ → List ℕ) (items : List ℕ) (n : ℕ) (start old new : List ℕ)
+    → n < length items → old ≡ start ++ flat_map line (take n items)
+    → new ≡ old ++ line (get_or items n 0) → new ≡ start ++ flat_map line (take (n + 1) items)
+more_line line items n start old new within before more =
+    more_lines line items n start old new within before
+    (λ x e. more ∙ ap (λ (y : ℕ). old ++ line y) (get_or_from_slice_get items n x 0 e))

@@ -33,7 +33,8 @@ returns-in-Body-clause-comes g c =
 
 pub returns-in-Tree-clause-comes : goal.returns-in-Tree-clause-comes
 returns-in-Tree-clause-comes g c =
-    as_command (g.C.Clients.meaning c.args.clients.now) c.args.asked (command.Tree c.in-Tree.group c.in-Tree.from c.in-Tree.count) _ _ _ _ _ _ _ c.in-Tree.is
+    as_command (g.C.Clients.meaning c.args.clients.now) c.args.asked
+    (command.Tree c.in-Tree.group c.in-Tree.from c.in-Tree.count) _ _ _ _ _ _ _ c.in-Tree.is
     (inl (c.print_tree.ensures, (record { same = refl; same_faults = refl })))
 
 pub returns-in-Post-clause-comes : goal.returns-in-Post-clause-comes
