@@ -1,16 +1,17 @@
-use Rattle.std.proofs.Common.{refl}
-use Rattle.commands.specs.Reading.{asks, words_came}
+use Rattle.std.proofs.Common.{refl, subst, sym}
+use Rattle.commands.specs.Reading.{asks}
 use Rattle.sync_words.specs.Words.{texts}
-use Rattle.sync_top.proofs.StateLemmas.{comes_on, keeps_host, words_come}
+use Rattle.sync_words.specs.declared.outcome.Outcome.{Outcome}
+use Rattle.sync_top.specs.Run.{Comes}
+use Rattle.sync_top.proofs.StateLemmas.{words_come}
 use Rattle.sync_top.proofs.program.command.Goals as goal
 
-pub returns-in_err-asked-clause-comes : goal.returns-in_err-asked-clause-comes
-returns-in_err-asked-clause-comes g c =
+pub returns-in-Err-clause-comes : goal.returns-in-Err-clause-comes
+returns-in-Err-clause-comes g c =
     let clients = g.C.Clients.meaning c.args.clients.now in
-    let fault = c.in_err-asked.field-0.0 in
-    comes_on c.from_residual.result (words_came fault) c.from_residual.ensures.1 clients (asks (texts c.args.words.now)) _ _ _ _ _ _
-    (words_come clients (asks (texts c.args.words.now)) _ _ _ _ _ fault c.in_err-asked.ensures.read (record { same = refl; same_faults = refl })
-    (record { same = refl; same_faults = refl }))
-
-pub returns-in_err-asked-clause-host : goal.returns-in_err-asked-clause-host
-returns-in_err-asked-clause-host g c = keeps_host (asks (texts c.args.words.now)) c.args.host.now
+    let asked = asks (texts c.args.words.now) in
+    let o = g.H.Disk.tells c.args.host.now in
+    let input = g.S.Source.tells c.args.input.now in
+    let out = g.W.Sink.tells c.args.out.now in
+    subst (λ (came : Outcome). Comes clients asked o o input input out out came) (sym c.from.ensures)
+    (words_come clients asked o input input out out c.in-Err.fault c.in-Err.ensures.read (record { same = refl; same_faults = refl }) (record { same = refl; same_faults = refl }))

@@ -2,8 +2,6 @@ use Rattle.std.proofs.Common.{refl, inl}
 use Rattle.commands.specs.Reading.Asked.{Do}
 use Rattle.commands.specs.declared.command.Command.TheVariants as command
 use Rattle.sync_words.specs.declared.outcome.Outcome.TheVariants as outcome
-use Rattle.std.specs.Prelude.{Ok}
-use Rattle.sync_top.proofs.HeadlineLemmas.{has_run}
 use Rattle.sync_top.proofs.StateLemmas.{as_command, comes_on, group_comes, memory_comes}
 use Rattle.sync_top.proofs.program.obey.Goals as goal
 
@@ -53,14 +51,3 @@ returns-in_err-def-in-Group-clause-comes g c =
     let clients = g.C.Clients.meaning c.args.clients.now in
     comes_on c.from_residual.result outcome.Memory c.from_residual.ensures.1 clients (Do c.args.asked) _ _ _ _ _ _
     (memory_comes clients (Do c.args.asked) _ _ _ _ _ (record { same = refl; same_faults = refl }) (record { same = refl; same_faults = refl }))
-
-pub returns-in_ok-ends-in-Sync-clause-comes : goal.returns-in_ok-ends-in-Sync-clause-comes
-returns-in_ok-ends-in-Sync-clause-comes g c =
-    let clients = g.C.Clients.meaning c.args.clients.now in
-    let e = c.in_ok-ends-in-Sync.ensures in
-    as_command clients c.args.asked (command.Sync c.in-Sync.turns c.in-Sync.quiet c.in-Sync.links) _ _ _ _ _ _ _ c.in-Sync.is
-    (inl (
-      has_run clients _ c.in-Sync.links c.as_slice.result.now _ _ (Ok c.in_ok-ends-in-Sync.ends) _ c.as_slice.ensures.links refl e.headline
-          (λ two files. record { rests = e.rests two files; sent = e.sent two files; sent_full = e.sent_full two files; comes = e.comes two files; unbegun = e.unbegun two files }) e.specs e.caused e.leaves,
-      (record { same = refl; same_faults = refl }, record { same = refl; same_faults = refl }),
-    ))

@@ -1,54 +1,53 @@
-use Rattle.sync_words.specs.Outcomes.{came_to}
 use Rattle.commands.specs.Reading.{asks}
 use Rattle.sync_words.specs.Words.{texts}
 use Rattle.sync_top.proofs.CompleteLemmas.{complete}
 use Rattle.sync_top.proofs.HeadlineLemmas.{covers}
 use Rattle.sync_top.proofs.LookLemmas.{only_looks}
 use Rattle.sync_top.proofs.SoundLemmas.{always_opens}
-use Rattle.sync_top.proofs.StateLemmas.{reports_as, tells}
+use Rattle.sync_top.proofs.StateLemmas.{tells}
 use Rattle.sync_top.proofs.UndamagedLemmas.{undamaged}
 use Rattle.sync_top.proofs.program.run.Goals as goal
 
 pub returns-clause-ran : goal.returns-clause-ran
 returns-clause-ran g c = record {
-  came = came_to c.command.result;
-  comes = c.command.ensures.comes;
-  reports = reports_as c.of-outcome.result (came_to c.command.result) _ _ _ c.of-outcome.ensures c.report.ensures;
+  came = c.command-outcome.result;
+  comes = c.command-outcome.ensures.comes;
+  reports = c.report.ensures;
 }
 
 pub returns-clause-states : goal.returns-clause-states
 returns-clause-states g c =
-    tells c.play_says.ensures (g.C.Clients.meaning c.args.clients.now) _ _ _ _ (asks (texts c.args.words.now)) _ _ _ _ (came_to c.command.result) _
-    c.command.ensures.comes (reports_as c.of-outcome.result (came_to c.command.result) _ _ _ c.of-outcome.ensures c.report.ensures)
+    tells c.play_says.ensures (g.C.Clients.meaning c.args.clients.now) _ _ _ _ (asks (texts c.args.words.now)) _ _ _ _ c.command-outcome.result _
+    c.command-outcome.ensures.comes c.report.ensures
 
 pub returns-clause-undamaged : goal.returns-clause-undamaged
 returns-clause-undamaged g c =
-    undamaged g.H.Disk.tells (g.C.Clients.meaning c.args.clients.now) c.args.host.now c.command.new.host _ _ _ _ (came_to c.command.result)
-    (asks (texts c.args.words.now)) c.command.ensures.comes c.command.ensures.host
+    undamaged g.H.Disk.tells (g.C.Clients.meaning c.args.clients.now) c.args.host.now c.command-outcome.new.host _ _ _ _ c.command-outcome.result
+    (asks (texts c.args.words.now)) c.command-outcome.ensures.comes c.command-outcome.ensures.host
     (covers (g.C.Clients.meaning c.args.clients.now) (asks (texts c.args.words.now)) (g.H.Disk.tells c.args.host.now)
-    (g.H.Disk.tells c.command.new.host) _ _ _ _ (came_to c.command.result) c.requires.unused
-    c.command.ensures.comes)
+    (g.H.Disk.tells c.command-outcome.new.host) _ _ _ _ c.command-outcome.result c.requires.unused
+    c.command-outcome.ensures.comes)
 
 pub returns-clause-headline : goal.returns-clause-headline
 returns-clause-headline g c =
     covers (g.C.Clients.meaning c.args.clients.now) (asks (texts c.args.words.now)) (g.H.Disk.tells c.args.host.now)
-    (g.H.Disk.tells c.command.new.host) _ _ _ _ (came_to c.command.result) c.requires.unused
-    c.command.ensures.comes
+    (g.H.Disk.tells c.command-outcome.new.host) _ _ _ _ c.command-outcome.result c.requires.unused
+    c.command-outcome.ensures.comes
 
 pub returns-clause-complete : goal.returns-clause-complete
 returns-clause-complete g c =
-    complete (g.C.Clients.meaning c.args.clients.now) (asks (texts c.args.words.now)) _ _ _ _ _ _ _ _ (came_to c.command.result) _ c.command.ensures.comes
-    (reports_as c.of-outcome.result (came_to c.command.result) _ _ _ c.of-outcome.ensures c.report.ensures)
+    complete (g.C.Clients.meaning c.args.clients.now) (asks (texts c.args.words.now)) _ _ _ _ _ _ _ _ c.command-outcome.result _ c.command-outcome.ensures.comes
+    c.report.ensures
 
 pub returns-clause-looks : goal.returns-clause-looks
 returns-clause-looks g c =
-    only_looks g.H.Disk.tells (g.C.Clients.meaning c.args.clients.now) c.args.host.now c.command.new.host _ _ _ _ (came_to c.command.result)
-    (asks (texts c.args.words.now)) c.command.ensures.comes c.command.ensures.host
+    only_looks g.H.Disk.tells (g.C.Clients.meaning c.args.clients.now) c.args.host.now c.command-outcome.new.host _ _ _ _ c.command-outcome.result
+    (asks (texts c.args.words.now)) c.command-outcome.ensures.comes c.command-outcome.ensures.host
 
 pub returns-clause-opens : goal.returns-clause-opens
 returns-clause-opens g c =
     always_opens c.runs_are_sound.ensures (g.C.Clients.meaning c.args.clients.now) (asks (texts c.args.words.now)) (g.H.Disk.tells c.args.host.now)
-    (g.H.Disk.tells c.command.new.host) c.requires.unused
+    (g.H.Disk.tells c.command-outcome.new.host) c.requires.unused
     (covers (g.C.Clients.meaning c.args.clients.now) (asks (texts c.args.words.now)) (g.H.Disk.tells c.args.host.now)
-    (g.H.Disk.tells c.command.new.host) _ _ _ _ (came_to c.command.result) c.requires.unused
-    c.command.ensures.comes)
+    (g.H.Disk.tells c.command-outcome.new.host) _ _ _ _ c.command-outcome.result c.requires.unused
+    c.command-outcome.ensures.comes)
