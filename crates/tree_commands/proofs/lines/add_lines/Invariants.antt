@@ -10,5 +10,5 @@ invariant-items l =
     string_bytes l.to
     ≡ string_bytes l.initial.to
     ++ flat_map
-        (item_line (map (id_at l.store.state.facts.held) l.thread.numbers) l.thread.parents)
-        (take l.i l.items)
+    (item_line (map (id_at l.store.state.facts.held) l.thread.numbers) l.thread.parents)
+    (take l.i l.items)
