@@ -36,7 +36,11 @@ fn text_of(rt: &impl Abort, alloc: Global, entry: &Entry) -> String {
 // has so many bytes.
 fn check(rt: &impl Abort, alloc: Global, entry: Entry, bytes: &[u8], whole: usize) {
     let names = made(rt, TwoNames::new(FIRST, SECOND));
-    same(rt, &(short_len(&entry), entry_len(&entry)), &(bytes.len(), whole));
+    same(
+        rt,
+        &(short_len(&entry), entry_len(&entry)),
+        &(bytes.len(), whole),
+    );
     match made(rt, read_short(alloc, bytes, &names)) {
         EntryFound::One(again, used) => {
             same(rt, &used, &bytes.len());
@@ -45,7 +49,11 @@ fn check(rt: &impl Abort, alloc: Global, entry: Entry, bytes: &[u8], whole: usiz
         EntryFound::BadEntry => panic!(rt; "not read"),
     }
     for cut in 0..bytes.len() {
-        same(rt, &(cut, used_in(rt, alloc, &names, &bytes[..cut])), &(cut, None));
+        same(
+            rt,
+            &(cut, used_in(rt, alloc, &names, &bytes[..cut])),
+            &(cut, None),
+        );
     }
 }
 
@@ -53,9 +61,27 @@ fn check(rt: &impl Abort, alloc: Global, entry: Entry, bytes: &[u8], whole: usiz
 fn steps_and_marks(rt: HostRuntime) {
     let alloc = rt.alloc();
     check(&rt, alloc, Entry::Contact(7), b"\x01\x07", 2);
-    check(&rt, alloc, Entry::Judged(FIRST), b"\x08\x00\x00\x00\x00", 33);
-    check(&rt, alloc, Entry::Deliver(SECOND), b"\x09\x00\x00\x00\x01", 33);
-    check(&rt, alloc, Entry::Invalid(FIRST), b"\x0a\x00\x00\x00\x00", 33);
+    check(
+        &rt,
+        alloc,
+        Entry::Judged(FIRST),
+        b"\x08\x00\x00\x00\x00",
+        33,
+    );
+    check(
+        &rt,
+        alloc,
+        Entry::Deliver(SECOND),
+        b"\x09\x00\x00\x00\x01",
+        33,
+    );
+    check(
+        &rt,
+        alloc,
+        Entry::Invalid(FIRST),
+        b"\x0a\x00\x00\x00\x00",
+        33,
+    );
     let again = b"\x0b\xff\xfe\xfd\xfc\x00\x00\x00\x01";
     check(&rt, alloc, Entry::Again(0xfffe_fdfc, SECOND), again, 37);
     let offered = b"\x0c\x00\x00\x00\x030123456789abcdef0123456789ABCDEF";
@@ -130,7 +156,13 @@ fn written(rt: HostRuntime) {
     let judged = Entry::Judged(second);
     check_written(&rt, alloc, &names, &judged, b"\x08\x00\x00\x00\x01");
     let seen = Entry::Seen(3, second);
-    check_written(&rt, alloc, &names, &seen, b"\x0d\x00\x00\x00\x03\x00\x00\x00\x01");
+    check_written(
+        &rt,
+        alloc,
+        &names,
+        &seen,
+        b"\x0d\x00\x00\x00\x03\x00\x00\x00\x01",
+    );
     let offered = Entry::Offered(3, OTHER);
     let bytes = b"\x0c\x00\x00\x00\x030123456789abcdef0123456789ABCDEF";
     check_written(&rt, alloc, &names, &offered, bytes);

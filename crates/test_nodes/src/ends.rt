@@ -56,7 +56,12 @@ type State = (u64, usize, LinkEnd);
 fn ends(rt: &impl Abort, number: usize, device: &Device<Bundle>, wanted: State) {
     let (takes, sent, end) = wanted;
     let got_sent = device.host().sent(0).len();
-    let got = (number, device.store().state().takes(0), got_sent, device.ending(0));
+    let got = (
+        number,
+        device.store().state().takes(0),
+        got_sent,
+        device.ending(0),
+    );
     same(rt, &got, &(number, takes, sent, Some(end)));
 }
 

@@ -103,6 +103,12 @@ fn look(rt: &impl Print, device: &Device<MemDisk, Pair>) {
     for number in 0..store.held() {
         compare(rt, "a pair", WHOLE, &store.fate(number), &Fate::Pending);
     }
-    compare(rt, "a pair settled", WHOLE, &store.state().is_settled(), &true);
+    compare(
+        rt,
+        "a pair settled",
+        WHOLE,
+        &store.state().is_settled(),
+        &true,
+    );
     compare(rt, "delivered of a pair", WHOLE, &store.delivered(), &0);
 }

@@ -2,7 +2,7 @@
 use Rattle.std.proofs.Common.{◌≡◌, ℕ, ◌+◌, ◌<◌, Bool, true, false, cond, List, [], ◌∷◌, ◌++◌}
 use Rattle.std.proofs.Common.{length, map, take, append-nil, Option, None, Some, get_or, slice_get}
 use Rattle.std.proofs.Common.{refl, sym, ap, ◌∙◌, subst, arith}
-use Rattle.std.specs.Prelude.{IfSome}
+use Rattle.std.specs.Prelude.{IfSome, OnOk, Result, Ok, Err}
 use Rattle.std.specs.List.{AllByRecursion, filter}
 use Rattle.std.specs.Option.{option_map}
 use Rattle.std.proofs.lemmas.List.{map-append, take_all}
@@ -121,6 +121,19 @@ module _ (clients : Meaning) (f : Facts) (group : Id) where
           sized = of.sized;
           within = all_push (λ k. k < length f.held) t.numbers n of.within at.within;
         })
+
+  -- from one tree to another: whatever messages the old one has, the new one has them with the k-th
+  -- delivered one, where it is of the group
+  abbrev pub Adds : ℕ → ThreadValue → ThreadValue → Type 0
+  Adds k old new = (ids : List Id) (id : Id) → slice_get f.delivered k ≡ Some id
+      → IsThreadOf clients f ids old → IsThreadOf clients f (with_delivered f group ids id) new
+
+  pub on_added : {T E : Type 0} (r : Result T E) (k : ℕ) (old new next : ThreadValue) → Adds k old next
+      → OnOk r (new ≡ next) → OnOk r (Adds k old new)
+  on_added (Ok _) k old new next adds made =
+      λ ids id there of. subst (λ (t : ThreadValue). IsThreadOf clients f (with_delivered f group ids id) t)
+      (sym made) (adds ids id there of)
+  on_added (Err _) k old new next adds made = made
 
   -- ---- message by message
 

@@ -3,6 +3,7 @@ use Rattle.std.proofs.Common.{◌≡◌, ℕ, ◌+◌, ◌-◌, ◌<◌, true, i
 use Rattle.std.proofs.Common.{map, take, drop, min, Option, None, Some, get_or, refl, sym, ap, ◌∙◌}
 use Rattle.std.proofs.Common.{subst, arith, is_some}
 use Rattle.std.specs.List.{Contains, flat_map}
+use Rattle.std.specs.Prelude.{OnOk, Result, Ok, Err}
 use Rattle.std.proofs.lemmas.List.{get_or-drop, get_or-take, get_or_default, length-take}
 use Rattle.std.proofs.lemmas.List.{length-map}
 use Rattle.std.proofs.Common.{◌++◌, length-drop}
@@ -95,3 +96,9 @@ pub more_line : (line : ℕ → List ℕ) (items : List ℕ) (n : ℕ) (start ol
 more_line line items n start old new within before more =
     more_lines line items n start old new within before
     (λ x e. more ∙ ap (λ (y : ℕ). old ++ line y) (get_or_from_slice_get items n x 0 e))
+
+-- what was appended is said in other words
+pub on_lines : {T E : Type 0} (r : Result T E) (old new lines text : List ℕ) → lines ≡ text
+    → OnOk r (new ≡ old ++ lines) → OnOk r (new ≡ old ++ text)
+on_lines (Ok _) old new lines text same made = made ∙ ap (λ (xs : List ℕ). old ++ xs) same
+on_lines (Err _) old new lines text same made = made

@@ -2,6 +2,7 @@
 ghost use Rattle.std.specs.Prelude.{◌≡◌, ◌+◌, ◌-◌, ◌^◌, ◌<◌, ◌≤◌, length, IfOk, IfErr, OnOk, Some};
 ghost use Rattle.std.specs.Prelude.{List, None, slice_get};
 ghost use Rattle.sync_rules.specs.Facts.{Id, group_at};
+ghost use Rattle.sync_rules.specs.Lists.{same_id};
 ghost use Rattle.sync_rules.specs.Steps.{verdict_by};
 ghost use Rattle.tree_commands.specs.Gathered.{HasKind, IsThreadOf, StandsAt, with_delivered};
 ghost use Rattle.tree_commands.specs.Trees.{delivered_in, first_of};
@@ -76,11 +77,18 @@ fn add_delivered<C: Clients>(
     store.state().show_sound();
     let n = store.delivered_at(k);
     let message = store.message(n);
-    if message.group() != *group {
+    if !is_of(message, group) {
         return Ok(());
     }
     let replied = replied_by(alloc, store, kind, message, clients)?;
     thread.add(n, replied)
+}
+
+// Whether a message is one of a group.
+fn is_of(message: &Message, group: &GroupId) -> bool
+    ensures { result ≡ same_id message.now.group group.now }
+{
+    message.group() == *group
 }
 
 // The arrival number of what a message replies to.
