@@ -30,7 +30,7 @@ pub(crate) fn compare_forest(alloc: Global, case: u32) -> Result<bool, AllocErro
 
 // What each item replies to. Some forests are flat, and some are deep.
 fn draw_forest(alloc: Global, dice: &mut Dice) -> Result<Vec<Option<u32>>, AllocError> {
-    let items = dice.below(MOST).saturating_add(1);
+    let items = (dice.below(MOST) as u32).saturating_add(1);
     let roots = dice.below(6).saturating_add(1);
     let near = dice.below(4).saturating_add(1);
     let mut parents = Vec::new(alloc);
@@ -42,14 +42,14 @@ fn draw_forest(alloc: Global, dice: &mut Dice) -> Result<Vec<Option<u32>>, Alloc
 }
 
 // What the item of this number replies to.
-fn draw_parent(dice: &mut Dice, n: u64, roots: u64, near: u64) -> Option<u32> {
+fn draw_parent(dice: &mut Dice, n: u32, roots: u64, near: u64) -> Option<u32> {
     if n == 0 || dice.one_in(roots) {
         return None;
     }
     if dice.one_in(near) {
-        return Some(n.saturating_sub(1) as u32);
+        return Some(n.saturating_sub(1));
     }
-    Some(dice.below(n) as u32)
+    Some(dice.below(u64::from(n)) as u32)
 }
 
 /// The tree of items that reply to these.

@@ -24,7 +24,9 @@ fn next_path(alloc: Global, paths: &[Path], parent: Option<u32>) -> Result<Path,
             path.extend_from_slice(above.as_slice())?;
         }
     }
-    path.push(paths.len() as u32)?;
+    // A forest has fewer items than a number may name.
+    let number = u32::try_from(paths.len()).unwrap_or(u32::MAX);
+    path.push(number)?;
     Ok(path)
 }
 
