@@ -39,7 +39,7 @@ impl TwoNames {
     }
 
     // The second id.
-    #[tactic(auto, using(sync_rules::specs::Elements::same_id_itself))]
+    #[tactic(auto, using(sync_rules::proofs::Elements::same_id_itself))]
     pub fn second(&self) -> MessageId
         ensures { is_among self.now result ≡ true }
     {
