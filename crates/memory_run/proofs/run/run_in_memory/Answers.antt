@@ -16,5 +16,6 @@ returns-clause-opens g c =
 
 pub returns-clause-ran : goal.returns-clause-ran
 returns-clause-ran g c =
-    ran_in_memory (g.C.Clients.meaning c.args.clients.now) (asks (texts c.args.words.now)) _ _ _ _ _ _ _ _ _ _ c.into_host-host.ensures.host (ap sink_told c.new-out.ensures) (ap sink_told c.new-err.ensures)
-    c.run-status.ensures.ran
+    ran_in_memory (g.C.Clients.meaning c.args.clients.now) (asks (texts c.args.words.now)) c.args.fresh c.into_host-host.result c.run-status.new.host c.args.source
+    c.run-status.new.input c.new-out.result c.run-status.new.out c.new-err.result c.run-status.new.err c.run-status.result c.into_host-host.ensures.host
+    (ap sink_told c.new-out.ensures) (ap sink_told c.new-err.ensures) c.run-status.ensures.ran
