@@ -1,7 +1,7 @@
 #!/bin/sh
 # Trees of replies. First a tree alone (bench_tree): 50,000 and 200,000 items as chains of 20,000, as a star and as replies that
 # look random; the least processor time of RUNS (5) runs, and how much faster than linear in the sum of the depths it grows, each
-# item's depth counted with the item itself; and the bytes an item. Then the command over a store of 200,000 messages, as a star
+# item's depth counted with the item itself; and the bytes an item, between 2,000,000 and 4,000,000. Then the command over a store of 200,000 messages, as a star
 # and as such replies: `tree GROUP 100000 20`, in turns with `body` of an unknown id, which loads the same store and refuses; its
 # text is compared with what is told of the same messages here. Last a chain of 20,000 messages and one of 100,000 (CHAINS).
 # The last lines are `ratio NAME VALUE`. It takes some minutes.
@@ -10,7 +10,17 @@ cd "$(dirname "$0")/.."
 (cd crates/bench_tree && rt run -- 10 100 >/dev/null)
 bsp=$PWD/crates/bsp/out/bsp
 if [ ! -x "$bsp" ]; then (cd crates/bsp && rt run -- try note d <stdin >/dev/null); fi
-exec env PYTHONPATH=bench:oracle PYTHONDONTWRITEBYTECODE=1 python3 - "$bsp" "${RUNS:-5}" "${CHAINS:-20000 100000}" <<'PY'
+export PYTHONPATH=bench:oracle PYTHONDONTWRITEBYTECODE=1
+# The memory of a child counts from what its parent had when it was made, so it is measured from a small process, and between two
+# trees that are both greater than that one.
+python3 - <<'PY'
+from measure import run
+
+tree, few, many = 'crates/bench_tree/out/bench_tree', 2_000_000, 4_000_000
+least, most = (run(tree, 'star', str(count)).memory for count in (few, many))
+print(f'ratio tree_bytes_an_item {(most - least) / (many - few):.1f}', flush=True)
+PY
+exec python3 - "$bsp" "${RUNS:-5}" "${CHAINS:-20000 100000}" <<'PY'
 import os, struct, sys, tempfile
 
 from digests import group_id, message_id
@@ -74,10 +84,9 @@ def adds(shape, count):
 ratios = []
 for shape in ('chains', 'star', 'random'):
     (few, few_steps), (many, steps), (one, _) = adds(shape, FEW), adds(shape, MANY), adds(shape, 1)
-    (short, _), (long, memory), (start, empty) = least(runs, few, many, one)
+    (short, _), (long, _), (start, _) = least(runs, few, many, one)
     growth = (long - start) / max(short - start, 0.001) / (steps / few_steps)
-    print(f'{shape}: {FEW} in {short:.3f} s, {MANY} in {long:.3f} s, growth over the sum of depths {growth:.3f}, '
-          f'{(memory - empty) / MANY:.0f} bytes an item', flush=True)
+    print(f'{shape}: {FEW} in {short:.3f} s, {MANY} in {long:.3f} s, growth over the sum of depths {growth:.3f}', flush=True)
     ratios.append(f'ratio tree_add_{shape} {growth:.3f}')
 
 
@@ -115,8 +124,8 @@ def window(shape, count, place, name):
             file.write(replies.file)
         told = replies.text(place, COUNT)
         words = (bsp, 'tree', GROUP.hex(), str(place), str(COUNT))
-        (shown, memory), (load, held) = least(runs, lambda: run(*words, folder=folder, want=told), lambda: refuses(folder))
-        print(f'{name}: {count} messages, load {load:.3f} s, tree {shown:.3f} s, {max(0, memory - held) / count:.0f} bytes a message beside the load', flush=True)
+        (shown, _), (load, _) = least(runs, lambda: run(*words, folder=folder, want=told), lambda: refuses(folder))
+        print(f'{name}: {count} messages, load {load:.3f} s, tree {shown:.3f} s', flush=True)
         return f'ratio tree_{name} {shown / load:.3f}'
 
 
