@@ -1,10 +1,10 @@
 #!/bin/sh
 # Trees of replies. First a tree alone (bench_tree): 50,000 and 200,000 items as chains of 20,000, as a star and as replies that
 # look random; the least processor time of RUNS (5) runs, and how much faster than linear in the sum of the depths it grows, each
-# item's depth counted with the item itself; and the bytes an item, between 2,000,000 and 4,000,000. Then the command over a store of 200,000 messages, as a star
-# and as such replies: `tree GROUP 100000 20`, in turns with `body` of an unknown id, which loads the same store and refuses; its
-# text is compared with what is told of the same messages here. Last a chain of 20,000 messages and one of 100,000 (CHAINS).
-# The last lines are `ratio NAME VALUE`. It takes some minutes.
+# item's depth counted with the item itself; and the bytes an item, between 2,000,000 and 4,000,000. Then the command over a store
+# of 200,000 messages, as a star and as such replies: `tree GROUP 100000 20`, in turns with `body` of an unknown id, which loads
+# the same store and refuses; its text is compared with what is told of the same messages here. Last a chain of 20,000 messages
+# and one of 100,000 (CHAINS). The last lines are `ratio NAME VALUE`. It takes some minutes.
 set -eu
 cd "$(dirname "$0")/.."
 (cd crates/bench_tree && rt run -- 10 100 >/dev/null)
