@@ -10,6 +10,7 @@ use Rattle.sync_rules.specs.declared.entries.Entry.TheVariants as entry
 use Rattle.sync_rules.specs.declared.entries.Out.{Out}
 use Rattle.sync_rules.specs.declared.entries.Out.TheVariants as out
 use Rattle.entry_codec.specs.declared.lengths.TheConstants.{MAX_SPELLING}
+use Rattle.entry_codec.specs.declared.naming.Format.{Format}
 use Rattle.entry_codec.specs.declared.naming.Format.TheVariants as format
 use Rattle.entry_codec.specs.Naming.{held_bytes, number_or, place_in}
 use Rattle.entry_codec.specs.Spelling.{EntryNames, IsEntry, IsId, IsNonce, IsOut, OutNames, counted, def_bytes, ids_bytes, message_bytes, named_count, nonce_bytes, out_bytes, out_count, spelling, spelling_in, whole}
@@ -166,3 +167,34 @@ short_some names (entry.Offered s id) = omega arith
 short_some names (entry.Seen s id) = omega arith
 short_some names (entry.Asked s id) = omega arith
 short_some names (entry.Out s now what) = omega arith
+
+-- how long a spelling is does not depend on the names
+same_out : (names : List (List ℕ)) (o : Out) → length (out_bytes (held_bytes format.Short names) o) ≡ length (out_bytes (held_bytes format.Short []) o)
+same_out names (out.Acks ids) = omega (arith, short_ids names ids, short_ids [] ids)
+same_out names (out.Requests ids) = refl
+same_out names (out.Offers ids) = omega (arith, short_ids names ids, short_ids [] ids)
+same_out names (out.Send id) = refl
+
+pub same_short : (names : List (List ℕ)) (e : Entry) → length (spelling_in format.Short names e) ≡ length (spelling_in format.Short [] e)
+unfolding spelling_in
+same_short names (entry.Contact c) = refl
+same_short names (entry.Group def) = refl
+same_short names (entry.Level c g l) = refl
+same_short names (entry.Session s) = refl
+same_short names (entry.Take s k) = refl
+same_short names (entry.Author m) = refl
+same_short names (entry.Arrive s m) = refl
+same_short names (entry.Judged id) = refl
+same_short names (entry.Deliver id) = refl
+same_short names (entry.Invalid id) = refl
+same_short names (entry.Again s id) = refl
+same_short names (entry.Offered s id) = refl
+same_short names (entry.Seen s id) = refl
+same_short names (entry.Asked s id) = refl
+same_short names (entry.Out s now what) = omega (arith, same_out names what)
+
+-- a spelling has two bytes or more
+pub spelled_some : (f : Format) (names : List (List ℕ)) (e : Entry) → IsEntry e → 2 ≤ length (spelling_in f names e)
+unfolding spelling spelling_in
+spelled_some format.Whole names e is = (short e is).0
+spelled_some format.Short names e is = short_some names e

@@ -13,11 +13,13 @@ use Rattle.sync_rules.specs.Allows.{allows}
 use Rattle.outside.specs.declared.limits.TheConstants.{MAX_FRAME, MAX_JOURNAL}
 use Rattle.outside.specs.Files.{Two, file_of}
 use Rattle.outside.specs.Frames.{Frame, HasFrames, IsPayload, broken, closed, format_in, frame_at, frame_of, framed, is_broken, is_open, journal_file, size_at}
+use Rattle.entry_codec.specs.declared.naming.Format.{Format}
+use Rattle.entry_codec.specs.Naming.{format_of}
 use Rattle.entry_codec.specs.Spelling.{IsEntry}
 use Rattle.entry_codec.specs.Payloads.{batch_of, payload, payloads}
 use Rattle.sync_rules.proofs.Continuing.{legal-push}
 use Rattle.entry_codec.proofs.Growing.{all_push, frames_push, length_frame, payloads_push}
-use Rattle.entry_codec.specs.Standing.{Standing, damaged, frames_from, journal, no_store, read_on, rest_from, room_of, stands, stands_in, taken_on}
+use Rattle.entry_codec.specs.Standing.{Standing, damaged, frames_from, journal, no_store, read_in, read_on, rest_from, room_of, stands, stands_in, taken_on}
 use Rattle.entry_codec.specs.Fronts.{FitsFile, Front}
 
 past_end : (bytes : List ℕ) (place : ℕ) → length bytes ≤ place → frame_at bytes place ≡ broken
@@ -53,28 +55,28 @@ same_taken clients file f g place done None same = refl
 same_taken clients file f g place done (Some batch) same =
     ap (λ s. cond (allows clients (facts done) batch) s (damaged file place)) (same (done ++ batch ∷ []))
 
-same_on : (clients : Meaning) (file : ℕ) (f g : ℕ → List (List Entry) → Standing) (place : ℕ) (done : List (List Entry)) (frame : Frame)
+same_on : (clients : Meaning) (format : Format) (file : ℕ) (f g : ℕ → List (List Entry) → Standing) (place : ℕ) (done : List (List Entry)) (frame : Frame)
     → ((to : List ℕ) (d : List (List Entry)) → f (place + 5 + length to) d ≡ g (place + 5 + length to) d)
-    → read_on clients file f place done frame ≡ read_on clients file g place done frame
-same_on clients file f g place done closed same = refl
-same_on clients file f g place done broken same = refl
-same_on clients file f g place done (framed to) same =
-    same_taken clients file (f (place + 5 + length to)) (g (place + 5 + length to)) place done (batch_of (facts done) to) (same to)
+    → read_on clients format file f place done frame ≡ read_on clients format file g place done frame
+same_on clients format file f g place done closed same = refl
+same_on clients format file f g place done broken same = refl
+same_on clients format file f g place done (framed to) same =
+    same_taken clients file (f (place + 5 + length to)) (g (place + 5 + length to)) place done (batch_of format (facts done) to) (same to)
 
 -- more frames than there can be are not asked for
-more_frames : (clients : Meaning) (file n : ℕ) (bytes : List ℕ) (place : ℕ) (done : List (List Entry)) → length bytes < n + place
-    → frames_from clients file (suc n) bytes place done ≡ frames_from clients file n bytes place done
+more_frames : (clients : Meaning) (format : Format) (file n : ℕ) (bytes : List ℕ) (place : ℕ) (done : List (List Entry)) → length bytes < n + place
+    → frames_from clients format file (suc n) bytes place done ≡ frames_from clients format file n bytes place done
 unfolding frames_from
-more_frames clients file zero bytes place done enough =
-    ap (read_on clients file (frames_from clients file zero bytes) place done) (past_end bytes place (omega arith))
-more_frames clients file (suc n) bytes place done enough =
-    same_on clients file (frames_from clients file (suc n) bytes) (frames_from clients file n bytes) place done (frame_at bytes place)
-    (λ to d. more_frames clients file n bytes (place + 5 + length to) d (omega arith))
+more_frames clients format file zero bytes place done enough =
+    ap (read_on clients format file (frames_from clients format file zero bytes) place done) (past_end bytes place (omega arith))
+more_frames clients format file (suc n) bytes place done enough =
+    same_on clients format file (frames_from clients format file (suc n) bytes) (frames_from clients format file n bytes) place done (frame_at bytes place)
+    (λ to d. more_frames clients format file n bytes (place + 5 + length to) d (omega arith))
 
-pub rest_once : (clients : Meaning) (file : ℕ) (bytes : List ℕ) (place : ℕ) (done : List (List Entry)) → 1 ≤ place
-    → rest_from clients file bytes place done ≡ read_on clients file (rest_from clients file bytes) place done (frame_at bytes place)
+pub rest_once : (clients : Meaning) (format : Format) (file : ℕ) (bytes : List ℕ) (place : ℕ) (done : List (List Entry)) → 1 ≤ place
+    → rest_from clients format file bytes place done ≡ read_on clients format file (rest_from clients format file bytes) place done (frame_at bytes place)
 unfolding frames_from
-rest_once clients file bytes place done some = sym (more_frames clients file (length bytes) bytes place done (omega arith))
+rest_once clients format file bytes place done some = sym (more_frames clients format file (length bytes) bytes place done (omega arith))
 
 open_long : (bytes : List ℕ) → is_open bytes ≡ true → 14 ≤ length bytes
 open_long bytes e =
@@ -106,21 +108,22 @@ unfolding stands
 front_none clients files e = ap (stands_in clients files) e
 
 -- the journal's file has another format
-pub front_format : (clients : Meaning) (files : Two (List ℕ)) (file : ℕ) → journal_file files ≡ Some file → format_in (file_of files file) ≢ 1 → stands clients files ≡ damaged file 5
+pub front_format : (clients : Meaning) (files : Two (List ℕ)) (file : ℕ) → journal_file files ≡ Some file → format_of (format_in (file_of files file)) ≡ None
+    → stands clients files ≡ damaged file 5
 unfolding stands
-front_format clients files file e other =
-    ap (stands_in clients files) e ∙ cond-false (format_in (file_of files file) == 1) _ _ (ne_eqb (format_in (file_of files file)) 1 other)
+front_format clients files file e other = ap (stands_in clients files) e ∙ ap (read_in clients file (file_of files file)) other
 
 -- the first gate
-pub front_start : (clients : Meaning) (files : Two (List ℕ)) (file : ℕ) → journal_file files ≡ Some file → format_in (file_of files file) ≡ 1 → Front clients files file [] 15
+pub front_start : (clients : Meaning) (files : Two (List ℕ)) (file : ℕ) (format : Format) → journal_file files ≡ Some file
+    → format_of (format_in (file_of files file)) ≡ Some format → Front clients files file format [] 15
 unfolding stands
-front_start clients files file e format =
+front_start clients files file format e known =
     let bytes = file_of files file in
     let header : take 14 bytes ++ [] ≡ take 14 bytes = append-nil (take 14 bytes) in
     record {
       found = e;
-      format_is = format;
-      going = ap (stands_in clients files) e ∙ cond-true (format_in bytes == 1) _ _ (eq-eqb (format_in bytes) 1 format);
+      format_is = known;
+      going = ap (stands_in clients files) e ∙ ap (read_in clients file bytes) known;
       legal = tt;
       within = tt;
       long = length-take-le 14 bytes (open_long bytes (found_open files file e));
@@ -129,56 +132,56 @@ front_start clients files file e format =
       end_is = refl;
     }
 
-some_end : (clients : Meaning) (files : Two (List ℕ)) (file : ℕ) (done : List (List Entry)) (end : ℕ) → Front clients files file done end → 15 ≤ end
-some_end clients files file done end front = omega (arith, front.end_is)
+some_end : (clients : Meaning) (files : Two (List ℕ)) (file : ℕ) (format : Format) (done : List (List Entry)) (end : ℕ) → Front clients files file format done end → 15 ≤ end
+some_end clients files file format done end front = omega (arith, front.end_is)
 
 -- what the files stand for, by the frame at the gate
-pub front_once : (clients : Meaning) (files : Two (List ℕ)) (file : ℕ) (done : List (List Entry)) (end : ℕ) (frame : Frame) → Front clients files file done end
-    → frame_at (file_of files file) (end - 1) ≡ frame → stands clients files ≡ read_on clients file (rest_from clients file (file_of files file)) (end - 1) done frame
-front_once clients files file done end frame front e =
-    let far = some_end clients files file done end front in
-    front.going ∙ rest_once clients file (file_of files file) (end - 1) done (omega arith)
-    ∙ ap (read_on clients file (rest_from clients file (file_of files file)) (end - 1) done) e
+pub front_once : (clients : Meaning) (files : Two (List ℕ)) (file : ℕ) (format : Format) (done : List (List Entry)) (end : ℕ) (frame : Frame) → Front clients files file format done end
+    → frame_at (file_of files file) (end - 1) ≡ frame → stands clients files ≡ read_on clients format file (rest_from clients format file (file_of files file)) (end - 1) done frame
+front_once clients files file format done end frame front e =
+    let far = some_end clients files file format done end front in
+    front.going ∙ rest_once clients format file (file_of files file) (end - 1) done (omega arith)
+    ∙ ap (read_on clients format file (rest_from clients format file (file_of files file)) (end - 1) done) e
 
 -- no gate or no whole frame stands there
-pub front_broken : (clients : Meaning) (files : Two (List ℕ)) (file : ℕ) (done : List (List Entry)) (end : ℕ) → Front clients files file done end
+pub front_broken : (clients : Meaning) (files : Two (List ℕ)) (file : ℕ) (format : Format) (done : List (List Entry)) (end : ℕ) → Front clients files file format done end
     → frame_at (file_of files file) (end - 1) ≡ broken → stands clients files ≡ damaged file (end - 1)
-front_broken clients files file done end front e = front_once clients files file done end broken front e
+front_broken clients files file format done end front e = front_once clients files file format done end broken front e
 
 -- the payload is no batch
-pub front_unread : (clients : Meaning) (files : Two (List ℕ)) (file : ℕ) (done : List (List Entry)) (end : ℕ) (to : List ℕ) → Front clients files file done end
-    → frame_at (file_of files file) (end - 1) ≡ framed to → batch_of (facts done) to ≡ None → stands clients files ≡ damaged file (end - 1)
-front_unread clients files file done end to front e none =
-    front_once clients files file done end (framed to) front e
-    ∙ ap (taken_on clients file (rest_from clients file (file_of files file) (end - 1 + 5 + length to)) (end - 1) done) none
+pub front_unread : (clients : Meaning) (files : Two (List ℕ)) (file : ℕ) (format : Format) (done : List (List Entry)) (end : ℕ) (to : List ℕ) → Front clients files file format done end
+    → frame_at (file_of files file) (end - 1) ≡ framed to → batch_of format (facts done) to ≡ None → stands clients files ≡ damaged file (end - 1)
+front_unread clients files file format done end to front e none =
+    front_once clients files file format done end (framed to) front e
+    ∙ ap (taken_on clients file (rest_from clients format file (file_of files file) (end - 1 + 5 + length to)) (end - 1) done) none
 
 -- the batch is not allowed
-pub front_refused : (clients : Meaning) (files : Two (List ℕ)) (file : ℕ) (done : List (List Entry)) (end : ℕ) (to : List ℕ) (batch : List Entry) → Front clients files file done end
-    → frame_at (file_of files file) (end - 1) ≡ framed to → batch_of (facts done) to ≡ Some batch → allows clients (facts done) batch ≡ false → stands clients files ≡ damaged file (end - 1)
-front_refused clients files file done end to batch front e some refused =
-    front_once clients files file done end (framed to) front e
-    ∙ ap (taken_on clients file (rest_from clients file (file_of files file) (end - 1 + 5 + length to)) (end - 1) done) some
+pub front_refused : (clients : Meaning) (files : Two (List ℕ)) (file : ℕ) (format : Format) (done : List (List Entry)) (end : ℕ) (to : List ℕ) (batch : List Entry) → Front clients files file format done end
+    → frame_at (file_of files file) (end - 1) ≡ framed to → batch_of format (facts done) to ≡ Some batch → allows clients (facts done) batch ≡ false → stands clients files ≡ damaged file (end - 1)
+front_refused clients files file format done end to batch front e some refused =
+    front_once clients files file format done end (framed to) front e
+    ∙ ap (taken_on clients file (rest_from clients format file (file_of files file) (end - 1 + 5 + length to)) (end - 1) done) some
     ∙ cond-false (allows clients (facts done) batch) _ _ refused
 
-closed_at : (clients : Meaning) (files : Two (List ℕ)) (file : ℕ) (done : List (List Entry)) (end : ℕ) (t : Bool) → Front clients files file done end
-    → frame_at (file_of files file) (end - 1) ≡ closed → nat_le (end + room_of (facts done)) MAX_JOURNAL ≡ t → stands clients files ≡ cond t (journal done) (damaged file (end - 1))
-closed_at clients files file done end t front e sum =
-    let far = some_end clients files file done end front in
-    let same : end - 1 + 1 + room_of (facts done) ≡ end + room_of (facts done) = omega arith in
-    front_once clients files file done end closed front e
+closed_at : (clients : Meaning) (files : Two (List ℕ)) (file : ℕ) (format : Format) (done : List (List Entry)) (end : ℕ) (t : Bool) → Front clients files file format done end
+    → frame_at (file_of files file) (end - 1) ≡ closed → nat_le (end + room_of format (facts done)) MAX_JOURNAL ≡ t → stands clients files ≡ cond t (journal done) (damaged file (end - 1))
+closed_at clients files file format done end t front e sum =
+    let far = some_end clients files file format done end front in
+    let same : end - 1 + 1 + room_of format (facts done) ≡ end + room_of format (facts done) = omega arith in
+    front_once clients files file format done end closed front e
     ∙ ap (λ (b : Bool). cond b (journal done) (damaged file (end - 1))) (ap (λ (n : ℕ). nat_le n MAX_JOURNAL) same ∙ sum)
 
 -- the journal ends there
-pub front_closed : (clients : Meaning) (files : Two (List ℕ)) (file : ℕ) (done : List (List Entry)) (end : ℕ) → Front clients files file done end
-    → frame_at (file_of files file) (end - 1) ≡ closed → end + room_of (facts done) ≤ MAX_JOURNAL → stands clients files ≡ journal done
-front_closed clients files file done end front e fits =
-    closed_at clients files file done end true front e (le-leb (end + room_of (facts done)) MAX_JOURNAL fits)
+pub front_closed : (clients : Meaning) (files : Two (List ℕ)) (file : ℕ) (format : Format) (done : List (List Entry)) (end : ℕ) → Front clients files file format done end
+    → frame_at (file_of files file) (end - 1) ≡ closed → end + room_of format (facts done) ≤ MAX_JOURNAL → stands clients files ≡ journal done
+front_closed clients files file format done end front e fits =
+    closed_at clients files file format done end true front e (le-leb (end + room_of format (facts done)) MAX_JOURNAL fits)
 
 -- its room is not left
-pub front_full : (clients : Meaning) (files : Two (List ℕ)) (file : ℕ) (done : List (List Entry)) (end : ℕ) → Front clients files file done end
-    → frame_at (file_of files file) (end - 1) ≡ closed → MAX_JOURNAL < end + room_of (facts done) → stands clients files ≡ damaged file (end - 1)
-front_full clients files file done end front e over =
-    closed_at clients files file done end false front e (lt-leb (end + room_of (facts done)) MAX_JOURNAL over)
+pub front_full : (clients : Meaning) (files : Two (List ℕ)) (file : ℕ) (format : Format) (done : List (List Entry)) (end : ℕ) → Front clients files file format done end
+    → frame_at (file_of files file) (end - 1) ≡ closed → MAX_JOURNAL < end + room_of format (facts done) → stands clients files ≡ damaged file (end - 1)
+front_full clients files file format done end front e over =
+    closed_at clients files file format done end false front e (lt-leb (end + room_of format (facts done)) MAX_JOURNAL over)
 
 -- the first of two answers
 first_of_two : {A : Type 0} (t : Bool) (x y z : A) → (y ≡ z → ⊥) → cond t x y ≡ z → t ≡ true
@@ -196,47 +199,47 @@ closed_gate bytes place e =
     (leb-false (length bytes) place inside.0, eqb-false (slice_index bytes place) 1 (not-true (slice_index bytes place == 1) gate))
 
 -- the frames of a journal that is read to its end
-pub front_frames : (clients : Meaning) (files : Two (List ℕ)) (file : ℕ) (done : List (List Entry)) (end : ℕ) → Front clients files file done end
-    → frame_at (file_of files file) (end - 1) ≡ closed → HasFrames (file_of files file) (take 14 (file_of files file)) (payloads nothing done)
-front_frames clients files file done end front e =
+pub front_frames : (clients : Meaning) (files : Two (List ℕ)) (file : ℕ) (format : Format) (done : List (List Entry)) (end : ℕ) → Front clients files file format done end
+    → frame_at (file_of files file) (end - 1) ≡ closed → HasFrames (file_of files file) (take 14 (file_of files file)) (payloads format nothing done)
+front_frames clients files file format done end front e =
     let bytes = file_of files file in
     let gate = closed_gate bytes (end - 1) e in
     record {
       gate = slice_index bytes (end - 1);
       rest = drop (suc (end - 1)) bytes;
-      whole = front.whole ∙ ap (λ (l : List ℕ). take 14 bytes ++ flat_map frame_of (payloads nothing done) ++ l) (drop-cons bytes (end - 1) 0 gate.0);
+      whole = front.whole ∙ ap (λ (l : List ℕ). take 14 bytes ++ flat_map frame_of (payloads format nothing done) ++ l) (drop-cons bytes (end - 1) 0 gate.0);
       closed = gate.1;
       long = front.long;
       payloads_fit = front.payloads_fit;
     }
 
 -- one frame more
-pub front_more : (clients : Meaning) (files : Two (List ℕ)) (file : ℕ) (done : List (List Entry)) (end : ℕ) (to behind : List ℕ) (batch : List Entry) → Front clients files file done end
+pub front_more : (clients : Meaning) (files : Two (List ℕ)) (file : ℕ) (format : Format) (done : List (List Entry)) (end : ℕ) (to behind : List ℕ) (batch : List Entry) → Front clients files file format done end
     → frame_at (file_of files file) (end - 1) ≡ framed to → drop (end - 1) (file_of files file) ≡ frame_of to ++ behind
-    → batch_of (facts done) to ≡ Some batch → to ≡ payload (facts done) batch → AllByRecursion IsEntry batch
+    → batch_of format (facts done) to ≡ Some batch → to ≡ payload format (facts done) batch → AllByRecursion IsEntry batch
     → allows clients (facts done) batch ≡ true → Allowed clients (facts done) batch
-    → Front clients files file (done ++ batch ∷ []) (end + 5 + length to)
-front_more clients files file done end to behind batch front e spelled some is within granted allowed =
+    → Front clients files file format (done ++ batch ∷ []) (end + 5 + length to)
+front_more clients files file format done end to behind batch front e spelled some is within granted allowed =
     let bytes = file_of files file in
     let header = take 14 bytes in
-    let before = flat_map frame_of (payloads nothing done) in
+    let before = flat_map frame_of (payloads format nothing done) in
     let after = drop (end + 5 + length to - 1) bytes in
-    let far = some_end clients files file done end front in
-    let grown = frames_push done batch to is in
+    let far = some_end clients files file format done end front in
+    let grown = frames_push format done batch to is in
     let left : after ≡ behind =
     ap (λ (n : ℕ). drop n bytes) (omega (arith, length_frame to)) ∙ sym (drop-drop (length (frame_of to)) (end - 1) bytes)
     ∙ ap (drop (length (frame_of to))) spelled ∙ drop_at (frame_of to) behind (length (frame_of to)) refl in
     let fits = framed_fits bytes (end - 1) to e in
     let Fits : List ℕ → Type 0 = λ p. IsPayload p in
-    let payload_fits : IsPayload (payload (facts done) batch) = subst Fits is (fits.some, fits.few) in
+    let payload_fits : IsPayload (payload format (facts done) batch) = subst Fits is (fits.some, fits.few) in
     record {
       found = front.found;
       format_is = front.format_is;
       going =
-          front_once clients files file done end (framed to) front e
-          ∙ ap (taken_on clients file (rest_from clients file bytes (end - 1 + 5 + length to)) (end - 1) done) some
+          front_once clients files file format done end (framed to) front e
+          ∙ ap (taken_on clients file (rest_from clients format file bytes (end - 1 + 5 + length to)) (end - 1) done) some
           ∙ cond-true (allows clients (facts done) batch) _ _ granted
-          ∙ ap (λ (n : ℕ). rest_from clients file bytes n (done ++ batch ∷ [])) (omega arith);
+          ∙ ap (λ (n : ℕ). rest_from clients format file bytes n (done ++ batch ∷ [])) (omega arith);
       legal = legal-push clients done batch front.legal allowed;
       within = all_push (AllByRecursion IsEntry) done batch front.within within;
       long = front.long;
@@ -245,7 +248,7 @@ front_more clients files file done end to behind batch front e spelled some is w
           ∙ sym (append_assoc (header ++ before) (frame_of to) after)
           ∙ ap (λ (l : List ℕ). l ++ after) (append_assoc header before (frame_of to) ∙ ap (λ (l : List ℕ). header ++ l) (sym grown));
       payloads_fit =
-          All-same IsPayload (payloads nothing (done ++ batch ∷ [])) (payloads nothing done ++ payload (facts done) batch ∷ []) (payloads_push nothing done batch)
-          (All-push IsPayload (payloads nothing done) (payload (facts done) batch) front.payloads_fit payload_fits);
+          All-same IsPayload (payloads format nothing (done ++ batch ∷ [])) (payloads format nothing done ++ payload format (facts done) batch ∷ []) (payloads_push format nothing done batch)
+          (All-push IsPayload (payloads format nothing done) (payload format (facts done) batch) front.payloads_fit payload_fits);
       end_is = omega (arith, front.end_is, ap length grown, length-append before (frame_of to), length_frame to);
     }

@@ -15,14 +15,22 @@ use Rattle.sync_rules.specs.Allows.{allows}
 use Rattle.outside.specs.declared.limits.TheConstants.{MAX_FRAME, MAX_JOURNAL}
 use Rattle.outside.specs.Files.{Two, file_of}
 use Rattle.outside.specs.Frames.{Frame, IsPayload, broken, closed, format_in, frame_at, frame_of, journal_file, framed, is_broken, size_at}
-use Rattle.entry_codec.specs.Spelling.{IsEntry}
-use Rattle.entry_codec.specs.Payloads.{batch_of, payload, payloads}
+use Rattle.entry_codec.specs.declared.naming.Format.{Format}
+use Rattle.entry_codec.specs.declared.naming.Format.TheVariants as kind
+use Rattle.entry_codec.specs.Naming.{IsNamed, format_of}
+use Rattle.entry_codec.specs.Spelling.{EntryNames, IsEntry}
+use Rattle.entry_codec.specs.Payloads.{batch_of, names_of, payload, payloads}
 use Rattle.entry_codec.specs.StandingLaws.{HoldsJournal}
-use Rattle.entry_codec.specs.Standing.{Standing, damaged, frames_from, journal, read_on, rest_from, room_of, stands, stands_in, taken_on}
+use Rattle.entry_codec.specs.Standing.{Standing, damaged, frames_from, journal, read_in, read_on, rest_from, room_of, stands, stands_in, taken_on}
 use Rattle.sync_rules.proofs.Continuing.{legal-push}
 use Rattle.entry_codec.proofs.Growing.{facts_push, length_frame}
 use Rattle.entry_codec.proofs.FrontLaws.{rest_once}
-use Rattle.entry_codec.proofs.BatchLaws.{batch_back}
+use Rattle.entry_codec.proofs.AllowedIds.{names_held}
+use Rattle.entry_codec.proofs.BatchLaws.{IsWritten, batch_back, both_all}
+use Rattle.entry_codec.proofs.Counts.{one_more}
+use Rattle.entry_codec.proofs.Entries.{entry_free}
+use Rattle.entry_codec.proofs.HeldNames.{WholeIds, legal_names}
+use Rattle.sync_rules.specs.Lists.{is_among}
 
 -- the test of a batch that is allowed
 abbrev pub Decided : Meaning → Type 0
@@ -70,50 +78,54 @@ some_batch clients f [] allowed = absurd allowed
 some_batch clients f (e ∷ es) allowed = omega arith
 
 -- what follows a place in a file, behind a journal of these facts: these batches, and then a closed gate
-record Follows (clients : Meaning) (bytes : List ℕ) (place : ℕ) (f : Facts) (done more : List (List Entry)) : Type 0 where
+record Follows (clients : Meaning) (format : Format) (bytes : List ℕ) (place : ℕ) (f : Facts) (done more : List (List Entry)) : Type 0 where
+  pub begun : Legal clients done
+  pub few : length f.held ≤ place
   pub same : facts done ≡ f
   pub front : List ℕ
   pub gate : ℕ
   pub rest : List ℕ
-  pub split : bytes ≡ (front ++ flat_map frame_of (payloads f more)) ++ gate ∷ rest
+  pub split : bytes ≡ (front ++ flat_map frame_of (payloads format f more)) ++ gate ∷ rest
   pub long : length front ≡ place
   pub some : 1 ≤ place
   pub shut : gate ≢ 1
-  pub payloads_fit : All IsPayload (payloads f more)
+  pub payloads_fit : All IsPayload (payloads format f more)
   pub legal : GoesOn clients f more
   pub within : AllByRecursion (AllByRecursion IsEntry) more
-  pub bounded : place + 1 + length (flat_map frame_of (payloads f more)) + room_of (facts (done ++ more)) ≤ MAX_JOURNAL
+  pub bounded : place + 1 + length (flat_map frame_of (payloads format f more)) + room_of format (facts (done ++ more)) ≤ MAX_JOURNAL
 
-ends_here : (clients : Meaning) (file : ℕ) (bytes : List ℕ) (place : ℕ) (f : Facts) (done : List (List Entry)) → Follows clients bytes place f done []
-    → rest_from clients file bytes place done ≡ journal (done ++ [])
-ends_here clients file bytes place f done h =
+ends_here : (clients : Meaning) (format : Format) (file : ℕ) (bytes : List ℕ) (place : ℕ) (f : Facts) (done : List (List Entry)) → Follows clients format bytes place f done []
+    → rest_from clients format file bytes place done ≡ journal (done ++ [])
+ends_here clients format file bytes place f done h =
     let none : done ++ [] ≡ done = append-nil done in
     let shut = closed_there bytes h.front h.rest h.gate place (h.split ∙ ap (λ (l : List ℕ). l ++ h.gate ∷ h.rest) (append-nil h.front)) h.long h.shut in
-    let room : room_of (facts (done ++ [])) ≡ room_of (facts done) = ap (λ (d : List (List Entry)). room_of (facts d)) none in
-    rest_once clients file bytes place done h.some
-    ∙ ap (read_on clients file (rest_from clients file bytes) place done) shut
-    ∙ cond-true (nat_le (place + 1 + room_of (facts done)) MAX_JOURNAL) _ _ (le-leb _ _ (omega (arith, h.bounded, room)))
+    let room : room_of format (facts (done ++ [])) ≡ room_of format (facts done) = ap (λ (d : List (List Entry)). room_of format (facts d)) none in
+    rest_once clients format file bytes place done h.some
+    ∙ ap (read_on clients format file (rest_from clients format file bytes) place done) shut
+    ∙ cond-true (nat_le (place + 1 + room_of format (facts done)) MAX_JOURNAL) _ _ (le-leb _ _ (omega (arith, h.bounded, room)))
     ∙ ap (λ (d : List (List Entry)). journal d) (sym none)
 
-first_read : (clients : Meaning) (bytes : List ℕ) (place : ℕ) (f : Facts) (done more : List (List Entry)) (b : List Entry) → Follows clients bytes place f done (b ∷ more)
-    → frame_at bytes place ≡ framed (payload f b)
-first_read clients bytes place f done more b h =
-    let p = payload f b in
-    let others = flat_map frame_of (payloads (after_all f b) more) in
+first_read : (clients : Meaning) (format : Format) (bytes : List ℕ) (place : ℕ) (f : Facts) (done more : List (List Entry)) (b : List Entry) → Follows clients format bytes place f done (b ∷ more)
+    → frame_at bytes place ≡ framed (payload format f b)
+first_read clients format bytes place f done more b h =
+    let p = payload format f b in
+    let others = flat_map frame_of (payloads format (after_all f b) more) in
     let behind = others ++ h.gate ∷ h.rest in
     let split : bytes ≡ h.front ++ (frame_of p ++ behind) =
     h.split ∙ append_assoc h.front (frame_of p ++ others) (h.gate ∷ h.rest) ∙ ap (λ (l : List ℕ). h.front ++ l) (append_assoc (frame_of p) others (h.gate ∷ h.rest)) in
-    frame_there bytes h.front p behind place split h.long (All-head IsPayload p (payloads (after_all f b) more) h.payloads_fit)
+    frame_there bytes h.front p behind place split h.long (All-head IsPayload p (payloads format (after_all f b) more) h.payloads_fit)
     (omega (arith, h.bounded, length-append (frame_of p) others, length_frame p))
 
-goes_on : (clients : Meaning) (bytes : List ℕ) (place : ℕ) (f : Facts) (done more : List (List Entry)) (b : List Entry) → Follows clients bytes place f done (b ∷ more)
-    → Follows clients bytes (place + 5 + length (payload f b)) (after_all f b) (done ++ b ∷ []) more
-goes_on clients bytes place f done more b h =
-    let p = payload f b in
-    let others = flat_map frame_of (payloads (after_all f b) more) in
+goes_on : (clients : Meaning) (format : Format) (bytes : List ℕ) (place : ℕ) (f : Facts) (done more : List (List Entry)) (b : List Entry) → Follows clients format bytes place f done (b ∷ more)
+    → Follows clients format bytes (place + 5 + length (payload format f b)) (after_all f b) (done ++ b ∷ []) more
+goes_on clients format bytes place f done more b h =
+    let p = payload format f b in
+    let others = flat_map frame_of (payloads format (after_all f b) more) in
     let same : (done ++ b ∷ []) ++ more ≡ done ++ b ∷ more = append_assoc done (b ∷ []) more in
-    let room : room_of (facts ((done ++ b ∷ []) ++ more)) ≡ room_of (facts (done ++ b ∷ more)) = ap (λ (d : List (List Entry)). room_of (facts d)) same in
+    let room : room_of format (facts ((done ++ b ∷ []) ++ more)) ≡ room_of format (facts (done ++ b ∷ more)) = ap (λ (d : List (List Entry)). room_of format (facts d)) same in
     record {
+      begun = legal-push clients done b h.begun (subst (λ (g : Facts). Allowed clients g b) (sym h.same) h.legal.0);
+      few = omega (arith, h.few, (one_more clients f b h.legal.0).0);
       same = facts_push done b ∙ ap (λ (g : Facts). after_all g b) h.same;
       front = h.front ++ frame_of p;
       gate = h.gate;
@@ -122,32 +134,54 @@ goes_on clients bytes place f done more b h =
       long = omega (arith, length-append h.front (frame_of p), h.long, length_frame p);
       some = omega (arith, h.some);
       shut = h.shut;
-      payloads_fit = All-tail IsPayload p (payloads (after_all f b) more) h.payloads_fit;
+      payloads_fit = All-tail IsPayload p (payloads format (after_all f b) more) h.payloads_fit;
       legal = h.legal.1;
       within = h.within.1;
       bounded = omega (arith, h.bounded, room, length-append (frame_of p) others, length_frame p);
     }
 
-all_read : (clients : Meaning) → Decided clients → (file : ℕ) (bytes : List ℕ) (place : ℕ) (f : Facts) (done more : List (List Entry)) → Follows clients bytes place f done more
-    → rest_from clients file bytes place done ≡ journal (done ++ more)
-all_read clients decided file bytes place f done [] h = ends_here clients file bytes place f done h
-all_read clients decided file bytes place f done (b ∷ more) h =
+-- a batch of a legal journal can be written
+written : (clients : Meaning) (format : Format) (f : Facts) (b : List Entry) → Allowed clients f b → AllByRecursion IsEntry b
+    → AllByRecursion (IsWritten format (names_of f)) b
+written clients format f b allowed within =
+    both_all IsEntry (EntryNames (IsNamed format (names_of f))) b within (named format f b (names_held clients f b allowed))
+  where
+    free : (b : List Entry) → AllByRecursion (EntryNames (λ id. Unit {0})) b
+    free [] = tt
+    free (e ∷ es) = (entry_free e, free es)
+
+    named : (format : Format) (f : Facts) (b : List Entry) → AllByRecursion (EntryNames (λ id. is_among (names_of f) id ≡ true)) b
+        → AllByRecursion (EntryNames (IsNamed format (names_of f))) b
+    named kind.Whole f b held = free b
+    named kind.Short f b held = held
+
+all_read : (clients : Meaning) → Decided clients → WholeIds → (format : Format) (file : ℕ) (bytes : List ℕ) (place : ℕ) (f : Facts) (done more : List (List Entry)) → Follows clients format bytes place f done more
+    → rest_from clients format file bytes place done ≡ journal (done ++ more)
+all_read clients decided whole format file bytes place f done [] h = ends_here clients format file bytes place f done h
+all_read clients decided whole format file bytes place f done (b ∷ more) h =
     let allowed = subst (λ (g : Facts). Allowed clients g b) (sym h.same) h.legal.0 in
-    let read : batch_of (facts done) (payload f b) ≡ Some b = batch_back b h.within.0 (some_batch clients (facts done) b allowed) in
-    rest_once clients file bytes place done h.some
-    ∙ ap (read_on clients file (rest_from clients file bytes) place done) (first_read clients bytes place f done more b h)
-    ∙ ap (taken_on clients file (rest_from clients file bytes (place + 5 + length (payload f b))) place done) read
+    let names = legal_names whole clients done h.begun (omega (arith, h.few, h.bounded, ap (λ (g : Facts). length g.held) h.same)) in
+    let spelled : payload format f b ≡ payload format (facts done) b = ap (λ (g : Facts). payload format g b) (sym h.same) in
+    let read : batch_of format (facts done) (payload format f b) ≡ Some b =
+    ap (batch_of format (facts done)) spelled
+    ∙ batch_back format (names_of (facts done)) names b (written clients format (facts done) b allowed h.within.0) (some_batch clients (facts done) b allowed) in
+    rest_once clients format file bytes place done h.some
+    ∙ ap (read_on clients format file (rest_from clients format file bytes) place done) (first_read clients format bytes place f done more b h)
+    ∙ ap (taken_on clients file (rest_from clients format file bytes (place + 5 + length (payload format f b))) place done) read
     ∙ cond-true (allows clients (facts done) b) _ _ (decided (facts done) b allowed)
-    ∙ all_read clients decided file bytes (place + 5 + length (payload f b)) (after_all f b) (done ++ b ∷ []) more (goes_on clients bytes place f done more b h)
+    ∙ all_read clients decided whole format file bytes (place + 5 + length (payload format f b)) (after_all f b) (done ++ b ∷ []) more (goes_on clients format bytes place f done more b h)
     ∙ ap (λ (d : List (List Entry)). journal d) (append_assoc done (b ∷ []) more)
 
 -- ---- the journal of two files
 
-pub stands_has : (clients : Meaning) → Decided clients → (files : Two (List ℕ)) (file : ℕ) (j : List (List Entry)) → HoldsJournal clients files file j → stands clients files ≡ journal j
+pub stands_has : (clients : Meaning) → Decided clients → WholeIds → (files : Two (List ℕ)) (file : ℕ) (format : Format) (j : List (List Entry))
+    → HoldsJournal clients files file format j → stands clients files ≡ journal j
 unfolding stands
-stands_has clients decided files file j h =
+stands_has clients decided whole files file format j h =
     let bytes = file_of files file in
-    let follows : Follows clients bytes 14 nothing [] j = record {
+    let follows : Follows clients format bytes 14 nothing [] j = record {
+      begun = tt;
+      few = omega arith;
       same = refl;
       front = h.header;
       gate = h.frames.gate;
@@ -161,7 +195,7 @@ stands_has clients decided files file j h =
       within = h.within;
       bounded = omega (arith, h.bounded);
     } in
-    ap (stands_in clients files) h.found ∙ cond-true (format_in bytes == 1) _ _ (eq-eqb (format_in bytes) 1 h.format_is) ∙ all_read clients decided file bytes 14 nothing [] j follows
+    ap (stands_in clients files) h.found ∙ ap (read_in clients file bytes) h.format_is ∙ all_read clients decided whole format file bytes 14 nothing [] j follows
 
 -- ---- a journal that files stand for
 
@@ -185,28 +219,32 @@ taken_legal clients means file further place done j later (Some b) legal e =
     let same = same_cond (allows clients (facts done) b) (further (done ++ b ∷ [])) (damaged file place) (journal j) (λ h. cc) e in
     later (done ++ b ∷ []) (legal-push clients done b legal (means (facts done) b granted)) same
 
-on_legal : (clients : Meaning) → Means clients → (file : ℕ) (further : ℕ → List (List Entry) → Standing) (place : ℕ) (done j : List (List Entry))
+on_legal : (clients : Meaning) → Means clients → (format : Format) (file : ℕ) (further : ℕ → List (List Entry) → Standing) (place : ℕ) (done j : List (List Entry))
     → ((next : ℕ) (d : List (List Entry)) → Legal clients d → further next d ≡ journal j → Legal clients j)
-    → (frame : Frame) → Legal clients done → read_on clients file further place done frame ≡ journal j → Legal clients j
-on_legal clients means file further place done j later closed legal e =
-    let same = same_cond (nat_le (place + 1 + room_of (facts done)) MAX_JOURNAL) (journal done) (damaged file place) (journal j) (λ h. cc) e in
+    → (frame : Frame) → Legal clients done → read_on clients format file further place done frame ≡ journal j → Legal clients j
+on_legal clients means format file further place done j later closed legal e =
+    let same = same_cond (nat_le (place + 1 + room_of format (facts done)) MAX_JOURNAL) (journal done) (damaged file place) (journal j) (λ h. cc) e in
     subst (λ (d : List (List Entry)). Legal clients d) (journal_is done j same) legal
-on_legal clients means file further place done j later broken legal e = absurd cc
-on_legal clients means file further place done j later (framed to) legal e =
-    taken_legal clients means file (further (place + 5 + length to)) place done j (later (place + 5 + length to)) (batch_of (facts done) to) legal e
+on_legal clients means format file further place done j later broken legal e = absurd cc
+on_legal clients means format file further place done j later (framed to) legal e =
+    taken_legal clients means file (further (place + 5 + length to)) place done j (later (place + 5 + length to)) (batch_of format (facts done) to) legal e
 
-frames_legal : (clients : Meaning) → Means clients → (file n : ℕ) (bytes : List ℕ) (place : ℕ) (done j : List (List Entry)) → Legal clients done
-    → frames_from clients file n bytes place done ≡ journal j → Legal clients j
+frames_legal : (clients : Meaning) → Means clients → (format : Format) (file n : ℕ) (bytes : List ℕ) (place : ℕ) (done j : List (List Entry)) → Legal clients done
+    → frames_from clients format file n bytes place done ≡ journal j → Legal clients j
 unfolding frames_from
-frames_legal clients means file zero bytes place done j legal e = absurd cc
-frames_legal clients means file (suc n) bytes place done j legal e =
-    on_legal clients means file (frames_from clients file n bytes) place done j (λ next d l h. frames_legal clients means file n bytes next d j l h) (frame_at bytes place) legal e
+frames_legal clients means format file zero bytes place done j legal e = absurd cc
+frames_legal clients means format file (suc n) bytes place done j legal e =
+    on_legal clients means format file (frames_from clients format file n bytes) place done j (λ next d l h. frames_legal clients means format file n bytes next d j l h) (frame_at bytes place) legal e
+
+read_legal : (clients : Meaning) → Means clients → (file : ℕ) (bytes : List ℕ) (j : List (List Entry)) (o : Option Format)
+    → read_in clients file bytes o ≡ journal j → Legal clients j
+read_legal clients means file bytes j None e = absurd cc
+read_legal clients means file bytes j (Some format) e = frames_legal clients means format file (length bytes) bytes 14 [] j tt e
 
 in_legal : (clients : Meaning) → Means clients → (files : Two (List ℕ)) (j : List (List Entry)) (o : Option ℕ) → stands_in clients files o ≡ journal j → Legal clients j
 in_legal clients means files j None e = absurd cc
 in_legal clients means files j (Some file) e =
-    let same = same_cond (format_in (file_of files file) == 1) (rest_from clients file (file_of files file) 14 []) (damaged file 5) (journal j) (λ h. cc) e in
-    frames_legal clients means file (length (file_of files file)) (file_of files file) 14 [] j tt same
+    read_legal clients means file (file_of files file) j (format_of (format_in (file_of files file))) e
 
 pub stands_legal : (clients : Meaning) → Means clients → (files : Two (List ℕ)) (j : List (List Entry)) → stands clients files ≡ journal j → Legal clients j
 unfolding stands

@@ -1,7 +1,7 @@
 -- What holds of all spellings.
 use Rattle.std.proofs.Common.{◌≡◌, ℕ, ◌+◌, ◌≤◌, List, [], ◌∷◌, ◌++◌, length, take, drop, refl, sym, ap, ◌∙◌, arith, length-append}
 use Rattle.std.specs.Prelude.{Some, None}
-use Rattle.std.specs.List.{AllByRecursion, flat_map}
+use Rattle.std.specs.List.{AllByRecursion}
 use Rattle.std.proofs.lemmas.List.{append-nil, length-take-le, take_at, take-append-drop}
 use Rattle.sync_rules.specs.declared.entries.Entry.{Entry}
 use Rattle.entry_codec.specs.declared.lengths.TheConstants.{MAX_SPELLING}
@@ -15,7 +15,7 @@ use Rattle.entry_codec.specs.Laws.{IsReadIn}
 use Rattle.entry_codec.specs.declared.reading.EntryFound.{EntryFound}
 use Rattle.entry_codec.specs.declared.reading.EntryFound.TheVariants as found
 use Rattle.entry_codec.proofs.Entries.{entry_reads}
-use Rattle.entry_codec.proofs.Bounds.{ids_whole, saved, short, short_some}
+use Rattle.entry_codec.proofs.Bounds.{ids_whole, same_short, saved, short, short_some}
 use Rattle.entry_codec.proofs.Places.{held_reads}
 use Rattle.entry_codec.proofs.Readers.{IsBytes, IsReader, part, part_is}
 
@@ -26,7 +26,7 @@ empty (x ∷ xs) none = absurd (omega arith)
 -- ---- in a format, where these are the ids held
 
 module _ (f : Format) (names : List (List ℕ)) (are : AreNames names) where
-  reads : IsReader (entry_bytes (held_bytes f names)) (λ e. IsEntry e × EntryNames (IsNamed f names) e) (entry_by (held_in f names))
+  pub reads : IsReader (entry_bytes (held_bytes f names)) (λ e. IsEntry e × EntryNames (IsNamed f names) e) (entry_by (held_in f names))
   reads = entry_reads (held_bytes f names) (IsNamed f names) (held_in f names) (held_reads f names are)
 
   spelled_read : (e : Entry) (bytes more : List ℕ) → SpellsIn f names e bytes → entry_by (held_in f names) (bytes ++ more) ≡ Some (e, more)
@@ -89,14 +89,31 @@ pub not_longer : (names : List (List ℕ)) (e : Entry) → IsEntry e
     → (2 ≤ length (spelling_in format.Short names e)) × (length (spelling_in format.Short names e) ≤ length (spelling e))
 not_longer names e is = (short_some names e, omega (arith, saved names e (ids_whole e is)))
 
-pub batch_not_longer : (names : List (List ℕ)) (batch : List Entry) → AllByRecursion IsEntry batch
-    → length (flat_map (spelling_in format.Short names) batch) ≤ payload_len batch
-batch_not_longer names [] all = omega arith
-batch_not_longer names (e ∷ es) all =
+-- the length of a spelling does not depend on the names
+pub spelled_len : (f : Format) (names : List (List ℕ)) (e : Entry) → length (spelling_in f names e) ≡ length (spelling_in f [] e)
+unfolding spelling_in
+spelled_len format.Whole names e = refl
+spelled_len format.Short names e = same_short names e
+
+pub batch_len_same : (f : Format) (names : List (List ℕ)) (batch : List Entry) → length (spellings f names batch) ≡ payload_len f batch
+batch_len_same f names [] = refl
+batch_len_same f names (e ∷ es) =
     omega (
       arith,
-      (not_longer names e all.0).1,
-      batch_not_longer names es all.1,
-      length-append (spelling e) (spellings es),
-      length-append (spelling_in format.Short names e) (flat_map (spelling_in format.Short names) es),
+      length-append (spelling_in f names e) (spellings f names es),
+      length-append (spelling_in f [] e) (spellings f [] es),
+      spelled_len f names e,
+      batch_len_same f names es,
+    )
+
+pub batch_not_longer : (batch : List Entry) → AllByRecursion IsEntry batch → payload_len format.Short batch ≤ payload_len format.Whole batch
+unfolding spelling spelling_in
+batch_not_longer [] all = omega arith
+batch_not_longer (e ∷ es) all =
+    omega (
+      arith,
+      (not_longer [] e all.0).1,
+      batch_not_longer es all.1,
+      length-append (spelling_in format.Whole [] e) (spellings format.Whole [] es),
+      length-append (spelling_in format.Short [] e) (spellings format.Short [] es),
     )

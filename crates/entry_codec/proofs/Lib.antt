@@ -3,6 +3,7 @@ pub mod Journals
 mod Latencies
 mod AllowedIds
 mod Places
+mod HeldNames
 mod OfBatches
 mod Counts
 mod TakeCounts

@@ -1,7 +1,7 @@
 -- How long the payload of a batch is that may follow a journal.
 use Rattle.std.proofs.Common.{◌≡◌, ℕ, suc, ◌+◌, ◌*◌, ◌-◌, ◌≤◌, Bool, true, false, cond, List, [], ◌∷◌, ◌++◌, length, refl, sym, ap, subst, arith, length-append}
 use Rattle.std.specs.Prelude.{Option, Some, None, is_some, not, ◌&&◌, nat_lt}
-use Rattle.std.specs.List.{AllByRecursion, list_all, list_any}
+use Rattle.std.specs.List.{AllByRecursion, flat_map, list_all, list_any}
 use Rattle.sync_ids.specs.Values.{MessageValue}
 use Rattle.sync_ids.specs.Ids.{message_id_of}
 use Rattle.sync_ids.specs.Records.{IsRecord}
@@ -19,12 +19,19 @@ use Rattle.sync_rules.specs.declared.limits.TheConstants.{MAX_WANTED}
 use Rattle.sync_rules.specs.Sessions.{is_remembered, is_shown, is_shown_held, is_welcome, one_if, room_after, taken_acks, taken_from, taken_message, taken_message_of, taken_offers, taken_requests}
 use Rattle.sync_rules.specs.Legal.{Allowed, IsSettling}
 use Rattle.entry_codec.specs.declared.lengths.TheConstants.{MAX_BATCH_LEN}
-use Rattle.entry_codec.specs.Spelling.{IsEntry, spelling}
-use Rattle.entry_codec.specs.Payloads.{payload_len, spellings}
-use Rattle.entry_codec.proofs.Bounds.{length_within, most_of}
+use Rattle.entry_codec.specs.Spelling.{IsEntry, spelling, spelling_in}
+use Rattle.entry_codec.specs.declared.naming.Format.{Format}
+use Rattle.entry_codec.specs.declared.naming.Format.TheVariants as format
+use Rattle.entry_codec.specs.Payloads.{payload_len}
+use Rattle.entry_codec.proofs.LawProofs.{batch_not_longer}
+use Rattle.entry_codec.proofs.Bounds.{length_within, most_of, spelled_some}
 
 abbrev AreEntries : List Entry → Type 0
 AreEntries es = AllByRecursion IsEntry es
+
+-- the spellings of the first format, which are the longest
+abbrev spellings : List Entry → List ℕ
+spellings es = flat_map spelling es
 
 payload_cons : (e : Entry) (es : List Entry) → length (spellings (e ∷ es)) ≡ length (spelling e) + length (spellings es)
 payload_cons e es = length-append (spelling e) (spellings es)
@@ -157,6 +164,18 @@ batch_short clients f (entry.Seen s id ∷ rest) is all = absurd is
 batch_short clients f (entry.Asked s id ∷ rest) is all = absurd is
 batch_short clients f (entry.Out s now what ∷ rest) is all = omega (arith, alone (entry.Out s now what) rest is.0 all)
 
-pub batch_within : (clients : Meaning) (f : Facts) (batch : List Entry) → Allowed clients f batch → AreEntries batch → (2 ≤ payload_len batch) × (payload_len batch ≤ MAX_BATCH_LEN)
-batch_within clients f [] is all = absurd is
-batch_within clients f (e ∷ es) is all = (omega (arith, payload_cons e es, (length_within e all.0).0), batch_short clients f (e ∷ es) is all)
+first_len : (batch : List Entry) → payload_len format.Whole batch ≡ length (spellings batch)
+unfolding spelling spelling_in
+first_len batch = refl
+
+len_within : (f : Format) (batch : List Entry) → AreEntries batch → length (spellings batch) ≤ MAX_BATCH_LEN → payload_len f batch ≤ MAX_BATCH_LEN
+len_within format.Whole batch all most = omega (arith, first_len batch, most)
+len_within format.Short batch all most = omega (arith, first_len batch, batch_not_longer batch all, most)
+
+pub batch_within : (clients : Meaning) (f : Facts) (format : Format) (batch : List Entry) → Allowed clients f batch → AreEntries batch
+    → (2 ≤ payload_len format batch) × (payload_len format batch ≤ MAX_BATCH_LEN)
+batch_within clients f format [] is all = absurd is
+batch_within clients f format (e ∷ es) is all = (
+  omega (arith, length-append (spelling_in format [] e) (flat_map (spelling_in format []) es), spelled_some format [] e all.0),
+  len_within format (e ∷ es) all (batch_short clients f (e ∷ es) is all),
+)

@@ -1,6 +1,6 @@
 -- What holds of all spellings.
 use Rattle.std.specs.Prelude.{◌≡◌, ℕ, ◌≤◌, true, List, [], ◌++◌, length, take}
-use Rattle.std.specs.List.{AllByRecursion, flat_map}
+use Rattle.std.specs.List.{AllByRecursion}
 use Rattle.sync_rules.specs.declared.entries.Entry.{Entry}
 use Rattle.sync_rules.specs.Clients.{Meaning}
 use Rattle.sync_rules.specs.Consistency.{ids_of_held}
@@ -8,7 +8,7 @@ use Rattle.sync_rules.specs.Facts.{Facts}
 use Rattle.sync_rules.specs.Legal.{Allowed}
 use Rattle.sync_rules.specs.Lists.{is_among}
 use Rattle.entry_codec.specs.declared.lengths.TheConstants.{MAX_BATCH_LEN, MAX_SPELLING}
-use Rattle.entry_codec.specs.Payloads.{payload_len}
+use Rattle.entry_codec.specs.Payloads.{payload, payload_len}
 use Rattle.entry_codec.specs.Naming.{AreNames}
 use Rattle.entry_codec.specs.Spelling.{EntryNames, IsEntry, Spells, SpellsIn, spelling, spelling_in}
 use Rattle.entry_codec.specs.declared.naming.Format.{Format}
@@ -47,8 +47,11 @@ ShortIsNotLonger = (names : List (List ℕ)) (e : Entry) → IsEntry e
 
 -- nor are the spellings of the entries of a batch
 abbrev pub ShortBatchesAreNotLonger : Type 0
-ShortBatchesAreNotLonger = (names : List (List ℕ)) (batch : List Entry) → AllByRecursion IsEntry batch
-    → length (flat_map (spelling_in format.Short names) batch) ≤ payload_len batch
+ShortBatchesAreNotLonger = (batch : List Entry) → AllByRecursion IsEntry batch → payload_len format.Short batch ≤ payload_len format.Whole batch
+
+-- how long the payload of a batch is does not depend on the facts before it
+abbrev pub PayloadsHaveLengths : Type 0
+PayloadsHaveLengths = (f : Format) (before : Facts) (batch : List Entry) → length (payload f before batch) ≡ payload_len f batch
 
 -- a batch that may follow a journal names as held only what is held, each of its entries by the facts before the batch
 abbrev pub AllowedNames : Type 0
@@ -58,5 +61,5 @@ AllowedNames = (clients : Meaning) (f : Facts) (batch : List Entry) → Allowed 
 -- A batch that may follow a journal of any facts, and whose entries are within their limits, has 2 to MAX_BATCH_LEN bytes:
 -- fewer than a frame may have.
 abbrev pub PayloadsFitFrames : Type 0
-PayloadsFitFrames = (clients : Meaning) (f : Facts) (batch : List Entry) → Allowed clients f batch → AllByRecursion IsEntry batch
-    → (2 ≤ payload_len batch) × (payload_len batch ≤ MAX_BATCH_LEN)
+PayloadsFitFrames = (clients : Meaning) (f : Facts) (format : Format) (batch : List Entry) → Allowed clients f batch → AllByRecursion IsEntry batch
+    → (2 ≤ payload_len format batch) × (payload_len format batch ≤ MAX_BATCH_LEN)

@@ -1,5 +1,5 @@
 -- What holds of batches as payloads, and of what files stand for.
-use Rattle.std.specs.Prelude.{◌≡◌, ℕ, ◌+◌, ◌<◌, ◌≤◌, List, length, slice_index, Some}
+use Rattle.std.specs.Prelude.{◌≡◌, ℕ, ◌+◌, ◌^◌, ◌<◌, ◌≤◌, List, length, slice_index, Some}
 use Rattle.std.specs.List.{AllByRecursion}
 use Rattle.sync_rules.specs.declared.entries.Entry.{Entry}
 use Rattle.sync_rules.specs.Clients.{Meaning}
@@ -7,19 +7,32 @@ use Rattle.sync_rules.specs.Facts.{Facts, after_all, facts, nothing, takes_of}
 use Rattle.sync_rules.specs.Legal.{Allowed, Legal}
 use Rattle.outside.specs.Files.{Two, file_of}
 use Rattle.outside.specs.Frames.{HasFrames, format_in, journal_file}
-use Rattle.entry_codec.specs.Spelling.{HasLatency, IsEntry}
-use Rattle.entry_codec.specs.Payloads.{batch_of, journal_end, payload, payloads}
+use Rattle.entry_codec.specs.declared.naming.Format.{Format}
+use Rattle.entry_codec.specs.Naming.{AreNames, IsNamed, format_of}
+use Rattle.entry_codec.specs.Spelling.{EntryNames, HasLatency, IsEntry}
+use Rattle.entry_codec.specs.Payloads.{batch_of, journal_end, names_of, payload, payloads}
 use Rattle.entry_codec.specs.Standing.{journal, room_of, stands}
 use Rattle.outside.specs.declared.limits.TheConstants.{MAX_JOURNAL}
 
--- the batch of a payload is the batch that was written, where its entries are within their limits
-abbrev pub BatchesReadBack : Type 0
-BatchesReadBack = (f : Facts) (batch : List Entry) → AllByRecursion IsEntry batch → 1 ≤ length batch → batch_of f (payload f batch) ≡ Some batch
+-- a batch whose entries are within their limits, and name as held only what the format can name behind these facts
+pub record IsWritable (format : Format) (f : Facts) (batch : List Entry) : Type 0 where
+  pub within : AllByRecursion IsEntry batch
+  pub named : AllByRecursion (EntryNames (IsNamed format (names_of f))) batch
 
--- a batch has one payload, and its entries are within their limits
+-- the batch of a payload is the batch that was written
+abbrev pub BatchesReadBack : Type 0
+BatchesReadBack = (format : Format) (f : Facts) → AreNames (names_of f) → (batch : List Entry) → IsWritable format f batch → 1 ≤ length batch
+    → batch_of format f (payload format f batch) ≡ Some batch
+
+-- a batch has one payload in each format, and it could be written
 abbrev pub PayloadsSpellOnce : Type 0
-PayloadsSpellOnce = (f : Facts) (bytes : List ℕ) (batch : List Entry) → ((place : ℕ) → slice_index bytes place < 256) → batch_of f bytes ≡ Some batch
-    → (bytes ≡ payload f batch) × AllByRecursion IsEntry batch
+PayloadsSpellOnce = (format : Format) (f : Facts) → AreNames (names_of f) → (bytes : List ℕ) (batch : List Entry)
+    → ((place : ℕ) → slice_index bytes place < 256) → batch_of format f bytes ≡ Some batch
+    → (bytes ≡ payload format f batch) × IsWritable format f batch
+
+-- the ids of the messages held behind a legal journal can be names, where they are few enough
+abbrev pub LegalHasNames : Type 0
+LegalHasNames = (clients : Meaning) (j : List (List Entry)) → Legal clients j → length (facts j).held ≤ 2 ^ 32 → AreNames (names_of (facts j))
 
 -- in a batch that may follow a journal each session has a latency of at least 1
 abbrev pub AllowedHaveLatency : Type 0
@@ -36,19 +49,20 @@ AllowedTakeOne = (clients : Meaning) (f : Facts) (batch : List Entry) (session :
     → takes_of (after_all f batch).takes session ≤ takes_of f.takes session + 1
 
 -- The journal's file has the frames of this journal, which is legal and within the limits of its entries, and there is room
--- for what settling may add to it.
-pub record HoldsJournal (clients : Meaning) (files : Two (List ℕ)) (file : ℕ) (j : List (List Entry)) : Type 0 where
+-- for what settling may add to it. Its format is this one.
+pub record HoldsJournal (clients : Meaning) (files : Two (List ℕ)) (file : ℕ) (format : Format) (j : List (List Entry)) : Type 0 where
   pub found : journal_file files ≡ Some file
-  pub format_is : format_in (file_of files file) ≡ 1
+  pub format_is : format_of (format_in (file_of files file)) ≡ Some format
   pub header : List ℕ
-  pub frames : HasFrames (file_of files file) header (payloads nothing j)
+  pub frames : HasFrames (file_of files file) header (payloads format nothing j)
   pub legal : Legal clients j
   pub within : AllByRecursion (AllByRecursion IsEntry) j
-  pub bounded : journal_end j + room_of (facts j) ≤ MAX_JOURNAL
+  pub bounded : journal_end format j + room_of format (facts j) ≤ MAX_JOURNAL
 
 -- files that hold a journal stand for it
 abbrev pub JournalsStand : Type 0
-JournalsStand = (clients : Meaning) (files : Two (List ℕ)) (file : ℕ) (j : List (List Entry)) → HoldsJournal clients files file j → stands clients files ≡ journal j
+JournalsStand = (clients : Meaning) (files : Two (List ℕ)) (file : ℕ) (format : Format) (j : List (List Entry)) → HoldsJournal clients files file format j
+    → stands clients files ≡ journal j
 
 -- a journal that files stand for is legal
 abbrev pub StandingIsLegal : Type 0

@@ -1,11 +1,13 @@
 //! What holds of all spellings. Each function's clause is the law; none does anything.
 ghost use Rattle.entry_codec.specs.Laws.{AllowedNames, NoneBeginsAnother, PayloadsFitFrames};
+ghost use Rattle.entry_codec.specs.Laws.{PayloadsHaveLengths};
 ghost use Rattle.entry_codec.specs.Laws.{ShortBatchesAreNotLonger, ShortIsNotLonger};
 ghost use Rattle.entry_codec.specs.Laws.{SpellingsAreShort, SpellingsReadBack};
 ghost use Rattle.entry_codec.specs.StandingLaws.{AllowedAddOne, AllowedHaveLatency, AllowedTakeOne};
 ghost use Rattle.entry_codec.specs.StandingLaws.{BatchesReadBack, JournalsStand, PayloadsSpellOnce};
-ghost use Rattle.entry_codec.specs.StandingLaws.{StandingIsLegal};
+ghost use Rattle.entry_codec.specs.StandingLaws.{LegalHasNames, StandingIsLegal};
 
+use sync_ids::message_ids_are_whole;
 use sync_rules::laws::allows_is_allowed;
 
 /// Whatever `read_entry` finds where an entry is spelled in format 1 is that entry, whatever
@@ -34,13 +36,19 @@ pub fn short_batches_are_not_longer()
     ensures { ShortBatchesAreNotLonger }
 {}
 
+/// How long the payload of a batch is depends on the format and the batch alone.
+pub fn payloads_have_lengths()
+    ensures { PayloadsHaveLengths }
+{}
+
 /// A batch that may follow a journal names as held only messages that are held before it, so it can
 /// be written in format 2.
 pub fn allowed_names()
     ensures { AllowedNames }
 {}
 
-/// A batch that may follow a journal has 2 to `MAX_BATCH_LEN` bytes, fewer than a frame may have.
+/// A batch that may follow a journal has 2 to `MAX_BATCH_LEN` bytes in each format, fewer than a
+/// frame may have.
 pub fn payloads_fit_frames()
     ensures { PayloadsFitFrames }
 {}
@@ -76,6 +84,15 @@ pub fn journals_stand()
     ensures { JournalsStand }
 {
     allows_is_allowed();
+    message_ids_are_whole();
+}
+
+/// The ids of the messages that are held behind a legal journal are distinct and whole, so they are
+/// names where they are few enough.
+pub fn legal_has_names()
+    ensures { LegalHasNames }
+{
+    message_ids_are_whole();
 }
 
 /// A journal that files stand for is legal.

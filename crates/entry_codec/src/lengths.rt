@@ -1,13 +1,14 @@
 //! How long the spelling of an entry is.
-ghost use Rattle.std.specs.Prelude.{◌≡◌, ◌+◌, ◌*◌, ◌≤◌, List, length, ℕ};
+ghost use Rattle.std.specs.Prelude.{◌≡◌, ◌+◌, ◌*◌, ◌≤◌, List, [], length, ℕ};
 ghost use Rattle.std.specs.List.{flat_map};
 ghost use Rattle.entry_codec.specs.Spelling.{def_bytes, ids_bytes, message_bytes, out_bytes};
 ghost use Rattle.entry_codec.specs.Spelling.{session_bytes, spelling, whole};
 ghost use Rattle.entry_codec.specs.Spelling.{EntryNames, IsId, OutNames, named_count, out_count};
 ghost use Rattle.entry_codec.specs.Spelling.{spelling_in};
+ghost use Rattle.entry_codec.specs.Standing.{step_bytes};
 ghost use Rattle.entry_codec.specs.declared.naming.Format.TheVariants as format_kind;
 
-use crate::naming::show_whole;
+use crate::naming::{Format, show_whole};
 use sync_ids::{GroupDef, IdList, MAX_IDS, Message, MessageId};
 use sync_rules::{Entry, Out, Session};
 
@@ -17,12 +18,21 @@ pub const MAX_SPELLING: usize = 49_168;
 /// The length of the longest payload of a batch that may follow a journal, in bytes.
 pub const MAX_BATCH_LEN: usize = 56_845;
 
-/// The bytes of a step of settling in a frame of its own: its spelling has `STEP_LEN`, and a frame
-/// has 5 more.
-pub const STEP_BYTES: u64 = 38;
+/// The length of the longest spelling of a step of settling, in bytes: that of format 1.
+pub const MAX_STEP_LEN: usize = 33;
 
-/// The length of the spelling of a step of settling, in bytes.
-pub const STEP_LEN: usize = 33;
+/// The bytes of a step of settling in a frame of its own: 38 in format 1, and 10 in format 2. Its
+/// spelling has 5 bytes less, as a frame has 5 beside its payload.
+pub fn step_bytes(format: Format) -> u64
+    ensures value { result ≡ step_bytes format }
+    ensures some { 10 ≤ result }
+    ensures few { result ≤ 38 }
+{
+    match format {
+        Format::Whole => 38,
+        Format::Short => 10,
+    }
+}
 
 #[tactic(auto, using(crate::proofs::Bounds::length_def))]
 fn def_len(def: &GroupDef) -> usize
@@ -149,4 +159,17 @@ pub fn short_len(entry: &Entry) -> usize
     ensures few { result ≤ length (spelling entry.now) }
 {
     entry_len(entry) - 28 * named_count(entry)
+}
+
+/// How many bytes the spelling of an entry has in this format, whatever the names: 2 at least. It
+/// takes no memory.
+#[tactic(auto, unfolding(crate::specs::Spelling::spelling, crate::specs::Spelling::spelling_in))]
+pub fn spelled_len(format: Format, entry: &Entry) -> usize
+    ensures value { result ≡ length (spelling_in format [] entry.now) }
+    ensures some { 2 ≤ result }
+{
+    match format {
+        Format::Whole => entry_len(entry),
+        Format::Short => short_len(entry),
+    }
 }

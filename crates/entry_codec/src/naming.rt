@@ -47,9 +47,10 @@ pub trait Names {
         ensures { AreNames (named self.now) };
 }
 
-// The names of no message, of which the first format asks none.
+/// The names of no message: none is held before the first batch of a journal, and format 1 asks
+/// for none.
 #[derive(Drop)]
-pub(crate) struct NoNames;
+pub struct NoNames;
 
 impl Names for NoNames {
     ghost use Rattle.std.specs.Prelude.{[]};

@@ -120,7 +120,7 @@ fn read_heard<N: Names>(
 
 // An entry of this format. The message of the tag 12 is not held.
 #[tactic(auto, unfolding(crate::specs::Reading::entry_by))]
-fn read_tagged<N: Names>(
+pub(crate) fn read_tagged<N: Names>(
     alloc: Global,
     format: Format,
     names: &N,
@@ -142,14 +142,6 @@ fn read_tagged<N: Names>(
         14 => read_heard(format, names, tag, front),
         _ => read_moved(alloc, format, names, tag, front),
     }
-}
-
-// An entry of the first format.
-#[tactic(auto, unfolding(crate::specs::Reading::entry_in))]
-pub(crate) fn read_whole(alloc: Global, front: &mut Front) -> Result<Entry, Stop>
-    ensures { Reads entry_in front.old.rest.now result front.new.rest.now }
-{
-    read_tagged(alloc, Format::Whole, &NoNames, front)
 }
 
 // What these bytes begin with, in this format.

@@ -330,7 +330,7 @@ fn append_tagged<N: Names>(
 // Appends the one spelling of an entry in this format. After want of memory the bytes are as they
 // were.
 #[tactic(auto, unfolding(crate::specs::Spelling::spelling_in))]
-fn append_entry<N: Names>(
+pub(crate) fn append_entry<N: Names>(
     format: Format,
     names: &N,
     entry: &Entry,

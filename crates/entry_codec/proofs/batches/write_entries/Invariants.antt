@@ -6,7 +6,7 @@ use Rattle.entry_codec.proofs.batches.write_entries.Given as goal
 
 -- the entries so far are written, and each is within its limits
 abbrev pub invariant-entries : goal.invariant-entries
-invariant-entries l = record {
-  so_far : l.to.items ≡ l.fn.to.items ++ spellings (take l.entry-index l.entries);
+invariant-entries g l = record {
+  so_far : l.to.items ≡ l.fn.to.items ++ spellings l.format (g.N.Names.named l.names) (take l.entry-index l.entries);
   within : AllByRecursion IsEntry (take l.entry-index l.entries);
 }
