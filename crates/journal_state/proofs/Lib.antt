@@ -1,5 +1,6 @@
 pub mod Places
 pub mod Numbers
+mod OwnIds
 pub mod Pairs
 pub mod Rows
 pub mod Wants

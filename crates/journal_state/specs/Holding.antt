@@ -1,5 +1,6 @@
 -- The held messages, in order of arrival.
-use Rattle.std.specs.Prelude.{ℕ, List}
+use Rattle.std.specs.Prelude.{◌≡◌, ℕ, List}
+use Rattle.sync_ids.specs.Ids.{message_id_of}
 use Rattle.sync_rules.specs.Facts.{Held, Id}
 use Rattle.journal_state.specs.declared.messages.KeptMessage.{KeptMessage}
 
@@ -11,3 +12,7 @@ pub record Holding : Type 0 where
 -- a held message as it is kept under its id
 abbrev pub held_of : Id × KeptMessage → Held
 held_of e = record { id = e.0; message = e.1.message; origin = e.1.origin }
+
+-- a message is held under its own id
+abbrev pub IsOwnId : Held → Type 0
+IsOwnId h = h.id ≡ message_id_of h.message

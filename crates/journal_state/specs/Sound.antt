@@ -1,10 +1,12 @@
 -- What holds of every state.
 use Rattle.std.specs.Prelude.{◌≡◌, ◌<◌, ◌≤◌, ◌^◌, false, List, [], ◌∷◌, length, map, None}
 use Rattle.std.specs.FinSet as fin_set
+use Rattle.std.specs.List.{AllByRecursion}
 use Rattle.sync_rules.specs.Consistency.{ids_of_groups}
 use Rattle.sync_rules.specs.Knowing.{KnowsGroups}
 use Rattle.sync_rules.specs.Lists.{has_repeat, is_among}
 use Rattle.sync_rules.specs.Facts.{Facts, Id, held_at}
+use Rattle.journal_state.specs.Holding.{IsOwnId}
 use Rattle.journal_state.specs.Whole.{StateValue}
 
 -- no two ids are the same
@@ -16,9 +18,10 @@ AreApart (x ∷ xs) = (is_among xs x ≡ false) × AreApart xs
 abbrev pub JudgesHeld : Facts → Type 0
 JudgesHeld f = (id : Id) → held_at f.held id ≡ None → fin_set.contains f.judged id ≡ false
 
--- the held messages have distinct ids, are fewer than 2^32 and of known groups, and the groups have distinct ids; only held messages
--- are judged, and no more are delivered than are held
+-- each held message stands under its own id; the ids are distinct, the messages fewer than 2^32 and of known groups, and the groups
+-- have distinct ids; only held messages are judged, and no more are delivered than are held
 pub record IsSound (s : StateValue) : Type 0 where
+  pub named : AllByRecursion IsOwnId s.facts.held
   pub distinct : AreApart (map (λ h. h.id) s.facts.held)
   pub few : length s.facts.held < 2 ^ 32
   pub known : KnowsGroups s.facts

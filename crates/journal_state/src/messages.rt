@@ -1,7 +1,9 @@
 //! The held messages by id, in order of arrival.
 ghost use Rattle.std.specs.Prelude.{◌≡◌, ◌+◌, ◌-◌, ◌^◌, ◌<◌, ◌≤◌, ◌++◌, ◌∷◌, [], length, IfOk};
 ghost use Rattle.std.specs.Prelude.{OnOk, None, Some, slice_get};
+ghost use Rattle.std.specs.List.{AllByRecursion};
 ghost use Rattle.std.specs.Option.{option_map};
+ghost use Rattle.journal_state.specs.Holding.{IsOwnId};
 ghost use Rattle.sync_ids.specs.Ids.{message_id_of};
 ghost use Rattle.sync_rules.specs.Facts.{held_at};
 ghost use Rattle.sync_rules.specs.Views.{place_of, IsFound};
@@ -33,11 +35,14 @@ impl Model for Messages {
     ghost Value = { Holding };
 
     ghost use Rattle.std.specs.Prelude.{◌<◌, ◌^◌, length, map};
+    ghost use Rattle.std.specs.List.{AllByRecursion};
+    ghost use Rattle.journal_state.specs.Holding.{IsOwnId};
     ghost use Rattle.indexmap.specs.IndexMap.{spare};
 
     ghost view = { λ m. record { held = map held_of m.kept.entries; room = spare m.kept } };
 
-    ghost invariant = { λ m. length m.kept.entries < 2 ^ 32 };
+    ghost invariant = { λ m. (length m.kept.entries < 2 ^ 32)
+        × AllByRecursion IsOwnId (map held_of m.kept.entries) };
 }
 
 impl Messages {
@@ -75,6 +80,13 @@ impl Messages {
         self.kept
             .insert(id, KeptMessage { message, origin })
             .unwrap();
+    }
+
+    /// Shows the prover that each message is held under its own id. It does nothing.
+    pub(crate) fn show_named(&self)
+        ensures { AllByRecursion IsOwnId self.now.held }
+    {
+        let _held = self.kept.len();
     }
 
     /// The number of held messages.

@@ -84,12 +84,14 @@ impl State {
         })
     }
 
-    /// Shows the prover what holds of every state: its held messages have distinct ids, are fewer
-    /// than 2^32 and of known groups, and its groups have distinct ids. It does nothing.
+    /// Shows the prover what holds of every state: its held messages stand under their own ids,
+    /// which are distinct, are fewer than 2^32 and of known groups, and its groups have distinct
+    /// ids. It does nothing.
     pub fn show_sound(&self)
         ensures { IsSound self.now }
     {
         let _held = self.messages.len();
+        self.messages.show_named();
         self.table.show_distinct();
     }
 

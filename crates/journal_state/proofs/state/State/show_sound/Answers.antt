@@ -15,6 +15,7 @@ returns c =
     let p = parts s in
     subst IsSound c.self.view_is
     (record {
+      named = c.show_named.ensures;
       distinct = first_apart s.messages.held c.self.invariant.state.distinct;
       few = let is = c.len-held.ensures in omega (arith, is);
       known = knows_groups p c.self.invariant.state;
