@@ -68,7 +68,8 @@ impl State {
     /// judgement; `None` where it is not judged, or refused, or depends on none, or where none of
     /// that id is held. It fails only for want of memory.
     pub fn firsts(&self, alloc: Global) -> Result<Vec<Option<u32>>, AllocError>
-        ensures { IfOk result (λ firsts. firsts.items ≡ firsts_of self.now) }
+        ensures value { IfOk result (λ firsts. firsts.items ≡ firsts_of self.now) }
+        ensures many { IfOk result (λ firsts. length firsts.items ≡ length self.now.facts.held) }
     {
         self.graph.graph().firsts(alloc)
     }
