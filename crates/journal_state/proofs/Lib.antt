@@ -22,6 +22,7 @@ pub mod Delivered
 pub mod Made
 pub mod Honest
 pub mod Fated
+pub mod Firsts
 pub mod Tables
 pub mod Kept
 pub mod Took

@@ -10,6 +10,7 @@ pub mod Levelling
 pub mod Parts
 pub mod Whole
 pub mod Sound
+pub mod Firsts
 pub mod Taking
 pub mod Inside
 pub mod Lent

@@ -18,8 +18,12 @@ AreApart (x ∷ xs) = (is_among xs x ≡ false) × AreApart xs
 abbrev pub JudgesHeld : Facts → Type 0
 JudgesHeld f = (id : Id) → held_at f.held id ≡ None → fin_set.contains f.judged id ≡ false
 
+-- no message is delivered that is not judged
+abbrev pub DeliversJudged : Facts → Type 0
+DeliversJudged f = (id : Id) → fin_set.contains f.judged id ≡ false → is_among f.delivered id ≡ false
+
 -- each held message stands under its own id; the ids are distinct, the messages fewer than 2^32 and of known groups, and the groups
--- have distinct ids; only held messages are judged, and no more are delivered than are held
+-- have distinct ids; only held messages are judged, only judged ones are delivered, and no more are delivered than are held
 pub record IsSound (s : StateValue) : Type 0 where
   pub named : AllByRecursion IsOwnId s.facts.held
   pub distinct : AreApart (map (λ h. h.id) s.facts.held)
@@ -27,4 +31,5 @@ pub record IsSound (s : StateValue) : Type 0 where
   pub known : KnowsGroups s.facts
   pub groups : has_repeat (ids_of_groups s.facts.groups) ≡ false
   pub judged : JudgesHeld s.facts
+  pub ended : DeliversJudged s.facts
   pub delivered : length s.facts.delivered ≤ length s.facts.held

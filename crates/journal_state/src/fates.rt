@@ -1,15 +1,17 @@
 //! What became of the held messages.
-ghost use Rattle.std.specs.Prelude.{◌≡◌, ◌<◌, ◌^◌, length, Some, slice_get};
+ghost use Rattle.std.specs.Prelude.{◌≡◌, ◌<◌, ◌^◌, length, IfOk, Some, slice_get};
 ghost use Rattle.std.specs.Option.{option_map};
 ghost use Rattle.sync_rules.specs.Facts.{Id};
 ghost use Rattle.sync_rules.specs.Steps.{fate_held};
 ghost use Rattle.sync_rules.specs.Views.{IsPlace};
 ghost use Rattle.journal_state.specs.Fates.{fate_as};
+ghost use Rattle.journal_state.specs.Firsts.{firsts_of};
 ghost use Rattle.journal_state.specs.Lent.{StandsForNodes};
 ghost use Rattle.sync_rules.specs.Left.{left_of};
 
 use crate::state::State;
 use message_graph::{Fate as NodeFate, Graph};
+use std::alloc::{AllocError, Global};
 use sync_rules::Fate;
 
 /// A message's state as the graph says it.
@@ -60,6 +62,16 @@ impl State {
             → IsPlace self.now.facts.held id result }
     {
         self.delivered[k as usize]
+    }
+
+    /// Of each held message, in order of arrival, the arrival number of the first dependency of its
+    /// judgement; `None` where it is not judged, or refused, or depends on none, or where none of
+    /// that id is held. It fails only for want of memory.
+    pub fn firsts(&self, alloc: Global) -> Result<Vec<Option<u32>>, AllocError>
+        ensures value { IfOk result (λ firsts. firsts.items ≡ firsts_of self.now) }
+        ensures many { IfOk result (λ firsts. length firsts.items ≡ length self.now.facts.held) }
+    {
+        self.graph.graph().firsts(alloc)
     }
 
     /// The waiting graph.

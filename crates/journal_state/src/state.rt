@@ -85,8 +85,8 @@ impl State {
     }
 
     /// Shows the prover what holds of every state: its held messages stand under their own ids,
-    /// which are distinct, are fewer than 2^32 and of known groups, and its groups have distinct
-    /// ids. It does nothing.
+    /// which are distinct, are fewer than 2^32 and of known groups, its groups have distinct ids,
+    /// and what is delivered is judged. It does nothing.
     pub fn show_sound(&self)
         ensures { IsSound self.now }
     {

@@ -11,11 +11,12 @@ use Rattle.message_graph.specs.declared.states.Waiting.TheVariants as waiting
 use Rattle.message_graph.specs.declared.states.News.TheVariants as news
 use Rattle.message_graph.specs.Nodes.{same_name, node_named, number_of, is_invalid, is_delivered, fresh, with_answer, with_ending}
 use Rattle.message_graph.specs.Waits.{Waits, missing, waiting_open, waiting_by, waiting_of, told_times, wait_at, group_at}
-use Rattle.message_graph.specs.Links.{Links, Numbers, holder_of, edge_at, count_before}
+use Rattle.message_graph.specs.Links.{Links, Numbers, holder_of, edge_at, count_before, first_for}
 use Rattle.message_graph.specs.Whole.{occurrences, dependencies, dependencies_at, IsGraph, ending_news}
 use Rattle.message_graph.proofs.Positions.{place_pushed}
 use Rattle.message_graph.proofs.Linked.{same_refl, same_equal}
 use Rattle.message_graph.proofs.Counts.{counted, count_all, counts_enlisted, counts_unlisted}
+use Rattle.message_graph.proofs.Firsts.{first_enlisted, first_unlisted}
 use Rattle.message_graph.proofs.Missing.{Differs, lack_times, missing_doomed, missing_same, missing_served, fewer_served, fewer_failed, waits_told, waits_same, waits_open_same, told_times-ended, told_times-unjudged}
 use Rattle.message_graph.proofs.NodeLaws.{HasAnswer, there_within, length-change}
 use Rattle.message_graph.proofs.Changes.{node_there, wait_there, group_there, dependencies_there, dependent_within, get-change_same, get-change_other, dependencies-change_other, number_of-change, differs-change, get-push_cases, dependencies_at-push, number_of-push, differs-push}
@@ -70,6 +71,10 @@ module _ (nodes : List Node) (links : Links) (states : Waits) (spare : ℕ) (g :
       let d = differs-change f keeps nodes n node at own in
       let many = many_waits nodes links states spare g in
       let within = there_within nodes n node at in
+      let stays : (waiter : ℕ) → dependencies_at nodes waiter ≡ dependencies_at now waiter = (λ waiter. elim (cases_eq waiter n) [
+        | inl same ↦ ap (dependencies_at nodes) same ∙ dependencies_there nodes n node at ∙ sym (ap (dependencies_at now) same ∙ dependencies_there now n (f node) (get-change_same f nodes n node at))
+        | inr other ↦ sym (dependencies-change_other f nodes n waiter other)
+      ]) in
       record {
         few = subst (λ k. k < 2 ^ 32) (sym (length-change f n nodes)) g.few;
         holders = λ name. g.holders name ∙ sym (number_of-change f keeps nodes n name);
@@ -90,10 +95,8 @@ module _ (nodes : List Node) (links : Links) (states : Waits) (spare : ℕ) (g :
               ((get_or-set_other states.waits n k waiting.Ended waiting.Ended other ∙ ap (λ w. wait_at w k) g.waits ∙ wait_there (waiting_of (node_named nodes)) nodes k m old) i))
               ∙ sym (waits_told (node_named nodes) (node_named now) node.name (ending_news e) m.group (ending_told (node_named nodes) (node_named now) node e has.goes_on d m.group) m.answer m.ending)
         ]);
-        edges = λ name waiter. g.edges name waiter ∙ ap (occurrences name) (elim (cases_eq waiter n) [
-          | inl same ↦ ap (dependencies_at nodes) same ∙ dependencies_there nodes n node at ∙ sym (ap (dependencies_at now) same ∙ dependencies_there now n (f node) (get-change_same f nodes n node at))
-          | inr other ↦ sym (dependencies-change_other f nodes n waiter other)
-        ]);
+        edges = λ name waiter. g.edges name waiter ∙ ap (occurrences name) (stays waiter);
+        firsts = λ waiter. g.firsts waiter ∙ ap (λ names. slice_get names 0) (stays waiter);
         order = λ k m h. elim (cases_eq k n) [
           | inl same ↦ let is : f node ≡ m = (let c : Some (f node) ≡ Some m = sym (get-change_same f nodes n node at) ∙ ap (slice_get now) (sym same) ∙ h in cc) in
               λ open_answer. absurd (let c : Some has.answer ≡ None = sym has.given ∙ ap (λ (x : Node). x.answer) is ∙ open_answer in cc)
@@ -147,6 +150,13 @@ module _ (nodes : List Node) (links : Links) (states : Waits) (spare : ℕ) (g :
               ∙ sym (ap (λ k. occurrences name (dependencies_at now k)) same ∙ ap (occurrences name) (dependencies_there now n (f node) (get-change_same f nodes n node at)))
           | inr other ↦ counts_unlisted (dependencies (Some answer)) links.edges name n waiter other ∙ g.edges name waiter ∙ ap (occurrences name) (sym (dependencies-change_other f nodes n waiter other))
         ];
+        firsts = λ waiter. (λ i. first_for (edges i) waiter) ∙ elim (cases_eq waiter n) [
+          | inl same ↦
+              (λ i. first_for (links.edges ++ map (λ x. (x, n)) (dependencies (Some answer))) (same i))
+              ∙ first_enlisted (dependencies (Some answer)) links.edges n (g.firsts n ∙ ap (λ names. slice_get names 0) (dependencies_there nodes n node at ∙ ap dependencies new))
+              ∙ sym (ap (λ k. slice_get (dependencies_at now k) 0) same ∙ ap (λ names. slice_get names 0) (dependencies_there now n (f node) (get-change_same f nodes n node at)))
+          | inr other ↦ first_unlisted (dependencies (Some answer)) links.edges n waiter other ∙ g.firsts waiter ∙ ap (λ names. slice_get names 0) (sym (dependencies-change_other f nodes n waiter other))
+        ];
         order = λ k m h. elim (cases_eq k n) [
           | inl same ↦ let is : f node ≡ m = (let c : Some (f node) ≡ Some m = sym (get-change_same f nodes n node at) ∙ ap (slice_get now) (sym same) ∙ h in cc) in
               λ open_answer. ap (λ (x : Node). x.ending) (sym is) ∙ goes
@@ -192,6 +202,7 @@ module _ (nodes : List Node) (links : Links) (states : Waits) (spare : ℕ) (g :
               ∙ ap (waiting_of (node_named now)) last.1
         ]);
         edges = λ other waiter. (λ i. count_before (edges i) other waiter (length (edges i))) ∙ g.edges other waiter ∙ ap (occurrences other) (sym (dependencies_at-push nodes m waiter refl));
+        firsts = λ waiter. (λ i. first_for (edges i) waiter) ∙ g.firsts waiter ∙ ap (λ names. slice_get names 0) (sym (dependencies_at-push nodes m waiter refl));
         order = λ k x h. elim (get-push_cases nodes m k x h) [
           | inl old ↦ g.order k x old
           | inr last ↦ λ open_answer. ap (λ (y : Node). y.ending) (sym last.1)

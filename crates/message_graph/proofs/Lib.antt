@@ -7,5 +7,6 @@ pub mod Missing
 pub mod Named
 pub mod Steps
 pub mod Changes
+pub mod Firsts
 pub mod Kept
 pub mod NodeLaws

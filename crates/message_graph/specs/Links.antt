@@ -1,6 +1,6 @@
 -- Who waits for whom, as the code keeps it: one edge for each dependency of a judged node, with the name that is waited for and the
 -- number of the node that waits.
-use Rattle.std.specs.Prelude.{◌≡◌, ℕ, zero, suc, ◌+◌, ◌<◌, ◌==◌, ◌&&◌, if◌then◌else◌, List, [], length, map, position, Option, None, Some, slice_get, slice_index_or}
+use Rattle.std.specs.Prelude.{◌≡◌, ℕ, zero, suc, ◌+◌, ◌<◌, ◌==◌, ◌&&◌, if◌then◌else◌, List, [], ◌∷◌, length, map, position, Option, None, Some, slice_get, slice_index_or}
 use Rattle.message_graph.specs.declared.index.Slot.{Slot}
 use Rattle.message_graph.specs.declared.index.Edge.{Edge}
 use Rattle.message_graph.specs.Nodes.{same_name}
@@ -53,6 +53,21 @@ count_before edges name waiter (suc end) =
 -- the edges with their names, of edges that keep the places of names
 abbrev pub named : List (List ℕ) → Edge → List ℕ × ℕ
 named names edge = (slice_index_or names edge.place [], edge.waiter)
+
+-- the name of the first edge of a waiter
+abbrev pub first_for : List (List ℕ × ℕ) → ℕ → Option (List ℕ)
+first_for [] waiter = None
+first_for (edge ∷ edges) waiter = if waiter == edge.1 then Some edge.0 else first_for edges waiter
+
+-- the place of that name, of edges that keep the places of names
+abbrev pub first_place : List Edge → ℕ → Option ℕ
+first_place [] waiter = None
+first_place (edge ∷ edges) waiter = if waiter == edge.waiter then Some edge.place else first_place edges waiter
+
+-- who holds a name, if there is one
+abbrev pub holder_if : Links → Option (List ℕ) → Option ℕ
+holder_if links None = None
+holder_if links (Some name) = holder_of links name
 
 -- each slot has the last edge of its name, and each edge the one before it of the same name
 pub record IsLinked (names : List (List ℕ)) (slots : List Slot) (kept : List Edge) : Type 0 where

@@ -11,7 +11,7 @@ use Rattle.message_graph.specs.declared.states.News.{News}
 use Rattle.message_graph.specs.declared.states.News.TheVariants as news
 use Rattle.message_graph.specs.Nodes.{same_name, node_named, number_of}
 use Rattle.message_graph.specs.Waits.{Waits, waiting_of}
-use Rattle.message_graph.specs.Links.{Links, holder_of, count_before}
+use Rattle.message_graph.specs.Links.{Links, holder_of, count_before, first_for}
 
 -- how often a name stands in a list
 abbrev pub occurrences : List ℕ → List (List ℕ) → ℕ
@@ -29,6 +29,15 @@ abbrev pub dependencies_at : List Node → ℕ → List (List ℕ)
 dependencies_at [] number = []
 dependencies_at (node ∷ nodes) zero = dependencies node.answer
 dependencies_at (node ∷ nodes) (suc number) = dependencies_at nodes number
+
+-- the number of the node that holds a name, if there is one
+abbrev pub number_if : List Node → Option (List ℕ) → Option ℕ
+number_if nodes None = None
+number_if nodes (Some name) = number_of nodes name
+
+-- the number of the node that holds the first name that a node depends on
+abbrev pub first_held : List Node → Node → Option ℕ
+first_held nodes node = number_if nodes (slice_get (dependencies node.answer) 0)
 
 -- the step that ends a node so, and the news of it
 abbrev pub ending_step : Ending → ℕ → Step
@@ -49,6 +58,7 @@ pub record IsGraph (nodes : List Node) (links : Links) (states : Waits) (spare :
   pub own : (number : ℕ) (node : Node) → slice_get nodes number ≡ Some node → number_of nodes node.name ≡ Some number
   pub waits : states.waits ≡ map (waiting_of (node_named nodes)) nodes
   pub edges : (name : List ℕ) (waiter : ℕ) → count_before links.edges name waiter (length links.edges) ≡ occurrences name (dependencies_at nodes waiter)
+  pub firsts : (waiter : ℕ) → first_for links.edges waiter ≡ slice_get (dependencies_at nodes waiter) 0
   pub order : (number : ℕ) (node : Node) → slice_get nodes number ≡ Some node → IsInOrder node
   pub count : links.numbers.count ≡ length nodes
   pub numbers : spare ≤ links.numbers.room

@@ -1,10 +1,10 @@
 //! `Graph`.
 ghost use Rattle.std.specs.Prelude.{◌≡◌, ◌+◌, ◌-◌, ◌^◌, ◌<◌, ◌++◌, ◌∷◌, ◌↔◌, [], max, length};
-ghost use Rattle.std.specs.Prelude.{IsTrue, IfOk, OnOk, OnErr, None, Some, slice_get};
+ghost use Rattle.std.specs.Prelude.{map, IsTrue, IfOk, OnOk, OnErr, None, Some, slice_get};
 ghost use Rattle.std.specs.Option.{option_map};
 ghost use Rattle.message_graph.specs.Nodes.{number_of, next, fresh, fate_of, with_answer};
 ghost use Rattle.message_graph.specs.Nodes.{with_ending, after_step, Ends};
-ghost use Rattle.message_graph.specs.Whole.{ending_step, ending_news};
+ghost use Rattle.message_graph.specs.Whole.{ending_step, ending_news, first_held};
 
 use crate::index::Index;
 use crate::nodes::{Ending, Fate, Judged, Node, Step};
@@ -172,6 +172,16 @@ impl Graph {
         ensures { option_map fate_of (slice_get self.now.nodes n) ≡ Some result }
     {
         fate_in(&self.nodes[n as usize])
+    }
+
+    /// Of each node the number of the node that holds the first name that it depends on; `None`
+    /// where it depends on none, as before it is judged, or where no node holds that name. It fails
+    /// only for want of memory.
+    pub fn firsts(&self, alloc: Global) -> Result<Vec<Option<u32>>, AllocError>
+        ensures { IfOk result (λ firsts. firsts.items ≡ map (first_held self.now.nodes)
+            self.now.nodes) }
+    {
+        self.index.firsts(alloc, self.nodes.len())
     }
 
     /// Ends a node, and tells those who wait for it.

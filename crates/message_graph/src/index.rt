@@ -1,8 +1,10 @@
 //! Names, who holds each, and who waits for each.
 ghost use Rattle.std.specs.Prelude.{◌≡◌, ◌+◌, ◌-◌, ◌<◌, ◌≤◌, ◌++◌, ◌∷◌, [], IfOk, OnOk, OnErr};
 ghost use Rattle.std.specs.Prelude.{IfSome, Some, None, ℕ, List, length, if◌then◌else◌, slice_get};
+ghost use Rattle.std.specs.Prelude.{map, slice_index_or};
 ghost use Rattle.message_graph.specs.Nodes.{same_name};
 ghost use Rattle.message_graph.specs.Links.{place_of, holder_of, edge_at, last_before};
+ghost use Rattle.message_graph.specs.Links.{first_for, first_place, holder_at, holder_if};
 
 use indexmap::IndexSet;
 use std::alloc::{AllocError, Global};
@@ -90,6 +92,32 @@ impl Model for Index {
         × IsPlaced i.slots.items i.places.items };
 }
 
+// Of each node the holder of the name of its first edge.
+fn first_holders(
+    alloc: Global,
+    slots: &[Slot],
+    edges: &[Edge],
+    nodes: usize,
+) -> Result<Vec<Option<u32>>, AllocError>
+    requires places { (edge : ℕ) → edge < length edges.now
+        → slice_index_or (map (λ e. e.place) edges.now) edge 0 < length slots.now }
+    requires waiters { (edge : ℕ) → edge < length edges.now
+        → slice_index_or (map (λ e. e.waiter) edges.now) edge 0 < nodes }
+    ensures many { IfOk result (λ firsts. length firsts.items ≡ nodes) }
+    ensures each { IfOk result (λ firsts. (n : ℕ) → n < nodes
+        → slice_index_or firsts.items n None ≡ holder_at (map (λ slot. slot.holder) slots.now)
+        (first_place edges.now n)) }
+{
+    let mut firsts = vec![in alloc; None; nodes]?;
+    let count = edges.len();
+    // From the last edge to the first: what stays of each node is its first one's.
+    'edges: for behind in 0..count {
+        let edge = edges[count - 1 - behind];
+        firsts[edge.waiter as usize] = slots[edge.place].holder;
+    }
+    Ok(firsts)
+}
+
 impl Index {
     /// No names; they are hashed by `hasher`.
     pub(crate) fn new(alloc: Global, hasher: RandomState) -> Index
@@ -166,6 +194,19 @@ impl Index {
         ensures { result ≡ last_before self.now.edges (edge_at self.now.edges edge).0 edge }
     {
         self.edges[edge].before
+    }
+
+    /// Of each node the number of the node that holds the name of its first edge, in so many nodes.
+    /// It fails only for want of memory.
+    pub(crate) fn firsts(&self, alloc: Global, nodes: usize) -> Result<Vec<Option<u32>>, AllocError>
+        requires { (edge : ℕ) → edge < length self.now.edges
+            → (edge_at self.now.edges edge).1 < nodes }
+        ensures many { IfOk result (λ firsts. length firsts.items ≡ nodes) }
+        ensures each { IfOk result (λ firsts. (n : ℕ) → n < nodes
+            → slice_index_or firsts.items n None ≡ holder_if self.now
+            (first_for self.now.edges n)) }
+    {
+        first_holders(alloc, &self.slots, &self.edges, nodes)
     }
 
     /// The place of a name, which is added where it is new.

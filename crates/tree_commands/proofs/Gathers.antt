@@ -1,42 +1,40 @@
 -- The tree of a group's delivered messages, message by message.
-use Rattle.std.proofs.Common.{◌≡◌, ℕ, ◌+◌, ◌<◌, Bool, true, false, cond, List, [], ◌∷◌, ◌++◌}
-use Rattle.std.proofs.Common.{length, map, take, append-nil, Option, None, Some, get_or, slice_get}
-use Rattle.std.proofs.Common.{refl, sym, ap, ◌∙◌, subst, arith}
+use Rattle.std.proofs.Common.{◌≡◌, ℕ, suc, zero, ◌+◌, ◌<◌, Bool, true, false, cond, ◌||◌, List, []}
+use Rattle.std.proofs.Common.{◌∷◌, ◌++◌, length, map, take, append-nil, Option, None, Some, get_or}
+use Rattle.std.proofs.Common.{slice_get, refl, sym, ap, ◌∙◌, subst, arith}
 use Rattle.std.specs.Prelude.{IfSome, OnOk, Result, Ok, Err}
+use Rattle.std.specs.FinSet as fin_set
 use Rattle.std.specs.List.{AllByRecursion, filter}
 use Rattle.std.specs.Option.{option_map}
-use Rattle.std.proofs.lemmas.List.{map-append, take_all}
+use Rattle.std.proofs.lemmas.Bool.{false≢true}
+use Rattle.std.proofs.lemmas.List.{get_or_default, map-append, take_all}
 use Rattle.std.proofs.lemmas.List.Elements.{filter_more}
 use Rattle.std.proofs.lemmas.Option.{slice_get-get_or}
-use Rattle.sync_ids.specs.Values.{GroupValue, MessageValue}
+use Rattle.sync_ids.specs.Values.{MessageValue}
+use Rattle.sync_rules.specs.declared.answers.Judgement.{Judgement}
+use Rattle.sync_rules.specs.declared.answers.Judgement.TheVariants as judgement
 use Rattle.sync_rules.specs.Clients.{Meaning}
-use Rattle.sync_rules.specs.Facts.{Facts, Held, Id, Known, group_at, held_at}
-use Rattle.sync_rules.specs.Lists.{same_id}
-use Rattle.sync_rules.specs.Steps.{is_beside, kind_of_def, verdict_by, verdict_for, verdict_in}
-use Rattle.sync_rules.specs.Views.{IsPlace}
-use Rattle.journal_state.specs.Sound.{AreApart}
-use Rattle.journal_state.specs.Whole.{id_at}
-use Rattle.journal_state.proofs.Places.{id_is}
-use Rattle.tree_commands.specs.Gathered.{HasKind, IsThreadOf, StandsAt, with_delivered}
+use Rattle.sync_rules.specs.Facts.{Facts, Held, Id, held_at}
+use Rattle.sync_rules.specs.Lists.{is_among, same_id}
+use Rattle.sync_rules.specs.Steps.{answer_of, is_beside, verdict_in}
+use Rattle.sync_rules.specs.Views.{IsFound, IsPlace, place_of}
+use Rattle.journal_state.specs.Firsts.{first_dependency, firsts_of, number_held}
+use Rattle.journal_state.specs.Sound.{AreApart, DeliversJudged}
+use Rattle.journal_state.specs.Whole.{Knows, StateValue, id_at}
+use Rattle.journal_state.proofs.Places.{id_itself, place_found}
+use Rattle.tree_commands.specs.Gathered.{IsThreadOf, StandsAt, with_delivered}
 use Rattle.tree_commands.specs.Threads.{ThreadValue, parent_among, with_number}
 use Rattle.tree_commands.specs.Trees.{delivered_in, first_of, parents_of, place_if, replied_by}
 use Rattle.tree_commands.proofs.Parents.{parent_behind, parents_push}
 use Rattle.tree_commands.proofs.Places.{id_there, reply_same}
 
--- ---- the kind of a group's client
+-- ---- what was made
 
-pub known_kind : (clients : Meaning) (f : Facts) (group : Id) (n : ℕ) (def : GroupValue)
-    (kind : Option ℕ) → slice_get f.groups n ≡ group_at f.groups group
-    → option_map (λ (g : Known). g.def) (slice_get f.groups n) ≡ Some def
-    → kind ≡ kind_of_def clients def → HasKind clients f group kind
-known_kind clients f group n def kind at said is = by (slice_get f.groups n) at said
-  where
-    by : (o : Option Known) → o ≡ group_at f.groups group → option_map (λ (g : Known). g.def) o ≡
-        Some def → HasKind clients f group kind
-    by None at said = absurd (let none : None ≡ Some def = said in cc)
-    by (Some g) at said =
-        let same : g.def ≡ def = let both : Some g.def ≡ Some def = said in cc in
-        record { known = g; found = sym at; is = ap (kind_of_def clients) same ∙ sym is }
+-- what holds of what was made
+pub on_made : {T E : Type 0} (r : Result T E) (P : ThreadValue → Type 0) (new next : ThreadValue)
+    → P next → OnOk r (new ≡ next) → OnOk r (P new)
+on_made (Ok _) P new next holds made = subst P (sym made) holds
+on_made (Err _) P new next holds made = made
 
 -- ---- one message
 
@@ -69,38 +67,22 @@ module _ (clients : Meaning) (f : Facts) (group : Id) where
       not ∙ append-nil ids in
       subst (λ (xs : List Id). IsThreadOf clients f xs t) (sym same) of
 
-  module _ (kind : Option ℕ) (has : HasKind clients f group kind) (id : Id) (n : ℕ)
-      (at : IsPlace f.held id n) (m : MessageValue)
+  module _ (id : Id) (n : ℕ) (at : IsPlace f.held id n) (m : MessageValue)
       (said : option_map (λ (h : Held). h.message) (slice_get f.held n) ≡ Some m)
       (same : same_id m.group group ≡ true) where
-    verdict_is : verdict_in clients f.groups m ≡ verdict_by clients kind m
-    verdict_is =
-        ap (λ (g : Id). verdict_for clients (group_at f.groups g) m) (id_is m.group group same)
-        ∙ ap (λ (o : Option Known). verdict_for clients o m) has.found
-        ∙ ap (λ (k : Option ℕ). verdict_by clients k m) has.is
-
-    replied_is : replied_by clients f (held_at f.held id) ≡ first_of (verdict_by clients kind m)
-    replied_is =
-        ap (replied_by clients f) at.first
-        ∙ ap (λ (x : MessageValue). first_of (verdict_in clients f.groups x))
-        (message_is f.held id n m at said)
-        ∙ ap first_of verdict_is
-
     parent_is : (ids : List Id) (t : ThreadValue) (replied : Option ℕ)
         → AreApart (map (λ (h : Held). h.id) f.held) → IsThreadOf clients f ids t
-        → StandsAt f.held (first_of (verdict_by clients kind m)) replied
+        → StandsAt f.held (replied_by clients f (held_at f.held id)) replied
         → parent_behind clients f ids id ≡ parent_among t.numbers replied
     parent_is ids t replied apart of stands =
-        ap (place_if ids) replied_is
-        ∙ ap (λ (xs : List Id). place_if xs (first_of (verdict_by clients kind m)))
-        (sym of.numbered)
-        ∙ reply_same f.held apart t.numbers of.within (first_of (verdict_by clients kind m)) replied
-        stands
+        let o : Option Id = replied_by clients f (held_at f.held id) in
+        ap (λ (xs : List Id). place_if xs o) (sym of.numbered)
+        ∙ reply_same f.held apart t.numbers of.within o replied stands
 
     -- the tree with one more message
     pub put_in : (ids : List Id) (t : ThreadValue) (replied : Option ℕ)
         → AreApart (map (λ (h : Held). h.id) f.held) → IsThreadOf clients f ids t
-        → StandsAt f.held (first_of (verdict_by clients kind m)) replied
+        → StandsAt f.held (replied_by clients f (held_at f.held id)) replied
         → IsThreadOf clients f (with_delivered f group ids id) (with_number t n replied)
     put_in ids t replied apart of stands =
         let in_group : is_beside group (held_at f.held id) ≡ true =
@@ -121,19 +103,6 @@ module _ (clients : Meaning) (f : Facts) (group : Id) where
           sized = of.sized;
           within = all_push (λ k. k < length f.held) t.numbers n of.within at.within;
         })
-
-  -- from one tree to another: whatever messages the old one has, the new one has them with the k-th
-  -- delivered one, where it is of the group
-  abbrev pub Adds : ℕ → ThreadValue → ThreadValue → Type 0
-  Adds k old new = (ids : List Id) (id : Id) → slice_get f.delivered k ≡ Some id
-      → IsThreadOf clients f ids old → IsThreadOf clients f (with_delivered f group ids id) new
-
-  pub on_added : {T E : Type 0} (r : Result T E) (k : ℕ) (old new next : ThreadValue) → Adds k old next
-      → OnOk r (new ≡ next) → OnOk r (Adds k old new)
-  on_added (Ok _) k old new next adds made =
-      λ ids id there of. subst (λ (t : ThreadValue). IsThreadOf clients f (with_delivered f group ids id) t)
-      (sym made) (adds ids id there of)
-  on_added (Err _) k old new next adds made = made
 
   -- ---- message by message
 
@@ -162,11 +131,100 @@ module _ (clients : Meaning) (f : Facts) (group : Id) where
   all_in t of = subst (λ (xs : List Id). IsThreadOf clients f (filter in_group xs) t)
       (take_all (length f.delivered) f.delivered (omega arith)) of
 
--- ---- numbers
+-- ---- what the state keeps of the first dependencies
 
-pub stands_within : (held : List Held) (o : Option Id) (found : Option ℕ) → StandsAt held o found
-    → IfSome found (λ m. m < length held)
-stands_within held None found is = subst (λ (x : Option ℕ). IfSome x (λ m. m < length held))
-    (sym is) tt
-stands_within held (Some d) None none = tt
-stands_within held (Some d) (Some m) at = at.within
+first_at : (held : List Held) (answers : List (Option Judgement)) (n : ℕ) (answer : Option Judgement)
+    (d : Option ℕ) → slice_get answers n ≡ Some answer
+    → get_or (map (λ a. number_held held (first_dependency a)) answers) n d ≡ number_held held
+    (first_dependency answer)
+first_at held [] n answer d at = absurd (let none : None ≡ Some answer = at in cc)
+first_at held (a ∷ answers) zero answer d at =
+    ap (λ (x : Option Judgement). number_held held (first_dependency x))
+    (let is : a ≡ answer = cc in is)
+first_at held (a ∷ answers) (suc n) answer d at = first_at held answers n answer d at
+
+-- it is the number of a held message
+held_within : (held : List Held) (o : Option Id) → IfSome (number_held held o) (λ m. m < length held)
+held_within held None = tt
+held_within held (Some id) = found_within (place_of held id) (place_found held id)
+  where
+    found_within : (found : Option ℕ) → IsFound held id found → IfSome found (λ m. m < length held)
+    found_within None none = tt
+    found_within (Some m) at = at.within
+
+all_within : (held : List Held) (answers : List (Option Judgement)) (n : ℕ) → IfSome
+    (get_or (map (λ a. number_held held (first_dependency a)) answers) n None) (λ m. m < length held)
+all_within held [] n = tt
+all_within held (a ∷ answers) zero = held_within held (first_dependency a)
+all_within held (a ∷ answers) (suc n) = all_within held answers n
+
+pub first_within : (s : StateValue) (firsts : List (Option ℕ)) (n : ℕ) (d : Option ℕ)
+    → firsts ≡ firsts_of s → n < length firsts
+    → IfSome (get_or firsts n d) (λ m. m < length s.facts.held)
+first_within s firsts n d are within =
+    subst (λ (o : Option ℕ). IfSome o (λ m. m < length s.facts.held))
+    (sym (get_or_default firsts n d None within ∙ ap (λ (xs : List (Option ℕ)). get_or xs n None) are))
+    (all_within s.facts.held s.answers n)
+
+-- it stands where the first dependency of the verdict does
+stands_held : (held : List Held) (o : Option Id) → StandsAt held o (number_held held o)
+stands_held held None = refl
+stands_held held (Some id) = place_found held id
+
+map_at : {X Y : Type 0} (g : X → Y) (xs : List X) (n : ℕ) (x : X) → slice_get xs n ≡ Some x
+    → slice_get (map g xs) n ≡ Some (g x)
+map_at g [] n x at = absurd (let none : None ≡ Some x = at in cc)
+map_at g (y ∷ xs) zero x at = let is : y ≡ x = cc in ap (λ z. Some (g z)) is
+map_at g (y ∷ xs) (suc n) x at = map_at g xs n x at
+
+among_at : (ids : List Id) (k : ℕ) (id : Id) → slice_get ids k ≡ Some id → is_among ids id ≡ true
+among_at [] k id at = absurd (let none : None ≡ Some id = at in cc)
+among_at (x ∷ ids) zero id at =
+    let is : x ≡ id = cc in
+    ap (λ (b : Bool). b || is_among ids id) (ap (λ (y : Id). same_id y id) is ∙ id_itself id)
+among_at (x ∷ ids) (suc k) id at = or_true (same_id x id) (is_among ids id) (among_at ids k id at)
+  where
+    or_true : (b c : Bool) → c ≡ true → (b || c) ≡ true
+    or_true true c t = refl
+    or_true false c t = t
+
+module _ (clients : Meaning) (s : StateValue) (knows : Knows clients s) where
+  judged_there : DeliversJudged s.facts → (k : ℕ) (id : Id) → slice_get s.facts.delivered k ≡ Some
+      id → fin_set.contains s.facts.judged id ≡ true
+  judged_there ended k id at =
+      elim (fin_set.contains s.facts.judged id) as
+      (λ b. fin_set.contains s.facts.judged id ≡ b → b ≡ true) [
+        | true ↦ λ e. refl
+        | false ↦ λ e. absurd (false≢true (sym (ended id e) ∙ among_at s.facts.delivered k id at))
+      ] refl
+
+  pub first_stands : DeliversJudged s.facts → (k n : ℕ) (id : Id) (firsts : List (Option ℕ))
+      (d : Option ℕ) → firsts ≡ firsts_of s → slice_get s.facts.delivered k ≡ Some id
+      → IsPlace s.facts.held id n
+      → StandsAt s.facts.held (replied_by clients s.facts (held_at s.facts.held id))
+      (get_or firsts n d)
+  first_stands ended k n id firsts d are delivered at =
+      let f : Facts = s.facts in
+      let h : Held = at.message in
+      let judged : fin_set.contains f.judged h.id ≡ true =
+      ap (fin_set.contains f.judged) at.named ∙ judged_there ended k id delivered in
+      let answer : answer_of clients f h ≡ Some (verdict_in clients f.groups h.message) =
+      ap (λ (b : Bool). cond b (Some (verdict_in clients f.groups h.message)) None) judged in
+      let there : slice_get s.answers n ≡ Some (answer_of clients f h) =
+      ap (λ (xs : List (Option Judgement)). slice_get xs n) knows
+      ∙ map_at (answer_of clients f) f.held n h at.stands in
+      let first : get_or firsts n d ≡ number_held f.held
+      (first_of (verdict_in clients f.groups h.message)) =
+      ap (λ (xs : List (Option ℕ)). get_or xs n d) are
+      ∙ first_at f.held s.answers n (answer_of clients f h) d there
+      ∙ ap (λ (a : Option Judgement). number_held f.held (first_dependency a)) answer
+      ∙ ap (number_held f.held) (first_is (verdict_in clients f.groups h.message)) in
+      let replied : replied_by clients f (held_at f.held id) ≡ first_of
+      (verdict_in clients f.groups h.message) = ap (replied_by clients f) at.first in
+      subst (λ (o : Option Id). StandsAt f.held o (get_or firsts n d)) (sym replied)
+      (subst (StandsAt f.held (first_of (verdict_in clients f.groups h.message))) (sym first)
+      (stands_held f.held (first_of (verdict_in clients f.groups h.message))))
+    where
+      first_is : (j : Judgement) → first_dependency (Some j) ≡ first_of j
+      first_is judgement.Refuse = refl
+      first_is (judgement.Accept deps share) = refl

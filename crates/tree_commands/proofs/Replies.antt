@@ -5,15 +5,13 @@ use Rattle.std.proofs.Common.{Option, None, Some, slice_get, refl, sym, ap, ◌�
 use Rattle.std.specs.List.{filter, list_all}
 use Rattle.std.specs.Option.{option_map}
 use Rattle.std.proofs.lemmas.Bool.{and_parts, false≢true}
-use Rattle.sync_rules.specs.declared.answers.Judgement.{Judgement}
-use Rattle.sync_rules.specs.declared.answers.Judgement.TheVariants as judgement
 use Rattle.sync_rules.specs.declared.entries.Entry.{Entry}
 use Rattle.sync_rules.specs.Clients.{Meaning}
-use Rattle.sync_rules.specs.Facts.{Facts, Held, Id, facts, held_at}
+use Rattle.sync_rules.specs.Facts.{Facts, Id, facts, held_at}
 use Rattle.sync_rules.specs.Knowing.{AreServed, DeliversInOrder, IsServedBehind}
 use Rattle.sync_rules.specs.Legal.{Legal}
 use Rattle.sync_rules.specs.Lists.{is_among, same_id}
-use Rattle.sync_rules.specs.Steps.{is_beside, verdict_in}
+use Rattle.sync_rules.specs.Steps.{is_beside}
 use Rattle.journal_state.proofs.Places.{id_is}
 use Rattle.tree_commands.specs.Trees.{HasParent, RepliesToFirst, delivered_in, first_of}
 use Rattle.tree_commands.specs.Trees.{parents_behind, parents_of, place_among, place_if, replied_by}

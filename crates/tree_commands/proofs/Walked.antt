@@ -1,6 +1,6 @@
 -- A part of the walk of a tree, as it is shown.
-use Rattle.std.proofs.Common.{◌≡◌, ℕ, ◌+◌, ◌-◌, ◌<◌, true, if◌then◌else◌, List, [], ◌∷◌, length}
-use Rattle.std.proofs.Common.{map, take, drop, min, Option, None, Some, get_or, refl, sym, ap, ◌∙◌}
+use Rattle.std.proofs.Common.{◌≡◌, ℕ, ◌+◌, ◌-◌, ◌<◌, true, false, if◌then◌else◌, List, [], length}
+use Rattle.std.proofs.Common.{map, take, drop, min, Option, get_or, sym, ap, ◌∙◌}
 use Rattle.std.proofs.Common.{subst, arith, is_some}
 use Rattle.std.specs.List.{Contains, flat_map}
 use Rattle.std.specs.Prelude.{OnOk, Result, Ok, Err}
@@ -8,15 +8,15 @@ use Rattle.std.proofs.lemmas.List.{get_or-drop, get_or-take, get_or_default, len
 use Rattle.std.proofs.lemmas.List.{length-map}
 use Rattle.std.proofs.Common.{◌++◌, length-drop}
 use Rattle.std.proofs.lemmas.Option.{get_or_from_slice_get}
-use Rattle.reply_tree.specs.Walks.{HasOneWalk, IsSortedWalk, IsWalk, IsWindow, walk_of}
+use Rattle.reply_tree.specs.Walks.{HasOneWalk, IsSortedWalk, IsWindow, walk_of}
 use Rattle.sync_rules.specs.declared.states.Refused.TheVariants as refused
 use Rattle.sync_rules.specs.Clients.{Meaning}
 use Rattle.sync_rules.specs.Facts.{Facts, Id, group_at}
-use Rattle.store_commands.specs.Shown.{Showing, denies, shows}
+use Rattle.store_commands.specs.Shown.{denies, shows}
 use Rattle.store_commands.proofs.Lines.{more_lines}
 use Rattle.journal_state.specs.Whole.{id_at}
 use Rattle.tree_commands.specs.declared.tree.Window.{Window}
-use Rattle.tree_commands.specs.Gathered.{HasKind, IsThreadOf}
+use Rattle.tree_commands.specs.Gathered.{IsThreadOf}
 use Rattle.tree_commands.specs.Threads.{AreItems, ThreadValue}
 use Rattle.tree_commands.specs.Trees.{delivered_in, item_line, parents_of, tree_shown, walk_text}
 use Rattle.tree_commands.proofs.Parents.{parents_long, replies_earlier}
@@ -70,22 +70,21 @@ module _ (clients : Meaning) (f : Facts) (ids : List Id) (t : ThreadValue)
 
 -- ---- what is shown
 
-pub shown_known : (clients : Meaning) (f : Facts) (w : Window) (kind : Option ℕ)
-    → HasKind clients f w.group kind
+pub shown_known : (clients : Meaning) (f : Facts) (w : Window) → is_some (group_at f.groups w.group) ≡ true
     → tree_shown clients w f ≡ shows
     (walk_text (delivered_in f w.group) (parents_of clients f (delivered_in f w.group)) w.from
     w.count)
-shown_known clients f w kind has =
-    ap (λ o. if is_some o then shows
+shown_known clients f w known =
+    ap (λ b. if b then shows
     (walk_text (delivered_in f w.group) (parents_of clients f (delivered_in f w.group)) w.from
-    w.count) else denies refused.UnknownGroup) has.found
+    w.count) else denies refused.UnknownGroup) known
 
-pub shown_unknown : (clients : Meaning) (f : Facts) (w : Window) → group_at f.groups w.group ≡ None
+pub shown_unknown : (clients : Meaning) (f : Facts) (w : Window) → is_some (group_at f.groups w.group) ≡ false
     → tree_shown clients w f ≡ denies refused.UnknownGroup
-shown_unknown clients f w none =
-    ap (λ o. if is_some o then shows
+shown_unknown clients f w unknown =
+    ap (λ b. if b then shows
     (walk_text (delivered_in f w.group) (parents_of clients f (delivered_in f w.group)) w.from
-    w.count) else denies refused.UnknownGroup) none
+    w.count) else denies refused.UnknownGroup) unknown
 
 -- ---- lines
 

@@ -3,8 +3,8 @@ use Rattle.std.specs.Prelude.{◌≡◌, ℕ, ◌<◌, cond, List, [], ◌∷◌
 use Rattle.std.specs.Prelude.{Some}
 use Rattle.std.specs.List.{AllByRecursion}
 use Rattle.sync_rules.specs.Clients.{Meaning}
-use Rattle.sync_rules.specs.Facts.{Facts, Held, Id, Known, group_at, held_at}
-use Rattle.sync_rules.specs.Steps.{is_beside, kind_of_def}
+use Rattle.sync_rules.specs.Facts.{Facts, Held, Id, held_at}
+use Rattle.sync_rules.specs.Steps.{is_beside}
 use Rattle.sync_rules.specs.Views.{IsFound}
 use Rattle.journal_state.specs.Whole.{id_at}
 use Rattle.tree_commands.specs.Threads.{ThreadValue}
@@ -21,12 +21,6 @@ pub record IsThreadOf (clients : Meaning) (f : Facts) (ids : List Id) (t : Threa
 -- these messages and one more, where it is of the group
 abbrev pub with_delivered : Facts → Id → List Id → Id → List Id
 with_delivered f group ids id = ids ++ cond (is_beside group (held_at f.held id)) (id ∷ []) []
-
--- a group is known, and its client has this kind
-pub record HasKind (clients : Meaning) (f : Facts) (group : Id) (kind : Option ℕ) : Type 0 where
-  pub known : Known
-  pub found : group_at f.groups group ≡ Some known
-  pub is : kind_of_def clients known.def ≡ kind
 
 -- where the message stands that is replied to
 abbrev pub StandsAt : List Held → Option Id → Option ℕ → Type 0

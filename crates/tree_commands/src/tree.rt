@@ -1,12 +1,13 @@
 // The command `tree GROUP FROM COUNT`.
 ghost use Rattle.std.specs.Prelude.{◌≡◌, ◌++◌, OnOk};
 ghost use Rattle.std.specs.String.{string_bytes};
+ghost use Rattle.sync_rules.specs.Clients.{Meaning};
 ghost use Rattle.sync_words.specs.Outcomes.{came_to};
+ghost use Rattle.journal_state.specs.Whole.{Knows};
 ghost use Rattle.store_commands.specs.Show.{HasLooked, Prints, PrintsText};
-ghost use Rattle.tree_commands.specs.Gathered.{HasKind};
 ghost use Rattle.tree_commands.specs.Trees.{delivered_in, parents_of, tree_shown, walk_text};
 
-use crate::gather::{gather, kind_of};
+use crate::gather::gather;
 use crate::lines::add_lines;
 use outside::{Disk, Sink, write_text};
 use reply_tree::{walk_is_sorted, walks_are_one};
@@ -14,7 +15,7 @@ use std::alloc::{AllocError, Global};
 use std::hash::RandomState;
 use store_commands::load_store;
 use sync_ids::GroupId;
-use sync_rules::Clients;
+use sync_rules::{Clients, Refused};
 use sync_store::Store;
 use sync_words::Outcome;
 
@@ -44,46 +45,46 @@ pub fn print_tree<D: Disk, W: Sink, C: Clients>(
         (came_to result) }
 {
     let store = load_store(alloc, hasher, disk, clients)?;
-    print_window(alloc, &store, window, out, clients)
+    print_window(alloc, &store, window, out)
 }
 
-fn print_window<W: Sink, C: Clients>(
+// Prints a part of the walk, by the judgements that the store keeps.
+fn print_window<W: Sink>(
     alloc: Global,
     store: &Store,
     window: &Window,
     out: &mut W,
-    clients: &C,
 ) -> Result<(), Outcome>
-    ensures { Prints (tree_shown (C.meaning clients.now) window.now store.now.state.facts)
+    requires { (clients : Meaning) × Knows clients store.now.state }
+    ensures { (clients : Meaning) → Knows clients store.now.state
+        → Prints (tree_shown clients window.now store.now.state.facts)
         (W.tells out.old) (W.tells out.new) (came_to result) }
 {
-    let kind = match kind_of(store, &window.group, clients) {
-        Ok(kind) => kind,
-        Err(why) => return Err(Outcome::Refused(why)),
-    };
+    if !store.state().knows_group(&window.group) {
+        return Err(Outcome::Refused(Refused::UnknownGroup));
+    }
     let mut text = String::new(alloc);
-    add_window(alloc, store, kind, window, clients, &mut text)?;
+    add_window(alloc, store, window, &mut text)?;
     print_text(text.as_str(), out)
 }
 
 // The lines of a part of the walk.
-fn add_window<C: Clients>(
+fn add_window(
     alloc: Global,
     store: &Store,
-    kind: Option<u8>,
     window: &Window,
-    clients: &C,
     to: &mut String,
 ) -> Result<(), AllocError>
-    requires kind { HasKind (C.meaning clients.now) store.now.state.facts window.now.group kind }
-    ensures { OnOk result (string_bytes to.new ≡ string_bytes to.old ++ walk_text
+    requires { (clients : Meaning) × Knows clients store.now.state }
+    ensures { (clients : Meaning) → Knows clients store.now.state
+        → OnOk result (string_bytes to.new ≡ string_bytes to.old ++ walk_text
         (delivered_in store.now.state.facts window.now.group)
-        (parents_of (C.meaning clients.now) store.now.state.facts
+        (parents_of clients store.now.state.facts
         (delivered_in store.now.state.facts window.now.group)) window.now.from window.now.count) }
 {
     walks_are_one();
     walk_is_sorted();
-    let thread = gather(alloc, store, &window.group, kind, clients)?;
+    let thread = gather(alloc, store, &window.group)?;
     let items = thread.walk(window.from, window.count)?;
     add_lines(alloc, store, &thread, items.as_slice(), to)
 }

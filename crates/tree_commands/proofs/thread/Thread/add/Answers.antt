@@ -1,4 +1,4 @@
-use Rattle.std.proofs.Common.{◌≡◌, ℕ, ◌<◌, ◌∙◌, ◌∷◌, ◌++◌, [], length, sym, ap, subst, rules}
+use Rattle.std.proofs.Common.{◌≡◌, ◌<◌, ◌∷◌, ◌++◌, [], length, sym, ap, subst, rules}
 use Rattle.tree_commands.specs.Threads.{ThreadValue}
 use Rattle.tree_commands.proofs.Numbers.{added_item}
 use Rattle.tree_commands.proofs.thread.Thread.add.Goals as goal

@@ -1,4 +1,4 @@
-use Rattle.std.proofs.Common.{◌≡◌, ℕ, ◌<◌, ◌∙◌, Some, length, sym, ap, subst}
+use Rattle.std.proofs.Common.{◌≡◌, ◌<◌, length, sym, ap, subst}
 use Rattle.std.specs.Prelude.{IfSome}
 use Rattle.tree_commands.specs.Threads.{ThreadValue}
 use Rattle.tree_commands.proofs.Numbers.{found_earlier}
