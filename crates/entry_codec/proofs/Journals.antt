@@ -30,7 +30,6 @@ use Rattle.entry_codec.proofs.Counts.{one_more}
 use Rattle.entry_codec.proofs.Named.{named_in}
 use Rattle.entry_codec.proofs.HeldNames.{WholeIds, legal_names}
 
-
 -- the test of a batch that is allowed
 abbrev pub Decided : Meaning → Type 0
 Decided clients = (f : Facts) (batch : List Entry) → Allowed clients f batch → allows clients f batch ≡ true
