@@ -1,8 +1,8 @@
 -- The group of each held message is known.
-use Rattle.std.proofs.Common.{◌≡◌, ℕ, zero, suc, Bool, true, List, [], ◌∷◌, map, refl, sym, ap, subst, Some, is_some, slice_get}
+use Rattle.std.proofs.Common.{◌≡◌, ℕ, zero, suc, true, List, [], ◌∷◌, map, refl, Some, is_some, slice_get}
 use Rattle.std.specs.List.{list_all}
 use Rattle.std.proofs.lemmas.Bool.{and_from}
-use Rattle.sync_rules.specs.Facts.{Held, Id, Known, group_at}
+use Rattle.sync_rules.specs.Facts.{Held, Known, group_at}
 use Rattle.message_graph.specs.declared.nodes.Node.{Node}
 use Rattle.visibility_table.specs.Table as levels
 use Rattle.journal_state.specs.Parts.{Parts}
