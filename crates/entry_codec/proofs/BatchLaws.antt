@@ -6,8 +6,8 @@ use Rattle.std.proofs.lemmas.Bool.{eqb-false, eqb-true}
 use Rattle.std.proofs.lemmas.List.{append-nil}
 use Rattle.sync_rules.specs.declared.entries.Entry.{Entry}
 use Rattle.entry_codec.specs.declared.naming.Format.{Format}
-use Rattle.entry_codec.specs.Naming.{AreNames, IsNamed, held_bytes}
-use Rattle.entry_codec.specs.Spelling.{EntryNames, IsEntry, entry_bytes, spelling_in}
+use Rattle.entry_codec.specs.Naming.{AreNames, IsNamed}
+use Rattle.entry_codec.specs.Spelling.{EntryNames, IsEntry, spelling_in}
 use Rattle.entry_codec.specs.Reading.{byte_in, entry_by, held_in}
 use Rattle.entry_codec.specs.Payloads.{batch_in, entries_in, followed, put_before, spellings}
 use Rattle.entry_codec.proofs.Bounds.{spelled_some}

@@ -16,7 +16,6 @@ use Rattle.outside.specs.declared.limits.TheConstants.{MAX_FRAME, MAX_JOURNAL}
 use Rattle.outside.specs.Files.{Two, file_of}
 use Rattle.outside.specs.Frames.{Frame, IsPayload, broken, closed, format_in, frame_at, frame_of, journal_file, framed, is_broken, size_at}
 use Rattle.entry_codec.specs.declared.naming.Format.{Format}
-use Rattle.entry_codec.specs.declared.naming.Format.TheVariants as kind
 use Rattle.entry_codec.specs.Naming.{IsNamed, format_of}
 use Rattle.entry_codec.specs.Spelling.{EntryNames, IsEntry}
 use Rattle.entry_codec.specs.Payloads.{batch_of, names_of, payload, payloads}
@@ -28,9 +27,8 @@ use Rattle.entry_codec.proofs.FrontLaws.{rest_once}
 use Rattle.entry_codec.proofs.AllowedIds.{names_held}
 use Rattle.entry_codec.proofs.BatchLaws.{IsWritten, batch_back, both_all}
 use Rattle.entry_codec.proofs.Counts.{one_more}
-use Rattle.entry_codec.proofs.Entries.{entry_free}
+use Rattle.entry_codec.proofs.Named.{named_in}
 use Rattle.entry_codec.proofs.HeldNames.{WholeIds, legal_names}
-use Rattle.sync_rules.specs.Lists.{is_among}
 
 -- the test of a batch that is allowed
 abbrev pub Decided : Meaning → Type 0
@@ -144,16 +142,7 @@ goes_on clients format bytes place f done more b h =
 written : (clients : Meaning) (format : Format) (f : Facts) (b : List Entry) → Allowed clients f b → AllByRecursion IsEntry b
     → AllByRecursion (IsWritten format (names_of f)) b
 written clients format f b allowed within =
-    both_all IsEntry (EntryNames (IsNamed format (names_of f))) b within (named format f b (names_held clients f b allowed))
-  where
-    free : (b : List Entry) → AllByRecursion (EntryNames (λ id. Unit {0})) b
-    free [] = tt
-    free (e ∷ es) = (entry_free e, free es)
-
-    named : (format : Format) (f : Facts) (b : List Entry) → AllByRecursion (EntryNames (λ id. is_among (names_of f) id ≡ true)) b
-        → AllByRecursion (EntryNames (IsNamed format (names_of f))) b
-    named kind.Whole f b held = free b
-    named kind.Short f b held = held
+    both_all IsEntry (EntryNames (IsNamed format (names_of f))) b within (named_in format (names_of f) b (names_held clients f b allowed))
 
 all_read : (clients : Meaning) → Decided clients → WholeIds → (format : Format) (file : ℕ) (bytes : List ℕ) (place : ℕ) (f : Facts) (done more : List (List Entry)) → Follows clients format bytes place f done more
     → rest_from clients format file bytes place done ≡ journal (done ++ more)

@@ -4,11 +4,12 @@ mod Latencies
 mod AllowedIds
 mod Places
 mod HeldNames
+pub mod Named
 mod OfBatches
 mod Counts
 mod TakeCounts
 mod Entries
-mod LawProofs
+pub mod LawProofs
 mod Bounds
 mod Parts
 mod Payloads

@@ -8,7 +8,7 @@ use Rattle.sync_rules.specs.Facts.{Facts}
 use Rattle.sync_rules.specs.Legal.{Allowed}
 use Rattle.sync_rules.specs.Lists.{is_among}
 use Rattle.entry_codec.specs.declared.lengths.TheConstants.{MAX_BATCH_LEN, MAX_SPELLING}
-use Rattle.entry_codec.specs.Payloads.{payload, payload_len}
+use Rattle.entry_codec.specs.Payloads.{payload_len}
 use Rattle.entry_codec.specs.Naming.{AreNames}
 use Rattle.entry_codec.specs.Spelling.{EntryNames, IsEntry, Spells, SpellsIn, spelling, spelling_in}
 use Rattle.entry_codec.specs.declared.naming.Format.{Format}
@@ -48,10 +48,6 @@ ShortIsNotLonger = (names : List (List ℕ)) (e : Entry) → IsEntry e
 -- nor are the spellings of the entries of a batch
 abbrev pub ShortBatchesAreNotLonger : Type 0
 ShortBatchesAreNotLonger = (batch : List Entry) → AllByRecursion IsEntry batch → payload_len format.Short batch ≤ payload_len format.Whole batch
-
--- how long the payload of a batch is does not depend on the facts before it
-abbrev pub PayloadsHaveLengths : Type 0
-PayloadsHaveLengths = (f : Format) (before : Facts) (batch : List Entry) → length (payload f before batch) ≡ payload_len f batch
 
 -- a batch that may follow a journal names as held only what is held, each of its entries by the facts before the batch
 abbrev pub AllowedNames : Type 0

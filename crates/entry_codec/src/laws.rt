@@ -1,6 +1,5 @@
 //! What holds of all spellings. Each function's clause is the law; none does anything.
 ghost use Rattle.entry_codec.specs.Laws.{AllowedNames, NoneBeginsAnother, PayloadsFitFrames};
-ghost use Rattle.entry_codec.specs.Laws.{PayloadsHaveLengths};
 ghost use Rattle.entry_codec.specs.Laws.{ShortBatchesAreNotLonger, ShortIsNotLonger};
 ghost use Rattle.entry_codec.specs.Laws.{SpellingsAreShort, SpellingsReadBack};
 ghost use Rattle.entry_codec.specs.StandingLaws.{AllowedAddOne, AllowedHaveLatency, AllowedTakeOne};
@@ -34,11 +33,6 @@ pub fn short_is_not_longer()
 /// The spellings of a batch in format 2 are together never longer than those in format 1.
 pub fn short_batches_are_not_longer()
     ensures { ShortBatchesAreNotLonger }
-{}
-
-/// How long the payload of a batch is depends on the format and the batch alone.
-pub fn payloads_have_lengths()
-    ensures { PayloadsHaveLengths }
 {}
 
 /// A batch that may follow a journal names as held only messages that are held before it, so it can

@@ -18,9 +18,6 @@ pub const MAX_SPELLING: usize = 49_168;
 /// The length of the longest payload of a batch that may follow a journal, in bytes.
 pub const MAX_BATCH_LEN: usize = 56_845;
 
-/// The length of the longest spelling of a step of settling, in bytes: that of format 1.
-pub const MAX_STEP_LEN: usize = 33;
-
 /// The bytes of a step of settling in a frame of its own: 38 in format 1, and 10 in format 2. Its
 /// spelling has 5 bytes less, as a frame has 5 beside its payload.
 pub fn step_bytes(format: Format) -> u64

@@ -13,9 +13,7 @@ mod values;
 mod writing;
 
 pub use batches::{batch_len, read_batch, write_batch};
-pub use lengths::{
-    MAX_BATCH_LEN, MAX_SPELLING, MAX_STEP_LEN, entry_len, short_len, spelled_len, step_bytes,
-};
+pub use lengths::{MAX_BATCH_LEN, MAX_SPELLING, entry_len, short_len, spelled_len, step_bytes};
 pub use naming::{Format, Names, NoNames, format_of};
 pub use reading::{EntryFound, read_entry, read_short};
 pub use writing::{write_entry, write_short};

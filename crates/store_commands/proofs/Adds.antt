@@ -13,10 +13,12 @@ use Rattle.sync_rules.specs.Legal.{Allowed, AllSettling}
 use Rattle.sync_rules.specs.Steps.{IsSettled}
 use Rattle.sync_rules.proofs.Continuing.{facts-append}
 use Rattle.sync_rules.proofs.Settling.{after_batches-append}
+use Rattle.outside.specs.Files.{read_files}
+use Rattle.entry_codec.specs.declared.naming.Format.{Format}
 use Rattle.entry_codec.specs.Payloads.{journal_end, payload_len}
 use Rattle.entry_codec.specs.Standing.{journal, room_of}
 use Rattle.sync_store.specs.Commits.{needed}
-use Rattle.sync_store.specs.Store.{StoreValue}
+use Rattle.sync_store.specs.Store.{StoreValue, format_meant, written_in}
 use Rattle.sync_store.specs.Fitting.{Fits}
 use Rattle.sync_store.specs.Moments.{IsBetween, JournalMoment}
 use Rattle.sync_store.specs.Runs.{AddsBatch, HasExtended, RunsBy}
@@ -24,7 +26,8 @@ use Rattle.sync_words.specs.declared.outcome.Outcome.{Outcome}
 use Rattle.sync_words.specs.declared.outcome.Outcome.TheVariants as outcome
 use Rattle.store_commands.specs.declared.commit.Settling.{Settling}
 use Rattle.store_commands.specs.declared.commit.Settling.TheVariants as settling
-use Rattle.store_commands.specs.Commit.{AddedSo, AddsAs, AddsAtMost, ExtendsBy, ExtendsEnds, ExtendsTold, Follows, GoesOn, IsWhole, SettledBy, MayFollow, SettlesAs, needed_by}
+use Rattle.store_commands.specs.Commit.{AddedSo, AddsAs, AddsAtMost, ExtendsBy, ExtendsEnds, ExtendsTold, Follows, GoesOn, IsWhole, SettledBy, MayFollow, SettlesAs, format_stood, needed_by}
+use Rattle.store_commands.proofs.Stood.{fits_format}
 
 -- ---- longer journals
 
@@ -122,42 +125,47 @@ settles_only clients o o1 s s1 batch asked came two j files fits settled = recor
 -- ---- settling and a batch
 
 -- the sum of a store is that of the journal that the disk fits
-weighed : (s : StoreValue) (j : List (List Entry)) (batch : List Entry) → s.end ≡ journal_end j → s.state.facts ≡ facts j → needed s batch ≡ needed_by j batch
-weighed s j batch ends same = (λ i. ends i + 5 + payload_len batch + room_of (after_all (same i) batch))
+weighed : (s : StoreValue) (format : Format) (j : List (List Entry)) (batch : List Entry) → s.end ≡ journal_end (written_in s) j → s.state.facts ≡ facts j
+    → written_in s ≡ format → needed s batch ≡ needed_by format j batch
+weighed s format j batch ends same kind =
+    (λ i. ends i + 5 + payload_len (written_in s) batch + room_of (written_in s) (after_all (same i) batch))
+    ∙ ap (λ (f : Format). needed_by f j batch) kind
 
 adds_ends : (clients : Meaning) (asked : Settling) (j first more : List (List Entry)) (batch : List Entry) (s1 s2 : StoreValue) (two1 two : Two File) (result : Result (Unit {0}) Outcome)
-    → AllSettling clients (facts j) first → IsSettled clients s1.state.facts → s1.limit ≡ MAX_JOURNAL → Fits clients s1 (j ++ first) two1 → AddedSo clients asked s1 s2 batch more result
+    → s2.format ≡ s1.format → AllSettling clients (facts j) first → IsSettled clients s1.state.facts → s1.limit ≡ MAX_JOURNAL → Fits clients s1 (j ++ first) two1 → AddedSo clients asked s1 s2 batch more result
     → (s2.closed ≡ false → (whole : List (List Entry)) × (whole ≡ (j ++ first) ++ more) × Fits clients s2 whole two)
     → ExtendsEnds clients asked j batch result two
-adds_ends clients asked j first more batch s1 s2 two1 two (Ok u) settles settled limit fits answer ends =
+adds_ends clients asked j first more batch s1 s2 two1 two (Ok u) format settles settled limit fits answer ends =
     let at = ends answer.0 in
     let whole = answer.2 in
     let f : s1.state.facts ≡ after_batches (facts j) first = sym fits.facts_are ∙ facts-append j first in
+    let kind : written_in s1 ≡ format_stood (read_files two) = ap format_meant (sym format) ∙ fits_format clients s2 at.0 two at.2 in
     let within : needed s1 batch ≤ MAX_JOURNAL = subst (λ n. needed s1 batch ≤ n) limit answer.1 in
     record {
       first = first;
       rest = whole.rest;
       settles = settles;
       settled = subst (IsSettled clients) f settled;
-      roomy = subst (λ n. n ≤ MAX_JOURNAL) (weighed s1 (j ++ first) batch fits.end_is (sym fits.facts_are)) within;
+      roomy = subst (λ n. n ≤ MAX_JOURNAL) (weighed s1 (format_stood (read_files two)) (j ++ first) batch fits.end_is (sym fits.facts_are) kind) within;
       follows = subst (λ (g : Facts). Follows asked clients (after_all g batch) whole.rest) f whole.follows;
       stands_for = at.2.stands_for ∙ ap journal (at.1 ∙ append_assoc j first more ∙ ap (λ (bs : List (List Entry)). j ++ (first ++ bs)) whole.is);
       first_settled = at.2.first_settled;
       second_settled = at.2.second_settled;
     }
-adds_ends clients asked j first more batch s1 s2 two1 two (Err outcome.Full) settles settled limit fits answer ends =
+adds_ends clients asked j first more batch s1 s2 two1 two (Err outcome.Full) format settles settled limit fits answer ends =
     let at = ends answer.0 in
+    let kind : written_in s1 ≡ format_stood (read_files two) = ap format_meant (sym format) ∙ fits_format clients s2 at.0 two at.2 in
     let over : MAX_JOURNAL < needed s1 batch = subst (λ n. n < needed s1 batch) limit answer.1 in
     record {
       first = first;
       settles = settles;
       settled = subst (IsSettled clients) (sym fits.facts_are ∙ facts-append j first) settled;
       stands_for = at.2.stands_for ∙ ap journal (at.1 ∙ ap (λ (bs : List (List Entry)). (j ++ first) ++ bs) answer.2 ∙ append-nil (j ++ first));
-      over = subst (λ n. MAX_JOURNAL < n) (weighed s1 (j ++ first) batch fits.end_is (sym fits.facts_are)) over;
+      over = subst (λ n. MAX_JOURNAL < n) (weighed s1 (format_stood (read_files two)) (j ++ first) batch fits.end_is (sym fits.facts_are) kind) over;
     }
-adds_ends clients asked j first more batch s1 s2 two1 two (Err outcome.Memory) settles settled limit fits answer ends = tt
-adds_ends clients asked j first more batch s1 s2 two1 two (Err outcome.DiskFault) settles settled limit fits answer ends = tt
-adds_ends clients asked j first more batch s1 s2 two1 two (Err _) settles settled limit fits answer ends = absurd answer
+adds_ends clients asked j first more batch s1 s2 two1 two (Err outcome.Memory) format settles settled limit fits answer ends = tt
+adds_ends clients asked j first more batch s1 s2 two1 two (Err outcome.DiskFault) format settles settled limit fits answer ends = tt
+adds_ends clients asked j first more batch s1 s2 two1 two (Err _) format settles settled limit fits answer ends = absurd answer
 
 pub adds : (clients : Meaning) (asked which : Settling) (o o1 o2 : Outside) (s s1 s2 : StoreValue) (batch : List Entry) (u : Unit {0}) (result : Result (Unit {0}) Outcome) (two : Two File)
     (j : List (List Entry)) → asked ≡ which → o.files ≡ Some two → Fits clients s j two → s.limit ≡ MAX_JOURNAL → DiskRun o o1 → SettlesAs clients s s1 o o1 (Ok u)
@@ -176,7 +184,7 @@ adds clients asked which o o1 o2 s s1 s2 batch u result two j same files fits li
           (moments_map o1 o2 _ _ (λ m w. batch_moment clients j first added.more batch (sent_of o.links.told) m settles adds w)
           (sent_before clients (IsBetween (j ++ first) added.more) o o1 o2 run.same_links second.moments));
       ends = λ two' files'.
-          adds_ends clients asked j first added.more batch s1 s2 told1.0 two' result settles settled.answer.1 (settled.comes.limit ∙ limited) fits1
+          adds_ends clients asked j first added.more batch s1 s2 told1.0 two' result added.format settles settled.answer.1 (settled.comes.limit ∙ limited) fits1
           (subst (λ (w : Settling). AddedSo clients w s1 s2 batch added.more result) (sym same) added.answer) (λ still_open. second.ends still_open two' files');
     }
 

@@ -8,3 +8,4 @@ pub mod Commits
 pub mod Loads
 pub mod Posts
 pub mod Begins
+pub mod Stood

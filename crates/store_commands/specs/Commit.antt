@@ -1,8 +1,9 @@
 -- What settling a store, adding a batch to it and settling again comes to.
-use Rattle.std.specs.Prelude.{◌≡◌, ◌⊎◌, ℕ, ◌+◌, ◌<◌, ◌≤◌, false, List, [], ◌∷◌, ◌++◌, Option, Some, Result, Ok, Err}
+use Rattle.std.specs.Prelude.{◌≡◌, ◌⊎◌, ℕ, ◌+◌, ◌<◌, ◌≤◌, false, List, [], ◌∷◌, ◌++◌, Option, Some, None, Result, Ok, Err}
 use Rattle.outside.specs.declared.limits.TheConstants.{MAX_JOURNAL}
 use Rattle.outside.specs.Faults.{Rose}
-use Rattle.outside.specs.Files.{Two, File, read_files, NothingPending}
+use Rattle.outside.specs.Files.{Two, File, file_of, read_files, NothingPending}
+use Rattle.outside.specs.Frames.{format_in, journal_file}
 use Rattle.outside.specs.Links.{sent_of}
 use Rattle.outside.specs.Outside.{Outside, MomentsAre}
 use Rattle.sync_rules.specs.declared.entries.Entry.{Entry}
@@ -10,10 +11,12 @@ use Rattle.sync_rules.specs.Clients.{Meaning}
 use Rattle.sync_rules.specs.Facts.{Facts, facts, after_all, after_batches}
 use Rattle.sync_rules.specs.Legal.{Allowed, AllSettling}
 use Rattle.sync_rules.specs.Steps.{IsSettled}
+use Rattle.entry_codec.specs.declared.naming.Format.{Format}
+use Rattle.entry_codec.specs.declared.naming.Format.TheVariants as kind
 use Rattle.entry_codec.specs.Payloads.{journal_end, payload_len}
 use Rattle.entry_codec.specs.Standing.{journal, room_of, stands}
 use Rattle.sync_store.specs.Commits.{needed}
-use Rattle.sync_store.specs.Store.{StoreValue}
+use Rattle.sync_store.specs.Store.{StoreValue, format_meant}
 use Rattle.sync_store.specs.Ready.{IsReady}
 use Rattle.sync_store.specs.Moments.{JournalMoment}
 use Rattle.sync_store.specs.Runs.{AddsBatch, LeadsBy}
@@ -48,9 +51,22 @@ abbrev pub Follows : Settling → Meaning → Facts → List (List Entry) → Ty
 Follows settling.Before clients f rest = rest ≡ []
 Follows settling.BeforeAndAfter clients f rest = AllSettling clients f rest × IsSettled clients (after_batches f rest)
 
--- the length that a journal needs with a batch: the batch's frame is added, and room is counted for all that settling may then add
-abbrev pub needed_by : List (List Entry) → List Entry → ℕ
-needed_by j batch = journal_end j + 5 + payload_len batch + room_of (after_all (facts j) batch)
+-- the format of the journal's file of two files, which is the first where there is none
+abbrev pub format_at : Two (List ℕ) → Option ℕ → Format
+format_at files None = kind.Whole
+format_at files (Some file) = format_meant (format_in (file_of files file))
+
+abbrev pub format_stood : Two (List ℕ) → Format
+format_stood files = format_at files (journal_file files)
+
+abbrev pub format_told : Option (Two File) → Format
+format_told None = kind.Whole
+format_told (Some two) = format_stood (read_files two)
+
+-- the length that a journal of this format needs with a batch: the batch's frame is added, and room is counted for all that
+-- settling may then add
+abbrev pub needed_by : Format → List (List Entry) → List Entry → ℕ
+needed_by format j batch = journal_end format j + 5 + payload_len format batch + room_of format (after_all (facts j) batch)
 
 -- The files stand for the journal, all of its settling, the one batch, for which there was room when it was committed, and what
 -- follows it; nothing is pending in them, so that each crash leaves this.
@@ -59,7 +75,7 @@ pub record IsAdded (clients : Meaning) (settling : Settling) (j : List (List Ent
   pub rest : List (List Entry)
   pub settles : AllSettling clients (facts j) first
   pub settled : IsSettled clients (after_batches (facts j) first)
-  pub roomy : needed_by (j ++ first) batch ≤ MAX_JOURNAL
+  pub roomy : needed_by (format_stood (read_files two)) (j ++ first) batch ≤ MAX_JOURNAL
   pub follows : Follows settling clients (after_all (after_batches (facts j) first) batch) rest
   pub stands_for : stands clients (read_files two) ≡ journal (j ++ (first ++ batch ∷ rest))
   pub first_settled : NothingPending two 0
@@ -71,7 +87,7 @@ pub record IsFull (clients : Meaning) (j : List (List Entry)) (batch : List Entr
   pub settles : AllSettling clients (facts j) first
   pub settled : IsSettled clients (after_batches (facts j) first)
   pub stands_for : stands clients (read_files two) ≡ journal (j ++ first)
-  pub over : MAX_JOURNAL < needed_by (j ++ first) batch
+  pub over : MAX_JOURNAL < needed_by (format_stood (read_files two)) (j ++ first) batch
 
 -- ---- a store that is ready
 
@@ -124,6 +140,7 @@ AddedSo clients settling s s' batch more (Err _) = ⊥
 pub record AddsAs (clients : Meaning) (settling : Settling) (s s' : StoreValue) (batch : List Entry) (old new : Outside) (result : Result (Unit {0}) Outcome) : Type 0 where
   pub more : List (List Entry)
   pub adds : AddsBatch clients s.state.facts batch more
+  pub format : s'.format ≡ s.format
   pub leads : LeadsBy clients s s' old new more
   pub answer : AddedSo clients settling s s' batch more result
 

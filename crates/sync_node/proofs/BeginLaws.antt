@@ -22,7 +22,7 @@ use Rattle.sync_store.specs.Fitting.{Fits, ImagesStand}
 use Rattle.sync_store.specs.Loading.{StandsFor}
 use Rattle.sync_store.specs.Ready.{IsReady}
 use Rattle.sync_store.specs.Settling.{HasSettled}
-use Rattle.sync_store.specs.Store.{IsStore, StoreValue}
+use Rattle.sync_store.specs.Store.{IsStore, StoreValue, written_in}
 use Rattle.sync_node.specs.Begun.{IsBegun, IsLeftSafe, begin_at}
 use Rattle.sync_node.specs.Joined.{IsUnused, Joined}
 use Rattle.sync_node.specs.Node.{MayRun, new_node}
@@ -116,7 +116,7 @@ module _ (clients : Meaning) (o o' : Outside) (two : Two File) (s : StoreValue) 
 -- a call on links over an open store, which leaves the files and what was sent on each link
 pub safe_still : FrontsHaveFronts → ImagesStand → (clients : Meaning) (b : Begin)
     (plans : List Session) (s : StoreValue) (o o' : Outside)
-    → s.closed ≡ false → s.end + room_of s.state.facts ≤ MAX_JOURNAL → QuietCall o o'
+    → s.closed ≡ false → s.end + room_of (written_in s) s.state.facts ≤ MAX_JOURNAL → QuietCall o o'
     → LinksGrow o.links o'.links
     → ((link : ℕ) → sent_on o'.links link ≡ sent_on o.links link) → Safe clients b plans s o
     → Safe clients b plans s o'
@@ -229,7 +229,7 @@ hung_up fronts clients b plans s o o' call same safe =
     safe_calm fronts clients b plans s o o' call (grow_same o.links o'.links same) (ap (λ (l : Links). l.told) same) safe
 
 pub left_safe : ImagesStand → (clients : Meaning) (b : Begin) (plans : List Session)
-    (s : StoreValue) (o : Outside) → s.end + room_of s.state.facts ≤ MAX_JOURNAL
+    (s : StoreValue) (o : Outside) → s.end + room_of (written_in s) s.state.facts ≤ MAX_JOURNAL
     → Safe clients b plans s o → (told : Told o) → IsLeftSafe clients b plans s o told.two
 left_safe stand clients b plans s o roomy safe told =
     let reads = safe.reads told in

@@ -5,8 +5,9 @@ use Rattle.outside.specs.Files.{Two, File}
 use Rattle.outside.specs.Outside.{DiskRun, Outside}
 use Rattle.sync_rules.specs.declared.entries.Entry.{Entry}
 use Rattle.sync_rules.specs.Clients.{Meaning}
+use Rattle.entry_codec.specs.Payloads.{payload_len}
 use Rattle.entry_codec.specs.Standing.{room_of}
-use Rattle.sync_store.specs.Store.{StoreValue}
+use Rattle.sync_store.specs.Store.{StoreValue, format_meant, written_in}
 use Rattle.sync_store.specs.Fitting.{Fits}
 use Rattle.sync_store.specs.Moments as store_moments
 use Rattle.sync_store.specs.Moments.{IsBetween, Leads, WithAtMost, journal_with}
@@ -288,7 +289,15 @@ over_limit clients s s' batch o o' run answer adds =
           (two'.0, two'.1, subst (λ (whole : List (List Entry)). Fits clients s' whole two'.0) end.1 end.2);
       before = answer.1;
       over =
-          omega (arith, answer.1, stays.limit, stays.end, ap (λ (f : Facts). room_of (after_all f batch)) stays.facts);
+          omega (
+            arith,
+            answer.1,
+            stays.limit,
+            stays.end,
+            ap (λ n. payload_len (format_meant n) batch) stays.format,
+            ap (λ n. room_of (format_meant n) (after_all s'.state.facts batch)) stays.format,
+            ap (λ (f : Facts). room_of (written_in s) (after_all f batch)) stays.facts,
+          );
     }
 
 pub take_full : (clients : Meaning) (session : ℕ) (r : Record) (s s' : StoreValue) (o o' : Outside)

@@ -25,7 +25,7 @@ use Rattle.sync_rules.proofs.StepKinds.{settled_stays}
 use Rattle.sync_rules.specs.Steps.{IsSettled}
 use Rattle.entry_codec.specs.Standing.{room_of}
 use Rattle.outside.specs.declared.limits.TheConstants.{MAX_JOURNAL}
-use Rattle.sync_store.specs.Store.{StoreValue}
+use Rattle.sync_store.specs.Store.{StoreValue, written_in}
 use Rattle.sync_store.specs.Fitting.{Fits, ImagesStand}
 use Rattle.sync_store.specs.Ready.{IsReady}
 use Rattle.sync_node.specs.declared.link.Link.{Link}
@@ -172,7 +172,7 @@ pub out_works : FrontsHaveFronts → ImagesStand → (clients : Meaning) (link n
     → ((b : Begin) (plans later : List Session) → IsFront plans later → (Told o → IsOfRun b.first later (heard_on o.links) s.state.facts (out_batch l.session.number now what))
     → Safe clients b plans s o → Safe clients b later s1 o1)
     → bytes ≡ spelled (records_of s.state.facts.held what)
-    → s1.end + room_of s1.state.facts ≤ MAX_JOURNAL → link < o.links.dialled
+    → s1.end + room_of (written_in s1) s1.state.facts ≤ MAX_JOURNAL → link < o.links.dialled
     → l.end ≢ link_end.Failed
     → SendsOn link bytes l l' o1 o2 → Works clients link [] [] l l' s s1 o o2
 out_works fronts stand clients link now what l l' s s1 o o1 o2 bytes commits safe is_bytes roomy within unfailed sends =
@@ -230,7 +230,7 @@ pub put_works : FrontsHaveFronts → ImagesStand → (clients : Meaning) (link n
     → batch ≡ out_batch l.session.number now what → Commits clients (batch ∷ []) s s1 o o1
     → CommitsSafe clients batch s s1 o o1
     → bytes ≡ spelled (records_of s.state.facts.held what)
-    → s1.end + room_of s1.state.facts ≤ MAX_JOURNAL → link < o.links.dialled
+    → s1.end + room_of (written_in s1) s1.state.facts ≤ MAX_JOURNAL → link < o.links.dialled
     → l.end ≢ link_end.Failed
     → SendsOn link bytes l l' o1 o2 → Works clients link [] [] l l' s s1 o o2
 put_works fronts stand clients link now what l l' s s1 o o1 o2 bytes batch is commits safe =

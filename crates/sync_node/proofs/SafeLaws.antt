@@ -18,7 +18,7 @@ use Rattle.sync_rules.specs.Facts.{facts}
 use Rattle.sync_rules.specs.Legal.{Legal}
 use Rattle.entry_codec.specs.Standing.{room_of}
 use Rattle.outside.specs.declared.limits.TheConstants.{MAX_JOURNAL}
-use Rattle.sync_store.specs.Store.{StoreValue}
+use Rattle.sync_store.specs.Store.{StoreValue, written_in}
 use Rattle.sync_store.specs.Fitting.{Fits, FitsSome, ImagesStand}
 use Rattle.sync_store.specs.Moments.{JournalMoment, Leads}
 use Rattle.sync_node.specs.Going.{Goes, specs_of}
@@ -270,7 +270,7 @@ safe_calm fronts clients b plans s o o' call grows same_told safe =
 pub safe_send : FrontsHaveFronts → ImagesStand → (clients : Meaning) (b : Begin)
     (plans : List Session) (s : StoreValue) (o o' : Outside) (link : ℕ) (bytes : List ℕ)
     (result : Result (Unit {0}) Failed)
-    → s.closed ≡ false → s.end + room_of s.state.facts ≤ MAX_JOURNAL → link < o.links.dialled
+    → s.closed ≡ false → s.end + room_of (written_in s) s.state.facts ≤ MAX_JOURNAL → link < o.links.dialled
     → LinkCall (SendsPart o link bytes) o o' → Sends link bytes result o.links o'.links
     → HasOutput clients (b.first + link) link bytes s o
     → Safe clients b plans s o → Safe clients b plans s o'

@@ -30,7 +30,7 @@ use Rattle.sync_rules.proofs.StepKinds.{settled_stays}
 use Rattle.sync_rules.specs.Steps.{IsSettled}
 use Rattle.entry_codec.specs.Standing.{room_of}
 use Rattle.outside.specs.declared.limits.TheConstants.{MAX_JOURNAL}
-use Rattle.sync_store.specs.Store.{StoreValue}
+use Rattle.sync_store.specs.Store.{StoreValue, written_in}
 use Rattle.sync_store.specs.Fitting.{Fits, ImagesStand}
 use Rattle.sync_store.specs.Ready.{IsReady}
 use Rattle.sync_node.specs.declared.link.Link.{Link}
@@ -297,7 +297,7 @@ pub starts_safe : (clients : Meaning) (link : ℕ) (x : Session) (l0 l : Link) (
     → Commits clients (session_batch x ∷ []) s s1 o o1
     → ((b : Begin) (plans later : List Session) → IsFront plans later → (Told o → IsOfRun b.first later (heard_on o.links) s.state.facts (session_batch x))
     → Safe clients b plans s o → Safe clients b later s1 o1)
-    → bytes ≡ spelled (first_records x) → s1.end + room_of s1.state.facts ≤ MAX_JOURNAL
+    → bytes ≡ spelled (first_records x) → s1.end + room_of (written_in s1) s1.state.facts ≤ MAX_JOURNAL
     → Greets link bytes l0 l o1 o2 → StartsSafe clients link x s s1 o o2
 starts_safe clients link x l0 l s s1 o o1 o2 bytes allowed commits safe is_bytes roomy greets = record {
   safe = λ unused b plans number long was.

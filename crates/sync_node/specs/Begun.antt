@@ -19,7 +19,7 @@ use Rattle.sync_store.specs.declared.fault.StoreFault.{StoreFault}
 use Rattle.sync_store.specs.Loading.{StandsFor}
 use Rattle.sync_store.specs.Ready.{IsReady}
 use Rattle.sync_store.specs.Settling.{HasSettled}
-use Rattle.sync_store.specs.Store.{IsStore, StoreValue}
+use Rattle.sync_store.specs.Store.{IsStore, StoreValue, written_in}
 use Rattle.sync_node.specs.Joined.{IsUnused, Joined}
 use Rattle.sync_node.specs.Courses.{AllRead}
 use Rattle.sync_node.specs.Node.{IsNode, MayRun, NodeValue, new_node}
@@ -41,7 +41,7 @@ begin_at two j o = record {
 -- planned.
 pub record IsBegun (clients : Meaning) (b : Begin) (s : StoreValue) (o : Outside) : Type 0 where
   pub first : s.state.facts.begun ≡ b.first
-  pub roomy : s.end + room_of s.state.facts ≤ MAX_JOURNAL
+  pub roomy : s.end + room_of (written_in s) s.state.facts ≤ MAX_JOURNAL
   pub silent : b.sent ≡ []
   pub unused : (link : ℕ) → IsUnused link o
   pub safe : Safe clients b [] s o
@@ -143,6 +143,6 @@ PlansWiden H tells =
 abbrev pub SafeRunsLeave : (H : Type 0) → (H → Outside) → Type 0
 SafeRunsLeave H tells =
     (clients : Meaning) (b : Begin) (plans : List Session) (s : StoreValue) (host : H)
-    → s.end + room_of s.state.facts ≤ MAX_JOURNAL
+    → s.end + room_of (written_in s) s.state.facts ≤ MAX_JOURNAL
     → Safe clients b plans s (tells host) → (told : Told (tells host))
     → IsLeftSafe clients b plans s (tells host) told.two

@@ -9,7 +9,7 @@ use Rattle.sync_rules.specs.declared.entries.Entry.TheVariants as entry
 use Rattle.sync_rules.specs.Steps.{IsSettled}
 use Rattle.entry_codec.specs.Standing.{room_of}
 use Rattle.outside.specs.declared.limits.TheConstants.{MAX_JOURNAL}
-use Rattle.sync_store.specs.Store.{StoreValue}
+use Rattle.sync_store.specs.Store.{StoreValue, written_in}
 use Rattle.sync_store.specs.Fitting.{Fits}
 use Rattle.sync_store.specs.Ready.{IsReady}
 use Rattle.sync_node.specs.declared.link.Link.{Link}
@@ -40,7 +40,7 @@ pub record Greets (link : ℕ) (bytes : List ℕ) (old new : Link) (o o' : Outsi
   pub sent : new.end ≢ link_end.Failed → Told o'
       → sent_on o'.links link ≡ sent_on o.links link ++ bytes
   pub safe : (clients : Meaning) (s : StoreValue) (b : Begin) (plans : List Session)
-      → s.closed ≡ false → s.end + room_of s.state.facts ≤ MAX_JOURNAL
+      → s.closed ≡ false → s.end + room_of (written_in s) s.state.facts ≤ MAX_JOURNAL
       → HasOutput clients (b.first + link) link bytes s o → Safe clients b plans s o
       → Safe clients b plans s o'
 

@@ -12,13 +12,14 @@ use Rattle.sync_rules.specs.Facts.{Facts, after_all, after_batches, facts}
 use Rattle.sync_rules.specs.Legal.{AllSettling, Legal}
 use Rattle.sync_rules.proofs.StepKinds.{all_settling_only}
 use Rattle.sync_rules.specs.Steps.{IsSettled}
+use Rattle.entry_codec.specs.declared.naming.Format.{Format}
 use Rattle.entry_codec.specs.Payloads.{journal_end}
 use Rattle.entry_codec.specs.Standing.{room_of}
 use Rattle.sync_store.specs.Commits.{needed}
 use Rattle.sync_store.specs.Fitting.{Fits, FitsSome}
 use Rattle.sync_store.specs.Moments.{IsBetween}
 use Rattle.sync_store.specs.Settling.{ComesBy}
-use Rattle.sync_store.specs.Store.{StoreValue}
+use Rattle.sync_store.specs.Store.{StoreValue, written_in}
 use Rattle.sync_course.specs.Events.{Event, batches_of}
 use Rattle.sync_course.proofs.LiftLaws.{breaks_begun, runs_begun, runs_settled_begun}
 use Rattle.sync_course.specs.Quiet.{EndsQuiet}
@@ -34,7 +35,8 @@ use Rattle.sync_node.specs.Output.{Journal}
 use Rattle.sync_course.specs.Closing.{Closing}
 use Rattle.sync_words.specs.declared.outcome.Outcome.{Outcome}
 use Rattle.sync_words.specs.declared.outcome.Outcome.TheVariants as outcome
-use Rattle.store_commands.specs.Commit.{SettledBy, SettlesAs, needed_by}
+use Rattle.store_commands.specs.Commit.{SettledBy, SettlesAs, format_told, needed_by}
+use Rattle.store_commands.proofs.Stood.{fits_format}
 use Rattle.sync_run.specs.declared.dialling.Dialled.{Dialled}
 use Rattle.sync_run.specs.declared.run.Limits.{Limits}
 use Rattle.sync_run.specs.Courses.{terms_of}
@@ -50,10 +52,10 @@ RunsEndQuiet =
     → Course clients terms sessions (facts j) events last → is_over terms.quiet last ≡ true → EndsQuiet clients terms events last
 
 -- the sum of a store is that of its journal
-sum_over : (s : StoreValue) (k : Journal) (batch : List Entry) → s.end ≡ journal_end k → facts k ≡ s.state.facts → s.limit ≡ MAX_JOURNAL → s.limit < needed s batch
-    → MAX_JOURNAL < needed_by k batch
+sum_over : (s : StoreValue) (k : Journal) (batch : List Entry) → s.end ≡ journal_end (written_in s) k → facts k ≡ s.state.facts → s.limit ≡ MAX_JOURNAL → s.limit < needed s batch
+    → MAX_JOURNAL < needed_by (written_in s) k batch
 sum_over s k batch end same limit over =
-    let room : room_of (after_all (facts k) batch) ≡ room_of (after_all s.state.facts batch) = ap (λ (f : Facts). room_of (after_all f batch)) same in
+    let room : room_of (written_in s) (after_all (facts k) batch) ≡ room_of (written_in s) (after_all s.state.facts batch) = ap (λ (f : Facts). room_of (written_in s) (after_all f batch)) same in
     omega (arith, end, limit, over, room)
 
 module _ (clients : Meaning) (limits : Limits) (links : List Dialled) (j : Journal) (s0 : StoreValue) (o0 : Outside) (fit : FitsWith clients s0 o0.files j) where
@@ -117,7 +119,10 @@ module _ (clients : Meaning) (limits : Limits) (links : List Dialled) (j : Journ
         batch = full.batch;
         next = full.next;
         steps = full.steps;
-        over = sum_over s (j ++ batches_of full.runs.events) full.batch fit_now.2.end_is fit_now.2.facts_are limit full.over;
+        over =
+            subst (λ (k : Format). MAX_JOURNAL < needed_by k (j ++ batches_of full.runs.events) full.batch)
+            (fits_format clients s (j ++ batches_of full.runs.events) fit_now.0 fit_now.2 ∙ sym (ap format_told fit_now.1))
+            (sum_over s (j ++ batches_of full.runs.events) full.batch fit_now.2.end_is fit_now.2.facts_are limit full.over);
         sent = λ told i l there unfailed.
             filled.sent given i l there unfailed told (j ++ batches_of full.runs.events)
             (fits_told s o (j ++ batches_of full.runs.events) fit_now told);

@@ -22,7 +22,7 @@ use Rattle.sync_course.specs.Turns.{Broken, Course, Place, RunStep, Terms, is_ov
 use Rattle.sync_node.specs.Courses.{ReadsAs}
 use Rattle.sync_course.specs.declared.ends.LinkEnd.TheVariants as end
 use Rattle.sync_node.specs.Output.{Journal, output, sent_on}
-use Rattle.store_commands.specs.Commit.{needed_by}
+use Rattle.store_commands.specs.Commit.{format_told, needed_by}
 use Rattle.sync_words.specs.declared.link_words.LinkWords.{LinkWords}
 use Rattle.sync_words.specs.declared.outcome.Outcome.{Outcome}
 use Rattle.sync_words.specs.declared.outcome.Outcome.TheVariants as outcome
@@ -96,7 +96,7 @@ pub record WasFull (clients : Meaning) (limits : Limits) (words : List LinkWords
   pub batch : List Entry
   pub next : Place
   pub steps : RunStep clients (terms_of limits begin) run.last (Commit batch) next
-  pub over : MAX_JOURNAL < needed_by (begin ++ batches_of run.events) batch
+  pub over : MAX_JOURNAL < needed_by (format_told new.files) (begin ++ batches_of run.events) batch
   pub sent : SentAt begin (begin ++ batches_of run.events) run.last new
 
 -- some contact of the words is not known

@@ -18,7 +18,7 @@ use Rattle.sync_node.specs.Fulls.{RunFullSent}
 use Rattle.sync_node.specs.Joined.{Joined}
 use Rattle.sync_node.specs.Output.{Journal}
 use Rattle.sync_node.specs.Plans.{session_of}
-use Rattle.store_commands.specs.Commit.{needed_by}
+use Rattle.store_commands.specs.Commit.{format_told, needed_by}
 use Rattle.sync_words.specs.declared.outcome.Outcome.{Outcome}
 use Rattle.sync_words.specs.declared.outcome.Outcome.TheVariants as outcome
 use Rattle.sync_run.specs.declared.dialling.Dialled.{Dialled}
@@ -140,7 +140,7 @@ pub record RunFilled (clients : Meaning) (limits : Limits) (sessions : List Sess
   pub batch : List Entry
   pub next : Place
   pub steps : RunStep clients (terms_of limits j) run.last (Commit batch) next
-  pub over : MAX_JOURNAL < needed_by (j ++ batches_of run.events) batch
+  pub over : MAX_JOURNAL < needed_by (format_told o'.files) (j ++ batches_of run.events) batch
   pub sent : SentAt j (j ++ batches_of run.events) run.last o'
 
 abbrev pub RunsOver : Meaning → Limits → List Session → Journal → Outside → Outside → Result Closing Outcome → Type 0

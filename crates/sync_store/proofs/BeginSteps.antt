@@ -15,6 +15,8 @@ use Rattle.frame_journal.specs.declared.fault.DiskFault.{DiskFault}
 use Rattle.frame_journal.specs.Gates.{SyncsBoth, AnyImage}
 use Rattle.sync_rules.specs.Clients.{Meaning}
 use Rattle.sync_rules.specs.Facts.{nothing}
+use Rattle.entry_codec.specs.declared.naming.Format.TheVariants as kind
+use Rattle.entry_codec.specs.Naming.{format_of}
 use Rattle.entry_codec.specs.Payloads.{payloads}
 use Rattle.entry_codec.specs.StandingLaws.{JournalsStand}
 use Rattle.entry_codec.specs.Standing.{stands, stands_in, journal, no_store}
@@ -36,16 +38,16 @@ first_open m first second = cc
 begun_open : is_open (begun_bytes 1 1) ≡ true
 begun_open = refl
 
-begun_frames : HasFrames (begun_bytes 1 1) (header_of 1 1) (payloads nothing [])
+begun_frames : HasFrames (begun_bytes 1 1) (header_of 1 1) (payloads kind.Whole nothing [])
 begun_frames = record { gate = 0; rest = []; whole = refl; closed = λ e. absurd (omega arith); long = refl; payloads_fit = All-nil IsPayload }
 
 begun_stands : JournalsStand → (clients : Meaning) (m : Two (List ℕ)) → m.first ≡ begun_bytes 1 1 → is_open m.second ≡ false → stands clients m ≡ journal []
 begun_stands stand clients m first second =
-    stand clients m 0 [] (record {
+    stand clients m 0 kind.Whole [] (record {
       found = first_open m (ap is_open first ∙ begun_open) second;
-      format_is = ap format_in first;
+      format_is = ap (λ (bytes : List ℕ). format_of (format_in bytes)) first;
       header = header_of 1 1;
-      frames = subst (λ (bytes : List ℕ). HasFrames bytes (header_of 1 1) (payloads nothing [])) (sym first) begun_frames;
+      frames = subst (λ (bytes : List ℕ). HasFrames bytes (header_of 1 1) (payloads kind.Whole nothing [])) (sym first) begun_frames;
       legal = tt;
       within = tt;
       bounded = lit≤ tt;

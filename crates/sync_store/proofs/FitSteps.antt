@@ -10,12 +10,15 @@ use Rattle.outside.specs.Disk.{Becomes}
 use Rattle.outside.specs.Outside.{Outside, Moment, MomentsAre}
 use Rattle.outside.specs.Steps.{FileMoment, Passed, other_of}
 use Rattle.outside.proofs.CallSteps.{becomes_told, image_file, image_other, moments_map, moments_none}
-use Rattle.frame_journal.specs.Append.{payload_of, Appends, BeforeOrWith}
+use Rattle.frame_journal.specs.Append.{payload_of, Appends, BeforeOrWith, IsFramed}
 use Rattle.sync_rules.specs.declared.entries.Entry.{Entry}
 use Rattle.sync_rules.specs.Clients.{Meaning}
 use Rattle.sync_rules.specs.Facts.{Facts, after_all, facts, nothing}
 use Rattle.sync_rules.specs.Legal.{Allowed, Legal}
-use Rattle.entry_codec.specs.Payloads.{journal_end, payload, payload_len, payloads}
+use Rattle.entry_codec.specs.declared.naming.Format.{Format}
+use Rattle.entry_codec.specs.Naming.{format_of}
+use Rattle.entry_codec.specs.Payloads.{journal_end, names_of, payload, payload_len, payloads}
+use Rattle.entry_codec.proofs.LawProofs.{batch_len_same}
 use Rattle.sync_rules.proofs.Continuing.{legal-push}
 use Rattle.entry_codec.proofs.Growing.{all_push, facts_push, payloads_push}
 use Rattle.entry_codec.specs.Spelling.{IsEntry}
@@ -23,7 +26,7 @@ use Rattle.entry_codec.specs.Standing.{stands, journal, room_of}
 use Rattle.entry_codec.specs.StandingLaws.{JournalsStand}
 use Rattle.outside.specs.declared.limits.TheConstants.{MAX_JOURNAL}
 use Rattle.sync_store.specs.declared.fault.StoreFault.{StoreFault}
-use Rattle.sync_store.specs.Store.{StoreValue}
+use Rattle.sync_store.specs.Store.{StoreValue, format_meant, written_in}
 use Rattle.sync_store.specs.Fitting.{Fits, FitsSome}
 use Rattle.sync_store.specs.Commits.{Gains, MayAdd}
 use Rattle.sync_store.specs.Moments.{JournalMoment, Leads, WithAtMost, Adds}
@@ -66,18 +69,20 @@ this_reads two (suc _) = refl
 
 -- frames of a journal behind the store's header, and the other file as it was
 stands_at : JournalsStand → (clients : Meaning) (s : StoreValue) (j : List (List Entry)) (two : Two File) (fits : Fits clients s j two) (m : Two (List ℕ)) (k : List (List Entry))
-    → HasFrames (file_of m s.file) fits.header (payloads nothing k) → other_of m s.file ≡ (other_of two s.file).now → Legal clients k
-    → AllByRecursion (λ batch. AllByRecursion IsEntry batch) k → journal_end k + room_of (facts k) ≤ MAX_JOURNAL → stands clients m ≡ journal k
+    → HasFrames (file_of m s.file) fits.header (payloads (written_in s) nothing k) → other_of m s.file ≡ (other_of two s.file).now → Legal clients k
+    → AllByRecursion (λ batch. AllByRecursion IsEntry batch) k → journal_end (written_in s) k + room_of (written_in s) (facts k) ≤ MAX_JOURNAL → stands clients m ≡ journal k
 stands_at stand clients s j two fits m k frames other legal within bounded =
-    let reads : HasFrames (file_of (read_files two) s.file) fits.header (payloads nothing j) =
-    subst (λ (bytes : List ℕ). HasFrames bytes fits.header (payloads nothing j)) (sym (this_reads two s.file)) fits.frames in
-    stand clients m s.file k (record {
+    let reads : HasFrames (file_of (read_files two) s.file) fits.header (payloads (written_in s) nothing j) =
+    subst (λ (bytes : List ℕ). HasFrames bytes fits.header (payloads (written_in s) nothing j)) (sym (this_reads two s.file)) fits.frames in
+    stand clients m s.file (written_in s) k (record {
       found =
-          one_journal_file m (read_files two) s.file fits.header (payloads nothing k) (payloads nothing j) frames reads (other ∙ sym (other_reads two s.file))
+          one_journal_file m (read_files two) s.file fits.header (payloads (written_in s) nothing k) (payloads (written_in s) nothing j) frames reads (other ∙ sym (other_reads two s.file))
           ∙ fits.file_is;
       format_is =
-          one_format (file_of m s.file) (file_of two s.file).now fits.header (payloads nothing k) (payloads nothing j) frames fits.frames
-          ∙ fits.format_is ∙ fits.format_known;
+          ap format_of
+          (one_format (file_of m s.file) (file_of two s.file).now fits.header (payloads (written_in s) nothing k) (payloads (written_in s) nothing j) frames fits.frames
+          ∙ fits.format_is)
+          ∙ fits.format_known;
       header = fits.header;
       frames = frames;
       legal = legal;
@@ -86,15 +91,15 @@ stands_at stand clients s j two fits m k frames other legal within bounded =
     })
 
 -- the room of a store in words of its journal
-bounded_now : (clients : Meaning) (s : StoreValue) (j : List (List Entry)) (two : Two File) → Fits clients s j two → s.end + room_of s.state.facts ≤ MAX_JOURNAL
-    → journal_end j + room_of (facts j) ≤ MAX_JOURNAL
+bounded_now : (clients : Meaning) (s : StoreValue) (j : List (List Entry)) (two : Two File) → Fits clients s j two → s.end + room_of (written_in s) s.state.facts ≤ MAX_JOURNAL
+    → journal_end (written_in s) j + room_of (written_in s) (facts j) ≤ MAX_JOURNAL
 bounded_now clients s j two fits roomy =
-    let same : room_of (facts j) ≡ room_of s.state.facts = ap room_of fits.facts_are in
+    let same : room_of (written_in s) (facts j) ≡ room_of (written_in s) s.state.facts = ap (room_of (written_in s)) fits.facts_are in
     omega (arith, fits.end_is, same, roomy)
 
 -- every crash of now leaves files that stand for the journal
 pub fits_image : JournalsStand → (clients : Meaning) (s : StoreValue) (j : List (List Entry)) (two : Two File) (m : Two (List ℕ)) → Fits clients s j two
-    → s.end + room_of s.state.facts ≤ MAX_JOURNAL → IsImage two m → stands clients m ≡ journal j
+    → s.end + room_of (written_in s) s.state.facts ≤ MAX_JOURNAL → IsImage two m → stands clients m ≡ journal j
 fits_image stand clients s j two m fits roomy image =
     let this : file_of m s.file ≡ (file_of two s.file).now =
     settled_only (file_of two s.file).now (file_of m s.file)
@@ -102,30 +107,42 @@ fits_image stand clients s j two m fits roomy image =
     let other : other_of m s.file ≡ (other_of two s.file).now =
     settled_only (other_of two s.file).now (other_of m s.file)
     (subst (λ (f : File). IsFileImage f (other_of m s.file)) (other_settled two s.file fits.first_settled fits.second_settled) (image_other two m s.file image)) in
-    stands_at stand clients s j two fits m j (subst (λ (bytes : List ℕ). HasFrames bytes fits.header (payloads nothing j)) (sym this) fits.frames) other fits.legal fits.within
+    stands_at stand clients s j two fits m j (subst (λ (bytes : List ℕ). HasFrames bytes fits.header (payloads (written_in s) nothing j)) (sym this) fits.frames) other fits.legal fits.within
     (bounded_now clients s j two fits roomy)
 
 -- ---- a batch more
+
+-- how long a frame is
+pub framed_len : (s : StoreValue) (batch : List Entry) (framed : List ℕ) → IsFramed framed → payload_of framed ≡ payload (written_in s) s.state.facts batch
+    → length framed ≡ 5 + payload_len (written_in s) batch
+framed_len s batch framed is_framed is =
+    framed_long framed is_framed ∙ ap (λ p. 5 + length p) is ∙ ap (λ n. 5 + n) (batch_len_same (written_in s) (names_of s.state.facts) batch)
+
+-- frames in the format of a store are those of one that has the same
+same_frames : (two : Two File) (s new : StoreValue) (header : List ℕ) (j : List (List Entry)) → new.format ≡ s.format
+    → HasFrames (file_of two new.file).now header (payloads (written_in s) nothing j) → HasFrames (file_of two new.file).now header (payloads (written_in new) nothing j)
+same_frames two s new header j same frames =
+    subst (λ n. HasFrames (file_of two new.file).now header (payloads (format_meant n) nothing j)) (sym same) frames
 
 allowed_here : (clients : Meaning) (s : StoreValue) (j : List (List Entry)) (two : Two File) (batch : List Entry) (framed : List ℕ) → Fits clients s j two → MayAdd clients s batch framed
     → Allowed clients (facts j) batch
 allowed_here clients s j two batch framed fits may = subst (λ (f : Facts). Allowed clients f batch) (sym fits.facts_are) may.allowed
 
 payload_here : (clients : Meaning) (s : StoreValue) (j : List (List Entry)) (two : Two File) (batch : List Entry) (framed : List ℕ) → Fits clients s j two → MayAdd clients s batch framed
-    → payload_of framed ≡ payload (facts j) batch
-payload_here clients s j two batch framed fits may = may.payload_is ∙ ap (λ (f : Facts). payload f batch) (sym fits.facts_are)
+    → payload_of framed ≡ payload (written_in s) (facts j) batch
+payload_here clients s j two batch framed fits may = may.payload_is ∙ ap (λ (f : Facts). payload (written_in s) f batch) (sym fits.facts_are)
 
 bounded_then : (clients : Meaning) (s : StoreValue) (j : List (List Entry)) (two : Two File) (batch : List Entry) (framed : List ℕ) → Fits clients s j two → MayAdd clients s batch framed
-    → journal_end (j ++ batch ∷ []) + room_of (facts (j ++ batch ∷ [])) ≤ MAX_JOURNAL
+    → journal_end (written_in s) (j ++ batch ∷ []) + room_of (written_in s) (facts (j ++ batch ∷ [])) ≤ MAX_JOURNAL
 bounded_then clients s j two batch framed fits may =
-    let same : room_of (facts (j ++ batch ∷ [])) ≡ room_of (after_all s.state.facts batch) =
-    ap room_of (facts_push j batch ∙ ap (λ (f : Facts). after_all f batch) fits.facts_are) in
-    omega (arith, end_framed j batch framed may.is_framed (payload_here clients s j two batch framed fits may), fits.end_is, same, may.still_roomy)
+    let same : room_of (written_in s) (facts (j ++ batch ∷ [])) ≡ room_of (written_in s) (after_all s.state.facts batch) =
+    ap (room_of (written_in s)) (facts_push j batch ∙ ap (λ (f : Facts). after_all f batch) fits.facts_are) in
+    omega (arith, end_framed (written_in s) j batch framed may.is_framed (payload_here clients s j two batch framed fits may), fits.end_is, same, may.still_roomy)
 
-more_frames : (bytes header : List ℕ) (j : List (List Entry)) (batch : List Entry) (framed : List ℕ) → payload_of framed ≡ payload (facts j) batch
-    → HasFrames bytes header (payloads nothing j ++ payload_of framed ∷ []) → HasFrames bytes header (payloads nothing (j ++ batch ∷ []))
-more_frames bytes header j batch framed same frames =
-    subst (λ (ps : List (List ℕ)). HasFrames bytes header ps) (ap (λ p. payloads nothing j ++ p ∷ []) same ∙ sym (payloads_push nothing j batch)) frames
+more_frames : (format : Format) (bytes header : List ℕ) (j : List (List Entry)) (batch : List Entry) (framed : List ℕ) → payload_of framed ≡ payload format (facts j) batch
+    → HasFrames bytes header (payloads format nothing j ++ payload_of framed ∷ []) → HasFrames bytes header (payloads format nothing (j ++ batch ∷ []))
+more_frames format bytes header j batch framed same frames =
+    subst (λ (ps : List (List ℕ)). HasFrames bytes header ps) (ap (λ p. payloads format nothing j ++ p ∷ []) same ∙ sym (payloads_push format nothing j batch)) frames
 
 -- a moment of an append: the files stand for the journal, or for it with the batch
 adds_moment : JournalsStand → (clients : Meaning) (s : StoreValue) (j : List (List Entry)) (two : Two File) (batch : List Entry) (framed : List ℕ) (sent : List (List ℕ)) → Fits clients s j two
@@ -134,7 +151,7 @@ adds_moment stand clients s j two batch framed sent fits may m moment =
     let other : other_of m.files s.file ≡ (other_of two s.file).now =
     settled_only (other_of two s.file).now (other_of m.files s.file)
     (subst (λ (f : File). IsFileImage f (other_of m.files s.file)) (other_settled two s.file fits.first_settled fits.second_settled) moment.other) in
-    elim (moment.this fits.header (payloads nothing j) fits.frames fits.end_is) [
+    elim (moment.this fits.header (payloads (written_in s) nothing j) fits.frames fits.end_is) [
       | inl before ↦ record {
         whole = j;
         has = inl refl;
@@ -146,7 +163,7 @@ adds_moment stand clients s j two batch framed sent fits may m moment =
         has = inr refl;
         stands_for =
             stands_at stand clients s j two fits m.files (j ++ batch ∷ [])
-            (more_frames (file_of m.files s.file) fits.header j batch framed (payload_here clients s j two batch framed fits may) with_it) other
+            (more_frames (written_in s) (file_of m.files s.file) fits.header j batch framed (payload_here clients s j two batch framed fits may) with_it) other
             (legal-push clients j batch fits.legal (allowed_here clients s j two batch framed fits may))
             (all_push (λ b. AllByRecursion IsEntry b) j batch fits.within may.within) (bounded_then clients s j two batch framed fits may);
         nothing_sent = moment.nothing_sent;
@@ -158,18 +175,18 @@ pub adds_fits : JournalsStand → (clients : Meaning) (s new : StoreValue) (j : 
     → MayAdd clients s batch framed → Appends s.file s.end framed two two' → Gains s new batch → Fits clients new (j ++ batch ∷ []) two'
 adds_fits stand clients s new j two two' batch framed fits may appends is_with =
     let payload_is = payload_here clients s j two batch framed fits may in
-    let long : length framed ≡ 5 + payload_len batch = framed_long framed may.is_framed ∙ ap (λ p. 5 + length p) may.payload_is in
+    let long : length framed ≡ 5 + payload_len (written_in s) batch = framed_len s batch framed may.is_framed may.payload_is in
     let grows : new.end ≡ s.end + length framed = omega (arith, is_with.end, long) in
     let other : other_of two' s.file ≡ settled (other_of two' s.file).now =
     appends.other ∙ other_settled two s.file fits.first_settled fits.second_settled ∙ ap (λ (f : File). settled f.now) (sym appends.other) in
     let reads_other : other_of (read_files two') s.file ≡ (other_of two s.file).now = other_reads two' s.file ∙ ap (λ (f : File). f.now) appends.other in
-    let more = payloads nothing (j ++ batch ∷ []) in
+    let more = payloads (written_in s) nothing (j ++ batch ∷ []) in
     let frames : HasFrames (file_of two' s.file).now fits.header more =
-    more_frames (file_of two' s.file).now fits.header j batch framed payload_is (appends.frames fits.header (payloads nothing j) fits.frames fits.end_is) in
+    more_frames (written_in s) (file_of two' s.file).now fits.header j batch framed payload_is (appends.frames fits.header (payloads (written_in s) nothing j) fits.frames fits.end_is) in
     let read_frames : HasFrames (file_of (read_files two') s.file) fits.header more =
     subst (λ (bytes : List ℕ). HasFrames bytes fits.header more) (sym (this_reads two' s.file)) frames in
-    let before : HasFrames (file_of (read_files two) s.file) fits.header (payloads nothing j) =
-    subst (λ (bytes : List ℕ). HasFrames bytes fits.header (payloads nothing j)) (sym (this_reads two s.file)) fits.frames in
+    let before : HasFrames (file_of (read_files two) s.file) fits.header (payloads (written_in s) nothing j) =
+    subst (λ (bytes : List ℕ). HasFrames bytes fits.header (payloads (written_in s) nothing j)) (sym (this_reads two s.file)) fits.frames in
     let legal = legal-push clients j batch fits.legal (allowed_here clients s j two batch framed fits may) in
     let within = all_push (λ b. AllByRecursion IsEntry b) j batch fits.within may.within in
     record {
@@ -180,20 +197,22 @@ adds_fits stand clients s new j two two' batch framed fits may appends is_with =
       facts_are = facts_push j batch ∙ ap (λ (f : Facts). after_all f batch) fits.facts_are ∙ sym is_with.facts;
       legal = legal;
       file_is =
-          one_journal_file (read_files two') (read_files two) s.file fits.header more (payloads nothing j) read_frames before (reads_other ∙ sym (other_reads two s.file))
+          one_journal_file (read_files two') (read_files two) s.file fits.header more (payloads (written_in s) nothing j) read_frames before (reads_other ∙ sym (other_reads two s.file))
           ∙ fits.file_is ∙ ap Some (sym is_with.file);
       format_is =
           ap (λ k. format_in (file_of two' k).now) is_with.file
-          ∙ one_format (file_of two' s.file).now (file_of two s.file).now fits.header more (payloads nothing j) frames fits.frames
+          ∙ one_format (file_of two' s.file).now (file_of two s.file).now fits.header more (payloads (written_in s) nothing j) frames fits.frames
           ∙ fits.format_is ∙ sym is_with.format;
-      format_known = is_with.format ∙ fits.format_known;
+      format_known = subst (λ n. format_of n ≡ Some (format_meant n)) (sym is_with.format) fits.format_known;
       generation_is =
           ap (λ k. generation_in (file_of two' k).now) is_with.file
-          ∙ one_generation (file_of two' s.file).now (file_of two s.file).now fits.header more (payloads nothing j) frames fits.frames
+          ∙ one_generation (file_of two' s.file).now (file_of two s.file).now fits.header more (payloads (written_in s) nothing j) frames fits.frames
           ∙ fits.generation_is ∙ sym is_with.generation;
       header = fits.header;
-      frames = subst (λ k. HasFrames (file_of two' k).now fits.header more) (sym is_with.file) frames;
-      end_is = grows ∙ ap (λ e. e + length framed) fits.end_is ∙ sym (end_framed j batch framed may.is_framed payload_is);
+      frames = same_frames two' s new fits.header (j ++ batch ∷ []) is_with.format (subst (λ k. HasFrames (file_of two' k).now fits.header more) (sym is_with.file) frames);
+      end_is =
+          grows ∙ ap (λ e. e + length framed) fits.end_is ∙ sym (end_framed (written_in s) j batch framed may.is_framed payload_is)
+          ∙ ap (λ n. journal_end (format_meant n) (j ++ batch ∷ [])) (sym is_with.format);
       within = within;
     }
 
@@ -246,11 +265,11 @@ fits_same clients s new j two fits same = record {
   legal = fits.legal;
   file_is = fits.file_is ∙ ap Some (sym same.file);
   format_is = ap (λ k. format_in (file_of two k).now) same.file ∙ fits.format_is ∙ sym same.format;
-  format_known = same.format ∙ fits.format_known;
+  format_known = subst (λ n. format_of n ≡ Some (format_meant n)) (sym same.format) fits.format_known;
   generation_is = ap (λ k. generation_in (file_of two k).now) same.file ∙ fits.generation_is ∙ sym same.generation;
   header = fits.header;
-  frames = subst (λ k. HasFrames (file_of two k).now fits.header (payloads nothing j)) (sym same.file) fits.frames;
-  end_is = same.end ∙ fits.end_is;
+  frames = same_frames two s new fits.header j same.format (subst (λ k. HasFrames (file_of two k).now fits.header (payloads (written_in s) nothing j)) (sym same.file) fits.frames);
+  end_is = same.end ∙ fits.end_is ∙ ap (λ n. journal_end (format_meant n) j) (sym same.format);
   within = fits.within;
 }
 
@@ -259,7 +278,7 @@ fits_some_same clients s new files fits same two told = let there = fits two tol
 
 -- no call on the disk
 pub leads_none : JournalsStand → (clients : Meaning) (P Q : List (List Entry) → Type 0) (s new : StoreValue) (j : List (List Entry)) (two : Two File) (o : Outside) → Fits clients s j two
-    → s.end + room_of s.state.facts ≤ MAX_JOURNAL → o.files ≡ Some two → IsSame s new → P j → Q j → Leads clients P Q new o o
+    → s.end + room_of (written_in s) s.state.facts ≤ MAX_JOURNAL → o.files ≡ Some two → IsSame s new → P j → Q j → Leads clients P Q new o o
 leads_none stand clients P Q s new j two o fits roomy told same p q = record {
   moments =
       moments_none o (JournalMoment clients P (sent_of o.links.told))
@@ -276,7 +295,7 @@ at_rest : (clients : Meaning) (s : StoreValue) (j : List (List Entry)) (two : Tw
 at_rest clients s j two fits = record {
   settled = this_settled two s.file fits.first_settled fits.second_settled;
   header = fits.header;
-  payloads = payloads nothing j;
+  payloads = payloads (written_in s) nothing j;
   frames = fits.frames;
   end_is = fits.end_is;
 }

@@ -6,8 +6,10 @@ use Rattle.outside.specs.Frames.{IsPayload}
 use Rattle.frame_journal.specs.Append.{framed_of, payload_of, IsFramed}
 use Rattle.sync_rules.specs.declared.entries.Entry.{Entry}
 use Rattle.sync_rules.specs.Facts.{facts}
-use Rattle.entry_codec.specs.Payloads.{journal_end, payload}
+use Rattle.entry_codec.specs.declared.naming.Format.{Format}
+use Rattle.entry_codec.specs.Payloads.{journal_end, names_of, payload}
 use Rattle.entry_codec.proofs.Growing.{journal_end_push}
+use Rattle.entry_codec.proofs.LawProofs.{batch_len_same}
 
 be_long : (n : ℕ) → length (to_be_bytes w32 n) ≡ 4
 be_long n = refl
@@ -39,7 +41,7 @@ pub framed_long : (framed : List ℕ) → IsFramed framed → length framed ≡ 
 framed_long framed is_framed = ap length is_framed.spelled ∙ framed_length (payload_of framed)
 
 -- the end of a journal with a batch more
-pub end_framed : (j : List (List Entry)) (b : List Entry) (framed : List ℕ) → IsFramed framed → payload_of framed ≡ payload (facts j) b
-    → journal_end (j ++ b ∷ []) ≡ journal_end j + length framed
-end_framed j b framed is_framed same =
-    omega (arith, journal_end_push j b, framed_long framed is_framed, ap length same)
+pub end_framed : (format : Format) (j : List (List Entry)) (b : List Entry) (framed : List ℕ) → IsFramed framed → payload_of framed ≡ payload format (facts j) b
+    → journal_end format (j ++ b ∷ []) ≡ journal_end format j + length framed
+end_framed format j b framed is_framed same =
+    omega (arith, journal_end_push format j b, framed_long framed is_framed, ap length same, batch_len_same format (names_of (facts j)) b)

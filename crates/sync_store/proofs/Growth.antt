@@ -18,21 +18,24 @@ use Rattle.sync_rules.proofs.LeftLaws.{steps_lower}
 use Rattle.sync_rules.specs.Legal.{Allowed, IsSettling}
 use Rattle.sync_rules.specs.Steps.{IsSettled}
 use Rattle.sync_rules.proofs.WorkLaws.{allowed_settling}
-use Rattle.entry_codec.specs.declared.lengths.TheConstants.{STEP_LEN}
-use Rattle.entry_codec.specs.Payloads.{payload_len, spellings}
+use Rattle.entry_codec.specs.declared.naming.Format.{Format}
+use Rattle.entry_codec.specs.Payloads.{names_of, payload, payload_len, spellings}
+use Rattle.entry_codec.proofs.LawProofs.{batch_len_same}
 use Rattle.entry_codec.specs.Spelling.{IsEntry}
-use Rattle.entry_codec.specs.Standing.{room_of}
+use Rattle.entry_codec.specs.Standing.{room_of, step_len}
 use Rattle.entry_codec.specs.StandingLaws.{JournalsStand}
 use Rattle.outside.specs.declared.limits.TheConstants.{MAX_JOURNAL}
 use Rattle.sync_store.specs.declared.fault.StoreFault.{StoreFault}
 use Rattle.sync_store.specs.declared.fault.StoreFault.TheVariants as fault
 use Rattle.sync_store.specs.Cited.{CitedLaws}
-use Rattle.sync_store.specs.Store.{HasNumbers, IsStore, StoreValue}
+use Rattle.sync_store.specs.Store.{HasNumbers, IsStore, StoreValue, format_meant, written_in}
 use Rattle.sync_store.specs.Commits.{Gains, MayAdd, needed}
 use Rattle.sync_store.specs.Moments.{journal_with}
 use Rattle.sync_store.specs.Settling.{BatchSo, ComesBy, IsOneBatch, MakesBatch}
-use Rattle.sync_store.proofs.FitSteps.{adds_err, adds_ok, true≢false}
-use Rattle.sync_store.proofs.Framing.{framed_length, framed_long, framed_so, payload_framed}
+use Rattle.sync_store.proofs.FitSteps.{adds_err, adds_ok, framed_len, true≢false}
+use Rattle.sync_store.proofs.FormatLaws.{room_framed, room_less, steps_few, steps_some}
+use Rattle.sync_store.proofs.Framing.{framed_length, framed_so, payload_framed}
+use Rattle.sync_store.proofs.HeldIds.{names_stay}
 use Rattle.sync_store.proofs.SettleSteps.{calls_closed, calls_one, leads_one, leads_one_closed}
 use Rattle.sync_store.proofs.Steps.{numbers_stay}
 
@@ -50,8 +53,9 @@ grown_numbers laws clients f batch end later allowed numbers far =
 -- the numbers of a store that gained a batch
 pub grown_store : CitedLaws → (clients : Meaning) (s new : StoreValue) (batch : List Entry) (framed : List ℕ) → IsStore s → MayAdd clients s batch framed → Gains s new batch → IsStore new
 grown_store laws clients s new batch framed store may gains =
-    let long : length framed ≡ 5 + payload_len batch = framed_long framed may.is_framed ∙ ap (λ p. 5 + length p) may.payload_is in
-    let room : room_of new.state.facts ≡ room_of (after_all s.state.facts batch) = ap room_of gains.facts in
+    let long : length framed ≡ 5 + payload_len (written_in s) batch = framed_len s batch framed may.is_framed may.payload_is in
+    let room : room_of (written_in new) new.state.facts ≡ room_of (written_in s) (after_all s.state.facts batch) =
+    ap (λ (f : Facts). room_of (written_in new) f) gains.facts ∙ ap (λ n. room_of (format_meant n) (after_all s.state.facts batch)) gains.format in
     record {
       limited = omega (arith, store.limited, gains.limit);
       roomy = omega (arith, may.still_roomy, gains.end, long, room);
@@ -62,13 +66,14 @@ grown_store laws clients s new batch framed store may gains =
 
 -- a store whose state made steps keeps its numbers
 pub stepped_store : (clients : Meaning) (s new : StoreValue) (es : List Entry) → IsStore s → IsSettling clients s.state.facts es → new.state.facts ≡ after_all s.state.facts es → new.end ≡ s.end
-    → new.limit ≡ s.limit → IsStore new
-stepped_store clients s new es store settling facts end limit =
+    → new.limit ≡ s.limit → new.format ≡ s.format → IsStore new
+stepped_store clients s new es store settling facts end limit format =
     let fewer = steps_lower clients s.state.facts es settling in
-    let room : left_of new.state.facts ≡ left_of (after_all s.state.facts es) = ap left_of facts in
+    let left : left_of new.state.facts ≤ left_of s.state.facts = omega (arith, fewer, ap left_of facts) in
+    let room : room_of (written_in new) new.state.facts ≡ room_of (written_in s) new.state.facts = ap (λ n. room_of (format_meant n) new.state.facts) format in
     record {
       limited = omega (arith, store.limited, limit);
-      roomy = omega (arith, store.roomy, fewer, room, end);
+      roomy = omega (arith, store.roomy, room_less (written_in s) (left_of new.state.facts) (left_of s.state.facts) left, room, end);
       numbers =
           subst (λ (n : ℕ). HasNumbers new.state.facts n) (sym end)
           (subst (λ (f : Facts). HasNumbers f s.end) (sym facts) (numbers_stay clients s.state.facts es s.end settling store.numbers));
@@ -76,29 +81,38 @@ stepped_store clients s new es store settling facts end limit =
 
 -- ---- a batch in its frame
 
-framed_by : (batch : List Entry) (framed : List ℕ) → framed ≡ framed_of (spellings batch) → IsPayload (spellings batch) → IsFramed framed
-framed_by batch framed is fits = subst IsFramed (sym is) (framed_so (spellings batch) fits)
+framed_by : (p framed : List ℕ) → framed ≡ framed_of p → IsPayload p → IsFramed framed
+framed_by p framed is fits = subst IsFramed (sym is) (framed_so p fits)
 
-payload_by : (batch : List Entry) (framed : List ℕ) → framed ≡ framed_of (spellings batch) → payload_of framed ≡ spellings batch
-payload_by batch framed is = ap payload_of is ∙ payload_framed (spellings batch)
+payload_by : (p framed : List ℕ) → framed ≡ framed_of p → payload_of framed ≡ p
+payload_by p framed is = ap payload_of is ∙ payload_framed p
 
-length_by : (batch : List Entry) (framed : List ℕ) → framed ≡ framed_of (spellings batch) → length framed ≡ 5 + payload_len batch
-length_by batch framed is = ap length is ∙ framed_length (spellings batch)
+length_by : (p framed : List ℕ) → framed ≡ framed_of p → length framed ≡ 5 + length p
+length_by p framed is = ap length is ∙ framed_length p
 
 -- what a commit found of its batch
 pub may_add : CitedLaws → (clients : Meaning) (s new : StoreValue) (batch : List Entry) (framed : List ℕ) → IsStore s → new.state.facts ≡ s.state.facts → new.end ≡ s.end
-    → Allowed clients s.state.facts batch → AllByRecursion IsEntry batch → framed ≡ framed_of (spellings batch) → needed s batch ≤ s.limit → MayAdd clients new batch framed
-may_add laws clients s new batch framed store facts end allowed within is fits =
-    let short = laws.fit clients s.state.facts batch allowed within in
-    let room : room_of new.state.facts ≡ room_of s.state.facts = ap room_of facts in
-    let after : room_of (after_all new.state.facts batch) ≡ room_of (after_all s.state.facts batch) = ap (λ (f : Facts). room_of (after_all f batch)) facts in
+    → new.format ≡ s.format → Allowed clients s.state.facts batch → AllByRecursion IsEntry batch → framed ≡ framed_of (payload (written_in s) s.state.facts batch) → needed s batch ≤ s.limit
+    → MayAdd clients new batch framed
+may_add laws clients s new batch framed store facts end format allowed within is fits =
+    let kind = written_in s in
+    let p = payload kind s.state.facts batch in
+    let short = laws.fit clients s.state.facts kind batch allowed within in
+    let len = batch_len_same kind (names_of s.state.facts) batch in
+    let same : written_in new ≡ kind = ap format_meant format in
+    let room : room_of (written_in new) new.state.facts ≡ room_of kind s.state.facts =
+    ap (λ (f : Facts). room_of (written_in new) f) facts ∙ ap (λ (k : Format). room_of k s.state.facts) same in
+    let after : room_of (written_in new) (after_all new.state.facts batch) ≡ room_of kind (after_all s.state.facts batch) =
+    ap (λ (f : Facts). room_of (written_in new) (after_all f batch)) facts ∙ ap (λ (k : Format). room_of k (after_all s.state.facts batch)) same in
     record {
       allowed = subst (λ (f : Facts). Allowed clients f batch) (sym facts) allowed;
       within = within;
-      is_framed = framed_by batch framed is (omega (arith, short.0), omega (arith, short.1));
-      payload_is = payload_by batch framed is;
+      is_framed = framed_by p framed is (omega (arith, short.0, len), omega (arith, short.1, len));
+      payload_is =
+          payload_by p framed is ∙ ap (λ (k : Format). payload k s.state.facts batch) (sym same)
+          ∙ ap (λ (f : Facts). payload (written_in new) f batch) (sym facts);
       roomy = omega (arith, store.roomy, end, room);
-      still_roomy = omega (arith, store.limited, fits, end, after, length_by batch framed is);
+      still_roomy = omega (arith, store.limited, fits, end, after, length_by p framed is, len);
     }
 
 -- ---- a settling batch in its frame
@@ -110,27 +124,31 @@ pub record Filled (clients : Meaning) (s : StoreValue) (facts : Facts) (es : Lis
   pub few : length es ≤ MAX_STEPS
   pub facts_are : facts ≡ after_all s.state.facts es
   pub within : AllByRecursion IsEntry es
-  pub framed_is : framed ≡ framed_of (spellings es)
-  pub long : payload_len es ≡ STEP_LEN * length es
+  pub framed_is : framed ≡ framed_of (payload (written_in s) s.state.facts es)
+  pub long : payload_len (written_in s) es ≡ step_len (written_in s) * length es
   pub store : IsStore s
   pub still : s.closed ≡ false
 
 pub filled_may : (clients : Meaning) (s : StoreValue) (facts : Facts) (es : List Entry) (framed : List ℕ) → Filled clients s facts es framed → MayAdd clients s es framed
 filled_may clients s facts es framed f =
+    let kind = written_in s in
+    let p = payload kind s.state.facts es in
+    let len = batch_len_same kind (names_of s.state.facts) es in
     let fewer = steps_lower clients s.state.facts es f.settling in
+    let frame = room_framed kind (left_of (after_all s.state.facts es)) (length es) (left_of s.state.facts) fewer f.some in
     record {
       allowed = allowed_settling clients s.state.facts es (f.some, f.few, f.settling);
       within = f.within;
-      is_framed = framed_by es framed f.framed_is (omega (arith, f.long, f.some), omega (arith, f.long, f.few));
-      payload_is = payload_by es framed f.framed_is;
+      is_framed = framed_by p framed f.framed_is (omega (arith, f.long, len, steps_some kind (length es) f.some), omega (arith, f.long, len, f.few, steps_few kind (length es)));
+      payload_is = payload_by p framed f.framed_is;
       roomy = f.store.roomy;
-      still_roomy = omega (arith, f.store.roomy, fewer, f.long, f.some, length_by es framed f.framed_is);
+      still_roomy = omega (arith, f.store.roomy, frame, f.long, len, length_by p framed f.framed_is);
     }
 
-pub filled_room : (clients : Meaning) (s : StoreValue) (facts : Facts) (es : List Entry) (framed : List ℕ) → Filled clients s facts es framed → s.end + length framed + room_of facts ≤ MAX_JOURNAL
+pub filled_room : (clients : Meaning) (s : StoreValue) (facts : Facts) (es : List Entry) (framed : List ℕ) → Filled clients s facts es framed → s.end + length framed + room_of (written_in s) facts ≤ MAX_JOURNAL
 filled_room clients s facts es framed f =
     let may = filled_may clients s facts es framed f in
-    let same : room_of facts ≡ room_of (after_all s.state.facts es) = ap room_of f.facts_are in
+    let same : room_of (written_in s) facts ≡ room_of (written_in s) (after_all s.state.facts es) = ap (room_of (written_in s)) f.facts_are in
     omega (arith, may.still_roomy, same)
 
 filled_less : (clients : Meaning) (s : StoreValue) (facts : Facts) (es : List Entry) (framed : List ℕ) → Filled clients s facts es framed → left_of facts < left_of s.state.facts
@@ -149,6 +167,10 @@ pub record Came (s new : StoreValue) (facts : Facts) : Type 0 where
 
 -- ---- the frame was written
 
+filled_len : (clients : Meaning) (s : StoreValue) (facts : Facts) (es : List Entry) (framed : List ℕ) → Filled clients s facts es framed → length framed ≡ 5 + payload_len (written_in s) es
+filled_len clients s facts es framed f =
+    omega (arith, length_by (payload (written_in s) s.state.facts es) framed f.framed_is, batch_len_same (written_in s) (names_of s.state.facts) es)
+
 filled_gains : (clients : Meaning) (s new : StoreValue) (facts : Facts) (es : List Entry) (framed : List ℕ) → Filled clients s facts es framed → Came s new facts → new.end ≡ s.end + length framed
     → new.closed ≡ false → Gains s new es
 filled_gains clients s new facts es framed f came end closed = record {
@@ -156,7 +178,7 @@ filled_gains clients s new facts es framed f came end closed = record {
   file = came.file;
   format = came.format;
   generation = came.generation;
-  end = omega (arith, end, length_by es framed f.framed_is);
+  end = omega (arith, end, filled_len clients s facts es framed f);
   limit = came.limit;
   closed = closed;
 }
@@ -171,7 +193,7 @@ filled_ok stand clients s new facts es framed o o' f came end closed passed beco
   format = came.format;
   generation = came.generation;
   limit = came.limit;
-  end = λ still. omega (arith, end, length_by es framed f.framed_is, f.long);
+  end = λ still. omega (arith, end, filled_len clients s facts es framed f, f.long);
   leads = λ two told j fits.
       leads_one clients j es new tt o o'
       (adds_ok stand clients s new j two es framed tt o o' fits (filled_may clients s facts es framed f) told (passed two told) becomes
@@ -268,17 +290,21 @@ length_nil [] none = refl
 length_nil (x ∷ xs) none = absurd (omega (arith, none))
 
 -- what a buffer of steps and the frame of them say of each other
-pub filled_from : (clients : Meaning) (s : StoreValue) (facts : Facts) (items es : List Entry) (bytes framed : List ℕ) → es ≡ items → IsSettling clients s.state.facts items → facts ≡ after_all s.state.facts items
-    → 1 ≤ length es → length es ≤ MAX_STEPS → AllByRecursion IsEntry es → framed ≡ bytes → bytes ≡ framed_of (spellings es) → payload_len es ≡ STEP_LEN * length es → IsStore s → s.closed ≡ false
-    → Filled clients s facts es framed
-filled_from clients s facts items es bytes framed same settling facts_are some few within is spelled long store still = record {
+pub filled_from : (clients : Meaning) (s : StoreValue) (format : Format) → format ≡ written_in s → (facts : Facts) (items es : List Entry) (bytes framed : List ℕ) → es ≡ items → IsSettling clients s.state.facts items → facts ≡ after_all s.state.facts items
+    → 1 ≤ length es → length es ≤ MAX_STEPS → AllByRecursion IsEntry es → framed ≡ bytes → bytes ≡ framed_of (spellings format (names_of facts) es)
+    → length (spellings format (names_of facts) es) ≡ step_len format * length es → IsStore s → s.closed ≡ false → Filled clients s facts es framed
+filled_from clients s format kind facts items es bytes framed same settling facts_are some few within is spelled long store still = record {
   settling = subst (λ (xs : List Entry). IsSettling clients s.state.facts xs) (sym same) settling;
   some = some;
   few = few;
   facts_are = facts_are ∙ ap (λ (xs : List Entry). after_all s.state.facts xs) (sym same);
   within = within;
-  framed_is = is ∙ spelled;
-  long = long;
+  framed_is =
+      is ∙ spelled ∙ ap (λ (k : Format). framed_of (spellings k (names_of facts) es)) kind
+      ∙ ap (λ (names : List (List ℕ)). framed_of (spellings (written_in s) names es)) (ap names_of facts_are ∙ names_stay clients s.state.facts items settling);
+  long =
+      sym (batch_len_same (written_in s) (names_of facts) es)
+      ∙ subst (λ (k : Format). length (spellings k (names_of facts) es) ≡ step_len k * length es) kind long;
   store = store;
   still = still;
 }

@@ -1,7 +1,9 @@
 mod LoadSteps
 mod LoadEnds
 mod Headers
+mod FormatLaws
 mod Framing
+mod HeldIds
 mod FitSteps
 mod Steps
 mod SettleSteps

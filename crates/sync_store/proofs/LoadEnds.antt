@@ -19,19 +19,21 @@ use Rattle.frame_journal.specs.Journal.{JournalValue, is_format}
 use Rattle.frame_journal.specs.Header.{Starts}
 use Rattle.frame_journal.specs.declared.fault.StartFault.{StartFault}
 use Rattle.frame_journal.specs.declared.fault.StartFault.TheVariants as start
+use Rattle.entry_codec.specs.Naming.{format_of}
 use Rattle.entry_codec.specs.Payloads.{payloads}
 use Rattle.entry_codec.specs.Standing.{damaged, no_store, room_of, stands}
 use Rattle.entry_codec.specs.Fronts.{Front}
 use Rattle.entry_codec.proofs.FrontLaws.{front_closed, front_format, front_frames, front_none, front_start}
 use Rattle.journal_state.specs.Whole.{Knows, StateValue}
 use Rattle.outside.specs.declared.limits.TheConstants.{MAX_JOURNAL}
-use Rattle.sync_store.specs.Store.{StoreValue}
+use Rattle.sync_store.specs.Store.{StoreValue, format_meant}
 use Rattle.sync_store.specs.Fitting.{FitsSome}
 use Rattle.sync_store.specs.Ready.{IsReady}
 use Rattle.sync_store.specs.Faults.{load_of_start}
 use Rattle.sync_store.specs.declared.fault.LoadFault.{LoadFault}
 use Rattle.sync_store.specs.declared.fault.LoadFault.TheVariants as load
-use Rattle.sync_store.specs.Loading.{AreDamaged, Finds, HasReadAll, IsLoaded, LeavesSettled, ReadsAll, SoFar, StandsFor}
+use Rattle.sync_store.specs.Loading.{AreDamaged, HasReadAll, IsLoaded, LeavesSettled, ReadsAll, SoFar, StandsFor}
+use Rattle.sync_store.proofs.FormatLaws.{known_format, unknown_format}
 use Rattle.sync_store.proofs.LoadSteps.{as_read}
 
 -- ---- the barrier
@@ -71,44 +73,13 @@ barrier_told o0 o1 two settles told =
 
 -- ---- the header
 
-not_first : (format : ℕ) → is_format format ≡ false → format ≢ 1
-not_first format none first = let known : is_format format ≡ true = ap is_format first in cc
-
--- what is not begun at is not found
-pub finds_none : (files : Two (List ℕ)) (e : StartFault) → Starts files (Err e) → Finds files (Err e)
-finds_none files start.NoStore starts = starts
-finds_none files start.DiskFault starts = tt
-finds_none files (start.Damaged place) starts =
-    (starts.0, not_first (format_in (file_of files place.file)) starts.1, starts.2)
-
--- the format of a reader is that of its file
-format_of_file : (files : Two (List ℕ)) (j : JournalValue) → Starts files (Ok j)
-    → j.format ≡ format_in (file_of files j.file)
-format_of_file files j starts = ap (λ (v : JournalValue). v.format) starts.2
-
--- a journal of the first format is found
-pub finds_first : (files : Two (List ℕ)) (j : JournalValue) → j.format ≡ 1 → Starts files (Ok j)
-    → Finds files (Ok j)
-finds_first files j first starts =
-    (starts.0, sym (format_of_file files j starts) ∙ first, starts.2)
-
--- one of another format is not
-pub finds_other : (files : Two (List ℕ)) (j : JournalValue) (place : Place) → j.format ≢ 1
-    → place.file ≡ j.file → place.at ≡ 5 → Starts files (Ok j)
-    → Finds files (Err (start.Damaged place))
-finds_other files j place other file at starts = (
-  starts.0 ∙ ap (λ n. Some n) (sym file),
-  λ e. other (format_of_file files j starts ∙ ap (λ n. format_in (file_of files n)) (sym file) ∙ e),
-  at,
-)
-
 no_records : (f : Facts) (session end : ℕ) → f ≡ nothing → takes_of f.takes session ≤ end
 no_records f session end empty =
     let none : takes_of f.takes session ≡ 0 = ap (λ (g : Facts). takes_of g.takes session) empty ∙ ap count_or (fin_map.get-empty nat_cmp session) in
     omega (arith, none)
 
 -- the first gate
-pub starts_so_far : (clients : Meaning) (files : Option (Two File)) (j : JournalValue) (s : StateValue) → ((two : Two File) → files ≡ Some two → Finds (read_files two) (Ok j)) → (j.end ≡ 15)
+pub starts_so_far : (clients : Meaning) (files : Option (Two File)) (j : JournalValue) (s : StateValue) → ((two : Two File) → files ≡ Some two → Starts (read_files two) (Ok j)) → (j.end ≡ 15)
     → s.facts ≡ nothing → Knows clients s → SoFar clients files j s
 starts_so_far clients files j s starts fresh empty knows = record {
   knows = knows;
@@ -122,32 +93,35 @@ starts_so_far clients files j s starts fresh empty knows = record {
   begun = λ early. empty;
   known = λ two told.
       let is = starts two told in
-      let At : ℕ → Type 0 = λ n. Front clients (read_files two) j.file [] n in
+      let same : j.format ≡ format_in (file_of (read_files two) j.file) = ap (λ (v : JournalValue). v.format) is.2 in
+      let known = known_format j.format (ap is_format same ∙ is.1) in
+      let At : ℕ → Type 0 = λ n. Front clients (read_files two) j.file (format_meant j.format) [] n in
       record {
         long = ap length (sym (as_read two j.file)) ∙ sym (ap (λ (v : JournalValue). v.len) is.2);
-        known_format = ap (λ (v : JournalValue). v.format) is.2 ∙ is.1;
+        known_format = known;
+        format_is = ap format_in (sym (as_read two j.file)) ∙ sym same;
         known_generation = ap generation_in (sym (as_read two j.file)) ∙ sym (ap (λ (v : JournalValue). v.generation) is.2);
         done = [];
-        front = subst At (sym fresh) (front_start clients (read_files two) j.file is.0 is.1);
+        front = subst At (sym fresh) (front_start clients (read_files two) j.file (format_meant j.format) is.0 (ap format_of (sym same) ∙ known));
         facts_are = sym empty;
       };
 }
 
-starts_none : (clients : Meaning) (o0 o1 : Outside) (two : Two File) → Becomes SyncsBoth o0.files o1.files → ((mid : Two File) → o1.files ≡ Some mid → Finds (read_files mid) (Err start.NoStore))
+starts_none : (clients : Meaning) (o0 o1 : Outside) (two : Two File) → Becomes SyncsBoth o0.files o1.files → ((mid : Two File) → o1.files ≡ Some mid → Starts (read_files mid) (Err start.NoStore))
     → o0.files ≡ Some two → stands clients (read_files two) ≡ no_store
 starts_none clients o0 o1 two settles starts told =
     let mid = barrier_told o0 o1 two settles told in
     ap (stands clients) (sym mid.2) ∙ front_none clients (read_files mid.0) (starts mid.0 mid.1)
 
-starts_damaged : (clients : Meaning) (o0 o1 : Outside) (two : Two File) (place : Place) → Becomes SyncsBoth o0.files o1.files → ((mid : Two File) → o1.files ≡ Some mid → Finds (read_files mid) (Err (start.Damaged place)))
+starts_damaged : (clients : Meaning) (o0 o1 : Outside) (two : Two File) (place : Place) → Becomes SyncsBoth o0.files o1.files → ((mid : Two File) → o1.files ≡ Some mid → Starts (read_files mid) (Err (start.Damaged place)))
     → o0.files ≡ Some two → stands clients (read_files two) ≡ damaged place.file place.at
 starts_damaged clients o0 o1 two place settles starts told =
     let mid = barrier_told o0 o1 two settles told in
     let is = starts mid.0 mid.1 in
-    ap (stands clients) (sym mid.2) ∙ front_format clients (read_files mid.0) place.file is.0 is.1 ∙ ap (λ (n : ℕ). damaged place.file n) (sym is.2)
+    ap (stands clients) (sym mid.2) ∙ front_format clients (read_files mid.0) place.file is.0 (unknown_format (format_in (file_of (read_files mid.0) place.file)) is.1) ∙ ap (λ (n : ℕ). damaged place.file n) (sym is.2)
 
 -- no journal was found
-pub starts_fault : (clients : Meaning) (o0 o1 : Outside) (two : Two File) (e : StartFault) → Becomes SyncsBoth o0.files o1.files → ((mid : Two File) → o1.files ≡ Some mid → Finds (read_files mid) (Err e))
+pub starts_fault : (clients : Meaning) (o0 o1 : Outside) (two : Two File) (e : StartFault) → Becomes SyncsBoth o0.files o1.files → ((mid : Two File) → o1.files ≡ Some mid → Starts (read_files mid) (Err e))
     → o0.files ≡ Some two → IsLoaded clients (read_files two) (Err (load_of_start e))
 starts_fault clients o0 o1 two start.NoStore settles starts told = starts_none clients o0 o1 two settles starts told
 starts_fault clients o0 o1 two start.DiskFault settles starts told = tt
@@ -170,8 +144,9 @@ reads_leaves o0 o1 o2 (load.Damaged place) settles looks = settles_then o0 o1 o2
 pub loaded : (clients : Meaning) (two : Two File) (files : Option (Two File)) (j : JournalValue) (s : StoreValue) → HasReadAll clients files j s.state → files ≡ Some two → StandsFor clients (read_files two) s
 loaded clients two files j s all told =
     let read = all.so_far.known two told in
-    let room : j.end + room_of (facts read.done) ≤ MAX_JOURNAL = subst (λ (f : Facts). j.end + room_of f ≤ MAX_JOURNAL) (sym read.facts_are) all.roomy in
-    record { done = read.done; stands_for = front_closed clients (read_files two) j.file read.done j.end read.front (all.at_end two told) room; facts_are = read.facts_are }
+    let format = format_meant j.format in
+    let room : j.end + room_of format (facts read.done) ≤ MAX_JOURNAL = subst (λ (f : Facts). j.end + room_of format f ≤ MAX_JOURNAL) (sym read.facts_are) all.roomy in
+    record { done = read.done; stands_for = front_closed clients (read_files two) j.file format read.done j.end read.front (all.at_end two told) room; facts_are = read.facts_are }
 
 -- what the journal's reading answers, in words of the files before the barrier
 pub answers : (clients : Meaning) (o0 o1 o2 : Outside) (two : Two File) (j : JournalValue) (s : StoreValue) → Becomes SyncsBoth o0.files o1.files → o2.files ≡ o1.files → HasReadAll clients o2.files j s.state → o0.files ≡ Some two → IsLoaded clients (read_files two) (Ok s)
@@ -209,7 +184,7 @@ fits_loaded clients o0 o1 o2 j s limit settles same all two told =
     let old = becomes_back SyncsBoth o0.files o1.files two (sym same ∙ told) settles in
     let read = all.so_far.known two told in
     let stand = loaded clients two o2.files j (store_of j s limit) all told in
-    let At : List ℕ → Type 0 = λ b. HasFrames b (take 14 (file_of (read_files two) j.file)) (payloads nothing read.done) in (
+    let At : List ℕ → Type 0 = λ b. HasFrames b (take 14 (file_of (read_files two) j.file)) (payloads (format_meant j.format) nothing read.done) in (
       read.done,
       record {
         first_settled = settled_first old.0 two old.2;
@@ -218,11 +193,11 @@ fits_loaded clients o0 o1 o2 j s limit settles same all two told =
         facts_are = read.facts_are;
         legal = read.front.legal;
         file_is = read.front.found;
-        format_is = ap format_in (sym (as_read two j.file)) ∙ read.front.format_is ∙ sym read.known_format;
+        format_is = read.format_is;
         format_known = read.known_format;
         generation_is = read.known_generation;
         header = take 14 (file_of (read_files two) j.file);
-        frames = subst At (as_read two j.file) (front_frames clients (read_files two) j.file read.done j.end read.front (all.at_end two told));
+        frames = subst At (as_read two j.file) (front_frames clients (read_files two) j.file (format_meant j.format) read.done j.end read.front (all.at_end two told));
         end_is = read.front.end_is;
         within = read.front.within;
       },

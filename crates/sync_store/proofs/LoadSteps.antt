@@ -5,12 +5,14 @@ use Rattle.sync_rules.specs.Clients.{Meaning}
 use Rattle.sync_rules.specs.Facts.{Facts, after_all, facts}
 use Rattle.sync_rules.specs.Allows.{allows}
 use Rattle.outside.specs.Files.{Two, File, file_of, read_files}
-use Rattle.outside.specs.Frames.{broken, closed, frame_at, framed, generation_in}
+use Rattle.outside.specs.Frames.{broken, closed, format_in, frame_at, framed, generation_in}
 use Rattle.outside.specs.declared.disk.Place.{Place}
 use Rattle.frame_journal.specs.Journal.{JournalValue}
 use Rattle.frame_journal.specs.Next.{IsNext, Moves, NextFrame}
 use Rattle.frame_journal.specs.declared.fault.FrameFault.{FrameFault}
 use Rattle.frame_journal.specs.declared.fault.FrameFault.TheVariants as frame
+use Rattle.entry_codec.specs.declared.naming.Format.{Format}
+use Rattle.entry_codec.specs.Naming.{format_of}
 use Rattle.entry_codec.specs.Payloads.{batch_of, payload}
 use Rattle.entry_codec.proofs.Growing.{facts_push}
 use Rattle.entry_codec.specs.Standing.{Standing, damaged, room_of, stands}
@@ -19,7 +21,7 @@ use Rattle.entry_codec.proofs.FrontLaws.{front_broken, front_full, front_more, f
 use Rattle.journal_state.specs.Whole.{StateValue}
 use Rattle.outside.specs.declared.limits.TheConstants.{MAX_JOURNAL}
 use Rattle.sync_store.specs.Cited.{CitedLaws}
-use Rattle.sync_store.specs.Store.{HasNumbers}
+use Rattle.sync_store.specs.Store.{HasNumbers, format_meant}
 use Rattle.sync_store.specs.Faults.{load_of_frame}
 use Rattle.sync_store.specs.declared.fault.LoadFault.{LoadFault}
 use Rattle.sync_store.specs.declared.fault.LoadFault.TheVariants as load
@@ -42,21 +44,28 @@ next_frame_at two j j' to next = ap (λ (b : List ℕ). frame_at b (j.end - 1)) 
 
 -- one batch more
 has_more : CitedLaws → (clients : Meaning) (two : Two File) (j j' : JournalValue) (s s' : StateValue) (to : List ℕ) → HasRead clients two j s → NextFrame (file_of two j.file).now j j' to
-    → HasPlayed clients s s' to → HasRead clients two j' s'
+    → HasPlayed clients (format_meant j'.format) s s' to → HasRead clients two j' s'
 has_more laws clients two j j' s s' to read next played =
     let same = read.facts_are in
+    let format = format_meant j.format in
+    let as_before : format_meant j'.format ≡ format = ap (λ (v : JournalValue). format_meant v.format) next.moved in
     let granted : allows clients (facts read.done) played.batch ≡ true = ap (λ (f : Facts). allows clients f played.batch) same ∙ played.allowed in
     let spelled : drop (j.end - 1) (file_of (read_files two) j.file) ≡ _ = ap (drop (j.end - 1)) (as_read two j.file) ∙ next.spelled in
-    let batch_is = ap (λ (f : Facts). batch_of f to) same ∙ played.read in
-    let payload_is = played.spelled ∙ ap (λ (f : Facts). payload f played.batch) (sym same) in
-    let more = front_more clients (read_files two) j.file read.done j.end to next.behind played.batch read.front (next_frame_at two j j' to next) spelled batch_is payload_is played.within granted
+    let batch_is : batch_of format (facts read.done) to ≡ Some played.batch =
+    ap (λ (f : Facts). batch_of format f to) same ∙ ap (λ (k : Format). batch_of k s.facts to) (sym as_before) ∙ played.read in
+    let payload_is : to ≡ payload format (facts read.done) played.batch =
+    played.spelled ∙ ap (λ (k : Format). payload k s.facts played.batch) as_before ∙ ap (λ (f : Facts). payload format f played.batch) (sym same) in
+    let more = front_more clients (read_files two) j.file format read.done j.end to next.behind played.batch read.front (next_frame_at two j j' to next) spelled batch_is payload_is played.within granted
     ((laws.decided clients (facts read.done) played.batch).0 granted) in
     let Long : JournalValue → Type 0 = λ v. length (file_of two v.file).now ≡ v.len in
     let Generation : JournalValue → Type 0 = λ v. generation_in (file_of two v.file).now ≡ v.generation in
-    let At : JournalValue → Type 0 = λ v. Front clients (read_files two) v.file (read.done ++ played.batch ∷ []) v.end in
+    let Known : JournalValue → Type 0 = λ v. format_of v.format ≡ Some (format_meant v.format) in
+    let Formatted : JournalValue → Type 0 = λ v. format_in (file_of two v.file).now ≡ v.format in
+    let At : JournalValue → Type 0 = λ v. Front clients (read_files two) v.file (format_meant v.format) (read.done ++ played.batch ∷ []) v.end in
     record {
       long = subst Long (sym next.moved) read.long;
-      known_format = ap (λ (v : JournalValue). v.format) next.moved ∙ read.known_format;
+      known_format = subst Known (sym next.moved) read.known_format;
+      format_is = subst Formatted (sym next.moved) read.format_is;
       known_generation = subst Generation (sym next.moved) read.known_generation;
       done = read.done ++ played.batch ∷ [];
       front = subst At (sym next.moved) more;
@@ -64,8 +73,8 @@ has_more laws clients two j j' s s' to read next played =
     }
 
 -- the counts after a batch are bounded by the end behind its frame
-more_numbers : CitedLaws → (clients : Meaning) (s s' : StateValue) (to : List ℕ) (end end' : ℕ) → HasPlayed clients s s' to → HasNumbers s.facts end → end + 1 ≤ end' → HasNumbers s'.facts end'
-more_numbers laws clients s s' to end end' played numbers far =
+more_numbers : CitedLaws → (clients : Meaning) (format : Format) (s s' : StateValue) (to : List ℕ) (end end' : ℕ) → HasPlayed clients format s s' to → HasNumbers s.facts end → end + 1 ≤ end' → HasNumbers s'.facts end'
+more_numbers laws clients format s s' to end end' played numbers far =
     let allowed = (laws.decided clients s.facts played.batch).0 played.allowed in
     let added = laws.add_one clients s.facts played.batch allowed in
     let grown : HasNumbers (after_all s.facts played.batch) end' = record {
@@ -76,14 +85,14 @@ more_numbers laws clients s s' to end end' played numbers far =
     subst (λ (f : Facts). HasNumbers f end') (sym played.facts_are) grown
 
 pub turn_more : CitedLaws → (clients : Meaning) (files files' : Option (Two File)) (j j' : JournalValue) (s s' : StateValue) (to : List ℕ) → SoFar clients files j s
-    → files' ≡ files → ((two : Two File) → files ≡ Some two → NextFrame (file_of two j.file).now j j' to) → Moves j j' (Ok true) → HasPlayed clients s s' to
+    → files' ≡ files → ((two : Two File) → files ≡ Some two → NextFrame (file_of two j.file).now j j' to) → Moves j j' (Ok true) → HasPlayed clients (format_meant j'.format) s s' to
     → SoFar clients files' j' s' × (j.end < j'.end) × (j'.file ≡ j.file)
 turn_more laws clients files files' j j' s s' to so_far same next moves played =
     let far : j.end + 6 ≤ j'.end = moves.3 in
     let last : j'.last ≡ j.end - 1 = moves.2 in (
       record {
         knows = played.knows;
-        numbers = more_numbers laws clients s s' to j.end j'.end played so_far.numbers (omega arith);
+        numbers = more_numbers laws clients (format_meant j'.format) s s' to j.end j'.end played so_far.numbers (omega arith);
         started = omega (arith, so_far.started);
         bounded = moves.7;
         begun = λ early. absurd (omega (arith, so_far.started));
@@ -102,31 +111,37 @@ turn_broken clients files files' j s place so_far same next two told =
     let read = so_far.known two told' in
     let is = next two told' in
     same_place (stands clients (read_files two)) j.file (j.end - 1) place
-    (front_broken clients (read_files two) j.file read.done j.end read.front (ap (λ (b : List ℕ). frame_at b (j.end - 1)) (as_read two j.file) ∙ is.0)) is.1 is.2
+    (front_broken clients (read_files two) j.file (format_meant j.format) read.done j.end read.front (ap (λ (b : List ℕ). frame_at b (j.end - 1)) (as_read two j.file) ∙ is.0)) is.1 is.2
 
 refused_at : (clients : Meaning) (two : Two File) (j j' : JournalValue) (s : StateValue) (to : List ℕ) → HasRead clients two j s → NextFrame (file_of two j.file).now j j' to
-    → IsRefused clients s to → stands clients (read_files two) ≡ damaged j.file (j.end - 1)
+    → IsRefused clients (format_meant j'.format) s to → stands clients (read_files two) ≡ damaged j.file (j.end - 1)
 refused_at clients two j j' s to read next (inl none) =
-    front_unread clients (read_files two) j.file read.done j.end to read.front (next_frame_at two j j' to next) (ap (λ (f : Facts). batch_of f to) read.facts_are ∙ none)
+    let format = format_meant j.format in
+    let as_before : format_meant j'.format ≡ format = ap (λ (v : JournalValue). format_meant v.format) next.moved in
+    front_unread clients (read_files two) j.file format read.done j.end to read.front (next_frame_at two j j' to next)
+    (ap (λ (f : Facts). batch_of format f to) read.facts_are ∙ ap (λ (k : Format). batch_of k s.facts to) (sym as_before) ∙ none)
 refused_at clients two j j' s to read next (inr (batch, some, refused)) =
-    front_refused clients (read_files two) j.file read.done j.end to batch read.front (next_frame_at two j j' to next) (ap (λ (f : Facts). batch_of f to) read.facts_are ∙ some)
+    let format = format_meant j.format in
+    let as_before : format_meant j'.format ≡ format = ap (λ (v : JournalValue). format_meant v.format) next.moved in
+    front_refused clients (read_files two) j.file format read.done j.end to batch read.front (next_frame_at two j j' to next)
+    (ap (λ (f : Facts). batch_of format f to) read.facts_are ∙ ap (λ (k : Format). batch_of k s.facts to) (sym as_before) ∙ some)
     (ap (λ (f : Facts). allows clients f batch) read.facts_are ∙ refused)
 
 pub turn_refused : (clients : Meaning) (files files' : Option (Two File)) (j j' : JournalValue) (s : StateValue) (to : List ℕ) (place : Place) → SoFar clients files j s → files' ≡ files
     → ((two : Two File) → files ≡ Some two → NextFrame (file_of two j.file).now j j' to) → Moves j j' (Ok true)
-    → (place.file ≡ j'.file) × (place.at ≡ j'.last) × IsRefused clients s to → AreDamaged clients files' place
+    → (place.file ≡ j'.file) × (place.at ≡ j'.last) × IsRefused clients (format_meant j'.format) s to → AreDamaged clients files' place
 turn_refused clients files files' j j' s to place so_far same next moves refused two told =
     let told' = sym same ∙ told in
     same_place (stands clients (read_files two)) j.file (j.end - 1) place (refused_at clients two j j' s to (so_far.known two told') (next two told') refused.2)
     (refused.0 ∙ moves.0) (refused.1 ∙ moves.2)
 
 pub room_refused : (clients : Meaning) (files : Option (Two File)) (j : JournalValue) (s : StateValue) (place : Place) → SoFar clients files j s → IsAtEnd files j
-    → (place.file ≡ j.file) × (place.at ≡ j.end - 1) × (MAX_JOURNAL < j.end + room_of s.facts) → AreDamaged clients files place
+    → (place.file ≡ j.file) × (place.at ≡ j.end - 1) × (MAX_JOURNAL < j.end + room_of (format_meant j.format) s.facts) → AreDamaged clients files place
 room_refused clients files j s place so_far at_end refused two told =
     let read = so_far.known two told in
-    let over : MAX_JOURNAL < j.end + room_of (facts read.done) = subst (λ (f : Facts). MAX_JOURNAL < j.end + room_of f) (sym read.facts_are) refused.2 in
+    let over : MAX_JOURNAL < j.end + room_of (format_meant j.format) (facts read.done) = subst (λ (f : Facts). MAX_JOURNAL < j.end + room_of (format_meant j.format) f) (sym read.facts_are) refused.2 in
     same_place (stands clients (read_files two)) j.file (j.end - 1) place
-    (front_full clients (read_files two) j.file read.done j.end read.front (at_end two told) over) refused.0 refused.1
+    (front_full clients (read_files two) j.file (format_meant j.format) read.done j.end read.front (at_end two told) over) refused.0 refused.1
 
 -- ---- the closed gate
 

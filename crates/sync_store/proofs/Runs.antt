@@ -15,7 +15,7 @@ use Rattle.sync_rules.proofs.WorkLaws.{settling_goes_on}
 use Rattle.sync_store.specs.declared.fault.StoreFault.{StoreFault}
 use Rattle.sync_store.specs.declared.fault.StoreFault.TheVariants as fault
 use Rattle.entry_codec.specs.Standing.{room_of}
-use Rattle.sync_store.specs.Store.{StoreValue, HasNumbers, IsStore}
+use Rattle.sync_store.specs.Store.{StoreValue, HasNumbers, IsStore, format_meant, written_in}
 use Rattle.sync_store.specs.Commits.{Commits, Stays, Unasked, needed}
 use Rattle.sync_store.specs.Fitting.{Fits, FitsSome, ImagesStand}
 use Rattle.sync_store.specs.Moments.{Adds, IsBetween, JournalMoment}
@@ -33,7 +33,14 @@ same_store s new stays = record { facts = stays.facts; file = stays.file; format
 store_back : (s new : StoreValue) → Stays s new → IsStore new → IsStore s
 store_back s new stays store = record {
   limited = omega (arith, stays.limit, store.limited);
-  roomy = omega (arith, stays.end, ap room_of stays.facts, store.roomy);
+  roomy =
+      omega (
+        arith,
+        stays.end,
+        ap (λ (f : Facts). room_of (written_in new) f) stays.facts,
+        ap (λ n. room_of (format_meant n) s.state.facts) stays.format,
+        store.roomy,
+      );
   numbers = subst (λ (f : Facts). HasNumbers f s.end) stays.facts (subst (λ (n : ℕ). HasNumbers new.state.facts n) stays.end store.numbers);
 }
 

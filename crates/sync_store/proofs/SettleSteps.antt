@@ -15,15 +15,18 @@ use Rattle.sync_rules.specs.Legal.{AllSettling}
 use Rattle.sync_rules.specs.Steps.{IsSettled}
 use Rattle.sync_rules.proofs.Settling.{after_batches-append}
 use Rattle.entry_codec.proofs.Growing.{settling-append}
+use Rattle.entry_codec.specs.declared.naming.Format.{Format}
+use Rattle.entry_codec.specs.Standing.{step_len}
 use Rattle.entry_codec.specs.StandingLaws.{JournalsStand}
 use Rattle.sync_store.specs.declared.fault.StoreFault.{StoreFault}
 use Rattle.sync_store.specs.declared.fault.StoreFault.TheVariants as fault
-use Rattle.sync_store.specs.Store.{StoreValue, IsStore}
+use Rattle.sync_store.specs.Store.{StoreValue, IsStore, format_meant, written_in}
 use Rattle.sync_store.specs.Fitting.{Fits, FitsSome}
 use Rattle.sync_store.specs.Moments.{CallsFor, JournalMoment, Leads, WithAtMost, journal_with, Adds, IsBetween}
 use Rattle.sync_store.specs.Runs.{LeadsBy}
-use Rattle.sync_store.specs.Settling.{AreFilled, BatchSo, ComesBy, HasSettled, IsFullBatch, IsOneBatch, MakesBatch, SettlesSo, settling_len}
+use Rattle.sync_store.specs.Settling.{AreFilled, BatchSo, ComesBy, HasSettled, IsFullBatch, IsOneBatch, MakesBatch, SettlesSo, settling_len, steps_in}
 use Rattle.sync_store.proofs.FitSteps.{IsSame, leads_none, true≢false}
+use Rattle.sync_store.proofs.FormatLaws.{room_split, steps_both}
 use Rattle.sync_store.proofs.Steps.{all-append, batches_lower, filled_push, steps_in-append}
 
 -- a weaker word on a run
@@ -113,8 +116,9 @@ leads_one_closed clients j batch new e o o' adds closed = record {
 
 -- ---- batches and then further ones
 
-settling_len-append : (xs ys : List (List Entry)) → settling_len (xs ++ ys) ≡ settling_len xs + settling_len ys
-settling_len-append xs ys = omega (arith, steps_in-append xs ys, length-append xs ys)
+settling_len-append : (f : Format) (xs ys : List (List Entry)) → settling_len f (xs ++ ys) ≡ settling_len f xs + settling_len f ys
+settling_len-append f xs ys =
+    omega (arith, ap (λ n. step_len f * n) (steps_in-append xs ys), steps_both f (steps_in xs) (steps_in ys), length-append xs ys)
 
 -- the moments and the end of one run behind another
 pub leads_then : (clients : Meaning) (s0 s1 s2 : StoreValue) (o0 o1 o2 : Outside) (xs ys : List (List Entry)) → s1.closed ≡ false → DiskRun o0 o1
@@ -157,7 +161,9 @@ comes_then clients s0 s1 s2 o0 o1 o2 xs ys first still run second =
       format = second.format ∙ first.format;
       generation = second.generation ∙ first.generation;
       limit = second.limit ∙ first.limit;
-      end = λ open'. omega (arith, first.end still, second.end open', settling_len-append xs ys);
+      end = λ open'.
+          let same : settling_len (written_in s1) ys ≡ settling_len (written_in s0) ys = ap (λ n. settling_len (format_meant n) ys) first.format in
+          omega (arith, first.end still, second.end open', same, settling_len-append (written_in s0) xs ys);
       leads = leads_then clients s0 s1 s2 o0 o1 o2 xs ys still run first.leads second.leads;
       calls = calls_runs s1 s2 o0 o1 o2 xs ys still first.calls second.calls;
     }
@@ -231,7 +237,7 @@ has_settled clients s new result o o' more comes filled answer =
       more = more;
       comes = comes;
       filled = filled;
-      room = omega (arith, fewer, same);
+      room = room_split (written_in s) (left_of new.state.facts) (steps_in more) (left_of s.state.facts) (omega (arith, fewer, same));
       few = omega (arith, fewer, left_few s.state.facts);
       answer = answer;
     }

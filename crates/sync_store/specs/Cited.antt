@@ -1,11 +1,12 @@
 -- The laws of the crates below that the proofs of this one rest on.
 use Rattle.sync_rules.specs.Allows.{AllowsIsAllowed}
-use Rattle.entry_codec.specs.Laws.{PayloadsFitFrames}
+use Rattle.entry_codec.specs.Laws.{AllowedNames, PayloadsFitFrames}
 use Rattle.entry_codec.specs.StandingLaws.{AllowedAddOne, AllowedHaveLatency, AllowedTakeOne, JournalsStand}
 
 pub record CitedLaws : Type 0 where
   pub stand : JournalsStand
   pub fit : PayloadsFitFrames
+  pub names : AllowedNames
   pub latency : AllowedHaveLatency
   pub add_one : AllowedAddOne
   pub take_one : AllowedTakeOne

@@ -10,14 +10,14 @@ use Rattle.entry_codec.specs.Payloads.{payload, payload_len}
 use Rattle.entry_codec.specs.Spelling.{IsEntry}
 use Rattle.entry_codec.specs.Standing.{room_of}
 use Rattle.outside.specs.declared.limits.TheConstants.{MAX_JOURNAL}
-use Rattle.sync_store.specs.Store.{StoreValue}
+use Rattle.sync_store.specs.Store.{StoreValue, written_in}
 use Rattle.sync_store.specs.declared.fault.StoreFault.{StoreFault}
 use Rattle.sync_store.specs.declared.fault.StoreFault.TheVariants as fault
 
 -- The length that the journal needs with a batch: the batch's frame is added, and room is counted for all that settling may then
 -- add.
 abbrev pub needed : StoreValue → List Entry → ℕ
-needed s batch = s.end + 5 + payload_len batch + room_of (after_all s.state.facts batch)
+needed s batch = s.end + 5 + payload_len (written_in s) batch + room_of (written_in s) (after_all s.state.facts batch)
 
 -- all that contracts ask of a store is as before
 pub record Stays (old new : StoreValue) : Type 0 where
@@ -36,7 +36,7 @@ pub record Gains (old new : StoreValue) (batch : List Entry) : Type 0 where
   pub file : new.file ≡ old.file
   pub format : new.format ≡ old.format
   pub generation : new.generation ≡ old.generation
-  pub end : new.end ≡ old.end + 5 + payload_len batch
+  pub end : new.end ≡ old.end + 5 + payload_len (written_in old) batch
   pub limit : new.limit ≡ old.limit
   pub closed : new.closed ≡ false
 
@@ -45,9 +45,9 @@ pub record MayAdd (clients : Meaning) (s : StoreValue) (batch : List Entry) (fra
   pub allowed : Allowed clients s.state.facts batch
   pub within : AllByRecursion IsEntry batch
   pub is_framed : IsFramed framed
-  pub payload_is : payload_of framed ≡ payload s.state.facts batch
-  pub roomy : s.end + room_of s.state.facts ≤ MAX_JOURNAL
-  pub still_roomy : s.end + length framed + room_of (after_all s.state.facts batch) ≤ MAX_JOURNAL
+  pub payload_is : payload_of framed ≡ payload (written_in s) s.state.facts batch
+  pub roomy : s.end + room_of (written_in s) s.state.facts ≤ MAX_JOURNAL
+  pub still_roomy : s.end + length framed + room_of (written_in s) (after_all s.state.facts batch) ≤ MAX_JOURNAL
 
 -- Closed comes exactly where the store was closed, and Full exactly where it was not and the journal would pass the limit; the
 -- others come only behind these. After any error all is as before, but that the store is closed after DiskFault.

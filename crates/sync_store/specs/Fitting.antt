@@ -7,11 +7,12 @@ use Rattle.sync_rules.specs.declared.entries.Entry.{Entry}
 use Rattle.sync_rules.specs.Clients.{Meaning}
 use Rattle.sync_rules.specs.Facts.{facts, nothing}
 use Rattle.sync_rules.specs.Legal.{Legal}
+use Rattle.entry_codec.specs.Naming.{format_of}
 use Rattle.entry_codec.specs.Payloads.{journal_end, payloads}
 use Rattle.entry_codec.specs.Spelling.{IsEntry}
 use Rattle.entry_codec.specs.Standing.{stands, journal, room_of}
 use Rattle.outside.specs.declared.limits.TheConstants.{MAX_JOURNAL}
-use Rattle.sync_store.specs.Store.{StoreValue}
+use Rattle.sync_store.specs.Store.{StoreValue, written_in}
 
 pub record Fits (clients : Meaning) (s : StoreValue) (j : List (List Entry)) (two : Two File) : Type 0 where
   -- nothing is pending in either file
@@ -21,15 +22,15 @@ pub record Fits (clients : Meaning) (s : StoreValue) (j : List (List Entry)) (tw
   pub stands_for : stands clients (read_files two) ≡ journal j
   pub facts_are : facts j ≡ s.state.facts
   pub legal : Legal clients j
-  -- the journal's file is the store's, and so are its generation and its format, which is the first
+  -- the journal's file is the store's, and so are its generation and its format, which is one of the two
   pub file_is : journal_file (read_files two) ≡ Some s.file
   pub format_is : format_in (file_of two s.file).now ≡ s.format
-  pub format_known : s.format ≡ 1
+  pub format_known : format_of s.format ≡ Some (written_in s)
   pub generation_is : generation_in (file_of two s.file).now ≡ s.generation
   -- its frames are the journal's batches, up to the closed gate, which is before the store's end
   pub header : List ℕ
-  pub frames : HasFrames (file_of two s.file).now header (payloads nothing j)
-  pub end_is : s.end ≡ journal_end j
+  pub frames : HasFrames (file_of two s.file).now header (payloads (written_in s) nothing j)
+  pub end_is : s.end ≡ journal_end (written_in s) j
   pub within : AllByRecursion (λ batch. AllByRecursion IsEntry batch) j
 
 -- where the files are told they fit the store with some journal
@@ -40,4 +41,4 @@ FitsSome clients s files = (two : Two File) → files ≡ Some two → (j : List
 abbrev pub ImagesStand : Type 0
 ImagesStand =
     (clients : Meaning) (s : StoreValue) (j : List (List Entry)) (two : Two File) (left : Two (List ℕ)) → Fits clients s j two
-    → s.end + room_of s.state.facts ≤ MAX_JOURNAL → IsImage two left → stands clients left ≡ journal j
+    → s.end + room_of (written_in s) s.state.facts ≤ MAX_JOURNAL → IsImage two left → stands clients left ≡ journal j

@@ -1,26 +1,25 @@
 -- What a load answers, and how far it has come.
-use Rattle.std.specs.Prelude.{◌≡◌, ◌≢◌, ◌⊎◌, ℕ, ◌+◌, ◌-◌, ◌<◌, ◌≤◌, Bool, true, false, List, length, Option, None, Some, Result, Ok, Err}
+use Rattle.std.specs.Prelude.{◌≡◌, ◌⊎◌, ℕ, ◌+◌, ◌-◌, ◌<◌, ◌≤◌, Bool, true, false, List, length, Option, None, Some, Result, Ok, Err}
 use Rattle.std.specs.List.{AllByRecursion}
 use Rattle.outside.specs.Files.{Two, File, file_of, read_files}
-use Rattle.outside.specs.Frames.{closed, format_in, frame_at, generation_in, journal_file}
+use Rattle.outside.specs.Frames.{closed, format_in, frame_at, generation_in}
 use Rattle.outside.specs.Disk.{Becomes}
 use Rattle.outside.specs.declared.disk.Place.{Place}
 use Rattle.frame_journal.specs.Gates.{SyncsBoth}
-use Rattle.frame_journal.specs.Header.{begun_at}
 use Rattle.frame_journal.specs.Journal.{JournalValue}
-use Rattle.frame_journal.specs.declared.fault.StartFault.{StartFault}
-use Rattle.frame_journal.specs.declared.fault.StartFault.TheVariants as start
 use Rattle.sync_rules.specs.declared.entries.Entry.{Entry}
 use Rattle.sync_rules.specs.Clients.{Meaning}
 use Rattle.sync_rules.specs.Facts.{after_all, facts, nothing}
 use Rattle.sync_rules.specs.Allows.{allows}
+use Rattle.entry_codec.specs.declared.naming.Format.{Format}
+use Rattle.entry_codec.specs.Naming.{format_of}
 use Rattle.entry_codec.specs.Spelling.{IsEntry}
 use Rattle.entry_codec.specs.Payloads.{batch_of, payload}
 use Rattle.entry_codec.specs.Standing.{damaged, journal, no_store, room_of, stands}
 use Rattle.entry_codec.specs.Fronts.{Front}
 use Rattle.journal_state.specs.Whole.{Knows, StateValue}
 use Rattle.outside.specs.declared.limits.TheConstants.{MAX_JOURNAL}
-use Rattle.sync_store.specs.Store.{HasNumbers, StoreValue}
+use Rattle.sync_store.specs.Store.{HasNumbers, StoreValue, format_meant}
 use Rattle.sync_store.specs.declared.fault.LoadFault.{LoadFault}
 use Rattle.sync_store.specs.declared.fault.LoadFault.TheVariants as load
 
@@ -48,31 +47,16 @@ LeavesSettled old new (Err (load.Damaged place)) = Becomes SyncsBoth old new
 LeavesSettled old new (Err load.DiskFault) = Unit {0}
 LeavesSettled old new (Err load.Memory) = Becomes SyncsBoth old new
 
--- ---- where a reader begins
-
--- The journal of two files begins behind the header of the journal's file, where that has format 1;
--- else it is damaged there, and where no header is open there is none.
-abbrev pub Finds : Two (List ℕ) → Result JournalValue StartFault → Type 0
-Finds files (Ok j) =
-    (journal_file files ≡ Some j.file)
-    × (format_in (file_of files j.file) ≡ 1)
-    × (j ≡ begun_at j.file (file_of files j.file))
-Finds files (Err start.NoStore) = journal_file files ≡ None
-Finds files (Err (start.Damaged place)) =
-    (journal_file files ≡ Some place.file)
-    × (format_in (file_of files place.file) ≢ 1)
-    × (place.at ≡ 5)
-Finds files (Err start.DiskFault) = Unit {0}
-
 -- ---- how far a reader has come
 
 -- the batches that were read of these files
 pub record HasRead (clients : Meaning) (two : Two File) (j : JournalValue) (s : StateValue) : Type 0 where
   pub long : length (file_of two j.file).now ≡ j.len
-  pub known_format : j.format ≡ 1
+  pub known_format : format_of j.format ≡ Some (format_meant j.format)
+  pub format_is : format_in (file_of two j.file).now ≡ j.format
   pub known_generation : generation_in (file_of two j.file).now ≡ j.generation
   pub done : List (List Entry)
-  pub front : Front clients (read_files two) j.file done j.end
+  pub front : Front clients (read_files two) j.file (format_meant j.format) done j.end
   pub facts_are : facts done ≡ s.facts
 
 -- A reader of a journal's file has played the batches up to its gate: the state is that of these batches.
@@ -95,25 +79,25 @@ AreDamaged clients files place = (two : Two File) → files ≡ Some two → sta
 
 -- ---- a batch that is played
 
--- a payload was played: its batch is allowed, and the state is that behind it
-pub record HasPlayed (clients : Meaning) (s s' : StateValue) (to : List ℕ) : Type 0 where
+-- a payload of this format was played: its batch is allowed, and the state is that behind it
+pub record HasPlayed (clients : Meaning) (format : Format) (s s' : StateValue) (to : List ℕ) : Type 0 where
   pub batch : List Entry
-  pub read : batch_of s.facts to ≡ Some batch
-  pub spelled : to ≡ payload s.facts batch
+  pub read : batch_of format s.facts to ≡ Some batch
+  pub spelled : to ≡ payload format s.facts batch
   pub within : AllByRecursion IsEntry batch
   pub allowed : allows clients s.facts batch ≡ true
   pub facts_are : s'.facts ≡ after_all s.facts batch
   pub knows : Knows clients s'
 
 -- a payload is none of a batch that is allowed
-abbrev pub IsRefused : Meaning → StateValue → List ℕ → Type 0
-IsRefused clients s to = (batch_of s.facts to ≡ None) ⊎ ((batch : List Entry) × (batch_of s.facts to ≡ Some batch) × (allows clients s.facts batch ≡ false))
+abbrev pub IsRefused : Meaning → Format → StateValue → List ℕ → Type 0
+IsRefused clients format s to = (batch_of format s.facts to ≡ None) ⊎ ((batch : List Entry) × (batch_of format s.facts to ≡ Some batch) × (allows clients s.facts batch ≡ false))
 
 -- what playing the last frame that was read answers
 abbrev pub Plays : Meaning → JournalValue → StateValue → StateValue → List ℕ → Result (Unit {0}) LoadFault → Type 0
-Plays clients j s s' to (Ok _) = HasPlayed clients s s' to
+Plays clients j s s' to (Ok _) = HasPlayed clients (format_meant j.format) s s' to
 Plays clients j s s' to (Err load.NoStore) = ⊥
-Plays clients j s s' to (Err (load.Damaged place)) = (place.file ≡ j.file) × (place.at ≡ j.last) × IsRefused clients s to
+Plays clients j s s' to (Err (load.Damaged place)) = (place.file ≡ j.file) × (place.at ≡ j.last) × IsRefused clients (format_meant j.format) s to
 Plays clients j s s' to (Err load.DiskFault) = ⊥
 Plays clients j s s' to (Err load.Memory) = Unit {0}
 
@@ -130,9 +114,9 @@ Turns clients files j j' s' (Err load.Memory) = Unit {0}
 
 -- whether the room of the journal is left
 abbrev pub HasItsRoom : JournalValue → StateValue → Result (Unit {0}) LoadFault → Type 0
-HasItsRoom j s (Ok u) = j.end + room_of s.facts ≤ MAX_JOURNAL
+HasItsRoom j s (Ok u) = j.end + room_of (format_meant j.format) s.facts ≤ MAX_JOURNAL
 HasItsRoom j s (Err load.NoStore) = ⊥
-HasItsRoom j s (Err (load.Damaged place)) = (place.file ≡ j.file) × (place.at ≡ j.end - 1) × (MAX_JOURNAL < j.end + room_of s.facts)
+HasItsRoom j s (Err (load.Damaged place)) = (place.file ≡ j.file) × (place.at ≡ j.end - 1) × (MAX_JOURNAL < j.end + room_of (format_meant j.format) s.facts)
 HasItsRoom j s (Err load.DiskFault) = ⊥
 HasItsRoom j s (Err load.Memory) = Unit {0}
 
@@ -140,7 +124,7 @@ HasItsRoom j s (Err load.Memory) = Unit {0}
 pub record HasReadAll (clients : Meaning) (files : Option (Two File)) (j : JournalValue) (s : StateValue) : Type 0 where
   pub so_far : SoFar clients files j s
   pub at_end : IsAtEnd files j
-  pub roomy : j.end + room_of s.facts ≤ MAX_JOURNAL
+  pub roomy : j.end + room_of (format_meant j.format) s.facts ≤ MAX_JOURNAL
 
 -- what reading the whole journal answers
 abbrev pub ReadsAll : Meaning → Option (Two File) → JournalValue → StateValue → Result (Unit {0}) LoadFault → Type 0

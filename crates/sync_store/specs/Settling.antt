@@ -11,9 +11,9 @@ use Rattle.sync_rules.specs.Facts.{after_batches}
 use Rattle.sync_rules.specs.Left.{left_of}
 use Rattle.sync_rules.specs.Legal.{AllSettling}
 use Rattle.sync_rules.specs.Steps.{IsSettled}
-use Rattle.entry_codec.specs.declared.lengths.TheConstants.{STEP_BYTES, STEP_LEN}
-use Rattle.entry_codec.specs.Standing.{room_of}
-use Rattle.sync_store.specs.Store.{StoreValue}
+use Rattle.entry_codec.specs.declared.naming.Format.{Format}
+use Rattle.entry_codec.specs.Standing.{room_of, step_bytes, step_len}
+use Rattle.sync_store.specs.Store.{StoreValue, written_in}
 use Rattle.sync_store.specs.Fitting.{Fits}
 use Rattle.sync_store.specs.Moments.{CallsFor, IsBetween, Leads}
 use Rattle.sync_store.specs.declared.fault.StoreFault.{StoreFault}
@@ -31,9 +31,9 @@ abbrev pub steps_in : List (List Entry) → ℕ
 steps_in [] = 0
 steps_in (b ∷ bs) = length b + steps_in bs
 
--- how many bytes the frames of settling batches have: a step has STEP_LEN, and a frame 5 beside its entries
-abbrev pub settling_len : List (List Entry) → ℕ
-settling_len more = STEP_LEN * steps_in more + 5 * length more
+-- how many bytes the frames of settling batches have in a format: a frame has 5 beside its entries
+abbrev pub settling_len : Format → List (List Entry) → ℕ
+settling_len format more = step_len format * steps_in more + 5 * length more
 
 -- as many steps as a batch may have
 abbrev pub IsFullBatch : List Entry → Type 0
@@ -63,7 +63,7 @@ pub record ComesBy (clients : Meaning) (old new : StoreValue) (o o' : Outside) (
   pub format : new.format ≡ old.format
   pub generation : new.generation ≡ old.generation
   pub limit : new.limit ≡ old.limit
-  pub end : new.closed ≡ false → new.end ≡ old.end + settling_len more
+  pub end : new.closed ≡ false → new.end ≡ old.end + settling_len (written_in old) more
   pub leads : (two : Two File) → o.files ≡ Some two → (j : List (List Entry)) → Fits clients old j two
       → Leads clients (IsBetween j more) (λ whole. whole ≡ j ++ more) new o o'
   pub calls : CallsFor (length more) new o o'
@@ -74,7 +74,7 @@ pub record HasSettled (clients : Meaning) (old new : StoreValue) (result : Resul
   pub comes : ComesBy clients old new o o' more
   pub filled : AreFilled more
   -- each step takes its bytes of the room, so there are at most two for each held message
-  pub room : room_of new.state.facts + STEP_BYTES * steps_in more ≤ room_of old.state.facts
+  pub room : room_of (written_in old) new.state.facts + step_bytes (written_in old) * steps_in more ≤ room_of (written_in old) old.state.facts
   pub few : steps_in more ≤ 2 * length old.state.facts.held
   pub answer : SettlesSo clients new result
 

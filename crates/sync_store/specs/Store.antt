@@ -1,7 +1,9 @@
 -- What contracts see of a store.
-use Rattle.std.specs.Prelude.{ℕ, ◌+◌, ◌≤◌, Bool, length, refl}
+use Rattle.std.specs.Prelude.{ℕ, ◌+◌, ◌≤◌, ◌==◌, Bool, if◌then◌else◌, length, refl}
 use Rattle.std.specs.Coded.{Coded, code_by, coded×, coded_bool, coded_ℕ}
 use Rattle.sync_rules.specs.Facts.{Facts, takes_of}
+use Rattle.entry_codec.specs.declared.naming.Format.{Format}
+use Rattle.entry_codec.specs.declared.naming.Format.TheVariants as kind
 use Rattle.entry_codec.specs.Standing.{room_of}
 use Rattle.journal_state.specs.Whole.{StateValue, state_code}
 use Rattle.outside.specs.declared.limits.TheConstants.{MAX_JOURNAL}
@@ -17,6 +19,14 @@ pub record StoreValue : Type 0 where
   pub end : ℕ
   pub limit : ℕ
   pub closed : Bool
+
+-- what the number of a journal's format means: it is 1 or 2
+abbrev pub format_meant : ℕ → Format
+format_meant n = if n == 2 then kind.Short else kind.Whole
+
+-- the format that a store's journal is written in
+abbrev pub written_in : StoreValue → Format
+written_in s = format_meant s.format
 
 abbrev pub store_code : Coded StoreValue
 store_code =
@@ -43,5 +53,5 @@ pub record HasNumbers (f : Facts) (end : ℕ) : Type 0 where
 -- what every store keeps: its limit is one of a journal, settling finds its room, and its counts are bounded by its end
 pub record IsStore (s : StoreValue) : Type 0 where
   pub limited : s.limit ≤ MAX_JOURNAL
-  pub roomy : s.end + room_of s.state.facts ≤ MAX_JOURNAL
+  pub roomy : s.end + room_of (written_in s) s.state.facts ≤ MAX_JOURNAL
   pub numbers : HasNumbers s.state.facts s.end

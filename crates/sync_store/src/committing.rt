@@ -1,6 +1,11 @@
 //! A batch committed.
 ghost use Rattle.std.specs.Prelude.{◌≡◌, ◌+◌, ◌^◌, ◌<◌, ◌≤◌, false, true, List, Some, length};
 ghost use Rattle.std.specs.Prelude.{nat_lt, IfErr, IfOk, IsErrOf, OnOk};
+ghost use Rattle.std.specs.List.{AllByRecursion};
+ghost use Rattle.entry_codec.specs.Payloads.{payload, payload_len};
+ghost use Rattle.entry_codec.specs.Spelling.{IsEntry};
+ghost use Rattle.frame_journal.specs.Append.{framed_of};
+ghost use Rattle.outside.specs.declared.limits.TheConstants.{MAX_JOURNAL};
 ghost use Rattle.outside.specs.Faults.{HasCause, Rose};
 ghost use Rattle.outside.specs.Files.{Two, File};
 ghost use Rattle.outside.specs.Outside.{DiskRun, MakesCalls};
@@ -8,19 +13,21 @@ ghost use Rattle.journal_state.specs.Taking.{HasRoom};
 ghost use Rattle.journal_state.specs.Whole.{Knows};
 ghost use Rattle.sync_rules.specs.declared.entries.Entry.{Entry};
 ghost use Rattle.sync_rules.specs.Allows.{allows, is_settling_kind};
+ghost use Rattle.sync_rules.specs.Clients.{Meaning};
 ghost use Rattle.sync_rules.specs.Legal.{Allowed};
 ghost use Rattle.session_core.specs.Known.{IsOfAll};
 ghost use Rattle.sync_store.specs.Commits.{Commits, Gains, MayAdd, Unasked, needed};
 ghost use Rattle.sync_store.specs.Fitting.{Fits};
 ghost use Rattle.sync_store.specs.Moments.{Adds};
 ghost use Rattle.sync_store.specs.Ready.{IsReady};
-ghost use Rattle.sync_store.specs.Store.{IsStore};
+ghost use Rattle.sync_store.specs.Store.{IsStore, written_in};
 
 use crate::StoreFault;
+use crate::formats::{HeldNames, format_meant};
 use crate::frames::frame_batch;
 use crate::laws::cite_laws;
 use crate::store::Store;
-use entry_codec::{STEP_BYTES, batch_len};
+use entry_codec::{batch_len, step_bytes};
 use outside::Disk;
 use std::alloc::AllocError;
 use sync_ids::MessageId;
@@ -101,13 +108,12 @@ impl Store {
         if self.is_full(clients, &batch) {
             return Err(StoreFault::Full);
         }
-        let framed = frame_batch(self.alloc, &batch)?;
+        let framed = self.frame(&batch)?;
         self.state.reserve(&batch)?;
         self.add(disk, clients, framed.as_slice(), batch, id)
     }
 
     // Whether the journal with the batch and the room for settling passes the limit.
-    #[tactic(auto, using(crate::proofs::Limits::passes))]
     fn is_full<C: Clients>(&self, clients: &C, batch: &Batch) -> bool
         requires knows { Knows (C.meaning clients.now) self.now.state }
         requires allowed { Allowed (C.meaning clients.now) self.now.state.facts batch.now }
@@ -115,12 +121,30 @@ impl Store {
         ensures { result ≡ nat_lt self.now.limit (needed self.now batch.now) }
     {
         let _meaning = clients;
-        let room = self.state.left_with(batch).saturating_mul(STEP_BYTES);
-        let len = batch_len(batch) as u64;
+        let format = format_meant(self.journal.format());
+        let room = self
+            .state
+            .left_with(batch)
+            .saturating_mul(step_bytes(format));
+        let len = batch_len(format, batch) as u64;
         let all = room
             .saturating_add(len)
             .saturating_add(self.journal.end() + 5);
         self.limit < all
+    }
+
+    // The batch in its frame.
+    fn frame(&self, batch: &Batch) -> Result<Vec<u8>, AllocError>
+        requires allowed { (clients : Meaning) × Allowed clients self.now.state.facts batch.now }
+        requires few { payload_len (written_in self.now) batch.now ≤ MAX_JOURNAL }
+        ensures framed { IfOk result (λ v. v.items ≡ framed_of
+            (payload (written_in self.now) self.now.state.facts batch.now)) }
+        ensures within { IfOk result (λ v. AllByRecursion IsEntry batch.now) }
+    {
+        cite_laws();
+        let format = format_meant(self.journal.format());
+        let names = HeldNames { state: &self.state };
+        frame_batch(self.alloc, format, &names, batch)
     }
 
     // Adds the batch in its frame, with no memory.

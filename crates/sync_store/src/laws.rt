@@ -18,6 +18,7 @@ pub(crate) fn cite_laws()
 {
     codec::journals_stand();
     codec::payloads_fit_frames();
+    codec::allowed_names();
     codec::allowed_have_latency();
     codec::allowed_add_one();
     codec::allowed_take_one();

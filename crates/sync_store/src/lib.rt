@@ -6,6 +6,7 @@ mod begin;
 mod committing;
 mod extending;
 mod fault;
+mod formats;
 mod frames;
 pub mod laws;
 mod load;

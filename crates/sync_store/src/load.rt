@@ -9,40 +9,22 @@ ghost use Rattle.frame_journal.specs.Gates.{AnyImage, ReadsSame};
 ghost use Rattle.journal_state.specs.Taking.{HasNextNumbers};
 ghost use Rattle.journal_state.specs.Whole.{Knows};
 ghost use Rattle.sync_rules.specs.Facts.{nothing};
-ghost use Rattle.sync_store.specs.Loading.{Finds, HasItsRoom, IsLoaded, LeavesSettled, Plays, ReadsAll};
+ghost use Rattle.sync_store.specs.Loading.{HasItsRoom, IsLoaded, LeavesSettled, Plays, ReadsAll};
 ghost use Rattle.sync_store.specs.Loading.{SoFar, Turns};
 ghost use Rattle.sync_store.specs.Ready.{IsReady};
 ghost use Rattle.sync_store.specs.Store.{IsStore};
 
 use crate::LoadFault;
+use crate::formats::{HeldNames, format_meant, settling_room};
 use crate::laws::cite_laws;
 use crate::store::Store;
-use entry_codec::{STEP_BYTES, read_batch};
-use frame_journal::{FIRST_FORMAT, Journal, StartFault, barrier};
+use entry_codec::read_batch;
+use frame_journal::{Journal, barrier};
 use journal_state::State;
 use outside::{Disk, MAX_JOURNAL, Place};
 use std::alloc::Global;
 use std::hash::RandomState;
 use sync_rules::Clients;
-
-// Finds the journal's file where it has the first format; the entries of another are not read yet.
-fn start<D: Disk>(disk: &mut D) -> Result<Journal, StartFault>
-    ensures start { ForSome (D.tells disk.old).files (λ two. Finds (read_files two) result) }
-    ensures fresh { IfOk result (λ j. (j.file < 2) × (j.end ≡ 15)) }
-    ensures looks { Looks (D.tells disk.old) (D.tells disk.new) }
-    ensures later { (D.tells disk.old).disk_faults ≤ (D.tells disk.new).disk_faults }
-    ensures fault { IsErrOf result StartFault.DiskFault
-        → Rose (D.tells disk.old).disk_faults (D.tells disk.new).disk_faults }
-{
-    let journal = Journal::start(disk)?;
-    if journal.format() != FIRST_FORMAT {
-        return Err(StartFault::Damaged(Place {
-            file: journal.file(),
-            at: 5,
-        }));
-    }
-    Ok(journal)
-}
 
 // Plays the last frame that was read.
 fn play<C: Clients>(
@@ -58,7 +40,8 @@ fn play<C: Clients>(
     ensures { Plays (C.meaning clients.now) journal.now state.old state.new payload.now result }
 {
     let place = journal.place();
-    let Some(batch) = read_batch(alloc, payload)? else {
+    let format = format_meant(journal.format());
+    let Some(batch) = read_batch(alloc, format, &HeldNames { state: &*state }, payload)? else {
         return Err(LoadFault::Damaged(place));
     };
     if !state.admit(alloc, clients, batch)? {
@@ -99,7 +82,7 @@ fn test_room(journal: &Journal, state: &State) -> Result<(), LoadFault>
     ensures { HasItsRoom journal.now state.now result }
 {
     let end = journal.end();
-    let room = STEP_BYTES * state.left();
+    let room = settling_room(format_meant(journal.format()), state.left());
     if room <= MAX_JOURNAL - end {
         return Ok(());
     }
@@ -135,7 +118,8 @@ fn read_all<D: Disk, C: Clients>(
 }
 
 impl Store {
-    /// Loads the store of a disk: it begins with the barrier, reads the journal and writes nothing.
+    /// Loads the store of a disk, of either format: it begins with the barrier, reads the journal
+    /// and writes nothing.
     /// `limit` is the length in bytes that commits may fill, at most `MAX_JOURNAL`; ids are hashed
     /// by `hasher`. `NoStore` comes exactly where no file has an open header, `Damaged` exactly
     /// where the files stand for no legal journal, with the first place that shows it, and
@@ -166,7 +150,7 @@ impl Store {
             → Rose (D.tells disk.old).disk_faults (D.tells disk.new).disk_faults }
     {
         barrier(disk)?;
-        let mut journal = start(disk)?;
+        let mut journal = Journal::start(disk)?;
         let mut state = State::new(alloc, hasher)?;
         read_all(alloc, disk, clients, &mut journal, &mut state)?;
         Ok(Store {

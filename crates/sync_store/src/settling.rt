@@ -15,10 +15,11 @@ ghost use Rattle.sync_rules.specs.Legal.{IsSettling};
 ghost use Rattle.sync_rules.specs.Steps.{IsSettled};
 ghost use Rattle.entry_codec.specs.Standing.{room_of};
 ghost use Rattle.sync_store.specs.Ready.{IsReady};
-ghost use Rattle.sync_store.specs.Store.{IsStore};
+ghost use Rattle.sync_store.specs.Store.{IsStore, written_in};
 ghost use Rattle.sync_store.specs.Settling.{HasSettled, MakesBatch};
 
 use crate::StoreFault;
+use crate::formats::{HeldNames, format_meant};
 use crate::frames::{MOST_FRAMED, frame_steps};
 use crate::laws::cite_laws;
 use crate::store::Store;
@@ -114,7 +115,9 @@ impl Store {
             filled?;
             return Ok(());
         }
-        frame_steps(entries.as_slice(), &mut framed);
+        let format = format_meant(self.journal.format());
+        let names = HeldNames { state: &self.state };
+        frame_steps(format, &names, entries.as_slice(), &mut framed);
         self.write(disk, framed.as_slice())?;
         filled?;
         Ok(())
@@ -123,8 +126,8 @@ impl Store {
     // Adds a frame to the journal's file, and closes the store where that fails.
     fn write<D: Disk>(&mut self, disk: &mut D, framed: &[u8]) -> Result<(), StoreFault>
         requires framed { IsFramed framed.now }
-        requires room { self.old.end + length framed.now + room_of self.old.state.facts
-            ≤ MAX_JOURNAL }
+        requires room { self.old.end + length framed.now
+            + room_of (written_in self.old) self.old.state.facts ≤ MAX_JOURNAL }
         requires fits { ForSome (D.tells disk.old).files
             (λ two. IsAtRest two self.old.file self.old.end) }
         ensures ok { OnOk result

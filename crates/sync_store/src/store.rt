@@ -14,8 +14,9 @@ ghost use Rattle.sync_rules.specs.Legal.{Allowed};
 ghost use Rattle.sync_rules.specs.Steps.{IsSettled, fate_held};
 ghost use Rattle.sync_rules.specs.Views.{IsPlace};
 ghost use Rattle.sync_rules.specs.declared.entries.Entry.TheVariants as entry;
+ghost use Rattle.sync_store.specs.Store.{written_in};
 
-use entry_codec::STEP_BYTES;
+use crate::formats::{format_meant, settling_room};
 use frame_journal::Journal;
 use journal_state::State;
 use message_graph::Graph;
@@ -99,14 +100,14 @@ impl Store {
         self.journal.end()
     }
 
-    /// The room in bytes that settling may yet need: `STEP_BYTES` for each step that is left, two
-    /// for each held message that is not judged, and one for each that is judged and neither
-    /// delivered nor invalid. Behind the journal it is within the greatest length.
+    /// The room in bytes that settling may yet need: 38 in format 1 and 10 in format 2 for each step
+    /// that is left, two for each held message that is not judged, and one for each that is judged
+    /// and neither delivered nor invalid. Behind the journal it is within the greatest length.
     pub fn room(&self) -> u64
-        ensures room { result ≡ room_of self.now.state.facts }
+        ensures room { result ≡ room_of (written_in self.now) self.now.state.facts }
         ensures within { self.now.end + result ≤ MAX_JOURNAL }
     {
-        STEP_BYTES * self.state.left()
+        settling_room(format_meant(self.journal.format()), self.state.left())
     }
 
     /// Whether a call on the disk failed. The counts of a closed store are bounded too.

@@ -30,7 +30,7 @@ use Rattle.commands.specs.declared.command.Command.TheVariants as command
 use Rattle.store_commands.specs.declared.commit.Settling.{Settling}
 use Rattle.store_commands.specs.declared.commit.Settling.TheVariants as settling
 use Rattle.store_commands.specs.declared.listing.Listing.TheVariants as listing
-use Rattle.store_commands.specs.Commit.{needed_by}
+use Rattle.store_commands.specs.Commit.{format_stood}
 use Rattle.store_commands.specs.Entries.{HasAdded}
 use Rattle.store_commands.specs.Init.{HasBegun}
 use Rattle.store_commands.specs.Plans.{Plan, adds, contact_plan, group_plan, level_plan, refuses}
@@ -157,7 +157,7 @@ module _ (clients : Meaning) (old new : Outside) (input input' out out' : Stream
       let one : full.entry ≡ may.entry = cc in
       let has : HasRoom clients full.before (full.entry ∷ []) =
       subst (λ (j : List (List Entry)). HasRoom clients j (full.entry ∷ [])) (sym same) (subst (λ (e : Entry). HasRoom clients may.before (e ∷ [])) (sym one) may.room) in
-      let room : needed_by (full.before ++ full.leads.first) (full.entry ∷ []) ≤ MAX_JOURNAL = has full.leads.first full.leads.settles full.leads.settled in
+      let room = has full.leads.first full.leads.settles full.leads.settled (format_stood (read_files now.0)) in
       absurd (omega (arith, room, full.leads.over))
   added_done plan asked _ did may = absurd did.by
 

@@ -21,7 +21,7 @@ use Rattle.sync_course.specs.Events.{batches_of}
 use Rattle.sync_course.specs.Links.{Link, closes}
 use Rattle.sync_course.specs.Turns.{is_over}
 use Rattle.sync_node.specs.Courses.{ReadsAs}
-use Rattle.store_commands.specs.Commit.{needed_by}
+use Rattle.store_commands.specs.Commit.{format_told}
 use Rattle.sync_words.specs.declared.link_words.LinkWords.{LinkWords}
 use Rattle.sync_course.specs.Closing.{Closing}
 use Rattle.sync_words.specs.declared.outcome.Outcome.{Outcome}
@@ -168,7 +168,7 @@ module _ (clients : Meaning) (limits : Limits) (words : List LinkWords) (old new
     result_comes (Err outcome.Full) came is caused comes =
         let full : WasFull clients limits words may.begin old new =
         subst (λ (j : List (List Entry)). WasFull clients limits words j old new) (same_begin comes.begin comes.began) comes.has in
-        let room : needed_by (may.begin ++ batches_of full.run.events) full.batch ≤ MAX_JOURNAL = may.room full.run full.batch full.next full.steps in
+        let room = may.room full.run full.batch full.next full.steps (format_told new.files) in
         absurd (omega (arith, room, full.over))
     result_comes (Err _) came is caused comes = absurd caused
 

@@ -33,6 +33,7 @@ use Rattle.sync_words.specs.Outcomes.{links_status}
 use Rattle.commands.specs.Reading.{Asked}
 use Rattle.commands.specs.Reading.Asked.{Usage, Do}
 use Rattle.store_commands.specs.declared.listing.Listing.TheVariants as listing
+use Rattle.entry_codec.specs.declared.naming.Format.{Format}
 use Rattle.store_commands.specs.Commit.{needed_by}
 use Rattle.store_commands.specs.Plans.{Plan, adds, contact_plan, group_plan, level_plan, post_plan}
 use Rattle.store_commands.specs.Post.{IsBody, message_of}
@@ -51,11 +52,11 @@ pub record NothingFails (old new : Outside) (input input' out out' : Stream) : T
   pub source : Rose input.faults input'.faults → ⊥
   pub sink : Rose out.faults out'.faults → ⊥
 
--- behind a journal, however it is settled, there is room for a batch
+-- behind a journal, however it is settled, there is room for a batch in either format
 abbrev pub HasRoom : Meaning → List (List Entry) → List Entry → Type 0
 HasRoom clients j batch =
     (first : List (List Entry)) → AllSettling clients (facts j) first → IsSettled clients (after_batches (facts j) first)
-    → needed_by (j ++ first) batch ≤ MAX_JOURNAL
+    → (format : Format) → needed_by format (j ++ first) batch ≤ MAX_JOURNAL
 
 -- the files as they read stand for a journal to which the command plans to add an entry, and there is room for it
 pub record MayAdd (clients : Meaning) (plan : Facts → Plan) (files : Option (Two File)) : Type 0 where
@@ -79,14 +80,14 @@ pub record MayShow (clients : Meaning) (shown : Facts → Showing) (files : Opti
   pub stood : ReadsAs clients files of
   pub is : shown (facts of) ≡ shows text
 
--- The files stand for a journal in which each contact of the words is known, and there is room for each batch that comes next in a
--- course over what was heard.
+-- The files stand for a journal in which each contact of the words is known, and there is room in either format for each batch that
+-- comes next in a course over what was heard.
 pub record MaySync (clients : Meaning) (limits : Limits) (words : List LinkWords) (old new : Outside) : Type 0 where
   pub begin : List (List Entry)
   pub stood : ReadsAs clients old.files begin
   pub known : is_unknown (facts begin) words ≡ false
   pub room : (was : WasBroken clients limits words begin old new) (batch : List Entry) (next : Place)
-      → RunStep clients (terms_of limits begin) was.last (Commit batch) next → needed_by (begin ++ batches_of was.events) batch ≤ MAX_JOURNAL
+      → RunStep clients (terms_of limits begin) was.last (Commit batch) next → (format : Format) → needed_by format (begin ++ batches_of was.events) batch ≤ MAX_JOURNAL
 
 -- the tests of a command hold, the files as they read serve it, and there is room
 abbrev pub Serves : Meaning → Command → (old new : Outside) → (input input' : Stream) → Type 0

@@ -1,4 +1,4 @@
-use Rattle.std.proofs.Common.{◌≡◌, List, [], ◌∷◌, ◌++◌, None, arith, length, length-append, nat_eq, map, ap, subst, sym, ◌∙◌}
+use Rattle.std.proofs.Common.{◌≡◌, [], ◌∷◌, ◌++◌, None, arith, length, length-append, nat_eq, map, ap, subst, sym, ◌∙◌}
 use Rattle.std.specs.List.{AllByRecursion}
 use Rattle.std.specs.Cmp.Lexicographic.{pointwise}
 use Rattle.std.proofs.lemmas.List.{length-map, map-append}
@@ -36,8 +36,7 @@ invariant_of-self c =
     let put = insert_entry-new (pointwise nat_eq) c.self.inside.kept id kept (not_kept id es absent) in
     let entries : c.insert.new.self.entries ≡ es ++ (id, kept) ∷ [] = rw c.unwrap.ensures at c.insert.ensures.entries ∙ put in
     let held : map held_of c.insert.new.self.entries ≡ map held_of es ++ held_of (id, kept) ∷ [] = ap (map held_of) entries ∙ map-append held_of es ((id, kept) ∷ []) in
-    let same : map held_of es ≡ c.args.self.now.held = ap (λ (m : Holding). m.held) c.self.view_is in
-    (
+    let same : map held_of es ≡ c.args.self.now.held = ap (λ (m : Holding). m.held) c.self.view_is in (
       omega (arith, ap length entries, length-append es ((id, kept) ∷ []), length-map es held_of, ap length same, c.requires.few),
       subst (AllByRecursion IsOwnId) (sym held) (own_push (map held_of es) (held_of (id, kept)) c.self.invariant.1 c.requires.named),
     )

@@ -7,12 +7,11 @@ use Rattle.sync_rules.specs.Facts.{after_all}
 use Rattle.sync_rules.specs.Legal.{Allowed}
 use Rattle.entry_codec.specs.Payloads.{payload_len}
 use Rattle.sync_store.specs.declared.fault.StoreFault.TheVariants as fault
-use Rattle.sync_store.specs.Store.{StoreValue}
+use Rattle.sync_store.specs.Store.{StoreValue, written_in}
 use Rattle.sync_store.specs.Inside.{value_of}
 use Rattle.sync_store.specs.Fitting.{Fits, FitsSome}
 use Rattle.sync_store.specs.Commits.{Gains, MayAdd}
-use Rattle.sync_store.proofs.FitSteps.{adds_err, adds_ok, rests}
-use Rattle.sync_store.proofs.Framing.{framed_long}
+use Rattle.sync_store.proofs.FitSteps.{adds_err, adds_ok, framed_len, rests}
 use Rattle.sync_store.proofs.Growth.{grown_store}
 use Rattle.sync_store.proofs.Limits.{few_held, few_sessions}
 use Rattle.sync_store.proofs.SettleSteps.{adds_ready_fits}
@@ -23,7 +22,7 @@ gained : (clients : Meaning) (s : StoreValue) (state : StateValue) (journal : Jo
     → state.facts ≡ after_all s.state.facts batch → journal.file ≡ s.file → journal.end ≡ s.end + length framed → journal.format ≡ s.format → journal.generation ≡ s.generation
     → Gains s (record { state = state; file = journal.file; format = journal.format; generation = journal.generation; end = journal.end; limit = s.limit; closed = s.closed }) batch
 gained clients s state journal batch framed may still facts file end format generation =
-    let long : length framed ≡ 5 + payload_len batch = framed_long framed may.is_framed ∙ ap (λ p. 5 + length p) may.payload_is in
+    let long : length framed ≡ 5 + payload_len (written_in s) batch = framed_len s batch framed may.is_framed may.payload_is in
     record { facts = facts; file = file; format = format; generation = generation; end = omega (arith, end, long); limit = refl; closed = still }
 
 pub take_known-requires-clause-allowed : goal.take_known-requires-clause-allowed
@@ -100,3 +99,14 @@ append-requires-clause-fits g c two told =
     let files = (g.D.Disk.tells c.args.disk.now).files in
     let fits = subst (λ (v : StoreValue). FitsSome clients v files) (sym c.self.view_is) c.requires.ready.fits in
     rests clients (value_of c.self.inside) files fits two told
+
+pub returns-in-Ok-clause-ok : goal.returns-in-Ok-clause-ok
+returns-in-Ok-clause-ok g c =
+    let s = value_of c.self.inside in
+    let may = subst (λ (v : StoreValue). MayAdd (g.C.Clients.meaning c.args.clients.now) v c.args.batch c.args.framed.now) (sym c.self.view_is) c.requires.may in
+    let still : s.closed ≡ false = ap (λ (v : StoreValue). v.closed) c.self.view_is ∙ c.requires.ready.still_open in
+    subst (λ (v : StoreValue). Gains v (value_of (record { alloc = c.self.inside.alloc; state = c.take_known.new.self; journal = c.append.new.self; limit = c.self.inside.limit; closed = c.self.inside.closed })) c.args.batch)
+    c.self.view_is
+    (gained (g.C.Clients.meaning c.args.clients.now) s c.take_known.new.self c.append.new.self c.args.batch c.args.framed.now may still c.take_known.ensures.facts
+    (ap (λ (j : JournalValue). j.file) c.in-Ok.ensures.ok) (ap (λ (j : JournalValue). j.end) c.in-Ok.ensures.ok) (ap (λ (j : JournalValue). j.format) c.in-Ok.ensures.ok)
+    (ap (λ (j : JournalValue). j.generation) c.in-Ok.ensures.ok))

@@ -14,12 +14,6 @@ returns-then-is_full-clause-extends g c still two told j fits =
     leads_none c.cite_laws.ensures.stand clients (WithAtMost j c.args.batch) (λ whole. whole ≡ j) s s j two (g.D.Disk.tells c.args.disk.now) fits (subst IsStore c.self.view_is c.self.invariant).roomy told
     (record { facts = refl; file = refl; format = refl; generation = refl; end = refl }) (inl refl) refl
 
-pub frame_batch-requires-clause-latency : goal.frame_batch-requires-clause-latency
-frame_batch-requires-clause-latency g c =
-    let s = c.args.self.now in
-    let still : s.closed ≡ false = ap (λ (v : StoreValue). v.closed) (sym c.self.view_is) ∙ c.if-self.false in
-    c.cite_laws.ensures.latency (g.C.Clients.meaning c.args.clients.now) s.state.facts c.args.batch (c.requires.allowed still)
-
 pub returns-in_err-framed-clause-extends : goal.returns-in_err-framed-clause-extends
 returns-in_err-framed-clause-extends g c still two told j fits =
     let clients = g.C.Clients.meaning c.args.clients.now in
@@ -48,7 +42,7 @@ add-requires-clause-may g c =
     let s = c.args.self.now in
     let still : s.closed ≡ false = ap (λ (v : StoreValue). v.closed) (sym c.self.view_is) ∙ c.if-self.false in
     may_add c.cite_laws.ensures clients s _ c.args.batch c.as_slice.result.now (subst IsStore c.self.view_is c.self.invariant)
-    (c.reserve.ensures.facts ∙ ap (λ (v : StoreValue). v.state.facts) c.self.view_is) (ap (λ (v : StoreValue). v.end) c.self.view_is) (c.requires.allowed still) c.in_ok-framed.ensures.within
+    (c.reserve.ensures.facts ∙ ap (λ (v : StoreValue). v.state.facts) c.self.view_is) (ap (λ (v : StoreValue). v.end) c.self.view_is) (ap (λ (v : StoreValue). v.format) c.self.view_is) (c.requires.allowed still) c.in_ok-framed.ensures.within
     (c.as_slice.ensures.value ∙ c.in_ok-framed.ensures.framed) (fits_by c.is_full.result s.limit (needed s c.args.batch) c.is_full.ensures c.if-is_full.false)
 
 pub returns-clause-extends : goal.returns-clause-extends
@@ -75,3 +69,8 @@ returns-in_err-framed-clause-calls g c = no_calls c.from_residual.result (g.D.Di
 
 pub returns-in_err-reserve-clause-calls : goal.returns-in_err-reserve-clause-calls
 returns-in_err-reserve-clause-calls g c = no_calls c.from_residual-in_err-reserve.result (g.D.Disk.tells c.args.disk.now) c.from_residual-in_err-reserve.ensures.0
+
+pub frame-requires-clause-allowed : goal.frame-requires-clause-allowed
+frame-requires-clause-allowed g c =
+    let still : c.args.self.now.closed ≡ false = ap (λ (v : StoreValue). v.closed) (sym c.self.view_is) ∙ c.if-self.false in
+    (g.C.Clients.meaning c.args.clients.now, c.requires.allowed still)

@@ -1,10 +1,18 @@
-use Rattle.std.proofs.Common.{◌≡◌, false, List, [], length, refl, sym, ap, ◌∙◌, subst, arith, Result, Ok, Err}
+use Rattle.std.proofs.Common.{◌≡◌, ℕ, ◌≤◌, false, List, [], length, refl, sym, ap, ◌∙◌, subst, arith, Result, Ok, Err}
 use Rattle.sync_rules.specs.declared.entries.Entry.{Entry}
 use Rattle.sync_rules.specs.Facts.{after_all}
+use Rattle.std.specs.List.{AllByRecursion}
+use Rattle.sync_rules.specs.declared.limits.TheConstants.{MAX_STEPS}
 use Rattle.sync_rules.specs.Legal.{IsSettling}
+use Rattle.sync_rules.proofs.WorkLaws.{allowed_settling}
+use Rattle.entry_codec.specs.Naming.{IsNamed}
+use Rattle.entry_codec.specs.Payloads.{names_of}
+use Rattle.entry_codec.specs.Spelling.{EntryNames}
+use Rattle.entry_codec.proofs.Named.{named_in}
+use Rattle.sync_store.proofs.HeldIds.{names_stay}
 use Rattle.sync_store.specs.declared.fault.StoreFault.{StoreFault}
 use Rattle.sync_store.specs.declared.fault.StoreFault.TheVariants as fault
-use Rattle.sync_store.specs.Store.{StoreValue}
+use Rattle.sync_store.specs.Store.{StoreValue, format_meant}
 use Rattle.sync_store.specs.Inside.{value_of}
 use Rattle.sync_store.specs.Fitting.{FitsSome}
 use Rattle.sync_store.specs.Settling.{MakesBatch}
@@ -40,7 +48,7 @@ pub invariant_of-self-2 : goal.invariant_of-self-2
 invariant_of-self-2 g c =
     let clients = g.C.Clients.meaning c.args.clients.now in
     let s = value_of c.self.inside in
-    stepped_store clients s _ c.fill-filled.new.entries.items c.self.invariant c.fill-filled.ensures.steps c.fill-filled.ensures.facts refl refl
+    stepped_store clients s _ c.fill-filled.new.entries.items c.self.invariant c.fill-filled.ensures.steps c.fill-filled.ensures.facts refl refl refl
 
 pub write-requires-clause-framed : goal.write-requires-clause-framed
 write-requires-clause-framed g c =
@@ -50,7 +58,7 @@ write-requires-clause-framed g c =
     let framed = c.as_slice-2.result.now in
     let still : s.closed ≡ false = ap (λ (v : StoreValue). v.closed) c.self.view_is ∙ c.requires.ready.still_open in
     let filled : Filled clients s c.fill-filled.new.state.facts es framed =
-    filled_from clients s c.fill-filled.new.state.facts c.fill-filled.new.entries.items es c.frame_steps.new.to.items framed c.as_slice.ensures.value c.fill-filled.ensures.steps c.fill-filled.ensures.facts
+    filled_from clients s c.format_meant-format.result (c.format_meant-format.ensures ∙ ap format_meant c.format.ensures.value) c.fill-filled.new.state.facts c.fill-filled.new.entries.items es c.frame_steps.new.to.items framed c.as_slice.ensures.value c.fill-filled.ensures.steps c.fill-filled.ensures.facts
     (some_by c.is_empty.result _ (length es) c.is_empty.ensures c.if-is_empty.false c.as_slice.ensures.len) (omega (arith, c.fill-filled.ensures.few, c.as_slice.ensures.len)) c.frame_steps.ensures.within
     c.as_slice-2.ensures.value c.frame_steps.ensures.framed c.frame_steps.ensures.len c.self.invariant still in
     (filled_may clients s c.fill-filled.new.state.facts es framed filled).is_framed
@@ -63,7 +71,7 @@ write-requires-clause-room g c =
     let framed = c.as_slice-2.result.now in
     let still : s.closed ≡ false = ap (λ (v : StoreValue). v.closed) c.self.view_is ∙ c.requires.ready.still_open in
     let filled : Filled clients s c.fill-filled.new.state.facts es framed =
-    filled_from clients s c.fill-filled.new.state.facts c.fill-filled.new.entries.items es c.frame_steps.new.to.items framed c.as_slice.ensures.value c.fill-filled.ensures.steps c.fill-filled.ensures.facts
+    filled_from clients s c.format_meant-format.result (c.format_meant-format.ensures ∙ ap format_meant c.format.ensures.value) c.fill-filled.new.state.facts c.fill-filled.new.entries.items es c.frame_steps.new.to.items framed c.as_slice.ensures.value c.fill-filled.ensures.steps c.fill-filled.ensures.facts
     (some_by c.is_empty.result _ (length es) c.is_empty.ensures c.if-is_empty.false c.as_slice.ensures.len) (omega (arith, c.fill-filled.ensures.few, c.as_slice.ensures.len)) c.frame_steps.ensures.within
     c.as_slice-2.ensures.value c.frame_steps.ensures.framed c.frame_steps.ensures.len c.self.invariant still in
     filled_room clients s c.fill-filled.new.state.facts es framed filled
@@ -83,7 +91,7 @@ returns-in_err-write-clause-made g c =
     let framed = c.as_slice-2.result.now in
     let still : s.closed ≡ false = ap (λ (v : StoreValue). v.closed) c.self.view_is ∙ c.requires.ready.still_open in
     let filled : Filled clients s c.fill-filled.new.state.facts es framed =
-    filled_from clients s c.fill-filled.new.state.facts c.fill-filled.new.entries.items es c.frame_steps.new.to.items framed c.as_slice.ensures.value c.fill-filled.ensures.steps c.fill-filled.ensures.facts
+    filled_from clients s c.format_meant-format.result (c.format_meant-format.ensures ∙ ap format_meant c.format.ensures.value) c.fill-filled.new.state.facts c.fill-filled.new.entries.items es c.frame_steps.new.to.items framed c.as_slice.ensures.value c.fill-filled.ensures.steps c.fill-filled.ensures.facts
     (some_by c.is_empty.result _ (length es) c.is_empty.ensures c.if-is_empty.false c.as_slice.ensures.len) (omega (arith, c.fill-filled.ensures.few, c.as_slice.ensures.len)) c.frame_steps.ensures.within
     c.as_slice-2.ensures.value c.frame_steps.ensures.framed c.frame_steps.ensures.len c.self.invariant still in
     let e = c.in_err-write.field-0.0 in
@@ -109,7 +117,7 @@ returns-in_err-filled-2-clause-made g c =
     let framed = c.as_slice-2.result.now in
     let still : s.closed ≡ false = ap (λ (v : StoreValue). v.closed) c.self.view_is ∙ c.requires.ready.still_open in
     let filled : Filled clients s c.fill-filled.new.state.facts es framed =
-    filled_from clients s c.fill-filled.new.state.facts c.fill-filled.new.entries.items es c.frame_steps.new.to.items framed c.as_slice.ensures.value c.fill-filled.ensures.steps c.fill-filled.ensures.facts
+    filled_from clients s c.format_meant-format.result (c.format_meant-format.ensures ∙ ap format_meant c.format.ensures.value) c.fill-filled.new.state.facts c.fill-filled.new.entries.items es c.frame_steps.new.to.items framed c.as_slice.ensures.value c.fill-filled.ensures.steps c.fill-filled.ensures.facts
     (some_by c.is_empty.result _ (length es) c.is_empty.ensures c.if-is_empty.false c.as_slice.ensures.len) (omega (arith, c.fill-filled.ensures.few, c.as_slice.ensures.len)) c.frame_steps.ensures.within
     c.as_slice-2.ensures.value c.frame_steps.ensures.framed c.frame_steps.ensures.len c.self.invariant still in
     let came : Came s c.write.new.self c.fill-filled.new.state.facts = record {
@@ -136,7 +144,7 @@ returns-clause-made g c =
     let framed = c.as_slice-2.result.now in
     let still : s.closed ≡ false = ap (λ (v : StoreValue). v.closed) c.self.view_is ∙ c.requires.ready.still_open in
     let filled : Filled clients s c.fill-filled.new.state.facts es framed =
-    filled_from clients s c.fill-filled.new.state.facts c.fill-filled.new.entries.items es c.frame_steps.new.to.items framed c.as_slice.ensures.value c.fill-filled.ensures.steps c.fill-filled.ensures.facts
+    filled_from clients s c.format_meant-format.result (c.format_meant-format.ensures ∙ ap format_meant c.format.ensures.value) c.fill-filled.new.state.facts c.fill-filled.new.entries.items es c.frame_steps.new.to.items framed c.as_slice.ensures.value c.fill-filled.ensures.steps c.fill-filled.ensures.facts
     (some_by c.is_empty.result _ (length es) c.is_empty.ensures c.if-is_empty.false c.as_slice.ensures.len) (omega (arith, c.fill-filled.ensures.few, c.as_slice.ensures.len)) c.frame_steps.ensures.within
     c.as_slice-2.ensures.value c.frame_steps.ensures.framed c.frame_steps.ensures.len c.self.invariant still in
     let came : Came s c.write.new.self c.fill-filled.new.state.facts = record {
@@ -153,3 +161,17 @@ returns-clause-made g c =
     subst (λ (v : StoreValue). MakesBatch clients v c.write.new.self (Ok tt) o o') c.self.view_is
     (filled_whole c.cite_laws.ensures.stand clients s c.write.new.self c.fill-filled.new.state.facts es framed _ tt o o' filled came end closed c.in_ok-write.ensures.any_moment c.in_ok-write.ensures.appended c.in_ok-write.ensures.calls.just
     c.as_slice.ensures.len c.in_ok-filled-2.ensures.full)
+
+pub frame_steps-requires-clause-named : goal.frame_steps-requires-clause-named
+frame_steps-requires-clause-named g c =
+    let clients = g.C.Clients.meaning c.args.clients.now in
+    let s = value_of c.self.inside in
+    let f = s.state.facts in
+    let es = c.as_slice.result.now in
+    let settling = subst (λ (xs : List Entry). IsSettling clients f xs) (sym c.as_slice.ensures.value) c.fill-filled.ensures.steps in
+    let some : 1 ≤ length es = some_by c.is_empty.result _ (length es) c.is_empty.ensures c.if-is_empty.false c.as_slice.ensures.len in
+    let few : length es ≤ MAX_STEPS = omega (arith, c.fill-filled.ensures.few, c.as_slice.ensures.len) in
+    let held = c.cite_laws.ensures.names clients f es (allowed_settling clients f es (some, few, settling)) in
+    let same : names_of c.fill-filled.new.state.facts ≡ names_of f = ap names_of c.fill-filled.ensures.facts ∙ names_stay clients f c.fill-filled.new.entries.items c.fill-filled.ensures.steps in
+    let format = c.format_meant-format.result in
+    subst (λ (names : List (List ℕ)). AllByRecursion (EntryNames (IsNamed format names)) es) (sym same) (named_in format (names_of f) es held)
