@@ -118,6 +118,15 @@ module _ (clients : Meaning) (n session : ℕ) where
       let q : Spot = record p { facts = after_all p.facts b } in
       (q, step_at p q (Commit b) (Takes its) is (inl (settling.0, refl)), settles_path q its bs is settling.1)
 
+  -- settling batches behind others
+  pub settles_rest : (p : Spot) (its : List Item) (front others : List (List Entry)) → p.doing ≡ Takes its
+      → AllSettling clients p.facts (front ++ others)
+      → Path (LinkStep clients n session) (record p { facts = after_batches p.facts front }) (commits others)
+      (record p { facts = after_batches (after_batches p.facts front) others })
+  settles_rest p its [] others is settling = settles_path p its others is settling
+  settles_rest p its (b ∷ front) others is settling =
+      settles_rest (record p { facts = after_all p.facts b }) its front others is settling.1
+
   takes_path : (place : ℕ) (r : Record) (its : List Item) (p : Spot) → p.doing ≡ Takes (item.One place r ∷ its)
       → Allowed clients p.facts (next_take p.facts session r)
       → Path (LinkStep clients n session) p (commits (next_take p.facts session r ∷ []))

@@ -31,12 +31,10 @@ use Rattle.world_devices.specs.Doing.{Attaches, BreaksOff, ComesOf, FullAtBeginn
 use Rattle.world_devices.specs.Refusals.{IsNotRefused, RefusedBy, refuses_link}
 use Rattle.world_devices.specs.declared.stop.StepFault.{StepFault}
 use Rattle.world_devices.specs.declared.stop.StepFault.TheVariants as fault
+use Rattle.world_devices.proofs.AddLaws.{of_node}
 use Rattle.world_devices.proofs.GivingUpLaws.{comes_same}
 
 -- ---- of a device that runs
-
-of_node : (P : NodeValue → Type 0) (n : NodeValue) (maybe : Option NodeValue) → maybe ≡ Some n → P n → OfNode P maybe
-of_node P n maybe is holds = subst (λ (x : Option NodeValue). OfNode P x) (sym is) holds
 
 of_nodes : (P : NodeValue → NodeValue → Type 0) (n n' : NodeValue) (old new : Option NodeValue) → old ≡ Some n → new ≡ Some n' → P n n' → OfNodes P old new
 of_nodes P n n' old new was is holds = subst (λ (x : Option NodeValue). OfNodes P x new) (sym was) (subst (λ (x : Option NodeValue). OfNodes P (Some n) x) (sym is) holds)
