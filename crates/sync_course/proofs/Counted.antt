@@ -2,7 +2,7 @@
 use Rattle.std.proofs.Common.{◌≡◌, ℕ, suc, ◌+◌, ◌<◌, List, [], ◌∷◌, ◌++◌, length, length-append, refl, ◌∙◌, ap, Ok, Err}
 use Rattle.outside.specs.declared.failed.Failed.{Failed}
 use Rattle.outside.specs.Host.{Sends}
-use Rattle.outside.specs.Outside.{Outside}
+use Rattle.outside.specs.Outside.{Outside, MakesAtMost}
 use Rattle.sync_rules.specs.declared.entries.Entry.{Entry}
 use Rattle.sync_rules.specs.declared.entries.Out.{Out}
 use Rattle.sync_rules.specs.Clients.{Meaning}
@@ -42,29 +42,29 @@ module _ (clients : Meaning) (n session : ℕ) (Before After : List (List Entry)
 
   pub counted_out : (now room : ℕ) (what : Out) (p : Spot) (o o' : Outside) → p.doing ≡ Sending now (suc room)
       → IsDue clients p.facts (session_at p.facts.sessions session) now what → Allowed clients p.facts (out_batch session now what)
-      → o'.links ≡ o.links → ((j : List (List Entry)) → Before j → After (j ++ out_batch session now what ∷ []))
+      → o'.links ≡ o.links → MakesAtMost 4 o o' → ((j : List (List Entry)) → Before j → After (j ++ out_batch session now what ∷ []))
       → CountsOn p (out_spot now room (out_batch session now what) p) o o' 1
   unfolding runs_out runs_commits
-  counted_out now room what p o o' sends due allowed same grows = record {
-    runs = runs_out clients n session Before After now room what p o o' sends due allowed same grows;
+  counted_out now room what p o o' sends due allowed same made grows = record {
+    runs = runs_out clients n session Before After now room what p o o' sends due allowed same made grows;
     counts = refl;
   }
 
   pub counted_put : (now room : ℕ) (bytes : List ℕ) (p : Spot) (o o' : Outside) → p.doing ≡ Puts now room
-      → Sends n bytes (Ok tt) o.links o'.links → ((j : List (List Entry)) → Before j → After j)
+      → Sends n bytes (Ok tt) o.links o'.links → MakesAtMost 0 o o' → ((j : List (List Entry)) → Before j → After j)
       → CountsOn p (record p { doing = Sending now room }) o o' 0
   unfolding runs_put runs_quiet
-  counted_put now room bytes p o o' puts sends stays = record {
-    runs = runs_put clients n session Before After now room bytes p o o' puts sends stays;
+  counted_put now room bytes p o o' puts sends made stays = record {
+    runs = runs_put clients n session Before After now room bytes p o o' puts sends made stays;
     counts = refl;
   }
 
   pub counted_broken : (now room : ℕ) (bytes : List ℕ) (why : Failed) (p : Spot) (o o' : Outside) → p.doing ≡ Puts now room
-      → Sends n bytes (Err why) o.links o'.links → ((j : List (List Entry)) → Before j → After j)
+      → Sends n bytes (Err why) o.links o'.links → MakesAtMost 0 o o' → ((j : List (List Entry)) → Before j → After j)
       → CountsOn p (failed_spot p) o o' 0
   unfolding runs_broken runs_quiet
-  counted_broken now room bytes why p o o' puts sends stays = record {
-    runs = runs_broken clients n session Before After now room bytes why p o o' puts sends stays;
+  counted_broken now room bytes why p o o' puts sends made stays = record {
+    runs = runs_broken clients n session Before After now room bytes why p o o' puts sends made stays;
     counts = refl;
   }
 

@@ -1,7 +1,8 @@
 -- A link's turn as a part of the run, and the steps of the run between the turns of its links.
-use Rattle.std.proofs.Common.{◌≡◌, ℕ, zero, suc, ◌+◌, ◌<◌, Bool, true, false, cond, List, [], ◌∷◌, ◌++◌, length, refl, sym, ap, subst, inl, inr, arith, Option, None, Some}
+use Rattle.std.proofs.Common.{◌≡◌, ℕ, zero, suc, ◌+◌, ◌*◌, ◌<◌, Bool, true, false, cond, List, [], ◌∷◌, ◌++◌, length, refl, sym, ap, subst, inl, inr, arith, Option, None, Some}
 use Rattle.std.specs.Prelude.{slice_get, slice_set}
-use Rattle.outside.specs.Outside.{Outside}
+use Rattle.outside.specs.Outside.{Outside, MakesAtMost}
+use Rattle.outside.proofs.CallCounts.{most_none}
 use Rattle.sync_rules.specs.declared.entries.Entry.{Entry}
 use Rattle.sync_rules.specs.declared.entries.Entry.TheVariants as entry
 use Rattle.sync_rules.specs.declared.entries.Session.{Session}
@@ -9,10 +10,10 @@ use Rattle.sync_rules.specs.Clients.{Meaning}
 use Rattle.sync_rules.specs.Facts.{after_all, after_batches}
 use Rattle.sync_rules.specs.Legal.{Allowed, AllSettling}
 use Rattle.sync_rules.specs.Steps.{IsSettled}
-use Rattle.sync_course.specs.Events.{Event, Commit, Break, Pass, Told}
+use Rattle.sync_course.specs.Events.{Event, Commit, Break, Pass, commits, Told}
 use Rattle.sync_course.specs.Paths.{Path, Runs, Breaks}
 use Rattle.sync_course.proofs.PathLaws.{path_maps, path_one}
-use Rattle.sync_course.proofs.ToldLaws.{commits, told_pass}
+use Rattle.sync_course.proofs.ToldLaws.{told_pass}
 use Rattle.sync_course.proofs.CallLaws.{breaks_commits, runs_commits, runs_quiet}
 use Rattle.sync_course.specs.Links.{Link}
 use Rattle.sync_course.specs.LinkTurns.{Asks, Doing, Done, LinkStep, Spot}
@@ -80,19 +81,24 @@ module _ (clients : Meaning) (terms : Terms) (n : ℕ) (place : Place) (within :
       path_maps (LinkStep clients n (terms.first + n)) (RunStep clients terms) (λ (s : Spot). with_spot n s place) lifted_step p q es path
 
   module _ (Before After : List (List Entry) → Type 0) where
-    unfoldable pub runs_lifted : (p q : Spot) (o o' : Outside) → Runs (LinkStep clients n (terms.first + n)) Before After p q o o'
-        → Runs (RunStep clients terms) Before After (with_spot n p place) (with_spot n q place) o o'
+    unfoldable pub runs_lifted : (p q : Spot) (o o' : Outside) {next : List (List Entry)}
+        → Runs (LinkStep clients n (terms.first + n)) Before After p q o o' next
+        → Runs (RunStep clients terms) Before After (with_spot n p place) (with_spot n q place) o o' next
     runs_lifted p q o o' runs = record {
       events = runs.events;
       path = link_lifts p q runs.events runs.path;
       told = runs.told;
       journal = runs.journal;
+      calls = runs.calls;
     }
 
     pub breaks_lifted : (p : Spot) (o o' : Outside) → Breaks (LinkStep clients n (terms.first + n)) Before After p o o'
         → Breaks (RunStep clients terms) Before After (with_spot n p place) o o'
     breaks_lifted p o o' breaks = record {
       to = with_spot n breaks.to place;
+      next = breaks.next;
+      beyond = with_spot n breaks.beyond place;
+      goes_on = link_lifts breaks.to breaks.beyond (commits breaks.next) breaks.goes_on;
       runs = runs_lifted p breaks.to o o' breaks.runs;
     }
 
@@ -155,89 +161,82 @@ module _ (clients : Meaning) (terms : Terms) where
 
   module _ (Before After : List (List Entry) → Type 0) where
     abbrev pub Leads : Place → Place → Outside → Outside → Type 0
-    Leads p q o o' = Runs (RunStep clients terms) Before After p q o o'
+    Leads p q o o' = Runs (RunStep clients terms) Before After p q o o' []
 
     -- a run settles its journal, at its begin
     pub runs_begun : (sessions : List Session) (bs : List (List Entry)) (p : Place) (o o' : Outside) → p.stage ≡ Settles sessions
-        → AllSettling clients p.facts bs → o'.links ≡ o.links → ((j : List (List Entry)) → Before j → After (j ++ bs))
-        → Leads p (record p { facts = after_batches p.facts bs }) o o'
-    runs_begun sessions bs p o o' settles settling same grows =
-        runs_commits (RunStep clients terms) Before After bs grows p (record p { facts = after_batches p.facts bs }) o o' same
+        → AllSettling clients p.facts bs → o'.links ≡ o.links → MakesAtMost (4 * length bs) o o'
+        → ((j : List (List Entry)) → Before j → After (j ++ bs)) → Leads p (record p { facts = after_batches p.facts bs }) o o'
+    runs_begun sessions bs p o o' settles settling same made grows =
+        runs_commits (RunStep clients terms) Before After bs grows p (record p { facts = after_batches p.facts bs }) o o' same made
         (settling_path sessions p bs settles settling)
 
     -- a session begins
     pub runs_attached : (s : Session) (left : List Session) (p : Place) (o o' : Outside) → p.stage ≡ Attaches (s ∷ left)
-        → Allowed clients p.facts (entry.Session s ∷ []) → o'.links ≡ o.links
+        → Allowed clients p.facts (entry.Session s ∷ []) → o'.links ≡ o.links → MakesAtMost 4 o o'
         → ((j : List (List Entry)) → Before j → After (j ++ (entry.Session s ∷ []) ∷ []))
         → Leads p (record p { stage = Greets s left; facts = after_all p.facts (entry.Session s ∷ []) }) o o'
-    runs_attached s left p o o' attaches allowed same grows =
+    runs_attached s left p o o' attaches allowed same made grows =
         let b : List Entry = entry.Session s ∷ [] in
         let q : Place = record p { stage = Greets s left; facts = after_all p.facts b } in
-        runs_commits (RunStep clients terms) Before After (b ∷ []) grows p q o o' same
+        runs_commits (RunStep clients terms) Before After (b ∷ []) grows p q o o' same made
         (path_one (RunStep clients terms) p q (Commit b) (stage_at p q (Commit b) (Attaches (s ∷ left)) attaches (refl, allowed, refl)))
 
     -- broken off there: a front of the batches stands
     module _ (front others : List (List Entry)) (grows : (j : List (List Entry)) → Before j → After (j ++ front)) where
       pub breaks_begun : (sessions : List Session) (bs : List (List Entry)) (p : Place) (o o' : Outside) → p.stage ≡ Settles sessions
-          → AllSettling clients p.facts bs → o'.links ≡ o.links → bs ≡ front ++ others → Breaks (RunStep clients terms) Before After p o o'
-      breaks_begun sessions bs p o o' settles settling same parts =
-          breaks_commits (RunStep clients terms) Before After bs front others parts grows p (record p { facts = after_batches p.facts bs }) o o' same
+          → AllSettling clients p.facts bs → o'.links ≡ o.links → MakesAtMost (4 * length bs) o o' → bs ≡ front ++ others
+          → Breaks (RunStep clients terms) Before After p o o'
+      breaks_begun sessions bs p o o' settles settling same made parts =
+          breaks_commits (RunStep clients terms) Before After bs front others parts grows p (record p { facts = after_batches p.facts bs }) o o' same made
           (settling_path sessions p bs settles settling)
 
-      pub breaks_attached : (s : Session) (left : List Session) (p : Place) (o o' : Outside) → p.stage ≡ Attaches (s ∷ left)
-          → Allowed clients p.facts (entry.Session s ∷ []) → o'.links ≡ o.links → (entry.Session s ∷ []) ∷ [] ≡ front ++ others
-          → Breaks (RunStep clients terms) Before After p o o'
-      breaks_attached s left p o o' attaches allowed same parts =
-          let b : List Entry = entry.Session s ∷ [] in
-          let q : Place = record p { stage = Greets s left; facts = after_all p.facts b } in
-          breaks_commits (RunStep clients terms) Before After (b ∷ []) front others parts grows p q o o' same
-          (path_one (RunStep clients terms) p q (Commit b) (stage_at p q (Commit b) (Attaches (s ∷ left)) attaches (refl, allowed, refl)))
-
     module _ (stays : (j : List (List Entry)) → Before j → After j) where
-      passes : (p q : Place) (o o' : Outside) → RunStep clients terms p Pass q → Told (Pass ∷ []) o o' → Leads p q o o'
-      passes p q o o' s told = runs_quiet (RunStep clients terms) Before After stays p q Pass o o' refl s told
+      passes : (p q : Place) (o o' : Outside) → RunStep clients terms p Pass q → Told (Pass ∷ []) o o' → MakesAtMost 0 o o' → Leads p q o o'
+      passes p q o o' s told made = runs_quiet (RunStep clients terms) Before After stays p q Pass o o' refl s told made
 
       -- the journal is settled, at the begin
       pub runs_settled_begun : (sessions : List Session) (p : Place) (o : Outside) → p.stage ≡ Settles sessions → IsSettled clients p.facts
           → Leads p (record p { stage = Attaches sessions }) o o
       runs_settled_begun sessions p o settles settled =
           let q : Place = record p { stage = Attaches sessions } in
-          passes p q o o (stage_at p q Pass (Settles sessions) settles (settled, refl)) (told_pass o o refl)
+          passes p q o o (stage_at p q Pass (Settles sessions) settles (settled, refl)) (told_pass o o refl) (most_none 0 o)
 
       -- a session greeted; all sends of its greeting are told as one event
       pub runs_greeted : (s : Session) (left : List Session) (p : Place) (o o' : Outside) → p.stage ≡ Greets s left → Told (Pass ∷ []) o o'
-          → Leads p (attached s left p) o o'
-      runs_greeted s left p o o' greets told = passes p (attached s left p) o o' (stage_at p (attached s left p) Pass (Greets s left) greets refl) told
+          → MakesAtMost 0 o o' → Leads p (attached s left p) o o'
+      runs_greeted s left p o o' greets told made =
+          passes p (attached s left p) o o' (stage_at p (attached s left p) Pass (Greets s left) greets refl) told made
 
       -- its greeting failed
       pub runs_ungreeted : (s : Session) (left : List Session) (p : Place) (o o' : Outside) → p.stage ≡ Greets s left
-          → Told (Break (length p.links) ∷ []) o o' → Leads p (unattached s left p) o o'
-      runs_ungreeted s left p o o' greets told =
+          → Told (Break (length p.links) ∷ []) o o' → MakesAtMost 0 o o' → Leads p (unattached s left p) o o'
+      runs_ungreeted s left p o o' greets told made =
           runs_quiet (RunStep clients terms) Before After stays p (unattached s left p) (Break (length p.links)) o o' refl
-          (stage_at p (unattached s left p) (Break (length p.links)) (Greets s left) greets (refl, refl)) told
+          (stage_at p (unattached s left p) (Break (length p.links)) (Greets s left) greets (refl, refl)) told made
 
       -- all sessions began
       pub runs_all_attached : (p : Place) (o : Outside) → p.stage ≡ Attaches [] → Leads p (record p { stage = Between }) o o
       runs_all_attached p o attaches =
           let q : Place = record p { stage = Between } in
-          passes p q o o (stage_at p q Pass (Attaches []) attaches refl) (told_pass o o refl)
+          passes p q o o (stage_at p q Pass (Attaches []) attaches refl) (told_pass o o refl) (most_none 0 o)
 
       -- a turn begins
       pub runs_turn : (p : Place) (o : Outside) → p.stage ≡ Between → is_at_end terms p ≡ false
           → Leads p (record p { stage = Works 0 Asks; moved = false }) o o
       runs_turn p o between on =
-          passes p (record p { stage = Works 0 Asks; moved = false }) o o (begin_step p between on) (told_pass o o refl)
+          passes p (record p { stage = Works 0 Asks; moved = false }) o o (begin_step p between on) (told_pass o o refl) (most_none 0 o)
 
       -- the turn of a link ended, and the next link has its
       pub runs_next : (n : ℕ) (link : Link) (p : Place) (o : Outside) → p.stage ≡ Works n Done → slice_get p.links n ≡ Some link
           → Leads p (record p { stage = Works (suc n) Asks }) o o
       runs_next n link p o works at =
-          passes p (record p { stage = Works (suc n) Asks }) o o (next_step n link p works at) (told_pass o o refl)
+          passes p (record p { stage = Works (suc n) Asks }) o o (next_step n link p works at) (told_pass o o refl) (most_none 0 o)
 
       -- a turn of all links ended
       pub runs_turn_ended : (p : Place) (o : Outside) → p.stage ≡ Works (length p.links) Asks → Leads p (turn_ended p) o o
-      runs_turn_ended p o works = passes p (turn_ended p) o o (end_step p works) (told_pass o o refl)
+      runs_turn_ended p o works = passes p (turn_ended p) o o (end_step p works) (told_pass o o refl) (most_none 0 o)
 
       -- the run ended
       pub runs_ended : (p : Place) (o : Outside) → p.stage ≡ Between → is_at_end terms p ≡ true → Leads p (record p { stage = Ended }) o o
-      runs_ended p o between over = passes p (record p { stage = Ended }) o o (stop_step p between over) (told_pass o o refl)
+      runs_ended p o between over = passes p (record p { stage = Ended }) o o (stop_step p between over) (told_pass o o refl) (most_none 0 o)

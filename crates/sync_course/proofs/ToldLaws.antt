@@ -1,5 +1,5 @@
 -- What is told of events one behind the other, and of the events of single calls.
-use Rattle.std.proofs.Common.{◌≡◌, ◌⊎◌, ℕ, ◌≤◌, le_of_eq, le_refl, Bool, true, false, ◌||◌, nat_eq, eqb-true, List, [], ◌∷◌, ◌++◌, length, take, append-nil, append_assoc, refl, sym, ◌∙◌, ap, subst, inl, inr, arith, Option, None, Some, Ok, Err}
+use Rattle.std.proofs.Common.{◌≡◌, ◌⊎◌, ℕ, ◌+◌, ◌*◌, ◌≤◌, le_of_eq, le_refl, Bool, true, false, ◌||◌, nat_eq, eqb-true, List, [], ◌∷◌, ◌++◌, length, length-append, take, append-nil, append_assoc, refl, sym, ◌∙◌, ap, subst, inl, inr, arith, Option, None, Some, Ok, Err}
 use Rattle.std.specs.Option.{option_map}
 use Rattle.std.proofs.lemmas.Bool.{cases_eq}
 use Rattle.outside.specs.declared.failed.Failed.{Failed}
@@ -10,10 +10,11 @@ use Rattle.outside.specs.Host.{Grows, Hears, IsCaused, ReadsClock, Sends}
 use Rattle.outside.specs.Disk.{Becomes}
 use Rattle.outside.specs.Links.{HeardOn, Links, Planned, changed_at, got, idle, ended, hear_reply}
 use Rattle.outside.specs.Planned.{AnswersAsPlanned, UsesPlan, UsesReading}
-use Rattle.outside.specs.Outside.{Outside}
+use Rattle.outside.specs.Outside.{Outside, MakesAtMost}
+use Rattle.outside.proofs.CallCounts.{most_then}
 use Rattle.sync_rules.specs.declared.entries.Entry.{Entry}
 use Rattle.sync_course.specs.declared.TheConstants.{PIECE_LEN}
-use Rattle.sync_course.specs.Events.{Event, Commit, Hear, Miss, Read, Break, Pass, asked_event, batches_of, readings_of, heard_by, heard_after, is_failure, has_failure, GrowsBy, PlansAfter, RoseIf, Through, Told, UpcomingAfter}
+use Rattle.sync_course.specs.Events.{Event, Commit, Hear, Miss, Read, Break, Pass, asked_event, batches_of, commits, readings_of, heard_by, heard_after, is_failure, has_failure, GrowsBy, PlansAfter, RoseIf, Through, Told, UpcomingAfter}
 use Rattle.sync_course.specs.Paths.{Runs, Breaks}
 use Rattle.sync_course.proofs.PathLaws.{path_then}
 
@@ -142,10 +143,21 @@ told_then es fs o o1 o2 first second = record {
 
 -- ---- what calls did, one behind the other
 
+-- the calls of the batches of two lists of events, and of some that were next
+pub calls_add : (es fs : List Event) (next : List (List Entry))
+    → 4 * length (batches_of es) + 4 * length (next ++ batches_of fs) ≡ 4 * length (next ++ batches_of (es ++ fs))
+calls_add es fs next =
+    let both : length (batches_of (es ++ fs)) ≡ length (batches_of es) + length (batches_of fs) =
+    ap (λ (l : List (List Entry)). length l) (batches_of-append es fs) ∙ length-append (batches_of es) (batches_of fs) in
+    let first : length (next ++ batches_of fs) ≡ length next + length (batches_of fs) = length-append next (batches_of fs) in
+    let all : length (next ++ batches_of (es ++ fs)) ≡ length next + length (batches_of (es ++ fs)) =
+    length-append next (batches_of (es ++ fs)) in
+    omega (arith, both, first, all)
+
 module _ {P : Type 0} (step : P → Event → P → Type 0) (Before Between After : List (List Entry) → Type 0) where
-  unfoldable pub runs_then : (p q r : P) (o o1 o2 : Outside) → Runs step Before Between p q o o1 → Runs step Between After q r o1 o2
-      → Runs step Before After p r o o2
-  runs_then p q r o o1 o2 first second = record {
+  unfoldable pub runs_then : (p q r : P) (o o1 o2 : Outside) {next : List (List Entry)} → Runs step Before Between p q o o1 []
+      → Runs step Between After q r o1 o2 next → Runs step Before After p r o o2 next
+  runs_then p q r o o1 o2 {next} first second = record {
     events = first.events ++ second.events;
     path = path_then step p q r first.events second.events first.path second.path;
     told = told_then first.events second.events o o1 o2 first.told second.told;
@@ -154,18 +166,22 @@ module _ {P : Type 0} (step : P → Event → P → Type 0) (Before Between Afte
         (append_assoc j (batches_of first.events) (batches_of second.events)
         ∙ ap (λ (l : List (List Entry)). j ++ l) (sym (batches_of-append first.events second.events)))
         (second.journal (j ++ batches_of first.events) (first.journal j before));
+    calls =
+        subst (λ (n : ℕ). MakesAtMost n o o2) (calls_add first.events second.events next)
+        (most_then (4 * length (batches_of first.events)) (4 * length (next ++ batches_of second.events)) o o1 o2 first.calls second.calls);
   }
 
-  pub breaks_then : (p q : P) (o o1 o2 : Outside) → Runs step Before Between p q o o1 → Breaks step Between After q o1 o2
+  pub breaks_then : (p q : P) (o o1 o2 : Outside) → Runs step Before Between p q o o1 [] → Breaks step Between After q o1 o2
       → Breaks step Before After p o o2
-  breaks_then p q o o1 o2 first second = record { to = second.to; runs = runs_then p q second.to o o1 o2 first second.runs }
+  breaks_then p q o o1 o2 first second = record {
+    to = second.to;
+    next = second.next;
+    beyond = second.beyond;
+    goes_on = second.goes_on;
+    runs = runs_then p q second.to o o1 o2 first second.runs;
+  }
 
 -- ---- single calls
-
--- batches that were committed
-abbrev pub commits : List (List Entry) → List Event
-commits [] = []
-commits (b ∷ bs) = Commit b ∷ commits bs
 
 pub batches_of_commits : (bs : List (List Entry)) → batches_of (commits bs) ≡ bs
 batches_of_commits [] = refl

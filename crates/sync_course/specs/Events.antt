@@ -28,6 +28,11 @@ asked_event link answer.Idle buf = Hear link idle
 asked_event link answer.End buf = Hear link ended
 asked_event link answer.Failed buf = Miss link
 
+-- batches that were committed
+abbrev pub commits : List (List Entry) → List Event
+commits [] = []
+commits (b ∷ bs) = Commit b ∷ commits bs
+
 -- ---- what events add
 
 -- the batches that were committed, in order

@@ -28,7 +28,7 @@ use Rattle.sync_store.specs.Ready.{IsReady}
 use Rattle.sync_store.specs.Runs.{AddsBatch, ExtendsSo, HasExtended, RunsBy}
 use Rattle.sync_store.specs.declared.fault.StoreFault.{StoreFault}
 use Rattle.sync_node.specs.declared.link.Link.{Link}
-use Rattle.sync_node.specs.Adding.{AddsAtMost, AddsSettled, IsPlain}
+use Rattle.sync_node.specs.Adding.{AddsAtMost, AddsSettled, AddsWithin, IsPlain}
 use Rattle.sync_node.specs.Going.{Commits, Goes}
 use Rattle.sync_node.specs.Joined.{IsJoined, Joined}
 use Rattle.sync_node.specs.Node.{AreAttached, KeepsJoined, KeepsSafeAnew, MayGoOn, NodeValue}
@@ -281,7 +281,23 @@ extended_leads clients batch s s' result o o' has two files j fits =
     (λ k end. at_most clients batch s.state.facts has.more has.adds j k has.more [] fits.facts_are (sym (append-nil has.more)) end)
     (has.runs.leads two files j fits)
 
+pub extended_within : (clients : Meaning) (batch : List Entry) (s s' : StoreValue)
+    (result : Result (Unit {0}) StoreFault) (o o' : Outside)
+    → HasExtended clients s s' batch result o o' → AddsWithin clients batch s o o'
+extended_within clients batch s s' result o o' has = record {
+  more = has.more;
+  adds = has.adds;
+  calls = has.runs.calls.most;
+}
+
 -- ---- a node
+
+pub node_within : (clients : Meaning) (s : StoreValue) (first : ℕ) (links : List Link)
+    (closed : Bool) (n : NodeValue) (batch : List Entry) (o o' : Outside)
+    → node_of s first links closed ≡ n → AddsWithin clients batch s o o'
+    → AddsWithin clients batch n.store o o'
+node_within clients s first links closed n batch o o' is within =
+    subst (λ (m : NodeValue). AddsWithin clients batch m.store o o') is within
 
 pub node_allowed : (clients : Meaning) (s : StoreValue) (first : ℕ) (links : List Link)
     (closed : Bool) (n : NodeValue) (batch : List Entry) → node_of s first links closed ≡ n

@@ -1,9 +1,10 @@
 -- Laws for callers: what the calls of a store come to, for a course: which batches stand behind a
 -- call, whatever it answers.
-use Rattle.std.proofs.Common.{◌≡◌, false, List, [], ◌∷◌, ◌++◌, append-nil, refl, sym, ◌∙◌, ap, subst, inl, inr, Option, Some, None, is_some, Result, Ok}
+use Rattle.std.proofs.Common.{◌≡◌, ℕ, ◌*◌, false, List, [], ◌∷◌, ◌++◌, length, append-nil, refl, sym, ◌∙◌, ap, subst, inl, inr, Option, Some, None, is_some, Result, Ok}
 use Rattle.outside.specs.Files.{Two, File, read_files}
 use Rattle.outside.specs.Links.{sent_of}
-use Rattle.outside.specs.Outside.{DiskRun, Outside, Moment}
+use Rattle.outside.specs.Outside.{DiskRun, LinkCall, MakesAtMost, Outside, Moment}
+use Rattle.outside.proofs.CallCounts.{most_link, most_none}
 use Rattle.sync_rules.specs.declared.entries.Entry.{Entry}
 use Rattle.sync_rules.specs.Clients.{Meaning}
 use Rattle.entry_codec.specs.Standing.{journal}
@@ -134,21 +135,23 @@ settle_reads clients s s' result o o' has fits told =
 -- ---- the records of these
 
 pub commit_adds : (clients : Meaning) (s s' : StoreValue) (batch : List Entry) (u : Unit {0})
-    (o o' : Outside) → DiskRun o o' → s'.closed ≡ false
+    (o o' : Outside) → DiskRun o o' → MakesAtMost 4 o o' → s'.closed ≡ false
     → ((two : Two File) → o.files ≡ Some two → (j : List (List Entry)) → Fits clients s j two → store_moments.Adds clients batch (Ok u) s' o o' j)
     → Adds clients (batch ∷ []) s s' o o'
-commit_adds clients s s' batch u o o' run still adds = record {
+commit_adds clients s s' batch u o o' run made still adds = record {
   same_links = run.same_links;
+  calls = made;
   grows = commit_grown clients s s' batch u o o' run.same_told still adds;
 }
 
 pub commit_adds_some : (clients : Meaning) (s s' : StoreValue) (batch : List Entry)
     (result : Result (Unit {0}) StoreFault) (o o' : Outside)
-    → FitsSome clients s o.files → DiskRun o o'
+    → FitsSome clients s o.files → DiskRun o o' → MakesAtMost 4 o o'
     → ((two : Two File) → o.files ≡ Some two → (j : List (List Entry)) → Fits clients s j two → store_moments.Adds clients batch result s' o o' j)
     → AddsSome clients (batch ∷ []) s o o'
-commit_adds_some clients s s' batch result o o' fits run adds = record {
+commit_adds_some clients s s' batch result o o' fits run made adds = record {
   same_links = run.same_links;
+  calls = made;
   stood = commit_reads clients s s' batch result o o' fits run.same_told adds;
 }
 
@@ -160,7 +163,7 @@ settle_adds clients s s' u o o' run has = record {
   settling = has.comes.settling;
   facts = has.comes.facts;
   settled = has.answer.1;
-  adds = record { same_links = run.same_links; grows = settle_grown clients s s' u o o' has run.same_told };
+  adds = record { same_links = run.same_links; grows = settle_grown clients s s' u o o' has run.same_told; calls = has.comes.calls.most };
 }
 
 pub settle_adds_some : (clients : Meaning) (s s' : StoreValue)
@@ -169,8 +172,19 @@ pub settle_adds_some : (clients : Meaning) (s s' : StoreValue)
 settle_adds_some clients s s' result o o' fits run has = record {
   more = has.more;
   settling = has.comes.settling;
-  adds = record { same_links = run.same_links; stood = settle_reads clients s s' result o o' has fits run.same_told };
+  adds = record { same_links = run.same_links; stood = settle_reads clients s s' result o o' has fits run.same_told; calls = has.comes.calls.most };
 }
+
+-- a call on the links or the clock asks the disk nothing
+pub quiet_most : (during : Moment → Type 0) (o o' : Outside) → LinkCall during o o'
+    → MakesAtMost 0 o o'
+quiet_most during o o' call = most_link 0 during o o o' (most_none 0 o) call
+
+-- an object that is as it was made no call of its disk
+pub unasked_most : {H : Type 0} (tells : H → Outside) (n : ℕ) (host host' : H) → host' ≡ host
+    → MakesAtMost n (tells host) (tells host')
+unasked_most tells n host host' same =
+    subst (λ x. MakesAtMost n (tells host) (tells x)) (sym same) (most_none n (tells host))
 
 -- nothing was called
 pub adds_none : (clients : Meaning) (may : List (List Entry)) (s : StoreValue) (o : Outside)
@@ -183,4 +197,5 @@ adds_none clients may s o = record {
     parts = refl;
     reads = λ j fit. (fit.0, fit.1, fit.2.stands_for ∙ ap journal (sym (append-nil j)));
   };
+  calls = most_none (4 * length may) o;
 }

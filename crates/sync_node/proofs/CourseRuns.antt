@@ -7,7 +7,7 @@ use Rattle.sync_rules.specs.Clients.{Meaning}
 use Rattle.sync_rules.specs.Facts.{Facts}
 use Rattle.sync_store.specs.Store.{StoreValue}
 use Rattle.sync_course.proofs.CallLaws.{runs_none}
-use Rattle.sync_course.specs.Events.{Commit}
+use Rattle.sync_course.specs.Events.{Commit, commits}
 use Rattle.sync_course.proofs.PathLaws.{path_one}
 use Rattle.sync_course.proofs.LiftLaws.{get_other, get_set, get_within, lifted_step, link_lifts, runs_lifted, runs_next, set_same}
 use Rattle.sync_course.specs.Links as course_links
@@ -145,6 +145,9 @@ pub halts_lifted : (clients : Meaning) (terms : Terms) (n : ℕ) (place : Place)
 halts_lifted clients terms n place within p link s o o' halts = record {
   breaks = record {
     to = with_spot n halts.breaks.to place;
+    next = halts.breaks.next;
+    beyond = with_spot n halts.breaks.beyond place;
+    goes_on = link_lifts clients terms n place within halts.breaks.to halts.breaks.beyond (commits halts.breaks.next) halts.breaks.goes_on;
     runs =
         runs_lifted clients terms n place within (FitsWith clients s o.files) (ReadsAs clients o'.files) p halts.breaks.to o o' halts.breaks.runs;
   };
@@ -167,6 +170,9 @@ pub run_halts_behind : (clients : Meaning) (terms : Terms) (links : List course_
 run_halts_behind clients terms links s s1 o o1 o' p q first second = record {
   breaks = record {
     to = second.breaks.to;
+    next = second.breaks.next;
+    beyond = second.breaks.beyond;
+    goes_on = second.breaks.goes_on;
     runs =
         runs_then (RunStep clients terms) (FitsWith clients s o.files) (FitsWith clients s1 o1.files) (ReadsAs clients o'.files)
         p q second.breaks.to o o1 o' first second.breaks.runs;

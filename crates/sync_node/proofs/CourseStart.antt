@@ -1,8 +1,9 @@
 -- A session that begins on the next link, as a course has it.
 use Rattle.std.proofs.Common.{◌≡◌, ◌≢◌, ℕ, suc, ◌+◌, Bool, true, false, cond, nat_eq, eq-eqb, List, [], ◌∷◌, ◌++◌, length, refl, sym, ◌∙◌, ap, subst, inl, inr, arith, None, Some, Result, Ok, Err}
 use Rattle.std.specs.Prelude.{slice_get}
-use Rattle.outside.specs.Host.{Sends}
-use Rattle.outside.specs.Outside.{Outside}
+use Rattle.outside.specs.Host.{Sends, SendsPart}
+use Rattle.outside.specs.Outside.{MakesAtMost, Outside}
+use Rattle.outside.proofs.CallCounts.{most_link}
 use Rattle.outside.specs.declared.failed.Failed.{Failed}
 use Rattle.record_stream.specs.Reading.{AwaitsBytes, ReaderState, fresh}
 use Rattle.sync_rules.specs.Clients.{Meaning}
@@ -14,7 +15,8 @@ use Rattle.sync_rules.specs.declared.entries.Session.{Session}
 use Rattle.sync_store.specs.Ready.{IsReady}
 use Rattle.sync_store.specs.Store.{StoreValue}
 use Rattle.sync_course.proofs.CallLaws.{runs_commits, runs_none}
-use Rattle.sync_course.specs.Events.{Break, Told}
+use Rattle.sync_course.specs.Events.{Break, Commit, Told}
+use Rattle.sync_course.proofs.PathLaws.{path_one}
 use Rattle.sync_course.proofs.LiftLaws.{runs_attached, runs_greeted, runs_ungreeted}
 use Rattle.sync_course.specs.Links as course_links
 use Rattle.sync_course.specs.Links.{link_of}
@@ -26,7 +28,7 @@ use Rattle.sync_course.specs.Turns.{Attaches, Greets, Place, RunStep, Terms}
 use Rattle.sync_node.specs.declared.link.Link.{Link}
 use Rattle.sync_course.specs.declared.ends.LinkEnd.{LinkEnd}
 use Rattle.sync_course.specs.declared.ends.LinkEnd.TheVariants as link_end
-use Rattle.sync_node.proofs.CourseLaws.{fits_on}
+use Rattle.sync_node.proofs.CourseLaws.{fits_on, quiet_most}
 use Rattle.sync_node.proofs.CourseTakes.{full_sent_here, none_or_one}
 use Rattle.sync_node.specs.Fulls.{FullBeginning, FullStart, IsOver}
 use Rattle.sync_node.specs.Stops.{StaysSame}
@@ -44,10 +46,13 @@ pub greets_once : (n : ℕ) (bytes : List ℕ) (l l' : Link) (o o' : Outside)
     → SendsOn n bytes l l' o o' → GreetsAsCourse n l l' o o'
 greets_once n bytes l l' o o' sends = by_result sends.result sends.sends sends.ends
   where
+    made : MakesAtMost 0 o o'
+    made = quiet_most (SendsPart o n bytes) o o' sends.call
+
     by_result : (result : Result (Unit {0}) Failed) → Sends n bytes result o.links o'.links
         → EndsBy result l l' → GreetsAsCourse n l l' o o'
-    by_result (Ok u) went ends = inl (ends, told_sent n bytes o o' went)
-    by_result (Err why) went ends = inr (ends, told_broken n bytes why o o' went)
+    by_result (Ok u) went ends = (made, inl (ends, told_sent n bytes o o' went))
+    by_result (Err why) went ends = (made, inr (ends, told_broken n bytes why o o' went))
 
 pub greets_twice : (n : ℕ) (a b : List ℕ) (l mid l' : Link) (o o1 o' : Outside)
     → mid.end ≢ link_end.Failed → SendsOn n a l mid o o1 → SendsOn n b mid l' o1 o'
@@ -55,12 +60,15 @@ pub greets_twice : (n : ℕ) (a b : List ℕ) (l mid l' : Link) (o o1 o' : Outsi
 greets_twice n a b l mid l' o o1 o' unfailed first second =
     by_results first.result second.result first.sends first.ends second.sends second.ends
   where
+    made : MakesAtMost 0 o o'
+    made = most_link 0 (SendsPart o1 n b) o o1 o' (quiet_most (SendsPart o n a) o o1 first.call) second.call
+
     by_results : (one two : Result (Unit {0}) Failed) → Sends n a one o.links o1.links
         → EndsBy one l mid → Sends n b two o1.links o'.links → EndsBy two mid l'
         → GreetsAsCourse n l l' o o'
-    by_results (Ok u) (Ok v) went ends then ends' = inl (ends' ∙ ends, told_greeted n a b o o1 o' went then)
+    by_results (Ok u) (Ok v) went ends then ends' = (made, inl (ends' ∙ ends, told_greeted n a b o o1 o' went then))
     by_results (Ok u) (Err why) went ends then ends' =
-        inr (ends' ∙ ap (λ (x : Link). record x { end = link_end.Failed }) ends, told_ungreeted n a b why o o1 o' went then)
+        (made, inr (ends' ∙ ap (λ (x : Link). record x { end = link_end.Failed }) ends, told_ungreeted n a b why o o1 o' went then))
     by_results (Err why) two went ends then ends' = absurd (unfailed (ap (λ (x : Link). x.end) ends))
 
 -- ---- the session that was committed
@@ -112,7 +120,7 @@ module _ (clients : Meaning) (x : Session) (s : StoreValue) (o : Outside) (batch
         ap (λ (b : List Entry). after_all s.state.facts b) (sym is) ∙ sym facts_are in
         subst (λ (f : Facts). RunRuns clients terms (attaching_at (x ∷ left) links moved still made s.state.facts) (greeting_at f) s s1 o o1) facts_is
         (runs_attached clients terms (FitsWith clients s o.files) (FitsWith clients s1 o1.files) x left
-        (attaching_at (x ∷ left) links moved still made s.state.facts) o o1 refl allowed adds.same_links
+        (attaching_at (x ∷ left) links moved still made s.state.facts) o o1 refl allowed adds.same_links adds.calls
         (subst (λ (b : List Entry). (j : List (List Entry)) → FitsWith clients s o.files j → FitsWith clients s1 o1.files (j ++ b ∷ [])) is adds.grows))
 
     -- the link behind the others, and the place once the greeting is over
@@ -132,14 +140,14 @@ module _ (clients : Meaning) (x : Session) (s : StoreValue) (o : Outside) (batch
         (attaching_at left (links ++ link_at l [] ∷ []) moved still made s1.state.facts) s1 s1 o1 o2
     greeted_runs n begun reader same l s1 o1 o2 long same_files greets =
         let from : Place = greeting_at s1.state.facts in
-        elim greets [
+        elim greets.1 [
           | inl went ↦
               subst (λ (q : Place). RunRuns clients terms from q s1 s1 o1 o2) (begins_as begun reader same l link_end.Going s1.state.facts went.0)
-              (runs_greeted clients terms (FitsWith clients s1 o1.files) (FitsWith clients s1 o2.files) (fits_on clients s1 o1 o2 same_files) x left from o1 o2 refl went.1)
+              (runs_greeted clients terms (FitsWith clients s1 o1.files) (FitsWith clients s1 o2.files) (fits_on clients s1 o1 o2 same_files) x left from o1 o2 refl went.1 greets.0)
           | inr failed ↦
               subst (λ (q : Place). RunRuns clients terms from q s1 s1 o1 o2) (begins_as begun reader same l link_end.Failed s1.state.facts failed.0)
               (runs_ungreeted clients terms (FitsWith clients s1 o1.files) (FitsWith clients s1 o2.files) (fits_on clients s1 o1 o2 same_files) x left from o1 o2 refl
-              (subst (λ (k : ℕ). Told (Break k ∷ []) o1 o2) (sym long) failed.1))
+              (subst (λ (k : ℕ). Told (Break k ∷ []) o1 o2) (sym long) failed.1) greets.0)
         ]
 
   -- a commit that was broken off
@@ -148,19 +156,30 @@ module _ (clients : Meaning) (x : Session) (s : StoreValue) (o : Outside) (batch
   start_broken o' adds = record {
     stops = λ terms left links moved still made.
         let p : Place = attaching_at (x ∷ left) links moved still made s.state.facts in
+        let b : List Entry = session_batch x in
+        let q : Place = greeting_at terms left links moved still made (after_all s.state.facts b) in
+        let step : RunStep clients terms p (Commit b) q = (refl, allowed, refl) in
         elim (none_or_one clients batch s o o' adds) [
           | inl none ↦ record {
             breaks = record {
               to = p;
-              runs = runs_commits (RunStep clients terms) (FitsWith clients s o.files) (ReadsAs clients o'.files) [] none p p o o' adds.same_links refl;
+              next = b ∷ [];
+              beyond = q;
+              goes_on = path_one (RunStep clients terms) p q (Commit b) step;
+              runs =
+                  runs_commits (RunStep clients terms) (FitsWith clients s o.files) (ReadsAs clients o'.files) [] none p p o o' adds.same_links
+                  adds.calls refl;
             };
             stands = inl refl;
           }
           | inr one ↦ record {
             breaks = record {
-              to = greeting_at terms left links moved still made (after_all s.state.facts (session_batch x));
+              to = q;
+              next = [];
+              beyond = q;
+              goes_on = refl;
               runs =
-                  runs_attached clients terms (FitsWith clients s o.files) (ReadsAs clients o'.files) x left p o o' refl allowed adds.same_links
+                  runs_attached clients terms (FitsWith clients s o.files) (ReadsAs clients o'.files) x left p o o' refl allowed adds.same_links adds.calls
                   (subst (λ (b : List Entry). (j : List (List Entry)) → FitsWith clients s o.files j → ReadsAs clients o'.files (j ++ b ∷ [])) is one);
             };
             stands = inl refl;
@@ -186,7 +205,7 @@ module _ (clients : Meaning) (x : Session) (s : StoreValue) (o : Outside) (batch
       → GreetsAsCourse n (record { session = begun; reader = reader; nonce = begun.nonce; end = link_end.Going }) l o1 o2 → StartsAsCourse clients n x l s s1 o o2
   starts_course n begun reader l s1 o1 o2 ready facts_are adds found same_files is_fresh awaits greets =
       let read : l.reader ≡ fresh =
-      elim greets [ inl went ↦ ap (λ (y : Link). y.reader) went.0 ∙ is_fresh | inr failed ↦ ap (λ (y : Link). y.reader) failed.0 ∙ is_fresh ] in
+      elim greets.1 [ inl went ↦ ap (λ (y : Link). y.reader) went.0 ∙ is_fresh | inr failed ↦ ap (λ (y : Link). y.reader) failed.0 ∙ is_fresh ] in
       let as_is : s1.state.facts ≡ after_all s.state.facts (session_batch x) = facts_are ∙ ap (λ (b : List Entry). after_all s.state.facts b) is in
       record {
         has_read = λ going. subst (λ (r : ReaderState). HasRead [] r) (sym read) (fresh_has_read awaits awaits.nothing);
@@ -207,6 +226,9 @@ start_none clients x s o = record {
   stops = λ terms left links moved still made. record {
     breaks = record {
       to = attaching_at (x ∷ left) links moved still made s.state.facts;
+      next = [];
+      beyond = attaching_at (x ∷ left) links moved still made s.state.facts;
+      goes_on = refl;
       runs =
           runs_none (RunStep clients terms) (FitsWith clients s o.files) (ReadsAs clients o.files) (λ j fit. (fit.0, fit.1, fit.2.stands_for))
           (attaching_at (x ∷ left) links moved still made s.state.facts) o;

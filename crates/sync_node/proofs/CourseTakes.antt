@@ -2,7 +2,7 @@
 -- pass the limit.
 use Rattle.std.proofs.Common.{◌≡◌, ◌⊎◌, ℕ, Bool, true, false, cond, List, [], ◌∷◌, ◌++◌, append-nil, refl, sym, ◌∙◌, ap, subst, inl, inr, arith, Option, Some, None, Err}
 use Rattle.outside.specs.Files.{Two, File}
-use Rattle.outside.specs.Outside.{DiskRun, Outside}
+use Rattle.outside.specs.Outside.{DiskRun, MakesAtMost, Outside}
 use Rattle.sync_rules.specs.declared.entries.Entry.{Entry}
 use Rattle.sync_rules.specs.Clients.{Meaning}
 use Rattle.entry_codec.specs.Payloads.{payload_len}
@@ -33,7 +33,8 @@ use Rattle.record_stream.specs.Pieces.{ReadingsFollow}
 use Rattle.record_stream.specs.Reading.{AwaitsBytes, EndsBad, ReadsOn}
 use Rattle.sync_ids.specs.declared.records.Record.TheVariants as record_kind
 use Rattle.sync_rules.specs.Steps.{IsSettled}
-use Rattle.sync_course.proofs.CallLaws.{runs_commits, runs_none, runs_passed, runs_settled, runs_taken}
+use Rattle.sync_course.proofs.CallLaws.{calls_parts, runs_commits, runs_none, runs_passed, runs_settled, runs_taken, settles_rest}
+use Rattle.sync_course.proofs.PathLaws.{path_one}
 use Rattle.sync_course.proofs.LinkLaws.{contains_zero, zero_contained}
 use Rattle.sync_course.specs.Links as course_links
 use Rattle.sync_course.specs.Links.{closes, has_zero, items_after, link_after, nonce_after, stands_behind}
@@ -59,6 +60,9 @@ pub halts_none : (clients : Meaning) (n session : ℕ) (p : Spot) (s : StoreValu
 halts_none clients n session p s o = record {
   breaks = record {
     to = p;
+    next = [];
+    beyond = p;
+    goes_on = refl;
     runs =
         runs_none (LinkStep clients n session) (FitsWith clients s o.files) (ReadsAs clients o.files)
         (λ j fit. (fit.0, fit.1, fit.2.stands_for)) p o;
@@ -73,6 +77,9 @@ pub halts_behind : (clients : Meaning) (n session : ℕ) (link : course_links.Li
 halts_behind clients n session link s s1 o o1 o' p q first second = record {
   breaks = record {
     to = second.breaks.to;
+    next = second.breaks.next;
+    beyond = second.breaks.beyond;
+    goes_on = second.breaks.goes_on;
     runs =
         runs_then (LinkStep clients n session) (FitsWith clients s o.files) (FitsWith clients s1 o1.files) (ReadsAs clients o'.files)
         p q second.breaks.to o o1 o' first second.breaks.runs;
@@ -115,11 +122,11 @@ takes_course clients session r s mid s' o m o' batch is allowed facts_are adds s
       let q_facts : q.facts ≡ mid.state.facts = ap (λ f. after_all f b) same ∙ ap (after_all s.state.facts) (sym is_b) ∙ sym facts_are in
       let first : LinkRuns clients n session p q s mid o m =
       runs_taken clients n session (FitsWith clients s o.files) (FitsWith clients mid m.files) place r its p o m takes
-      (subst (λ f. Allowed clients f b) (sym same) (subst (Allowed clients s.state.facts) is_b allowed)) adds.same_links
+      (subst (λ f. Allowed clients f b) (sym same) (subst (Allowed clients s.state.facts) is_b allowed)) adds.same_links adds.calls
       (λ j fit. subst (λ (x : List Entry). FitsWith clients mid m.files (j ++ x ∷ [])) is_b (adds.grows j fit)) in
       let second : LinkRuns clients n session q (record q { facts = after_batches q.facts settles.more }) mid s' m o' =
       runs_settled clients n session (FitsWith clients mid m.files) (FitsWith clients s' o'.files) (items_after r its) settles.more q m o' refl
-      (subst (λ f. AllSettling clients f settles.more) (sym q_facts) settles.settling) settles.adds.same_links settles.adds.grows in
+      (subst (λ f. AllSettling clients f settles.more) (sym q_facts) settles.settling) settles.adds.same_links settles.adds.calls settles.adds.grows in
       let end : after_batches q.facts settles.more ≡ s'.state.facts =
       ap (λ f. after_batches f settles.more) q_facts ∙ sym settles.facts in
       subst (λ (f : Facts). LinkRuns clients n session p (record q { facts = f }) s s' o o') end
@@ -144,15 +151,23 @@ stops_at_commit clients session r s o o' batch is allowed adds = record {
         | inl none ↦ record {
           breaks = record {
             to = p;
-            runs = runs_commits (LinkStep clients n session) (FitsWith clients s o.files) (ReadsAs clients o'.files) [] none p p o o' adds.same_links refl;
+            next = b ∷ [];
+            beyond = q;
+            goes_on = path_one (LinkStep clients n session) p q (Commit b) step;
+            runs =
+                runs_commits (LinkStep clients n session) (FitsWith clients s o.files) (ReadsAs clients o'.files) [] none p p o o' adds.same_links
+                adds.calls refl;
           };
           stands = inr (record { batch = b; next = q; steps = step; has = refl });
         }
         | inr one ↦ record {
           breaks = record {
             to = q;
+            next = [];
+            beyond = q;
+            goes_on = refl;
             runs =
-                runs_taken clients n session (FitsWith clients s o.files) (ReadsAs clients o'.files) place r its p o o' takes may adds.same_links
+                runs_taken clients n session (FitsWith clients s o.files) (ReadsAs clients o'.files) place r its p o o' takes may adds.same_links adds.calls
                 (subst (λ (x : List Entry). (j : List (List Entry)) → FitsWith clients s o.files j → ReadsAs clients o'.files (j ++ x ∷ [])) is_b one);
           };
           stands = inl refl;
@@ -174,21 +189,27 @@ stops_at_settle clients session r s mid o m o' batch is allowed facts_are adds s
       let q_facts : q.facts ≡ mid.state.facts = ap (λ f. after_all f b) same ∙ ap (after_all s.state.facts) (sym is_b) ∙ sym facts_are in
       let first : LinkRuns clients n session p q s mid o m =
       runs_taken clients n session (FitsWith clients s o.files) (FitsWith clients mid m.files) place r its p o m takes
-      (subst (λ f. Allowed clients f b) (sym same) (subst (Allowed clients s.state.facts) is_b allowed)) adds.same_links
+      (subst (λ f. Allowed clients f b) (sym same) (subst (Allowed clients s.state.facts) is_b allowed)) adds.same_links adds.calls
       (λ j fit. subst (λ (x : List Entry). FitsWith clients mid m.files (j ++ x ∷ [])) is_b (adds.grows j fit)) in
       let front : List (List Entry) = settles.adds.stood.front in
-      let settling : AllSettling clients q.facts front =
-      settling_front clients q.facts front settles.adds.stood.others
-      (subst (λ (bs : List (List Entry)). AllSettling clients q.facts bs) settles.adds.stood.parts
-      (subst (λ f. AllSettling clients f settles.more) (sym q_facts) settles.settling)) in
+      let others : List (List Entry) = settles.adds.stood.others in
+      let whole : AllSettling clients q.facts (front ++ others) =
+      subst (λ (bs : List (List Entry)). AllSettling clients q.facts bs) settles.adds.stood.parts
+      (subst (λ f. AllSettling clients f settles.more) (sym q_facts) settles.settling) in
+      let settling : AllSettling clients q.facts front = settling_front clients q.facts front others whole in
       let to : Spot = record q { facts = after_batches q.facts front } in
       record {
         breaks = record {
           to = to;
+          next = others;
+          beyond = record q { facts = after_batches (after_batches q.facts front) others };
+          goes_on = settles_rest clients n session q (items_after r its) front others refl whole;
           runs =
               runs_then (LinkStep clients n session) (FitsWith clients s o.files) (FitsWith clients mid m.files) (ReadsAs clients o'.files) p q to o m o' first
               (runs_settled clients n session (FitsWith clients mid m.files) (ReadsAs clients o'.files) (items_after r its) front q m o' refl settling
-              settles.adds.same_links settles.adds.stood.reads);
+              settles.adds.same_links
+              (subst (λ (k : ℕ). MakesAtMost k m o') (calls_parts settles.more front others settles.adds.stood.parts) settles.adds.calls)
+              settles.adds.stood.reads);
         };
         stands = inl refl;
       };
@@ -208,6 +229,9 @@ stops_at_none clients session r s o batch is allowed = record {
       record {
         breaks = record {
           to = p;
+          next = [];
+          beyond = p;
+          goes_on = refl;
           runs =
               runs_none (LinkStep clients n session) (FitsWith clients s o.files) (ReadsAs clients o.files)
               (λ j fit. (fit.0, fit.1, fit.2.stands_for)) p o;
@@ -226,7 +250,7 @@ stops_at_none clients session r s o batch is allowed = record {
 -- behind what was done
 pub full_then : {P : Type 0} (clients : Meaning) (step : P → Event → P → Type 0) (p q : P)
     (s s1 s' : StoreValue) (o o1 o' : Outside)
-    → Runs step (FitsWith clients s o.files) (FitsWith clients s1 o1.files) p q o o1
+    → Runs step (FitsWith clients s o.files) (FitsWith clients s1 o1.files) p q o o1 []
     → StopsFull clients step q s1 s' o1 o' → StopsFull clients step p s s' o o'
 full_then clients step p q s s1 s' o o1 o' first second = record {
   to = second.to;
@@ -257,7 +281,7 @@ full_here clients step p next batch s s' o o' steps over = record {
   to = p;
   runs =
       runs_commits step (FitsWith clients s o.files) (FitsWith clients s' o'.files) []
-      (λ j fit. subst (λ (k : List (List Entry)). FitsWith clients s' o'.files k) (sym (append-nil j)) (over.fits j fit)) p p o o' over.same_links refl;
+      (λ j fit. subst (λ (k : List (List Entry)). FitsWith clients s' o'.files k) (sym (append-nil j)) (over.fits j fit)) p p o o' over.same_links over.calls refl;
   batch = batch;
   next = next;
   steps = steps;
@@ -275,11 +299,11 @@ full_sent_here clients terms p next batch s s' o o' steps over = record {
 
 -- a commit that answered Full did nothing
 pub over_limit : (clients : Meaning) (s s' : StoreValue) (batch : List Entry) (o o' : Outside)
-    → DiskRun o o'
+    → DiskRun o o' → MakesAtMost 0 o o'
     → store_commits.Commits s s' batch (Err store_fault.Full)
     → ((two : Two File) → o.files ≡ Some two → (j : List (List Entry)) → Fits clients s j two → store_moments.Adds clients batch (Err store_fault.Full) s' o o' j)
     → IsOver clients batch s s' o o'
-over_limit clients s s' batch o o' run answer adds =
+over_limit clients s s' batch o o' run made answer adds =
     let stays = answer.2 in
     record {
       same_links = run.same_links;
@@ -298,6 +322,7 @@ over_limit clients s s' batch o o' run answer adds =
             ap (λ n. room_of (format_meant n) (after_all s'.state.facts batch)) stays.format,
             ap (λ (f : Facts). room_of (written_in s) (after_all f batch)) stays.facts,
           );
+      calls = made;
     }
 
 pub take_full : (clients : Meaning) (session : ℕ) (r : Record) (s s' : StoreValue) (o o' : Outside)

@@ -4,8 +4,8 @@ use Rattle.std.specs.Prelude.{IfOk, nat_lt}
 use Rattle.std.proofs.lemmas.Bool.{false≢true, lt-ltb, ne_eqb}
 use Rattle.outside.specs.declared.failed.Failed.{Failed}
 use Rattle.outside.specs.declared.host.Heard.TheVariants as heard_kind
-use Rattle.outside.specs.Host.{Hears, IsCaused, ReadsClock, Sends as SendsBytes}
-use Rattle.outside.specs.Outside.{Outside}
+use Rattle.outside.specs.Host.{Hears, IsCaused, ReadsClock, Sends as SendsBytes, SendsPart}
+use Rattle.outside.specs.Outside.{MakesAtMost, Outside}
 use Rattle.record_grammar.specs.Stream.{ending}
 use Rattle.record_grammar.specs.declared.stream.Ending.{Ending}
 use Rattle.record_grammar.specs.declared.stream.Ending.TheVariants as ending_kind
@@ -21,19 +21,21 @@ use Rattle.sync_rules.specs.Legal.{Allowed}
 use Rattle.journal_state.specs.Allowing.{due_of}
 use Rattle.sync_store.specs.Store.{StoreValue}
 use Rattle.sync_course.specs.declared.TheConstants.{MAX_OUTPUTS, PIECE_LEN}
-use Rattle.sync_course.proofs.CallLaws.{runs_asked, runs_closed, runs_commits, runs_none, runs_out, runs_read, runs_unasked}
+use Rattle.sync_course.proofs.CallLaws.{out_path, runs_asked, runs_closed, runs_commits, runs_none, runs_out, runs_read, runs_unasked}
 use Rattle.sync_course.specs.Links.{is_going, is_sent_to, new_items, stands_ended}
 use Rattle.sync_course.specs.LinkTurns.{Asks, Doing, Done, IsEnough, IsNothingDue, LinkStep, Puts, Sends, Spot, Takes, Waits, out_batch, out_spot}
 use Rattle.sync_course.specs.Reading.{HasRead, IsReading}
 use Rattle.sync_course.proofs.ReadingLaws.{ends_as, piece_comes}
 use Rattle.sync_course.proofs.ToldLaws.{runs_then}
+use Rattle.sync_course.specs.Events.{commits}
+use Rattle.sync_course.specs.Paths.{Path}
 use Rattle.sync_course.proofs.Counted.{counted_broken, counted_none, counted_out, counted_put, counted_sent, counted_then}
 use Rattle.sync_node.specs.declared.link.Link.{Link}
 use Rattle.sync_course.specs.declared.ends.LinkEnd.{LinkEnd}
 use Rattle.sync_course.specs.declared.ends.LinkEnd.TheVariants as link_end
 use Rattle.sync_node.specs.Ends.{MaySend}
 use Rattle.sync_node.specs.Sending.{EndsBy, SendsOn}
-use Rattle.sync_node.proofs.CourseLaws.{fits_on}
+use Rattle.sync_node.proofs.CourseLaws.{fits_on, quiet_most}
 use Rattle.sync_node.proofs.CourseTakes.{full_here, full_then, halts_behind, halts_none, none_or_one}
 use Rattle.sync_node.specs.Fulls.{HearsFull, IsOver, LinkFull, NextFull, PutsFull, SendsFull, SentFull}
 use Rattle.sync_node.specs.Courses.{Adds, AddsSome, FitsWith, GoesOnSending, HearsAsCourse, HearsStops, IsRead, IsReadyToSend, LinkCounts, LinkHalts, LinkRuns, NextStops, OutsAsCourse, OutsTo, PieceTaken, PutsAsCourse, PutsStop, ReadsAs, SendsAsCourse, SendsStop, SentAsCourse, SentStops, TurnAsCourse, link_at, spot_at}
@@ -77,7 +79,7 @@ going_end : (e : LinkEnd) → e ≡ link_end.Going → is_going e ≡ true
 going_end e going = ap (λ x. is_going x) going
 
 module _ (clients : Meaning) (n : ℕ) (l : Link) (s : StoreValue) (o o1 : Outside) (buf : List ℕ) (whole : length buf ≡ PIECE_LEN)
-    (going : l.end ≡ link_end.Going) (same_files : o1.files ≡ o.files) where
+    (going : l.end ≡ link_end.Going) (same_files : o1.files ≡ o.files) (made : MakesAtMost 0 o o1) where
   -- nothing came for now
   pub hears_idle : Hears n heard_kind.Idle buf o.links o1.links
       → IsCaused heard_kind.Idle (length buf) (o.links.faults n) (o1.links.faults n)
@@ -90,7 +92,7 @@ module _ (clients : Meaning) (n : ℕ) (l : Link) (s : StoreValue) (o o1 : Outsi
       ready = inl refl;
       runs =
           runs_asked clients n l.session.number (FitsWith clients s o.files) (FitsWith clients s o1.files) heard_kind.Idle buf
-          (spot_at Asks l heard moved s.state.facts) o o1 refl (going_end l.end going) whole hears caused (fits_on clients s o o1 same_files);
+          (spot_at Asks l heard moved s.state.facts) o o1 refl (going_end l.end going) whole hears caused made (fits_on clients s o o1 same_files);
     };
   }
 
@@ -106,7 +108,7 @@ module _ (clients : Meaning) (n : ℕ) (l : Link) (s : StoreValue) (o o1 : Outsi
       ready = inr (refl, refl);
       runs =
           runs_asked clients n l.session.number (FitsWith clients s o.files) (FitsWith clients s o1.files) heard_kind.Failed buf
-          (spot_at Asks l heard moved s.state.facts) o o1 refl (going_end l.end going) whole hears caused (fits_on clients s o o1 same_files);
+          (spot_at Asks l heard moved s.state.facts) o o1 refl (going_end l.end going) whole hears caused made (fits_on clients s o o1 same_files);
     };
   }
 
@@ -134,7 +136,7 @@ module _ (clients : Meaning) (n : ℕ) (l : Link) (s : StoreValue) (o o1 : Outsi
               subst (λ x. LinkRuns clients n l.session.number (spot_at Asks l heard moved s.state.facts)
               (record { doing = Waits; link = record (link_at l heard) { stands = x }; moved = true; facts = s.state.facts }) s s o o1) stood
               (runs_asked clients n l.session.number (FitsWith clients s o.files) (FitsWith clients s o1.files) heard_kind.End buf
-              (spot_at Asks l heard moved s.state.facts) o o1 refl (going_end l.end going) whole hears caused (fits_on clients s o o1 same_files));
+              (spot_at Asks l heard moved s.state.facts) o o1 refl (going_end l.end going) whole hears caused made (fits_on clients s o o1 same_files));
         };
   }
 
@@ -145,7 +147,7 @@ module _ (clients : Meaning) (n : ℕ) (l : Link) (s : StoreValue) (o o1 : Outsi
       (spot_at (Takes (new_items heard (take count buf))) l (heard ++ take count buf) true s.state.facts) s s o o1
   heard_piece count heard moved hears caused =
       runs_asked clients n l.session.number (FitsWith clients s o.files) (FitsWith clients s o1.files) (heard_kind.Got count) buf
-      (spot_at Asks l heard moved s.state.facts) o o1 refl (going_end l.end going) whole hears caused (fits_on clients s o o1 same_files)
+      (spot_at Asks l heard moved s.state.facts) o o1 refl (going_end l.end going) whole hears caused made (fits_on clients s o o1 same_files)
 
   -- bytes came, and were taken
   pub hears_piece : ReadingsWiden → (count : ℕ) (l' : Link) (s' : StoreValue) (o' : Outside)
@@ -257,28 +259,28 @@ module _ (clients : Meaning) (n now : ℕ) (what : Out) (l : Link) (s : StoreVal
       ap (after_all s.state.facts) (sym is) ∙ sym facts_are in
       subst (λ f. LinkCounts clients n l.session.number (spot_at (Sends now (suc room)) l heard moved s.state.facts) (spot_at (Puts now room) l heard true f) s s1 o o1 1) same
       (counted_out clients n l.session.number (FitsWith clients s o.files) (FitsWith clients s1 o1.files) now room what
-      (spot_at (Sends now (suc room)) l heard moved s.state.facts) o o1 refl allowed.2 allowed adds.same_links
+      (spot_at (Sends now (suc room)) l heard moved s.state.facts) o o1 refl allowed.2 allowed adds.same_links adds.calls
       (λ j fit. subst (λ (x : List Entry). FitsWith clients s1 o1.files (j ++ x ∷ [])) is (adds.grows j fit)))
 
   sent_on_link : (s1 : StoreValue) (o1 o' : Outside) (l' : Link) (bytes : List ℕ)
-      (result : Result (Unit {0}) Failed) → o'.files ≡ o1.files
+      (result : Result (Unit {0}) Failed) → o'.files ≡ o1.files → MakesAtMost 0 o1 o'
       → SendsBytes n bytes result o1.links o'.links → EndsBy result l l' → is_sent_to l.end ≡ true
       → (heard : List ℕ) (room : ℕ)
       → (doing : Doing) × GoesOnSending now room doing l'
       × LinkCounts clients n l.session.number (spot_at (Puts now room) l heard true s1.state.facts) (spot_at doing l' heard true s1.state.facts) s1 s1 o1 o' 0
-  sent_on_link s1 o1 o' l' bytes (Ok u) same_files sends ends open_is heard room = (
+  sent_on_link s1 o1 o' l' bytes (Ok u) same_files made sends ends open_is heard room = (
     Sends now room,
     inl (refl, ap (λ x. is_sent_to x.end) ends ∙ open_is),
     subst (λ x. LinkCounts clients n l.session.number (spot_at (Puts now room) l heard true s1.state.facts) (spot_at (Sends now room) x heard true s1.state.facts) s1 s1 o1 o' 0) (sym ends)
         (counted_put clients n l.session.number (FitsWith clients s1 o1.files) (FitsWith clients s1 o'.files) now room bytes
-        (spot_at (Puts now room) l heard true s1.state.facts) o1 o' refl sends (fits_on clients s1 o1 o' same_files)),
+        (spot_at (Puts now room) l heard true s1.state.facts) o1 o' refl sends made (fits_on clients s1 o1 o' same_files)),
   )
-  sent_on_link s1 o1 o' l' bytes (Err why) same_files sends ends open_is heard room = (
+  sent_on_link s1 o1 o' l' bytes (Err why) same_files made sends ends open_is heard room = (
     Done,
     inr (refl, ap (λ x. is_sent_to x.end) ends),
     subst (λ x. LinkCounts clients n l.session.number (spot_at (Puts now room) l heard true s1.state.facts) (spot_at Done x heard true s1.state.facts) s1 s1 o1 o' 0) (sym ends)
         (counted_broken clients n l.session.number (FitsWith clients s1 o1.files) (FitsWith clients s1 o'.files) now room bytes why
-        (spot_at (Puts now room) l heard true s1.state.facts) o1 o' refl sends (fits_on clients s1 o1 o' same_files)),
+        (spot_at (Puts now room) l heard true s1.state.facts) o1 o' refl sends made (fits_on clients s1 o1 o' same_files)),
   )
 
   same_of : (l' : Link) (result : Result (Unit {0}) Failed) → EndsBy result l l'
@@ -293,7 +295,7 @@ module _ (clients : Meaning) (n now : ℕ) (what : Out) (l : Link) (s : StoreVal
       → PutsAsCourse clients n now l l' s s1 o o'
   puts_course s1 o1 o' l' bytes facts_are adds sends = record {
     leads = λ heard moved room open_is.
-        let second = sent_on_link s1 o1 o' l' bytes sends.result sends.call.same_files sends.sends sends.ends open_is heard room in
+        let second = sent_on_link s1 o1 o' l' bytes sends.result sends.call.same_files (quiet_most (SendsPart o1 n bytes) o1 o' sends.call) sends.sends sends.ends open_is heard room in
         record {
           doing = second.0;
           goes_on = second.1;
@@ -312,19 +314,32 @@ module _ (clients : Meaning) (n now : ℕ) (what : Out) (l : Link) (s : StoreVal
   puts_stops o' adds = record {
     stops = λ heard moved room.
         let p : Spot = spot_at (Sends now (suc room)) l heard moved s.state.facts in
+        let b : List Entry = out_batch l.session.number now what in
+        let q : Spot = out_spot now room b p in
+        let path : Path (LinkStep clients n l.session.number) p (commits (b ∷ [])) q =
+        out_path clients n l.session.number now room what p refl allowed.2 allowed in
         elim (none_or_one clients batch s o o' adds) [
           | inl none ↦ record {
             breaks = record {
               to = p;
-              runs = runs_commits (LinkStep clients n l.session.number) (FitsWith clients s o.files) (ReadsAs clients o'.files) [] none p p o o' adds.same_links refl;
+              next = b ∷ [];
+              beyond = q;
+              goes_on = path;
+              runs =
+                  runs_commits (LinkStep clients n l.session.number) (FitsWith clients s o.files) (ReadsAs clients o'.files) [] none p p o o' adds.same_links
+                  adds.calls refl;
             };
             stands = inl refl;
           }
           | inr one ↦ record {
             breaks = record {
-              to = out_spot now room (out_batch l.session.number now what) p;
+              to = q;
+              next = [];
+              beyond = q;
+              goes_on = refl;
               runs =
                   runs_out clients n l.session.number (FitsWith clients s o.files) (ReadsAs clients o'.files) now room what p o o' refl allowed.2 allowed adds.same_links
+                  adds.calls
                   (subst (λ (x : List Entry). (j : List (List Entry)) → FitsWith clients s o.files j → ReadsAs clients o'.files (j ++ x ∷ [])) is one);
             };
             stands = inl refl;
@@ -575,7 +590,7 @@ sends_closed clients n l s o may = record {
 }
 
 module _ (clients : Meaning) (n now : ℕ) (l : Link) (s : StoreValue) (o o1 : Outside) (may : MaySend l.end) (reads : ReadsClock now o.links o1.links)
-    (same_files : o1.files ≡ o.files) where
+    (same_files : o1.files ≡ o.files) (calls : MakesAtMost 0 o o1) where
   read_at : (heard : List ℕ) (moved : Bool) (doing : Doing) → IsReadyToSend doing l
       → LinkRuns clients n l.session.number (spot_at doing l heard moved s.state.facts)
       (spot_at (Sends now MAX_OUTPUTS) l heard moved s.state.facts) s s o o1
@@ -584,7 +599,7 @@ module _ (clients : Meaning) (n now : ℕ) (l : Link) (s : StoreValue) (o o1 : O
         | inl waits ↦
             subst (λ d. LinkRuns clients n l.session.number (spot_at d l heard moved s.state.facts) (spot_at (Sends now MAX_OUTPUTS) l heard moved s.state.facts) s s o o1) (sym waits)
             (runs_read clients n l.session.number (FitsWith clients s o.files) (FitsWith clients s o1.files) now (spot_at Waits l heard moved s.state.facts) o o1 refl
-            (may_end l.end may) reads (fits_on clients s o o1 same_files))
+            (may_end l.end may) reads calls (fits_on clients s o o1 same_files))
         | inr done ↦ absurd (false≢true (sym done.1 ∙ may_end l.end may))
       ]
 

@@ -1,8 +1,8 @@
 -- What a run does to a store and its disk, as a course: where the disk fits the store with a
 -- journal, and what the files stand for where a call was broken off.
-use Rattle.std.specs.Prelude.{◌≡◌, ◌⊎◌, ℕ, suc, ◌+◌, Bool, true, false, cond, not, ◌&&◌, nat_eq, nat_lt, slice_get, List, [], ◌∷◌, ◌++◌, length, Option, Some}
+use Rattle.std.specs.Prelude.{◌≡◌, ◌⊎◌, ℕ, suc, ◌+◌, ◌*◌, Bool, true, false, cond, not, ◌&&◌, nat_eq, nat_lt, slice_get, List, [], ◌∷◌, ◌++◌, length, Option, Some}
 use Rattle.outside.specs.Files.{Two, File, read_files}
-use Rattle.outside.specs.Outside.{Outside}
+use Rattle.outside.specs.Outside.{Outside, MakesAtMost}
 use Rattle.sync_rules.specs.declared.entries.Entry.{Entry}
 use Rattle.sync_rules.specs.declared.entries.Session.{Session}
 use Rattle.sync_rules.specs.Clients.{Meaning}
@@ -43,7 +43,7 @@ abbrev pub LinkRuns : Meaning → ℕ → ℕ → Spot → Spot → StoreValue �
     → Type 0
 LinkRuns clients n session p q s s' o o' =
     Runs (LinkStep clients n session) (FitsWith clients s o.files)
-    (FitsWith clients s' o'.files) p q o o'
+    (FitsWith clients s' o'.files) p q o o' []
 
 -- and so many batches were committed on the way
 abbrev pub LinkCounts : Meaning → ℕ → ℕ → Spot → Spot → StoreValue → StoreValue → Outside → Outside
@@ -63,7 +63,7 @@ abbrev pub RunRuns : Meaning → Terms → Place → Place → StoreValue → St
     → Type 0
 RunRuns clients terms p q s s' o o' =
     Runs (RunStep clients terms) (FitsWith clients s o.files)
-    (FitsWith clients s' o'.files) p q o o'
+    (FitsWith clients s' o'.files) p q o o' []
 
 abbrev pub RunCounts : Meaning → Terms → Place → Place → StoreValue → StoreValue → Outside → Outside
     → ℕ → Type 0
@@ -114,18 +114,20 @@ pub record ReadsFront (clients : Meaning) (may : List (List Entry)) (s : StoreVa
 
 -- ---- what the calls of a store come to
 
--- these batches were committed
+-- these batches were committed, by at most four calls of the disk each
 pub record Adds (clients : Meaning) (more : List (List Entry)) (s s' : StoreValue)
     (o o' : Outside) : Type 0 where
   pub same_links : o'.links ≡ o.links
   pub grows : (j : List (List Entry)) → FitsWith clients s o.files j
       → FitsWith clients s' o'.files (j ++ more)
+  pub calls : MakesAtMost (4 * length more) o o'
 
 -- they were to be committed, and some of them were, from the first on
 pub record AddsSome (clients : Meaning) (may : List (List Entry)) (s : StoreValue)
     (o o' : Outside) : Type 0 where
   pub same_links : o'.links ≡ o.links
   pub stood : ReadsFront clients may s o o'
+  pub calls : MakesAtMost (4 * length may) o o'
 
 -- settling batches were committed, and are all that settling has
 pub record AddsSettling (clients : Meaning) (s s' : StoreValue) (o o' : Outside) : Type 0 where
@@ -483,10 +485,12 @@ pub record HaltsSending (clients : Meaning) (first n now : ℕ) (links links' : 
 
 -- ---- a session that begins on the next link
 
--- all sends of a greeting are one event: they went out, or one failed, and the link is closed
+-- All sends of a greeting are one event: they went out, or one failed, and the link is closed. The
+-- disk is not asked.
 abbrev pub GreetsAsCourse : ℕ → Link → Link → Outside → Outside → Type 0
 GreetsAsCourse n l l' o o' =
-    ((l' ≡ l) × Told (Pass ∷ []) o o') ⊎ ((l' ≡ record l { end = link_end.Failed }) × Told (Break n ∷ []) o o')
+    MakesAtMost 0 o o'
+    × (((l' ≡ l) × Told (Pass ∷ []) o o') ⊎ ((l' ≡ record l { end = link_end.Failed }) × Told (Break n ∷ []) o o'))
 
 -- a place of a run that is to begin these sessions
 abbrev pub attaching_at : List Session → List course_links.Link → Bool → ℕ → ℕ → Facts → Place

@@ -1,7 +1,7 @@
 -- Where a call answers Full: it led to a place of the course from which the next step commits a
 -- batch with which the journal, the batch's frame and the room for settling would pass the limit.
-use Rattle.std.specs.Prelude.{◌≡◌, ◌≢◌, ℕ, suc, ◌+◌, ◌<◌, Bool, true, false, List, ◌∷◌, Some, slice_get}
-use Rattle.outside.specs.Outside.{Outside}
+use Rattle.std.specs.Prelude.{◌≡◌, ◌≢◌, ℕ, suc, ◌+◌, ◌<◌, Bool, true, false, List, [], ◌∷◌, Some, slice_get}
+use Rattle.outside.specs.Outside.{Outside, MakesAtMost}
 use Rattle.record_grammar.specs.declared.stream.Item.{Item}
 use Rattle.record_grammar.specs.declared.stream.Item.TheVariants as item
 use Rattle.sync_ids.specs.declared.records.Record.{Record}
@@ -27,7 +27,7 @@ use Rattle.sync_node.specs.declared.link.Link.{Link}
 pub record StopsFull {P : Type 0} (clients : Meaning) (step : P → Event → P → Type 0) (from : P)
     (s s' : StoreValue) (o o' : Outside) : Type 0 where
   pub to : P
-  pub runs : Runs step (FitsWith clients s o.files) (FitsWith clients s' o'.files) from to o o'
+  pub runs : Runs step (FitsWith clients s o.files) (FitsWith clients s' o'.files) from to o o' []
   pub batch : List Entry
   pub next : P
   pub steps : step to (Commit batch) next
@@ -61,6 +61,7 @@ pub record IsOver (clients : Meaning) (batch : List Entry) (s s' : StoreValue)
   pub fits : (j : List (List Entry)) → FitsWith clients s o.files j → FitsWith clients s' o'.files j
   pub before : s.limit < needed s batch
   pub over : s'.limit < needed s' batch
+  pub calls : MakesAtMost 0 o o'
 
 -- ---- a link's turn
 

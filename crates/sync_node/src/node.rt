@@ -103,7 +103,7 @@ impl Node {
     ghost use Rattle.sync_rules.specs.Legal.{Allowed, suits_nonce};
     ghost use Rattle.sync_store.specs.Fitting.{Fits};
     ghost use Rattle.sync_store.specs.Moments.{Leads};
-    ghost use Rattle.sync_node.specs.Adding.{AddsAtMost, AddsSettled, IsPlain};
+    ghost use Rattle.sync_node.specs.Adding.{AddsAtMost, AddsSettled, AddsWithin, IsPlain};
     ghost use Rattle.sync_node.specs.Output.{Journal};
     ghost use Rattle.sync_rules.specs.Steps.{IsSettled};
     ghost use Rattle.sync_node.specs.Causes.{FailByCause, PushesOne};
@@ -195,6 +195,8 @@ impl Node {
             (AddsAtMost (C.meaning clients.now) j batch)
             (AddsAtMost (C.meaning clients.now) j batch) self.new.store (H.tells host.old)
             (H.tells host.new) }
+        ensures within { self.old.closed ≡ false → AddsWithin (C.meaning clients.now) batch
+            self.old.store (H.tells host.old) (H.tells host.new) }
         ensures added { OnOk result (AddsSettled (C.meaning clients.now) batch self.old.store
             self.new.store (H.tells host.old) (H.tells host.new)) }
         ensures anew { OnOk result (KeepsSafeAnew (C.meaning clients.now) self.old self.new

@@ -13,7 +13,7 @@ ghost use Rattle.sync_store.specs.Fitting.{Fits};
 ghost use Rattle.sync_store.specs.Moments.{Leads};
 ghost use Rattle.sync_store.specs.Ready.{IsReady};
 ghost use Rattle.sync_store.specs.Store.{IsStore};
-ghost use Rattle.sync_node.specs.Adding.{AddsAtMost, AddsSettled, IsPlain};
+ghost use Rattle.sync_node.specs.Adding.{AddsAtMost, AddsSettled, AddsWithin, IsPlain};
 ghost use Rattle.sync_node.specs.Cited.{CitedLaws};
 ghost use Rattle.sync_node.specs.Courses.{Adds, AddsSettling, AddsSome, AddsSomeSettling};
 ghost use Rattle.sync_node.specs.Fulls.{IsOver};
@@ -145,6 +145,8 @@ pub(crate) fn add_settled<H: Host, C: Clients>(
         → Fits (C.meaning clients.now) store.old j two → Leads (C.meaning clients.now)
         (AddsAtMost (C.meaning clients.now) j batch) (AddsAtMost (C.meaning clients.now) j batch)
         store.new (H.tells host.old) (H.tells host.new) }
+    ensures within { AddsWithin (C.meaning clients.now) batch store.old (H.tells host.old)
+        (H.tells host.new) }
     ensures run { Goes (H.tells host.old) (H.tells host.new) }
     ensures limit { store.new.limit ≡ store.old.limit }
     ensures undone { IsErrOf result Fault.Full → IsUndone store.old store.new host.old host.new }

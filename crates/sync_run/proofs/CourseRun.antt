@@ -154,7 +154,7 @@ module _ (clients : Meaning) (limits : Limits) (links : List Dialled) (j : Journ
         let whole : ComesTo (record mid { stage = Attaches sessions }) s1 o1 =
         runs_then (RunStep clients terms) (FitsWith clients s0 o0.files) (FitsWith clients s1 o1.files) (FitsWith clients s1 o1.files) start mid
         (record mid { stage = Attaches sessions }) o0 o1 o1
-        (runs_begun clients terms (FitsWith clients s0 o0.files) (FitsWith clients s1 o1.files) sessions more start o0 o1 refl settling run.same_links grows)
+        (runs_begun clients terms (FitsWith clients s0 o0.files) (FitsWith clients s1 o1.files) sessions more start o0 o1 refl settling run.same_links comes.calls.most grows)
         (runs_settled_begun clients terms (FitsWith clients s1 o1.files) (FitsWith clients s1 o1.files) (λ k f. f) sessions mid o1 refl is_settled) in
         subst (λ (f : Facts). ComesTo (before_sessions sessions f) s1 o1) same_facts whole
 
@@ -164,7 +164,7 @@ module _ (clients : Meaning) (limits : Limits) (links : List Dialled) (j : Journ
         let front = reads_front clients s0 s1 more o0 o1 (λ k whole. IsBetween k more whole) (λ k whole. whole ≡ k ++ more) fits run.same_told (λ k whole between. between)
         comes.leads in
         breaks_begun clients terms (FitsWith clients s0 o0.files) (ReadsAs clients o1.files) front.front front.others front.reads sessions more
-        (first_place sessions (facts j)) o0 o1 refl settling run.same_links front.parts
+        (first_place sessions (facts j)) o0 o1 refl settling run.same_links comes.calls.most front.parts
 
     -- ---- behind it
 

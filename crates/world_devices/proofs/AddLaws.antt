@@ -13,11 +13,11 @@ use Rattle.sync_rules.specs.Facts.{Facts, after_all, facts}
 use Rattle.sync_rules.specs.Legal.{AllSettling}
 use Rattle.sync_rules.specs.Steps.{IsSettled}
 use Rattle.sync_store.specs.Store.{StoreValue}
-use Rattle.sync_node.specs.Adding.{AddsAtMost, AddsOne, AddsSettled}
+use Rattle.sync_node.specs.Adding.{AddsAtMost, AddsOne, AddsSettled, AddsWithin}
 use Rattle.sync_node.specs.declared.link.Link.{Link}
 use Rattle.sync_node.specs.Node.{NodeValue}
 use Rattle.world_devices.specs.Devices.{DeviceValue, HostGoesOn, IsAnew, IsRunning}
-use Rattle.world_devices.specs.Doing.{Adds, BreaksOff, HasAdded, HasAtMost, HoldsAtMost, IsAhead, KeepsOwn, KeepsRest, StopsIn}
+use Rattle.world_devices.specs.Doing.{Adds, BreaksOff, CameAdding, HasAdded, HasAtMost, HoldsAtMost, IsAhead, KeepsOwn, KeepsRest, OfNode, StopsIn}
 use Rattle.world_devices.specs.Keeping.{Journal}
 use Rattle.world_devices.specs.Linking.{WhenDone}
 use Rattle.world_devices.specs.Running.{Holds}
@@ -96,14 +96,22 @@ at_most e batch n n' h h' links is leads run j holds =
           };
     }
 
+-- of the node that a device has
+pub of_node : (P : NodeValue → Type 0) (n : NodeValue) (maybe : Option NodeValue) → maybe ≡ Some n → P n → OfNode P maybe
+of_node P n maybe is holds = subst (λ (x : Option NodeValue). OfNode P x) (sym is) holds
+
 pub adds_crashed : (e : Entry) (batch : List Entry) (n n' : NodeValue) (h h' : MemHostValue) (links : ℕ) (d old new : DeviceValue) → d ≡ old → batch ≡ e ∷ [] → LeadsAdding batch n n' h h' → IsRunning n h links
-    → d.host ≡ h → HostGoesOn d.host h' → BreaksOff d.stop h' new → new.clock ≡ d.clock → StopsIn (HasAtMost e old) old new
-adds_crashed e batch n n' h h' links d old new seen is leads run its since off clock =
-    let P : DeviceValue → Type 0 = λ x. StopsIn (HasAtMost e x) x new in
+    → d.host ≡ h → HostGoesOn d.host h' → BreaksOff d.stop h' new → new.clock ≡ d.clock → d.node ≡ Some n → AddsWithin bundle_meaning batch n.store (host_told h) (host_told h')
+    → StopsIn (λ at. HasAtMost e old at × CameAdding e old at) old new
+adds_crashed e batch n n' h h' links d old new seen is leads run its since off clock was within =
+    let P : DeviceValue → Type 0 = λ x. StopsIn (λ at. HasAtMost e x at × CameAdding e x at) x new in
+    let came : CameAdding e d h' = of_node (λ (m : NodeValue). AddsWithin bundle_meaning (e ∷ []) m.store (host_told d.host) (host_told h')) n d.node was
+    (subst (λ (x : MemHostValue). AddsWithin bundle_meaning (e ∷ []) n.store (host_told x) (host_told h')) (sym its)
+    (subst (λ (b : List Entry). AddsWithin bundle_meaning b n.store (host_told h) (host_told h')) is within)) in
     subst P seen (record {
       at = h';
       since = since;
-      broken = λ j holds. at_most e batch n n' h h' links is leads run j (subst (λ (x : MemHostValue). Holds j x) its holds);
+      broken = (λ j holds. at_most e batch n n' h h' links is leads run j (subst (λ (x : MemHostValue). Holds j x) its holds), came);
       off = off;
       clock = clock;
     })

@@ -1,5 +1,5 @@
 -- What a turn of a device does, and a session that begins on its next link.
-use Rattle.std.proofs.Common.{◌≡◌, ◌<◌, ℕ, Bool, false, arith, List, [], ◌∷◌, ◌++◌, sym, ap, subst, inl, inr, Option, Some, None, Result, Ok, Err}
+use Rattle.std.proofs.Common.{◌≡◌, ◌<◌, ℕ, Bool, false, arith, List, [], ◌∷◌, ◌++◌, refl, sym, ap, subst, inl, inr, Option, Some, None, Result, Ok, Err}
 use Rattle.std.specs.Prelude.{◌||◌, nat_le}
 use Rattle.std.specs.Result.{IsErrAnd, IsErrOf}
 use Rattle.std.proofs.lemmas.Bool.Decides.{nat_tests}
@@ -31,12 +31,10 @@ use Rattle.world_devices.specs.Doing.{Attaches, BreaksOff, ComesOf, FullAtBeginn
 use Rattle.world_devices.specs.Refusals.{IsNotRefused, RefusedBy, refuses_link}
 use Rattle.world_devices.specs.declared.stop.StepFault.{StepFault}
 use Rattle.world_devices.specs.declared.stop.StepFault.TheVariants as fault
+use Rattle.world_devices.proofs.AddLaws.{of_node}
 use Rattle.world_devices.proofs.GivingUpLaws.{comes_same}
 
 -- ---- of a device that runs
-
-of_node : (P : NodeValue → Type 0) (n : NodeValue) (maybe : Option NodeValue) → maybe ≡ Some n → P n → OfNode P maybe
-of_node P n maybe is holds = subst (λ (x : Option NodeValue). OfNode P x) (sym is) holds
 
 of_nodes : (P : NodeValue → NodeValue → Type 0) (n n' : NodeValue) (old new : Option NodeValue) → old ≡ Some n → new ≡ Some n' → P n n' → OfNodes P old new
 of_nodes P n n' old new was is holds = subst (λ (x : Option NodeValue). OfNodes P x new) (sym was) (subst (λ (x : Option NodeValue). OfNodes P (Some n) x) (sym is) holds)
@@ -76,11 +74,15 @@ reads_as s files j fits = (fits.0, fits.1, fits.2.stands_for)
 run_broken : (terms : Terms) (p q : Place) (s s' : StoreValue) (o o' : Outside) → RunRuns bundle_meaning terms p q s s' o o' → RunBreaks bundle_meaning terms p s o o'
 run_broken terms p q s s' o o' runs = record {
   to = q;
+  next = [];
+  beyond = q;
+  goes_on = refl;
   runs = record {
     events = runs.events;
     path = runs.path;
     told = runs.told;
     journal = λ j before. reads_as s' o'.files (j ++ batches_of runs.events) (runs.journal j before);
+    calls = runs.calls;
   };
 }
 

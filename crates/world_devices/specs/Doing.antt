@@ -18,7 +18,7 @@ use Rattle.sync_rules.specs.Facts.{after_all, facts}
 use Rattle.sync_rules.specs.Steps.{IsSettled}
 use Rattle.sync_store.specs.Store.{StoreValue}
 use Rattle.sync_store.specs.Commits.{needed}
-use Rattle.sync_node.specs.Adding.{AddsAtMost, AddsOne, GoesOnSettling}
+use Rattle.sync_node.specs.Adding.{AddsAtMost, AddsOne, AddsWithin, GoesOnSettling}
 use Rattle.sync_node.specs.Courses.{Begins, BreaksBeginning, BreaksTurn, MakesTurn}
 use Rattle.sync_node.specs.Fulls.{FullBeginning, FullTurn}
 use Rattle.sync_node.specs.Node.{NodeValue}
@@ -117,6 +117,15 @@ GivesUpIn Broken old new = (new ≡ old) ⊎ GivesUp Broken old new
 
 -- ---- an entry
 
+-- of a device that runs, and of one that runs before and after a call
+abbrev pub OfNode : (NodeValue → Type 0) → Option NodeValue → Type 0
+OfNode P None = ⊥
+OfNode P (Some n) = P n
+
+abbrev pub OfNodes : (NodeValue → NodeValue → Type 0) → Option NodeValue → Option NodeValue → Type 0
+OfNodes P (Some n) (Some n') = P n n'
+OfNodes P _ _ = ⊥
+
 -- the journal with the entry and settling behind it
 pub record HasAdded (e : Entry) (j : Journal) (new : DeviceValue) : Type 0 where
   pub whole : Journal
@@ -148,26 +157,22 @@ pub record KeepsRest (old new : DeviceValue) : Type 0 where
 abbrev pub HasAtMost : Entry → DeviceValue → MemHostValue → Type 0
 HasAtMost e old at = (j : Journal) → Holds j old.host → HoldsAtMost e j at
 
+-- adding it came there, by at most four calls of the disk for its batch and for each settling batch behind it
+abbrev pub CameAdding : Entry → DeviceValue → MemHostValue → Type 0
+CameAdding e old at = OfNode (λ n. AddsWithin bundle_meaning (e ∷ []) n.store (host_told old.host) (host_told at)) old.node
+
 -- An entry is added: it stands in the journal, with settling behind it, and nothing else was done. Where the stop fell in it, at
--- most that stood in the files when the disk failed; no more stood there where it found no memory. It is full where the journal
+-- most that stood in the files when the disk failed, and no more calls were made than that takes; no more stood there where it
+-- found no memory. It is full where the journal
 -- would pass its limit, and then its host is as before.
 abbrev pub Adds : Entry → Result Ran StepFault → DeviceValue → DeviceValue → Type 0
 Adds e (Ok ran.Done) old new = KeepsOwn old new × ((j : Journal) → Holds j old.host → HasAdded e j new) × KeepsRest old new
-Adds e (Ok ran.Crashed) old new = StopsIn (HasAtMost e old) old new
+Adds e (Ok ran.Crashed) old new = StopsIn (λ at. HasAtMost e old at × CameAdding e old at) old new
 Adds e (Err fault.Refused) old new = new ≡ old
 Adds e (Err fault.Full) old new = IsOver e old.node × (new.host ≡ old.host)
 Adds e (Err fault.Memory) old new = GivesUpIn (HasAtMost e old) old new
 
 -- ---- links
-
--- of a device that runs, and of one that runs before and after a call
-abbrev pub OfNode : (NodeValue → Type 0) → Option NodeValue → Type 0
-OfNode P None = ⊥
-OfNode P (Some n) = P n
-
-abbrev pub OfNodes : (NodeValue → NodeValue → Type 0) → Option NodeValue → Option NodeValue → Type 0
-OfNodes P (Some n) (Some n') = P n n'
-OfNodes P _ _ = ⊥
 
 -- the next session of a node, by its plan
 abbrev pub next_session : Plan → Option (List ℕ) → NodeValue → Session
@@ -186,7 +191,7 @@ pub record FullAtBeginning (plan : Plan) (its_nonce : Option (List ℕ)) (h h' :
   pub limit : store.limit ≡ n.store.limit
   pub fills : FullBeginning bundle_meaning (next_session plan its_nonce n) n.links n.store store (host_told h) (host_told h')
 
--- it had come to some place of a course
+-- it had come to some place of a course, by no more calls of the disk than the batches of its path take and those that were next
 abbrev pub BreaksAttaching : Plan → Option (List ℕ) → DeviceValue → MemHostValue → Type 0
 BreaksAttaching plan its_nonce old at = OfNode (λ n. BreaksBeginning bundle_meaning (next_session plan its_nonce n) n.links n.store (host_told old.host) (host_told at)) old.node
 
@@ -213,7 +218,7 @@ pub record FullInTurn (h h' : MemHostValue) (n : NodeValue) : Type 0 where
   pub limit : store.limit ≡ n.store.limit
   pub fills : FullTurn bundle_meaning n.first n.links n.store store (host_told h) (host_told h')
 
--- it had come to some place of a course
+-- it had come to some place of a course, by no more calls of the disk than the batches of its path take and those that were next
 abbrev pub BreaksTurning : DeviceValue → MemHostValue → Type 0
 BreaksTurning old at = OfNode (λ n. BreaksTurn bundle_meaning n.first n.links n.store (host_told old.host) (host_told at)) old.node
 

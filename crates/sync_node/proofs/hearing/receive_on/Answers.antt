@@ -10,6 +10,7 @@ use Rattle.std.proofs.Common.{Err}
 use Rattle.sync_node.proofs.WorkLaws.{err_was}
 use Rattle.sync_node.proofs.CourseTurns.{hears_full}
 use Rattle.sync_node.proofs.StopLaws.{stops_then}
+use Rattle.sync_node.proofs.CourseLaws.{quiet_most}
 use Rattle.sync_node.proofs.hearing.receive_on.Goals as goal
 
 pub recv-requires-clause-link : goal.recv-requires-clause-link
@@ -87,26 +88,26 @@ returns-in-Failed-clause-works g c =
 pub returns-in_err-take_piece-in-Got-clause-stops : goal.returns-in_err-take_piece-in-Got-clause-stops
 returns-in_err-take_piece-in-Got-clause-stops g c = λ whole.
     on_err _ _
-    (hears_stops _ _ _ _ _ _ c.recv.new.buf (c.recv.auto.buf ∙ whole) c.requires.asked c.in-Got.ensures.call.same_files c.cite_laws.ensures.widen c.in-Got.count _ _
+    (hears_stops _ _ _ _ _ _ c.recv.new.buf (c.recv.auto.buf ∙ whole) c.requires.asked c.in-Got.ensures.call.same_files (quiet_most _ _ _ c.in-Got.ensures.call) c.cite_laws.ensures.widen c.in-Got.count _ _
     c.in-Got.ensures.links c.in-Got.ensures.answer (rw c.new-piece.ensures at c.in_err-take_piece-in-Got.ensures.stops))
 
 pub returns-in_ok-take_piece-in-Got-clause-course : goal.returns-in_ok-take_piece-in-Got-clause-course
 returns-in_ok-take_piece-in-Got-clause-course g c = λ whole.
-    hears_piece _ _ _ _ _ _ c.recv.new.buf (c.recv.auto.buf ∙ whole) c.requires.asked c.in-Got.ensures.call.same_files c.cite_laws.ensures.widen c.in-Got.count _ _ _
+    hears_piece _ _ _ _ _ _ c.recv.new.buf (c.recv.auto.buf ∙ whole) c.requires.asked c.in-Got.ensures.call.same_files (quiet_most _ _ _ c.in-Got.ensures.call) c.cite_laws.ensures.widen c.in-Got.count _ _ _
     c.in-Got.ensures.links c.in-Got.ensures.answer (rw c.new-piece.ensures at c.in_ok-take_piece-in-Got.ensures.course)
 
 pub returns-in-Idle-clause-course : goal.returns-in-Idle-clause-course
 returns-in-Idle-clause-course g c = λ whole.
-    hears_idle _ _ _ _ _ _ c.recv.new.buf (c.recv.auto.buf ∙ whole) c.requires.asked c.in-Idle.ensures.call.same_files c.in-Idle.ensures.links c.in-Idle.ensures.answer
+    hears_idle _ _ _ _ _ _ c.recv.new.buf (c.recv.auto.buf ∙ whole) c.requires.asked c.in-Idle.ensures.call.same_files (quiet_most _ _ _ c.in-Idle.ensures.call) c.in-Idle.ensures.links c.in-Idle.ensures.answer
 
 pub returns-in-End-clause-course : goal.returns-in-End-clause-course
 returns-in-End-clause-course g c = λ whole.
-    hears_ended _ _ _ _ _ _ c.recv.new.buf (c.recv.auto.buf ∙ whole) c.requires.asked c.in-End.ensures.call.same_files _
+    hears_ended _ _ _ _ _ _ c.recv.new.buf (c.recv.auto.buf ∙ whole) c.requires.asked c.in-End.ensures.call.same_files (quiet_most _ _ _ c.in-End.ensures.call) _
     (c.ended-link.ensures ∙ ap stands_ended c.end.ensures.ending) c.in-End.ensures.links c.in-End.ensures.answer
 
 pub returns-in-Failed-clause-course : goal.returns-in-Failed-clause-course
 returns-in-Failed-clause-course g c = λ whole.
-    hears_failed _ _ _ _ _ _ c.recv.new.buf (c.recv.auto.buf ∙ whole) c.requires.asked c.in-Failed.ensures.call.same_files c.in-Failed.ensures.links c.in-Failed.ensures.answer
+    hears_failed _ _ _ _ _ _ c.recv.new.buf (c.recv.auto.buf ∙ whole) c.requires.asked c.in-Failed.ensures.call.same_files (quiet_most _ _ _ c.in-Failed.ensures.call) c.in-Failed.ensures.links c.in-Failed.ensures.answer
 
 pub returns-in_err-take_piece-in-Got-clause-run : goal.returns-in_err-take_piece-in-Got-clause-run
 returns-in_err-take_piece-in-Got-clause-run g c =
@@ -130,7 +131,7 @@ returns-in-Failed-clause-run g c =
 
 pub returns-in_err-take_piece-in-Got-clause-full : goal.returns-in_err-take_piece-in-Got-clause-full
 returns-in_err-take_piece-in-Got-clause-full g c = λ whole is.
-    hears_full _ _ _ _ _ _ c.recv.new.buf (c.recv.auto.buf ∙ whole) c.requires.asked c.in-Got.ensures.call.same_files c.cite_laws.ensures.widen c.in-Got.count _ _
+    hears_full _ _ _ _ _ _ c.recv.new.buf (c.recv.auto.buf ∙ whole) c.requires.asked c.in-Got.ensures.call.same_files (quiet_most _ _ _ c.in-Got.ensures.call) c.cite_laws.ensures.widen c.in-Got.count _ _
     c.in-Got.ensures.links c.in-Got.ensures.answer
     (rw c.new-piece.ensures at (c.in_err-take_piece-in-Got.ensures.full (ap (λ e. Err e) (err_was _ c.in_err-take_piece-in-Got.field-0.0 _ c.from_residual.ensures.1 is))))
 

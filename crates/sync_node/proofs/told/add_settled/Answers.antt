@@ -1,5 +1,5 @@
 use Rattle.std.proofs.Common.{Err, ap, ◌∙◌}
-use Rattle.sync_node.proofs.AddLaws.{extended, extended_goes, extended_leads, plain_kind}
+use Rattle.sync_node.proofs.AddLaws.{extended, extended_goes, extended_leads, extended_within, plain_kind}
 use Rattle.sync_node.proofs.told.add_settled.Goals as goal
 
 pub extend-requires-clause-kind : goal.extend-requires-clause-kind
@@ -69,3 +69,15 @@ pub returns-in-Err-Full-clause-full : goal.returns-in-Err-Full-clause-full
 returns-in-Err-Full-clause-full g c = λ is.
     let has = rw c.in-Err-Full.field-0-is at (c.in-Err-Full.ensures.extended c.requires.ready.still_open) in
     has.answer.0
+
+pub returns-in-Ok-clause-within : goal.returns-in-Ok-clause-within
+returns-in-Ok-clause-within g c = extended_within _ c.args.batch _ _ _ _ _ (c.in-Ok.ensures.extended c.requires.ready.still_open)
+
+pub returns-in-Err-Memory-clause-within : goal.returns-in-Err-Memory-clause-within
+returns-in-Err-Memory-clause-within g c = extended_within _ c.args.batch _ _ _ _ _ (c.in-Err-Memory.ensures.extended c.requires.ready.still_open)
+
+pub returns-in-Err-DiskFault-clause-within : goal.returns-in-Err-DiskFault-clause-within
+returns-in-Err-DiskFault-clause-within g c = extended_within _ c.args.batch _ _ _ _ _ (c.in-Err-DiskFault.ensures.extended c.requires.ready.still_open)
+
+pub returns-in-Err-Full-clause-within : goal.returns-in-Err-Full-clause-within
+returns-in-Err-Full-clause-within g c = extended_within _ c.args.batch _ _ _ _ _ (c.in-Err-Full.ensures.extended c.requires.ready.still_open)

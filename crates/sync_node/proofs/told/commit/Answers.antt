@@ -1,7 +1,7 @@
 use Rattle.std.proofs.Common.{Ok, Err}
 use Rattle.sync_store.specs.declared.fault.StoreFault.TheVariants as store_fault
 use Rattle.sync_node.proofs.CommitLaws.{committed, safe_commit}
-use Rattle.sync_node.proofs.CourseLaws.{commit_adds, commit_adds_some}
+use Rattle.sync_node.proofs.CourseLaws.{commit_adds, commit_adds_some, unasked_most}
 use Rattle.sync_node.proofs.CommitLaws.{goes_adds}
 use Rattle.sync_node.proofs.CourseTakes.{over_limit}
 use Rattle.sync_store.specs.declared.fault.StoreFault.TheVariants as store_fault
@@ -36,22 +36,22 @@ returns-in-Err-Full-clause-safe g c = λ b plans later more of_run safe.
 
 pub returns-in-Ok-clause-adds : goal.returns-in-Ok-clause-adds
 returns-in-Ok-clause-adds g c =
-    commit_adds _ _ _ c.args.batch _ _ _ c.in-Ok.ensures.run c.in-Ok.ensures.answer.2.closed
+    commit_adds _ _ _ c.args.batch _ _ _ c.in-Ok.ensures.run c.in-Ok.ensures.calls.most c.in-Ok.ensures.answer.2.closed
     (c.in-Ok.ensures.extends c.requires.ready.still_open)
 
 pub returns-in-Err-Memory-clause-adds_some : goal.returns-in-Err-Memory-clause-adds_some
 returns-in-Err-Memory-clause-adds_some g c =
-    commit_adds_some _ _ _ c.args.batch (Err store_fault.Memory) _ _ c.requires.ready.fits c.in-Err-Memory.ensures.run
+    commit_adds_some _ _ _ c.args.batch (Err store_fault.Memory) _ _ c.requires.ready.fits c.in-Err-Memory.ensures.run c.in-Err-Memory.ensures.calls.most
     (c.in-Err-Memory.ensures.extends c.requires.ready.still_open)
 
 pub returns-in-Err-DiskFault-clause-adds_some : goal.returns-in-Err-DiskFault-clause-adds_some
 returns-in-Err-DiskFault-clause-adds_some g c =
-    commit_adds_some _ _ _ c.args.batch (Err store_fault.DiskFault) _ _ c.requires.ready.fits c.in-Err-DiskFault.ensures.run
+    commit_adds_some _ _ _ c.args.batch (Err store_fault.DiskFault) _ _ c.requires.ready.fits c.in-Err-DiskFault.ensures.run c.in-Err-DiskFault.ensures.calls.most
     (c.in-Err-DiskFault.ensures.extends c.requires.ready.still_open)
 
 pub returns-in-Err-Full-clause-adds_some : goal.returns-in-Err-Full-clause-adds_some
 returns-in-Err-Full-clause-adds_some g c =
-    commit_adds_some _ _ _ c.args.batch (Err store_fault.Full) _ _ c.requires.ready.fits c.in-Err-Full.ensures.run
+    commit_adds_some _ _ _ c.args.batch (Err store_fault.Full) _ _ c.requires.ready.fits c.in-Err-Full.ensures.run c.in-Err-Full.ensures.calls.most
     (c.in-Err-Full.ensures.extends c.requires.ready.still_open)
 
 pub returns-in-Ok-clause-run : goal.returns-in-Ok-clause-run
@@ -72,7 +72,8 @@ returns-in-Err-Full-clause-run g c =
 
 pub returns-in-Err-Full-clause-full : goal.returns-in-Err-Full-clause-full
 returns-in-Err-Full-clause-full g c = λ is.
-    over_limit _ _ _ c.args.batch _ _ c.in-Err-Full.ensures.run (rw c.in-Err-Full.field-0-is at c.in-Err-Full.ensures.answer)
+    let unasked = rw c.in-Err-Full.field-0-is at c.in-Err-Full.ensures.unasked in
+    over_limit _ _ _ c.args.batch _ _ c.in-Err-Full.ensures.run (unasked_most g.H.Disk.tells 0 _ _ unasked) (rw c.in-Err-Full.field-0-is at c.in-Err-Full.ensures.answer)
     (c.in-Err-Full.ensures.extends c.requires.ready.still_open)
 
 pub returns-in-Err-Full-clause-as_before : goal.returns-in-Err-Full-clause-as_before

@@ -5,6 +5,7 @@ use Rattle.sync_node.proofs.CauseLaws.{link_kept, link_none, link_then}
 use Rattle.sync_node.proofs.WorkLaws.{goes_read}
 use Rattle.sync_node.proofs.CourseTurns.{sends_full}
 use Rattle.sync_node.proofs.StopLaws.{stops_then}
+use Rattle.sync_node.proofs.CourseLaws.{quiet_most}
 use Rattle.sync_node.proofs.turning.send_now.Goals as goal
 
 pub returns-then-not-may_send-clause-able : goal.returns-then-not-may_send-clause-able
@@ -49,13 +50,13 @@ pub returns-clause-course : goal.returns-clause-course
 returns-clause-course g c =
     let may = c.may_send.ensures.0 c.if-not-may_send.false in
     if_ok_then c.send_all.result _ _
-    (λ made sent. sends_read _ _ _ _ _ _ _ may c.now-now.ensures.links c.now-now.ensures.call.same_files _ _ _ made sent) (c.send_all.ensures.course may)
+    (λ made sent. sends_read _ _ _ _ _ _ _ may c.now-now.ensures.links c.now-now.ensures.call.same_files (quiet_most _ _ _ c.now-now.ensures.call) _ _ _ made sent) (c.send_all.ensures.course may)
 
 pub returns-clause-halts : goal.returns-clause-halts
 returns-clause-halts g c =
     let may = c.may_send.ensures.0 c.if-not-may_send.false in
     on_err_then c.send_all.result _ _
-    (sends_stop _ _ _ _ _ _ _ may c.now-now.ensures.links c.now-now.ensures.call.same_files _ _) (c.send_all.ensures.stops may)
+    (sends_stop _ _ _ _ _ _ _ may c.now-now.ensures.links c.now-now.ensures.call.same_files (quiet_most _ _ _ c.now-now.ensures.call) _ _) (c.send_all.ensures.stops may)
 
 pub returns-then-not-may_send-clause-run : goal.returns-then-not-may_send-clause-run
 returns-then-not-may_send-clause-run g c = link_none _ _ _
@@ -67,7 +68,7 @@ returns-clause-run g c =
 pub returns-clause-full : goal.returns-clause-full
 returns-clause-full g c = λ is.
     let may = c.may_send.ensures.0 c.if-not-may_send.false in
-    sends_full _ _ _ _ _ _ _ may c.now-now.ensures.links c.now-now.ensures.call.same_files _ _ (c.send_all.ensures.full may is)
+    sends_full _ _ _ _ _ _ _ may c.now-now.ensures.links c.now-now.ensures.call.same_files (quiet_most _ _ _ c.now-now.ensures.call) _ _ (c.send_all.ensures.full may is)
 
 pub returns-clause-sent : goal.returns-clause-sent
 returns-clause-sent g c = λ is.

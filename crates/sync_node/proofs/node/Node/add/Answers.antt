@@ -1,6 +1,6 @@
 use Rattle.std.proofs.Common.{refl, ap}
 use Rattle.sync_node.specs.Node.{NodeValue}
-use Rattle.sync_node.proofs.AddLaws.{add_attached, add_may, node_adds, node_allowed, node_fits, node_limit}
+use Rattle.sync_node.proofs.AddLaws.{add_attached, add_may, node_adds, node_allowed, node_fits, node_limit, node_within}
 use Rattle.sync_node.proofs.NodeLaws.{true≢false, fault_answers, is_closed_node, is_node, node_may, stays_closed}
 use Rattle.sync_node.proofs.SafeLaws.{goes_none}
 use Rattle.std.proofs.Common.{Err, subst}
@@ -128,3 +128,15 @@ returns-in-Ok-clause-first g c = ap (λ (n : NodeValue). n.first) c.self.view_is
 
 pub returns-in-Err-clause-first : goal.returns-in-Err-clause-first
 returns-in-Err-clause-first g c = ap (λ (n : NodeValue). n.first) c.self.view_is
+
+pub returns-then-self-clause-within : goal.returns-then-self-clause-within
+returns-then-self-clause-within g c =
+    λ opened. absurd (let yes = ap (λ (n : NodeValue). n.closed) c.self.view_is in let is = c.if-self.true in cc)
+
+pub returns-in-Ok-clause-within : goal.returns-in-Ok-clause-within
+returns-in-Ok-clause-within g c = λ opened.
+    node_within _ c.self.inside.store c.self.inside.first c.self.inside.links.items c.self.inside.closed _ c.args.batch _ _ c.self.view_is c.in-Ok.ensures.within
+
+pub returns-in-Err-clause-within : goal.returns-in-Err-clause-within
+returns-in-Err-clause-within g c = λ opened.
+    node_within _ c.self.inside.store c.self.inside.first c.self.inside.links.items c.self.inside.closed _ c.args.batch _ _ c.self.view_is c.in-Err.ensures.within

@@ -65,7 +65,7 @@ returns-in_ok-test_done-in-Ok-clause-adds c =
 
 pub returns-in_ok-fail-in-Err-clause-adds : goal.returns-in_ok-fail-in-Err-clause-adds
 returns-in_ok-fail-in-Err-clause-adds c =
-    adds_crashed c.args.entry c.in_ok-batch.batch c.in-Some.node c.add.new.self c.self.inside.host c.add.new.host c.self.inside.links _ c.args.self.now c.fail.new.self c.self.view_is c.in_ok-batch.ensures (c.add.ensures.leads (running_of c.self.inside.node c.in-Some.node c.self.inside.host c.self.inside.links c.in-Some.is c.self.invariant.0).unclosed) (running_of c.self.inside.node c.in-Some.node c.self.inside.host c.self.inside.links c.in-Some.is c.self.invariant.0) refl c.add.ensures.run.calls c.in_ok-fail-in-Err.ensures.to c.fail.ensures.clock
+    adds_crashed c.args.entry c.in_ok-batch.batch c.in-Some.node c.add.new.self c.self.inside.host c.add.new.host c.self.inside.links _ c.args.self.now c.fail.new.self c.self.view_is c.in_ok-batch.ensures (c.add.ensures.leads (running_of c.self.inside.node c.in-Some.node c.self.inside.host c.self.inside.links c.in-Some.is c.self.invariant.0).unclosed) (running_of c.self.inside.node c.in-Some.node c.self.inside.host c.self.inside.links c.in-Some.is c.self.invariant.0) refl c.add.ensures.run.calls c.in_ok-fail-in-Err.ensures.to c.fail.ensures.clock c.in-Some.is (c.add.ensures.within (running_of c.self.inside.node c.in-Some.node c.self.inside.host c.self.inside.links c.in-Some.is c.self.invariant.0).unclosed)
 
 pub returns-in_err-fail-in-Err-clause-adds : goal.returns-in_err-fail-in-Err-clause-adds
 returns-in_err-fail-in-Err-clause-adds c =
