@@ -5,7 +5,7 @@ mod need;
 
 use crate::need::need_of;
 use arguments::words;
-use client_basic::Bundle;
+use client_sharing::SharingBundle;
 use commands::{WordsFault, read_words};
 use outside::{Sink, Source};
 use outside_real::{EarlySource, FileHost, Need, StdSink, hold_standard_numbers};
@@ -53,7 +53,7 @@ fn main(rt: HostRuntime) -> ExitCode {
         &mut input,
         &mut out,
         &mut err,
-        &Bundle::new(),
+        &SharingBundle::new(),
     )
     .exit_code()
 }

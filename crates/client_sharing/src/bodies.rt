@@ -153,7 +153,7 @@ fn previous(alloc: Global, id: MessageId) -> Result<DepList, AllocError>
 /// The judgement of a body in a `sharing` group: one that says nothing, or speaks of a group whose
 /// client has the name `sharing`, is refused, and any other depends on the previous message, if
 /// there is one. It fails only for want of memory.
-pub fn judge_saying(alloc: Global, body: &[u8]) -> Result<Judgement, AllocError>
+pub(crate) fn judge_saying(alloc: Global, body: &[u8]) -> Result<Judgement, AllocError>
     ensures { IfOk result (λ a. a ≡ saying_verdict (saying_of body.now)) }
 {
     let Some(saying) = read_saying(alloc, body)? else {

@@ -77,6 +77,26 @@ asks_tree =
     word_then (number_in MAX_WALK) (λ from.
     word_then (number_in MAX_WALK) (λ count. ends (command.Tree group from count))))
 
+-- whether one joins a group or leaves it
+abbrev pub stance_in : List ℕ → Option Bool
+stance_in word =
+    if bytes_eq word (codes "join") then Some true
+    else if bytes_eq word (codes "leave") then Some false
+    else None
+
+-- the group of which one says that one joins or leaves it: a client's name, a major version and a descriptor
+abbrev pub asks_saying : (group : List ℕ) (timestamp : ℕ) (join : Bool) → Rest
+asks_saying group timestamp join =
+    word_then name_in (λ name. word_then (number_in MAX_MAJOR) (λ major. word_then descriptor_in (λ descriptor.
+    ends (command.Say group timestamp join name major descriptor))))
+
+-- the group in which it is said, a time, a stance, and what it is said of
+abbrev pub asks_say : Rest
+asks_say =
+    word_then id_in (λ group.
+    word_then (number_in MAX_TIMESTAMP) (λ timestamp.
+    word_then stance_in (λ join. asks_saying group timestamp join)))
+
 -- whether one of the links is over the standard input and output
 abbrev pub has_std : List LinkWords → Bool
 has_std links = list_any (λ (link : LinkWords). is_std link.spec) links
@@ -127,6 +147,7 @@ asks_of word =
     else if bytes_eq word (codes "post") then asks_post
     else if bytes_eq word (codes "body") then asks_body
     else if bytes_eq word (codes "tree") then asks_tree
+    else if bytes_eq word (codes "say") then asks_say
     else if bytes_eq word (codes "sync") then asks_sync
     else ends_or_usage (plain_in word)
 
@@ -162,6 +183,8 @@ abbrev pub IsWithin : Command → Type 0
 IsWithin (command.Try name descriptor) = IsName name × IsDescriptor descriptor
 IsWithin (command.Group name major descriptor) = IsName name × IsDescriptor descriptor
 IsWithin (command.Post group timestamp) = timestamp ≤ MAX_TIMESTAMP
+IsWithin (command.Say group timestamp join name major descriptor) =
+    (timestamp ≤ MAX_TIMESTAMP) × IsName name × IsDescriptor descriptor
 IsWithin (command.Sync turns quiet links) = IsCount turns × IsCount quiet × AreLinks links
 IsWithin _ = Unit {0}
 

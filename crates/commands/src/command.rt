@@ -32,6 +32,9 @@ pub enum Command {
     /// `tree GROUP FROM COUNT`: prints so many messages of the walk of a group's replies, from a
     /// place on.
     Tree(GroupId, u32, u32),
+    /// `say GROUP TIMESTAMP STANCE NAME MAJOR DESCRIPTOR`: says in a sharing group that its author
+    /// joins the group of this client, major version and descriptor, or leaves it.
+    Say(GroupId, u64, bool, Word, u32, Word),
     /// `sync TURNS QUIET` and the words of each link: runs sessions over the links, at most so many
     /// turns, and until so many turns in a row were still.
     Sync(u32, u32, LinkList),
@@ -55,6 +58,7 @@ impl Command {
             | Command::Group(_, _, _)
             | Command::Share(_, _, _)
             | Command::Post(_, _)
+            | Command::Say(_, _, _, _, _, _)
             | Command::Sync(_, _, _) => true,
             Command::Try(_, _)
             | Command::Records

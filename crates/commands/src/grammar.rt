@@ -1,16 +1,19 @@
 //! What the words of a command line ask for.
-ghost use Rattle.std.specs.Prelude.{◌≡◌, drop, IfOk, IfSome};
+ghost use Rattle.std.specs.Prelude.{◌≡◌, ◌≤◌, drop, IfOk, IfSome};
 ghost use Rattle.commands.specs.Reading.{asks, asks_of, asks_try, asks_group, asks_share};
-ghost use Rattle.commands.specs.Reading.{asks_post, asks_body, asks_sync, asks_tree, ends};
+ghost use Rattle.commands.specs.Reading.{asks_post, asks_body, asks_say, asks_saying, asks_sync};
+ghost use Rattle.commands.specs.Reading.{asks_tree, ends};
 ghost use Rattle.commands.specs.Reading.{IsReadAs, IsWithin, plain_in};
 ghost use Rattle.sync_words.specs.Words.{texts};
 
 use crate::command::Command;
 use crate::fault::WordsFault;
 use crate::links::read_links;
-use crate::words::{descriptor_at, id_at, is_left_at, level_at, name_at, number_at, positive_at};
+use crate::words::{
+    descriptor_at, id_at, is_left_at, level_at, name_at, number_at, positive_at, stance_at,
+};
 use std::alloc::Global;
-use sync_ids::MAX_TIMESTAMP;
+use sync_ids::{GroupId, MAX_TIMESTAMP};
 use sync_rules::MAX_CONTACTS;
 
 /// The greatest number of a contact.
@@ -51,6 +54,7 @@ fn read_command(alloc: Global, word: &str, words: &[String]) -> Result<Command, 
         "post" => read_post(words),
         "body" => read_body(words),
         "tree" => read_tree(words),
+        "say" => read_say(alloc, words),
         "sync" => read_sync(alloc, words),
         word => match plain(word) {
             Some(command) => read_end(words, 1, command),
@@ -139,6 +143,36 @@ fn read_tree(words: &[String]) -> Result<Command, WordsFault>
     let from = number_at(words, 2, MAX_WALK)?;
     let count = number_at(words, 3, MAX_WALK)?;
     read_end(words, 4, Command::Tree(group, from as u32, count as u32))
+}
+
+fn read_say(alloc: Global, words: &[String]) -> Result<Command, WordsFault>
+    ensures read { IsReadAs (asks_say 1 (drop 1 (texts words.now))) result }
+    ensures within { IfOk result IsWithin }
+{
+    let group = id_at(words, 1)?;
+    let timestamp = number_at(words, 2, MAX_TIMESTAMP)?;
+    let join = stance_at(words, 3)?;
+    read_saying(alloc, words, group, timestamp, join)
+}
+
+// Reads the definition of the group that is joined or left.
+fn read_saying(
+    alloc: Global,
+    words: &[String],
+    group: GroupId,
+    timestamp: u64,
+    join: bool,
+) -> Result<Command, WordsFault>
+    requires { timestamp ≤ MAX_TIMESTAMP }
+    ensures read { IsReadAs (asks_saying group timestamp join 4 (drop 4 (texts words.now)))
+        result }
+    ensures within { IfOk result IsWithin }
+{
+    let name = name_at(alloc, words, 4)?;
+    let major = number_at(words, 5, MAX_MAJOR)?;
+    let descriptor = descriptor_at(alloc, words, 6)?;
+    let asked = Command::Say(group, timestamp, join, name, major as u32, descriptor);
+    read_end(words, 7, asked)
 }
 
 fn read_sync(alloc: Global, words: &[String]) -> Result<Command, WordsFault>

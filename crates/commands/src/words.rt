@@ -1,6 +1,7 @@
 // The words of a command line, one by one.
 ghost use Rattle.std.specs.Prelude.{◌≡◌, ◌+◌, ◌≤◌, ◌∷◌, [], drop, IfOk, IfErr, MatchOption};
 ghost use Rattle.commands.specs.Reading.{is_left, IsDescriptor, IsName, Reads, Stops};
+ghost use Rattle.commands.specs.Reading.{stance_in};
 ghost use Rattle.sync_words.specs.Words.{name_in, descriptor_in, number_in, positive_in, id_in};
 ghost use Rattle.sync_words.specs.Words.{level_in, mode_in, spec_in, texts};
 
@@ -108,6 +109,28 @@ pub fn mode_at(words: &[String], place: usize) -> Result<Mode, WordsFault>
     match word_at(words, place) {
         Some(word) => mode(word).ok_or(WordsFault::Usage(place)),
         None => Err(WordsFault::Usage(place)),
+    }
+}
+
+/// Reads the word at this place as a stance: whether it is to join.
+pub fn stance_at(words: &[String], place: usize) -> Result<bool, WordsFault>
+    ensures ok { IfOk result (Reads stance_in (texts words.now) place) }
+    ensures err { IfErr result (Stops stance_in (texts words.now) place) }
+{
+    match word_at(words, place) {
+        Some(word) => stance(word).ok_or(WordsFault::Usage(place)),
+        None => Err(WordsFault::Usage(place)),
+    }
+}
+
+// The stance that a word names: `join` or `leave`.
+fn stance(word: &str) -> Option<bool>
+    ensures { result ≡ stance_in word.now }
+{
+    match word {
+        "join" => Some(true),
+        "leave" => Some(false),
+        _ => None,
     }
 }
 

@@ -39,9 +39,10 @@ use Rattle.store_commands.specs.Show.{HasLooked}
 use Rattle.store_commands.specs.Shown.{Showing, body_shown, denies, listing_shown, shows}
 use Rattle.tree_commands.specs.Trees.{tree_shown}
 use Rattle.sync_node.specs.Courses.{ReadsAs}
+use Rattle.sharing_commands.specs.Sayings.{say_plan}
 use Rattle.sync_top.specs.declared.input.TheConstants.{MAX_INPUT}
 use Rattle.sync_top.specs.Complete.{BytesDecide, ComesOut, Complete, HasRoom, MayAdd, MayPost, MayShow, NothingFails, Serves, status_at, status_by}
-use Rattle.sync_top.specs.Run.{Comes, ComesOfStore, ReadsStream, ReadsWhole, Reports, Streams, TriesClient, outcome_of}
+use Rattle.sync_top.specs.Run.{Comes, ComesOfStore, ReadsStream, ReadsWhole, Reports, Streams, TriesClient, outcome_of, speech_of}
 use Rattle.sync_top.proofs.CompleteRuns.{run_comes_out}
 
 -- ---- the bytes decide
@@ -244,6 +245,10 @@ command_comes_out clients (command.Tree group from count) old new input input' o
     (λ did. looked_done clients old new input input' out out' fails
     (tree_shown clients (record { group = group; from = from; count = count }))
     came did.0 serves) comes
+command_comes_out clients (command.Say group timestamp join name major descriptor) old new input input' out out' came comes serves fails =
+    let plan = say_plan clients (speech_of group timestamp join name major descriptor) in
+    store_done clients old new input input' out out' fails (λ (o : Outcome). HasAdded clients plan settling.BeforeAndAfter old new out out' o × IsIdle input input') came
+    (λ did. added_done clients old new input input' out out' fails plan settling.BeforeAndAfter came did.0 serves) comes
 command_comes_out clients (command.Sync turns quiet links) old new input input' out out' came comes serves fails =
     elim comes [
       | inl did ↦ run_comes_out clients (record { turns = turns; quiet = quiet }) links old new fails.disk fails.links came did.0 serves

@@ -43,4 +43,5 @@ module _ {H : Type 0} (tells : H → Outside) (clients : Meaning) (h h' : H) (in
   only_looks (Do (command.Group name major descriptor)) comes keeps = λ reads. absurd (let e : true ≡ false = reads in cc)
   only_looks (Do (command.Share contact group level)) comes keeps = λ reads. absurd (let e : true ≡ false = reads in cc)
   only_looks (Do (command.Post group timestamp)) comes keeps = λ reads. absurd (let e : true ≡ false = reads in cc)
+  only_looks (Do (command.Say group timestamp join name major descriptor)) comes keeps = λ reads. absurd (let e : true ≡ false = reads in cc)
   only_looks (Do (command.Sync turns quiet links)) comes keeps = λ reads. absurd (let e : true ≡ false = reads in cc)

@@ -1,5 +1,5 @@
 -- Where `try` wrote its whole text, it told the state of each message; and what words come to that could not be obeyed.
-use Rattle.std.proofs.Common.{◌≡◌, ℕ, List, refl, sym, ap, ◌∙◌, subst, inl, inr, Option, Some, None, Result, Ok, Err}
+use Rattle.std.proofs.Common.{◌≡◌, ℕ, Bool, List, refl, sym, ap, ◌∙◌, subst, inl, inr, Option, Some, None, Result, Ok, Err}
 use Rattle.std.specs.Prelude.{IsErrAnd}
 use Rattle.std.specs.Io.KnownBytes.{Appends}
 use Rattle.std.proofs.lemmas.List.{take_all}
@@ -15,6 +15,7 @@ use Rattle.sync_ids.specs.Ids.{group_id_of}
 use Rattle.sync_ids.specs.Values.{GroupValue}
 use Rattle.sync_ids.specs.declared.records.Record.{Record}
 use Rattle.sync_rules.specs.Clients.{Meaning}
+use Rattle.sync_rules.specs.Facts.{Id}
 use Rattle.sync_rules.specs.Steps.{kind_of_def}
 use Rattle.sync_words.specs.declared.outcome.Outcome.{Outcome}
 use Rattle.sync_words.specs.declared.outcome.Outcome.TheVariants as outcome
@@ -30,6 +31,7 @@ use Rattle.commands.specs.declared.fault.WordsFault.TheVariants as fault
 use Rattle.store_commands.specs.declared.commit.Settling.TheVariants as settling
 use Rattle.store_commands.specs.Entries.{HasAdded}
 use Rattle.store_commands.specs.Plans.{group_plan}
+use Rattle.sharing_commands.specs.Sayings.{say_plan}
 use Rattle.sync_top.specs.declared.input.TheConstants.{MAX_INPUT}
 use Rattle.sync_top.specs.Run.{AsksSync, Comes, DoesNothing, KeepsHost, Reports, ReadsStream, ReadsWhole, Streams, TriesClient}
 use Rattle.sync_top.specs.States.{TellsStates, TellsGroup, TellsWhole}
@@ -126,17 +128,32 @@ keeps_host (Do _) host = tt
 
 -- ---- a group
 
+-- the definition that the words give
+def_is : (name descriptor given rest : List ℕ) (major : ℕ) (def : GroupValue) → given ≡ name → rest ≡ descriptor → def ≡ record { name = given; major = major; descriptor = rest }
+    → def ≡ record { name = name; major = major; descriptor = descriptor }
+def_is name descriptor given rest major def first second made =
+    let with_name : List ℕ → GroupValue = λ x. record { name = x; major = major; descriptor = rest } in
+    let with_descriptor : List ℕ → GroupValue = λ x. record { name = name; major = major; descriptor = x } in
+    made ∙ ap with_name first ∙ ap with_descriptor second
+
 -- a group was added, of the definition that the words give
 pub group_comes : (clients : Meaning) (asked : Command) (name descriptor given rest : List ℕ) (major : ℕ) (def : GroupValue) (old new : Outside) (input input' out out' : Stream) (came : Outcome)
     → asked ≡ command.Group name major descriptor → given ≡ name → rest ≡ descriptor → def ≡ record { name = given; major = major; descriptor = rest }
     → HasAdded clients (λ f. group_plan clients f def) settling.Before old new out out' came → IsIdle input input' → Comes clients (Do asked) old new input input' out out' came
 group_comes clients asked name descriptor given rest major def old new input input' out out' came is first second made added idle =
-    let words : def ≡ record { name = name; major = major; descriptor = descriptor } =
-    let with_name : List ℕ → GroupValue = λ x. record { name = x; major = major; descriptor = rest } in
-    let with_descriptor : List ℕ → GroupValue = λ x. record { name = name; major = major; descriptor = x } in
-    made ∙ ap with_name first ∙ ap with_descriptor second in
+    let words : def ≡ record { name = name; major = major; descriptor = descriptor } = def_is name descriptor given rest major def first second made in
     subst (λ (a : Command). Comes clients (Do a) old new input input' out out' came) (sym is)
     (inl (subst (λ (d : GroupValue). HasAdded clients (λ f. group_plan clients f d) settling.Before old new out out' came) words added, idle))
+
+-- what the words say was said
+pub say_comes : (clients : Meaning) (asked : Command) (group : Id) (timestamp : ℕ) (join : Bool) (name descriptor given rest : List ℕ) (major : ℕ) (def : GroupValue) (old new : Outside) (input input' out out' : Stream) (came : Outcome)
+    → asked ≡ command.Say group timestamp join name major descriptor → given ≡ name → rest ≡ descriptor → def ≡ record { name = given; major = major; descriptor = rest }
+    → HasAdded clients (say_plan clients (record { group = group; timestamp = timestamp; join = join; def = def })) settling.BeforeAndAfter old new out out' came → IsIdle input input'
+    → Comes clients (Do asked) old new input input' out out' came
+say_comes clients asked group timestamp join name descriptor given rest major def old new input input' out out' came is first second made added idle =
+    let words : def ≡ record { name = name; major = major; descriptor = descriptor } = def_is name descriptor given rest major def first second made in
+    subst (λ (a : Command). Comes clients (Do a) old new input input' out out' came) (sym is)
+    (inl (subst (λ (d : GroupValue). HasAdded clients (say_plan clients (record { group = group; timestamp = timestamp; join = join; def = d })) settling.BeforeAndAfter old new out out' came) words added, idle))
 
 -- ---- answers of commands
 

@@ -27,7 +27,8 @@ use Rattle.store_commands.specs.Post.{HasPosted, PostsBody, StopsShort}
 use Rattle.store_commands.specs.Show.{HasLooked}
 use Rattle.store_commands.specs.Shown.{Showing, body_shown, listing_shown}
 use Rattle.tree_commands.specs.Trees.{tree_shown}
-use Rattle.sync_top.specs.Run.{Comes, ComesOfStore, Covered, KeepsHost}
+use Rattle.sharing_commands.specs.Sayings.{say_plan}
+use Rattle.sync_top.specs.Run.{Comes, ComesOfStore, Covered, KeepsHost, speech_of}
 use Rattle.sync_top.specs.Undamaged.{NeverDamaged, RunUndamaged, StandsForSome, Undamaged}
 use Rattle.outside.specs.Runs.{Told}
 use Rattle.sync_run.specs.Headline.{Headline, RunsOn}
@@ -150,4 +151,8 @@ module _ {H : Type 0} (tells : H → Outside) (clients : Meaning) (h h' : H) (in
       (tells h') out out' o × IsIdle input input') input
       input' out out' came (λ did. of_looked clients (tells h) (tells h') _ out out' came did.0)
       comes
+  undamaged (Do (command.Say group timestamp join name major descriptor)) comes keeps covered =
+      of_store clients (tells h) (tells h')
+      (λ o. HasAdded clients (say_plan clients (speech_of group timestamp join name major descriptor)) settling.BeforeAndAfter (tells h) (tells h') out out' o × IsIdle input input')
+      input input' out out' came (λ did. of_added clients (tells h) (tells h') _ _ out out' came did.0) comes
   undamaged (Do (command.Sync turns quiet links)) comes keeps covered = of_run clients (tells h) (tells h') links covered

@@ -41,6 +41,8 @@ use Rattle.store_commands.specs.Shown.{Showing, body_shown, listing_shown, shows
 use Rattle.sync_run.specs.declared.run.Limits.{Limits}
 use Rattle.sync_run.specs.Courses.{RanToEnd, WasBroken, is_unknown, terms_of}
 use Rattle.tree_commands.specs.Trees.{tree_shown}
+use Rattle.sharing_commands.specs.Sayings.{say_plan}
+use Rattle.sync_top.specs.Run.{speech_of}
 use Rattle.sync_top.specs.declared.input.TheConstants.{MAX_INPUT}
 
 -- ---- nothing stands in the way
@@ -105,6 +107,8 @@ Serves clients (command.Body id) old new input input' = MayShow clients (body_sh
 Serves clients (command.Tree group from count) old new input input' =
     MayShow clients (tree_shown clients (record { group = group; from = from; count = count }))
     old.files
+Serves clients (command.Say group timestamp join name major descriptor) old new input input' =
+    MayAdd clients (say_plan clients (speech_of group timestamp join name major descriptor)) old.files
 Serves clients (command.Sync turns quiet links) old new input input' = MaySync clients (record { turns = turns; quiet = quiet }) links old new
 
 -- ---- what it then comes to

@@ -1,5 +1,5 @@
 -- What a run of a command reads and writes, and what it comes to.
-use Rattle.std.specs.Prelude.{◌≡◌, ℕ, ◌+◌, ◌≤◌, ◌⊎◌, List, Option, None, Some, length, take}
+use Rattle.std.specs.Prelude.{◌≡◌, ℕ, ◌+◌, ◌≤◌, ◌⊎◌, Bool, List, Option, None, Some, length, take}
 use Rattle.std.specs.Io.KnownBytes.{Consumes, Appends, IsAtEnd}
 use Rattle.outside.specs.Faults.{Rose}
 use Rattle.outside.specs.Files.{Two, File, read_files}
@@ -32,6 +32,8 @@ use Rattle.sync_words.specs.declared.outcome.Outcome.TheVariants as outcome
 use Rattle.sync_words.specs.Outcomes.{status_of, text_of}
 use Rattle.outside.specs.Streams.{Stream, IsIdle, GetsFront, Gets}
 use Rattle.tree_commands.specs.Trees.{tree_shown}
+use Rattle.sharing_commands.specs.declared.saying.Speech.{Speech}
+use Rattle.sharing_commands.specs.Sayings.{say_plan}
 use Rattle.sync_top.specs.RecordText.{items_text}
 use Rattle.commands.specs.Reading.{Asked}
 use Rattle.commands.specs.Reading.Asked.{Usage, Do}
@@ -120,6 +122,15 @@ abbrev pub ComesOfStore : (Outcome → Type 0) → (old new : Outside) → (inpu
 ComesOfStore did old new input input' out out' came =
     did came ⊎ ((came ≡ outcome.Memory) × DoesNothing old new input input' out out')
 
+-- what the words of `say` say
+abbrev pub speech_of : (group : List ℕ) (timestamp : ℕ) (join : Bool) (name : List ℕ) (major : ℕ) (descriptor : List ℕ) → Speech
+speech_of group timestamp join name major descriptor = record {
+  group = group;
+  timestamp = timestamp;
+  join = join;
+  def = record { name = name; major = major; descriptor = descriptor };
+}
+
 -- what the words ask for, and what it comes to
 abbrev pub Comes : Meaning → Asked → (old new : Outside) → (input input' out out' : Stream) → Outcome → Type 0
 Comes clients (Usage place) old new input input' out out' came = Faulty place input input' out out' came
@@ -147,6 +158,8 @@ Comes clients (Do (command.Tree group from count)) old new input input' out out'
     (tree_shown clients (record { group = group; from = from; count = count })) old new out out'
     did × IsIdle input input') old new input input'
     out out' came
+Comes clients (Do (command.Say group timestamp join name major descriptor)) old new input input' out out' came =
+    ComesOfStore (λ did. HasAdded clients (say_plan clients (speech_of group timestamp join name major descriptor)) settling.BeforeAndAfter old new out out' did × IsIdle input input') old new input input' out out' came
 Comes clients (Do (command.Sync turns quiet links)) old new input input' out out' came =
     ComesOfStore (λ did. HasRun clients (record { turns = turns; quiet = quiet }) links old new did × Untouched input input' out out') old new input input' out out' came
 

@@ -18,6 +18,7 @@ use journal_play::play_says;
 use outside::{Host, Sink, Source, write_text};
 use std::alloc::Global;
 use std::hash::RandomState;
+use sharing_commands::{Speech, say};
 use store_commands::{
     Listing, add_contact, add_group, list, make_store, post_message, set_level, write_body,
 };
@@ -163,6 +164,16 @@ fn obey<H: Host, S: Source, W: Sink, C: Clients>(
         Command::Tree(group, from, count) => {
             let window = Window { group, from, count };
             print_tree(alloc, hasher, &window, host, out, clients)
+        }
+        Command::Say(group, timestamp, join, name, major, descriptor) => {
+            let def = group_of(alloc, name.as_str(), major, descriptor.as_str())?;
+            let speech = Speech {
+                group,
+                timestamp,
+                join,
+                def,
+            };
+            say(alloc, hasher, speech, host, out, clients)
         }
         Command::Sync(_, _, _) => unreachable!(),
     }

@@ -11,7 +11,7 @@ use sync_ids::{
 };
 use sync_rules::{Fate, Level, Mode, Origin, Refused};
 use sync_words::{
-    LinkWords, Outcome, Status, bad_record_line, contact_line, contacts_line, damaged_line,
+    LinkWords, Outcome, Status, Word, bad_record_line, contact_line, contacts_line, damaged_line,
     device_line, group_line, inbox_line, inside_line, known_group_line, level_line, link_line,
     plain_line, posted_line, ready_line, record_line, refused_line, script_line, sessions_line,
     skipped_line, state_line, try_line, usage_line,
@@ -123,6 +123,34 @@ fn show_tree(
     add(rt, to, &parts);
 }
 
+fn show_say(
+    rt: &impl Abort,
+    alloc: Global,
+    group: &GroupId,
+    timestamp: u64,
+    join: bool,
+    to: &mut String,
+) {
+    let group = hex(rt, alloc, group);
+    let timestamp = decimal(rt, alloc, timestamp);
+    let stance = if join { "join" } else { "leave" };
+    let parts = ["say ", group.as_str(), "+", timestamp.as_str(), "+", stance];
+    add(rt, to, &parts);
+}
+
+fn show_def(
+    rt: &impl Abort,
+    alloc: Global,
+    name: &Word,
+    major: u32,
+    descriptor: &Word,
+    to: &mut String,
+) {
+    let major = decimal(rt, alloc, u64::from(major));
+    let (name, descriptor) = (name.as_str(), descriptor.as_str());
+    add(rt, to, &[name, "+", major.as_str(), "+", descriptor]);
+}
+
 // The command with its parts.
 fn show(rt: &impl Abort, alloc: Global, command: &Command, to: &mut String) {
     match command {
@@ -133,13 +161,8 @@ fn show(rt: &impl Abort, alloc: Global, command: &Command, to: &mut String) {
         Command::Init => add(rt, to, &["init"]),
         Command::Contact => add(rt, to, &["contact"]),
         Command::Group(name, major, descriptor) => {
-            let (name, descriptor) = (name.as_str(), descriptor.as_str());
-            let major = decimal(rt, alloc, u64::from(*major));
-            add(
-                rt,
-                to,
-                &["group ", name, "+", major.as_str(), "+", descriptor],
-            );
+            add(rt, to, &["group "]);
+            show_def(rt, alloc, name, *major, descriptor, to);
         }
         Command::Share(contact, group, level) => {
             show_share(rt, alloc, *contact, group, *level, to);
@@ -149,6 +172,11 @@ fn show(rt: &impl Abort, alloc: Global, command: &Command, to: &mut String) {
         Command::Inbox => add(rt, to, &["inbox"]),
         Command::Body(id) => add(rt, to, &["body ", hex(rt, alloc, id).as_str()]),
         Command::Tree(group, from, count) => show_tree(rt, alloc, group, *from, *count, to),
+        Command::Say(group, timestamp, join, name, major, descriptor) => {
+            show_say(rt, alloc, group, *timestamp, *join, to);
+            add(rt, to, &["+"]);
+            show_def(rt, alloc, name, *major, descriptor, to);
+        }
         Command::Sync(turns, quiet, links) => {
             show_sync(rt, alloc, *turns, *quiet, to);
             for link in links.as_slice() {
@@ -207,7 +235,13 @@ const FRONT: &str = "tree 76ff4980d3b5f63962cee45401b6b1bb92efe989c27de4629aac92
 const END: &str =
     "tree 76ff4980d3b5f63962cee45401b6b1bb92efe989c27de4629aac92b18163e6e0+4294967295+4294967295";
 
-static COMMANDS: [(&[&str], &str); 69] = [
+const JOINS: &str =
+    "say 76ff4980d3b5f63962cee45401b6b1bb92efe989c27de4629aac92b18163e6e0+0+join+note+0+d";
+
+const LEAVES: &str =
+    "say 76ff4980d3b5f63962cee45401b6b1bb92efe989c27de4629aac92b18163e6e0+9223372036854775807+leave+n+4294967295+";
+
+static COMMANDS: [(&[&str], &str); 88] = [
     (&[], "usage 0"),
     (&[""], "usage 0"),
     (&["Try", "note", "d"], "usage 0"),
@@ -277,6 +311,53 @@ static COMMANDS: [(&[&str], &str); 69] = [
     (&["tree", GROUP, "0"], "usage 3"),
     (&["tree", GROUP, "0", "4294967296"], "usage 3"),
     (&["tree", GROUP, "0", "10", "x"], "usage 4"),
+    (&["say", GROUP, "0", "join", "note", "0", "d"], JOINS),
+    (
+        &[
+            "say",
+            UPPER,
+            "9223372036854775807",
+            "leave",
+            "n",
+            "4294967295",
+            "",
+        ],
+        LEAVES,
+    ),
+    (&["say"], "usage 1"),
+    (&["say", "x", "0", "join", "note", "0", "d"], "usage 1"),
+    (&["say", GROUP], "usage 2"),
+    (
+        &[
+            "say",
+            GROUP,
+            "9223372036854775808",
+            "join",
+            "note",
+            "0",
+            "d",
+        ],
+        "usage 2",
+    ),
+    (&["say", GROUP, "00", "join", "note", "0", "d"], "usage 2"),
+    (&["say", GROUP, "0"], "usage 3"),
+    (&["say", GROUP, "0", "Join", "note", "0", "d"], "usage 3"),
+    (&["say", GROUP, "0", "", "note", "0", "d"], "usage 3"),
+    (&["say", GROUP, "0", "leaves", "note", "0", "d"], "usage 3"),
+    (&["say", GROUP, "0", "join"], "usage 4"),
+    (&["say", GROUP, "0", "join", "", "0", "d"], "usage 4"),
+    (&["say", GROUP, "0", "join", "note"], "usage 5"),
+    (
+        &["say", GROUP, "0", "join", "note", "4294967296", "d"],
+        "usage 5",
+    ),
+    (&["say", GROUP, "0", "join", "note", "-1", "d"], "usage 5"),
+    (&["say", GROUP, "0", "join", "note", "0"], "usage 6"),
+    (
+        &["say", GROUP, "0", "join", "note", "0", "d", ""],
+        "usage 7",
+    ),
+    (&["say", GROUP, "0", "x", "", "x", "d", "d"], "usage 3"),
 ];
 
 #[test]

@@ -2,7 +2,7 @@ use Rattle.std.proofs.Common.{◌≡◌, Err, drop, sym, ◌∙◌, subst, rules
 use Rattle.commands.specs.declared.command.Command.TheVariants as command
 use Rattle.commands.specs.Reading.{Asked, word_then, ends, asks_tree, IsReadAs}
 use Rattle.sync_words.specs.Words.{texts}
-use Rattle.sync_words.specs.Words.{id_in, number_in}
+use Rattle.sync_words.specs.Words.{number_in}
 use Rattle.commands.proofs.PlaceLemmas.{stopped}
 use Rattle.commands.proofs.grammar.read_tree.Goals as goal
 

@@ -2,7 +2,7 @@ use Rattle.std.proofs.Common.{refl, inl}
 use Rattle.commands.specs.Reading.Asked.{Do}
 use Rattle.commands.specs.declared.command.Command.TheVariants as command
 use Rattle.sync_words.specs.declared.outcome.Outcome.TheVariants as outcome
-use Rattle.sync_top.proofs.StateLemmas.{as_command, comes_on, group_comes, memory_comes}
+use Rattle.sync_top.proofs.StateLemmas.{as_command, comes_on, group_comes, memory_comes, say_comes}
 use Rattle.sync_top.proofs.program.obey.Goals as goal
 
 pub returns-in-Init-clause-comes : goal.returns-in-Init-clause-comes
@@ -50,4 +50,16 @@ pub returns-in_err-def-in-Group-clause-comes : goal.returns-in_err-def-in-Group-
 returns-in_err-def-in-Group-clause-comes g c =
     let clients = g.C.Clients.meaning c.args.clients.now in
     comes_on c.from_residual.result outcome.Memory c.from_residual.ensures.1 clients (Do c.args.asked) _ _ _ _ _ _
+    (memory_comes clients (Do c.args.asked) _ _ _ _ _ (record { same = refl; same_faults = refl }) (record { same = refl; same_faults = refl }))
+
+pub returns-in_ok-def-in-Say-clause-comes : goal.returns-in_ok-def-in-Say-clause-comes
+returns-in_ok-def-in-Say-clause-comes g c =
+    say_comes (g.C.Clients.meaning c.args.clients.now) c.args.asked c.in-Say.group c.in-Say.timestamp c.in-Say.join c.in-Say.name c.in-Say.descriptor c.as_str-in-Say.result.now c.as_str-in-Say-2.result.now
+    c.in-Say.major c.in_ok-def-in-Say.def _ _ _ _ _ _ _ c.in-Say.is c.as_str-in-Say.ensures c.as_str-in-Say-2.ensures c.in_ok-def-in-Say.ensures c.say.ensures
+    (record { same = refl; same_faults = refl })
+
+pub returns-in_err-def-in-Say-clause-comes : goal.returns-in_err-def-in-Say-clause-comes
+returns-in_err-def-in-Say-clause-comes g c =
+    let clients = g.C.Clients.meaning c.args.clients.now in
+    comes_on c.from_residual-in_err-def-in-Say.result outcome.Memory c.from_residual-in_err-def-in-Say.ensures.1 clients (Do c.args.asked) _ _ _ _ _ _
     (memory_comes clients (Do c.args.asked) _ _ _ _ _ (record { same = refl; same_faults = refl }) (record { same = refl; same_faults = refl }))

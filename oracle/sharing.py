@@ -1,0 +1,149 @@
+"""The two people who agree on the groups that they share, played plainly by docs/PROTOCOL.md and docs/FORMATS.md, and the tables
+of the commands `say` and `agree` in crates/test_commands.
+
+    sharing.py > crates/test_commands/src/sharing_rows.rt
+
+Nothing here is shared with the program.
+"""
+import struct
+
+from digests import group_id, message_id
+from node_model import DELIVER, INVISIBLE, SHARED, VISIBLE, Held, Node, judge_note, judge_thread, message
+
+LEVELS = ['invisible', 'visible', 'shared']
+STANCES = {'join': 1, 'leave': 2}
+MOST_GROUPS = 1_024
+
+
+def spelled(name, major, descriptor):
+    """A definition, as it stands in a journal and in a body."""
+    return bytes([len(name)]) + name + struct.pack('>IH', major, len(descriptor)) + descriptor
+
+
+def read_definition(data):
+    """The definition that is spelled by all of the bytes, or None."""
+    if not data or len(data) < 7 + data[0]:
+        return None
+    name, rest = data[1:1 + data[0]], data[1 + data[0]:]
+    (major, size), descriptor = struct.unpack_from('>IH', rest), rest[6:]
+    try:
+        name.decode()
+    except UnicodeDecodeError:
+        return None
+    return (name, major, descriptor) if name and size == len(descriptor) <= 16_384 else None
+
+
+def read_saying(body):
+    """What a body says: whether it is to join, the previous id, and the definition; or None."""
+    if len(body) < 33 or body[0] not in STANCES.values():
+        return None
+    definition = read_definition(body[33:])
+    return definition and (body[0] == 1, body[1:33], definition)
+
+
+def judge_sharing(_, body):
+    said = read_saying(body)
+    if said is None or said[2][0] == b'sharing':
+        return None
+    return ((said[1],) if any(said[1]) else ()), False
+
+
+class Person(Node):
+    """A node with the client of `sharing` groups, whose commands print lines."""
+
+    def __init__(self):
+        super().__init__({b'note': judge_note, b'thread': judge_thread, b'sharing': judge_sharing})
+        self.definitions, self.origins, self.order = {}, {}, []
+
+    def make_step(self):
+        step = super().make_step()
+        if step and step[0] == DELIVER:
+            self.order.append(step[1:])
+        return step
+
+    def take_message(self, link, peer, payload):
+        made = super().take_message(link, peer, payload)
+        self.origins.setdefault(message_id(payload[:32], *struct.unpack('>Q', payload[32:40]), payload[40:]), link.contact)
+        return made
+
+    def knows(self, definition):
+        return group_id(*definition) in self.groups
+
+    def add(self, name, major, descriptor):
+        group = group_id(name, major, descriptor)
+        self.batches.append(b'\2' + spelled(name, major, descriptor))
+        self.groups[group] = self.clients[name]
+        self.definitions[group] = (name, major, descriptor)
+        return group
+
+    def said(self, group, time, stance, name, major, descriptor):
+        """`say`: the body, and the id of its message."""
+        own = [id for id in self.order if self.held[id].is_own and self.held[id].group == group]
+        body = bytes([STANCES[stance]]) + (own[-1] if own else bytes(32)) + spelled(name, major, descriptor)
+        self.post(group, time, body)
+        return body, message_id(group, time, body)
+
+    def words_with(self, contact, group):
+        for id in self.order:
+            held = self.held[id]
+            said = read_saying(held.body)
+            if held.group == group and said and (held.is_own or self.origins[id] == contact):
+                yield held.is_own, said[0], said[2]
+
+    def targets(self, contact, group):
+        """The definitions in the order of their first naming, each with its level."""
+        stances = {}
+        for own, join, definition in self.words_with(contact, group):
+            stances.setdefault(definition, {})[own] = join
+        for definition, by in stances.items():
+            own, other = by.get(True, False), by.get(False, False)
+            yield definition, (SHARED if other else VISIBLE) if own else INVISIBLE
+
+    def agree(self, contact, group):
+        """`agree`: what it prints."""
+        lines = []
+        for definition, level in list(self.targets(contact, group)):
+            id = group_id(*definition)
+            if not self.knows(definition):
+                if level == INVISIBLE:
+                    continue
+                if definition[0] not in self.clients or definition[1] or len(self.groups) >= MOST_GROUPS:
+                    lines.append(f'skipped {id.hex()}\n')
+                    continue
+                self.add(*definition)
+            if self.peers[contact].levels.get(id, INVISIBLE) != level:
+                self.share(contact, id, level)
+            lines.append(f'level {contact} {id.hex()} {LEVELS[level]}\n')
+        return ''.join(lines)
+
+
+class Scene:
+    """Steps over one store: the payloads before, and for each step its words, what it prints and the payloads that it adds."""
+
+    def __init__(self, person):
+        self.person, self.before, self.steps = person, len(person.batches), []
+
+    def begun(self):
+        return [batch.hex() for batch in self.person.batches[:self.before]]
+
+    def step(self, words, done):
+        """A step that does this, which says what it prints."""
+        place = len(self.person.batches)
+        text = done(self.person)
+        self.steps.append((words, text, [batch.hex() for batch in self.person.batches[place:]]))
+
+    def say(self, group, time, stance, name, major, descriptor):
+        words = f'say {group.hex()} {time} {stance} {name.decode()} {major} {descriptor.decode()}'
+        self.step(words, lambda it: f'posted {it.said(group, time, stance, name, major, descriptor)[1].hex()}\n')
+
+    def agree(self, contact, group):
+        self.step(f'agree {contact} {group.hex()}', lambda it: it.agree(contact, group))
+
+
+def hears(person, link, group, time, body):
+    """A message of the peer is taken, and the journal settled."""
+    person.take(person.links[link], 1, message(group, time, body)[4:])
+
+
+def saying(stance, name, major, descriptor, previous=bytes(32)):
+    return bytes([STANCES[stance]]) + previous + spelled(name, major, descriptor)
