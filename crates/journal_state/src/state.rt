@@ -86,7 +86,7 @@ impl State {
 
     /// Shows the prover what holds of every state: its held messages stand under their own ids,
     /// which are distinct, are fewer than 2^32 and of known groups, its groups have distinct ids,
-    /// and what is delivered is judged. It does nothing.
+    /// and only what is judged is delivered. It does nothing.
     pub fn show_sound(&self)
         ensures { IsSound self.now }
     {
