@@ -6,7 +6,7 @@ ghost use Rattle.sync_rules.specs.declared.entries.Entry.TheVariants as kind;
 
 use crate::messages::{Entries, Plan};
 use crate::stop::Stop;
-use entry_codec::{batch_len, write_batch};
+use entry_codec::{Format, NoNames, batch_len, write_batch};
 use outside::MemDisk;
 use std::alloc::{AllocError, Global};
 use sync_ids::MessageId;
@@ -41,10 +41,10 @@ fn add_header(alloc: Global, file: &mut Vec<u8>) -> Result<(), Stop> {
 fn add_frame(file: &mut Vec<u8>, batch: &Batch) -> Result<(), AllocError>
     requires { AllByRecursion HasLatency batch.now }
 {
-    let len = batch_len(batch).min(u32::MAX as usize) as u32;
+    let len = batch_len(Format::Whole, batch).min(u32::MAX as usize) as u32;
     file.push(1)?;
     file.extend_from_slice(&len.to_be_bytes())?;
-    write_batch(batch, file)
+    write_batch(Format::Whole, &NoNames, batch, file)
 }
 
 /// The steps by which a message is settled at once.
@@ -89,7 +89,7 @@ fn add_settled(alloc: Global, file: &mut Vec<u8>, entry: Entry) -> Result<(), Al
     }
 }
 
-/// The file of the settled journal of a plan.
+/// The file of the settled journal of a plan, in format 1.
 pub(crate) fn make_file(alloc: Global, plan: Plan) -> Result<Vec<u8>, Stop> {
     let entries = Entries::new(alloc, plan)?;
     let mut file = make_room(alloc, &plan)?;

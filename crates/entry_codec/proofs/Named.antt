@@ -13,6 +13,10 @@ all_free : (batch : List Entry) → AllByRecursion (EntryNames (λ id. Unit {0})
 all_free [] = tt
 all_free (e ∷ es) = (entry_free e, all_free es)
 
+-- the first format asks for none
+pub named_whole : (names : List (List ℕ)) (batch : List Entry) → AllByRecursion (EntryNames (IsNamed kind.Whole names)) batch
+named_whole names batch = all_free batch
+
 pub named_in : (format : Format) (names : List (List ℕ)) (batch : List Entry) → AllByRecursion (EntryNames (λ id. is_among names id ≡ true)) batch
     → AllByRecursion (EntryNames (IsNamed format names)) batch
 named_in kind.Whole names batch held = all_free batch

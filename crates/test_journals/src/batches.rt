@@ -1,14 +1,14 @@
 // Payloads that were written by hand.
 
 use crate::checks::{made, same};
-use entry_codec::{batch_len, read_batch, write_batch};
+use entry_codec::{Format, NoNames, batch_len, read_batch, write_batch};
 use std::alloc::Global;
 use std::process::Abort;
 use sync_rules::{Batch, Entry};
 
 // How many entries the bytes are read as; none where they are no batch.
 fn count_in(rt: &impl Abort, alloc: Global, bytes: &[u8]) -> usize {
-    match made(rt, read_batch(alloc, bytes)) {
+    match made(rt, read_batch(alloc, Format::Whole, &NoNames, bytes)) {
         Some(batch) => batch.entries().len(),
         None => 0,
     }
@@ -36,8 +36,8 @@ fn a_batch_is_written(rt: HostRuntime) {
     let alloc = rt.alloc();
     let entries = made(&rt, vec![in alloc; Entry::Contact(0), Entry::Contact(7)]);
     let batch = made(&rt, Batch::new(entries));
-    same(&rt, &batch_len(&batch), &4);
+    same(&rt, &batch_len(Format::Whole, &batch), &4);
     let mut written = Vec::new(alloc);
-    made(&rt, write_batch(&batch, &mut written));
+    made(&rt, write_batch(Format::Whole, &NoNames, &batch, &mut written));
     same(&rt, &written.as_slice(), &b"\x01\x00\x01\x07".as_slice());
 }

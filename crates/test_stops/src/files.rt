@@ -1,6 +1,6 @@
 //! Files that are written by hand, and what their frames say.
 
-use entry_codec::read_batch;
+use entry_codec::{Format, NoNames, read_batch};
 use outside::MemDisk;
 use std::alloc::{AllocError, Global};
 use sync_ids::MessageId;
@@ -76,7 +76,7 @@ pub(crate) fn read_frames(alloc: Global, file: &[u8]) -> Result<Frames, AllocErr
 
 impl Frames {
     fn read(&mut self, alloc: Global, payload: &[u8]) -> Result<(), AllocError> {
-        match read_batch(alloc, payload)? {
+        match read_batch(alloc, Format::Whole, &NoNames, payload)? {
             Some(batch) => self.add(batch.entries()),
             None => self.sizes.push(0).map_err(AllocError::from),
         }

@@ -1,7 +1,7 @@
 //! The batches of a journal's file, frame by frame.
 
 use anyhow::{Context, Result};
-use entry_codec::read_batch;
+use entry_codec::{Format, NoNames, read_batch};
 use std::alloc::Global;
 use sync_rules::Batch;
 use test_device::Payloads;
@@ -15,7 +15,8 @@ pub(crate) fn behind<T>(items: &[T], from: usize) -> &[T] {
 pub(crate) fn read_batches(alloc: Global, bytes: &[u8]) -> Result<Vec<Batch>> {
     let mut batches = Vec::new(alloc);
     for payload in Payloads::of(bytes) {
-        batches.push(read_batch(alloc, payload)?.context("a batch in its frame")?)?;
+        let found = read_batch(alloc, Format::Whole, &NoNames, payload)?;
+        batches.push(found.context("a batch in its frame")?)?;
     }
     Ok(batches)
 }

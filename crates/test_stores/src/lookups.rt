@@ -4,7 +4,7 @@ use crate::compare::Plain;
 use crate::finding::{Lookup, Test};
 use crate::listed::number;
 use anyhow::Result;
-use entry_codec::batch_len;
+use entry_codec::{Format, batch_len};
 use sync_ids::{GroupDef, GroupId, Message, MessageId, group_id};
 use sync_rules::{Batch, Fate, Level, Mode, Origin, View};
 use sync_store::Store;
@@ -45,7 +45,7 @@ fn end_of(batches: &[Batch]) -> u64 {
     for batch in batches {
         end = end
             .saturating_add(5)
-            .saturating_add(batch_len(batch) as u64);
+            .saturating_add(batch_len(Format::Whole, batch) as u64);
     }
     end
 }
