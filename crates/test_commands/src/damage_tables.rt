@@ -43,10 +43,11 @@ pub(crate) static INVERTED: [(usize, Found); 22] = [
 ];
 
 // The same with this value there.
-pub(crate) static CHANGED: [(usize, u8, Found); 11] = [
+pub(crate) static CHANGED: [(usize, u8, Found); 12] = [
     (0, 0, Found::NoStore),
     (5, 0, Found::Damaged(0, 5)),
-    (5, 2, Found::Damaged(0, 5)),
+    (5, 2, Found::Contacts(1)),
+    (5, 3, Found::Damaged(0, 5)),
     (14, 0, Found::Contacts(0)),
     (18, 0, Found::Damaged(0, 14)),
     (18, 1, Found::Damaged(0, 14)),
@@ -85,7 +86,7 @@ pub(crate) static CUT: [(usize, Found); 23] = [
 ];
 
 // Two files, and what they are found to be.
-pub(crate) static PAIRS: [(&str, &str, Found); 20] = [
+pub(crate) static PAIRS: [(&str, &str, Found); 22] = [
     (
         "014253504a0100000000000000010100000002010000",
         "014253504a01000000000000000200",
@@ -154,18 +155,28 @@ pub(crate) static PAIRS: [(&str, &str, Found); 20] = [
     ),
     (
         "014253504a01000000000000000100",
-        "014253504a02000000000000000200",
+        "014253504a03000000000000000200",
         Found::Damaged(1, 5),
     ),
     (
-        "014253504a02000000000000000200",
+        "014253504a03000000000000000200",
         "014253504a01000000000000000100",
         Found::Damaged(0, 5),
     ),
     (
-        "014253504a02000000000000000100",
+        "014253504a03000000000000000100",
         "014253504a01000000000000000200",
         Found::Contacts(0),
+    ),
+    (
+        "014253504a020000000000000001010000000201000100000002010100",
+        "",
+        Found::Contacts(2),
+    ),
+    (
+        "014253504a010000000000000001010000000201000100000002010100",
+        "014253504a0200000000000000020100000002010000",
+        Found::Contacts(1),
     ),
     (
         "23212f62696e2f73680a",

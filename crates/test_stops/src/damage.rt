@@ -23,7 +23,7 @@ const SHUT: (usize, u8) = (0, 0);
 const BAD: (usize, u8) = (19, 0x63);
 
 /// What is changed of file 0, and what file 1 has. The label names what is not as it was.
-static PAIRS: [Pair; 17] = [
+static PAIRS: [Pair; 19] = [
     ("byte 19 is 63", 1, BAD, (1, 0), 0),
     ("byte 20 is 05", 1, (20, 0x05), (1, 0), 0),
     ("generations 1 and 0", 1, SAME, (1, 0), 15),
@@ -95,6 +95,14 @@ static PAIRS: [Pair; 17] = [
         13,
     ),
     ("file 0 closed, file 1 of generation 0", 1, SHUT, (1, 0), 15),
+    ("file 0 of format 2", 1, (5, 2), (1, 0), 0),
+    (
+        "file 1 of format 2, generations 1 and 2",
+        1,
+        SAME,
+        (2, 2),
+        15,
+    ),
 ];
 
 /// Loads each damaged file, and prints what each load answers.

@@ -18,6 +18,12 @@ pub(crate) static GROUP: [u8; 40] = [
     4, b'n', b'o', b't', b'e', 0, 0, 0, 0, 0, 1, b'd', 0,
 ];
 
+/// The same in format 2, where no entry names a message.
+pub(crate) static SHORT_GROUP: [u8; 40] = [
+    1, b'B', b'S', b'P', b'J', 2, 0, 0, 0, 0, 0, 0, 0, 1, 1, 0, 0, 0, 2, 1, 0, 1, 0, 0, 0, 13, 2,
+    4, b'n', b'o', b't', b'e', 0, 0, 0, 0, 0, 1, b'd', 0,
+];
+
 /// A disk with these two files.
 pub(crate) fn disk_with(alloc: Global, file0: &[u8], file1: &[u8]) -> Result<MemDisk, AllocError> {
     let first = Vec::from_slice(alloc, file0)?;

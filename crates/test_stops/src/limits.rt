@@ -1,15 +1,36 @@
 //! A limit that leaves room for a message and its settling, and one that lacks a byte.
 use crate::compare::{WHOLE, compare, say};
-use crate::files::{GROUP, disk_with};
+use crate::files::{GROUP, SHORT_GROUP, disk_with};
 use crate::posting::{LOAD_CALLS, Node, note_batch};
 use anyhow::Result;
 use client_basic::Bundle;
+use outside::MAX_JOURNAL;
 use std::alloc::{AllocError, Global};
 use sync_store::StoreFault;
 use test_device::{AddFault, Device, Payloads};
 
-/// The end, the frame of 44 bytes, and twice 38 bytes for its settling come to 165.
-const ENOUGH: u64 = 40 + 5 + 44 + 76;
+/// A format, and the length that is enough for a message in its file.
+#[derive(Clone, Copy)]
+struct Case {
+    format: u8,
+    enough: u64,
+}
+
+/// The end, the frame of 44 bytes, and twice 38 bytes for its settling come to 165; in format 2
+/// twice 10, so these come to 109.
+static CASES: [Case; 2] = [
+    Case {
+        format: 1,
+        enough: 40 + 5 + 44 + 76,
+    },
+    Case {
+        format: 2,
+        enough: 40 + 5 + 44 + 20,
+    },
+];
+
+/// The steps of the one message, as format 2 writes them: each names it by its number, 0.
+static SHORT_STEPS: [u8; 10] = [8, 0, 0, 0, 0, 9, 0, 0, 0, 0];
 
 /// A store's end and room.
 #[derive(Clone, Copy)]
@@ -18,22 +39,35 @@ struct Sizes {
     room: u64,
 }
 
-/// Posts a message in the store of the file `GROUP` with either limit.
+/// The file of a case.
+fn file_of(case: &Case) -> &'static [u8; 40] {
+    if case.format == 2 {
+        &SHORT_GROUP
+    } else {
+        &GROUP
+    }
+}
+
+/// Posts a message in the store of each file with either limit.
 pub(crate) fn fill(rt: &impl Print, alloc: Global) -> Result<()> {
-    refuse(rt, alloc)?;
-    accept(rt, alloc)
+    for case in &CASES {
+        refuse(rt, alloc, case)?;
+        accept(rt, alloc, case)?;
+    }
+    Ok(())
 }
 
 /// The store within this limit, and what it answers to the message.
 fn post_within(
     rt: &impl Print,
     alloc: Global,
+    case: &Case,
     limit: u64,
     want: Result<(), AddFault>,
 ) -> Result<Node> {
     let batch = note_batch(alloc, 0)?;
-    let disk = disk_with(alloc, &GROUP, &[])?;
-    let mut node = Device::load(alloc, disk, Bundle::new(), limit.min(ENOUGH))?;
+    let disk = disk_with(alloc, file_of(case), &[])?;
+    let mut node = Device::load(alloc, disk, Bundle::new(), limit.min(MAX_JOURNAL))?;
     compare(rt, "post within a limit", WHOLE, &node.add(batch), &want);
     Ok(node)
 }
@@ -45,18 +79,20 @@ fn sizes_of(node: &Node) -> Sizes {
     }
 }
 
-fn print_sizes(rt: &impl Print, limit: u64, what: &str, sizes: Sizes) -> Result<()> {
+fn print_sizes(rt: &impl Print, case: &Case, limit: u64, what: &str, sizes: Sizes) -> Result<()> {
     let Sizes { end, room } = sizes;
+    let format = case.format;
     say(
         rt,
-        &format_args!("limit {limit}: {what}, end {end}, room {room}"),
+        &format_args!("format {format}, limit {limit}: {what}, end {end}, room {room}"),
     )
 }
 
 /// A store that is full made no call of the disk, and is not closed.
-fn refuse(rt: &impl Print, alloc: Global) -> Result<()> {
+fn refuse(rt: &impl Print, alloc: Global, case: &Case) -> Result<()> {
     let full = Err(AddFault::Store(StoreFault::Full));
-    let node = post_within(rt, alloc, ENOUGH - 1, full)?;
+    let limit = case.enough.saturating_sub(1);
+    let node = post_within(rt, alloc, case, limit, full)?;
     let sizes = sizes_of(&node);
     compare(
         rt,
@@ -78,13 +114,13 @@ fn refuse(rt: &impl Print, alloc: Global) -> Result<()> {
         "the file of a full store",
         WHOLE,
         &disk.file(0),
-        &GROUP.as_slice(),
+        &file_of(case).as_slice(),
     );
-    print_sizes(rt, ENOUGH - 1, "full", sizes)
+    print_sizes(rt, case, limit, "full", sizes)
 }
 
-fn accept(rt: &impl Print, alloc: Global) -> Result<()> {
-    let mut node = post_within(rt, alloc, ENOUGH, Ok(()))?;
+fn accept(rt: &impl Print, alloc: Global, case: &Case) -> Result<()> {
+    let mut node = post_within(rt, alloc, case, case.enough, Ok(()))?;
     let accepted = sizes_of(&node);
     compare(
         rt,
@@ -94,8 +130,14 @@ fn accept(rt: &impl Print, alloc: Global) -> Result<()> {
         &Ok(()),
     );
     let settled = sizes_of(&node);
-    let frames = frames_behind(alloc, node.into_disk().file(0))?;
-    print_sizes(rt, ENOUGH, "accepted", accepted)?;
+    let disk = node.into_disk();
+    if case.format == 2 {
+        let steps = Payloads::of(disk.file(0)).nth(3);
+        let want = Some(SHORT_STEPS.as_slice());
+        compare(rt, "the steps of format 2", WHOLE, &steps, &want);
+    }
+    let frames = frames_behind(alloc, disk.file(0))?;
+    print_sizes(rt, case, case.enough, "accepted", accepted)?;
     print_settled(rt, frames.as_slice(), settled)
 }
 
