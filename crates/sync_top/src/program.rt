@@ -16,9 +16,9 @@ use crate::streams::{group_of, list_records, try_group};
 use commands::{Command, read_words};
 use journal_play::play_says;
 use outside::{Host, Sink, Source, write_text};
+use sharing_commands::{Speech, say};
 use std::alloc::Global;
 use std::hash::RandomState;
-use sharing_commands::{Speech, say};
 use store_commands::{
     Listing, add_contact, add_group, list, make_store, post_message, set_level, write_body,
 };
