@@ -147,3 +147,100 @@ def hears(person, link, group, time, body):
 
 def saying(stance, name, major, descriptor, previous=bytes(32)):
     return bytes([STANCES[stance]]) + previous + spelled(name, major, descriptor)
+
+
+# ---- the tables
+
+def beginning(*definitions, contacts=1):
+    """A store with contacts and groups, and the ids of the groups."""
+    person = Person()
+    for _ in range(contacts):
+        person.add_contact()
+    return person, [person.add(*definition) for definition in definitions]
+
+
+SHARING, OTHER, NOTE, THREAD = (b'sharing', 0, b's'), (b'sharing', 0, b'o'), (b'note', 0, b'd'), (b'thread', 0, b'')
+
+
+def says():
+    """Joins and leaves in two groups of one store: the previous message is the last own one of the group."""
+    person, (group, other) = beginning(SHARING, OTHER)
+    scene = Scene(person)
+    scene.say(group, 0, 'join', *NOTE)
+    scene.say(group, 0, 'join', *NOTE)
+    scene.say(other, 7, 'leave', b'chat', 4_294_967_295, b'')
+    scene.say(group, 9_223_372_036_854_775_807, 'leave', *NOTE)
+    scene.say(other, 7, 'join', 'né'.encode(), 0, 'dé'.encode())
+    return scene
+
+
+def says_behind():
+    """The last message that was delivered came from a contact, and the last own one of the group stands before it."""
+    person, (group, note) = beginning(SHARING, NOTE)
+    person.share(0, group, VISIBLE)
+    person.said(group, 1, 'join', *NOTE)
+    person.attach(0, 1)
+    hears(person, 0, group, 2, saying('join', *NOTE))
+    person.post(note, 3, b'x')
+    scene = Scene(person)
+    scene.say(group, 4, 'leave', *NOTE)
+    return scene
+
+
+def says_open():
+    """The last own message is not delivered yet, so that the one before it is the previous one; it is delivered first."""
+    person, (group,) = beginning(SHARING)
+    person.said(group, 1, 'join', *NOTE)
+    settles, person.settle = person.settle, lambda: None
+    person.said(group, 2, 'leave', *NOTE)
+    before = len(person.batches)
+    own = [id for id in person.order]
+    person.settle = settles
+    scene = Scene(person)
+    assert scene.before == before
+
+    def done(it):
+        body = saying('join', *THREAD, previous=own[-1])
+        it.settle()
+        it.post(group, 3, body)
+        return f'posted {message_id(group, 3, body).hex()}\n'
+
+    scene.step(f'say {group.hex()} 3 join thread 0 ', done)
+    return scene
+
+
+def rust(text):
+    return text.replace('\\', '\\\\').replace('"', '\\"').replace('\n', '\\n')
+
+
+def step_rows(name, scene):
+    yield f'pub(crate) static {name}: [Step; {len(scene.steps)}] = ['
+    for words, text, adds in scene.steps:
+        yield '    Step {'
+        yield f'        words: "{rust(words)}",'
+        yield '        input: b"",'
+        yield f'        out: b"{rust(text)}",'
+        yield f'        adds: "{" ".join(adds)}",'
+        yield '    },'
+    yield '];'
+    yield ''
+
+
+def text_rows(name, text):
+    yield f'pub(crate) const {name}: &str ='
+    yield f'    "{rust(text)}";'
+    yield ''
+
+
+def table():
+    yield '//! The rows of `say`, by oracle/sharing.py.'
+    yield ''
+    yield 'use crate::steps::Step;'
+    yield ''
+    for name, scene in [('SAYS', says()), ('SAYS_BEHIND', says_behind()), ('SAYS_OPEN', says_open())]:
+        yield from text_rows(f'BEFORE_{name}', ' '.join(scene.begun()))
+        yield from step_rows(name, scene)
+
+
+if __name__ == '__main__':
+    print('\n'.join(table()).rstrip())

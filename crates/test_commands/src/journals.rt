@@ -39,3 +39,10 @@ pub(crate) const INVALID: &str =
 
 /// Contact 0 and the group `feed`, major 0, descriptor `é`.
 pub(crate) const FEED: &str = "0100 020466656564000000000002c3a9";
+
+/// Contact 0 and the group `sharing`, major 0, descriptor `s`.
+pub(crate) const SHARING: &str = "0100 020773686172696e6700000000000173";
+
+/// The same, in which it was said at time 0 that the note group is joined, which is not judged yet.
+pub(crate) const SPOKEN: &str =
+    "0100 020773686172696e6700000000000173 06311b53daff4768334b6081be48ccce56b213b586c99ad602adb2b8706a6171940000000000000000002d010000000000000000000000000000000000000000000000000000000000000000046e6f746500000000000164";

@@ -15,6 +15,8 @@ mod records;
 mod refusals;
 mod scenes;
 mod session;
+mod sharing;
+mod sharing_rows;
 mod slow;
 mod steps;
 mod stops;
@@ -42,9 +44,10 @@ enum Table {
     Loads,
     Streams,
     Trees,
+    Sharing,
 }
 
-static TABLES: [(&str, Table); 11] = [
+static TABLES: [(&str, Table); 12] = [
     ("session", Table::Session),
     ("stored", Table::Stored),
     ("refusals", Table::Refusals),
@@ -56,6 +59,7 @@ static TABLES: [(&str, Table); 11] = [
     ("refusals behind a load", Table::Loads),
     ("streams", Table::Streams),
     ("trees", Table::Trees),
+    ("sharing", Table::Sharing),
 ];
 
 fn main(rt: HostRuntime) -> Result<()> {
@@ -80,5 +84,6 @@ fn play_table(table: Table, tally: &mut Tally) -> Result<()> {
         Table::Loads => refusals::play_loads(tally),
         Table::Streams => streams::play_all(tally),
         Table::Trees => trees::play_all(tally),
+        Table::Sharing => sharing::play_all(tally),
     }
 }

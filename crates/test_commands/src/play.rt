@@ -4,7 +4,7 @@ ghost use Rattle.outside.specs.MemHost.{links_of};
 
 use crate::slow::{SlowSink, SlowSource, part_of};
 use anyhow::Result;
-use client_basic::Bundle;
+use client_sharing::SharingBundle;
 use outside::{MemDisk, MemHost, MemRandom, MemSink, MemSource};
 use std::alloc::{AllocError, Global};
 use std::hash::RandomState;
@@ -108,7 +108,7 @@ impl Came {
 
 /// Runs the command on this disk.
 pub(crate) fn play(alloc: Global, order: &Order<'_>, disk: MemDisk) -> Result<Came> {
-    play_for(alloc, order, disk, &Bundle::new())
+    play_for(alloc, order, disk, &SharingBundle::new())
 }
 
 /// Runs the command on this disk, for these clients.

@@ -2,7 +2,7 @@
 
 use crate::journal::journal_of;
 use crate::journals::{
-    BOTH, EMPTY, FEED, FRESH, HELD, INVALID, NOTE, ONE, PENDING, THREAD, UNKNOWN,
+    BOTH, EMPTY, FEED, FRESH, HELD, INVALID, NOTE, ONE, PENDING, SHARING, SPOKEN, THREAD, UNKNOWN,
 };
 use crate::play::{Failing, Order, play};
 use crate::tally::{Tally, expect};
@@ -103,7 +103,7 @@ fn unread(words: &str) -> Order<'_> {
     }
 }
 
-static OF_A_STORE: [&str; 9] = [
+static OF_A_STORE: [&str; 10] = [
     "contact",
     "group note 0 d",
     "group chat 0 d",
@@ -113,13 +113,14 @@ static OF_A_STORE: [&str; 9] = [
     "inbox",
     "body 3443418c0382800e42ae01fb9d676b7b25405d2875809cf8d6808f04741c96a4",
     "tree 76ff4980d3b5f63962cee45401b6b1bb92efe989c27de4629aac92b18163e6e0 0 10",
+    "say 76ff4980d3b5f63962cee45401b6b1bb92efe989c27de4629aac92b18163e6e0 0 join note 0 d",
 ];
 
 static BEGUN: [&str; 4] = [EMPTY, ONE, HELD, "00"];
 
 const UNREAD: &str = "post 76ff4980d3b5f63962cee45401b6b1bb92efe989c27de4629aac92b18163e6e0 0";
 
-static REFUSALS: [Refusal; 34] = [
+static REFUSALS: [Refusal; 40] = [
     Refusal {
         before: ONE,
         words: "group chat 0 d",
@@ -323,5 +324,41 @@ static REFUSALS: [Refusal; 34] = [
         words: "tree c1af82673999b1a2e9fa43bb9059dffe0c9aae24bcb4e2d70ebeaa554b9a5736 0 0",
         input: b"",
         line: "unknown group",
+    },
+    Refusal {
+        before: NOTE,
+        words: "say 311b53daff4768334b6081be48ccce56b213b586c99ad602adb2b8706a617194 0 join note 0 d",
+        input: b"",
+        line: "unknown group",
+    },
+    Refusal {
+        before: NOTE,
+        words: "say 76ff4980d3b5f63962cee45401b6b1bb92efe989c27de4629aac92b18163e6e0 0 join note 0 d",
+        input: b"",
+        line: "not a sharing group",
+    },
+    Refusal {
+        before: NOTE,
+        words: "say 76ff4980d3b5f63962cee45401b6b1bb92efe989c27de4629aac92b18163e6e0 0 leave sharing 0 s",
+        input: b"",
+        line: "not a sharing group",
+    },
+    Refusal {
+        before: SHARING,
+        words: "say 311b53daff4768334b6081be48ccce56b213b586c99ad602adb2b8706a617194 0 join sharing 0 s",
+        input: b"",
+        line: "invalid post",
+    },
+    Refusal {
+        before: SHARING,
+        words: "say 311b53daff4768334b6081be48ccce56b213b586c99ad602adb2b8706a617194 0 leave sharing 1 ",
+        input: b"",
+        line: "invalid post",
+    },
+    Refusal {
+        before: SPOKEN,
+        words: "say 311b53daff4768334b6081be48ccce56b213b586c99ad602adb2b8706a617194 0 join note 0 d",
+        input: b"",
+        line: "already held",
     },
 ];
