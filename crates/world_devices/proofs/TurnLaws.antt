@@ -27,7 +27,7 @@ use Rattle.sync_node.specs.declared.node.Plan.{Plan}
 use Rattle.sync_node.specs.declared.node.Turned.{Turned}
 use Rattle.sync_node.specs.declared.node.Turned.TheVariants as turned_kind
 use Rattle.world_devices.specs.Devices.{DeviceValue, HostGoesOn}
-use Rattle.world_devices.specs.Doing.{Attaches, BreaksOff, ComesOf, FullAtBeginning, FullInTurn, HasAttached, HasBegun, HasTurned, IsAhead, IsNotFull, OfNode, OfNodes, Turns, next_session}
+use Rattle.world_devices.specs.Doing.{Attaches, BreaksOff, ComesOf, FullAtBeginning, FullInTurn, HasAttached, HasBegun, HasTurned, IsAhead, IsNotFull, OfNodes, Turns, next_session}
 use Rattle.world_devices.specs.Refusals.{IsNotRefused, RefusedBy, refuses_link}
 use Rattle.world_devices.specs.declared.stop.StepFault.{StepFault}
 use Rattle.world_devices.specs.declared.stop.StepFault.TheVariants as fault
