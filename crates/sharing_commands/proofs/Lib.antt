@@ -1,2 +1,7 @@
 mod Own
 mod Said
+mod Spoken
+mod Fronts
+mod Targets
+mod Wholes
+mod LastLevels

@@ -1,0 +1,427 @@
+-- An agreement, from the loaded store to the text.
+use Rattle.std.proofs.Common.{◌≡◌, ◌⊎◌, ℕ, ◌<◌, ◌≤◌, true, false, List, [], ◌∷◌, ◌++◌, refl, sym, ap, ◌∙◌}
+use Rattle.std.proofs.Common.{subst, inl, inr, append_assoc, append-nil, arith, Some, None, Result, Ok, Err}
+use Rattle.outside.specs.declared.limits.TheConstants.{MAX_JOURNAL}
+use Rattle.outside.specs.Faults.{Rose}
+use Rattle.outside.specs.Files.{Two, File, read_files}
+use Rattle.outside.specs.Links.{Links, sent_of}
+use Rattle.outside.specs.Outside.{DiskRun, IsNow, MomentsAre, Outside}
+use Rattle.outside.specs.Streams.{Stream, IsIdle}
+use Rattle.outside.proofs.CallSteps.{moments_map, moments_then, run_then, told_on}
+use Rattle.sync_rules.specs.declared.entries.Entry.{Entry}
+use Rattle.sync_rules.specs.declared.states.Refused.{Refused}
+use Rattle.sync_rules.specs.Clients.{Meaning}
+use Rattle.sync_rules.specs.Facts.{Facts, Id, after_batches, facts, group_at}
+use Rattle.sync_rules.specs.Legal.{AllSettling}
+use Rattle.sync_rules.specs.Steps.{IsSettled}
+use Rattle.sync_rules.proofs.WorkLaws.{settling_goes_on}
+use Rattle.entry_codec.specs.Standing.{Standing, journal, stands}
+use Rattle.sync_store.specs.Commits.{needed}
+use Rattle.sync_store.specs.Fitting.{Fits}
+use Rattle.sync_store.specs.Moments.{IsBetween, JournalMoment}
+use Rattle.sync_store.specs.Runs.{RunsBy}
+use Rattle.sync_store.specs.Settling.{ComesBy}
+use Rattle.sync_store.specs.Store.{StoreValue}
+use Rattle.sync_store.proofs.Runs.{runs_then}
+use Rattle.sync_words.specs.declared.outcome.Outcome.{Outcome}
+use Rattle.sync_words.specs.declared.outcome.Outcome.TheVariants as outcome
+use Rattle.sync_words.specs.Outcomes.{came_to}
+use Rattle.sync_rules.specs.declared.states.Refused.TheVariants as refused
+use Rattle.std.specs.Prelude.{IsErrAnd, if◌then◌else◌, nat_lt}
+use borrow.Author.Tests.{ltb-true}
+use Rattle.store_commands.proofs.Follow.{stays}
+use Rattle.sharing_commands.specs.Sayings.{sharing_test}
+use Rattle.store_commands.specs.Commit.{ExtendsBy, SettledBy, SettlesAs, needed_by}
+use Rattle.store_commands.specs.Entries.{AddsBy, is_late}
+use Rattle.store_commands.specs.Load.{HasFacts, IsLoaded, LoadedBy, LoadKeeps, MayExtend}
+use Rattle.store_commands.specs.Show.{Keeps, PrintsText, Rests}
+use Rattle.sharing_commands.specs.Adding.{AddsFront, AddsSo, AgreedEnds, Agrees, IsFront}
+use Rattle.sharing_commands.specs.Agreeing.{AgreesEnds, AgreesMoment, AgreesOn, AreRoomy, HasAgreed, IsAgreed, IsCut}
+use Rattle.sharing_commands.specs.Agreement.{agree_test, agreed_batches, agreed_text}
+use Rattle.sharing_commands.proofs.Fronts.{weighed}
+
+-- ---- causes
+
+rose_before : (a b c : ℕ) → a ≤ b → Rose b c → Rose a c
+rose_before a b c later rose = omega arith
+
+failed_by : (o o2 : Outside) (out out' : Stream) (came : Outcome) → IsIdle out out' → ExtendsBy o o2 (Err came) → AddsBy o o2 out out' came
+failed_by o o2 out out' outcome.Full idle by = idle
+failed_by o o2 out out' outcome.DiskFault idle by = (by, idle)
+failed_by o o2 out out' outcome.Memory idle by = idle
+failed_by o o2 out out' _ idle by = absurd by
+
+failed_late : (o o2 : Outside) (came : Outcome) → ExtendsBy o o2 (Err came) → is_late came ≡ true
+failed_late o o2 outcome.Full by = refl
+failed_late o o2 outcome.DiskFault by = refl
+failed_late o o2 outcome.Memory by = refl
+failed_late o o2 _ by = absurd by
+
+caused_later : (o o1 o2 : Outside) (came : Outcome) → o.disk_faults ≤ o1.disk_faults → ExtendsBy o1 o2 (Err came) → ExtendsBy o o2 (Err came)
+caused_later o o1 o2 outcome.DiskFault later by = rose_before o.disk_faults o1.disk_faults o2.disk_faults later by
+caused_later o o1 o2 outcome.Full later by = tt
+caused_later o o1 o2 outcome.Memory later by = tt
+caused_later o o1 o2 _ later by = absurd by
+
+printed_by : (o o2 : Outside) (out out' : Stream) (text : List ℕ) (came : Outcome) → PrintsText text out out' came → AddsBy o o2 out out' came
+printed_by o o2 out out' text outcome.Done p = tt
+printed_by o o2 out out' text outcome.WriteFault p = p.0
+printed_by o o2 out out' text outcome.Memory p = p
+printed_by o o2 out out' text _ p = absurd p
+
+printed_late : (out out' : Stream) (text : List ℕ) (came : Outcome) → PrintsText text out out' came → is_late came ≡ true
+printed_late out out' text outcome.Done p = refl
+printed_late out out' text outcome.WriteFault p = refl
+printed_late out out' text outcome.Memory p = refl
+printed_late out out' text _ p = absurd p
+
+-- ---- settling
+
+settles_from : (clients : Meaning) (s : StoreValue) (two : Two File) (j more : List (List Entry)) → Fits clients s j two → AllSettling clients s.state.facts more → AllSettling clients (facts j) more
+settles_from clients s two j more fits settling = subst (λ (g : Facts). AllSettling clients g more) (sym fits.facts_are) settling
+
+runs_of : (clients : Meaning) (s s1 : StoreValue) (o o1 : Outside) (more : List (List Entry)) → ComesBy clients s s1 o o1 more → DiskRun o o1 → RunsBy clients s s1 o o1 more
+runs_of clients s s1 o o1 more comes run = record {
+  goes_on = settling_goes_on clients s.state.facts more comes.settling;
+  facts = λ still. comes.facts;
+  file = comes.file;
+  format = comes.format;
+  generation = comes.generation;
+  limit = comes.limit;
+  run = run;
+  leads = comes.leads;
+  calls = comes.calls;
+}
+
+not_settled_ends : (clients : Meaning) (contact : ℕ) (group : Id) (j : List (List Entry)) (s1 : StoreValue) (out out' : Stream) (came : Outcome) (two : Two File)
+    → SettledBy clients s1 (Err came) → AgreedEnds clients contact group j out out' came two
+not_settled_ends clients contact group j s1 out out' outcome.Memory two answer = tt
+not_settled_ends clients contact group j s1 out out' outcome.DiskFault two answer = tt
+not_settled_ends clients contact group j s1 out out' _ two answer = absurd answer
+
+-- settling that failed
+pub agrees_unsettled : (clients : Meaning) (contact : ℕ) (group : Id) (s s1 : StoreValue) (o o1 : Outside) (out out' : Stream) (came : Outcome) → IsIdle out out' → DiskRun o o1
+    → ExtendsBy o o1 (Err came) → SettlesAs clients s s1 o o1 (Err came) → Agrees clients contact group s o o1 out out' came
+agrees_unsettled clients contact group s s1 o o1 out out' came idle run by settled = record {
+  run = run;
+  by = failed_by o o1 out out' came idle by;
+  late = failed_late o o1 came by;
+  told = λ two files j fits. record {
+    moments = moments_map o o1 _ _ (λ m w. record {
+      whole = w.whole;
+      has = record { more = settled.more; adds = inl (settles_from clients s two j settled.more fits settled.comes.settling); between = w.has };
+      stands_for = w.stands_for;
+      nothing_sent = w.nothing_sent;
+    }) (settled.comes.leads two files j fits).moments;
+    ends = λ two' files'. not_settled_ends clients contact group j s1 out out' came two' settled.answer;
+  };
+}
+
+-- ---- settling, and what the targets ask for
+
+front_of : (s : StoreValue) (all front : List (List Entry)) (r : Result (Unit {0}) Outcome) → AddsSo s all front r → IsFront all front
+front_of s all front (Ok u) so = record { rest = []; parts = sym so.1 ∙ sym (append-nil front) }
+front_of s all front (Err outcome.Full) so = record { rest = so.1.next ∷ so.1.rest; parts = so.1.parts }
+front_of s all front (Err outcome.Memory) so = so
+front_of s all front (Err outcome.DiskFault) so = so
+front_of s all front (Err _) so = absurd so
+
+module _ (clients : Meaning) (contact : ℕ) (group : Id) (s s1 s2 : StoreValue) (o o1 o2 : Outside) (u : Unit {0}) (r : Result (Unit {0}) Outcome) (run : DiskRun o o1)
+    (settled : SettlesAs clients s s1 o o1 (Ok u)) (added : AddsFront clients s1 s2 o1 o2 (agreed_batches clients contact group s1.state.facts) r)
+    (two : Two File) (files : o.files ≡ Some two) (j : List (List Entry)) (fits : Fits clients s j two) where
+  first : List (List Entry)
+  first = settled.more
+
+  -- the facts of the settled journal
+  begun : s1.state.facts ≡ after_batches (facts j) settled.more
+  begun = settled.comes.facts ∙ ap (λ (g : Facts). after_batches g settled.more) (sym fits.facts_are)
+
+  abbrev all : List (List Entry)
+  all = agreed_batches clients contact group (after_batches (facts j) settled.more)
+
+  all_is : agreed_batches clients contact group s1.state.facts ≡ agreed_batches clients contact group (after_batches (facts j) settled.more)
+  all_is = ap (agreed_batches clients contact group) begun
+
+  is_settled : IsSettled clients (after_batches (facts j) settled.more)
+  is_settled = subst (IsSettled clients) begun settled.answer.1
+
+  settles : AllSettling clients (facts j) settled.more
+  settles = settles_from clients s two j settled.more fits settled.comes.settling
+
+  both : RunsBy clients s s2 o o2 (settled.more ++ added.front)
+  both = runs_then clients s s1 s2 o o1 o2 settled.more added.front settled.answer.0 (runs_of clients s s1 o o1 settled.more settled.comes run) added.runs
+
+  is_front : IsFront (agreed_batches clients contact group (after_batches (facts j) settled.more)) added.front
+  is_front = subst (λ (xs : List (List Entry)). IsFront xs added.front) all_is (front_of s2 (agreed_batches clients contact group s1.state.facts) added.front r added.answer)
+
+  between : (whole : List (List Entry)) → IsBetween j (settled.more ++ added.front) whole
+      → IsBetween j (settled.more ++ agreed_batches clients contact group (after_batches (facts j) settled.more)) whole
+  between whole b = record {
+    front = b.front;
+    rest = b.rest ++ is_front.rest;
+    parts = ap (λ (z : List (List Entry)). settled.more ++ z) is_front.parts
+        ∙ sym (append_assoc settled.more added.front is_front.rest)
+        ∙ ap (λ (z : List (List Entry)). z ++ is_front.rest) b.parts
+        ∙ append_assoc b.front b.rest is_front.rest;
+    is = b.is;
+  }
+
+  pub agreed_moments : MomentsAre o o2 (JournalMoment clients (AgreesOn clients contact group j) (sent_of o.links.told))
+  agreed_moments = moments_map o o2 _ _ (λ m w. record {
+    whole = w.whole;
+    has = record {
+      more = settled.more ++ agreed_batches clients contact group (after_batches (facts j) settled.more);
+      adds = inr (record { first = settled.more; settles = settles; settled = is_settled; is = refl });
+      between = between w.whole w.has;
+    };
+    stands_for = w.stands_for;
+    nothing_sent = w.nothing_sent;
+  }) (both.leads two files j fits).moments
+
+  -- the journal that the disk fits once it is settled
+  settled_fits : (two1 : Two File) → o1.files ≡ Some two1 → Fits clients s1 (j ++ settled.more) two1
+  settled_fits two1 files1 =
+      let at = (settled.comes.leads two files j fits).ends settled.answer.0 two1 files1 in
+      subst (λ (w : List (List Entry)). Fits clients s1 w two1) at.1 at.2
+
+  last_fits : s2.closed ≡ false → (two2 : Two File) → o2.files ≡ Some two2 → Fits clients s2 (j ++ (settled.more ++ added.front)) two2
+  last_fits still two2 files2 =
+      let at = (both.leads two files j fits).ends still two2 files2 in
+      subst (λ (w : List (List Entry)). Fits clients s2 w two2) at.1 at.2
+
+  -- there was room for what was added
+  front_roomy : s.limit ≡ MAX_JOURNAL → AreRoomy (j ++ settled.more) added.front
+  front_roomy limited =
+      let told1 = told_on o o1 two run.same_told files in
+      let fits1 = settled_fits told1.0 told1.1 in
+      added.roomy (settled.comes.limit ∙ limited) (j ++ settled.more) fits1.end_is fits1.facts_are
+
+  whole_roomy : s.limit ≡ MAX_JOURNAL → added.front ≡ agreed_batches clients contact group s1.state.facts
+      → AreRoomy (j ++ settled.more) (agreed_batches clients contact group (after_batches (facts j) settled.more))
+  whole_roomy limited whole = subst (λ (xs : List (List Entry)). AreRoomy (j ++ settled.more) xs) (whole ∙ all_is) (front_roomy limited)
+
+  -- all that the targets ask for was added
+  pub agreed_whole : s.limit ≡ MAX_JOURNAL → s2.closed ≡ false → added.front ≡ agreed_batches clients contact group s1.state.facts
+      → (P : List ℕ → Type 0) (text : List ℕ) → text ≡ agreed_text clients contact group s1.state.facts → P text
+      → (two2 : Two File) → o2.files ≡ Some two2 → IsAgreed clients contact group j two2 P
+  agreed_whole limited still whole P text is printed two2 files2 =
+      let fits2 = last_fits still two2 files2 in
+      record {
+        first = settled.more;
+        settles = settles;
+        settled = is_settled;
+        roomy = whole_roomy limited whole;
+        stands_for = fits2.stands_for ∙ ap (λ (xs : List (List Entry)). journal (j ++ (settled.more ++ xs))) (whole ∙ all_is);
+        first_settled = fits2.first_settled;
+        second_settled = fits2.second_settled;
+        printed = subst P (is ∙ ap (agreed_text clients contact group) begun) printed;
+      }
+
+  -- there was no room for the next batch
+  pub agreed_cut : s.limit ≡ MAX_JOURNAL → s2.closed ≡ false → (next : List Entry) (rest : List (List Entry))
+      → agreed_batches clients contact group s1.state.facts ≡ added.front ++ next ∷ rest → s2.limit < needed s2 next
+      → (two2 : Two File) → o2.files ≡ Some two2 → IsCut clients contact group j two2
+  agreed_cut limited still next rest parts over two2 files2 =
+      let fits2 = last_fits still two2 files2 in
+      let limit : s2.limit ≡ MAX_JOURNAL = both.limit ∙ limited in
+      let sum : needed s2 next ≡ needed_by (j ++ (settled.more ++ added.front)) next =
+      weighed s2 (j ++ (settled.more ++ added.front)) next fits2.end_is fits2.facts_are in
+      record {
+        first = settled.more;
+        front = added.front;
+        next = next;
+        rest = rest;
+        settles = settles;
+        settled = is_settled;
+        parts = sym all_is ∙ parts;
+        stands_for = fits2.stands_for;
+        over = omega (arith, sum, limit, over);
+      }
+
+-- ---- an agreement that failed
+
+cut_ends : (clients : Meaning) (contact : ℕ) (group : Id) (s s1 s2 : StoreValue) (o o1 o2 : Outside) (out out' : Stream) (u : Unit {0}) (came : Outcome) → DiskRun o o1
+    → SettlesAs clients s s1 o o1 (Ok u) → (added : AddsFront clients s1 s2 o1 o2 (agreed_batches clients contact group s1.state.facts) (Err came)) → s.limit ≡ MAX_JOURNAL
+    → (two : Two File) → o.files ≡ Some two → (j : List (List Entry)) → Fits clients s j two
+    → (two2 : Two File) → o2.files ≡ Some two2 → AgreedEnds clients contact group j out out' came two2
+cut_ends clients contact group s s1 s2 o o1 o2 out out' u outcome.Full run settled added limited two files j fits two2 files2 =
+    agreed_cut clients contact group s s1 s2 o o1 o2 u (Err outcome.Full) run settled added two files j fits limited added.answer.0 added.answer.1.next added.answer.1.rest
+    added.answer.1.parts added.answer.1.over two2 files2
+cut_ends clients contact group s s1 s2 o o1 o2 out out' u outcome.Memory run settled added limited two files j fits two2 files2 = tt
+cut_ends clients contact group s s1 s2 o o1 o2 out out' u outcome.DiskFault run settled added limited two files j fits two2 files2 = tt
+cut_ends clients contact group s s1 s2 o o1 o2 out out' u _ run settled added limited two files j fits two2 files2 = absurd added.answer
+
+pub agrees_stopped : (clients : Meaning) (contact : ℕ) (group : Id) (s s1 s2 : StoreValue) (o o1 o2 : Outside) (out out' : Stream) (u : Unit {0}) (came : Outcome) → IsIdle out out'
+    → s.limit ≡ MAX_JOURNAL → DiskRun o o1 → SettlesAs clients s s1 o o1 (Ok u)
+    → AddsFront clients s1 s2 o1 o2 (agreed_batches clients contact group s1.state.facts) (Err came) → ExtendsBy o1 o2 (Err came)
+    → Agrees clients contact group s o o2 out out' came
+agrees_stopped clients contact group s s1 s2 o o1 o2 out out' u came idle limited run settled added by =
+    let whole = caused_later o o1 o2 came run.later by in
+    record {
+      run = run_then o o1 o2 run added.runs.run;
+      by = failed_by o o2 out out' came idle whole;
+      late = failed_late o o2 came whole;
+      told = λ two files j fits. record {
+        moments = agreed_moments clients contact group s s1 s2 o o1 o2 u (Err came) run settled added two files j fits;
+        ends = λ two2 files2. cut_ends clients contact group s s1 s2 o o1 o2 out out' u came run settled added limited two files j fits two2 files2;
+      };
+    }
+
+-- ---- an agreement and its text
+
+printed_ends : (clients : Meaning) (contact : ℕ) (group : Id) (j : List (List Entry)) (out out' : Stream) (text : List ℕ) (came : Outcome) (two : Two File)
+    → ((P : List ℕ → Type 0) → P text → IsAgreed clients contact group j two P) → PrintsText text out out' came → AgreedEnds clients contact group j out out' came two
+printed_ends clients contact group j out out' text outcome.Done two agreed p = agreed _ p
+printed_ends clients contact group j out out' text outcome.WriteFault two agreed p = agreed _ p.1
+printed_ends clients contact group j out out' text outcome.Memory two agreed p = tt
+printed_ends clients contact group j out out' text _ two agreed p = absurd p
+
+pub agrees_printed : (clients : Meaning) (contact : ℕ) (group : Id) (s s1 s2 : StoreValue) (o o1 o2 : Outside) (out out' : Stream) (u v : Unit {0}) (text : List ℕ) (came : Outcome)
+    → s.limit ≡ MAX_JOURNAL → DiskRun o o1 → SettlesAs clients s s1 o o1 (Ok u)
+    → AddsFront clients s1 s2 o1 o2 (agreed_batches clients contact group s1.state.facts) (Ok v) → text ≡ agreed_text clients contact group s1.state.facts
+    → PrintsText text out out' came → Agrees clients contact group s o o2 out out' came
+agrees_printed clients contact group s s1 s2 o o1 o2 out out' u v text came limited run settled added is printed = record {
+  run = run_then o o1 o2 run added.runs.run;
+  by = printed_by o o2 out out' text came printed;
+  late = printed_late out out' text came printed;
+  told = λ two files j fits. record {
+    moments = agreed_moments clients contact group s s1 s2 o o1 o2 u (Ok v) run settled added two files j fits;
+    ends = λ two2 files2.
+        printed_ends clients contact group j out out' text came two2
+        (λ P p. agreed_whole clients contact group s s1 s2 o o1 o2 u (Ok v) run settled added two files j fits limited added.answer.0 added.answer.1 P text is p two2 files2) printed;
+  };
+}
+
+-- ---- from the files
+
+rest_moments : (clients : Meaning) (contact : ℕ) (group : Id) (standing : Standing) (came : Outcome) (P : Two File → Type 0) (two : Two File) (o o1 : Outside) → Rests P two o o1
+    → MomentsAre o o1 (λ m. IsNow two o.links m ⊎ AgreesMoment clients contact group standing came (sent_of o.links.told) m)
+rest_moments clients contact group standing came P two o o1 rests = moments_map o o1 _ _ (λ m w. inl w) rests.moments
+
+none_by : (old new : Outside) (out out' : Stream) (came : Outcome) → IsIdle out out' → LoadedBy old new (Err came) → AddsBy old new out out' came
+none_by old new out out' outcome.DiskFault idle by = (by, idle)
+none_by old new out out' outcome.NoStore idle by = idle
+none_by old new out out' (outcome.Damaged place) idle by = idle
+none_by old new out out' outcome.Memory idle by = idle
+none_by old new out out' _ idle by = absurd by
+
+none_ends : (clients : Meaning) (contact : ℕ) (group : Id) (standing : Standing) (two two' : Two File) (old new : Outside) (out out' : Stream) (came : Outcome)
+    → LoadedBy old new (Err came) → IsLoaded standing (Err came) → Keeps came two two' → AgreesEnds clients contact group standing two two' out out' came
+none_ends clients contact group standing two two' old new out out' outcome.DiskFault by loaded same = tt
+none_ends clients contact group standing two two' old new out out' outcome.NoStore by loaded same = (loaded, same)
+none_ends clients contact group standing two two' old new out out' (outcome.Damaged place) by loaded same = (loaded, same)
+none_ends clients contact group standing two two' old new out out' outcome.Memory by loaded same = tt
+none_ends clients contact group standing two two' old new out out' _ by loaded same = absurd by
+
+pub agreed_none : (clients : Meaning) (contact : ℕ) (group : Id) (old new : Outside) (out out' : Stream) (came : Outcome) → DiskRun old new
+    → ((two : Two File) → old.files ≡ Some two → Rests (LoadKeeps (Err came) two) two old new) → LoadedBy old new (Err came)
+    → ((two : Two File) → old.files ≡ Some two → IsLoaded (stands clients (read_files two)) (Err came)) → IsIdle out out' → HasAgreed clients contact group old new out out' came
+agreed_none clients contact group old new out out' came run rests by loaded idle = record {
+  run = run;
+  by = none_by old new out out' came idle by;
+  told = λ two told. record {
+    moments = rest_moments clients contact group (stands clients (read_files two)) came _ two old new (rests two told);
+    ends = λ two' told'.
+        none_ends clients contact group (stands clients (read_files two)) two two' old new out out' came by (loaded two told) ((rests two told).kept two' told');
+  };
+}
+
+pub agreed_refused : (clients : Meaning) (contact : ℕ) (group : Id) (old new : Outside) (out out' : Stream) (s : StoreValue) (why : Refused) → DiskRun old new
+    → ((two : Two File) → old.files ≡ Some two → Rests (LoadKeeps (Ok s) two) two old new) → ((two : Two File) → old.files ≡ Some two → HasFacts (stands clients (read_files two)) s)
+    → agree_test s.state.facts contact group ≡ Some why → IsIdle out out' → HasAgreed clients contact group old new out out' (outcome.Refused why)
+agreed_refused clients contact group old new out out' s why run rests loaded tested idle = record {
+  run = run;
+  by = idle;
+  told = λ two told. record {
+    moments = rest_moments clients contact group (stands clients (read_files two)) (outcome.Refused why) _ two old new (rests two told);
+    ends = λ two' told'.
+        let has = loaded two told in
+        (record { before = has.of; stood = has.stood; tested = ap (λ (f : Facts). agree_test f contact group) has.are ∙ tested }, (rests two told).kept two' told');
+  };
+}
+
+whole_ends : (clients : Meaning) (contact : ℕ) (group : Id) (standing : Standing) (two two' : Two File) (out out' : Stream) (j : List (List Entry)) (came : Outcome)
+    → is_late came ≡ true → standing ≡ journal j → agree_test (facts j) contact group ≡ None → AgreedEnds clients contact group j out out' came two'
+    → AgreesEnds clients contact group standing two two' out out' came
+whole_ends clients contact group standing two two' out out' j outcome.Done late stood tested ends = record { before = j; stood = stood; tested = tested; leads = ends }
+whole_ends clients contact group standing two two' out out' j outcome.WriteFault late stood tested ends = record { before = j; stood = stood; tested = tested; leads = ends }
+whole_ends clients contact group standing two two' out out' j outcome.Full late stood tested ends = record { before = j; stood = stood; tested = tested; leads = ends }
+whole_ends clients contact group standing two two' out out' j outcome.Memory late stood tested ends = tt
+whole_ends clients contact group standing two two' out out' j outcome.DiskFault late stood tested ends = tt
+whole_ends clients contact group standing two two' out out' j _ late stood tested ends = cc
+
+by_later : (o o1 o2 : Outside) (out out' : Stream) (came : Outcome) → o.disk_faults ≤ o1.disk_faults → AddsBy o1 o2 out out' came → AddsBy o o2 out out' came
+by_later o o1 o2 out out' outcome.DiskFault later by = (rose_before o.disk_faults o1.disk_faults o2.disk_faults later by.0, by.1)
+by_later o o1 o2 out out' outcome.Done later by = by
+by_later o o1 o2 out out' outcome.WriteFault later by = by
+by_later o o1 o2 out out' outcome.Full later by = by
+by_later o o1 o2 out out' outcome.Memory later by = by
+by_later o o1 o2 out out' outcome.NoStore later by = by
+by_later o o1 o2 out out' (outcome.Refused why) later by = by
+by_later o o1 o2 out out' (outcome.Damaged place) later by = by
+by_later o o1 o2 out out' _ later by = absurd by
+
+-- the journal that the disk fits is the one that the files stood for
+same_journal : (clients : Meaning) (s : StoreValue) (two two1 : Two File) (j : List (List Entry)) → read_files two1 ≡ read_files two → Fits clients s j two1 → stands clients (read_files two) ≡ journal j
+same_journal clients s two two1 j same fits = ap (stands clients) (sym same) ∙ fits.stands_for
+
+pub agreed_loaded : (clients : Meaning) (contact : ℕ) (group : Id) (o o1 o2 : Outside) (out out' : Stream) (s : StoreValue) (came : Outcome) → DiskRun o o1
+    → ((two : Two File) → o.files ≡ Some two → Rests (LoadKeeps (Ok s) two) two o o1) → MayExtend clients s o1.files → agree_test s.state.facts contact group ≡ None
+    → Agrees clients contact group s o1 o2 out out' came → HasAgreed clients contact group o o2 out out' came
+agreed_loaded clients contact group o o1 o2 out out' s came run rests ready tested agreed = record {
+  run = run_then o o1 o2 run agreed.run;
+  by = by_later o o1 o2 out out' came run.later agreed.by;
+  told = λ two told.
+      let rest = rests two told in
+      let told1 = told_on o o1 two run.same_told told in
+      let fit = ready.ready.fits told1.0 told1.1 in
+      let stood = same_journal clients s two told1.0 fit.0 (rest.kept told1.0 told1.1) fit.1 in
+      let test : agree_test (facts fit.0) contact group ≡ None = ap (λ (f : Facts). agree_test f contact group) fit.1.facts_are ∙ tested in
+      let went = agreed.told told1.0 told1.1 fit.0 fit.1 in
+      record {
+        moments =
+            moments_then o o1 o2 _ (rest_moments clients contact group (stands clients (read_files two)) came _ two o o1 rest)
+            (moments_map o1 o2 _ _ (λ m w. inr (
+              agreed.late,
+              record {
+                before = fit.0;
+                stood = stood;
+                tested = test;
+                leads = subst (λ (l : Links). JournalMoment clients (AgreesOn clients contact group fit.0) (sent_of l.told) m) run.same_links w;
+              },
+            )) went.moments);
+        ends = λ two' told'.
+            whole_ends clients contact group (stands clients (read_files two)) two two' out out' fit.0 came agreed.late stood test (went.ends two' told');
+      };
+}
+
+-- ---- an error that goes on by `?`
+
+passed : (P : Outcome → Type 0) (r : Result (Unit {0}) Outcome) (x : Outcome) → IsErrAnd r (λ e. e ≡ x) → P x → P (came_to r)
+passed P (Ok u) x is h = absurd is
+passed P (Err e) x is h = subst P (sym is) h
+
+module _ (r : Result (Unit {0}) Outcome) (x : Outcome) (is : IsErrAnd r (λ e. e ≡ x)) (clients : Meaning) (contact : ℕ) (group : Id) where
+  pub agrees_on : (s : StoreValue) (o o' : Outside) (out out' : Stream) → Agrees clients contact group s o o' out out' x → Agrees clients contact group s o o' out out' (came_to r)
+  agrees_on s o o' out out' = passed (λ (came : Outcome). Agrees clients contact group s o o' out out' came) r x is
+
+  pub agreed_on : (o o' : Outside) (out out' : Stream) → HasAgreed clients contact group o o' out out' x → HasAgreed clients contact group o o' out out' (came_to r)
+  agreed_on o o' out out' = passed (λ (came : Outcome). HasAgreed clients contact group o o' out out' came) r x is
+
+-- ---- the contact
+
+-- a contact that is known stays so while a journal is settled
+pub still_known : (clients : Meaning) (contact : ℕ) (s s1 : StoreValue) (o o1 : Outside) (more : List (List Entry)) → contact < s.state.facts.contacts
+    → ComesBy clients s s1 o o1 more → contact < s1.state.facts.contacts
+still_known clients contact s s1 o o1 more known comes =
+    let same : s1.state.facts.contacts ≡ s.state.facts.contacts =
+    ap (λ (f : Facts). f.contacts) comes.facts ∙ (stays clients s.state.facts more comes.settling).contacts in
+    omega (arith, same)
+
+-- a contact over which the tests hold is known
+pub tested_known : (f : Facts) (contact : ℕ) (group : Id) → agree_test f contact group ≡ None → contact < f.contacts
+tested_known f contact group is =
+    elim (nat_lt contact f.contacts) as (λ b. nat_lt contact f.contacts ≡ b → (if b then sharing_test (group_at f.groups group) else Some refused.UnknownContact) ≡ None → contact < f.contacts) [
+      | true ↦ λ known w. ltb-true contact f.contacts known
+      | false ↦ λ known w. absurd (let no : Some refused.UnknownContact ≡ None = w in cc)
+    ] refl is

@@ -1,0 +1,28 @@
+use Rattle.std.proofs.Common.{[], ◌∷◌, ap, ◌∙◌}
+use Rattle.sync_ids.specs.Values.{GroupValue}
+use Rattle.sync_rules.specs.declared.entries.Entry.TheVariants as entry
+use Rattle.sync_words.specs.declared.outcome.Outcome.TheVariants as outcome
+use Rattle.sharing_commands.proofs.Fronts.{adds_on, none_added}
+use Rattle.sharing_commands.proofs.Targets.{group_known}
+use Rattle.sharing_commands.proofs.adding.add_group.Goals as goal
+
+pub returns-in_err-def-clause-adds : goal.returns-in_err-def-clause-adds
+returns-in_err-def-clause-adds g c =
+    let clients = g.C.Clients.meaning c.args.clients.now in
+    adds_on c.from_residual.result outcome.Memory c.from_residual.ensures.1 clients _ _ _ _ _
+    (none_added c.images_stand.ensures clients c.args.store.now _ _ c.requires.stands.is_store)
+
+pub returns-in_err-batch-clause-adds : goal.returns-in_err-batch-clause-adds
+returns-in_err-batch-clause-adds g c =
+    let clients = g.C.Clients.meaning c.args.clients.now in
+    adds_on c.from_residual-in_err-batch.result outcome.Memory
+    c.from_residual-in_err-batch.ensures.1 clients _ _ _ _ _
+    (none_added c.images_stand.ensures clients c.args.store.now _ _ c.requires.stands.is_store)
+
+pub returns-clause-known : goal.returns-clause-known
+returns-clause-known g c =
+    let clients = g.C.Clients.meaning c.args.clients.now in
+    group_known clients c.args.store.now c.commit.new.store _ _ c.args.def.now c.in_ok-batch.batch
+    c.commit.result
+    (c.in_ok-batch.ensures ∙ ap (λ (d : GroupValue). entry.Group d ∷ []) c.in_ok-def.ensures)
+    c.commit.ensures.adds
