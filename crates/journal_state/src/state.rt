@@ -85,8 +85,8 @@ impl State {
     }
 
     /// Shows the prover what holds of every state: its held messages have distinct ids, are fewer
-    /// than 2^32 and of known groups, its groups have distinct ids, and what is delivered is judged.
-    /// It does nothing.
+    /// than 2^32 and of known groups, its groups have distinct ids, and only what is judged is
+    /// delivered. It does nothing.
     pub fn show_sound(&self)
         ensures { IsSound self.now }
     {
