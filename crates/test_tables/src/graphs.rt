@@ -71,6 +71,34 @@ fn compare(rt: &impl Abort, graph: &Graph, nodes: &[Node], seed: u64) {
     }
 }
 
+/// The number of the node that has the first name that this one depends on, by a scan.
+fn first_in(nodes: &[Node], node: &Node) -> Option<u32> {
+    let Some(Judged::Accepted(names)) = &node.answer else {
+        return None;
+    };
+    let first = names.as_slice().first()?;
+    for (n, other) in nodes.iter().enumerate() {
+        if other.name == *first {
+            return u32::try_from(n).ok();
+        }
+    }
+    None
+}
+
+/// Compares what each node depends on first.
+fn compare_firsts(rt: &impl Abort, alloc: Global, graph: &Graph, nodes: &[Node], seed: u64) {
+    let firsts = made(rt, graph.firsts(alloc));
+    must(rt, seed, firsts.len() == nodes.len());
+    for (n, node) in nodes.iter().enumerate() {
+        same(
+            rt,
+            seed,
+            &firsts.get(n).copied(),
+            &Some(first_in(nodes, node)),
+        );
+    }
+}
+
 /// Holds a message in both, if its name is new.
 fn hold(rt: &impl Abort, graph: &mut Graph, nodes: &mut Vec<Node>, name: [u8; 32], group: u32) {
     if graph.number(&name).is_none() {
@@ -101,6 +129,7 @@ fn play(rt: &impl Abort, alloc: Global, graph: &mut Graph, seed: u64) {
             step(rt, alloc, graph, nodes.as_mut_slice(), seed);
         }
         compare(rt, graph, nodes.as_slice(), seed);
+        compare_firsts(rt, alloc, graph, nodes.as_slice(), seed);
     }
 }
 
