@@ -5,6 +5,7 @@ of the commands `say` and `agree` in crates/test_commands.
 
 Nothing here is shared with the program.
 """
+import random
 import struct
 
 from digests import group_id, message_id
@@ -52,7 +53,7 @@ class Person(Node):
     """A node with the client of `sharing` groups, whose commands print lines."""
 
     def __init__(self):
-        super().__init__({b'note': judge_note, b'thread': judge_thread, b'sharing': judge_sharing})
+        super().__init__({b'note': judge_note, b'thread': judge_thread, b'feed': None, b'sharing': judge_sharing})
         self.definitions, self.origins, self.order = {}, {}, []
 
     def make_step(self):
@@ -209,6 +210,90 @@ def says_open():
     return scene
 
 
+def agrees():
+    """Both join one group, and then this side leaves it; of another one, whose client is not known, only a line is printed."""
+    person, (group,) = beginning(SHARING)
+    person.share(0, group, VISIBLE)
+    person.said(group, 1, 'join', *NOTE)
+    person.said(group, 2, 'join', b'chat', 0, b'd')
+    scene = Scene(person)
+    scene.agree(0, group)
+    scene.agree(0, group)
+    scene.say(group, 3, 'leave', *NOTE)
+    scene.agree(0, group)
+    scene.say(group, 4, 'leave', b'chat', 0, b'd')
+    scene.agree(0, group)
+    return scene
+
+
+def agrees_behind():
+    """A contact's word came, and was not judged: the journal is settled first."""
+    person, (group,) = beginning(SHARING)
+    person.share(0, group, VISIBLE)
+    person.said(group, 1, 'join', *NOTE)
+    person.attach(0, 1)
+    settle, person.settle = person.settle, lambda: None
+    hears(person, 0, group, 2, saying('join', *NOTE))
+    person.settle = settle
+    scene = Scene(person)
+
+    def done(it):
+        it.settle()
+        return it.agree(0, group)
+
+    scene.step(f'agree 0 {group.hex()}', done)
+    scene.say(group, 3, 'leave', *NOTE)
+    scene.agree(0, group)
+    scene.say(group, 4, 'join', *NOTE)
+    scene.agree(0, group)
+    return scene
+
+
+def agrees_at_length():
+    """Two groups that are added, and one whose level is set: five entries, each a frame."""
+    person, (group, note) = beginning(SHARING, NOTE)
+    person.share(0, group, VISIBLE)
+    person.share(0, note, SHARED)
+    person.said(group, 1, 'join', *THREAD)
+    person.said(group, 2, 'leave', *NOTE)
+    person.said(group, 3, 'join', b'feed', 0, b'd')
+    person.attach(0, 1)
+    hears(person, 0, group, 4, saying('join', *THREAD))
+    scene = Scene(person)
+    scene.agree(0, group)
+    return scene
+
+
+SPOKEN_OF = [NOTE, (b'note', 0, b'e'), THREAD, (b'feed', 0, b'd'), (b'chat', 0, b'd'), (b'note', 1, b'd')]
+
+
+def agrees_at_random(seed):
+    """Words of this device and of two contacts on a few groups, of which some are known."""
+    dice = random.Random(seed)
+    person, (group,) = beginning(SHARING, contacts=2)
+    for contact in range(2):
+        person.share(contact, group, VISIBLE)
+        person.attach(contact, 1)
+    for definition in SPOKEN_OF[:4]:
+        if dice.random() < 0.4:
+            known = person.add(*definition)
+            for contact in range(2):
+                level = dice.choice([INVISIBLE, VISIBLE, SHARED])
+                if level:
+                    person.share(contact, known, level)
+    for time in range(dice.randrange(3, 16)):
+        who, stance, definition = dice.choice(['own', 0, 1]), dice.choice(['join', 'join', 'leave']), dice.choice(SPOKEN_OF)
+        if who == 'own':
+            person.said(group, time, stance, *definition)
+        else:
+            hears(person, who, group, time, saying(stance, *definition))
+    scene = Scene(person)
+    scene.agree(0, group)
+    scene.agree(1, group)
+    scene.agree(0, group)
+    return scene
+
+
 def rust(text):
     return text.replace('\\', '\\\\').replace('"', '\\"').replace('\n', '\\n')
 
@@ -232,12 +317,19 @@ def text_rows(name, text):
     yield ''
 
 
+SCENES = [
+    ('SAYS', says), ('SAYS_BEHIND', says_behind), ('SAYS_OPEN', says_open),
+    ('AGREES', agrees), ('AGREES_BEHIND', agrees_behind), ('AGREES_AT_LENGTH', agrees_at_length),
+]
+SEEDS = range(1, 13)
+
+
 def table():
-    yield '//! The rows of `say`, by oracle/sharing.py.'
+    yield '//! The rows of `say` and `agree`, by oracle/sharing.py.'
     yield ''
     yield 'use crate::steps::Step;'
     yield ''
-    for name, scene in [('SAYS', says()), ('SAYS_BEHIND', says_behind()), ('SAYS_OPEN', says_open())]:
+    for name, scene in [(name, made()) for name, made in SCENES] + [(f'DRAWN_{seed}', agrees_at_random(seed)) for seed in SEEDS]:
         yield from text_rows(f'BEFORE_{name}', ' '.join(scene.begun()))
         yield from step_rows(name, scene)
 
