@@ -2,11 +2,13 @@
 of the commands `say` and `agree` in crates/test_commands.
 
     sharing.py > crates/test_commands/src/sharing_rows.rt
+    sharing.py session > examples/agree.txt
 
 Nothing here is shared with the program.
 """
 import random
 import struct
+import sys
 
 from digests import group_id, message_id
 from node_model import DELIVER, INVISIBLE, SHARED, VISIBLE, Held, Node, judge_note, judge_thread, message
@@ -334,5 +336,45 @@ def table():
         yield from step_rows(name, scene)
 
 
+# ---- the session of examples/agree.sh
+
+def session():
+    """What the two type, and what it prints."""
+    group, notes = group_id(*SHARING), group_id(*NOTE)
+    first, second = (message_id(group, time, saying('join', *NOTE)) for time in (1, 2))
+    last = message_id(group, 5, saying('leave', *NOTE, previous=second))
+    hers, his, own = (message_id(notes, time, text) for time, text in [(3, b'shall we meet?'), (4, b'at noon'), (6, b'by myself')])
+
+    def typed(who, words, *lines):
+        return [f'{who}$ bsp {words}', *lines]
+
+    def level(who, word):
+        return typed(who, f'agree 0 {group.hex()}', f'level 0 {notes.hex()} {word}')
+
+    def inbox(who, *messages):
+        return typed(who, 'inbox', *(f'{id.hex()} {of.hex()} {time} {origin} {size}' for id, of, time, origin, size in messages))
+
+    meet = [*typed('alice', 'sync 10000 1000 0 batch 1000 unixlisten:../meet', 'link 0: clean'),
+            *typed('bob', 'sync 10000 30 0 batch 1000 unix:../meet', 'link 0: quiet')]
+    lines = []
+    for who in ('alice', 'bob'):
+        lines += typed(who, 'init', 'ready') + typed(who, 'contact', 'contact 0')
+        lines += typed(who, 'group sharing 0 s', f'group {group.hex()}')
+        lines += typed(who, f'share 0 {group.hex()} shared', f'level 0 {group.hex()} shared')
+    lines += typed('alice', f'say {group.hex()} 1 join note 0 d', f'posted {first.hex()}')
+    lines += typed('bob', f'say {group.hex()} 2 join note 0 d', f'posted {second.hex()}')
+    lines += level('alice', 'visible') + meet + level('alice', 'shared') + level('bob', 'shared') + ['']
+    lines += typed('alice', f'post {notes.hex()} 3', f'posted {hers.hex()}')
+    lines += typed('bob', f'post {notes.hex()} 4', f'posted {his.hex()}')
+    lines += meet
+    held = [(first, group, 1, 'self', 45), (second, group, 2, 0, 45), (hers, notes, 3, 'self', 14), (his, notes, 4, 0, 7)]
+    lines += inbox('alice', *held)
+    lines += inbox('bob', (second, group, 2, 'self', 45), (first, group, 1, 0, 45), (his, notes, 4, 'self', 7), (hers, notes, 3, 0, 14))
+    lines += ['', *typed('bob', f'say {group.hex()} 5 leave note 0 d', f'posted {last.hex()}'), *level('bob', 'invisible')]
+    lines += typed('bob', f'post {notes.hex()} 6', f'posted {own.hex()}') + meet
+    lines += inbox('alice', *held, (last, group, 5, 0, 45)) + level('alice', 'visible')
+    return lines
+
+
 if __name__ == '__main__':
-    print('\n'.join(table()).rstrip())
+    print('\n'.join(session() if sys.argv[1:] == ['session'] else table()).rstrip())
