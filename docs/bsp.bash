@@ -1,16 +1,17 @@
 # Completion for bash: `source docs/bsp.bash`, or a copy in /etc/bash_completion.d.
 _bsp() {
     local word=${COMP_WORDS[COMP_CWORD]} place=$COMP_CWORD
-    local commands='init contact group share post show inbox body tree sync records try'
+    local commands='init contact group share post show inbox body tree say agree sync records try'
     COMPREPLY=()
     if [ "$place" -eq 1 ]; then
         COMPREPLY=($(compgen -W "$commands" -- "$word"))
         return
     fi
     case ${COMP_WORDS[1]}:$place in
-        group:2 | try:2) COMPREPLY=($(compgen -W 'note thread feed' -- "$word")) ;;
-        group:3) COMPREPLY=($(compgen -W '0' -- "$word")) ;;
-        share:3 | post:2 | tree:2) COMPREPLY=($(compgen -W "$(bsp show 2>/dev/null | sed -n 's/^group \([0-9a-f]*\) .*/\1/p')" -- "$word")) ;;
+        group:2 | try:2 | say:5) COMPREPLY=($(compgen -W 'note thread feed sharing' -- "$word")) ;;
+        say:4) COMPREPLY=($(compgen -W 'join leave' -- "$word")) ;;
+        group:3 | say:6) COMPREPLY=($(compgen -W '0' -- "$word")) ;;
+        share:3 | post:2 | tree:2 | say:2 | agree:3) COMPREPLY=($(compgen -W "$(bsp show 2>/dev/null | sed -n 's/^group \([0-9a-f]*\) .*/\1/p')" -- "$word")) ;;
         share:4) COMPREPLY=($(compgen -W 'invisible visible shared' -- "$word")) ;;
         body:2) COMPREPLY=($(compgen -W "$(bsp inbox 2>/dev/null | cut -d' ' -f1)" -- "$word")) ;;
         sync:*)

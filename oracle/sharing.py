@@ -2,10 +2,13 @@
 of the commands `say` and `agree` in crates/test_commands.
 
     sharing.py > crates/test_commands/src/sharing_rows.rt
+    sharing.py session > examples/agree.txt
 
 Nothing here is shared with the program.
 """
+import random
 import struct
+import sys
 
 from digests import group_id, message_id
 from node_model import DELIVER, INVISIBLE, SHARED, VISIBLE, Held, Node, judge_note, judge_thread, message
@@ -52,7 +55,7 @@ class Person(Node):
     """A node with the client of `sharing` groups, whose commands print lines."""
 
     def __init__(self):
-        super().__init__({b'note': judge_note, b'thread': judge_thread, b'sharing': judge_sharing})
+        super().__init__({b'note': judge_note, b'thread': judge_thread, b'feed': None, b'sharing': judge_sharing})
         self.definitions, self.origins, self.order = {}, {}, []
 
     def make_step(self):
@@ -209,6 +212,90 @@ def says_open():
     return scene
 
 
+def agrees():
+    """Both join one group, and then this side leaves it; of another one, whose client is not known, only a line is printed."""
+    person, (group,) = beginning(SHARING)
+    person.share(0, group, VISIBLE)
+    person.said(group, 1, 'join', *NOTE)
+    person.said(group, 2, 'join', b'chat', 0, b'd')
+    scene = Scene(person)
+    scene.agree(0, group)
+    scene.agree(0, group)
+    scene.say(group, 3, 'leave', *NOTE)
+    scene.agree(0, group)
+    scene.say(group, 4, 'leave', b'chat', 0, b'd')
+    scene.agree(0, group)
+    return scene
+
+
+def agrees_behind():
+    """A contact's word came, and was not judged: the journal is settled first."""
+    person, (group,) = beginning(SHARING)
+    person.share(0, group, VISIBLE)
+    person.said(group, 1, 'join', *NOTE)
+    person.attach(0, 1)
+    settle, person.settle = person.settle, lambda: None
+    hears(person, 0, group, 2, saying('join', *NOTE))
+    person.settle = settle
+    scene = Scene(person)
+
+    def done(it):
+        it.settle()
+        return it.agree(0, group)
+
+    scene.step(f'agree 0 {group.hex()}', done)
+    scene.say(group, 3, 'leave', *NOTE)
+    scene.agree(0, group)
+    scene.say(group, 4, 'join', *NOTE)
+    scene.agree(0, group)
+    return scene
+
+
+def agrees_at_length():
+    """Two groups that are added, and one whose level is set: five entries, each a frame."""
+    person, (group, note) = beginning(SHARING, NOTE)
+    person.share(0, group, VISIBLE)
+    person.share(0, note, SHARED)
+    person.said(group, 1, 'join', *THREAD)
+    person.said(group, 2, 'leave', *NOTE)
+    person.said(group, 3, 'join', b'feed', 0, b'd')
+    person.attach(0, 1)
+    hears(person, 0, group, 4, saying('join', *THREAD))
+    scene = Scene(person)
+    scene.agree(0, group)
+    return scene
+
+
+SPOKEN_OF = [NOTE, (b'note', 0, b'e'), THREAD, (b'feed', 0, b'd'), (b'chat', 0, b'd'), (b'note', 1, b'd')]
+
+
+def agrees_at_random(seed):
+    """Words of this device and of two contacts on a few groups, of which some are known."""
+    dice = random.Random(seed)
+    person, (group,) = beginning(SHARING, contacts=2)
+    for contact in range(2):
+        person.share(contact, group, VISIBLE)
+        person.attach(contact, 1)
+    for definition in SPOKEN_OF[:4]:
+        if dice.random() < 0.4:
+            known = person.add(*definition)
+            for contact in range(2):
+                level = dice.choice([INVISIBLE, VISIBLE, SHARED])
+                if level:
+                    person.share(contact, known, level)
+    for time in range(dice.randrange(3, 16)):
+        who, stance, definition = dice.choice(['own', 0, 1]), dice.choice(['join', 'join', 'leave']), dice.choice(SPOKEN_OF)
+        if who == 'own':
+            person.said(group, time, stance, *definition)
+        else:
+            hears(person, who, group, time, saying(stance, *definition))
+    scene = Scene(person)
+    scene.agree(0, group)
+    scene.agree(1, group)
+    scene.agree(0, group)
+    return scene
+
+
 def rust(text):
     return text.replace('\\', '\\\\').replace('"', '\\"').replace('\n', '\\n')
 
@@ -232,15 +319,62 @@ def text_rows(name, text):
     yield ''
 
 
+SCENES = [
+    ('SAYS', says), ('SAYS_BEHIND', says_behind), ('SAYS_OPEN', says_open),
+    ('AGREES', agrees), ('AGREES_BEHIND', agrees_behind), ('AGREES_AT_LENGTH', agrees_at_length),
+]
+SEEDS = range(1, 13)
+
+
 def table():
-    yield '//! The rows of `say`, by oracle/sharing.py.'
+    yield '//! The rows of `say` and `agree`, by oracle/sharing.py.'
     yield ''
     yield 'use crate::steps::Step;'
     yield ''
-    for name, scene in [('SAYS', says()), ('SAYS_BEHIND', says_behind()), ('SAYS_OPEN', says_open())]:
+    for name, scene in [(name, made()) for name, made in SCENES] + [(f'DRAWN_{seed}', agrees_at_random(seed)) for seed in SEEDS]:
         yield from text_rows(f'BEFORE_{name}', ' '.join(scene.begun()))
         yield from step_rows(name, scene)
 
 
+# ---- the session of examples/agree.sh
+
+def session():
+    """What the two type, and what it prints."""
+    group, notes = group_id(*SHARING), group_id(*NOTE)
+    first, second = (message_id(group, time, saying('join', *NOTE)) for time in (1, 2))
+    last = message_id(group, 5, saying('leave', *NOTE, previous=second))
+    hers, his, own = (message_id(notes, time, text) for time, text in [(3, b'shall we meet?'), (4, b'at noon'), (6, b'by myself')])
+
+    def typed(who, words, *lines):
+        return [f'{who}$ bsp {words}', *lines]
+
+    def level(who, word):
+        return typed(who, f'agree 0 {group.hex()}', f'level 0 {notes.hex()} {word}')
+
+    def inbox(who, *messages):
+        return typed(who, 'inbox', *(f'{id.hex()} {of.hex()} {time} {origin} {size}' for id, of, time, origin, size in messages))
+
+    meet = [*typed('alice', 'sync 10000 1000 0 batch 1000 unixlisten:../meet', 'link 0: clean'),
+            *typed('bob', 'sync 10000 30 0 batch 1000 unix:../meet', 'link 0: quiet')]
+    lines = []
+    for who in ('alice', 'bob'):
+        lines += typed(who, 'init', 'ready') + typed(who, 'contact', 'contact 0')
+        lines += typed(who, 'group sharing 0 s', f'group {group.hex()}')
+        lines += typed(who, f'share 0 {group.hex()} shared', f'level 0 {group.hex()} shared')
+    lines += typed('alice', f'say {group.hex()} 1 join note 0 d', f'posted {first.hex()}')
+    lines += typed('bob', f'say {group.hex()} 2 join note 0 d', f'posted {second.hex()}')
+    lines += level('alice', 'visible') + meet + level('alice', 'shared') + level('bob', 'shared') + ['']
+    lines += typed('alice', f'post {notes.hex()} 3', f'posted {hers.hex()}')
+    lines += typed('bob', f'post {notes.hex()} 4', f'posted {his.hex()}')
+    lines += meet
+    held = [(first, group, 1, 'self', 45), (second, group, 2, 0, 45), (hers, notes, 3, 'self', 14), (his, notes, 4, 0, 7)]
+    lines += inbox('alice', *held)
+    lines += inbox('bob', (second, group, 2, 'self', 45), (first, group, 1, 0, 45), (his, notes, 4, 'self', 7), (hers, notes, 3, 0, 14))
+    lines += ['', *typed('bob', f'say {group.hex()} 5 leave note 0 d', f'posted {last.hex()}'), *level('bob', 'invisible')]
+    lines += typed('bob', f'post {notes.hex()} 6', f'posted {own.hex()}') + meet
+    lines += inbox('alice', *held, (last, group, 5, 0, 45)) + level('alice', 'visible')
+    return lines
+
+
 if __name__ == '__main__':
-    print('\n'.join(table()).rstrip())
+    print('\n'.join(session() if sys.argv[1:] == ['session'] else table()).rstrip())

@@ -97,6 +97,10 @@ asks_say =
     word_then (number_in MAX_TIMESTAMP) (λ timestamp.
     word_then stance_in (λ join. asks_saying group timestamp join)))
 
+-- a contact and a group
+abbrev pub asks_agree : Rest
+asks_agree = word_then (number_in MAX_CONTACT) (λ contact. word_then id_in (λ group. ends (command.Agree contact group)))
+
 -- whether one of the links is over the standard input and output
 abbrev pub has_std : List LinkWords → Bool
 has_std links = list_any (λ (link : LinkWords). is_std link.spec) links
@@ -148,6 +152,7 @@ asks_of word =
     else if bytes_eq word (codes "body") then asks_body
     else if bytes_eq word (codes "tree") then asks_tree
     else if bytes_eq word (codes "say") then asks_say
+    else if bytes_eq word (codes "agree") then asks_agree
     else if bytes_eq word (codes "sync") then asks_sync
     else ends_or_usage (plain_in word)
 

@@ -17,6 +17,7 @@ may_write command.Inbox = false
 may_write (command.Body id) = false
 may_write (command.Tree group from count) = false
 may_write (command.Say group timestamp join name major descriptor) = true
+may_write (command.Agree contact group) = true
 may_write (command.Sync turns quiet links) = true
 
 -- those that write a message, whose body is their input

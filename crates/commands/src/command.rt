@@ -35,6 +35,9 @@ pub enum Command {
     /// `say GROUP TIMESTAMP STANCE NAME MAJOR DESCRIPTOR`: says in a sharing group that its author
     /// joins the group of this client, major version and descriptor, or leaves it.
     Say(GroupId, u64, bool, Word, u32, Word),
+    /// `agree CONTACT GROUP`: sets the levels of the groups on which this device and a contact agree
+    /// in a sharing group.
+    Agree(u8, GroupId),
     /// `sync TURNS QUIET` and the words of each link: runs sessions over the links, at most so many
     /// turns, and until so many turns in a row were still.
     Sync(u32, u32, LinkList),
@@ -59,6 +62,7 @@ impl Command {
             | Command::Share(_, _, _)
             | Command::Post(_, _)
             | Command::Say(_, _, _, _, _, _)
+            | Command::Agree(_, _)
             | Command::Sync(_, _, _) => true,
             Command::Try(_, _)
             | Command::Records

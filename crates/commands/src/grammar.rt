@@ -1,6 +1,7 @@
 //! What the words of a command line ask for.
 ghost use Rattle.std.specs.Prelude.{◌≡◌, ◌≤◌, drop, IfOk, IfSome};
-ghost use Rattle.commands.specs.Reading.{asks, asks_of, asks_try, asks_group, asks_share};
+ghost use Rattle.commands.specs.Reading.{asks, asks_agree, asks_of, asks_try, asks_group};
+ghost use Rattle.commands.specs.Reading.{asks_share};
 ghost use Rattle.commands.specs.Reading.{asks_post, asks_body, asks_say, asks_saying, asks_sync};
 ghost use Rattle.commands.specs.Reading.{asks_tree, ends};
 ghost use Rattle.commands.specs.Reading.{IsReadAs, IsWithin, plain_in};
@@ -55,6 +56,7 @@ fn read_command(alloc: Global, word: &str, words: &[String]) -> Result<Command, 
         "body" => read_body(words),
         "tree" => read_tree(words),
         "say" => read_say(alloc, words),
+        "agree" => read_agree(words),
         "sync" => read_sync(alloc, words),
         word => match plain(word) {
             Some(command) => read_end(words, 1, command),
@@ -173,6 +175,15 @@ fn read_saying(
     let descriptor = descriptor_at(alloc, words, 6)?;
     let asked = Command::Say(group, timestamp, join, name, major as u32, descriptor);
     read_end(words, 7, asked)
+}
+
+fn read_agree(words: &[String]) -> Result<Command, WordsFault>
+    ensures read { IsReadAs (asks_agree 1 (drop 1 (texts words.now))) result }
+    ensures within { IfOk result IsWithin }
+{
+    let contact = number_at(words, 1, MAX_CONTACT)?;
+    let group = id_at(words, 2)?;
+    read_end(words, 3, Command::Agree(contact as u8, group))
 }
 
 fn read_sync(alloc: Global, words: &[String]) -> Result<Command, WordsFault>

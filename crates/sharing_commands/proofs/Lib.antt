@@ -1,7 +1,7 @@
 mod Own
 mod Said
 mod Spoken
-mod Fronts
+pub mod Fronts
 mod Targets
 mod Wholes
 mod LastLevels

@@ -1,5 +1,5 @@
 -- A command comes to what it should where nothing stands in its way: by what it came to, each other outcome has a cause.
-use Rattle.std.proofs.Common.{◌≡◌, ℕ, ◌+◌, ◌<◌, ◌≤◌, Bool, true, false, List, [], ◌∷◌, ◌++◌, length, take, le-ltb, lt-ltb, refl, sym, ◌∙◌, ap, subst, inl, inr, arith, Option, None, Some, is_some}
+use Rattle.std.proofs.Common.{◌≡◌, ℕ, ◌+◌, ◌<◌, ◌≤◌, Bool, true, false, List, [], ◌∷◌, ◌++◌, length, take, append_assoc, le-ltb, lt-ltb, refl, sym, ◌∙◌, ap, subst, inl, inr, arith, Option, None, Some, is_some}
 use Rattle.std.specs.Prelude.{◌⊎◌, if◌then◌else◌, nat_lt}
 use Rattle.std.proofs.lemmas.List.{take_all}
 use Rattle.outside.specs.declared.limits.TheConstants.{MAX_JOURNAL}
@@ -39,9 +39,12 @@ use Rattle.store_commands.specs.Show.{HasLooked}
 use Rattle.store_commands.specs.Shown.{Showing, body_shown, denies, listing_shown, shows}
 use Rattle.tree_commands.specs.Trees.{tree_shown}
 use Rattle.sync_node.specs.Courses.{ReadsAs}
+use Rattle.sharing_commands.specs.Agreeing.{AreRoomy, HasAgreed}
+use Rattle.sharing_commands.specs.Agreement.{agree_test}
 use Rattle.sharing_commands.specs.Sayings.{say_plan}
+use Rattle.sharing_commands.proofs.Fronts.{room_at}
 use Rattle.sync_top.specs.declared.input.TheConstants.{MAX_INPUT}
-use Rattle.sync_top.specs.Complete.{BytesDecide, ComesOut, Complete, HasRoom, MayAdd, MayPost, MayShow, NothingFails, Serves, status_at, status_by}
+use Rattle.sync_top.specs.Complete.{BytesDecide, ComesOut, Complete, HasRoom, HasRooms, MayAdd, MayAgreeOn, MayPost, MayShow, NothingFails, Serves, status_at, status_by}
 use Rattle.sync_top.specs.Run.{Comes, ComesOfStore, ReadsStream, ReadsWhole, Reports, Streams, TriesClient, outcome_of, speech_of}
 use Rattle.sync_top.proofs.CompleteRuns.{run_comes_out}
 
@@ -162,6 +165,42 @@ module _ (clients : Meaning) (old new : Outside) (input input' out out' : Stream
       absurd (omega (arith, room, full.leads.over))
   added_done plan asked _ did may = absurd did.by
 
+  agreed_done : (contact : ℕ) (group : Id) (came : Outcome) → HasAgreed clients contact group old new out out' came → MayAgreeOn clients contact group old.files → Done came
+  agreed_done contact group outcome.Done did may = inl refl
+  agreed_done contact group outcome.Memory did may = inr refl
+  agreed_done contact group outcome.WriteFault did may = absurd (fails.sink did.by)
+  agreed_done contact group outcome.DiskFault did may = absurd (fails.disk did.by.0)
+  agreed_done contact group outcome.NoStore did may =
+      let now = told_on old new may.stood.0 did.run.same_told may.stood.1 in
+      let is : no_store ≡ journal may.before = sym (((did.told may.stood.0 may.stood.1).ends now.0 now.1).0) ∙ may.stood.2 in
+      cc
+  agreed_done contact group (outcome.Damaged place) did may =
+      let now = told_on old new may.stood.0 did.run.same_told may.stood.1 in
+      let is : damaged place.file place.at ≡ journal may.before = sym (((did.told may.stood.0 may.stood.1).ends now.0 now.1).0) ∙ may.stood.2 in
+      cc
+  agreed_done contact group (outcome.Refused why) did may =
+      let now = told_on old new may.stood.0 did.run.same_told may.stood.1 in
+      let r = ((did.told may.stood.0 may.stood.1).ends now.0 now.1).0 in
+      let both : journal r.before ≡ journal may.before = sym r.stood ∙ may.stood.2 in
+      let same : r.before ≡ may.before = cc in
+      let is : Some why ≡ None = sym r.tested ∙ ap (λ (j : List (List Entry)). agree_test (facts j) contact group) same ∙ may.tested in
+      cc
+  agreed_done contact group outcome.Full did may =
+      let now = told_on old new may.stood.0 did.run.same_told may.stood.1 in
+      let full = (did.told may.stood.0 may.stood.1).ends now.0 now.1 in
+      let cut = full.leads in
+      let both : journal full.before ≡ journal may.before = sym full.stood ∙ may.stood.2 in
+      let same : full.before ≡ may.before = cc in
+      let has : HasRooms clients contact group full.before =
+      subst (λ (j : List (List Entry)). HasRooms clients contact group j) (sym same) may.room in
+      let roomy : AreRoomy (full.before ++ cut.first) (cut.front ++ cut.next ∷ cut.rest) =
+      subst (λ (all : List (List Entry)). AreRoomy (full.before ++ cut.first) all) cut.parts (has cut.first cut.settles cut.settled) in
+      let room : needed_by (full.before ++ (cut.first ++ cut.front)) cut.next ≤ MAX_JOURNAL =
+      subst (λ (j : List (List Entry)). needed_by j cut.next ≤ MAX_JOURNAL) (append_assoc full.before cut.first cut.front)
+      (room_at (full.before ++ cut.first) cut.front cut.next cut.rest roomy) in
+      absurd (omega (arith, room, cut.over))
+  agreed_done contact group _ did may = absurd did.by
+
   looked_done : (shown : Facts → Showing) (came : Outcome) → HasLooked clients shown old new out out' came → MayShow clients shown old.files → Done came
   looked_done shown outcome.Done did may = inl refl
   looked_done shown outcome.Memory did may = inr refl
@@ -249,6 +288,9 @@ command_comes_out clients (command.Say group timestamp join name major descripto
     let plan = say_plan clients (speech_of group timestamp join name major descriptor) in
     store_done clients old new input input' out out' fails (λ (o : Outcome). HasAdded clients plan settling.BeforeAndAfter old new out out' o × IsIdle input input') came
     (λ did. added_done clients old new input input' out out' fails plan settling.BeforeAndAfter came did.0 serves) comes
+command_comes_out clients (command.Agree contact group) old new input input' out out' came comes serves fails =
+    store_done clients old new input input' out out' fails (λ (o : Outcome). HasAgreed clients contact group old new out out' o × IsIdle input input') came
+    (λ did. agreed_done clients old new input input' out out' fails contact group came did.0 serves) comes
 command_comes_out clients (command.Sync turns quiet links) old new input input' out out' came comes serves fails =
     elim comes [
       | inl did ↦ run_comes_out clients (record { turns = turns; quiet = quiet }) links old new fails.disk fails.links came did.0 serves

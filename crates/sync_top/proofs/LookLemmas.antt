@@ -1,5 +1,5 @@
 -- Commands that may not write leave the files as they are.
-use Rattle.std.proofs.Common.{◌≡◌, true, false, sym, subst, inl, inr, ◌⊎◌}
+use Rattle.std.proofs.Common.{◌≡◌, true, false, sym, subst, inl, inr}
 use Rattle.outside.specs.Outside.{Outside}
 use Rattle.outside.proofs.CallSteps.{looks_none, run_none}
 use Rattle.outside.specs.Streams.{Stream, IsIdle}
@@ -44,4 +44,5 @@ module _ {H : Type 0} (tells : H → Outside) (clients : Meaning) (h h' : H) (in
   only_looks (Do (command.Share contact group level)) comes keeps = λ reads. absurd (let e : true ≡ false = reads in cc)
   only_looks (Do (command.Post group timestamp)) comes keeps = λ reads. absurd (let e : true ≡ false = reads in cc)
   only_looks (Do (command.Say group timestamp join name major descriptor)) comes keeps = λ reads. absurd (let e : true ≡ false = reads in cc)
+  only_looks (Do (command.Agree contact group)) comes keeps = λ reads. absurd (let e : true ≡ false = reads in cc)
   only_looks (Do (command.Sync turns quiet links)) comes keeps = λ reads. absurd (let e : true ≡ false = reads in cc)

@@ -1,12 +1,11 @@
 -- No command damages a store.
-use Rattle.std.proofs.Common.{◌≡◌, ℕ, Bool, true, false, List, [], refl, sym, ap, ◌∙◌, subst, inl, inr, Option, Some, None}
+use Rattle.std.proofs.Common.{◌≡◌, ℕ, Bool, true, false, List, refl, sym, ap, ◌∙◌, subst, inl, inr, Option, Some, None}
 use Rattle.std.specs.Prelude.{◌⊎◌, ◌&&◌, ◌||◌, if◌then◌else◌, nat_lt}
 use Rattle.outside.specs.Files.{Two, File, IsImage, read_files}
 use Rattle.outside.specs.Frames.{generation_in, is_open, journal_file}
 use Rattle.outside.specs.Outside.{Outside, Moment, MomentsAre, IsNow}
 use Rattle.outside.proofs.CallSteps.{moments_map, moments_none}
 use Rattle.outside.specs.Streams.{IsIdle, Stream}
-use Rattle.sync_rules.specs.declared.entries.Entry.{Entry}
 use Rattle.sync_rules.specs.declared.states.Refused.TheVariants as refused
 use Rattle.sync_rules.specs.Clients.{Meaning}
 use Rattle.sync_rules.specs.Facts.{Facts, Id}
@@ -27,11 +26,11 @@ use Rattle.store_commands.specs.Post.{HasPosted, PostsBody, StopsShort}
 use Rattle.store_commands.specs.Show.{HasLooked}
 use Rattle.store_commands.specs.Shown.{Showing, body_shown, listing_shown}
 use Rattle.tree_commands.specs.Trees.{tree_shown}
+use Rattle.sharing_commands.specs.Agreeing.{AgreesMoment, HasAgreed}
 use Rattle.sharing_commands.specs.Sayings.{say_plan}
 use Rattle.sync_top.specs.Run.{Comes, ComesOfStore, Covered, KeepsHost, speech_of}
 use Rattle.sync_top.specs.Undamaged.{NeverDamaged, RunUndamaged, StandsForSome, Undamaged}
-use Rattle.outside.specs.Runs.{Told}
-use Rattle.sync_run.specs.Headline.{Headline, RunsOn}
+use Rattle.sync_run.specs.Headline.{Headline}
 use Rattle.sync_words.specs.declared.link_words.LinkWords.{LinkWords}
 
 -- ---- a store that is begun
@@ -81,6 +80,15 @@ module _ (clients : Meaning) (old new : Outside) where
 
   of_added : (plan : Facts → Plan) (asked : Settling) (out out' : Stream) (came : Outcome) → HasAdded clients plan asked old new out out' came → Undamaged clients old new
   of_added plan asked out out' came did two files each = moments_map old new _ _ (added_moment plan _ came _ two each) (did.told two files).moments
+
+  agreed_moment : (contact : ℕ) (group : Id) (standing : Standing) (came : Outcome) (sent : List (List ℕ)) (two : Two File) → ((left : Two (List ℕ)) → IsImage two left → StandsForSome clients left)
+      → (m : Moment) → IsNow two old.links m ⊎ AgreesMoment clients contact group standing came sent m → StandsForSome clients m.files
+  agreed_moment contact group standing came sent two each m (inl now) = each m.files now.image
+  agreed_moment contact group standing came sent two each m (inr adds) = record { of = adds.1.leads.whole; stands_for = adds.1.leads.stands_for }
+
+  of_agreed : (contact : ℕ) (group : Id) (out out' : Stream) (came : Outcome) → HasAgreed clients contact group old new out out' came → Undamaged clients old new
+  of_agreed contact group out out' came did two files each =
+      moments_map old new _ _ (agreed_moment contact group _ came _ two each) (did.told two files).moments
 
   module _ (group : Id) (timestamp : ℕ) (input input' out out' : Stream) where
     of_stopped : (came : Outcome) → StopsShort clients group old new input input' out out' came → Undamaged clients old new
@@ -155,4 +163,8 @@ module _ {H : Type 0} (tells : H → Outside) (clients : Meaning) (h h' : H) (in
       of_store clients (tells h) (tells h')
       (λ o. HasAdded clients (say_plan clients (speech_of group timestamp join name major descriptor)) settling.BeforeAndAfter (tells h) (tells h') out out' o × IsIdle input input')
       input input' out out' came (λ did. of_added clients (tells h) (tells h') _ _ out out' came did.0) comes
+  undamaged (Do (command.Agree contact group)) comes keeps covered =
+      of_store clients (tells h) (tells h')
+      (λ o. HasAgreed clients contact group (tells h) (tells h') out out' o × IsIdle input input')
+      input input' out out' came (λ did. of_agreed clients (tells h) (tells h') contact group out out' came did.0) comes
   undamaged (Do (command.Sync turns quiet links)) comes keeps covered = of_run clients (tells h) (tells h') links covered

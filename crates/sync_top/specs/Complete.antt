@@ -1,6 +1,6 @@
 -- Completeness: a command whose tests hold, whose files serve and which has room is done where no call fails, unless memory is
 -- wanting; but that the bytes decide for `try` and `records`, and the course for `sync`.
-use Rattle.std.specs.Prelude.{◌≡◌, ◌⊎◌, ℕ, ◌+◌, ◌≤◌, Bool, true, false, if◌then◌else◌, nat_lt, List, [], ◌∷◌, ◌++◌, length, Option, Some, is_some, slice_get}
+use Rattle.std.specs.Prelude.{◌≡◌, ◌⊎◌, ℕ, ◌+◌, ◌≤◌, Bool, true, false, if◌then◌else◌, nat_lt, List, [], ◌∷◌, ◌++◌, length, Option, None, Some, is_some, slice_get}
 use Rattle.std.specs.Io.KnownBytes.{Consumes, IsAtEnd}
 use Rattle.std.specs.List.{list_any}
 use Rattle.outside.specs.declared.limits.TheConstants.{MAX_JOURNAL}
@@ -41,6 +41,8 @@ use Rattle.store_commands.specs.Shown.{Showing, body_shown, listing_shown, shows
 use Rattle.sync_run.specs.declared.run.Limits.{Limits}
 use Rattle.sync_run.specs.Courses.{RanToEnd, WasBroken, is_unknown, terms_of}
 use Rattle.tree_commands.specs.Trees.{tree_shown}
+use Rattle.sharing_commands.specs.Agreeing.{AreRoomy}
+use Rattle.sharing_commands.specs.Agreement.{agree_test, agreed_batches}
 use Rattle.sharing_commands.specs.Sayings.{say_plan}
 use Rattle.sync_top.specs.Run.{speech_of}
 use Rattle.sync_top.specs.declared.input.TheConstants.{MAX_INPUT}
@@ -74,6 +76,19 @@ pub record MayPost (clients : Meaning) (group : Id) (timestamp : ℕ) (files : O
   pub stood : ReadsAs clients files before
   pub known : is_some (group_at (facts before).groups group) ≡ true
   pub may_add : (body : List ℕ) → IsBody input input' body → MayAdd clients (λ f. post_plan clients f (message_of group timestamp body)) files
+
+-- behind a journal, however it is settled, there is room for each batch that the targets then ask for
+abbrev pub HasRooms : Meaning → ℕ → Id → List (List Entry) → Type 0
+HasRooms clients contact group j =
+    (first : List (List Entry)) → AllSettling clients (facts j) first → IsSettled clients (after_batches (facts j) first)
+    → AreRoomy (j ++ first) (agreed_batches clients contact group (after_batches (facts j) first))
+
+-- the files stand for a journal over which the tests of `agree` hold, and there is room for what is agreed on
+pub record MayAgreeOn (clients : Meaning) (contact : ℕ) (group : Id) (files : Option (Two File)) : Type 0 where
+  pub before : List (List Entry)
+  pub stood : ReadsAs clients files before
+  pub tested : agree_test (facts before) contact group ≡ None
+  pub room : HasRooms clients contact group before
 
 -- the files stand for a journal of which the command has a text to show
 pub record MayShow (clients : Meaning) (shown : Facts → Showing) (files : Option (Two File)) : Type 0 where
@@ -109,6 +124,7 @@ Serves clients (command.Tree group from count) old new input input' =
     old.files
 Serves clients (command.Say group timestamp join name major descriptor) old new input input' =
     MayAdd clients (say_plan clients (speech_of group timestamp join name major descriptor)) old.files
+Serves clients (command.Agree contact group) old new input input' = MayAgreeOn clients contact group old.files
 Serves clients (command.Sync turns quiet links) old new input input' = MaySync clients (record { turns = turns; quiet = quiet }) links old new
 
 -- ---- what it then comes to

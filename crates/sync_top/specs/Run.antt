@@ -33,6 +33,7 @@ use Rattle.sync_words.specs.Outcomes.{status_of, text_of}
 use Rattle.outside.specs.Streams.{Stream, IsIdle, GetsFront, Gets}
 use Rattle.tree_commands.specs.Trees.{tree_shown}
 use Rattle.sharing_commands.specs.declared.saying.Speech.{Speech}
+use Rattle.sharing_commands.specs.Agreeing.{HasAgreed}
 use Rattle.sharing_commands.specs.Sayings.{say_plan}
 use Rattle.sync_top.specs.RecordText.{items_text}
 use Rattle.commands.specs.Reading.{Asked}
@@ -160,6 +161,8 @@ Comes clients (Do (command.Tree group from count)) old new input input' out out'
     out out' came
 Comes clients (Do (command.Say group timestamp join name major descriptor)) old new input input' out out' came =
     ComesOfStore (λ did. HasAdded clients (say_plan clients (speech_of group timestamp join name major descriptor)) settling.BeforeAndAfter old new out out' did × IsIdle input input') old new input input' out out' came
+Comes clients (Do (command.Agree contact group)) old new input input' out out' came =
+    ComesOfStore (λ did. HasAgreed clients contact group old new out out' did × IsIdle input input') old new input input' out out' came
 Comes clients (Do (command.Sync turns quiet links)) old new input input' out out' came =
     ComesOfStore (λ did. HasRun clients (record { turns = turns; quiet = quiet }) links old new did × Untouched input input' out out') old new input input' out out' came
 

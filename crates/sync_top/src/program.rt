@@ -16,7 +16,7 @@ use crate::streams::{group_of, list_records, try_group};
 use commands::{Command, read_words};
 use journal_play::play_says;
 use outside::{Host, Sink, Source, write_text};
-use sharing_commands::{Speech, say};
+use sharing_commands::{Speech, agree, say};
 use std::alloc::Global;
 use std::hash::RandomState;
 use store_commands::{
@@ -174,6 +174,9 @@ fn obey<H: Host, S: Source, W: Sink, C: Clients>(
                 def,
             };
             say(alloc, hasher, speech, host, out, clients)
+        }
+        Command::Agree(contact, group) => {
+            agree(alloc, hasher, contact, &group, host, out, clients)
         }
         Command::Sync(_, _, _) => unreachable!(),
     }

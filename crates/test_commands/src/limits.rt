@@ -14,6 +14,7 @@ use sync_top::Status;
 pub(crate) fn play_all(tally: &mut Tally) -> Result<()> {
     play_contacts(tally)?;
     play_groups(tally)?;
+    play_agreed(tally)?;
     play_bodies(tally)?;
     play_names(tally)?;
     play_descriptor(tally)
@@ -74,6 +75,29 @@ fn groups_of(alloc: Global, count: u16) -> Result<Vec<u8>, AllocError> {
         add_frame(&mut file, &group)?;
     }
     Ok(file)
+}
+
+// Contact 0, and a `sharing` group in which it was said that the note group `d` is joined.
+const SPOKEN: &str =
+    "0100 020773686172696e6700000000000173 06311b53daff4768334b6081be48ccce56b213b586c99ad602adb2b8706a6171940000000000000001002d010000000000000000000000000000000000000000000000000000000000000000046e6f746500000000000164 08abbf8b887ce25c271ed5e8378a4a513437100423372bec55234e120876061e3e09abbf8b887ce25c271ed5e8378a4a513437100423372bec55234e120876061e3e";
+
+const AGREED: &str =
+    "02046e6f746500000000000164 030076ff4980d3b5f63962cee45401b6b1bb92efe989c27de4629aac92b18163e6e001";
+
+// The group that is agreed on is the 1,024th, or the 1,025th, which can't be added.
+fn play_agreed(tally: &mut Tally) -> Result<()> {
+    let words = "agree 0 311b53daff4768334b6081be48ccce56b213b586c99ad602adb2b8706a617194";
+    let order = Order::new(words, b"");
+    let mut full = groups_of(tally.alloc, 1023)?;
+    add_frames(tally.alloc, &mut full, SPOKEN, u64::MAX)?;
+    let skipped = b"skipped 76ff4980d3b5f63962cee45401b6b1bb92efe989c27de4629aac92b18163e6e0\n";
+    play_done(&order, full.as_slice(), full.as_slice(), skipped, tally)?;
+    let mut before = groups_of(tally.alloc, 1022)?;
+    add_frames(tally.alloc, &mut before, SPOKEN, u64::MAX)?;
+    let mut after = before.as_slice().to_vec(tally.alloc)?;
+    add_frames(tally.alloc, &mut after, AGREED, u64::MAX)?;
+    let set = b"level 0 76ff4980d3b5f63962cee45401b6b1bb92efe989c27de4629aac92b18163e6e0 visible\n";
+    play_done(&order, before.as_slice(), after.as_slice(), set, tally)
 }
 
 // The 1,024th group and the 1,025th.

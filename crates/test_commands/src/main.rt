@@ -45,9 +45,10 @@ enum Table {
     Streams,
     Trees,
     Sharing,
+    Drawn,
 }
 
-static TABLES: [(&str, Table); 12] = [
+static TABLES: [(&str, Table); 13] = [
     ("session", Table::Session),
     ("stored", Table::Stored),
     ("refusals", Table::Refusals),
@@ -60,6 +61,7 @@ static TABLES: [(&str, Table); 12] = [
     ("streams", Table::Streams),
     ("trees", Table::Trees),
     ("sharing", Table::Sharing),
+    ("sharing, drawn", Table::Drawn),
 ];
 
 fn main(rt: HostRuntime) -> Result<()> {
@@ -85,5 +87,6 @@ fn play_table(table: Table, tally: &mut Tally) -> Result<()> {
         Table::Streams => streams::play_all(tally),
         Table::Trees => trees::play_all(tally),
         Table::Sharing => sharing::play_all(tally),
+        Table::Drawn => sharing::play_drawn(tally),
     }
 }

@@ -103,7 +103,7 @@ fn unread(words: &str) -> Order<'_> {
     }
 }
 
-static OF_A_STORE: [&str; 10] = [
+static OF_A_STORE: [&str; 11] = [
     "contact",
     "group note 0 d",
     "group chat 0 d",
@@ -114,13 +114,14 @@ static OF_A_STORE: [&str; 10] = [
     "body 3443418c0382800e42ae01fb9d676b7b25405d2875809cf8d6808f04741c96a4",
     "tree 76ff4980d3b5f63962cee45401b6b1bb92efe989c27de4629aac92b18163e6e0 0 10",
     "say 76ff4980d3b5f63962cee45401b6b1bb92efe989c27de4629aac92b18163e6e0 0 join note 0 d",
+    "agree 0 76ff4980d3b5f63962cee45401b6b1bb92efe989c27de4629aac92b18163e6e0",
 ];
 
 static BEGUN: [&str; 4] = [EMPTY, ONE, HELD, "00"];
 
 const UNREAD: &str = "post 76ff4980d3b5f63962cee45401b6b1bb92efe989c27de4629aac92b18163e6e0 0";
 
-static REFUSALS: [Refusal; 40] = [
+static REFUSALS: [Refusal; 45] = [
     Refusal {
         before: ONE,
         words: "group chat 0 d",
@@ -360,5 +361,35 @@ static REFUSALS: [Refusal; 40] = [
         words: "say 311b53daff4768334b6081be48ccce56b213b586c99ad602adb2b8706a617194 0 join note 0 d",
         input: b"",
         line: "already held",
+    },
+    Refusal {
+        before: EMPTY,
+        words: "agree 0 311b53daff4768334b6081be48ccce56b213b586c99ad602adb2b8706a617194",
+        input: b"",
+        line: "unknown contact",
+    },
+    Refusal {
+        before: SHARING,
+        words: "agree 1 311b53daff4768334b6081be48ccce56b213b586c99ad602adb2b8706a617194",
+        input: b"",
+        line: "unknown contact",
+    },
+    Refusal {
+        before: SHARING,
+        words: "agree 255 76ff4980d3b5f63962cee45401b6b1bb92efe989c27de4629aac92b18163e6e0",
+        input: b"",
+        line: "unknown contact",
+    },
+    Refusal {
+        before: SHARING,
+        words: "agree 0 76ff4980d3b5f63962cee45401b6b1bb92efe989c27de4629aac92b18163e6e0",
+        input: b"",
+        line: "unknown group",
+    },
+    Refusal {
+        before: NOTE,
+        words: "agree 0 76ff4980d3b5f63962cee45401b6b1bb92efe989c27de4629aac92b18163e6e0",
+        input: b"",
+        line: "not a sharing group",
     },
 ];

@@ -70,6 +70,31 @@ fn stop_call(scene: &Scene, calls: u64, call: u64, crash: &Crash, tally: &mut Ta
     Ok(tally.count_call(good, scene.words, crash.name, call)?)
 }
 
+/// Stops a command at each of its calls, and runs it over what is left: it ends the work.
+pub(crate) fn stop_again(scene: &Scene, tally: &mut Tally) -> Result<()> {
+    let calls = scene.calls(tally.alloc)?;
+    for call in 0..calls {
+        for crash in &CRASHES {
+            again_at(scene, calls, call, crash, tally)?;
+        }
+    }
+    Ok(())
+}
+
+// Stops a command of so many calls at this one, and runs it again.
+fn again_at(scene: &Scene, calls: u64, call: u64, crash: &Crash, tally: &mut Tally) -> Result<()> {
+    let came = scene.play(tally.alloc, Failing::Disk(call))?;
+    let left = came.disk().image(crash.pick)?;
+    let stage = scene.stage_at(calls, call, crash.opened);
+    let front = scene.file(tally.alloc, stage)?;
+    let stands = left.file(0).starts_with(front.as_slice());
+    let again = play(tally.alloc, &scene.order(Failing::Nothing), left)?;
+    let whole = scene.file(tally.alloc, scene.stages())?;
+    let ended = again.disk().file(0).starts_with(whole.as_slice());
+    let good = stands & ended & Said::done(scene.out).is_of(&again);
+    Ok(tally.count_call(good, scene.words, crash.name, call)?)
+}
+
 fn begin(alloc: Global, failing: Failing, files: Files<'_>) -> Result<Came> {
     let order = Order {
         words: "init",

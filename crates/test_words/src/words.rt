@@ -138,6 +138,12 @@ fn show_say(
     add(rt, to, &parts);
 }
 
+fn show_agree(rt: &impl Abort, alloc: Global, contact: u8, group: &GroupId, to: &mut String) {
+    let contact = decimal(rt, alloc, u64::from(contact));
+    let group = hex(rt, alloc, group);
+    add(rt, to, &["agree ", contact.as_str(), "+", group.as_str()]);
+}
+
 fn show_def(
     rt: &impl Abort,
     alloc: Global,
@@ -177,6 +183,7 @@ fn show(rt: &impl Abort, alloc: Global, command: &Command, to: &mut String) {
             add(rt, to, &["+"]);
             show_def(rt, alloc, name, *major, descriptor, to);
         }
+        Command::Agree(contact, group) => show_agree(rt, alloc, *contact, group, to),
         Command::Sync(turns, quiet, links) => {
             show_sync(rt, alloc, *turns, *quiet, to);
             for link in links.as_slice() {
@@ -241,7 +248,9 @@ const JOINS: &str =
 const LEAVES: &str =
     "say 76ff4980d3b5f63962cee45401b6b1bb92efe989c27de4629aac92b18163e6e0+9223372036854775807+leave+n+4294967295+";
 
-static COMMANDS: [(&[&str], &str); 88] = [
+const AGREES: &str = "agree 255+76ff4980d3b5f63962cee45401b6b1bb92efe989c27de4629aac92b18163e6e0";
+
+static COMMANDS: [(&[&str], &str); 97] = [
     (&[], "usage 0"),
     (&[""], "usage 0"),
     (&["Try", "note", "d"], "usage 0"),
@@ -358,6 +367,15 @@ static COMMANDS: [(&[&str], &str); 88] = [
         "usage 7",
     ),
     (&["say", GROUP, "0", "x", "", "x", "d", "d"], "usage 3"),
+    (&["agree", "255", UPPER], AGREES),
+    (&["agree"], "usage 1"),
+    (&["agree", "256", GROUP], "usage 1"),
+    (&["agree", "00", GROUP], "usage 1"),
+    (&["agree", "", GROUP], "usage 1"),
+    (&["agree", "0"], "usage 2"),
+    (&["agree", "0", "76ff"], "usage 2"),
+    (&["agree", "0", GROUP, ""], "usage 3"),
+    (&["Agree", "0", GROUP], "usage 0"),
 ];
 
 #[test]

@@ -63,3 +63,9 @@ returns-in_err-def-in-Say-clause-comes g c =
     let clients = g.C.Clients.meaning c.args.clients.now in
     comes_on c.from_residual-in_err-def-in-Say.result outcome.Memory c.from_residual-in_err-def-in-Say.ensures.1 clients (Do c.args.asked) _ _ _ _ _ _
     (memory_comes clients (Do c.args.asked) _ _ _ _ _ (record { same = refl; same_faults = refl }) (record { same = refl; same_faults = refl }))
+
+pub returns-in-Agree-clause-comes : goal.returns-in-Agree-clause-comes
+returns-in-Agree-clause-comes g c =
+    as_command (g.C.Clients.meaning c.args.clients.now) c.args.asked
+    (command.Agree c.in-Agree.contact c.in-Agree.group) _ _ _ _ _ _ _ c.in-Agree.is
+    (inl (c.agree.ensures, (record { same = refl; same_faults = refl })))
