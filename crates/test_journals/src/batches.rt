@@ -38,6 +38,9 @@ fn a_batch_is_written(rt: HostRuntime) {
     let batch = made(&rt, Batch::new(entries));
     same(&rt, &batch_len(Format::Whole, &batch), &4);
     let mut written = Vec::new(alloc);
-    made(&rt, write_batch(Format::Whole, &NoNames, &batch, &mut written));
+    made(
+        &rt,
+        write_batch(Format::Whole, &NoNames, &batch, &mut written),
+    );
     same(&rt, &written.as_slice(), &b"\x01\x00\x01\x07".as_slice());
 }
