@@ -1,7 +1,8 @@
 -- What the command comes to, by its load, its test of the contacts, and the run on its links.
-use Rattle.std.proofs.Common.{◌≡◌, ◌+◌, ◌≤◌, false, List, [], ◌++◌, append-nil, refl, sym, ◌∙◌, ap, subst, arith, Option, None, Some, Result, Ok, Err}
+use Rattle.std.proofs.Common.{◌≡◌, ◌+◌, ◌<◌, ◌≤◌, false, List, [], ◌++◌, append-nil, refl, sym, ◌∙◌, ap, subst, arith, Option, None, Some, Result, Ok, Err}
 use Rattle.std.specs.Prelude.{IsErrAnd}
 use Rattle.std.specs.Option.{option_map}
+use Rattle.outside.specs.declared.limits.TheConstants.{MAX_JOURNAL}
 use Rattle.outside.specs.Disk.{Becomes}
 use Rattle.outside.specs.Faults.{Rose, one_more}
 use Rattle.outside.specs.Files.{Two, File, read_files}
@@ -17,9 +18,10 @@ use Rattle.sync_rules.specs.Facts.{Facts, facts}
 use Rattle.entry_codec.specs.Standing.{Standing, journal, stands}
 use Rattle.sync_store.specs.Fitting.{Fits, FitsSome}
 use Rattle.sync_store.specs.Store.{StoreValue}
-use Rattle.sync_course.specs.Events.{Event, GrowsBy, RoseIf, has_failure, heard_after, readings_of}
+use Rattle.sync_course.specs.Events.{Event, GrowsBy, batches_of, RoseIf, has_failure, heard_after, readings_of}
 use Rattle.sync_node.specs.Courses.{FitsWith, ReadsAs}
 use Rattle.sync_node.specs.Output.{Journal, heard_on, sent_on}
+use Rattle.store_commands.specs.Commit.{format_told, needed_by}
 use Rattle.store_commands.specs.Load.{HasFacts, IsLoaded, LoadedBy}
 use Rattle.sync_words.specs.declared.link_words.LinkWords.{LinkWords}
 use Rattle.sync_course.specs.Closing.{Closing}
@@ -98,7 +100,8 @@ module _ (clients : Meaning) (limits : Limits) (words : List LinkWords) (j : Jou
     batch = was.batch;
     next = was.next;
     steps = was.steps;
-    over = was.over;
+    over =
+        subst (λ (f : Option (Two File)). MAX_JOURNAL < needed_by (format_told f) (j ++ batches_of was.run.events) was.batch) (sym files) was.over;
     sent = λ told i l there unfailed. ap (λ (ls : Links). sent_on ls i) last ∙ was.sent (told_as told) i l there unfailed;
   }
 
