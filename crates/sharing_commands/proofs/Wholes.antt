@@ -21,7 +21,7 @@ use Rattle.sync_store.specs.Fitting.{Fits}
 use Rattle.sync_store.specs.Moments.{IsBetween, JournalMoment}
 use Rattle.sync_store.specs.Runs.{RunsBy}
 use Rattle.sync_store.specs.Settling.{ComesBy}
-use Rattle.sync_store.specs.Store.{StoreValue}
+use Rattle.sync_store.specs.Store.{StoreValue, format_meant, written_in}
 use Rattle.sync_store.proofs.Runs.{runs_then}
 use Rattle.sync_words.specs.declared.outcome.Outcome.{Outcome}
 use Rattle.sync_words.specs.declared.outcome.Outcome.TheVariants as outcome
@@ -31,7 +31,9 @@ use Rattle.std.specs.Prelude.{IsErrAnd, if◌then◌else◌, nat_lt}
 use borrow.Author.Tests.{ltb-true}
 use Rattle.store_commands.proofs.Follow.{stays}
 use Rattle.sharing_commands.specs.Sayings.{sharing_test}
-use Rattle.store_commands.specs.Commit.{ExtendsBy, SettledBy, SettlesAs, needed_by}
+use Rattle.store_commands.specs.Commit.{ExtendsBy, SettledBy, SettlesAs, format_stood, needed_by}
+use Rattle.store_commands.proofs.Stood.{fits_format}
+use Rattle.entry_codec.specs.declared.naming.Format.{Format}
 use Rattle.store_commands.specs.Entries.{AddsBy, is_late}
 use Rattle.store_commands.specs.Load.{HasFacts, IsLoaded, LoadedBy, LoadKeeps, MayExtend}
 use Rattle.store_commands.specs.Show.{Keeps, PrintsText, Rests}
@@ -190,15 +192,21 @@ module _ (clients : Meaning) (contact : ℕ) (group : Id) (s s1 s2 : StoreValue)
       subst (λ (w : List (List Entry)). Fits clients s2 w two2) at.1 at.2
 
   -- there was room for what was added
-  front_roomy : s.limit ≡ MAX_JOURNAL → AreRoomy (j ++ settled.more) added.front
+  front_roomy : s.limit ≡ MAX_JOURNAL → AreRoomy (written_in s1) (j ++ settled.more) added.front
   front_roomy limited =
       let told1 = told_on o o1 two run.same_told files in
       let fits1 = settled_fits told1.0 told1.1 in
       added.roomy (settled.comes.limit ∙ limited) (j ++ settled.more) fits1.end_is fits1.facts_are
 
-  whole_roomy : s.limit ≡ MAX_JOURNAL → added.front ≡ agreed_batches clients contact group s1.state.facts
-      → AreRoomy (j ++ settled.more) (agreed_batches clients contact group (after_batches (facts j) settled.more))
-  whole_roomy limited whole = subst (λ (xs : List (List Entry)). AreRoomy (j ++ settled.more) xs) (whole ∙ all_is) (front_roomy limited)
+  -- the format of the files at the end
+  last_kind : (two2 : Two File) → Fits clients s2 (j ++ (settled.more ++ added.front)) two2 → written_in s1 ≡ format_stood (read_files two2)
+  last_kind two2 fits2 = ap format_meant (sym added.runs.format) ∙ fits_format clients s2 (j ++ (settled.more ++ added.front)) two2 fits2
+
+  whole_roomy : s.limit ≡ MAX_JOURNAL → added.front ≡ agreed_batches clients contact group s1.state.facts → (format : Format) → written_in s1 ≡ format
+      → AreRoomy format (j ++ settled.more) (agreed_batches clients contact group (after_batches (facts j) settled.more))
+  whole_roomy limited whole format kind =
+      subst (λ (k : Format). AreRoomy k (j ++ settled.more) (agreed_batches clients contact group (after_batches (facts j) settled.more))) kind
+      (subst (λ (xs : List (List Entry)). AreRoomy (written_in s1) (j ++ settled.more) xs) (whole ∙ all_is) (front_roomy limited))
 
   -- all that the targets ask for was added
   pub agreed_whole : s.limit ≡ MAX_JOURNAL → s2.closed ≡ false → added.front ≡ agreed_batches clients contact group s1.state.facts
@@ -210,7 +218,7 @@ module _ (clients : Meaning) (contact : ℕ) (group : Id) (s s1 s2 : StoreValue)
         first = settled.more;
         settles = settles;
         settled = is_settled;
-        roomy = whole_roomy limited whole;
+        roomy = whole_roomy limited whole (format_stood (read_files two2)) (last_kind two2 fits2);
         stands_for = fits2.stands_for ∙ ap (λ (xs : List (List Entry)). journal (j ++ (settled.more ++ xs))) (whole ∙ all_is);
         first_settled = fits2.first_settled;
         second_settled = fits2.second_settled;
@@ -224,8 +232,10 @@ module _ (clients : Meaning) (contact : ℕ) (group : Id) (s s1 s2 : StoreValue)
   agreed_cut limited still next rest parts over two2 files2 =
       let fits2 = last_fits still two2 files2 in
       let limit : s2.limit ≡ MAX_JOURNAL = both.limit ∙ limited in
-      let sum : needed s2 next ≡ needed_by (j ++ (settled.more ++ added.front)) next =
-      weighed s2 (j ++ (settled.more ++ added.front)) next fits2.end_is fits2.facts_are in
+      let sum : needed s2 next ≡ needed_by (format_stood (read_files two2)) (j ++ (settled.more ++ added.front)) next =
+      weighed s2 (j ++ (settled.more ++ added.front)) next fits2.end_is fits2.facts_are
+      ∙ ap (λ (k : Format). needed_by k (j ++ (settled.more ++ added.front)) next)
+      (fits_format clients s2 (j ++ (settled.more ++ added.front)) two2 fits2) in
       record {
         first = settled.more;
         front = added.front;

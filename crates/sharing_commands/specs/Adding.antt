@@ -17,7 +17,7 @@ use Rattle.sync_store.specs.Moments.{JournalMoment}
 use Rattle.store_commands.specs.Entries.{AddsBy, is_late}
 use Rattle.sync_store.specs.Ready.{IsReady}
 use Rattle.sync_store.specs.Runs.{RunsBy}
-use Rattle.sync_store.specs.Store.{IsStore, StoreValue}
+use Rattle.sync_store.specs.Store.{IsStore, StoreValue, written_in}
 use Rattle.sync_words.specs.declared.outcome.Outcome.{Outcome}
 use Rattle.sync_words.specs.declared.outcome.Outcome.TheVariants as outcome
 use Rattle.sharing_commands.specs.Agreeing.{AgreesOn, AreRoomy, IsAgreed, IsCut}
@@ -46,8 +46,8 @@ AddsSo s all front (Err _) = ⊥
 pub record AddsFront (clients : Meaning) (s s' : StoreValue) (o o' : Outside) (all : List (List Entry)) (result : Result (Unit {0}) Outcome) : Type 0 where
   pub front : List (List Entry)
   pub runs : RunsBy clients s s' o o' front
-  pub ends : s'.closed ≡ false → (j : List (List Entry)) → s.end ≡ journal_end j → s'.end ≡ journal_end (j ++ front)
-  pub roomy : s.limit ≡ MAX_JOURNAL → (j : List (List Entry)) → s.end ≡ journal_end j → facts j ≡ s.state.facts → AreRoomy j front
+  pub ends : s'.closed ≡ false → (j : List (List Entry)) → s.end ≡ journal_end (written_in s) j → s'.end ≡ journal_end (written_in s) (j ++ front)
+  pub roomy : s.limit ≡ MAX_JOURNAL → (j : List (List Entry)) → s.end ≡ journal_end (written_in s) j → facts j ≡ s.state.facts → AreRoomy (written_in s) j front
   pub answer : AddsSo s' all front result
 
 -- a settled store that knows a contact

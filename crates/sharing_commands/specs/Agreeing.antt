@@ -17,7 +17,8 @@ use Rattle.entry_codec.specs.Standing.{Standing, no_store, damaged, journal, sta
 use Rattle.sync_store.specs.Moments.{IsBetween, JournalMoment}
 use Rattle.sync_words.specs.declared.outcome.Outcome.{Outcome}
 use Rattle.sync_words.specs.declared.outcome.Outcome.TheVariants as outcome
-use Rattle.store_commands.specs.Commit.{needed_by}
+use Rattle.entry_codec.specs.declared.naming.Format.{Format}
+use Rattle.store_commands.specs.Commit.{format_stood, needed_by}
 use Rattle.store_commands.specs.Entries.{AddsBy, is_late}
 use Rattle.store_commands.specs.Show.{ReadsAs}
 use Rattle.sharing_commands.specs.Agreement.{agree_test, agreed_batches, agreed_text}
@@ -37,10 +38,10 @@ pub record AgreesOn (clients : Meaning) (contact : ℕ) (group : Id) (j whole : 
   pub adds : AllSettling clients (facts j) more ⊎ AgreesWhole clients contact group (facts j) more
   pub between : IsBetween j more whole
 
--- there was room for each of these batches when it was committed
-abbrev pub AreRoomy : List (List Entry) → List (List Entry) → Type 0
-AreRoomy j [] = Unit {0}
-AreRoomy j (b ∷ bs) = (needed_by j b ≤ MAX_JOURNAL) × AreRoomy (j ++ b ∷ []) bs
+-- there was room for each of these batches, in this format, when it was committed
+abbrev pub AreRoomy : Format → List (List Entry) → List (List Entry) → Type 0
+AreRoomy format j [] = Unit {0}
+AreRoomy format j (b ∷ bs) = (needed_by format j b ≤ MAX_JOURNAL) × AreRoomy format (j ++ b ∷ []) bs
 
 -- The files stand for the journal, all of its settling, and all that the targets ask for; nothing is pending in them, so that each
 -- crash leaves this. The text is that of the targets.
@@ -48,7 +49,7 @@ pub record IsAgreed (clients : Meaning) (contact : ℕ) (group : Id) (j : List (
   pub first : List (List Entry)
   pub settles : AllSettling clients (facts j) first
   pub settled : IsSettled clients (after_batches (facts j) first)
-  pub roomy : AreRoomy (j ++ first) (agreed_batches clients contact group (after_batches (facts j) first))
+  pub roomy : AreRoomy (format_stood (read_files two)) (j ++ first) (agreed_batches clients contact group (after_batches (facts j) first))
   pub stands_for : stands clients (read_files two) ≡ journal (j ++ (first ++ agreed_batches clients contact group (after_batches (facts j) first)))
   pub first_settled : NothingPending two 0
   pub second_settled : NothingPending two 1
@@ -65,7 +66,7 @@ pub record IsCut (clients : Meaning) (contact : ℕ) (group : Id) (j : List (Lis
   pub settled : IsSettled clients (after_batches (facts j) first)
   pub parts : agreed_batches clients contact group (after_batches (facts j) first) ≡ front ++ next ∷ rest
   pub stands_for : stands clients (read_files two) ≡ journal (j ++ (first ++ front))
-  pub over : MAX_JOURNAL < needed_by (j ++ (first ++ front)) next
+  pub over : MAX_JOURNAL < needed_by (format_stood (read_files two)) (j ++ (first ++ front)) next
 
 -- ---- from the files that were told
 

@@ -30,7 +30,7 @@ use Rattle.commands.specs.declared.command.Command.TheVariants as command
 use Rattle.store_commands.specs.declared.commit.Settling.{Settling}
 use Rattle.store_commands.specs.declared.commit.Settling.TheVariants as settling
 use Rattle.store_commands.specs.declared.listing.Listing.TheVariants as listing
-use Rattle.store_commands.specs.Commit.{format_stood}
+use Rattle.store_commands.specs.Commit.{format_stood, needed_by}
 use Rattle.store_commands.specs.Entries.{HasAdded}
 use Rattle.store_commands.specs.Init.{HasBegun}
 use Rattle.store_commands.specs.Plans.{Plan, adds, contact_plan, group_plan, level_plan, refuses}
@@ -193,11 +193,12 @@ module _ (clients : Meaning) (old new : Outside) (input input' out out' : Stream
       let same : full.before ≡ may.before = cc in
       let has : HasRooms clients contact group full.before =
       subst (λ (j : List (List Entry)). HasRooms clients contact group j) (sym same) may.room in
-      let roomy : AreRoomy (full.before ++ cut.first) (cut.front ++ cut.next ∷ cut.rest) =
-      subst (λ (all : List (List Entry)). AreRoomy (full.before ++ cut.first) all) cut.parts (has cut.first cut.settles cut.settled) in
-      let room : needed_by (full.before ++ (cut.first ++ cut.front)) cut.next ≤ MAX_JOURNAL =
-      subst (λ (j : List (List Entry)). needed_by j cut.next ≤ MAX_JOURNAL) (append_assoc full.before cut.first cut.front)
-      (room_at (full.before ++ cut.first) cut.front cut.next cut.rest roomy) in
+      let format = format_stood (read_files now.0) in
+      let roomy : AreRoomy format (full.before ++ cut.first) (cut.front ++ cut.next ∷ cut.rest) =
+      subst (λ (all : List (List Entry)). AreRoomy format (full.before ++ cut.first) all) cut.parts (has cut.first cut.settles cut.settled format) in
+      let room : needed_by format (full.before ++ (cut.first ++ cut.front)) cut.next ≤ MAX_JOURNAL =
+      subst (λ (j : List (List Entry)). needed_by format j cut.next ≤ MAX_JOURNAL) (append_assoc full.before cut.first cut.front)
+      (room_at format (full.before ++ cut.first) cut.front cut.next cut.rest roomy) in
       absurd (omega (arith, room, cut.over))
   agreed_done contact group _ did may = absurd did.by
 

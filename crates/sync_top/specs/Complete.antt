@@ -77,11 +77,11 @@ pub record MayPost (clients : Meaning) (group : Id) (timestamp : ℕ) (files : O
   pub known : is_some (group_at (facts before).groups group) ≡ true
   pub may_add : (body : List ℕ) → IsBody input input' body → MayAdd clients (λ f. post_plan clients f (message_of group timestamp body)) files
 
--- behind a journal, however it is settled, there is room for each batch that the targets then ask for
+-- behind a journal, however it is settled, there is room in either format for each batch that the targets then ask for
 abbrev pub HasRooms : Meaning → ℕ → Id → List (List Entry) → Type 0
 HasRooms clients contact group j =
     (first : List (List Entry)) → AllSettling clients (facts j) first → IsSettled clients (after_batches (facts j) first)
-    → AreRoomy (j ++ first) (agreed_batches clients contact group (after_batches (facts j) first))
+    → (format : Format) → AreRoomy format (j ++ first) (agreed_batches clients contact group (after_batches (facts j) first))
 
 -- the files stand for a journal over which the tests of `agree` hold, and there is room for what is agreed on
 pub record MayAgreeOn (clients : Meaning) (contact : ℕ) (group : Id) (files : Option (Two File)) : Type 0 where
