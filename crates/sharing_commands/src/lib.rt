@@ -1,9 +1,9 @@
 //! The commands of the two people who agree on the groups that they share: `say` and `agree`.
 //!
-//! - `saying`: the command that joins a group or leaves it; `previous`: what its author said before.
+//! - `saying`: the command that joins a group or leaves it; `previous`: the message before.
 //! - `agreeing`: the command that sets the levels that both agree on; `words`: what they said.
-//! - `deed`: what a target asks of a journal; `setting`: the targets, one after the other; `adding`:
-//!   the entries, each a batch of its own; `laws`: which levels they leave.
+//! - `deed`: what a target asks of a journal; `setting`: the targets, one after the other;
+//!   `adding`: the entries, each a batch of its own; `laws`: which levels they leave.
 #![tactic(auto)]
 
 mod adding;

@@ -23,8 +23,8 @@ pub(crate) fn previous_own(store: &Store, group: &GroupId) -> MessageId
     last
 }
 
-// The k-th delivered message where it is one of the group that was written here, and else an earlier
-// one.
+// The k-th delivered message where it is one of the group that was written here, and else an
+// earlier one.
 fn own_or(store: &Store, k: u32, group: &GroupId, earlier: MessageId) -> MessageId
     requires { k < length store.now.state.facts.delivered }
     ensures { (id : Id) → slice_get store.now.state.facts.delivered k ≡ Some id

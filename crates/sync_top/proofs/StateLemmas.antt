@@ -31,6 +31,7 @@ use Rattle.commands.specs.declared.fault.WordsFault.TheVariants as fault
 use Rattle.store_commands.specs.declared.commit.Settling.TheVariants as settling
 use Rattle.store_commands.specs.Entries.{HasAdded}
 use Rattle.store_commands.specs.Plans.{group_plan}
+use Rattle.sharing_commands.specs.declared.saying.Speech.{Speech}
 use Rattle.sharing_commands.specs.Sayings.{say_plan}
 use Rattle.sync_top.specs.declared.input.TheConstants.{MAX_INPUT}
 use Rattle.sync_top.specs.Run.{AsksSync, Comes, DoesNothing, KeepsHost, Reports, ReadsStream, ReadsWhole, Streams, TriesClient}
@@ -146,14 +147,17 @@ group_comes clients asked name descriptor given rest major def old new input inp
     (inl (subst (λ (d : GroupValue). HasAdded clients (λ f. group_plan clients f d) settling.Before old new out out' came) words added, idle))
 
 -- what the words say was said
-pub say_comes : (clients : Meaning) (asked : Command) (group : Id) (timestamp : ℕ) (join : Bool) (name descriptor given rest : List ℕ) (major : ℕ) (def : GroupValue) (old new : Outside) (input input' out out' : Stream) (came : Outcome)
+pub say_comes : (clients : Meaning) (asked : Command) (group : Id) (timestamp : ℕ) (join : Bool) (name descriptor given rest : List ℕ) (major : ℕ) (def : GroupValue) (speech : Speech) (old new : Outside) (input input' out out' : Stream) (came : Outcome)
     → asked ≡ command.Say group timestamp join name major descriptor → given ≡ name → rest ≡ descriptor → def ≡ record { name = given; major = major; descriptor = rest }
-    → HasAdded clients (say_plan clients (record { group = group; timestamp = timestamp; join = join; def = def })) settling.BeforeAndAfter old new out out' came → IsIdle input input'
+    → speech ≡ record { group = group; timestamp = timestamp; join = join; def = def }
+    → HasAdded clients (say_plan clients speech) settling.BeforeAndAfter old new out out' came → IsIdle input input'
     → Comes clients (Do asked) old new input input' out out' came
-say_comes clients asked group timestamp join name descriptor given rest major def old new input input' out out' came is first second made added idle =
+say_comes clients asked group timestamp join name descriptor given rest major def speech old new input input' out out' came is first second made spoken added idle =
+    let said : HasAdded clients (say_plan clients (record { group = group; timestamp = timestamp; join = join; def = def })) settling.BeforeAndAfter old new out out' came =
+    subst (λ (s : Speech). HasAdded clients (say_plan clients s) settling.BeforeAndAfter old new out out' came) spoken added in
     let words : def ≡ record { name = name; major = major; descriptor = descriptor } = def_is name descriptor given rest major def first second made in
     subst (λ (a : Command). Comes clients (Do a) old new input input' out out' came) (sym is)
-    (inl (subst (λ (d : GroupValue). HasAdded clients (say_plan clients (record { group = group; timestamp = timestamp; join = join; def = d })) settling.BeforeAndAfter old new out out' came) words added, idle))
+    (inl (subst (λ (d : GroupValue). HasAdded clients (say_plan clients (record { group = group; timestamp = timestamp; join = join; def = d })) settling.BeforeAndAfter old new out out' came) words said, idle))
 
 -- ---- answers of commands
 

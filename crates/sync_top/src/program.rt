@@ -22,6 +22,7 @@ use std::hash::RandomState;
 use store_commands::{
     Listing, add_contact, add_group, list, make_store, post_message, set_level, write_body,
 };
+use sync_ids::{GroupDef, GroupId};
 use sync_rules::Clients;
 use sync_run::{Limits, sync_links};
 use sync_words::{Outcome, Status};
@@ -136,15 +137,10 @@ fn obey<H: Host, S: Source, W: Sink, C: Clients>(
     ensures host { KeepsHost (Do asked) host.old host.new }
 {
     match asked {
-        Command::Try(name, descriptor) => try_group(
-            alloc,
-            hasher,
-            name.as_str(),
-            descriptor.as_str(),
-            input,
-            out,
-            clients,
-        ),
+        Command::Try(name, descriptor) => {
+            let (name, descriptor) = (name.as_str(), descriptor.as_str());
+            try_group(alloc, hasher, name, descriptor, input, out, clients)
+        }
         Command::Records => list_records(alloc, input, out),
         Command::Init => make_store(host, out),
         Command::Contact => add_contact(alloc, hasher, host, out, clients),
@@ -167,18 +163,25 @@ fn obey<H: Host, S: Source, W: Sink, C: Clients>(
         }
         Command::Say(group, timestamp, join, name, major, descriptor) => {
             let def = group_of(alloc, name.as_str(), major, descriptor.as_str())?;
-            let speech = Speech {
-                group,
-                timestamp,
-                join,
-                def,
-            };
+            let speech = spoken(group, timestamp, join, def);
             say(alloc, hasher, speech, host, out, clients)
         }
         Command::Agree(contact, group) => {
             agree(alloc, hasher, contact, &group, host, out, clients)
         }
         Command::Sync(_, _, _) => unreachable!(),
+    }
+}
+
+// What is said at this time of the group of this definition.
+fn spoken(group: GroupId, timestamp: u64, join: bool, def: GroupDef) -> Speech
+    ensures { result ≡ record { group = group; timestamp = timestamp; join = join; def = def } }
+{
+    Speech {
+        group,
+        timestamp,
+        join,
+        def,
     }
 }
 

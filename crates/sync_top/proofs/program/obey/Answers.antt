@@ -55,7 +55,7 @@ returns-in_err-def-in-Group-clause-comes g c =
 pub returns-in_ok-def-in-Say-clause-comes : goal.returns-in_ok-def-in-Say-clause-comes
 returns-in_ok-def-in-Say-clause-comes g c =
     say_comes (g.C.Clients.meaning c.args.clients.now) c.args.asked c.in-Say.group c.in-Say.timestamp c.in-Say.join c.in-Say.name c.in-Say.descriptor c.as_str-in-Say.result.now c.as_str-in-Say-2.result.now
-    c.in-Say.major c.in_ok-def-in-Say.def _ _ _ _ _ _ _ c.in-Say.is c.as_str-in-Say.ensures c.as_str-in-Say-2.ensures c.in_ok-def-in-Say.ensures c.say.ensures
+    c.in-Say.major c.in_ok-def-in-Say.def c.spoken-speech.result _ _ _ _ _ _ _ c.in-Say.is c.as_str-in-Say.ensures c.as_str-in-Say-2.ensures c.in_ok-def-in-Say.ensures c.spoken-speech.ensures c.say.ensures
     (record { same = refl; same_faults = refl })
 
 pub returns-in_err-def-in-Say-clause-comes : goal.returns-in_err-def-in-Say-clause-comes
