@@ -137,10 +137,15 @@ fn obey<H: Host, S: Source, W: Sink, C: Clients>(
     ensures host { KeepsHost (Do asked) host.old host.new }
 {
     match asked {
-        Command::Try(name, descriptor) => {
-            let (name, descriptor) = (name.as_str(), descriptor.as_str());
-            try_group(alloc, hasher, name, descriptor, input, out, clients)
-        }
+        Command::Try(name, descriptor) => try_group(
+            alloc,
+            hasher,
+            name.as_str(),
+            descriptor.as_str(),
+            input,
+            out,
+            clients,
+        ),
         Command::Records => list_records(alloc, input, out),
         Command::Init => make_store(host, out),
         Command::Contact => add_contact(alloc, hasher, host, out, clients),

@@ -133,9 +133,12 @@ fn show_say(
 ) {
     let group = hex(rt, alloc, group);
     let timestamp = decimal(rt, alloc, timestamp);
-    let stance = if join { "join" } else { "leave" };
-    let parts = ["say ", group.as_str(), "+", timestamp.as_str(), "+", stance];
-    add(rt, to, &parts);
+    add(rt, to, &["say ", group.as_str(), "+", timestamp.as_str()]);
+    if join {
+        add(rt, to, &["+join"]);
+    } else {
+        add(rt, to, &["+leave"]);
+    }
 }
 
 fn show_agree(rt: &impl Abort, alloc: Global, contact: u8, group: &GroupId, to: &mut String) {

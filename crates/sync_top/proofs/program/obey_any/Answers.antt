@@ -1,5 +1,5 @@
 use Rattle.std.proofs.Common.{refl, inl}
-use Rattle.std.specs.Prelude.{Ok}
+use Rattle.std.specs.Prelude.{Err, Ok}
 use Rattle.commands.specs.declared.command.Command.TheVariants as command
 use Rattle.sync_top.proofs.HeadlineLemmas.{has_run}
 use Rattle.sync_top.proofs.StateLemmas.{as_command}
@@ -12,6 +12,17 @@ returns-in-Ok-clause-comes g c =
     as_command clients c.args.asked (command.Sync c.in-Sync.turns c.in-Sync.quiet c.in-Sync.links) _ _ _ _ _ _ _ c.in-Sync.is
     (inl (
       has_run clients _ c.in-Sync.links c.as_slice.result.now _ _ (Ok c.in-Ok.ends) _ c.as_slice.ensures.links refl e.headline
+          (λ two files. record { rests = e.rests two files; sent = e.sent two files; sent_full = e.sent_full two files; comes = e.comes two files; unbegun = e.unbegun two files }) e.specs e.caused e.leaves,
+      (record { same = refl; same_faults = refl }, record { same = refl; same_faults = refl }),
+    ))
+
+pub returns-in-Sync-clause-comes : goal.returns-in-Sync-clause-comes
+returns-in-Sync-clause-comes g c =
+    let clients = g.C.Clients.meaning c.args.clients.now in
+    let e = c.in-Err.ensures in
+    as_command clients c.args.asked (command.Sync c.in-Sync.turns c.in-Sync.quiet c.in-Sync.links) _ _ _ _ _ _ _ c.in-Sync.is
+    (inl (
+      has_run clients _ c.in-Sync.links c.as_slice.result.now _ _ (Err c.in-Err.came) _ c.as_slice.ensures.links refl e.headline
           (λ two files. record { rests = e.rests two files; sent = e.sent two files; sent_full = e.sent_full two files; comes = e.comes two files; unbegun = e.unbegun two files }) e.specs e.caused e.leaves,
       (record { same = refl; same_faults = refl }, record { same = refl; same_faults = refl }),
     ))
