@@ -253,7 +253,7 @@ const LEAVES: &str =
 
 const AGREES: &str = "agree 255+76ff4980d3b5f63962cee45401b6b1bb92efe989c27de4629aac92b18163e6e0";
 
-static COMMANDS: [(&[&str], &str); 97] = [
+static COMMANDS: [(&[&str], &str); 69] = [
     (&[], "usage 0"),
     (&[""], "usage 0"),
     (&["Try", "note", "d"], "usage 0"),
@@ -323,6 +323,10 @@ static COMMANDS: [(&[&str], &str); 97] = [
     (&["tree", GROUP, "0"], "usage 3"),
     (&["tree", GROUP, "0", "4294967296"], "usage 3"),
     (&["tree", GROUP, "0", "10", "x"], "usage 4"),
+];
+
+// A table apart, since the checker's steps for one test end before the rows of both.
+static SHARING: [(&[&str], &str); 28] = [
     (&["say", GROUP, "0", "join", "note", "0", "d"], JOINS),
     (
         &[
@@ -384,6 +388,13 @@ static COMMANDS: [(&[&str], &str); 97] = [
 #[test]
 fn words_of_commands(rt: HostRuntime) {
     for (at, (words, want)) in COMMANDS.iter().enumerate() {
+        expect_words(&rt, rt.alloc(), at, words, want);
+    }
+}
+
+#[test]
+fn words_of_sharing(rt: HostRuntime) {
+    for (at, (words, want)) in SHARING.iter().enumerate() {
         expect_words(&rt, rt.alloc(), at, words, want);
     }
 }
