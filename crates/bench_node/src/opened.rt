@@ -24,9 +24,9 @@ pub(crate) fn open<H: Host, C: Clients>(
     ensures contact { IfOk result (λ store. 0 < store.state.facts.contacts) }
     ensures dialled { IfOk result (λ _. 0 < (H.tells host.new).links.dialled) }
 {
-    if host.dial("memory").is_err() {
+    let Ok(_) = host.dial("memory") else {
         return Err(Stop::NoLink);
-    }
+    };
     let Ok(hasher) = RandomState::new(&MemRandom(0)) else {
         return Err(Stop::NotBegun);
     };
