@@ -1,0 +1,12 @@
+mod Sides
+mod Keeping
+mod FirstIds
+mod Brought
+mod Fronts
+mod Copied
+mod Errors
+mod All
+mod Shut
+mod Begun
+mod Published
+mod Migrated

@@ -1,0 +1,124 @@
+use Rattle.std.proofs.Common.{◌≡◌, ℕ, ◌+◌, Result, Err, sym, ap, subst, ◌∙◌, arith}
+use Rattle.outside.specs.Files.{file_of}
+use Rattle.outside.specs.Disk.{Becomes}
+use Rattle.outside.specs.Steps.{Passed}
+use Rattle.outside.proofs.CallSteps.{run_then}
+use Rattle.frame_journal.specs.Journal.{JournalValue}
+use Rattle.frame_journal.specs.Create.{IsPrepared, Publishes, ShutOrOpened}
+use Rattle.journal_migration.specs.Faults.{fault_of_start}
+use Rattle.journal_migration.specs.Migrating.{Migrates, MigratesSo}
+use Rattle.journal_migration.specs.declared.fault.MigrationFault.{MigrationFault}
+use Rattle.journal_migration.specs.declared.fault.MigrationFault.TheVariants as fault
+use Rattle.journal_migration.proofs.Begun.{begun_copies, begun_so}
+use Rattle.journal_migration.proofs.Errors.{err_is}
+use Rattle.journal_migration.proofs.Migrated.{copy_elsewhere, copy_failed, looked_so, open_failed, opened_so}
+use Rattle.journal_migration.proofs.Shut.{prepared_so, works_ready}
+use Rattle.journal_migration.proofs.migrating.migrate.Goals as goal
+
+pub returns-in_err-reader-clause-migrates : goal.returns-in_err-reader-clause-migrates
+returns-in_err-reader-clause-migrates g c clients j two told same holds =
+    let e = fault_of_start c.in_err-reader.field-0.0 in
+    looked_so clients c.args.file c.args.generation j (g.D.Disk.tells c.args.disk.now) (g.D.Disk.tells c.start.new.disk) two told c.requires.file holds c.start.ensures.looks e
+    c.from_residual.result (err_is c.from_residual.result e c.from_residual.ensures.1)
+
+pub returns-in_err-writer-clause-migrates : goal.returns-in_err-writer-clause-migrates
+returns-in_err-writer-clause-migrates g c clients j two told same holds =
+    let o0 = g.D.Disk.tells c.args.disk.now in
+    let o2 = g.D.Disk.tells c.begin.new.disk in
+    let r = c.in_ok-reader.reader in
+    let result = c.from_residual-in_err-writer.result in
+    subst (λ (x : Result JournalValue MigrationFault). Migrates clients c.args.file c.args.generation j o0 o2 x) (sym (err_is result fault.DiskFault c.from_residual-in_err-writer.ensures.1))
+    (begun_so clients c.args.state.now.facts c.args.generation j c.args.file r r o0 (g.D.Disk.tells c.start.new.disk) o2 two told c.requires.file holds c.start.ensures.looks c.begin.ensures.moments
+    (MigratesSo clients c.args.file c.args.generation j (Err fault.DiskFault)) (λ t end. tt))
+
+pub copy_all-requires-clause-works : goal.copy_all-requires-clause-works
+copy_all-requires-clause-works g c =
+    works_ready c.args.file (c.args.generation + 1) c.in_ok-reader.reader c.in_ok-writer.writer (g.D.Disk.tells c.args.disk.now) (g.D.Disk.tells c.start.new.disk) (g.D.Disk.tells c.begin.new.disk)
+    c.requires.file c.requires.settled c.start.ensures.looks c.begin.ensures.run c.in_ok-reader.ensures.start c.in_ok-writer.ensures.prepared (sym c.file.ensures.value ∙ c.if-file.false)
+    c.in_ok-writer.ensures.value
+
+pub returns-in_err-copy_all-clause-migrates : goal.returns-in_err-copy_all-clause-migrates
+returns-in_err-copy_all-clause-migrates g c clients j two told same holds =
+    let f = c.args.state.now.facts in
+    let generation = c.args.generation in
+    let file = c.args.file in
+    let r = c.in_ok-reader.reader in
+    let n = c.in_ok-writer.writer in
+    let o0 = g.D.Disk.tells c.args.disk.now in
+    let o1 = g.D.Disk.tells c.start.new.disk in
+    let o2 = g.D.Disk.tells c.begin.new.disk in
+    let reader : r.file ≡ file = sym c.file.ensures.value ∙ c.if-file.false in
+    let begun = begun_copies clients f generation j file r n o0 o1 o2 two told c.requires.file holds c.start.ensures.looks c.begin.ensures.moments same reader c.in_ok-reader.ensures.fresh.1
+    c.in_ok-writer.ensures.value c.in_ok-writer.ensures.prepared in
+    let e = c.in_err-copy_all.field-0.0 in
+    copy_failed clients f generation j file r n c.copy_all.new.reader c.copy_all.new.writer o0 o2 (g.D.Disk.tells c.copy_all.new.disk) two told
+    (run_then o0 o1 o2 c.start.ensures.looks.run c.begin.ensures.run) reader begun e
+    (λ mid at copies. c.in_err-copy_all.ensures.copies clients generation j mid at copies) c.from_residual-in_err-copy_all.result
+    (err_is c.from_residual-in_err-copy_all.result e c.from_residual-in_err-copy_all.ensures.1)
+
+pub returns-then-end-clause-migrates : goal.returns-then-end-clause-migrates
+returns-then-end-clause-migrates g c clients j two told same holds =
+    let f = c.args.state.now.facts in
+    let generation = c.args.generation in
+    let file = c.args.file in
+    let r = c.in_ok-reader.reader in
+    let n = c.in_ok-writer.writer in
+    let o0 = g.D.Disk.tells c.args.disk.now in
+    let o1 = g.D.Disk.tells c.start.new.disk in
+    let o2 = g.D.Disk.tells c.begin.new.disk in
+    let reader : r.file ≡ file = sym c.file.ensures.value ∙ c.if-file.false in
+    let begun = begun_copies clients f generation j file r n o0 o1 o2 two told c.requires.file holds c.start.ensures.looks c.begin.ensures.moments same reader c.in_ok-reader.ensures.fresh.1
+    c.in_ok-writer.ensures.value c.in_ok-writer.ensures.prepared in
+    copy_elsewhere clients f generation j file r n c.copy_all.new.reader c.copy_all.new.writer o0 o2 (g.D.Disk.tells c.copy_all.new.disk) two told
+    (run_then o0 o1 o2 c.start.ensures.looks.run c.begin.ensures.run) reader begun
+    (λ mid at copies. c.in_ok-copy_all.ensures.copies clients generation j mid at copies) (c.in_ok-copy_all.ensures.same.reader_file ∙ reader)
+
+pub publish-requires-clause-prepared : goal.publish-requires-clause-prepared
+publish-requires-clause-prepared g c x told =
+    subst (IsPrepared x) (sym c.file-2.ensures.value) (prepared_so c.copy_all.new.reader c.copy_all.new.writer x (c.in_ok-copy_all.ensures.works x told))
+
+pub returns-in_err-publish-clause-migrates : goal.returns-in_err-publish-clause-migrates
+returns-in_err-publish-clause-migrates g c clients j two told same holds =
+    let f = c.args.state.now.facts in
+    let generation = c.args.generation in
+    let file = c.args.file in
+    let r = c.in_ok-reader.reader in
+    let n = c.in_ok-writer.writer in
+    let n' = c.copy_all.new.writer in
+    let o0 = g.D.Disk.tells c.args.disk.now in
+    let o1 = g.D.Disk.tells c.start.new.disk in
+    let o2 = g.D.Disk.tells c.begin.new.disk in
+    let o3 = g.D.Disk.tells c.copy_all.new.disk in
+    let o4 = g.D.Disk.tells c.publish.new.disk in
+    let reader : r.file ≡ file = sym c.file.ensures.value ∙ c.if-file.false in
+    let run = run_then o0 o1 o2 c.start.ensures.looks.run c.begin.ensures.run in
+    let begun = begun_copies clients f generation j file r n o0 o1 o2 two told c.requires.file holds c.start.ensures.looks c.begin.ensures.moments same reader c.in_ok-reader.ensures.fresh.1
+    c.in_ok-writer.ensures.value c.in_ok-writer.ensures.prepared in
+    let result = c.from_residual-in_err-publish.result in
+    open_failed clients f generation j file r n c.copy_all.new.reader n' o0 o2 o3 two told run reader begun c.cite_laws.ensures o4 (run_then o0 o2 o3 run c.copy_all.ensures.run)
+    c.in_ok-copy_all.ensures.pair (omega (arith, c.requires.generation)) (λ mid at copies. c.in_ok-copy_all.ensures.copies clients generation j mid at copies)
+    (λ t at. subst (λ (k : ℕ). Passed t o3 o4 k (ShutOrOpened (file_of t k).now)) c.file-2.ensures.value (c.publish.ensures.any_moment t at)) result
+    (err_is result fault.DiskFault c.from_residual-in_err-publish.ensures.1)
+
+pub returns-clause-migrates : goal.returns-clause-migrates
+returns-clause-migrates g c clients j two told same holds =
+    let f = c.args.state.now.facts in
+    let generation = c.args.generation in
+    let file = c.args.file in
+    let r = c.in_ok-reader.reader in
+    let n = c.in_ok-writer.writer in
+    let n' = c.copy_all.new.writer in
+    let o0 = g.D.Disk.tells c.args.disk.now in
+    let o1 = g.D.Disk.tells c.start.new.disk in
+    let o2 = g.D.Disk.tells c.begin.new.disk in
+    let o3 = g.D.Disk.tells c.copy_all.new.disk in
+    let o4 = g.D.Disk.tells c.publish.new.disk in
+    let reader : r.file ≡ file = sym c.file.ensures.value ∙ c.if-file.false in
+    let run = run_then o0 o1 o2 c.start.ensures.looks.run c.begin.ensures.run in
+    let begun = begun_copies clients f generation j file r n o0 o1 o2 two told c.requires.file holds c.start.ensures.looks c.begin.ensures.moments same reader c.in_ok-reader.ensures.fresh.1
+    c.in_ok-writer.ensures.value c.in_ok-writer.ensures.prepared in
+    opened_so clients f generation j file r n c.copy_all.new.reader n' o0 o2 o3 two told run reader begun c.cite_laws.ensures o4 (run_then o0 o2 o3 run c.copy_all.ensures.run)
+    c.in_ok-copy_all.ensures.pair (omega (arith, c.requires.generation)) (λ mid at copies. c.in_ok-copy_all.ensures.copies clients generation j mid at copies)
+    (λ t at. subst (λ (k : ℕ). Passed t o3 o4 k (ShutOrOpened (file_of t k).now)) c.file-2.ensures.value (c.publish.ensures.any_moment t at))
+    (subst (λ (k : ℕ). Becomes (Publishes k) o3.files o4.files) c.file-2.ensures.value c.in_ok-publish.ensures.published)
+    (c.in_ok-copy_all.ensures.same.writer_generation ∙ ap (λ (v : JournalValue). v.generation) c.in_ok-writer.ensures.value)

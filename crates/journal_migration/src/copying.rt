@@ -1,0 +1,88 @@
+//! Frames copied from the one file to the other, one after the other.
+ghost use Rattle.std.specs.Prelude.{◌≡◌, ◌<◌, ◌≤◌, ◌+◌, IfOk, IsErrOf, OnOk, Some, List, ℕ, true};
+ghost use Rattle.std.specs.Prelude.{OnErr};
+ghost use Rattle.std.specs.Option.{ForSome};
+ghost use Rattle.outside.specs.Faults.{Rose};
+ghost use Rattle.outside.specs.Files.{Two, File};
+ghost use Rattle.outside.specs.Outside.{DiskRun};
+ghost use Rattle.sync_rules.specs.declared.entries.Entry.{Entry};
+ghost use Rattle.sync_rules.specs.Clients.{Meaning};
+ghost use Rattle.journal_migration.specs.Copying.{Copies, CopiesAll, CopiesNext, IsFurther};
+ghost use Rattle.journal_migration.specs.Copying.{IsPair, IsSamePair, Works};
+
+use crate::MigrationFault;
+use crate::laws::cite_laws;
+use crate::spelling::respell;
+use frame_journal::Journal;
+use journal_state::State;
+use outside::Disk;
+use std::alloc::Global;
+
+// Copies the next frame, before which the state held so many messages: how many its batch brings,
+// or none at the closed gate.
+fn copy_next<D: Disk>(
+    alloc: Global,
+    disk: &mut D,
+    state: &State,
+    count: u32,
+    reader: &mut Journal,
+    writer: &mut Journal,
+    payload: &mut Vec<u8>,
+) -> Result<Option<u32>, MigrationFault>
+    requires pair { IsPair reader.old writer.old }
+    requires works { ForSome (D.tells disk.old).files (Works reader.old writer.old) }
+    ensures pair { OnOk result (IsPair reader.new writer.new) }
+    ensures works { OnOk result (ForSome (D.tells disk.new).files (Works reader.new writer.new)) }
+    ensures on { IfOk result (λ some. IsFurther some reader.old reader.new) }
+    ensures same { OnOk result (IsSamePair reader.old reader.new writer.old writer.new) }
+    ensures copies { (clients : Meaning) (generation : ℕ) (j : List (List Entry)) (two : Two File)
+        → (D.tells disk.old).files ≡ Some two
+        → Copies clients state.now.facts generation j reader.old writer.old count two
+        → CopiesNext clients state.now.facts generation j reader.old.file reader.new writer.new count
+        (D.tells disk.old) (D.tells disk.new) result }
+    ensures run { DiskRun (D.tells disk.old) (D.tells disk.new) }
+    ensures fault { IsErrOf result MigrationFault.DiskFault
+        → Rose (D.tells disk.old).disk_faults (D.tells disk.new).disk_faults }
+{
+    cite_laws();
+    state.show_sound();
+    let more = reader.next_frame(disk, payload)?;
+    if !more {
+        return Ok(None);
+    }
+    let respelled = respell(alloc, state, count, payload.as_slice())?;
+    writer.append(disk, respelled.framed.as_slice())?;
+    Ok(Some(respelled.brought))
+}
+
+// Copies all frames up to the closed gate.
+pub(crate) fn copy_all<D: Disk>(
+    alloc: Global,
+    disk: &mut D,
+    state: &State,
+    reader: &mut Journal,
+    writer: &mut Journal,
+) -> Result<(), MigrationFault>
+    requires pair { IsPair reader.old writer.old }
+    requires works { ForSome (D.tells disk.old).files (Works reader.old writer.old) }
+    ensures pair { OnOk result (IsPair reader.new writer.new) }
+    ensures same { OnOk result (IsSamePair reader.old reader.new writer.old writer.new) }
+    ensures works { OnOk result (ForSome (D.tells disk.new).files (Works reader.new writer.new)) }
+    ensures copies { (clients : Meaning) (generation : ℕ) (j : List (List Entry)) (two : Two File)
+        → (D.tells disk.old).files ≡ Some two
+        → Copies clients state.now.facts generation j reader.old writer.old 0 two
+        → CopiesAll clients generation j reader.old.file reader.new writer.new
+        (D.tells disk.old) (D.tells disk.new) result }
+    ensures run { DiskRun (D.tells disk.old) (D.tells disk.new) }
+    ensures fault { IsErrOf result MigrationFault.DiskFault
+        → Rose (D.tells disk.old).disk_faults (D.tells disk.new).disk_faults }
+{
+    let mut payload = Vec::new(alloc);
+    let mut count = 0u32;
+    'frames: loop {
+        match copy_next(alloc, disk, state, count, reader, writer, &mut payload)? {
+            Some(brought) => count = count.saturating_add(brought),
+            None => return Ok(()),
+        }
+    }
+}

@@ -1,0 +1,81 @@
+//! The other file prepared, the frames copied, and the copy published.
+ghost use Rattle.std.specs.Prelude.{◌≡◌, ◌-◌, ◌^◌, ◌<◌, ◌≤◌, IfOk, IsErrOf, OnOk, Some, List, ℕ};
+ghost use Rattle.std.specs.Option.{ForSome};
+ghost use Rattle.outside.specs.Faults.{HasCause, Rose};
+ghost use Rattle.outside.specs.Files.{Two, File};
+ghost use Rattle.outside.specs.Outside.{DiskRun};
+ghost use Rattle.outside.specs.Disk.{Becomes};
+ghost use Rattle.frame_journal.specs.Create.{Prepares};
+ghost use Rattle.frame_journal.specs.Journal.{fresh};
+ghost use Rattle.sync_rules.specs.declared.entries.Entry.{Entry};
+ghost use Rattle.sync_rules.specs.Clients.{Meaning};
+ghost use Rattle.sync_rules.specs.Facts.{facts};
+ghost use Rattle.journal_migration.specs.Migrating.{HoldsFirst, IsNext, Migrates};
+ghost use Rattle.journal_migration.specs.Starting.{EndsOrStays, IsSettledBoth};
+
+use crate::MigrationFault;
+use crate::copying::copy_all;
+use crate::laws::cite_laws;
+use frame_journal::{DiskFault, Journal, SECOND_FORMAT, clear, prepare, publish};
+use journal_state::State;
+use outside::Disk;
+use std::alloc::Global;
+
+/// Writes the journal in this file, which has format 1 and this generation and ends there, into the
+/// other file in format 2, with the next generation, and makes it the journal: the other file is
+/// cleared and prepared, every batch is appended to it, and then its header's gate is opened. The
+/// state is that of the journal. It answers the new journal.
+///
+/// At each moment the files stand for the same journal, and after `Memory` they still hold it as
+/// before. Where the second reading of the file gives a frame that is damaged, a payload that is no
+/// batch, a message that is not held, or another end, nothing is published, and the answer is
+/// `Memory` too. It takes the memory of one frame.
+pub fn migrate<D: Disk>(
+    alloc: Global,
+    disk: &mut D,
+    file: u8,
+    generation: u64,
+    end: u64,
+    state: &State,
+) -> Result<Journal, MigrationFault>
+    requires file { file < 2 }
+    requires generation { generation < 2 ^ 64 - 1 }
+    requires settled { ForSome (D.tells disk.old).files IsSettledBoth }
+    ensures next { IfOk result (λ n. IsNext file generation end n) }
+    ensures migrates { (clients : Meaning) (j : List (List Entry)) (two : Two File)
+        → (D.tells disk.old).files ≡ Some two → facts j ≡ state.now.facts
+        → HoldsFirst clients file generation j two
+        → Migrates clients file generation j (D.tells disk.old) (D.tells disk.new) result }
+    ensures run { DiskRun (D.tells disk.old) (D.tells disk.new) }
+    ensures fault { IsErrOf result MigrationFault.DiskFault
+        → Rose (D.tells disk.old).disk_faults (D.tells disk.new).disk_faults }
+{
+    cite_laws();
+    let mut reader = Journal::start(disk)?;
+    if reader.file() != file || reader.generation() != generation {
+        return Err(MigrationFault::Memory);
+    }
+    let mut writer = begin(disk, 1 - file, generation + 1)?;
+    copy_all(alloc, disk, state, &mut reader, &mut writer)?;
+    if reader.end() != end {
+        return Err(MigrationFault::Memory);
+    }
+    publish(disk, writer.file())?;
+    Ok(writer)
+}
+
+// Begins a journal of format 2 in this file, all but the gate of its header.
+fn begin<D: Disk>(disk: &mut D, file: u8, generation: u64) -> Result<Journal, DiskFault>
+    requires file { file < 2 }
+    requires settled { ForSome (D.tells disk.old).files IsSettledBoth }
+    ensures value { IfOk result (λ n. n ≡ fresh file 2 generation) }
+    ensures prepared { OnOk result (Becomes (Prepares file 2 generation) (D.tells disk.old).files
+        (D.tells disk.new).files) }
+    ensures moments { EndsOrStays file (D.tells disk.old) (D.tells disk.new) }
+    ensures run { DiskRun (D.tells disk.old) (D.tells disk.new) }
+    ensures fault { HasCause (D.tells disk.old).disk_faults (D.tells disk.new).disk_faults result }
+{
+    clear(disk, file)?;
+    prepare(disk, file, SECOND_FORMAT, generation)?;
+    Ok(Journal::fresh(file, SECOND_FORMAT, generation))
+}

@@ -1,0 +1,81 @@
+//! Journals of format 1 in the one file, and what a migration makes of them in the other.
+use client_basic::Bundle;
+use journal_migration::{MigrationFault, migrate};
+use outside::{MAX_JOURNAL, MemDisk, MemRandom};
+use std::alloc::Global;
+use std::hash::RandomState;
+use std::process::Abort;
+use std::test::Fail;
+use sync_store::Store;
+
+/// What is in the journal; its file, of generation 1; and the other file behind the migration, as
+/// `oracle/migration.py` prints them.
+static JOURNALS: [(&str, &str, &str); 4] = [
+    (
+        "no batch",
+        "014253504a01000000000000000100",
+        "014253504a02000000000000000200",
+    ),
+    (
+        "no message",
+        "014253504a01000000000000000101000000020100010000000d02046e6f7465000000000001640100000023030076ff4980d3b5f63962cee45401b6b1bb92efe989c27de4629aac92b18163e6e00200",
+        "014253504a02000000000000000201000000020100010000000d02046e6f7465000000000001640100000023030076ff4980d3b5f63962cee45401b6b1bb92efe989c27de4629aac92b18163e6e00200",
+    ),
+    (
+        "one message",
+        "014253504a01000000000000000101000000020100010000000d02046e6f7465000000000001640100000023030076ff4980d3b5f63962cee45401b6b1bb92efe989c27de4629aac92b18163e6e002010000003f0676ff4980d3b5f63962cee45401b6b1bb92efe989c27de4629aac92b18163e6e000000000000003e800146e6f746520313030302078787878787878787878010000004208a2897efb8c3c34457fd1b809f6865fb0e9269cac051c34a447d0b3bb9475c2cb09a2897efb8c3c34457fd1b809f6865fb0e9269cac051c34a447d0b3bb9475c2cb00",
+        "014253504a02000000000000000201000000020100010000000d02046e6f7465000000000001640100000023030076ff4980d3b5f63962cee45401b6b1bb92efe989c27de4629aac92b18163e6e002010000003f0676ff4980d3b5f63962cee45401b6b1bb92efe989c27de4629aac92b18163e6e000000000000003e800146e6f746520313030302078787878787878787878010000000a0800000000090000000000",
+    ),
+    (
+        "three messages",
+        "014253504a01000000000000000101000000020100010000000d02046e6f7465000000000001640100000023030076ff4980d3b5f63962cee45401b6b1bb92efe989c27de4629aac92b18163e6e002010000003f0676ff4980d3b5f63962cee45401b6b1bb92efe989c27de4629aac92b18163e6e000000000000003e800146e6f746520313030302078787878787878787878010000004208a2897efb8c3c34457fd1b809f6865fb0e9269cac051c34a447d0b3bb9475c2cb09a2897efb8c3c34457fd1b809f6865fb0e9269cac051c34a447d0b3bb9475c2cb01000000400676ff4980d3b5f63962cee45401b6b1bb92efe989c27de4629aac92b18163e6e000000000000003e900156e6f7465203130303120787878787878787878787801000000420885d7ed7df7734f4f3cf15955461c366a25dc9bddf186860ff86c98e6c10d59520985d7ed7df7734f4f3cf15955461c366a25dc9bddf186860ff86c98e6c10d595201000000410676ff4980d3b5f63962cee45401b6b1bb92efe989c27de4629aac92b18163e6e000000000000003ea00166e6f746520313030322078787878787878787878787801000000420885d85f50245c61b8fa3f9953a06aeddf74f031e2933141011a153e69344baf1c0985d85f50245c61b8fa3f9953a06aeddf74f031e2933141011a153e69344baf1c00",
+        "014253504a02000000000000000201000000020100010000000d02046e6f7465000000000001640100000023030076ff4980d3b5f63962cee45401b6b1bb92efe989c27de4629aac92b18163e6e002010000003f0676ff4980d3b5f63962cee45401b6b1bb92efe989c27de4629aac92b18163e6e000000000000003e800146e6f746520313030302078787878787878787878010000000a0800000000090000000001000000400676ff4980d3b5f63962cee45401b6b1bb92efe989c27de4629aac92b18163e6e000000000000003e900156e6f74652031303031207878787878787878787878010000000a0800000001090000000101000000410676ff4980d3b5f63962cee45401b6b1bb92efe989c27de4629aac92b18163e6e000000000000003ea00166e6f7465203130303220787878787878787878787878010000000a0800000002090000000200",
+    ),
+];
+
+#[test]
+fn migrated_files(rt: HostRuntime) -> Result<(), Fail> {
+    for (label, first, second) in JOURNALS.iter() {
+        migrate_one(&rt, rt.alloc(), label, first, second)?;
+    }
+    Ok(())
+}
+
+fn migrate_one(
+    rt: &impl Abort,
+    alloc: Global,
+    label: &str,
+    first: &str,
+    second: &str,
+) -> Result<(), Fail> {
+    let whole = hex::decode(alloc, first)?;
+    let end = whole.len() as u64;
+    let short = hex::decode(alloc, second)?;
+    let mut disk = MemDisk::new(alloc, whole, Vec::new(alloc))?;
+    let hasher = RandomState::new(&MemRandom(0))?;
+    let store = Store::load(alloc, hasher, &mut disk, &Bundle, MAX_JOURNAL)?;
+    let held = store.state().held();
+    let journal = migrate(alloc, &mut disk, 0, 1, end, store.state())?;
+    assert_eq!(rt; journal.end(), short.len() as u64, "{label}");
+    assert!(rt; disk.file(1) == short.as_slice(), "{label}");
+    let store = Store::load(alloc, hasher, &mut disk, &Bundle, MAX_JOURNAL)?;
+    assert_eq!(rt; store.state().held(), held, "{label}");
+    Ok(())
+}
+
+#[test]
+fn another_end(rt: HostRuntime) -> Result<(), Fail> {
+    let alloc = rt.alloc();
+    let (_, first, _) = JOURNALS[2];
+    let whole = hex::decode(alloc, first)?;
+    let end = whole.len() as u64;
+    let mut disk = MemDisk::new(alloc, whole, Vec::new(alloc))?;
+    let hasher = RandomState::new(&MemRandom(0))?;
+    let store = Store::load(alloc, hasher, &mut disk, &Bundle, MAX_JOURNAL)?;
+    let answer = migrate(alloc, &mut disk, 0, 1, end + 1, store.state());
+    assert_eq!(rt; answer.err(), Some(MigrationFault::Memory));
+    let store = Store::load(alloc, hasher, &mut disk, &Bundle, MAX_JOURNAL)?;
+    assert_eq!(rt; store.state().held(), 1);
+    assert!(rt; disk.file(0) == hex::decode(alloc, first)?.as_slice());
+    Ok(())
+}
