@@ -17,9 +17,9 @@ use sync_words::{
     skipped_line, state_line, try_line, usage_line,
 };
 
-const GROUP: &str = "76ff4980d3b5f63962cee45401b6b1bb92efe989c27de4629aac92b18163e6e0";
+pub(crate) const GROUP: &str = "76ff4980d3b5f63962cee45401b6b1bb92efe989c27de4629aac92b18163e6e0";
 
-const UPPER: &str = "76FF4980D3B5F63962CEE45401B6B1BB92EFE989C27DE4629AAC92B18163E6E0";
+pub(crate) const UPPER: &str = "76FF4980D3B5F63962CEE45401B6B1BB92EFE989C27DE4629AAC92B18163E6E0";
 
 const ID: &str = "3443418c0382800e42ae01fb9d676b7b25405d2875809cf8d6808f04741c96a4";
 
@@ -245,14 +245,6 @@ const FRONT: &str = "tree 76ff4980d3b5f63962cee45401b6b1bb92efe989c27de4629aac92
 const END: &str =
     "tree 76ff4980d3b5f63962cee45401b6b1bb92efe989c27de4629aac92b18163e6e0+4294967295+4294967295";
 
-const JOINS: &str =
-    "say 76ff4980d3b5f63962cee45401b6b1bb92efe989c27de4629aac92b18163e6e0+0+join+note+0+d";
-
-const LEAVES: &str =
-    "say 76ff4980d3b5f63962cee45401b6b1bb92efe989c27de4629aac92b18163e6e0+9223372036854775807+leave+n+4294967295+";
-
-const AGREES: &str = "agree 255+76ff4980d3b5f63962cee45401b6b1bb92efe989c27de4629aac92b18163e6e0";
-
 static COMMANDS: [(&[&str], &str); 69] = [
     (&[], "usage 0"),
     (&[""], "usage 0"),
@@ -325,66 +317,6 @@ static COMMANDS: [(&[&str], &str); 69] = [
     (&["tree", GROUP, "0", "10", "x"], "usage 4"),
 ];
 
-// A table apart, since the checker's steps for one test end before the rows of both.
-static SHARING: [(&[&str], &str); 28] = [
-    (&["say", GROUP, "0", "join", "note", "0", "d"], JOINS),
-    (
-        &[
-            "say",
-            UPPER,
-            "9223372036854775807",
-            "leave",
-            "n",
-            "4294967295",
-            "",
-        ],
-        LEAVES,
-    ),
-    (&["say"], "usage 1"),
-    (&["say", "x", "0", "join", "note", "0", "d"], "usage 1"),
-    (&["say", GROUP], "usage 2"),
-    (
-        &[
-            "say",
-            GROUP,
-            "9223372036854775808",
-            "join",
-            "note",
-            "0",
-            "d",
-        ],
-        "usage 2",
-    ),
-    (&["say", GROUP, "00", "join", "note", "0", "d"], "usage 2"),
-    (&["say", GROUP, "0"], "usage 3"),
-    (&["say", GROUP, "0", "Join", "note", "0", "d"], "usage 3"),
-    (&["say", GROUP, "0", "", "note", "0", "d"], "usage 3"),
-    (&["say", GROUP, "0", "leaves", "note", "0", "d"], "usage 3"),
-    (&["say", GROUP, "0", "join"], "usage 4"),
-    (&["say", GROUP, "0", "join", "", "0", "d"], "usage 4"),
-    (&["say", GROUP, "0", "join", "note"], "usage 5"),
-    (
-        &["say", GROUP, "0", "join", "note", "4294967296", "d"],
-        "usage 5",
-    ),
-    (&["say", GROUP, "0", "join", "note", "-1", "d"], "usage 5"),
-    (&["say", GROUP, "0", "join", "note", "0"], "usage 6"),
-    (
-        &["say", GROUP, "0", "join", "note", "0", "d", ""],
-        "usage 7",
-    ),
-    (&["say", GROUP, "0", "x", "", "x", "d", "d"], "usage 3"),
-    (&["agree", "255", UPPER], AGREES),
-    (&["agree"], "usage 1"),
-    (&["agree", "256", GROUP], "usage 1"),
-    (&["agree", "00", GROUP], "usage 1"),
-    (&["agree", "", GROUP], "usage 1"),
-    (&["agree", "0"], "usage 2"),
-    (&["agree", "0", "76ff"], "usage 2"),
-    (&["agree", "0", GROUP, ""], "usage 3"),
-    (&["Agree", "0", GROUP], "usage 0"),
-];
-
 #[test]
 fn words_of_commands(rt: HostRuntime) {
     for (at, (words, want)) in COMMANDS.iter().enumerate() {
@@ -392,14 +324,7 @@ fn words_of_commands(rt: HostRuntime) {
     }
 }
 
-#[test]
-fn words_of_sharing(rt: HostRuntime) {
-    for (at, (words, want)) in SHARING.iter().enumerate() {
-        expect_words(&rt, rt.alloc(), at, words, want);
-    }
-}
-
-fn expect_words(rt: &impl Abort, alloc: Global, at: usize, words: &[&str], want: &str) {
+pub(crate) fn expect_words(rt: &impl Abort, alloc: Global, at: usize, words: &[&str], want: &str) {
     let mut texts = Vec::new(alloc);
     for word in words {
         made(rt, texts.push(repeated(rt, alloc, word, 1)));
