@@ -10,3 +10,4 @@ mod Shut
 mod Begun
 mod Published
 mod Migrated
+mod Own

@@ -1,10 +1,11 @@
 -- A journal of format 1 that is written anew into the other file, in format 2, and then made the journal.
-use Rattle.std.specs.Prelude.{◌≡◌, ℕ, ◌+◌, ◌-◌, ◌≤◌, List, Some, Result, Ok, Err}
+use Rattle.std.specs.Prelude.{◌≡◌, ℕ, ◌+◌, ◌-◌, ◌≤◌, List, Option, Some, Result, Ok, Err}
 use Rattle.std.specs.List.{AllByRecursion}
 use Rattle.outside.specs.declared.limits.TheConstants.{MAX_JOURNAL}
 use Rattle.outside.specs.Files.{Two, File, NothingPending, file_of, read_files}
 use Rattle.outside.specs.Frames.{HasFrames, format_in, generation_in, journal_file}
 use Rattle.outside.specs.Links.{sent_of}
+use Rattle.outside.specs.Disk.{Becomes}
 use Rattle.outside.specs.Outside.{Moment, MomentsAre, Outside}
 use Rattle.frame_journal.specs.Journal.{JournalValue}
 use Rattle.sync_rules.specs.declared.entries.Entry.{Entry}
@@ -66,6 +67,16 @@ MigratesSo clients file generation j (Err fault.DiskFault) two = Unit {0}
 -- at each moment the files stand for the journal, and at the end they hold it in the format that the answer says
 abbrev pub Migrates : Meaning → (file generation : ℕ) → List (List Entry) → (old new : Outside) → Result JournalValue MigrationFault → Type 0
 Migrates clients file generation j old new result = Keeps clients j (MigratesSo clients file generation j result) old new
+
+-- this file is as before
+abbrev pub KeepsFile : (file : ℕ) → Two File → Two File → Type 0
+KeepsFile file old new = file_of new file ≡ file_of old file
+
+-- This file is only read. Where a call on the disk failed this is not said.
+abbrev pub ReadsOnly : {A : Type 0} → (file : ℕ) → (old new : Option (Two File)) → Result A MigrationFault → Type 0
+ReadsOnly file old new (Ok a) = Becomes (KeepsFile file) old new
+ReadsOnly file old new (Err fault.Memory) = Becomes (KeepsFile file) old new
+ReadsOnly file old new (Err fault.DiskFault) = Unit {0}
 
 -- a journal in the other file, in format 2 and with the next generation, that ends no later
 pub record IsNext (file generation end : ℕ) (n : JournalValue) : Type 0 where

@@ -9,6 +9,7 @@ ghost use Rattle.sync_rules.specs.declared.entries.Entry.{Entry};
 ghost use Rattle.sync_rules.specs.Clients.{Meaning};
 ghost use Rattle.journal_migration.specs.Copying.{Copies, CopiesAll, CopiesNext, IsFurther};
 ghost use Rattle.journal_migration.specs.Copying.{IsPair, IsSamePair, Works};
+ghost use Rattle.journal_migration.specs.Migrating.{ReadsOnly};
 
 use crate::MigrationFault;
 use crate::laws::cite_laws;
@@ -40,6 +41,8 @@ fn copy_next<D: Disk>(
         → Copies clients state.now.facts generation j reader.old writer.old count two
         → CopiesNext clients state.now.facts generation j reader.old.file reader.new writer.new count
         (D.tells disk.old) (D.tells disk.new) result }
+    ensures own { ReadsOnly reader.old.file (D.tells disk.old).files (D.tells disk.new).files
+        result }
     ensures run { DiskRun (D.tells disk.old) (D.tells disk.new) }
     ensures fault { IsErrOf result MigrationFault.DiskFault
         → Rose (D.tells disk.old).disk_faults (D.tells disk.new).disk_faults }
@@ -73,6 +76,8 @@ pub(crate) fn copy_all<D: Disk>(
         → Copies clients state.now.facts generation j reader.old writer.old 0 two
         → CopiesAll clients generation j reader.old.file reader.new writer.new
         (D.tells disk.old) (D.tells disk.new) result }
+    ensures own { ReadsOnly reader.old.file (D.tells disk.old).files (D.tells disk.new).files
+        result }
     ensures run { DiskRun (D.tells disk.old) (D.tells disk.new) }
     ensures fault { IsErrOf result MigrationFault.DiskFault
         → Rose (D.tells disk.old).disk_faults (D.tells disk.new).disk_faults }

@@ -11,6 +11,7 @@ ghost use Rattle.sync_rules.specs.declared.entries.Entry.{Entry};
 ghost use Rattle.sync_rules.specs.Clients.{Meaning};
 ghost use Rattle.sync_rules.specs.Facts.{facts};
 ghost use Rattle.journal_migration.specs.Migrating.{HoldsFirst, IsNext, Migrates};
+ghost use Rattle.journal_migration.specs.Migrating.{ReadsOnly};
 ghost use Rattle.journal_migration.specs.Starting.{EndsOrStays, IsSettledBoth};
 
 use crate::MigrationFault;
@@ -27,7 +28,7 @@ use std::alloc::Global;
 /// state is that of the journal. It answers the new journal.
 ///
 /// At each moment the files stand for the same journal, and after `Memory` they still hold it as
-/// before. Where the second reading of the file gives a frame that is damaged, a payload that is no
+/// before. The journal's own file is only read. Where the second reading of the file gives a frame that is damaged, a payload that is no
 /// batch, a message that is not held, or another end, nothing is published, and the answer is
 /// `Memory` too. It takes the memory of one frame.
 pub fn migrate<D: Disk>(
@@ -46,6 +47,7 @@ pub fn migrate<D: Disk>(
         → (D.tells disk.old).files ≡ Some two → facts j ≡ state.now.facts
         → HoldsFirst clients file generation j two
         → Migrates clients file generation j (D.tells disk.old) (D.tells disk.new) result }
+    ensures own { ReadsOnly file (D.tells disk.old).files (D.tells disk.new).files result }
     ensures run { DiskRun (D.tells disk.old) (D.tells disk.new) }
     ensures fault { IsErrOf result MigrationFault.DiskFault
         → Rose (D.tells disk.old).disk_faults (D.tells disk.new).disk_faults }

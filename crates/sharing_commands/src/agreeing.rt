@@ -16,7 +16,7 @@ use client_sharing::targets;
 use outside::{Disk, Sink, write_text};
 use std::alloc::Global;
 use std::hash::RandomState;
-use store_commands::{load_store, settle};
+use store_commands::{load_store, migrate_and_settle};
 use sync_ids::GroupId;
 use sync_rules::{Clients, Refused};
 use sync_store::Store;
@@ -72,7 +72,7 @@ fn agree_loaded<D: Disk, W: Sink, C: Clients>(
         (D.tells disk.new) (W.tells out.old) (W.tells out.new) (came_to result) }
 {
     let mut store = store;
-    settle(&mut store, disk, clients)?;
+    migrate_and_settle(&mut store, disk, clients)?;
     // What every store keeps.
     let _end = store.end();
     let mut text = String::new(alloc);

@@ -1,9 +1,9 @@
--- What settling a store, adding a batch to it and settling again comes to.
-use Rattle.std.specs.Prelude.{◌≡◌, ◌⊎◌, ℕ, ◌+◌, ◌<◌, ◌≤◌, false, List, [], ◌∷◌, ◌++◌, Option, Some, None, Result, Ok, Err}
+-- What migrating a store, settling it, adding a batch to it and settling again comes to.
+use Rattle.std.specs.Prelude.{◌≡◌, ◌⊎◌, ℕ, ◌+◌, ◌-◌, ◌^◌, ◌<◌, ◌≤◌, false, List, [], ◌∷◌, ◌++◌, Option, Some, Result, Ok, Err, OnOk}
 use Rattle.outside.specs.declared.limits.TheConstants.{MAX_JOURNAL}
 use Rattle.outside.specs.Faults.{Rose}
 use Rattle.outside.specs.Files.{Two, File, file_of, read_files, NothingPending}
-use Rattle.outside.specs.Frames.{format_in, journal_file}
+use Rattle.outside.specs.Frames.{format_in, generation_in, journal_file}
 use Rattle.outside.specs.Links.{sent_of}
 use Rattle.outside.specs.Outside.{Outside, MomentsAre}
 use Rattle.sync_rules.specs.declared.entries.Entry.{Entry}
@@ -13,10 +13,12 @@ use Rattle.sync_rules.specs.Legal.{Allowed, AllSettling}
 use Rattle.sync_rules.specs.Steps.{IsSettled}
 use Rattle.entry_codec.specs.declared.naming.Format.{Format}
 use Rattle.entry_codec.specs.declared.naming.Format.TheVariants as kind
+use Rattle.entry_codec.specs.Naming.{format_of}
 use Rattle.entry_codec.specs.Payloads.{journal_end, payload_len}
 use Rattle.entry_codec.specs.Standing.{journal, room_of, stands}
 use Rattle.sync_store.specs.Commits.{needed}
-use Rattle.sync_store.specs.Store.{StoreValue, format_meant}
+use Rattle.sync_store.specs.Migrations.{IsSpent}
+use Rattle.sync_store.specs.Store.{StoreValue, written_in}
 use Rattle.sync_store.specs.Ready.{IsReady}
 use Rattle.sync_store.specs.Moments.{JournalMoment}
 use Rattle.sync_store.specs.Runs.{AddsBatch, LeadsBy}
@@ -51,43 +53,54 @@ abbrev pub Follows : Settling → Meaning → Facts → List (List Entry) → Ty
 Follows settling.Before clients f rest = rest ≡ []
 Follows settling.BeforeAndAfter clients f rest = AllSettling clients f rest × IsSettled clients (after_batches f rest)
 
--- the format of the journal's file of two files, which is the first where there is none
-abbrev pub format_at : Two (List ℕ) → Option ℕ → Format
-format_at files None = kind.Whole
-format_at files (Some file) = format_meant (format_in (file_of files file))
+-- the journal's file of two files is in this format
+pub record IsInFormat (format : Format) (files : Two (List ℕ)) : Type 0 where
+  pub file : ℕ
+  pub found : journal_file files ≡ Some file
+  pub is : format_of (format_in (file_of files file)) ≡ Some format
 
-abbrev pub format_stood : Two (List ℕ) → Format
-format_stood files = format_at files (journal_file files)
+-- the journal's file of two files is in format 1, and has the last generation
+pub record HasLastGeneration (files : Two (List ℕ)) : Type 0 where
+  pub file : ℕ
+  pub found : journal_file files ≡ Some file
+  pub whole : format_of (format_in (file_of files file)) ≡ Some kind.Whole
+  pub last : generation_in (file_of files file) ≡ 2 ^ 64 - 1
 
-abbrev pub format_told : Option (Two File) → Format
-format_told None = kind.Whole
-format_told (Some two) = format_stood (read_files two)
+-- The length that a journal needs in format 2 with a batch: the batch's frame is added, and room is counted for all that settling
+-- may then add. Whatever is added is added in format 2.
+abbrev pub needed_by : List (List Entry) → List Entry → ℕ
+needed_by j batch = journal_end kind.Short j + 5 + payload_len kind.Short batch + room_of kind.Short (after_all (facts j) batch)
 
--- the length that a journal of this format needs with a batch: the batch's frame is added, and room is counted for all that
--- settling may then add
-abbrev pub needed_by : Format → List (List Entry) → List Entry → ℕ
-needed_by format j batch = journal_end format j + 5 + payload_len format batch + room_of format (after_all (facts j) batch)
-
--- The files stand for the journal, all of its settling, the one batch, for which there was room when it was committed, and what
--- follows it; nothing is pending in them, so that each crash leaves this.
+-- The files stand, in format 2, for the journal, all of its settling, the one batch, for which there was room when it was committed,
+-- and what follows it; nothing is pending in them, so that each crash leaves this.
 pub record IsAdded (clients : Meaning) (settling : Settling) (j : List (List Entry)) (batch : List Entry) (two : Two File) : Type 0 where
   pub first : List (List Entry)
   pub rest : List (List Entry)
   pub settles : AllSettling clients (facts j) first
   pub settled : IsSettled clients (after_batches (facts j) first)
-  pub roomy : needed_by (format_stood (read_files two)) (j ++ first) batch ≤ MAX_JOURNAL
+  pub roomy : needed_by (j ++ first) batch ≤ MAX_JOURNAL
+  pub short : IsInFormat kind.Short (read_files two)
   pub follows : Follows settling clients (after_all (after_batches (facts j) first) batch) rest
   pub stands_for : stands clients (read_files two) ≡ journal (j ++ (first ++ batch ∷ rest))
   pub first_settled : NothingPending two 0
   pub second_settled : NothingPending two 1
 
--- the files stand for the journal and all of its settling, and there is no room for the batch
-pub record IsFull (clients : Meaning) (j : List (List Entry)) (batch : List Entry) (two : Two File) : Type 0 where
+-- the files stand, in format 2, for the journal and all of its settling, and there is no room for the batch
+pub record IsOver (clients : Meaning) (j : List (List Entry)) (batch : List Entry) (two : Two File) : Type 0 where
   pub first : List (List Entry)
   pub settles : AllSettling clients (facts j) first
   pub settled : IsSettled clients (after_batches (facts j) first)
   pub stands_for : stands clients (read_files two) ≡ journal (j ++ first)
-  pub over : MAX_JOURNAL < needed_by (format_stood (read_files two)) (j ++ first) batch
+  pub short : IsInFormat kind.Short (read_files two)
+  pub over : MAX_JOURNAL < needed_by (j ++ first) batch
+
+-- the files had no generation left for a journal in format 2, and read as before
+abbrev pub WasSpent : Two File → Two File → Type 0
+WasSpent two two' = HasLastGeneration (read_files two) × (read_files two' ≡ read_files two)
+
+-- there is no room for the batch, or there was no generation left
+abbrev pub IsFull : Meaning → List (List Entry) → List Entry → Two File → Two File → Type 0
+IsFull clients j batch two two' = IsOver clients j batch two' ⊎ WasSpent two two'
 
 -- ---- a store that is ready
 
@@ -110,10 +123,46 @@ SettledBy clients s (Err outcome.Memory) = Unit {0}
 SettledBy clients s (Err outcome.DiskFault) = Unit {0}
 SettledBy clients s (Err _) = ⊥
 
+-- what a migration leaves of the store: at Ok its journal is in format 2
+abbrev pub MigratedBy : StoreValue → StoreValue → Result (Unit {0}) Outcome → Type 0
+MigratedBy s s' (Ok _) = (s'.closed ≡ false) × (written_in s' ≡ kind.Short) × (IsSpent s → ⊥)
+MigratedBy s s' (Err outcome.Full) = IsSpent s × (s' ≡ s)
+MigratedBy s s' (Err outcome.Memory) = Unit {0}
+MigratedBy s s' (Err outcome.DiskFault) = Unit {0}
+MigratedBy s s' (Err _) = ⊥
+
+-- what both leave of it
+abbrev pub SettledAnew : Meaning → StoreValue → StoreValue → Result (Unit {0}) Outcome → Type 0
+SettledAnew clients s s' (Ok _) = (s'.closed ≡ false) × IsSettled clients s'.state.facts × (written_in s' ≡ kind.Short) × (IsSpent s → ⊥)
+SettledAnew clients s s' (Err outcome.Full) = IsSpent s × (s' ≡ s)
+SettledAnew clients s s' (Err outcome.Memory) = Unit {0}
+SettledAnew clients s s' (Err outcome.DiskFault) = Unit {0}
+SettledAnew clients s s' (Err _) = ⊥
+
 -- but where a call on the disk failed the store is ready
 abbrev pub StaysReady : Meaning → StoreValue → Option (Two File) → Result (Unit {0}) Outcome → Type 0
 StaysReady clients s files (Err outcome.DiskFault) = Unit {0}
 StaysReady clients s files _ = IsReady clients s files
+
+-- A store came by these settling batches to this one, in the file that it was in or in the other. Its facts are those after them;
+-- at each moment the files stand for the journal with a front of them, and in the end, unless the store is closed, the disk fits
+-- it with the journal and all of them.
+pub record ComesAnew (clients : Meaning) (s s' : StoreValue) (old new : Outside) (more : List (List Entry)) : Type 0 where
+  pub settling : AllSettling clients s.state.facts more
+  pub facts : s'.state.facts ≡ after_batches s.state.facts more
+  pub limit : s'.limit ≡ s.limit
+  pub leads : LeadsBy clients s s' old new more
+
+-- a store was migrated as far as the answer says: at each moment the files stand for the same journal
+pub record MigratesAs (clients : Meaning) (s s' : StoreValue) (old new : Outside) (result : Result (Unit {0}) Outcome) : Type 0 where
+  pub comes : ComesAnew clients s s' old new []
+  pub answer : MigratedBy s s' result
+
+-- a store was migrated, and came by settling batches as far as the answer says
+pub record SettlesAnew (clients : Meaning) (s s' : StoreValue) (old new : Outside) (result : Result (Unit {0}) Outcome) : Type 0 where
+  pub more : List (List Entry)
+  pub comes : ComesAnew clients s s' old new more
+  pub answer : SettledAnew clients s s' result
 
 -- a store came by settling batches as far as the answer says
 pub record SettlesAs (clients : Meaning) (s s' : StoreValue) (old new : Outside) (result : Result (Unit {0}) Outcome) : Type 0 where
@@ -147,12 +196,14 @@ pub record AddsAs (clients : Meaning) (settling : Settling) (s s' : StoreValue) 
 -- ---- settling, the batch, and settling again
 
 -- by the answer
-abbrev pub ExtendsEnds : Meaning → Settling → List (List Entry) → List Entry → Result (Unit {0}) Outcome → Two File → Type 0
-ExtendsEnds clients settling j batch (Ok _) two = IsAdded clients settling j batch two
-ExtendsEnds clients settling j batch (Err outcome.Full) two = IsFull clients j batch two
-ExtendsEnds clients settling j batch (Err _) two = Unit {0}
+abbrev pub ExtendsEnds : Meaning → Settling → List (List Entry) → List Entry → Result (Unit {0}) Outcome → Two File → Two File → Type 0
+ExtendsEnds clients settling j batch (Ok _) two two' = IsAdded clients settling j batch two'
+ExtendsEnds clients settling j batch (Err outcome.Full) two two' = IsFull clients j batch two two'
+ExtendsEnds clients settling j batch (Err _) two two' = Unit {0}
 
--- each moment stands for the journal with settling and at most the batch, and at Ok the files are so
-pub record ExtendsTold (clients : Meaning) (settling : Settling) (j : List (List Entry)) (batch : List Entry) (old new : Outside) (result : Result (Unit {0}) Outcome) : Type 0 where
+-- Each moment stands for the journal with settling and at most the batch, and at Ok and Full the files are so, which were `two`
+-- before. Where they had no generation left it is not Ok.
+pub record ExtendsTold (clients : Meaning) (settling : Settling) (j : List (List Entry)) (batch : List Entry) (two : Two File) (old new : Outside) (result : Result (Unit {0}) Outcome) : Type 0 where
   pub moments : MomentsAre old new (JournalMoment clients (GoesOn clients j batch) (sent_of old.links.told))
-  pub ends : (two : Two File) → new.files ≡ Some two → ExtendsEnds clients settling j batch result two
+  pub ends : (two' : Two File) → new.files ≡ Some two' → ExtendsEnds clients settling j batch result two two'
+  pub spent : HasLastGeneration (read_files two) → OnOk result ⊥

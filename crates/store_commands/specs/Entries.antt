@@ -1,4 +1,4 @@
--- What a command that adds to a journal does: it settles the journal, adds its one entry, and prints its line.
+-- What a command that adds to a journal does: it migrates the journal and settles it, adds its one entry, and prints its line.
 use Rattle.std.specs.Prelude.{◌≡◌, ◌⊎◌, ℕ, Bool, true, false, List, [], ◌∷◌, Some}
 use Rattle.std.specs.Io.KnownBytes.{Appends}
 use Rattle.outside.specs.Faults.{Rose}
@@ -17,7 +17,7 @@ use Rattle.sync_store.specs.Moments.{JournalMoment}
 use Rattle.sync_words.specs.declared.outcome.Outcome.{Outcome}
 use Rattle.sync_words.specs.declared.outcome.Outcome.TheVariants as outcome
 use Rattle.store_commands.specs.declared.commit.Settling.{Settling}
-use Rattle.store_commands.specs.Commit.{GoesOn, IsAdded, IsFull}
+use Rattle.store_commands.specs.Commit.{GoesOn, HasLastGeneration, IsAdded, IsFull}
 use Rattle.store_commands.specs.Plans.{Plan, refuses, adds}
 use Rattle.store_commands.specs.Show.{ReadsAs}
 use Rattle.store_commands.specs.Shown.{added_text}
@@ -47,6 +47,12 @@ is_late outcome.Memory = true
 is_late outcome.WriteFault = true
 is_late _ = false
 
+-- an outcome that comes once the entry stands
+abbrev pub is_added : Outcome → Bool
+is_added outcome.Done = true
+is_added outcome.WriteFault = true
+is_added _ = false
+
 -- A moment once batches are added: the files stand for the journal with settling and at most the one entry, and nothing more was
 -- sent. There is none where the command was refused or ended earlier.
 abbrev pub AddsMoment : Meaning → (Facts → Plan) → Standing → Outcome → List (List ℕ) → Moment → Type 0
@@ -58,7 +64,7 @@ abbrev pub AddsEnds : Meaning → (Facts → Plan) → Settling → Standing →
 AddsEnds clients plan settling standing two two' out out' outcome.NoStore = (standing ≡ no_store) × ReadsAs two two'
 AddsEnds clients plan settling standing two two' out out' (outcome.Damaged place) = (standing ≡ damaged place.file place.at) × ReadsAs two two'
 AddsEnds clients plan settling standing two two' out out' (outcome.Refused why) = IsRefused plan standing why × ReadsAs two two'
-AddsEnds clients plan settling standing two two' out out' outcome.Full = PlansEntry plan standing (λ j e. IsFull clients j (e ∷ []) two')
+AddsEnds clients plan settling standing two two' out out' outcome.Full = PlansEntry plan standing (λ j e. IsFull clients j (e ∷ []) two two')
 AddsEnds clients plan settling standing two two' out out' outcome.Done =
     PlansEntry plan standing (λ j e. IsAdded clients settling j (e ∷ []) two' × Appends out.bytes out'.bytes (added_text e))
 AddsEnds clients plan settling standing two two' out out' outcome.WriteFault =
@@ -70,6 +76,8 @@ pub record AddsTold (clients : Meaning) (plan : Facts → Plan) (settling : Sett
   pub moments : MomentsAre old new
       (λ m. IsNow two old.links m ⊎ AddsMoment clients plan (stands clients (read_files two)) came (sent_of old.links.told) m)
   pub ends : (two' : Two File) → new.files ≡ Some two' → AddsEnds clients plan settling (stands clients (read_files two)) two two' out out' came
+  -- a journal of format 1 with the last generation is not added to
+  pub spent : HasLastGeneration (read_files two) → is_added came ≡ false
 
 -- the causes of an outcome, whatever the disk tells: a fault comes only where its count rose, and nothing is written but the line
 abbrev pub AddsBy : (old new : Outside) (out out' : Stream) → Outcome → Type 0
@@ -92,19 +100,20 @@ pub record HasAdded (clients : Meaning) (plan : Facts → Plan) (settling : Sett
 -- ---- the entry alone
 
 -- the outcome of adding an entry to a store and printing its line
-abbrev pub EntryEnds : Meaning → Settling → List (List Entry) → Entry → (out out' : Stream) → Outcome → Two File → Type 0
-EntryEnds clients settling j e out out' outcome.Done two = IsAdded clients settling j (e ∷ []) two × Appends out.bytes out'.bytes (added_text e)
-EntryEnds clients settling j e out out' outcome.WriteFault two = IsAdded clients settling j (e ∷ []) two × GetsFront out out' (added_text e)
-EntryEnds clients settling j e out out' outcome.Full two = IsFull clients j (e ∷ []) two
-EntryEnds clients settling j e out out' _ two = Unit {0}
+abbrev pub EntryEnds : Meaning → Settling → List (List Entry) → Entry → (out out' : Stream) → Outcome → Two File → Two File → Type 0
+EntryEnds clients settling j e out out' outcome.Done two two' = IsAdded clients settling j (e ∷ []) two' × Appends out.bytes out'.bytes (added_text e)
+EntryEnds clients settling j e out out' outcome.WriteFault two two' = IsAdded clients settling j (e ∷ []) two' × GetsFront out out' (added_text e)
+EntryEnds clients settling j e out out' outcome.Full two two' = IsFull clients j (e ∷ []) two two'
+EntryEnds clients settling j e out out' _ two two' = Unit {0}
 
-pub record EntryTold (clients : Meaning) (settling : Settling) (j : List (List Entry)) (e : Entry) (old new : Outside) (out out' : Stream) (came : Outcome) : Type 0 where
+pub record EntryTold (clients : Meaning) (settling : Settling) (j : List (List Entry)) (e : Entry) (two : Two File) (old new : Outside) (out out' : Stream) (came : Outcome) : Type 0 where
   pub moments : MomentsAre old new (JournalMoment clients (GoesOn clients j (e ∷ [])) (sent_of old.links.told))
-  pub ends : (two : Two File) → new.files ≡ Some two → EntryEnds clients settling j e out out' came two
+  pub ends : (two' : Two File) → new.files ≡ Some two' → EntryEnds clients settling j e out out' came two two'
+  pub spent : HasLastGeneration (read_files two) → is_added came ≡ false
 
 -- an entry was added to a store
 pub record EntryAdded (clients : Meaning) (settling : Settling) (s : StoreValue) (e : Entry) (old new : Outside) (out out' : Stream) (came : Outcome) : Type 0 where
   pub run : DiskRun old new
   pub by : AddsBy old new out out' came
   pub late : is_late came ≡ true
-  pub told : (two : Two File) → old.files ≡ Some two → (j : List (List Entry)) → Fits clients s j two → EntryTold clients settling j e old new out out' came
+  pub told : (two : Two File) → old.files ≡ Some two → (j : List (List Entry)) → Fits clients s j two → EntryTold clients settling j e two old new out out' came

@@ -1,6 +1,6 @@
-// A batch that is added to a store: the journal is settled before it. The store's answers are
-// outcomes here; a store that is ready is not closed.
-ghost use Rattle.std.specs.Prelude.{◌≡◌, List, Some, false, OnOk};
+// A batch that is added to a store: before it the journal is migrated, where it is of format 1, and
+// settled. The store's answers are outcomes here; a store that is ready is not closed.
+ghost use Rattle.std.specs.Prelude.{◌≡◌, List, Some, false, IsErrOf, OnOk};
 ghost use Rattle.outside.specs.Files.{Two, File};
 ghost use Rattle.outside.specs.Outside.{DiskRun};
 ghost use Rattle.sync_rules.specs.declared.entries.Entry.{Entry};
@@ -10,7 +10,7 @@ ghost use Rattle.session_core.specs.Known.{IsOfAll};
 ghost use Rattle.sync_store.specs.Fitting.{Fits};
 ghost use Rattle.sync_store.specs.Ready.{IsReady};
 ghost use Rattle.store_commands.specs.Commit.{AddsAs, ExtendsBy, ExtendsTold, MayFollow};
-ghost use Rattle.store_commands.specs.Commit.{SettlesAs, StaysReady};
+ghost use Rattle.store_commands.specs.Commit.{MigratesAs, SettlesAnew, SettlesAs, StaysReady};
 ghost use Rattle.store_commands.specs.Load.{MayExtend};
 
 use outside::Disk;
@@ -29,8 +29,8 @@ pub enum Settling {
     BeforeAndAfter,
 }
 
-/// Settles the journal, commits the batch, and settles again where that is asked for. The id is
-/// that of the one message that the batch brings, where the caller has it.
+/// Migrates the journal and settles it, commits the batch, and settles again where that is asked
+/// for. The id is that of the one message that the batch brings, where the caller has it.
 pub fn extend<D: Disk, C: Clients>(
     store: &mut Store,
     batch: Batch,
@@ -47,18 +47,65 @@ pub fn extend<D: Disk, C: Clients>(
     ensures by { ExtendsBy (D.tells disk.old) (D.tells disk.new) result }
     ensures told { (two : Two File) → (D.tells disk.old).files ≡ Some two → (j : List (List Entry))
         → Fits (C.meaning clients.now) store.old j two
-        → ExtendsTold (C.meaning clients.now) settling j batch (D.tells disk.old)
+        → ExtendsTold (C.meaning clients.now) settling j batch two (D.tells disk.old)
         (D.tells disk.new) result }
 {
-    settle(store, disk, clients)?;
+    migrate_and_settle(store, disk, clients)?;
     match settling {
         Settling::Before => commit(store, batch, id, disk, clients),
         Settling::BeforeAndAfter => commit_settled(store, batch, id, disk, clients),
     }
 }
 
-/// Settles the journal. `Memory` and `DiskFault` are its only outcomes beside `Ok`.
-pub fn settle<D: Disk, C: Clients>(
+/// Writes the journal anew in format 2 where it is of format 1, and settles it. Beside `Ok` its
+/// outcomes are `Memory`, `DiskFault`, and `Full` exactly where a journal of format 1 has the last
+/// generation; then nothing is done.
+pub fn migrate_and_settle<D: Disk, C: Clients>(
+    store: &mut Store,
+    disk: &mut D,
+    clients: &C,
+) -> Result<(), Outcome>
+    requires ready { IsReady (C.meaning clients.now) store.old (D.tells disk.old).files }
+    ensures run { DiskRun (D.tells disk.old) (D.tells disk.new) }
+    ensures by { ExtendsBy (D.tells disk.old) (D.tells disk.new) result }
+    ensures settled { SettlesAnew (C.meaning clients.now) store.old store.new (D.tells disk.old)
+        (D.tells disk.new) result }
+    ensures untouched { IsErrOf result Outcome.Full → disk.new ≡ disk.old }
+    ensures stays { StaysReady (C.meaning clients.now) store.new (D.tells disk.new).files result }
+    ensures ready { OnOk result (IsReady (C.meaning clients.now) store.new
+        (D.tells disk.new).files) }
+{
+    migrate(store, disk, clients)?;
+    settle(store, disk, clients)
+}
+
+// Writes the journal anew in format 2 where it is of format 1.
+fn migrate<D: Disk, C: Clients>(
+    store: &mut Store,
+    disk: &mut D,
+    clients: &C,
+) -> Result<(), Outcome>
+    requires ready { IsReady (C.meaning clients.now) store.old (D.tells disk.old).files }
+    ensures run { DiskRun (D.tells disk.old) (D.tells disk.new) }
+    ensures by { ExtendsBy (D.tells disk.old) (D.tells disk.new) result }
+    ensures migrated { MigratesAs (C.meaning clients.now) store.old store.new (D.tells disk.old)
+        (D.tells disk.new) result }
+    ensures untouched { IsErrOf result Outcome.Full → disk.new ≡ disk.old }
+    ensures stays { StaysReady (C.meaning clients.now) store.new (D.tells disk.new).files result }
+    ensures ready { OnOk result (IsReady (C.meaning clients.now) store.new
+        (D.tells disk.new).files) }
+{
+    match store.migrate(disk, clients) {
+        Ok(()) => Ok(()),
+        Err(StoreFault::Full) => Err(Outcome::Full),
+        Err(StoreFault::Memory) => Err(Outcome::Memory),
+        Err(StoreFault::DiskFault) => Err(Outcome::DiskFault),
+        Err(StoreFault::Closed) => unreachable!(),
+    }
+}
+
+// Settles the journal. `Memory` and `DiskFault` are its only outcomes beside `Ok`.
+fn settle<D: Disk, C: Clients>(
     store: &mut Store,
     disk: &mut D,
     clients: &C,

@@ -3,7 +3,7 @@
 //! - `init`, `entries`, `post`, `show`: the commands, a file for each kind.
 //! - `load`: a store that is loaded, or what the command comes to without one.
 //! - `plans`: the tests of a command over the loaded journal, and the entry that it plans.
-//! - `commit`: settling, a batch, and settling again, with the answers of a store as outcomes.
+//! - `commit`: a migration, settling, a batch, and settling again, with the answers of a store as outcomes.
 //! - `listing`, `print`: what is printed of a store, and how it goes out.
 #![tactic(auto)]
 
@@ -17,7 +17,7 @@ mod post;
 mod print;
 mod show;
 
-pub use commit::{Settling, settle};
+pub use commit::{Settling, migrate_and_settle};
 pub use entries::{add_contact, add_entry, add_group, set_level};
 pub use init::make_store;
 pub use listing::{Listing, add_listing};

@@ -31,7 +31,7 @@ use crate::sessions::{attach_all, make_turns};
 use outside::Host;
 use std::alloc::Global;
 use std::hash::RandomState;
-use store_commands::{load_store, settle};
+use store_commands::{load_store, migrate_and_settle};
 use sync_course::laws::runs_end_quiet;
 use sync_node::{Node, NodeFault};
 use sync_rules::{Clients, Refused};
@@ -49,7 +49,7 @@ pub struct Limits {
 
 /// Runs a session on each of these links, 1 to 8 of them, over a host on which no link was made,
 /// and answers how the links ended. It loads the store, tests the contacts, dials the links and
-/// draws their nonces, settles the journal, begins the sessions in order, and makes turns until the
+/// draws their nonces, migrates the journal and settles it, begins the sessions in order, and makes turns until the
 /// run is over or all were made. At the end every link is hung up.
 ///
 /// # Errors
@@ -190,7 +190,7 @@ fn run_dialled<H: Host, C: Clients>(
     // The law of what stands at the end of a run that is over.
     runs_end_quiet();
     let mut store = store;
-    settle(&mut store, host, clients)?;
+    migrate_and_settle(&mut store, host, clients)?;
     let mut node = Node::new(alloc, store)?;
     match run_node(&mut node, limits, links, host, clients) {
         Ok(over) => Ok(close(alloc, &node, links.len() as u8, over)?),

@@ -35,19 +35,19 @@ shut_stands clients m first second = ap (stands_in clients m) (none_open m first
 first_open : (m : Two (List ℕ)) → is_open m.first ≡ true → is_open m.second ≡ false → journal_file m ≡ Some 0
 first_open m first second = cc
 
-begun_open : is_open (begun_bytes 1 1) ≡ true
+begun_open : is_open (begun_bytes 2 1) ≡ true
 begun_open = refl
 
-begun_frames : HasFrames (begun_bytes 1 1) (header_of 1 1) (payloads kind.Whole nothing [])
+begun_frames : HasFrames (begun_bytes 2 1) (header_of 2 1) (payloads kind.Short nothing [])
 begun_frames = record { gate = 0; rest = []; whole = refl; closed = λ e. absurd (omega arith); long = refl; payloads_fit = All-nil IsPayload }
 
-begun_stands : JournalsStand → (clients : Meaning) (m : Two (List ℕ)) → m.first ≡ begun_bytes 1 1 → is_open m.second ≡ false → stands clients m ≡ journal []
+begun_stands : JournalsStand → (clients : Meaning) (m : Two (List ℕ)) → m.first ≡ begun_bytes 2 1 → is_open m.second ≡ false → stands clients m ≡ journal []
 begun_stands stand clients m first second =
-    stand clients m 0 kind.Whole [] (record {
+    stand clients m 0 kind.Short [] (record {
       found = first_open m (ap is_open first ∙ begun_open) second;
       format_is = ap (λ (bytes : List ℕ). format_of (format_in bytes)) first;
-      header = header_of 1 1;
-      frames = subst (λ (bytes : List ℕ). HasFrames bytes (header_of 1 1) (payloads kind.Whole nothing [])) (sym first) begun_frames;
+      header = header_of 2 1;
+      frames = subst (λ (bytes : List ℕ). HasFrames bytes (header_of 2 1) (payloads kind.Short nothing [])) (sym first) begun_frames;
       legal = tt;
       within = tt;
       bounded = lit≤ tt;
@@ -74,7 +74,7 @@ clear_moment two links free m moment =
     inr (free.none_open, inl (λ clients. shut_stands clients m.files (shut_by two m.files.first free moment.this) (second_only two m.files.second free moment.other)), moment.nothing_sent)
 
 -- and while a journal is begun in it
-create_moment : JournalsStand → (two : Two File) (links : Links) → IsFree two → (at : Two File) → at.second ≡ two.second → (m : Moment) → FileMoment (ShutOrBegun 1 1) at (sent_of links.told) 0 m → InitMoment two links m
+create_moment : JournalsStand → (two : Two File) (links : Links) → IsFree two → (at : Two File) → at.second ≡ two.second → (m : Moment) → FileMoment (ShutOrBegun 2 1) at (sent_of links.told) 0 m → InitMoment two links m
 create_moment stand two links free at same m moment =
     let other : is_open m.files.second ≡ false = second_only two m.files.second free (subst (λ (f : File). IsFileImage f m.files.second) same moment.other) in
     elim moment.this [
@@ -87,14 +87,14 @@ clear_moments two o0 o o' free links passed =
     moments_map o o' (FileMoment (BeforeOrShut two.first.now) two (sent_of o.links.told) 0) (InitMoment two o0.links)
     (λ m moment. clear_moment two o0.links free m (subst (λ (l : Links). FileMoment (BeforeOrShut two.first.now) two (sent_of l.told) 0 m) links moment)) passed
 
-pub create_moments : JournalsStand → (two at : Two File) (o0 o o' : Outside) → IsFree two → at.second ≡ two.second → o.links ≡ o0.links → Passed at o o' 0 (ShutOrBegun 1 1) → MomentsAre o o' (InitMoment two o0.links)
+pub create_moments : JournalsStand → (two at : Two File) (o0 o o' : Outside) → IsFree two → at.second ≡ two.second → o.links ≡ o0.links → Passed at o o' 0 (ShutOrBegun 2 1) → MomentsAre o o' (InitMoment two o0.links)
 create_moments stand two at o0 o o' free same links passed =
-    moments_map o o' (FileMoment (ShutOrBegun 1 1) at (sent_of o.links.told) 0) (InitMoment two o0.links)
-    (λ m moment. create_moment stand two o0.links free at same m (subst (λ (l : Links). FileMoment (ShutOrBegun 1 1) at (sent_of l.told) 0 m) links moment)) passed
+    moments_map o o' (FileMoment (ShutOrBegun 2 1) at (sent_of o.links.told) 0) (InitMoment two o0.links)
+    (λ m moment. create_moment stand two o0.links free at same m (subst (λ (l : Links). FileMoment (ShutOrBegun 2 1) at (sent_of l.told) 0 m) links moment)) passed
 
 -- ---- the end
 
-pub begins_from : JournalsStand → (two at end : Two File) → IsFree two → at.second ≡ two.second → Creates 0 1 1 at end → Begins two end
+pub begins_from : JournalsStand → (two at end : Two File) → IsFree two → at.second ≡ two.second → Creates 0 2 1 at end → Begins two end
 begins_from stand two at end free same creates =
     let second : end.second ≡ settled two.second.now = creates.other ∙ same ∙ free.second_settled in
     record {
@@ -102,7 +102,7 @@ begins_from stand two at end free same creates =
       second = second;
       each_image = λ clients left image.
           begun_stands stand clients left
-          (settled_only (begun_bytes 1 1) left.first (subst (λ (f : File). IsFileImage f left.first) creates.bytes image.first))
+          (settled_only (begun_bytes 2 1) left.first (subst (λ (f : File). IsFileImage f left.first) creates.bytes image.first))
           (ap is_open (settled_only two.second.now left.second (subst (λ (f : File). IsFileImage f left.second) second image.second)) ∙ second_shut two free);
     }
 
@@ -164,11 +164,11 @@ init_then o0 o1 o2 two at told looks run settles later =
 
 -- clear and then create
 pub begin_then : JournalsStand → (two at : Two File) (o0 o1 o2 : Outside) → IsFree two → o0.files ≡ Some two → Passed two o0 o1 0 (BeforeOrShut (file_of two 0).now) → DiskRun o0 o1 → at.second ≡ two.second
-    → Passed at o1 o2 0 (ShutOrBegun 1 1) → MomentsAre o0 o2 (InitMoment two o0.links)
+    → Passed at o1 o2 0 (ShutOrBegun 2 1) → MomentsAre o0 o2 (InitMoment two o0.links)
 begin_then stand two at o0 o1 o2 free told cleared run same created =
     moments_then o0 o1 o2 (InitMoment two o0.links) (clear_moments two o0 o0 o1 free refl cleared) (create_moments stand two at o0 o1 o2 free same run.same_links created)
 
-pub begun_becomes : JournalsStand → (o0 o1 o2 : Option (Two File)) → ForSome o0 IsFree → Becomes (Clears 0) o0 o1 → Becomes (Creates 0 1 1) o1 o2 → Becomes Begins o0 o2
+pub begun_becomes : JournalsStand → (o0 o1 o2 : Option (Two File)) → ForSome o0 IsFree → Becomes (Clears 0) o0 o1 → Becomes (Creates 0 2 1) o1 o2 → Becomes Begins o0 o2
 begun_becomes stand None None None free first second = tt
 begun_becomes stand None None (Some c) free first second = absurd second
 begun_becomes stand None (Some b) o2 free first second = absurd first

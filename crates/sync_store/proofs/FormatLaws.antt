@@ -6,7 +6,8 @@ use Rattle.frame_journal.specs.Journal.{is_format}
 use Rattle.entry_codec.specs.declared.naming.Format.{Format}
 use Rattle.entry_codec.specs.declared.naming.Format.TheVariants as kind
 use Rattle.entry_codec.specs.Naming.{format_of}
-use Rattle.entry_codec.specs.Standing.{step_bytes, step_len}
+use Rattle.sync_rules.specs.Facts.{Facts}
+use Rattle.entry_codec.specs.Standing.{room_of, step_bytes, step_len}
 use Rattle.sync_store.specs.Store.{format_meant}
 
 some_format : Format → Option Format
@@ -76,3 +77,19 @@ room_split kind.Short few made many le = omega (arith, le)
 pub room_framed : (f : Format) (few made many : ℕ) → few + made ≤ many → 1 ≤ made → 5 + step_len f * made + step_bytes f * few ≤ step_bytes f * many
 room_framed kind.Whole few made many le some = omega (arith, le, some)
 room_framed kind.Short few made many le some = omega (arith, le, some)
+
+-- ---- the first format
+
+-- its number is 1
+pub whole_is_one : (n : ℕ) → format_of n ≡ Some kind.Whole → n ≡ 1
+whole_is_one n is = whole_by (n == 1) (n == 2) (λ e. eqb-true n 1 e) is
+  where
+    whole_by : (a b : Bool) → (a ≡ true → n ≡ 1) → cond a (some_format kind.Whole) (cond b (some_format kind.Short) None) ≡ some_format kind.Whole → n ≡ 1
+    unfolding some_format
+    whole_by true b one e = one refl
+    whole_by false true one e = cc
+    whole_by false false one e = cc
+
+-- the room of the second is less
+pub short_room : (f : Facts) → room_of kind.Short f ≤ room_of kind.Whole f
+short_room f = omega arith

@@ -28,7 +28,7 @@ use Rattle.outside.specs.declared.limits.TheConstants.{MAX_JOURNAL}
 use Rattle.sync_store.specs.declared.fault.StoreFault.{StoreFault}
 use Rattle.sync_store.specs.declared.fault.StoreFault.TheVariants as fault
 use Rattle.sync_store.specs.Cited.{CitedLaws}
-use Rattle.sync_store.specs.Store.{HasNumbers, IsStore, StoreValue, format_meant, written_in}
+use Rattle.sync_store.specs.Store.{HasNumbers, IsStore, StoreValue, counts_to, format_meant, written_in}
 use Rattle.sync_store.specs.Commits.{Gains, MayAdd, needed}
 use Rattle.sync_store.specs.Moments.{journal_with}
 use Rattle.sync_store.specs.Settling.{BatchSo, ComesBy, IsOneBatch, MakesBatch}
@@ -36,6 +36,7 @@ use Rattle.sync_store.proofs.FitSteps.{adds_err, adds_ok, framed_len, true≢fal
 use Rattle.sync_store.proofs.FormatLaws.{room_framed, room_less, steps_few, steps_some}
 use Rattle.sync_store.proofs.Framing.{framed_length, framed_so, payload_framed}
 use Rattle.sync_store.proofs.HeldIds.{names_stay}
+use Rattle.sync_store.proofs.Limits.{counts_more}
 use Rattle.sync_store.proofs.SettleSteps.{calls_closed, calls_one, leads_one, leads_one_closed}
 use Rattle.sync_store.proofs.Steps.{numbers_stay}
 
@@ -60,8 +61,10 @@ grown_store laws clients s new batch framed store may gains =
       limited = omega (arith, store.limited, gains.limit);
       roomy = omega (arith, may.still_roomy, gains.end, long, room);
       numbers =
-          subst (λ (f : Facts). HasNumbers f new.end) (sym gains.facts)
-          (grown_numbers laws clients s.state.facts batch s.end new.end may.allowed store.numbers (omega (arith, gains.end)));
+          subst (λ (f : Facts). HasNumbers f (counts_to (written_in new) new.end)) (sym gains.facts)
+          (subst (λ (n : ℕ). HasNumbers (after_all s.state.facts batch) (counts_to (format_meant n) new.end)) (sym gains.format)
+          (grown_numbers laws clients s.state.facts batch (counts_to (written_in s) s.end) (counts_to (written_in s) new.end) may.allowed store.numbers
+          (counts_more (written_in s) s.end new.end (omega (arith, gains.end)))));
     }
 
 -- a store whose state made steps keeps its numbers
@@ -75,8 +78,10 @@ stepped_store clients s new es store settling facts end limit format =
       limited = omega (arith, store.limited, limit);
       roomy = omega (arith, store.roomy, room_less (written_in s) (left_of new.state.facts) (left_of s.state.facts) left, room, end);
       numbers =
-          subst (λ (n : ℕ). HasNumbers new.state.facts n) (sym end)
-          (subst (λ (f : Facts). HasNumbers f s.end) (sym facts) (numbers_stay clients s.state.facts es s.end settling store.numbers));
+          subst (λ (n : ℕ). HasNumbers new.state.facts (counts_to (written_in new) n)) (sym end)
+          (subst (λ (n : ℕ). HasNumbers new.state.facts (counts_to (format_meant n) s.end)) (sym format)
+          (subst (λ (f : Facts). HasNumbers f (counts_to (written_in s) s.end)) (sym facts)
+          (numbers_stay clients s.state.facts es (counts_to (written_in s) s.end) settling store.numbers)));
     }
 
 -- ---- a batch in its frame

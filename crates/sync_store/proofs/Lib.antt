@@ -11,4 +11,5 @@ mod BeginSteps
 pub mod Limits
 mod Growth
 mod Errors
+mod MigrateSteps
 pub mod Runs

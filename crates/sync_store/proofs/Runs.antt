@@ -15,7 +15,7 @@ use Rattle.sync_rules.proofs.WorkLaws.{settling_goes_on}
 use Rattle.sync_store.specs.declared.fault.StoreFault.{StoreFault}
 use Rattle.sync_store.specs.declared.fault.StoreFault.TheVariants as fault
 use Rattle.entry_codec.specs.Standing.{room_of}
-use Rattle.sync_store.specs.Store.{StoreValue, HasNumbers, IsStore, format_meant, written_in}
+use Rattle.sync_store.specs.Store.{StoreValue, HasNumbers, IsStore, counts_to, format_meant, written_in}
 use Rattle.sync_store.specs.Commits.{Commits, Stays, Unasked, needed}
 use Rattle.sync_store.specs.Fitting.{Fits, FitsSome, ImagesStand}
 use Rattle.sync_store.specs.Moments.{Adds, IsBetween, JournalMoment}
@@ -41,7 +41,10 @@ store_back s new stays store = record {
         ap (λ n. room_of (format_meant n) s.state.facts) stays.format,
         store.roomy,
       );
-  numbers = subst (λ (f : Facts). HasNumbers f s.end) stays.facts (subst (λ (n : ℕ). HasNumbers new.state.facts n) stays.end store.numbers);
+  numbers =
+      subst (λ (f : Facts). HasNumbers f (counts_to (written_in s) s.end)) stays.facts
+      (subst (λ (n : ℕ). HasNumbers new.state.facts (counts_to (format_meant n) s.end)) stays.format
+      (subst (λ (n : ℕ). HasNumbers new.state.facts (counts_to (written_in new) n)) stays.end store.numbers));
 }
 
 -- no call was made of the disk

@@ -8,6 +8,7 @@ pub mod Begin
 pub mod Commits
 pub mod Settling
 pub mod Runs
+pub mod Migrations
 pub mod Refusals
 pub mod Loading
 pub mod Cited

@@ -44,14 +44,21 @@ store_code =
     })
     (λ _. refl)
 
--- the counts of a journal that ends there: each held message, each session begun and each record taken has its bytes in the file
-pub record HasNumbers (f : Facts) (end : ℕ) : Type 0 where
-  pub held : length f.held ≤ end
-  pub begun : f.begun ≤ end
-  pub records : (session : ℕ) → takes_of f.takes session ≤ end
+-- the counts of a journal are within a bound
+pub record HasNumbers (f : Facts) (bound : ℕ) : Type 0 where
+  pub held : length f.held ≤ bound
+  pub begun : f.begun ≤ bound
+  pub records : (session : ℕ) → takes_of f.takes session ≤ bound
 
--- what every store keeps: its limit is one of a journal, settling finds its room, and its counts are bounded by its end
+-- The bound on the counts of a journal in this format that ends there. In format 1 it is the end: each held message, each session
+-- begun and each record taken has its bytes in the file. A journal in format 2 may have been written anew from one that was
+-- longer, by at most the greatest length.
+abbrev pub counts_to : Format → ℕ → ℕ
+counts_to kind.Whole end = end
+counts_to kind.Short end = MAX_JOURNAL + end
+
+-- what every store keeps: its limit is one of a journal, settling finds its room, and its counts are bounded by its end and format
 pub record IsStore (s : StoreValue) : Type 0 where
   pub limited : s.limit ≤ MAX_JOURNAL
   pub roomy : s.end + room_of (written_in s) s.state.facts ≤ MAX_JOURNAL
-  pub numbers : HasNumbers s.state.facts s.end
+  pub numbers : HasNumbers s.state.facts (counts_to (written_in s) s.end)

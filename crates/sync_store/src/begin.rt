@@ -11,11 +11,11 @@ ghost use Rattle.sync_store.specs.Begin.{Begins, InitMoment, IsAnswer, IsFree, h
 use crate::InitFault;
 use crate::laws::cite_laws;
 use crate::store::Store;
-use frame_journal::{DiskFault, FIRST_FORMAT, barrier, clear, create, read_header};
+use frame_journal::{DiskFault, SECOND_FORMAT, barrier, clear, create, read_header};
 use outside::Disk;
 
 impl Store {
-    /// Begins a store in two files: in file 0, with format 1 and generation 1. `Exists` comes
+    /// Begins a store in two files: in file 0, with format 2 and generation 1. `Exists` comes
     /// exactly where a file has an open header, and then the files read as before. At each moment
     /// the files are as a crash might have left them before, or, where no header was open, stand
     /// for no store or for the empty journal; after `Ok` every crash leaves the empty journal. It
@@ -82,6 +82,6 @@ fn begin<D: Disk>(disk: &mut D) -> Result<(), DiskFault>
 {
     cite_laws();
     clear(disk, 0)?;
-    create(disk, 0, FIRST_FORMAT, 1)?;
+    create(disk, 0, SECOND_FORMAT, 1)?;
     Ok(())
 }

@@ -10,6 +10,7 @@ mod formats;
 mod frames;
 pub mod laws;
 mod load;
+mod migrating;
 mod refusals;
 mod settling;
 mod store;

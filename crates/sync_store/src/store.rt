@@ -91,6 +91,21 @@ impl Store {
         self.state.sessions()
     }
 
+    /// The format of the journal, 1 or 2.
+    pub fn format(&self) -> u8
+        ensures { result ≡ self.now.format }
+    {
+        self.journal.format()
+    }
+
+    /// The generation of the journal: of two files with an open header the one with the greater
+    /// counts.
+    pub fn generation(&self) -> u64
+        ensures { result ≡ self.now.generation }
+    {
+        self.journal.generation()
+    }
+
     /// The place of the journal's closed gate plus one, in bytes. It bounds the counts of the
     /// journal, and is itself at most the greatest length.
     pub fn end(&self) -> u64

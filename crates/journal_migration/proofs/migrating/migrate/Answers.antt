@@ -1,4 +1,4 @@
-use Rattle.std.proofs.Common.{◌≡◌, ℕ, ◌+◌, Result, Err, sym, ap, subst, ◌∙◌, arith}
+use Rattle.std.proofs.Common.{◌≡◌, ℕ, ◌+◌, ◌-◌, Result, Err, sym, ap, subst, ◌∙◌, arith}
 use Rattle.outside.specs.Files.{file_of}
 use Rattle.outside.specs.Disk.{Becomes}
 use Rattle.outside.specs.Steps.{Passed}
@@ -6,12 +6,13 @@ use Rattle.outside.proofs.CallSteps.{run_then}
 use Rattle.frame_journal.specs.Journal.{JournalValue}
 use Rattle.frame_journal.specs.Create.{IsPrepared, Publishes, ShutOrOpened}
 use Rattle.journal_migration.specs.Faults.{fault_of_start}
-use Rattle.journal_migration.specs.Migrating.{Migrates, MigratesSo}
+use Rattle.journal_migration.specs.Migrating.{KeepsFile, Migrates, MigratesSo, ReadsOnly}
 use Rattle.journal_migration.specs.declared.fault.MigrationFault.{MigrationFault}
 use Rattle.journal_migration.specs.declared.fault.MigrationFault.TheVariants as fault
 use Rattle.journal_migration.proofs.Begun.{begun_copies, begun_so}
 use Rattle.journal_migration.proofs.Errors.{err_is}
 use Rattle.journal_migration.proofs.Migrated.{copy_elsewhere, copy_failed, looked_so, open_failed, opened_so}
+use Rattle.journal_migration.proofs.Own.{own_begun, own_cut, own_fault, own_later, own_looks, own_step, own_then}
 use Rattle.journal_migration.proofs.Shut.{prepared_so, works_ready}
 use Rattle.journal_migration.proofs.migrating.migrate.Goals as goal
 
@@ -122,3 +123,69 @@ returns-clause-migrates g c clients j two told same holds =
     (λ t at. subst (λ (k : ℕ). Passed t o3 o4 k (ShutOrOpened (file_of t k).now)) c.file-2.ensures.value (c.publish.ensures.any_moment t at))
     (subst (λ (k : ℕ). Becomes (Publishes k) o3.files o4.files) c.file-2.ensures.value c.in_ok-publish.ensures.published)
     (c.in_ok-copy_all.ensures.same.writer_generation ∙ ap (λ (v : JournalValue). v.generation) c.in_ok-writer.ensures.value)
+
+pub returns-in_err-reader-clause-own : goal.returns-in_err-reader-clause-own
+returns-in_err-reader-clause-own g c =
+    let o = g.D.Disk.tells c.args.disk.now in
+    let o' = g.D.Disk.tells c.start.new.disk in
+    let e = fault_of_start c.in_err-reader.field-0.0 in
+    own_fault c.args.file o.files o'.files e c.from_residual.result (err_is c.from_residual.result e c.from_residual.ensures.1) (own_looks c.args.file o o' c.start.ensures.looks)
+
+pub returns-then-file-clause-own : goal.returns-then-file-clause-own
+returns-then-file-clause-own g c = own_looks c.args.file (g.D.Disk.tells c.args.disk.now) (g.D.Disk.tells c.start.new.disk) c.start.ensures.looks
+
+pub returns-in_err-writer-clause-own : goal.returns-in_err-writer-clause-own
+returns-in_err-writer-clause-own g c =
+    own_cut c.args.file (g.D.Disk.tells c.args.disk.now).files (g.D.Disk.tells c.begin.new.disk).files c.from_residual-in_err-writer.result
+    (err_is c.from_residual-in_err-writer.result fault.DiskFault c.from_residual-in_err-writer.ensures.1)
+
+pub returns-in_err-copy_all-clause-own : goal.returns-in_err-copy_all-clause-own
+returns-in_err-copy_all-clause-own g c =
+    let file = c.args.file in
+    let r = c.in_ok-reader.reader in
+    let o0 = g.D.Disk.tells c.args.disk.now in
+    let o1 = g.D.Disk.tells c.start.new.disk in
+    let o2 = g.D.Disk.tells c.begin.new.disk in
+    let o3 = g.D.Disk.tells c.copy_all.new.disk in
+    let reader : r.file ≡ file = sym c.file.ensures.value ∙ c.if-file.false in
+    let e = c.in_err-copy_all.field-0.0 in
+    own_later {A = Unit {0}} file o0.files o2.files o3.files e c.from_residual-in_err-copy_all.result
+    (err_is c.from_residual-in_err-copy_all.result e c.from_residual-in_err-copy_all.ensures.1)
+    (own_begun file (c.args.generation + 1) o0 o1 o2 c.requires.file c.start.ensures.looks c.in_ok-writer.ensures.prepared)
+    (subst (λ (k : ℕ). ReadsOnly {Unit {0}} k o2.files o3.files (Err e)) reader c.in_err-copy_all.ensures.own)
+
+pub returns-then-end-clause-own : goal.returns-then-end-clause-own
+returns-then-end-clause-own g c =
+    let file = c.args.file in
+    let r = c.in_ok-reader.reader in
+    let o0 = g.D.Disk.tells c.args.disk.now in
+    let o1 = g.D.Disk.tells c.start.new.disk in
+    let o2 = g.D.Disk.tells c.begin.new.disk in
+    let o3 = g.D.Disk.tells c.copy_all.new.disk in
+    let reader : r.file ≡ file = sym c.file.ensures.value ∙ c.if-file.false in
+    own_then file o0.files o2.files o3.files (own_begun file (c.args.generation + 1) o0 o1 o2 c.requires.file c.start.ensures.looks c.in_ok-writer.ensures.prepared)
+    (subst (λ (k : ℕ). Becomes (KeepsFile k) o2.files o3.files) reader c.in_ok-copy_all.ensures.own)
+
+pub returns-in_err-publish-clause-own : goal.returns-in_err-publish-clause-own
+returns-in_err-publish-clause-own g c =
+    own_cut c.args.file (g.D.Disk.tells c.args.disk.now).files (g.D.Disk.tells c.publish.new.disk).files c.from_residual-in_err-publish.result
+    (err_is c.from_residual-in_err-publish.result fault.DiskFault c.from_residual-in_err-publish.ensures.1)
+
+pub returns-clause-own : goal.returns-clause-own
+returns-clause-own g c =
+    let file = c.args.file in
+    let r = c.in_ok-reader.reader in
+    let n = c.in_ok-writer.writer in
+    let n' = c.copy_all.new.writer in
+    let o0 = g.D.Disk.tells c.args.disk.now in
+    let o1 = g.D.Disk.tells c.start.new.disk in
+    let o2 = g.D.Disk.tells c.begin.new.disk in
+    let o3 = g.D.Disk.tells c.copy_all.new.disk in
+    let o4 = g.D.Disk.tells c.publish.new.disk in
+    let reader : r.file ≡ file = sym c.file.ensures.value ∙ c.if-file.false in
+    let writes : n'.file ≡ 1 - file = c.in_ok-copy_all.ensures.same.writer_file ∙ ap (λ (v : JournalValue). v.file) c.in_ok-writer.ensures.value in
+    own_then file o0.files o3.files o4.files
+    (own_then file o0.files o2.files o3.files (own_begun file (c.args.generation + 1) o0 o1 o2 c.requires.file c.start.ensures.looks c.in_ok-writer.ensures.prepared)
+    (subst (λ (k : ℕ). Becomes (KeepsFile k) o2.files o3.files) reader c.in_ok-copy_all.ensures.own))
+    (own_step (Publishes n'.file) file n'.file o3.files o4.files c.requires.file writes (λ a b x. x.other)
+    (subst (λ (k : ℕ). Becomes (Publishes k) o3.files o4.files) c.file-2.ensures.value c.in_ok-publish.ensures.published))

@@ -1,0 +1,181 @@
+-- A journal written anew, as the store sees it.
+use Rattle.std.proofs.Common.{◌≡◌, ◌⊎◌, ℕ, ◌+◌, ◌*◌, ◌-◌, ◌<◌, ◌≤◌, true, false, List, [], ◌++◌, Option, Some, Result, Ok, Err, refl, sym, ap, ◌∙◌, subst, inl, inr, arith, append-nil}
+use Rattle.std.specs.Option.{ForSome}
+use Rattle.outside.specs.Disk.{Becomes}
+use Rattle.outside.specs.Files.{Two, File, file_of}
+use Rattle.outside.specs.Frames.{HasFrames, format_in, generation_in}
+use Rattle.outside.specs.Links.{sent_of}
+use Rattle.outside.specs.Outside.{DiskRun, MomentsAre, Outside}
+use Rattle.outside.proofs.CallSteps.{becomes_told, moments_map, told_back}
+use Rattle.frame_journal.specs.Journal.{JournalValue}
+use Rattle.sync_rules.specs.declared.entries.Entry.{Entry}
+use Rattle.sync_rules.specs.Clients.{Meaning}
+use Rattle.sync_rules.specs.Facts.{Facts, facts, nothing}
+use Rattle.entry_codec.specs.declared.naming.Format.{Format}
+use Rattle.entry_codec.specs.declared.naming.Format.TheVariants as kind
+use Rattle.entry_codec.specs.Naming.{format_of}
+use Rattle.entry_codec.specs.Payloads.{journal_end, payloads}
+use Rattle.entry_codec.specs.Standing.{room_of}
+use Rattle.entry_codec.specs.StandingLaws.{JournalsStand}
+use Rattle.journal_migration.specs.Migrating.{HoldsFirst, HoldsSecond, IsNext, KeepsFile, Keeps, Migrates, MigratesSo, ReadsOnly, StandsStill}
+use Rattle.journal_migration.specs.Starting.{IsSettledBoth}
+use Rattle.journal_migration.specs.declared.fault.MigrationFault.{MigrationFault}
+use Rattle.journal_migration.specs.declared.fault.MigrationFault.TheVariants as migration
+use Rattle.outside.specs.declared.limits.TheConstants.{MAX_JOURNAL}
+use Rattle.sync_store.specs.declared.fault.StoreFault.{StoreFault}
+use Rattle.sync_store.specs.declared.fault.StoreFault.TheVariants as fault
+use Rattle.sync_store.specs.Fitting.{Fits, FitsSome}
+use Rattle.sync_store.specs.Migrations.{IsOld, Moves}
+use Rattle.sync_store.specs.Moments.{IsBetween, JournalMoment, Leads}
+use Rattle.sync_store.specs.Runs.{LeadsBy}
+use Rattle.sync_store.specs.Store.{HasNumbers, IsStore, StoreValue, counts_to, format_meant, written_in}
+use Rattle.sync_store.proofs.FitSteps.{IsSame, leads_none, true≢false}
+use Rattle.sync_store.proofs.FormatLaws.{short_room, whole_is_one}
+use Rattle.sync_store.proofs.Limits.{numbers_wider}
+
+-- ---- no call of the disk
+
+same_self : (s : StoreValue) → IsSame s s
+same_self s = record { facts = refl; file = refl; format = refl; generation = refl; end = refl }
+
+between_none : (j : List (List Entry)) → IsBetween j [] j
+between_none j = record { front = []; rest = []; parts = refl; is = sym (append-nil j) }
+
+pub leads_still : JournalsStand → (clients : Meaning) (s : StoreValue) (o : Outside) → IsStore s → LeadsBy clients s s o o []
+leads_still stand clients s o store two told j fits =
+    leads_none stand clients (IsBetween j []) (λ whole. whole ≡ j ++ []) s s j two o fits store.roomy told (same_self s) (between_none j) (sym (append-nil j))
+
+-- ---- before
+
+-- the disk that fits a store in format 1 holds its journal so
+pub holds_of : (clients : Meaning) (s : StoreValue) (j : List (List Entry)) (two : Two File) → IsOld s → Fits clients s j two → HoldsFirst clients s.file s.generation j two
+holds_of clients s j two old fits = record {
+  first_settled = fits.first_settled;
+  second_settled = fits.second_settled;
+  found = fits.file_is;
+  format_is = fits.format_is ∙ whole_is_one s.format (fits.format_known ∙ ap Some old.whole);
+  generation_is = fits.generation_is;
+  stands_for = fits.stands_for;
+}
+
+pub settled_both : (clients : Meaning) (s : StoreValue) (files : Option (Two File)) → FitsSome clients s files → ForSome files IsSettledBoth
+settled_both clients s files fits two told = let there = fits two told in record { first = there.1.first_settled; second = there.1.second_settled }
+
+-- ---- after
+
+-- the store with its journal there
+abbrev pub moved_to : StoreValue → JournalValue → StoreValue
+moved_to s n = record { state = s.state; file = n.file; format = n.format; generation = n.generation; end = n.end; limit = s.limit; closed = s.closed }
+
+pub moves_on : (s : StoreValue) (n : JournalValue) → IsOld s → s.closed ≡ false → IsNext s.file s.generation s.end n → Moves s (moved_to s n)
+moves_on s n old still next = record {
+  was = old;
+  state = refl;
+  file = next.file_is;
+  format = next.format_is;
+  generation = next.generation_is;
+  end = next.no_longer;
+  limit = refl;
+  closed = still;
+}
+
+pub moved_store : (s : StoreValue) (n : JournalValue) → IsOld s → IsStore s → IsNext s.file s.generation s.end n → IsStore (moved_to s n)
+moved_store s n old store next =
+    let f = s.state.facts in
+    let short : room_of (format_meant n.format) f ≡ room_of kind.Short f = ap (λ k. room_of (format_meant k) f) next.format_is in
+    let whole : room_of (written_in s) f ≡ room_of kind.Whole f = ap (λ (k : Format). room_of k f) old.whole in
+    let numbers : HasNumbers f s.end = subst (λ (k : Format). HasNumbers f (counts_to k s.end)) old.whole store.numbers in
+    record {
+      limited = store.limited;
+      roomy = omega (arith, store.roomy, next.no_longer, short, whole, short_room f);
+      numbers =
+          subst (λ k. HasNumbers f (counts_to (format_meant k) n.end)) (sym next.format_is)
+          (numbers_wider f s.end (MAX_JOURNAL + n.end) numbers (omega (arith, store.roomy)));
+    }
+
+-- the disk fits the store with its journal there
+fits_moved : (clients : Meaning) (s : StoreValue) (n : JournalValue) (j : List (List Entry)) (two : Two File) → facts j ≡ s.state.facts → n.format ≡ 2 → HoldsSecond clients n j two
+    → Fits clients (moved_to s n) j two
+fits_moved clients s n j two facts_are short holds = record {
+  first_settled = holds.first_settled;
+  second_settled = holds.second_settled;
+  stands_for = holds.stands_for;
+  facts_are = facts_are;
+  legal = holds.legal;
+  file_is = holds.found;
+  format_is = holds.format_is ∙ sym short;
+  format_known = subst (λ k. format_of k ≡ Some (format_meant k)) (sym short) refl;
+  generation_is = holds.generation_is;
+  header = holds.header;
+  frames = subst (λ k. HasFrames (file_of two n.file).now holds.header (payloads (format_meant k) nothing j)) (sym short) holds.frames;
+  end_is = holds.end_is ∙ ap (λ k. journal_end (format_meant k) j) (sym short);
+  within = holds.within;
+}
+
+-- the disk still fits the store
+fits_still : (clients : Meaning) (s : StoreValue) (j : List (List Entry)) (two two' : Two File) → Fits clients s j two → HoldsFirst clients s.file s.generation j two' → file_of two' s.file ≡ file_of two s.file
+    → Fits clients s j two'
+fits_still clients s j two two' fits holds same = record {
+  first_settled = holds.first_settled;
+  second_settled = holds.second_settled;
+  stands_for = holds.stands_for;
+  facts_are = fits.facts_are;
+  legal = fits.legal;
+  file_is = holds.found;
+  format_is = ap (λ (f : File). format_in f.now) same ∙ fits.format_is;
+  format_known = fits.format_known;
+  generation_is = holds.generation_is;
+  header = fits.header;
+  frames = subst (λ (f : File). HasFrames f.now fits.header (payloads (written_in s) nothing j)) (sym same) fits.frames;
+  end_is = fits.end_is;
+  within = fits.within;
+}
+
+-- ---- the moments
+
+still_moments : (clients : Meaning) (j : List (List Entry)) (o o' : Outside) → MomentsAre o o' (StandsStill clients j (sent_of o.links.told))
+    → MomentsAre o o' (JournalMoment clients (IsBetween j []) (sent_of o.links.told))
+still_moments clients j o o' moments =
+    moments_map o o' (StandsStill clients j (sent_of o.links.told)) (JournalMoment clients (IsBetween j []) (sent_of o.links.told))
+    (λ m still. record { whole = j; has = between_none j; stands_for = still.stands_for; nothing_sent = still.nothing_sent }) moments
+
+-- what is asked of a migration: this is what it gives, whatever journal the disk holds
+abbrev pub Gives : Meaning → StoreValue → Result JournalValue MigrationFault → Outside → Outside → Type 0
+Gives clients s result o o' =
+    (j : List (List Entry)) (two : Two File) → o.files ≡ Some two → facts j ≡ s.state.facts → HoldsFirst clients s.file s.generation j two
+    → Migrates clients s.file s.generation j o o' result
+
+pub leads_moved : (clients : Meaning) (s : StoreValue) (n : JournalValue) (o o' : Outside) → IsOld s → n.format ≡ 2 → Gives clients s (Ok n) o o' → LeadsBy clients s (moved_to s n) o o' []
+leads_moved clients s n o o' old short gives two told j fits =
+    let kept = gives j two told fits.facts_are (holds_of clients s j two old fits) in
+    record {
+      moments = still_moments clients j o o' kept.moments;
+      ends = λ still two' told'. (j, sym (append-nil j), fits_moved clients s n j two' fits.facts_are short (kept.ends two' told'));
+    }
+
+pub leads_memory : (clients : Meaning) (s : StoreValue) (o o' : Outside) → IsOld s → Becomes (KeepsFile s.file) o.files o'.files → Gives clients s (Err migration.Memory) o o'
+    → LeadsBy clients s s o o' []
+leads_memory clients s o o' old own gives two told j fits =
+    let kept = gives j two told fits.facts_are (holds_of clients s j two old fits) in
+    record {
+      moments = still_moments clients j o o' kept.moments;
+      ends = λ still two' told'.
+          let there = becomes_told (KeepsFile s.file) o.files o'.files two told own in
+          let both : Some there.0 ≡ Some two' = sym there.1 ∙ told' in
+          let one : there.0 ≡ two' = cc in
+          (j, sym (append-nil j), fits_still clients s j two two' fits (kept.ends two' told') (subst (λ (t : Two File). file_of t s.file ≡ file_of two s.file) one there.2));
+    }
+
+pub leads_failed : (clients : Meaning) (s new : StoreValue) (o o' : Outside) → IsOld s → new.closed ≡ true → Gives clients s (Err migration.DiskFault) o o' → LeadsBy clients s new o o' []
+leads_failed clients s new o o' old closed gives two told j fits =
+    let kept = gives j two told fits.facts_are (holds_of clients s j two old fits) in
+    record { moments = still_moments clients j o o' kept.moments; ends = λ still. true≢false new.closed closed still }
+
+-- where the disk fits a store at first, it fits the one that it leads to
+pub leads_fits : (clients : Meaning) (s new : StoreValue) (o o' : Outside) → DiskRun o o' → LeadsBy clients s new o o' [] → FitsSome clients s o.files → new.closed ≡ false
+    → FitsSome clients new o'.files
+leads_fits clients s new o o' run leads fits still two' told' =
+    let there = told_back o o' two' run.same_told told' in
+    let begun = fits there.0 there.1 in
+    let end = (leads there.0 there.1 begun.0 begun.1).ends still two' told' in
+    (end.0, end.2)
