@@ -1,6 +1,6 @@
--- What `agree` does: it settles the journal, adds what the targets ask for, each entry a batch of its own, and prints a line for
+-- What `agree` does: it migrates the journal and settles it, adds what the targets ask for, each entry a batch of its own, and prints a line for
 -- each group.
-use Rattle.std.specs.Prelude.{◌≡◌, ◌⊎◌, ℕ, ◌<◌, ◌≤◌, true, List, [], ◌∷◌, ◌++◌, Some, None}
+use Rattle.std.specs.Prelude.{◌≡◌, ◌⊎◌, ℕ, ◌<◌, ◌≤◌, false, true, List, [], ◌∷◌, ◌++◌, Some, None}
 use Rattle.std.specs.Io.KnownBytes.{Appends}
 use Rattle.outside.specs.declared.limits.TheConstants.{MAX_JOURNAL}
 use Rattle.outside.specs.Files.{Two, File, read_files, NothingPending}
@@ -17,9 +17,9 @@ use Rattle.entry_codec.specs.Standing.{Standing, no_store, damaged, journal, sta
 use Rattle.sync_store.specs.Moments.{IsBetween, JournalMoment}
 use Rattle.sync_words.specs.declared.outcome.Outcome.{Outcome}
 use Rattle.sync_words.specs.declared.outcome.Outcome.TheVariants as outcome
-use Rattle.entry_codec.specs.declared.naming.Format.{Format}
-use Rattle.store_commands.specs.Commit.{format_stood, needed_by}
-use Rattle.store_commands.specs.Entries.{AddsBy, is_late}
+use Rattle.entry_codec.specs.declared.naming.Format.TheVariants as kind
+use Rattle.store_commands.specs.Commit.{HasLastGeneration, IsInFormat, WasSpent, needed_by}
+use Rattle.store_commands.specs.Entries.{AddsBy, is_added, is_late}
 use Rattle.store_commands.specs.Show.{ReadsAs}
 use Rattle.sharing_commands.specs.Agreement.{agree_test, agreed_batches, agreed_text}
 
@@ -38,24 +38,25 @@ pub record AgreesOn (clients : Meaning) (contact : ℕ) (group : Id) (j whole : 
   pub adds : AllSettling clients (facts j) more ⊎ AgreesWhole clients contact group (facts j) more
   pub between : IsBetween j more whole
 
--- there was room for each of these batches, in this format, when it was committed
-abbrev pub AreRoomy : Format → List (List Entry) → List (List Entry) → Type 0
-AreRoomy format j [] = Unit {0}
-AreRoomy format j (b ∷ bs) = (needed_by format j b ≤ MAX_JOURNAL) × AreRoomy format (j ++ b ∷ []) bs
+-- there was room for each of these batches when it was committed
+abbrev pub AreRoomy : List (List Entry) → List (List Entry) → Type 0
+AreRoomy j [] = Unit {0}
+AreRoomy j (b ∷ bs) = (needed_by j b ≤ MAX_JOURNAL) × AreRoomy (j ++ b ∷ []) bs
 
--- The files stand for the journal, all of its settling, and all that the targets ask for; nothing is pending in them, so that each
+-- The files stand, in format 2, for the journal, all of its settling, and all that the targets ask for; nothing is pending in them, so that each
 -- crash leaves this. The text is that of the targets.
 pub record IsAgreed (clients : Meaning) (contact : ℕ) (group : Id) (j : List (List Entry)) (two : Two File) (P : List ℕ → Type 0) : Type 0 where
   pub first : List (List Entry)
   pub settles : AllSettling clients (facts j) first
   pub settled : IsSettled clients (after_batches (facts j) first)
-  pub roomy : AreRoomy (format_stood (read_files two)) (j ++ first) (agreed_batches clients contact group (after_batches (facts j) first))
+  pub short : IsInFormat kind.Short (read_files two)
+  pub roomy : AreRoomy (j ++ first) (agreed_batches clients contact group (after_batches (facts j) first))
   pub stands_for : stands clients (read_files two) ≡ journal (j ++ (first ++ agreed_batches clients contact group (after_batches (facts j) first)))
   pub first_settled : NothingPending two 0
   pub second_settled : NothingPending two 1
   pub printed : P (agreed_text clients contact group (after_batches (facts j) first))
 
--- The files stand for the journal, all of its settling, and a front of what the targets ask for, and there is no room for the
+-- The files stand, in format 2, for the journal, all of its settling, and a front of what the targets ask for, and there is no room for the
 -- batch behind it.
 pub record IsCut (clients : Meaning) (contact : ℕ) (group : Id) (j : List (List Entry)) (two : Two File) : Type 0 where
   pub first : List (List Entry)
@@ -66,7 +67,8 @@ pub record IsCut (clients : Meaning) (contact : ℕ) (group : Id) (j : List (Lis
   pub settled : IsSettled clients (after_batches (facts j) first)
   pub parts : agreed_batches clients contact group (after_batches (facts j) first) ≡ front ++ next ∷ rest
   pub stands_for : stands clients (read_files two) ≡ journal (j ++ (first ++ front))
-  pub over : MAX_JOURNAL < needed_by (format_stood (read_files two)) (j ++ (first ++ front)) next
+  pub short : IsInFormat kind.Short (read_files two)
+  pub over : MAX_JOURNAL < needed_by (j ++ (first ++ front)) next
 
 -- ---- from the files that were told
 
@@ -93,7 +95,7 @@ abbrev pub AgreesEnds : Meaning → ℕ → Id → Standing → Two File → Two
 AgreesEnds clients contact group standing two two' out out' outcome.NoStore = (standing ≡ no_store) × ReadsAs two two'
 AgreesEnds clients contact group standing two two' out out' (outcome.Damaged place) = (standing ≡ damaged place.file place.at) × ReadsAs two two'
 AgreesEnds clients contact group standing two two' out out' (outcome.Refused why) = IsDenied contact group standing why × ReadsAs two two'
-AgreesEnds clients contact group standing two two' out out' outcome.Full = MayAgree contact group standing (λ j. IsCut clients contact group j two')
+AgreesEnds clients contact group standing two two' out out' outcome.Full = MayAgree contact group standing (λ j. IsCut clients contact group j two' ⊎ WasSpent two two')
 AgreesEnds clients contact group standing two two' out out' outcome.Done =
     MayAgree contact group standing (λ j. IsAgreed clients contact group j two' (Appends out.bytes out'.bytes))
 AgreesEnds clients contact group standing two two' out out' outcome.WriteFault =
@@ -105,6 +107,8 @@ pub record AgreesTold (clients : Meaning) (contact : ℕ) (group : Id) (two : Tw
   pub moments : MomentsAre old new
       (λ m. IsNow two old.links m ⊎ AgreesMoment clients contact group (stands clients (read_files two)) came (sent_of old.links.told) m)
   pub ends : (two' : Two File) → new.files ≡ Some two' → AgreesEnds clients contact group (stands clients (read_files two)) two two' out out' came
+  -- a journal of format 1 with the last generation is not added to
+  pub spent : HasLastGeneration (read_files two) → is_added came ≡ false
 
 -- a command that sets the levels that two people agreed on
 pub record HasAgreed (clients : Meaning) (contact : ℕ) (group : Id) (old new : Outside) (out out' : Stream) (came : Outcome) : Type 0 where

@@ -15,6 +15,7 @@ use Rattle.sync_rules.proofs.Continuing.{facts-append}
 use Rattle.sync_rules.proofs.Settling.{after_batches-append}
 use Rattle.outside.specs.Files.{read_files}
 use Rattle.entry_codec.specs.declared.naming.Format.{Format}
+use Rattle.entry_codec.specs.declared.naming.Format.TheVariants as kind
 use Rattle.entry_codec.specs.Payloads.{journal_end, payload_len}
 use Rattle.entry_codec.specs.Standing.{journal, room_of}
 use Rattle.sync_store.specs.Commits.{needed}
@@ -26,8 +27,8 @@ use Rattle.sync_words.specs.declared.outcome.Outcome.{Outcome}
 use Rattle.sync_words.specs.declared.outcome.Outcome.TheVariants as outcome
 use Rattle.store_commands.specs.declared.commit.Settling.{Settling}
 use Rattle.store_commands.specs.declared.commit.Settling.TheVariants as settling
-use Rattle.store_commands.specs.Commit.{AddedSo, AddsAs, AddsAtMost, ExtendsBy, ExtendsEnds, ExtendsTold, Follows, GoesOn, IsWhole, SettledBy, MayFollow, SettlesAs, format_stood, needed_by}
-use Rattle.store_commands.proofs.Stood.{fits_format}
+use Rattle.store_commands.specs.Commit.{AddedSo, AddsAs, AddsAtMost, ExtendsBy, ExtendsEnds, ExtendsTold, Follows, GoesOn, IsWhole, MayFollow, SettledAnew, SettlesAnew, needed_by}
+use Rattle.store_commands.proofs.Stood.{fits_format, last_here, spent_here}
 
 -- ---- longer journals
 
@@ -96,80 +97,89 @@ settles_from : (clients : Meaning) (s : StoreValue) (two : Two File) (j more : L
 settles_from clients s two j more fits settling = subst (λ (g : Facts). AllSettling clients g more) (sym fits.facts_are) settling
 
 settling_moments : (clients : Meaning) (o o1 : Outside) (s s1 : StoreValue) (batch : List Entry) (result : Result (Unit {0}) Outcome) (two : Two File) (j : List (List Entry))
-    → o.files ≡ Some two → Fits clients s j two → SettlesAs clients s s1 o o1 result → MomentsAre o o1 (JournalMoment clients (GoesOn clients j batch) (sent_of o.links.told))
+    → o.files ≡ Some two → Fits clients s j two → SettlesAnew clients s s1 o o1 result → MomentsAre o o1 (JournalMoment clients (GoesOn clients j batch) (sent_of o.links.told))
 settling_moments clients o o1 s s1 batch result two j files fits settled =
     moments_map o o1 _ _ (λ m w. settling_moment clients j settled.more batch (sent_of o.links.told) m (settles_from clients s two j settled.more fits settled.comes.settling) w)
     (settled.comes.leads two files j fits).moments
 
 -- the journal that the disk fits once it is settled
 settled_fits : (clients : Meaning) (o o1 : Outside) (s s1 : StoreValue) (u : Unit {0}) (two two1 : Two File) (j : List (List Entry)) → o.files ≡ Some two → o1.files ≡ Some two1
-    → Fits clients s j two → (settled : SettlesAs clients s s1 o o1 (Ok u)) → Fits clients s1 (j ++ settled.more) two1
+    → Fits clients s j two → (settled : SettlesAnew clients s s1 o o1 (Ok u)) → Fits clients s1 (j ++ settled.more) two1
 settled_fits clients o o1 s s1 u two two1 j files files1 fits settled =
     let at = (settled.comes.leads two files j fits).ends settled.answer.0 two1 files1 in
     subst (λ (w : List (List Entry)). Fits clients s1 w two1) at.1 at.2
 
-not_settled_ends : (clients : Meaning) (asked : Settling) (j : List (List Entry)) (batch : List Entry) (s1 : StoreValue) (came : Outcome) (two : Two File)
-    → SettledBy clients s1 (Err came) → ExtendsEnds clients asked j batch (Err came) two
-not_settled_ends clients asked j batch s1 outcome.Memory two answer = tt
-not_settled_ends clients asked j batch s1 outcome.DiskFault two answer = tt
-not_settled_ends clients asked j batch s1 _ two answer = absurd answer
+not_settled_ends : (clients : Meaning) (asked : Settling) (j : List (List Entry)) (batch : List Entry) (s s1 : StoreValue) (came : Outcome) (two two' : Two File) → Fits clients s j two
+    → (came ≡ outcome.Full → read_files two' ≡ read_files two) → SettledAnew clients s s1 (Err came) → ExtendsEnds clients asked j batch (Err came) two two'
+not_settled_ends clients asked j batch s s1 outcome.Full two two' fits still answer = inr (last_here clients s j two fits answer.0, still refl)
+not_settled_ends clients asked j batch s s1 outcome.Memory two two' fits still answer = tt
+not_settled_ends clients asked j batch s s1 outcome.DiskFault two two' fits still answer = tt
+not_settled_ends clients asked j batch s s1 _ two two' fits still answer = absurd answer
 
--- settling that failed
+-- files that are told of one outside are one
+same_told : (o o1 : Outside) (two two' : Two File) → o1 ≡ o → o.files ≡ Some two → o1.files ≡ Some two' → read_files two' ≡ read_files two
+same_told o o1 two two' same files files' =
+    let both : Some two' ≡ Some two = sym files' ∙ ap (λ (x : Outside). x.files) same ∙ files in
+    let one : two' ≡ two = cc in
+    ap read_files one
+
+-- migrating or settling that failed
 pub settles_only : (clients : Meaning) (o o1 : Outside) (s s1 : StoreValue) (batch : List Entry) (asked : Settling) (came : Outcome) (two : Two File) (j : List (List Entry))
-    → o.files ≡ Some two → Fits clients s j two → SettlesAs clients s s1 o o1 (Err came) → ExtendsTold clients asked j batch o o1 (Err came)
-settles_only clients o o1 s s1 batch asked came two j files fits settled = record {
+    → o.files ≡ Some two → Fits clients s j two → (came ≡ outcome.Full → o1 ≡ o) → SettlesAnew clients s s1 o o1 (Err came) → ExtendsTold clients asked j batch two o o1 (Err came)
+settles_only clients o o1 s s1 batch asked came two j files fits still settled = record {
   moments = settling_moments clients o o1 s s1 batch (Err came) two j files fits settled;
-  ends = λ two' files'. not_settled_ends clients asked j batch s1 came two' settled.answer;
+  ends = λ two' files'. not_settled_ends clients asked j batch s s1 came two two' fits (λ is. same_told o o1 two two' (still is) files files') settled.answer;
+  spent = λ last. tt;
 }
 
 -- ---- settling and a batch
 
--- the sum of a store is that of the journal that the disk fits
-weighed : (s : StoreValue) (format : Format) (j : List (List Entry)) (batch : List Entry) → s.end ≡ journal_end (written_in s) j → s.state.facts ≡ facts j
-    → written_in s ≡ format → needed s batch ≡ needed_by format j batch
-weighed s format j batch ends same kind =
+-- the sum of a store in format 2 is that of the journal that the disk fits
+weighed : (s : StoreValue) (j : List (List Entry)) (batch : List Entry) → s.end ≡ journal_end (written_in s) j → s.state.facts ≡ facts j → written_in s ≡ kind.Short
+    → needed s batch ≡ needed_by j batch
+weighed s j batch ends same short =
     (λ i. ends i + 5 + payload_len (written_in s) batch + room_of (written_in s) (after_all (same i) batch))
-    ∙ ap (λ (f : Format). needed_by f j batch) kind
+    ∙ ap (λ (f : Format). journal_end f j + 5 + payload_len f batch + room_of f (after_all (facts j) batch)) short
 
-adds_ends : (clients : Meaning) (asked : Settling) (j first more : List (List Entry)) (batch : List Entry) (s1 s2 : StoreValue) (two1 two : Two File) (result : Result (Unit {0}) Outcome)
-    → s2.format ≡ s1.format → AllSettling clients (facts j) first → IsSettled clients s1.state.facts → s1.limit ≡ MAX_JOURNAL → Fits clients s1 (j ++ first) two1 → AddedSo clients asked s1 s2 batch more result
-    → (s2.closed ≡ false → (whole : List (List Entry)) × (whole ≡ (j ++ first) ++ more) × Fits clients s2 whole two)
-    → ExtendsEnds clients asked j batch result two
-adds_ends clients asked j first more batch s1 s2 two1 two (Ok u) format settles settled limit fits answer ends =
+adds_ends : (clients : Meaning) (asked : Settling) (j first more : List (List Entry)) (batch : List Entry) (s1 s2 : StoreValue) (two two1 two2 : Two File) (result : Result (Unit {0}) Outcome)
+    → s2.format ≡ s1.format → written_in s1 ≡ kind.Short → AllSettling clients (facts j) first → IsSettled clients s1.state.facts → s1.limit ≡ MAX_JOURNAL → Fits clients s1 (j ++ first) two1
+    → AddedSo clients asked s1 s2 batch more result → (s2.closed ≡ false → (whole : List (List Entry)) × (whole ≡ (j ++ first) ++ more) × Fits clients s2 whole two2)
+    → ExtendsEnds clients asked j batch result two two2
+adds_ends clients asked j first more batch s1 s2 two two1 two2 (Ok u) format short settles settled limit fits answer ends =
     let at = ends answer.0 in
     let whole = answer.2 in
     let f : s1.state.facts ≡ after_batches (facts j) first = sym fits.facts_are ∙ facts-append j first in
-    let kind : written_in s1 ≡ format_stood (read_files two) = ap format_meant (sym format) ∙ fits_format clients s2 at.0 two at.2 in
     let within : needed s1 batch ≤ MAX_JOURNAL = subst (λ n. needed s1 batch ≤ n) limit answer.1 in
     record {
       first = first;
       rest = whole.rest;
       settles = settles;
       settled = subst (IsSettled clients) f settled;
-      roomy = subst (λ n. n ≤ MAX_JOURNAL) (weighed s1 (format_stood (read_files two)) (j ++ first) batch fits.end_is (sym fits.facts_are) kind) within;
+      roomy = subst (λ n. n ≤ MAX_JOURNAL) (weighed s1 (j ++ first) batch fits.end_is (sym fits.facts_are) short) within;
+      short = fits_format clients s2 at.0 two2 kind.Short at.2 (ap format_meant format ∙ short);
       follows = subst (λ (g : Facts). Follows asked clients (after_all g batch) whole.rest) f whole.follows;
       stands_for = at.2.stands_for ∙ ap journal (at.1 ∙ append_assoc j first more ∙ ap (λ (bs : List (List Entry)). j ++ (first ++ bs)) whole.is);
       first_settled = at.2.first_settled;
       second_settled = at.2.second_settled;
     }
-adds_ends clients asked j first more batch s1 s2 two1 two (Err outcome.Full) format settles settled limit fits answer ends =
+adds_ends clients asked j first more batch s1 s2 two two1 two2 (Err outcome.Full) format short settles settled limit fits answer ends =
     let at = ends answer.0 in
-    let kind : written_in s1 ≡ format_stood (read_files two) = ap format_meant (sym format) ∙ fits_format clients s2 at.0 two at.2 in
     let over : MAX_JOURNAL < needed s1 batch = subst (λ n. n < needed s1 batch) limit answer.1 in
-    record {
+    inl (record {
       first = first;
       settles = settles;
       settled = subst (IsSettled clients) (sym fits.facts_are ∙ facts-append j first) settled;
       stands_for = at.2.stands_for ∙ ap journal (at.1 ∙ ap (λ (bs : List (List Entry)). (j ++ first) ++ bs) answer.2 ∙ append-nil (j ++ first));
-      over = subst (λ n. MAX_JOURNAL < n) (weighed s1 (format_stood (read_files two)) (j ++ first) batch fits.end_is (sym fits.facts_are) kind) over;
-    }
-adds_ends clients asked j first more batch s1 s2 two1 two (Err outcome.Memory) format settles settled limit fits answer ends = tt
-adds_ends clients asked j first more batch s1 s2 two1 two (Err outcome.DiskFault) format settles settled limit fits answer ends = tt
-adds_ends clients asked j first more batch s1 s2 two1 two (Err _) format settles settled limit fits answer ends = absurd answer
+      short = fits_format clients s2 at.0 two2 kind.Short at.2 (ap format_meant format ∙ short);
+      over = subst (λ n. MAX_JOURNAL < n) (weighed s1 (j ++ first) batch fits.end_is (sym fits.facts_are) short) over;
+    })
+adds_ends clients asked j first more batch s1 s2 two two1 two2 (Err outcome.Memory) format short settles settled limit fits answer ends = tt
+adds_ends clients asked j first more batch s1 s2 two two1 two2 (Err outcome.DiskFault) format short settles settled limit fits answer ends = tt
+adds_ends clients asked j first more batch s1 s2 two two1 two2 (Err _) format short settles settled limit fits answer ends = absurd answer
 
 pub adds : (clients : Meaning) (asked which : Settling) (o o1 o2 : Outside) (s s1 s2 : StoreValue) (batch : List Entry) (u : Unit {0}) (result : Result (Unit {0}) Outcome) (two : Two File)
-    (j : List (List Entry)) → asked ≡ which → o.files ≡ Some two → Fits clients s j two → s.limit ≡ MAX_JOURNAL → DiskRun o o1 → SettlesAs clients s s1 o o1 (Ok u)
-    → AddsAs clients which s1 s2 batch o1 o2 result → ExtendsTold clients asked j batch o o2 result
+    (j : List (List Entry)) → asked ≡ which → o.files ≡ Some two → Fits clients s j two → s.limit ≡ MAX_JOURNAL → DiskRun o o1 → SettlesAnew clients s s1 o o1 (Ok u)
+    → AddsAs clients which s1 s2 batch o1 o2 result → ExtendsTold clients asked j batch two o o2 result
 adds clients asked which o o1 o2 s s1 s2 batch u result two j same files fits limited run settled added =
     let told1 = told_on o o1 two run.same_told files in
     let first = settled.more in
@@ -184,13 +194,14 @@ adds clients asked which o o1 o2 s s1 s2 batch u result two j same files fits li
           (moments_map o1 o2 _ _ (λ m w. batch_moment clients j first added.more batch (sent_of o.links.told) m settles adds w)
           (sent_before clients (IsBetween (j ++ first) added.more) o o1 o2 run.same_links second.moments));
       ends = λ two' files'.
-          adds_ends clients asked j first added.more batch s1 s2 told1.0 two' result added.format settles settled.answer.1 (settled.comes.limit ∙ limited) fits1
+          adds_ends clients asked j first added.more batch s1 s2 two told1.0 two' result added.format settled.answer.2 settles settled.answer.1 (settled.comes.limit ∙ limited) fits1
           (subst (λ (w : Settling). AddedSo clients w s1 s2 batch added.more result) (sym same) added.answer) (λ still_open. second.ends still_open two' files');
+      spent = λ last. absurd (settled.answer.3 (spent_here clients s j two fits last));
     }
 
 -- what follows a settled journal follows the facts that settling came to
 pub follows_settled : (clients : Meaning) (o o1 : Outside) (s s1 : StoreValue) (batch : List Entry) (u : Unit {0}) → MayFollow clients s.state.facts batch
-    → SettlesAs clients s s1 o o1 (Ok u) → Allowed clients s1.state.facts batch
+    → SettlesAnew clients s s1 o o1 (Ok u) → Allowed clients s1.state.facts batch
 follows_settled clients o o1 s s1 batch u may settled =
     subst (λ (h : Facts). Allowed clients h batch) (sym settled.comes.facts) (may.follows settled.more settled.comes.settling (subst (IsSettled clients) settled.comes.facts settled.answer.1))
 

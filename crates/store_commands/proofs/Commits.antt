@@ -1,5 +1,5 @@
 -- From the batch that is added to the entry and its line.
-use Rattle.std.proofs.Common.{◌≡◌, ℕ, ◌<◌, true, List, [], ◌∷◌, ◌++◌, length, refl, sym, ap, ◌∙◌, subst, inl, arith, append-nil, Some, Result, Ok, Err}
+use Rattle.std.proofs.Common.{◌≡◌, ℕ, ◌<◌, false, true, List, [], ◌∷◌, ◌++◌, length, refl, sym, ap, ◌∙◌, subst, inl, arith, append-nil, Some, Result, Ok, Err}
 use Rattle.std.proofs.lemmas.List.{ext_get_or}
 use Rattle.outside.specs.Files.{Two, File, IsFileImage, IsImage, NothingPending, read_files, settled}
 use Rattle.outside.specs.Links.{sent_of}
@@ -16,7 +16,7 @@ use Rattle.sync_words.specs.declared.outcome.Outcome.{Outcome}
 use Rattle.sync_words.specs.declared.outcome.Outcome.TheVariants as outcome
 use Rattle.store_commands.specs.declared.commit.Settling.{Settling}
 use Rattle.store_commands.specs.Commit.{ExtendsBy, ExtendsEnds, ExtendsTold, GoesOn, IsAdded}
-use Rattle.store_commands.specs.Entries.{AddsBy, EntryAdded, EntryEnds, is_late}
+use Rattle.store_commands.specs.Entries.{AddsBy, EntryAdded, EntryEnds, is_added, is_late}
 use Rattle.store_commands.specs.Show.{PrintsText}
 use Rattle.store_commands.specs.Shown.{added_text}
 
@@ -63,6 +63,7 @@ entry_none clients settling s e o out out' came is idle =
       told = λ two files j fits. record {
         moments = moments_none o _ (still_moment clients s (e ∷ []) j two o files fits);
         ends = λ two' files'. tt;
+        spent = λ last. refl;
       };
     })
 
@@ -80,22 +81,22 @@ printed_late out out' text outcome.WriteFault p = refl
 printed_late out out' text outcome.Memory p = refl
 printed_late out out' text _ p = absurd p
 
-printed_ends : (clients : Meaning) (settling : Settling) (j : List (List Entry)) (e : Entry) (out out' : Stream) (came : Outcome) (two : Two File) → IsAdded clients settling j (e ∷ []) two
-    → PrintsText (added_text e) out out' came → EntryEnds clients settling j e out out' came two
-printed_ends clients settling j e out out' outcome.Done two added p = (added, p)
-printed_ends clients settling j e out out' outcome.WriteFault two added p = (added, p.1)
-printed_ends clients settling j e out out' outcome.Memory two added p = tt
-printed_ends clients settling j e out out' _ two added p = absurd p
+printed_ends : (clients : Meaning) (settling : Settling) (j : List (List Entry)) (e : Entry) (out out' : Stream) (came : Outcome) (two two' : Two File) → IsAdded clients settling j (e ∷ []) two'
+    → PrintsText (added_text e) out out' came → EntryEnds clients settling j e out out' came two two'
+printed_ends clients settling j e out out' outcome.Done two two' added p = (added, p)
+printed_ends clients settling j e out out' outcome.WriteFault two two' added p = (added, p.1)
+printed_ends clients settling j e out out' outcome.Memory two two' added p = tt
+printed_ends clients settling j e out out' _ two two' added p = absurd p
 
 -- what is told of a batch, for the batch of an entry
-of_entry : (clients : Meaning) (settling : Settling) (o o2 : Outside) (j : List (List Entry)) (e : Entry) (batch : List Entry) (result : Result (Unit {0}) Outcome) → batch ≡ e ∷ []
-    → ExtendsTold clients settling j batch o o2 result → ExtendsTold clients settling j (e ∷ []) o o2 result
-of_entry clients settling o o2 j e batch result is told =
-    subst (λ (b : List Entry). ExtendsTold clients settling j b o o2 result) is told
+of_entry : (clients : Meaning) (settling : Settling) (two : Two File) (o o2 : Outside) (j : List (List Entry)) (e : Entry) (batch : List Entry) (result : Result (Unit {0}) Outcome)
+    → batch ≡ e ∷ [] → ExtendsTold clients settling j batch two o o2 result → ExtendsTold clients settling j (e ∷ []) two o o2 result
+of_entry clients settling two o o2 j e batch result is told =
+    subst (λ (b : List Entry). ExtendsTold clients settling j b two o o2 result) is told
 
 pub entry_printed : (clients : Meaning) (settling : Settling) (s : StoreValue) (e : Entry) (o o2 : Outside) (out out' : Stream) (text : List ℕ) (batch : List Entry) (u : Unit {0}) (came : Outcome)
     → batch ≡ e ∷ [] → text ≡ added_text e → DiskRun o o2
-    → ((two : Two File) → o.files ≡ Some two → (j : List (List Entry)) → Fits clients s j two → ExtendsTold clients settling j batch o o2 (Ok u))
+    → ((two : Two File) → o.files ≡ Some two → (j : List (List Entry)) → Fits clients s j two → ExtendsTold clients settling j batch two o o2 (Ok u))
     → PrintsText text out out' came → EntryAdded clients settling s e o o2 out out' came
 entry_printed clients settling s e o o2 out out' text batch u came is line run told printed =
     let p : PrintsText (added_text e) out out' came = subst (λ (t : List ℕ). PrintsText t out out' came) line printed in
@@ -104,8 +105,12 @@ entry_printed clients settling s e o o2 out out' text batch u came is line run t
       by = printed_by o o2 out out' (added_text e) came p;
       late = printed_late out out' (added_text e) came p;
       told = λ two files j fits.
-          let went = of_entry clients settling o o2 j e batch (Ok u) is (told two files j fits) in
-          record { moments = went.moments; ends = λ two' files'. printed_ends clients settling j e out out' came two' (went.ends two' files') p };
+          let went = of_entry clients settling two o o2 j e batch (Ok u) is (told two files j fits) in
+          record {
+            moments = went.moments;
+            ends = λ two' files'. printed_ends clients settling j e out out' came two two' (went.ends two' files') p;
+            spent = λ last. absurd (went.spent last);
+          };
     }
 
 -- ---- the batch was not added
@@ -122,22 +127,32 @@ failed_late o o2 outcome.DiskFault by = refl
 failed_late o o2 outcome.Memory by = refl
 failed_late o o2 _ by = absurd by
 
-failed_ends : (clients : Meaning) (settling : Settling) (o o2 : Outside) (j : List (List Entry)) (e : Entry) (out out' : Stream) (came : Outcome) (two : Two File)
-    → ExtendsBy o o2 (Err came) → ExtendsEnds clients settling j (e ∷ []) (Err came) two → EntryEnds clients settling j e out out' came two
-failed_ends clients settling o o2 j e out out' outcome.Full two by ends = ends
-failed_ends clients settling o o2 j e out out' outcome.DiskFault two by ends = tt
-failed_ends clients settling o o2 j e out out' outcome.Memory two by ends = tt
-failed_ends clients settling o o2 j e out out' _ two by ends = absurd by
+failed_ends : (clients : Meaning) (settling : Settling) (o o2 : Outside) (j : List (List Entry)) (e : Entry) (out out' : Stream) (came : Outcome) (two two' : Two File)
+    → ExtendsBy o o2 (Err came) → ExtendsEnds clients settling j (e ∷ []) (Err came) two two' → EntryEnds clients settling j e out out' came two two'
+failed_ends clients settling o o2 j e out out' outcome.Full two two' by ends = ends
+failed_ends clients settling o o2 j e out out' outcome.DiskFault two two' by ends = tt
+failed_ends clients settling o o2 j e out out' outcome.Memory two two' by ends = tt
+failed_ends clients settling o o2 j e out out' _ two two' by ends = absurd by
+
+failed_unadded : (o o2 : Outside) (came : Outcome) → ExtendsBy o o2 (Err came) → is_added came ≡ false
+failed_unadded o o2 outcome.Full by = refl
+failed_unadded o o2 outcome.DiskFault by = refl
+failed_unadded o o2 outcome.Memory by = refl
+failed_unadded o o2 _ by = absurd by
 
 pub entry_failed : (clients : Meaning) (settling : Settling) (s : StoreValue) (e : Entry) (o o2 : Outside) (out out' : Stream) (batch : List Entry) (came : Outcome)
     → batch ≡ e ∷ [] → IsIdle out out' → DiskRun o o2 → ExtendsBy o o2 (Err came)
-    → ((two : Two File) → o.files ≡ Some two → (j : List (List Entry)) → Fits clients s j two → ExtendsTold clients settling j batch o o2 (Err came))
+    → ((two : Two File) → o.files ≡ Some two → (j : List (List Entry)) → Fits clients s j two → ExtendsTold clients settling j batch two o o2 (Err came))
     → EntryAdded clients settling s e o o2 out out' came
 entry_failed clients settling s e o o2 out out' batch came is idle run by told = record {
   run = run;
   by = failed_by o o2 out out' came idle by;
   late = failed_late o o2 came by;
   told = λ two files j fits.
-      let went = of_entry clients settling o o2 j e batch (Err came) is (told two files j fits) in
-      record { moments = went.moments; ends = λ two' files'. failed_ends clients settling o o2 j e out out' came two' by (went.ends two' files') };
+      let went = of_entry clients settling two o o2 j e batch (Err came) is (told two files j fits) in
+      record {
+        moments = went.moments;
+        ends = λ two' files'. failed_ends clients settling o o2 j e out out' came two two' by (went.ends two' files');
+        spent = λ last. failed_unadded o o2 came by;
+      };
 }

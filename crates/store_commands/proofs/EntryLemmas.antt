@@ -1,5 +1,5 @@
 -- An entry that is added, from the loaded store to the line.
-use Rattle.std.proofs.Common.{◌≡◌, ◌⊎◌, ℕ, ◌≤◌, Bool, true, List, [], ◌∷◌, sym, ap, ◌∙◌, subst, inl, inr, arith, Some, Ok, Err}
+use Rattle.std.proofs.Common.{◌≡◌, ◌⊎◌, ℕ, ◌≤◌, Bool, false, true, List, [], ◌∷◌, sym, ap, ◌∙◌, subst, refl, inl, inr, arith, Some, Ok, Err}
 use Rattle.outside.specs.Faults.{Rose}
 use Rattle.outside.specs.Files.{Two, File, read_files}
 use Rattle.outside.specs.Links.{Links, sent_of}
@@ -15,9 +15,9 @@ use Rattle.sync_store.specs.Fitting.{Fits}
 use Rattle.sync_store.specs.Moments.{JournalMoment}
 use Rattle.sync_words.specs.declared.outcome.Outcome.{Outcome}
 use Rattle.sync_words.specs.declared.outcome.Outcome.TheVariants as outcome
-use Rattle.store_commands.specs.Entries.{AddsBy, AddsEnds, AddsMoment, EntryAdded, EntryEnds, HasAdded, is_late}
+use Rattle.store_commands.specs.Entries.{AddsBy, AddsEnds, AddsMoment, EntryAdded, EntryEnds, HasAdded, is_added, is_late}
 use Rattle.store_commands.specs.declared.commit.Settling.{Settling}
-use Rattle.store_commands.specs.Commit.{GoesOn}
+use Rattle.store_commands.specs.Commit.{GoesOn, HasLastGeneration, IsFull}
 use Rattle.outside.specs.Streams.{Stream, IsIdle}
 use Rattle.store_commands.specs.Load.{HasFacts, IsLoaded, LoadedBy, LoadKeeps, MayExtend}
 use Rattle.store_commands.specs.Show.{Keeps, Rests}
@@ -45,6 +45,13 @@ none_ends clients plan settling standing two two' old new out out' (outcome.Dama
 none_ends clients plan settling standing two two' old new out out' outcome.Memory by loaded same = tt
 none_ends clients plan settling standing two two' old new out out' _ by loaded same = absurd by
 
+none_unadded : (old new : Outside) (came : Outcome) → LoadedBy old new (Err came) → is_added came ≡ false
+none_unadded old new outcome.DiskFault by = refl
+none_unadded old new outcome.NoStore by = refl
+none_unadded old new (outcome.Damaged place) by = refl
+none_unadded old new outcome.Memory by = refl
+none_unadded old new _ by = absurd by
+
 pub added_none : (clients : Meaning) (plan : Facts → Plan) (settling : Settling) (old new : Outside) (out out' : Stream) (came : Outcome) → DiskRun old new
     → ((two : Two File) → old.files ≡ Some two → Rests (LoadKeeps (Err came) two) two old new) → LoadedBy old new (Err came)
     → ((two : Two File) → old.files ≡ Some two → IsLoaded (stands clients (read_files two)) (Err came)) → IsIdle out out' → HasAdded clients plan settling old new out out' came
@@ -55,6 +62,7 @@ added_none clients plan settling old new out out' came run rests by loaded idle 
     moments = rest_moments clients plan (stands clients (read_files two)) came _ two old new (rests two told);
     ends = λ two' told'.
         none_ends clients plan settling (stands clients (read_files two)) two two' old new out out' came by (loaded two told) ((rests two told).kept two' told');
+    spent = λ last. none_unadded old new came by;
   };
 }
 
@@ -71,22 +79,28 @@ added_refused clients plan settling old new out out' s why run rests loaded plan
     ends = λ two' told'.
         let has = loaded two told in
         (record { before = has.of; stood = has.stood; planned = ap plan has.are ∙ planned }, (rests two told).kept two' told');
+    spent = λ last. refl;
   };
 }
 
 -- ---- the entry is added
 
-entry_ends : (clients : Meaning) (plan : Facts → Plan) (settling : Settling) (standing : Standing) (two two' : Two File) (out out' : Stream) (j : List (List Entry)) (e : Entry) (came : Outcome)
-    → is_late came ≡ true → standing ≡ journal j → plan (facts j) ≡ adds e → EntryEnds clients settling j e out out' came two' → AddsEnds clients plan settling standing two two' out out' came
-entry_ends clients plan settling standing two two' out out' j e outcome.Done late stood planned ends =
+-- the files before the entry read as those before the load
+full_first : (clients : Meaning) (j : List (List Entry)) (e : Entry) (two two1 two' : Two File) → read_files two1 ≡ read_files two → IsFull clients j (e ∷ []) two1 two' → IsFull clients j (e ∷ []) two two'
+full_first clients j e two two1 two' same (inl over) = inl over
+full_first clients j e two two1 two' same (inr spent) = inr (subst HasLastGeneration same spent.0, spent.1 ∙ same)
+
+entry_ends : (clients : Meaning) (plan : Facts → Plan) (settling : Settling) (standing : Standing) (two two1 two' : Two File) (out out' : Stream) (j : List (List Entry)) (e : Entry) (came : Outcome)
+    → read_files two1 ≡ read_files two → is_late came ≡ true → standing ≡ journal j → plan (facts j) ≡ adds e → EntryEnds clients settling j e out out' came two1 two' → AddsEnds clients plan settling standing two two' out out' came
+entry_ends clients plan settling standing two two1 two' out out' j e outcome.Done same late stood planned ends =
     record { before = j; entry = e; stood = stood; planned = planned; leads = ends }
-entry_ends clients plan settling standing two two' out out' j e outcome.WriteFault late stood planned ends =
+entry_ends clients plan settling standing two two1 two' out out' j e outcome.WriteFault same late stood planned ends =
     record { before = j; entry = e; stood = stood; planned = planned; leads = ends }
-entry_ends clients plan settling standing two two' out out' j e outcome.Full late stood planned ends =
-    record { before = j; entry = e; stood = stood; planned = planned; leads = ends }
-entry_ends clients plan settling standing two two' out out' j e outcome.Memory late stood planned ends = tt
-entry_ends clients plan settling standing two two' out out' j e outcome.DiskFault late stood planned ends = tt
-entry_ends clients plan settling standing two two' out out' j e _ late stood planned ends = cc
+entry_ends clients plan settling standing two two1 two' out out' j e outcome.Full same late stood planned ends =
+    record { before = j; entry = e; stood = stood; planned = planned; leads = full_first clients j e two two1 two' same ends }
+entry_ends clients plan settling standing two two1 two' out out' j e outcome.Memory same late stood planned ends = tt
+entry_ends clients plan settling standing two two1 two' out out' j e outcome.DiskFault same late stood planned ends = tt
+entry_ends clients plan settling standing two two1 two' out out' j e _ same late stood planned ends = cc
 
 rose_before : (a b c : ℕ) → a ≤ b → Rose b c → Rose a c
 rose_before a b c later rose = omega arith
@@ -133,6 +147,7 @@ added_entry clients plan settling o o1 o2 out out' s e came run rests ready plan
               },
             )) went.moments);
         ends = λ two' told'.
-            entry_ends clients plan settling (stands clients (read_files two)) two two' out out' fit.0 e came added.late stood plans (went.ends two' told');
+            entry_ends clients plan settling (stands clients (read_files two)) two told1.0 two' out out' fit.0 e came (rest.kept told1.0 told1.1) added.late stood plans (went.ends two' told');
+        spent = λ last. went.spent (subst HasLastGeneration (sym (rest.kept told1.0 told1.1)) last);
       };
 }

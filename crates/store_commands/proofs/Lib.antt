@@ -9,3 +9,4 @@ pub mod Loads
 pub mod Posts
 pub mod Begins
 pub mod Stood
+mod Migrates

@@ -1,6 +1,6 @@
 -- An error that goes on by `?`: what holds of the outcome that it is turned into holds of the answer.
 use Rattle.std.proofs.Common.{◌≡◌, ℕ, List, ap, sym, subst, Result, Ok, Err}
-use Rattle.std.specs.Prelude.{IsErrAnd, OnOk}
+use Rattle.std.specs.Prelude.{IsErrAnd, IsErrOf, OnOk, Option}
 use Rattle.outside.specs.Files.{Two, File}
 use Rattle.outside.specs.Outside.{Outside}
 use Rattle.outside.specs.Streams.{Stream}
@@ -9,9 +9,10 @@ use Rattle.sync_rules.specs.Clients.{Meaning}
 use Rattle.sync_rules.specs.Facts.{Facts, Id}
 use Rattle.sync_store.specs.Store.{StoreValue}
 use Rattle.sync_words.specs.declared.outcome.Outcome.{Outcome}
+use Rattle.sync_words.specs.declared.outcome.Outcome.TheVariants as outcome
 use Rattle.sync_words.specs.Outcomes.{came_to}
 use Rattle.store_commands.specs.declared.commit.Settling.{Settling}
-use Rattle.store_commands.specs.Commit.{ExtendsBy, ExtendsTold}
+use Rattle.store_commands.specs.Commit.{ExtendsBy, ExtendsTold, SettlesAnew, StaysReady}
 use Rattle.store_commands.specs.Entries.{EntryAdded, HasAdded}
 use Rattle.sync_rules.specs.declared.states.Refused.{Refused}
 use Rattle.store_commands.specs.Plans.{Plan, plan_of, refuses}
@@ -33,9 +34,18 @@ module _ (r : Result (Unit {0}) Outcome) (x : Outcome) (is : IsErrAnd r (λ e. e
   pub by_on : (o o' : Outside) → ExtendsBy o o' (Err x) → ExtendsBy o o' r
   by_on o o' = passed_on (λ (q : Result (Unit {0}) Outcome). ExtendsBy o o' q) r x is
 
-  pub told_on_error : (clients : Meaning) (settling : Settling) (j : List (List Entry)) (batch : List Entry) (o o' : Outside) → ExtendsTold clients settling j batch o o' (Err x)
-      → ExtendsTold clients settling j batch o o' r
-  told_on_error clients settling j batch o o' = passed_on (λ (q : Result (Unit {0}) Outcome). ExtendsTold clients settling j batch o o' q) r x is
+  pub told_on_error : (clients : Meaning) (settling : Settling) (j : List (List Entry)) (batch : List Entry) (two : Two File) (o o' : Outside) → ExtendsTold clients settling j batch two o o' (Err x)
+      → ExtendsTold clients settling j batch two o o' r
+  told_on_error clients settling j batch two o o' = passed_on (λ (q : Result (Unit {0}) Outcome). ExtendsTold clients settling j batch two o o' q) r x is
+
+  pub anew_on : (clients : Meaning) (s s' : StoreValue) (o o' : Outside) → SettlesAnew clients s s' o o' (Err x) → SettlesAnew clients s s' o o' r
+  anew_on clients s s' o o' = passed_on (λ (q : Result (Unit {0}) Outcome). SettlesAnew clients s s' o o' q) r x is
+
+  pub ready_on : (clients : Meaning) (s : StoreValue) (files : Option (Two File)) → StaysReady clients s files (Err x) → StaysReady clients s files r
+  ready_on clients s files = passed_on (λ (q : Result (Unit {0}) Outcome). StaysReady clients s files q) r x is
+
+  pub full_on : (P : Type 0) → (x ≡ outcome.Full → P) → IsErrOf r outcome.Full → P
+  full_on P h = passed_on (λ (q : Result (Unit {0}) Outcome). IsErrOf q outcome.Full → P) r x is h
 
   pub entry_on : (clients : Meaning) (asked : Settling) (s : StoreValue) (e : Entry) (o o' : Outside) (out out' : Stream) → EntryAdded clients asked s e o o' out out' x
       → EntryAdded clients asked s e o o' out out' (came_to r)

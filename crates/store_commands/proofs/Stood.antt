@@ -1,18 +1,44 @@
--- The format of files that fit a store.
+-- The format and the generation of files that fit a store.
 use Rattle.std.proofs.Common.{◌≡◌, ℕ, zero, suc, List, refl, sym, ap, ◌∙◌}
+use Rattle.std.specs.Prelude.{Some}
 use Rattle.outside.specs.Files.{Two, File, file_of, read_files}
-use Rattle.outside.specs.Frames.{format_in}
+use Rattle.outside.specs.Frames.{format_in, generation_in}
 use Rattle.sync_rules.specs.declared.entries.Entry.{Entry}
 use Rattle.sync_rules.specs.Clients.{Meaning}
+use Rattle.entry_codec.specs.declared.naming.Format.{Format}
+use Rattle.entry_codec.specs.declared.naming.Format.TheVariants as kind
+use Rattle.entry_codec.specs.Naming.{format_of}
 use Rattle.sync_store.specs.Fitting.{Fits}
-use Rattle.sync_store.specs.Store.{StoreValue, format_meant, written_in}
-use Rattle.store_commands.specs.Commit.{format_at, format_stood}
+use Rattle.sync_store.specs.Migrations.{IsSpent}
+use Rattle.sync_store.specs.Store.{StoreValue, written_in}
+use Rattle.store_commands.specs.Commit.{HasLastGeneration, IsInFormat}
 
 file_reads : (two : Two File) (file : ℕ) → file_of (read_files two) file ≡ (file_of two file).now
 file_reads two zero = refl
 file_reads two (suc _) = refl
 
 -- the format of files that fit a store is that which the store is written in
-pub fits_format : (clients : Meaning) (s : StoreValue) (j : List (List Entry)) (two : Two File) → Fits clients s j two → written_in s ≡ format_stood (read_files two)
-fits_format clients s j two fits =
-    sym (ap (format_at (read_files two)) fits.file_is ∙ ap format_meant (ap format_in (file_reads two s.file) ∙ fits.format_is))
+pub fits_known : (clients : Meaning) (s : StoreValue) (j : List (List Entry)) (two : Two File) → Fits clients s j two → format_of (format_in (file_of (read_files two) s.file)) ≡ Some (written_in s)
+fits_known clients s j two fits = ap format_of (ap format_in (file_reads two s.file) ∙ fits.format_is) ∙ fits.format_known
+
+pub fits_format : (clients : Meaning) (s : StoreValue) (j : List (List Entry)) (two : Two File) (format : Format) → Fits clients s j two → written_in s ≡ format → IsInFormat format (read_files two)
+fits_format clients s j two format fits is = record { file = s.file; found = fits.file_is; is = fits_known clients s j two fits ∙ ap Some is }
+
+-- no generation is left for a store exactly where none is for its files
+pub last_here : (clients : Meaning) (s : StoreValue) (j : List (List Entry)) (two : Two File) → Fits clients s j two → IsSpent s → HasLastGeneration (read_files two)
+last_here clients s j two fits spent = record {
+  file = s.file;
+  found = fits.file_is;
+  whole = fits_known clients s j two fits ∙ ap Some spent.whole;
+  last = ap generation_in (file_reads two s.file) ∙ fits.generation_is ∙ spent.last;
+}
+
+pub spent_here : (clients : Meaning) (s : StoreValue) (j : List (List Entry)) (two : Two File) → Fits clients s j two → HasLastGeneration (read_files two) → IsSpent s
+spent_here clients s j two fits last =
+    let both : Some last.file ≡ Some s.file = sym last.found ∙ fits.file_is in
+    let same : last.file ≡ s.file = cc in
+    let whole : Some (written_in s) ≡ Some kind.Whole =
+    sym (fits_known clients s j two fits) ∙ ap (λ k. format_of (format_in (file_of (read_files two) k))) (sym same) ∙ last.whole in
+    let generation : s.generation ≡ _ =
+    sym fits.generation_is ∙ ap generation_in (sym (file_reads two s.file)) ∙ ap (λ k. generation_in (file_of (read_files two) k)) (sym same) ∙ last.last in
+    record { whole = cc; last = generation }

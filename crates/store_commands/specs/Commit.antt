@@ -66,6 +66,10 @@ pub record HasLastGeneration (files : Two (List ℕ)) : Type 0 where
   pub whole : format_of (format_in (file_of files file)) ≡ Some kind.Whole
   pub last : generation_in (file_of files file) ≡ 2 ^ 64 - 1
 
+-- where files are told, a generation is left for a journal in format 2, or that has it
+abbrev pub MayMigrate : Option (Two File) → Type 0
+MayMigrate files = (two : Two File) → files ≡ Some two → HasLastGeneration (read_files two) → ⊥
+
 -- The length that a journal needs in format 2 with a batch: the batch's frame is added, and room is counted for all that settling
 -- may then add. Whatever is added is added in format 2.
 abbrev pub needed_by : List (List Entry) → List Entry → ℕ

@@ -60,6 +60,7 @@ pub(crate) fn attach_on<H: Host, C: Clients>(
     ensures run { LinksGo links.old.items links.new.items (H.tells host.old)
         (H.tells host.new) }
     ensures limit { store.new.limit ≡ store.old.limit }
+    ensures format { store.new.format ≡ store.old.format }
     ensures undone { IfErr result (IsUndoneBy store.old store.new host.old host.new) }
     ensures as_before { IsErrOf result Fault.Full → StaysSame (C.meaning clients.now) store.old
         store.new (H.tells host.old) (H.tells host.new) }
@@ -108,6 +109,7 @@ fn start<H: Host, C: Clients>(
         → Rose ((H.tells host.old).links.faults number)
         ((H.tells host.new).links.faults number)) }
     ensures limit { store.new.limit ≡ store.old.limit }
+    ensures format { store.new.format ≡ store.old.format }
     ensures undone { IfErr result (IsUndoneBy store.old store.new host.old host.new) }
     ensures as_before { IsErrOf result Fault.Full → StaysSame (C.meaning clients.now) store.old
         store.new (H.tells host.old) (H.tells host.new) }

@@ -63,6 +63,7 @@ pub(crate) fn receive_on<H: Host, C: Clients>(
         store.old store.new (H.tells host.old) (H.tells host.new) }
     ensures run { LinkGoes number link.old link.new (H.tells host.old) (H.tells host.new) }
     ensures limit { store.new.limit ≡ store.old.limit }
+    ensures format { store.new.format ≡ store.old.format }
     ensures full { length buffer.old ≡ PIECE_LEN → IsErrOf result Fault.Full → HearsFull
         (C.meaning clients.now) number link.old store.old store.new (H.tells host.old)
         (H.tells host.new) }
@@ -119,6 +120,7 @@ fn take_piece<H: Host, C: Clients>(
         link.old store.old store.new (H.tells host.old) (H.tells host.new) }
     ensures run { LinkGoes number link.old link.new (H.tells host.old) (H.tells host.new) }
     ensures limit { store.new.limit ≡ store.old.limit }
+    ensures format { store.new.format ≡ store.old.format }
     ensures full { IsErrOf result Fault.Full → NextFull (C.meaning clients.now) number piece.old
         link.old store.old store.new (H.tells host.old) (H.tells host.new) }
     ensures fault { IsErrOf result Fault.DiskFault → Rose (H.tells host.old).disk_faults
@@ -163,6 +165,7 @@ fn take_next<H: Host, C: Clients>(
         link.old store.old store.new (H.tells host.old) (H.tells host.new) }
     ensures run { LinkGoes number link.old link.new (H.tells host.old) (H.tells host.new) }
     ensures limit { store.new.limit ≡ store.old.limit }
+    ensures format { store.new.format ≡ store.old.format }
     ensures full { IsErrOf result Fault.Full → NextFull (C.meaning clients.now) number piece.old
         link.old store.old store.new (H.tells host.old) (H.tells host.new) }
     ensures fault { IsErrOf result Fault.DiskFault → Rose (H.tells host.old).disk_faults
@@ -226,6 +229,7 @@ fn take_one<H: Host, C: Clients>(
         (H.tells host.old) (H.tells host.new) }
     ensures run { Goes (H.tells host.old) (H.tells host.new) }
     ensures limit { store.new.limit ≡ store.old.limit }
+    ensures format { store.new.format ≡ store.old.format }
     ensures as_before { IsErrOf result Fault.Full → StaysSame (C.meaning clients.now) store.old
         store.new (H.tells host.old) (H.tells host.new) }
     ensures full { IsErrOf result Fault.Full → TakesFull (C.meaning clients.now)

@@ -202,6 +202,7 @@ impl Node {
         ensures anew { OnOk result (KeepsSafeAnew (C.meaning clients.now) self.old self.new
             (H.tells host.old) (H.tells host.new)) }
         ensures limit { self.new.store.limit ≡ self.old.store.limit }
+        ensures format { self.new.store.format ≡ self.old.store.format }
         ensures run { Goes (H.tells host.old) (H.tells host.new) }
         ensures links { self.new.links ≡ self.old.links }
         ensures first { self.new.first ≡ self.old.first }
@@ -267,6 +268,7 @@ impl Node {
             (session_of self.old.store.state.facts.begun plan.now nonce) self.old self.new
             (H.tells host.old) (H.tells host.new) }
         ensures limit { self.new.store.limit ≡ self.old.store.limit }
+        ensures format { self.new.store.format ≡ self.old.store.format }
         ensures run { Goes (H.tells host.old) (H.tells host.new) }
         ensures cause { FailByCause self.old.links self.new.links (H.tells host.old)
             (H.tells host.new) }
@@ -334,6 +336,7 @@ impl Node {
         ensures safe { KeepsSafe (C.meaning clients.now) self.old self.new (H.tells host.old)
             (H.tells host.new) }
         ensures limit { self.new.store.limit ≡ self.old.store.limit }
+        ensures format { self.new.store.format ≡ self.old.store.format }
         ensures run { Goes (H.tells host.old) (H.tells host.new) }
         ensures cause { FailByCause self.old.links self.new.links (H.tells host.old)
             (H.tells host.new) }
@@ -392,6 +395,7 @@ impl Node {
         ensures safe { KeepsSafe (C.meaning clients.now) self.old self.new (H.tells host.old)
             (H.tells host.new) }
         ensures limit { self.new.store.limit ≡ self.old.store.limit }
+        ensures format { self.new.store.format ≡ self.old.store.format }
         ensures run { Goes (H.tells host.old) (H.tells host.new) }
         ensures cause { FailByCause self.old.links self.new.links (H.tells host.old)
             (H.tells host.new) }
@@ -445,6 +449,7 @@ impl Node {
         ensures safe { KeepsSafe (C.meaning clients.now) self.old self.new (H.tells host.old)
             (H.tells host.new) }
         ensures limit { self.new.store.limit ≡ self.old.store.limit }
+        ensures format { self.new.store.format ≡ self.old.store.format }
         ensures run { Goes (H.tells host.old) (H.tells host.new) }
         ensures cause { FailByCause self.old.links self.new.links (H.tells host.old)
             (H.tells host.new) }

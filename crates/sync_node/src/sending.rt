@@ -54,6 +54,7 @@ pub(crate) fn send_all<H: Host, C: Clients>(
         store.old store.new (H.tells host.old) (H.tells host.new) }
     ensures run { LinkGoes number link.old link.new (H.tells host.old) (H.tells host.new) }
     ensures limit { store.new.limit ≡ store.old.limit }
+    ensures format { store.new.format ≡ store.old.format }
     ensures full { MaySend link.old.end → IsErrOf result Fault.Full → SentFull
         (C.meaning clients.now) number now link.old store.old store.new (H.tells host.old)
         (H.tells host.new) }
@@ -106,6 +107,7 @@ fn put_out<H: Host, C: Clients>(
         store.old store.new (H.tells host.old) (H.tells host.new) }
     ensures run { LinkGoes number link.old link.new (H.tells host.old) (H.tells host.new) }
     ensures limit { store.new.limit ≡ store.old.limit }
+    ensures format { store.new.format ≡ store.old.format }
     ensures full { IsErrOf result Fault.Full → PutsFull (C.meaning clients.now) number now link.old
         store.old store.new (H.tells host.old) (H.tells host.new) }
     ensures fault { IsErrOf result Fault.DiskFault → Rose (H.tells host.old).disk_faults

@@ -75,6 +75,7 @@ pub(crate) fn commit<H: Host, C: Clients>(
     ensures run { Goes (H.tells host.old) (H.tells host.new) }
     ensures numbers { IsStore store.new }
     ensures limit { store.new.limit ≡ store.old.limit }
+    ensures format { store.new.format ≡ store.old.format }
     ensures as_before { IsErrOf result Fault.Full → StaysSame (C.meaning clients.now) store.old
         store.new (H.tells host.old) (H.tells host.new) }
     ensures undone { IfErr result (IsUndoneBy store.old store.new host.old host.new) }
@@ -113,6 +114,7 @@ pub(crate) fn settle<H: Host, C: Clients>(
         → Safe (C.meaning clients.now) b plans store.new (H.tells host.new) }
     ensures run { Goes (H.tells host.old) (H.tells host.new) }
     ensures limit { store.new.limit ≡ store.old.limit }
+    ensures format { store.new.format ≡ store.old.format }
     ensures never { IsErrOf result Fault.Full → ⊥ }
     ensures fault { IsErrOf result Fault.DiskFault → Rose (H.tells host.old).disk_faults
         (H.tells host.new).disk_faults }
@@ -149,6 +151,7 @@ pub(crate) fn add_settled<H: Host, C: Clients>(
         (H.tells host.new) }
     ensures run { Goes (H.tells host.old) (H.tells host.new) }
     ensures limit { store.new.limit ≡ store.old.limit }
+    ensures format { store.new.format ≡ store.old.format }
     ensures undone { IsErrOf result Fault.Full → IsUndone store.old store.new host.old host.new }
     ensures full { IsErrOf result Fault.Full → store.old.limit < needed store.old batch }
     ensures fault { IsErrOf result Fault.DiskFault → Rose (H.tells host.old).disk_faults

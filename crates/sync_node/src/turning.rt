@@ -61,6 +61,7 @@ pub(crate) fn turn_all<H: Host, C: Clients>(
     ensures sessions { sessions_of links.new ≡ sessions_of links.old }
     ensures run { LinksGo links.old links.new (H.tells host.old) (H.tells host.new) }
     ensures limit { store.new.limit ≡ store.old.limit }
+    ensures format { store.new.format ≡ store.old.format }
     ensures full { (first : ℕ) → AreAttached first links.old store.old.state.facts
         → length buffer.old ≡ PIECE_LEN → IsErrOf result Fault.Full → FullTurn
         (C.meaning clients.now) first links.old store.old store.new (H.tells host.old)
@@ -109,6 +110,7 @@ fn turn_each<H: Host, C: Clients>(
     ensures sessions { sessions_of links.new ≡ sessions_of links.old }
     ensures run { LinksGo links.old links.new (H.tells host.old) (H.tells host.new) }
     ensures limit { store.new.limit ≡ store.old.limit }
+    ensures format { store.new.format ≡ store.old.format }
     ensures full { (first : ℕ) → AreAttached first links.old store.old.state.facts
         → length buffer.old ≡ PIECE_LEN → IsErrOf result Fault.Full → TurnsFull
         (C.meaning clients.now) first links.old store.old store.new (H.tells host.old)
@@ -159,6 +161,7 @@ fn turn_link<H: Host, C: Clients>(
         store.old store.new (H.tells host.old) (H.tells host.new) }
     ensures run { LinkGoes number link.old link.new (H.tells host.old) (H.tells host.new) }
     ensures limit { store.new.limit ≡ store.old.limit }
+    ensures format { store.new.format ≡ store.old.format }
     ensures full { length buffer.old ≡ PIECE_LEN → IsErrOf result Fault.Full → HearsFull
         (C.meaning clients.now) number link.old store.old store.new (H.tells host.old)
         (H.tells host.new) }
@@ -203,6 +206,7 @@ fn hear_now<H: Host, C: Clients>(
         store.old store.new (H.tells host.old) (H.tells host.new) }
     ensures run { LinkGoes number link.old link.new (H.tells host.old) (H.tells host.new) }
     ensures limit { store.new.limit ≡ store.old.limit }
+    ensures format { store.new.format ≡ store.old.format }
     ensures full { length buffer.old ≡ PIECE_LEN → IsErrOf result Fault.Full → HearsFull
         (C.meaning clients.now) number link.old store.old store.new (H.tells host.old)
         (H.tells host.new) }
@@ -245,6 +249,7 @@ fn send_now<H: Host, C: Clients>(
         store.old store.new (H.tells host.old) (H.tells host.new) }
     ensures run { LinkGoes number link.old link.new (H.tells host.old) (H.tells host.new) }
     ensures limit { store.new.limit ≡ store.old.limit }
+    ensures format { store.new.format ≡ store.old.format }
     ensures full { IsErrOf result Fault.Full → SendsFull (C.meaning clients.now) number link.old
         store.old store.new (H.tells host.old) (H.tells host.new) }
     ensures fault { IsErrOf result Fault.DiskFault → Rose (H.tells host.old).disk_faults

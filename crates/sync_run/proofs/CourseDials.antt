@@ -24,8 +24,8 @@ use Rattle.sync_words.specs.Links.{has_nonce}
 use Rattle.sync_run.specs.declared.dialling.Dialled.{Dialled}
 use Rattle.sync_run.specs.declared.run.Limits.{Limits}
 use Rattle.sync_run.specs.Causes.{FailsAlone, IsCaused, RunCaused}
-use Rattle.sync_run.specs.Courses.{HearsRun, RanToEnd, RunComes, WasBroken, WasFull, terms_of, unheard}
-use Rattle.sync_run.specs.Dialling.{AreDialled, Calms, DialsAll, MakesLinks}
+use Rattle.sync_run.specs.Courses.{HearsRun, RanToEnd, RunComes, WasBroken, WasFull, terms_of}
+use Rattle.sync_run.specs.Dialling.{AreDialled, Calms, DialsAll, MakesLinks, unheard}
 use Rattle.sync_run.specs.Parts.{RunBroken, RunEnded, RunFilled, RunsOver, sessions_from}
 use Rattle.sync_run.specs.Plans.{ArePlanned}
 use Rattle.sync_run.proofs.EndLaws.{course_by_heard}

@@ -29,8 +29,8 @@ use Rattle.sync_words.specs.declared.outcome.Outcome.{Outcome}
 use Rattle.sync_words.specs.declared.outcome.Outcome.TheVariants as outcome
 use Rattle.sync_run.specs.declared.run.Limits.{Limits}
 use Rattle.sync_run.specs.Causes.{IsCaused}
-use Rattle.sync_run.specs.Courses.{ComesTo, HearsRun, RanToEnd, RunComes, TestsContacts, WasBroken, WasFull, is_unknown, unheard}
-use Rattle.sync_run.specs.Dialling.{MakesLinks}
+use Rattle.sync_run.specs.Courses.{ComesTo, HearsRun, RanToEnd, RunComes, TestsContacts, WasBroken, WasFull, is_unknown}
+use Rattle.sync_run.specs.Dialling.{MakesLinks, unheard}
 use Rattle.sync_run.proofs.CourseDials.{unbegun}
 
 -- ---- the same, where links and files are the same

@@ -24,7 +24,7 @@ use Rattle.sync_course.specs.LinkTurns.{Asks, Done, Doing, LinkStep, PassesItem,
 use Rattle.sync_course.specs.Paths.{Path}
 use Rattle.sync_course.specs.Suits.{heard_in, heard_on}
 use Rattle.sync_course.specs.Turns.{Attaches, Between, Course, Ended, EndsTurn, GoesToNext, Greets, Place, RunStep, Settles, Stage, StageStep, Terms, TurnStep, Works, first_place, is_at_end, spot_of, turn_ended, with_spot}
-use Rattle.sync_run.specs.Courses.{unheard}
+use Rattle.sync_run.specs.Dialling.{unheard}
 use Rattle.sync_run.specs.Ends.{AllHeardAsTold}
 
 -- the bytes that an event brings on a link, and those of several

@@ -17,7 +17,7 @@ use Rattle.outside.proofs.RunLaws.{grow_dial, grow_nonce, grow_same, grow_then, 
 use Rattle.sync_node.specs.Output.{sent_on}
 use Rattle.sync_words.specs.declared.link_words.LinkWords.{LinkWords}
 use Rattle.sync_run.specs.declared.dialling.Dialled.{Dialled}
-use Rattle.sync_run.specs.Courses.{unheard}
+use Rattle.sync_run.specs.Dialling.{unheard}
 use Rattle.sync_run.specs.Dialling.{AreDialled, Calms, DialsAll, IsDialled, MakesLinks, MakesOne, Stills, fresh_links}
 
 -- ---- calls that send nothing

@@ -1,10 +1,11 @@
 -- What a run of sessions does, as a course: the journal, the answers heard and the readings of the clock are those of a path of
 -- events, and it closes as the links are said to have ended.
-use Rattle.std.specs.Prelude.{◌≡◌, ◌≢◌, ℕ, zero, suc, ◌+◌, ◌<◌, Bool, true, false, nat_le, List, [], ◌∷◌, ◌++◌, length, map, Some, Result, Ok, Err, slice_get}
+use Rattle.std.specs.Prelude.{◌≡◌, ◌≢◌, ◌⊎◌, ℕ, ◌+◌, ◌<◌, Bool, true, false, nat_le, List, ◌++◌, length, map, Some, Result, Ok, Err, slice_get}
 use Rattle.std.specs.List.{list_any}
 use Rattle.std.specs.Option.{option_map}
 use Rattle.outside.specs.declared.limits.TheConstants.{MAX_JOURNAL}
-use Rattle.outside.specs.Links.{HeardOn, Link, nothing_heard}
+use Rattle.outside.specs.Files.{Two, File, read_files}
+use Rattle.outside.specs.Links.{HeardOn, Link}
 use Rattle.outside.specs.Outside.{Outside}
 use Rattle.outside.specs.Runs.{IsFront, Told}
 use Rattle.sync_rules.specs.declared.entries.Entry.{Entry}
@@ -22,11 +23,12 @@ use Rattle.sync_course.specs.Turns.{Broken, Course, Place, RunStep, Terms, is_ov
 use Rattle.sync_node.specs.Courses.{ReadsAs}
 use Rattle.sync_course.specs.declared.ends.LinkEnd.TheVariants as end
 use Rattle.sync_node.specs.Output.{Journal, output, sent_on}
-use Rattle.store_commands.specs.Commit.{format_told, needed_by}
+use Rattle.store_commands.specs.Commit.{HasLastGeneration, MayMigrate, needed_by}
 use Rattle.sync_words.specs.declared.link_words.LinkWords.{LinkWords}
 use Rattle.sync_words.specs.declared.outcome.Outcome.{Outcome}
 use Rattle.sync_words.specs.declared.outcome.Outcome.TheVariants as outcome
 use Rattle.sync_run.specs.declared.run.Limits.{Limits}
+use Rattle.sync_run.specs.Dialling.{MakesLinks, unheard}
 use Rattle.sync_run.specs.Ends.{AllHeardAsTold, AllStandByHeard}
 use Rattle.sync_run.specs.Plans.{ArePlanned}
 
@@ -37,11 +39,6 @@ terms_at limits first = record { first = first; turns = limits.turns; quiet = li
 -- what a run over a journal is asked for
 abbrev pub terms_of : Limits → Journal → Terms
 terms_of limits begin = terms_at limits (facts begin).begun
-
--- so many links on which nothing was heard
-abbrev pub unheard : ℕ → List HeardOn
-unheard zero = []
-unheard (suc n) = nothing_heard ∷ unheard n
 
 -- From a host on which no link was made: what the links heard and what the clock gave is what the events say, wherever it is told;
 -- and the count of a link's failures rose where an event says that a call of it failed.
@@ -55,7 +52,8 @@ abbrev pub HaveSpecs : List LinkWords → Outside → Type 0
 HaveSpecs words new = (links : List Link) → new.links.told ≡ Some links → IsFront (map (λ (l : Link). l.spec) links) (map (λ (w : LinkWords). w.spec) words)
 
 -- The run came to its end: a whole course of the sessions of all words, which closes so. Each link stands by what was
--- heard on it. Where the run was over nothing is due on a link that is not closed, and what was heard was taken.
+-- heard on it. Where the run was over nothing is due on a link that is not closed, and what was heard was taken. It began with a
+-- journal in format 2, or with one for which a generation was left.
 pub record RanToEnd (clients : Meaning) (limits : Limits) (words : List LinkWords) (begin : Journal) (old new : Outside) (ends : Closing) : Type 0 where
   pub sessions : List Session
   pub planned : ArePlanned (facts begin).begun words sessions
@@ -70,6 +68,7 @@ pub record RanToEnd (clients : Meaning) (limits : Limits) (words : List LinkWord
   pub by_heard : AllStandByHeard last
   pub as_told : AllHeardAsTold last new
   pub quiet : is_over limits.quiet last ≡ true → EndsQuiet clients (terms_of limits begin) events last
+  pub next : MayMigrate old.files
 
 -- The run was broken off: the course of the sessions of all words, up to any place. Where a session had begun all links were made.
 pub record WasBroken (clients : Meaning) (limits : Limits) (words : List LinkWords) (begin : Journal) (old new : Outside) : Type 0 where
@@ -89,15 +88,26 @@ SentAt begin whole place new =
     Told new → (i : ℕ) (l : course_links.Link) → slice_get place.links i ≡ Some l → l.stands ≢ end.Failed
     → sent_on new.links i ≡ output whole ((facts begin).begun + i)
 
--- The same at Full: from that place the next step of the course commits a batch with which the journal, the batch's frame and the
--- room for settling pass the greatest length of a journal; and a link that has not failed there has sent the whole.
-pub record WasFull (clients : Meaning) (limits : Limits) (words : List LinkWords) (begin : Journal) (old new : Outside) : Type 0 where
+-- The same where there was no room: from that place the next step of the course commits a batch with which the journal, the batch's
+-- frame and the room for settling pass the greatest length of a journal; and a link that has not failed there has sent the whole.
+pub record WasOver (clients : Meaning) (limits : Limits) (words : List LinkWords) (begin : Journal) (old new : Outside) : Type 0 where
   pub run : WasBroken clients limits words begin old new
   pub batch : List Entry
   pub next : Place
   pub steps : RunStep clients (terms_of limits begin) run.last (Commit batch) next
-  pub over : MAX_JOURNAL < needed_by (format_told new.files) (begin ++ batches_of run.events) batch
+  pub over : MAX_JOURNAL < needed_by (begin ++ batches_of run.events) batch
   pub sent : SentAt begin (begin ++ batches_of run.events) run.last new
+
+-- No generation was left for a journal in format 2: the files read as before. All links were made, and nothing was sent or heard on
+-- them.
+pub record WasSpent (words : List LinkWords) (old new : Outside) : Type 0 where
+  pub last : (two : Two File) → old.files ≡ Some two → HasLastGeneration (read_files two)
+  pub still : (two two' : Two File) → old.files ≡ Some two → new.files ≡ Some two' → read_files two' ≡ read_files two
+  pub links : MakesLinks words old.links new.links
+
+-- there was no room for a batch, or no generation left
+abbrev pub WasFull : Meaning → Limits → List LinkWords → Journal → (old new : Outside) → Type 0
+WasFull clients limits words begin old new = WasOver clients limits words begin old new ⊎ WasSpent words old new
 
 -- some contact of the words is not known
 abbrev pub is_unknown : Facts → List LinkWords → Bool

@@ -1,21 +1,25 @@
 -- Links that are dialled for the words of a command, before anything is committed.
-use Rattle.std.specs.Prelude.{◌≡◌, ◌⊎◌, ℕ, ◌+◌, ◌<◌, ◌≤◌, List, [], ◌∷◌, ◌++◌, length, map, is_some, Some, Result, Ok, Err, slice_index_or}
+use Rattle.std.specs.Prelude.{◌≡◌, ◌⊎◌, ℕ, zero, suc, ◌+◌, ◌<◌, ◌≤◌, List, [], ◌∷◌, ◌++◌, length, map, is_some, Some, Result, Ok, Err, slice_index_or}
 use Rattle.std.specs.Option.{option_map}
 use Rattle.outside.specs.declared.failed.Failed.{Failed}
 use Rattle.outside.specs.Calls.{NoCall}
 use Rattle.outside.specs.Disk.{Becomes}
 use Rattle.outside.specs.Faults.{Rose}
 use Rattle.outside.specs.Files.{Two, File, IsImage}
-use Rattle.outside.specs.Links.{HeardOn, Link, Links}
+use Rattle.outside.specs.Links.{HeardOn, Link, Links, nothing_heard}
 use Rattle.outside.specs.Outside.{Moment, Outside}
 use Rattle.outside.specs.Runs.{IsFront, LinksGrow, answers_at}
 use Rattle.sync_node.specs.Output.{sent_on}
 use Rattle.sync_words.specs.declared.link_words.LinkWords.{LinkWords}
 use Rattle.sync_words.specs.Links.{has_nonce}
 use Rattle.sync_run.specs.declared.dialling.Dialled.{Dialled}
-use Rattle.sync_run.specs.Courses.{unheard}
 
 -- ---- what was dialled
+
+-- so many links on which nothing was heard
+abbrev pub unheard : ℕ → List HeardOn
+unheard zero = []
+unheard (suc n) = nothing_heard ∷ unheard n
 
 -- a link was dialled as its words say: it has a nonce exactly where they ask for one
 pub record IsDialled (words : LinkWords) (d : Dialled) : Type 0 where

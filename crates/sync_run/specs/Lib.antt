@@ -1,10 +1,10 @@
 pub mod Plans
 pub mod Headline
+pub mod Dialling
 pub mod Courses
 pub mod Causes
 pub mod Closed
 pub mod Parts
-pub mod Dialling
 pub mod SafeRuns
 pub mod Ran
 pub mod Leaving

@@ -1,7 +1,7 @@
 -- What the parts of a run come to, as parts of its course.
-use Rattle.std.specs.Prelude.{◌≡◌, ℕ, suc, ◌<◌, Bool, true, false, List, [], ◌∷◌, ◌++◌, Some, is_some, Result, Ok, Err}
+use Rattle.std.specs.Prelude.{◌≡◌, ◌⊎◌, ℕ, suc, ◌<◌, Bool, true, false, List, [], ◌∷◌, ◌++◌, Some, is_some, Result, Ok, Err}
 use Rattle.outside.specs.declared.limits.TheConstants.{MAX_JOURNAL}
-use Rattle.outside.specs.Files.{Two, File}
+use Rattle.outside.specs.Files.{Two, File, read_files}
 use Rattle.outside.specs.Outside.{Outside}
 use Rattle.sync_rules.specs.declared.entries.Entry.{Entry}
 use Rattle.sync_rules.specs.declared.entries.Session.{Session}
@@ -18,7 +18,7 @@ use Rattle.sync_node.specs.Fulls.{RunFullSent}
 use Rattle.sync_node.specs.Joined.{Joined}
 use Rattle.sync_node.specs.Output.{Journal}
 use Rattle.sync_node.specs.Plans.{session_of}
-use Rattle.store_commands.specs.Commit.{format_told, needed_by}
+use Rattle.store_commands.specs.Commit.{HasLastGeneration, MayMigrate, needed_by}
 use Rattle.sync_words.specs.declared.outcome.Outcome.{Outcome}
 use Rattle.sync_words.specs.declared.outcome.Outcome.TheVariants as outcome
 use Rattle.sync_run.specs.declared.dialling.Dialled.{Dialled}
@@ -124,6 +124,7 @@ pub record RunEnded (clients : Meaning) (limits : Limits) (sessions : List Sessi
   pub reads : ReadsAs clients o'.files (j ++ batches_of events)
   pub closes : ends ≡ closing limits.quiet last
   pub quiet : is_over limits.quiet last ≡ true → EndsQuiet clients (terms_of limits j) events last
+  pub next : MayMigrate o.files
 
 -- a course that was broken off
 pub record RunBroken (clients : Meaning) (limits : Limits) (sessions : List Session) (j : Journal) (o o' : Outside) : Type 0 where
@@ -140,12 +141,17 @@ pub record RunFilled (clients : Meaning) (limits : Limits) (sessions : List Sess
   pub batch : List Entry
   pub next : Place
   pub steps : RunStep clients (terms_of limits j) run.last (Commit batch) next
-  pub over : MAX_JOURNAL < needed_by (format_told o'.files) (j ++ batches_of run.events) batch
+  pub over : MAX_JOURNAL < needed_by (j ++ batches_of run.events) batch
   pub sent : SentAt j (j ++ batches_of run.events) run.last o'
+
+-- no generation was left for a journal in format 2, and nothing was done
+pub record RunSpent (o o' : Outside) : Type 0 where
+  pub last : (two : Two File) → o.files ≡ Some two → HasLastGeneration (read_files two)
+  pub same : o' ≡ o
 
 abbrev pub RunsOver : Meaning → Limits → List Session → Journal → Outside → Outside → Result Closing Outcome → Type 0
 RunsOver clients limits sessions j o o' (Ok ends) = RunEnded clients limits sessions j o o' ends
-RunsOver clients limits sessions j o o' (Err outcome.Full) = RunFilled clients limits sessions j o o'
+RunsOver clients limits sessions j o o' (Err outcome.Full) = RunFilled clients limits sessions j o o' ⊎ RunSpent o o'
 RunsOver clients limits sessions j o o' (Err outcome.Memory) = RunBroken clients limits sessions j o o'
 RunsOver clients limits sessions j o o' (Err outcome.DiskFault) = RunBroken clients limits sessions j o o'
 RunsOver clients limits sessions j o o' (Err _) = ⊥

@@ -231,6 +231,7 @@ fn run_node<H: Host, C: Clients>(
     ensures cause { FailByCause node.old.links node.new.links (H.tells host.old)
         (H.tells host.new) }
     ensures limit { node.new.store.limit ≡ node.old.store.limit }
+    ensures format { node.new.store.format ≡ node.old.store.format }
     ensures full { IsErrOf result NodeFault.Full → FullRun (C.meaning clients.now) limits
         node.old.store.state.facts.begun
         (sessions_from node.old.store.state.facts.begun links.now) node.old.store

@@ -48,6 +48,7 @@ pub fn attach_all<H: Host, C: Clients>(
     ensures cause { FailByCause node.old.links node.new.links (H.tells host.old)
         (H.tells host.new) }
     ensures limit { node.new.store.limit ≡ node.old.store.limit }
+    ensures format { node.new.store.format ≡ node.old.store.format }
     ensures full { IsErrOf result NodeFault.Full → FullSessions (C.meaning clients.now)
         (sessions_from node.old.store.state.facts.begun links.now) node.old.store node.new.store
         (H.tells host.old) (H.tells host.new) }
@@ -92,6 +93,7 @@ pub fn make_turns<H: Host, C: Clients>(
     ensures cause { FailByCause node.old.links node.new.links (H.tells host.old)
         (H.tells host.new) }
     ensures limit { node.new.store.limit ≡ node.old.store.limit }
+    ensures format { node.new.store.format ≡ node.old.store.format }
     ensures full { IsErrOf result NodeFault.Full → FullTurns (C.meaning clients.now) limits
         node.old.first node.old.links node.old.store node.new.store (H.tells host.old)
         (H.tells host.new) }

@@ -19,7 +19,7 @@ use Rattle.sync_store.specs.Store.{StoreValue, HasNumbers, IsStore, counts_to, f
 use Rattle.sync_store.specs.Commits.{Commits, Stays, Unasked, needed}
 use Rattle.sync_store.specs.Fitting.{Fits, FitsSome, ImagesStand}
 use Rattle.sync_store.specs.Moments.{Adds, IsBetween, JournalMoment}
-use Rattle.sync_store.specs.Runs.{AddsBatch, ExtendsSo, HasExtended, RunsBy, committed_by}
+use Rattle.sync_store.specs.Runs.{AddsBatch, ExtendsSo, HasExtended, LeadsBy, RunsBy, committed_by}
 use Rattle.sync_store.specs.Settling.{HasSettled, SettlesSo}
 use Rattle.sync_store.proofs.FitSteps.{IsSame, fits_same, true≢false}
 use Rattle.sync_store.proofs.SettleSteps.{calls_closed, calls_none, calls_one, calls_runs, leads_one, leads_one_closed, leads_then}
@@ -155,6 +155,11 @@ runs_then clients s0 s1 s2 o0 o1 o2 xs ys still first second =
       leads = leads_then clients s0 s1 s2 o0 o1 o2 xs ys still first.run first.leads second.leads;
       calls = calls_runs s1 s2 o0 o1 o2 xs ys still first.calls second.calls;
     }
+
+-- what one run leads to behind another
+pub leads_both : (clients : Meaning) (s0 s1 s2 : StoreValue) (o0 o1 o2 : Outside) (xs ys : List (List Entry)) → s1.closed ≡ false → DiskRun o0 o1 → LeadsBy clients s0 s1 o0 o1 xs
+    → LeadsBy clients s1 s2 o1 o2 ys → LeadsBy clients s0 s2 o0 o2 (xs ++ ys)
+leads_both clients s0 s1 s2 o0 o1 o2 xs ys still run first second = leads_then clients s0 s1 s2 o0 o1 o2 xs ys still run first second
 
 -- at the end the disk fits the store
 pub runs_fits : (clients : Meaning) (s new : StoreValue) (o o' : Outside) (more : List (List Entry)) → RunsBy clients s new o o' more → FitsSome clients s o.files → new.closed ≡ false

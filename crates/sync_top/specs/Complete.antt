@@ -33,8 +33,7 @@ use Rattle.sync_words.specs.Outcomes.{links_status}
 use Rattle.commands.specs.Reading.{Asked}
 use Rattle.commands.specs.Reading.Asked.{Usage, Do}
 use Rattle.store_commands.specs.declared.listing.Listing.TheVariants as listing
-use Rattle.entry_codec.specs.declared.naming.Format.{Format}
-use Rattle.store_commands.specs.Commit.{needed_by}
+use Rattle.store_commands.specs.Commit.{MayMigrate, needed_by}
 use Rattle.store_commands.specs.Plans.{Plan, adds, contact_plan, group_plan, level_plan, post_plan}
 use Rattle.store_commands.specs.Post.{IsBody, message_of}
 use Rattle.store_commands.specs.Shown.{Showing, body_shown, listing_shown, shows}
@@ -56,19 +55,21 @@ pub record NothingFails (old new : Outside) (input input' out out' : Stream) : T
   pub source : Rose input.faults input'.faults → ⊥
   pub sink : Rose out.faults out'.faults → ⊥
 
--- behind a journal, however it is settled, there is room for a batch in either format
+-- behind a journal, however it is settled, there is room for a batch
 abbrev pub HasRoom : Meaning → List (List Entry) → List Entry → Type 0
 HasRoom clients j batch =
     (first : List (List Entry)) → AllSettling clients (facts j) first → IsSettled clients (after_batches (facts j) first)
-    → (format : Format) → needed_by format (j ++ first) batch ≤ MAX_JOURNAL
+    → needed_by (j ++ first) batch ≤ MAX_JOURNAL
 
--- the files as they read stand for a journal to which the command plans to add an entry, and there is room for it
+-- the files as they read stand for a journal to which the command plans to add an entry, and there is room for it; where they are in
+-- format 1, a generation is left
 pub record MayAdd (clients : Meaning) (plan : Facts → Plan) (files : Option (Two File)) : Type 0 where
   pub before : List (List Entry)
   pub entry : Entry
   pub stood : ReadsAs clients files before
   pub planned : plan (facts before) ≡ adds entry
   pub room : HasRoom clients before (entry ∷ [])
+  pub next : MayMigrate files
 
 -- the files stand for a journal that knows the group, and the message of the body that is read may be added
 pub record MayPost (clients : Meaning) (group : Id) (timestamp : ℕ) (files : Option (Two File)) (input input' : Stream) : Type 0 where
@@ -77,11 +78,11 @@ pub record MayPost (clients : Meaning) (group : Id) (timestamp : ℕ) (files : O
   pub known : is_some (group_at (facts before).groups group) ≡ true
   pub may_add : (body : List ℕ) → IsBody input input' body → MayAdd clients (λ f. post_plan clients f (message_of group timestamp body)) files
 
--- behind a journal, however it is settled, there is room in either format for each batch that the targets then ask for
+-- behind a journal, however it is settled, there is room for each batch that the targets then ask for
 abbrev pub HasRooms : Meaning → ℕ → Id → List (List Entry) → Type 0
 HasRooms clients contact group j =
     (first : List (List Entry)) → AllSettling clients (facts j) first → IsSettled clients (after_batches (facts j) first)
-    → (format : Format) → AreRoomy format (j ++ first) (agreed_batches clients contact group (after_batches (facts j) first))
+    → AreRoomy (j ++ first) (agreed_batches clients contact group (after_batches (facts j) first))
 
 -- the files stand for a journal over which the tests of `agree` hold, and there is room for what is agreed on
 pub record MayAgreeOn (clients : Meaning) (contact : ℕ) (group : Id) (files : Option (Two File)) : Type 0 where
@@ -89,6 +90,7 @@ pub record MayAgreeOn (clients : Meaning) (contact : ℕ) (group : Id) (files : 
   pub stood : ReadsAs clients files before
   pub tested : agree_test (facts before) contact group ≡ None
   pub room : HasRooms clients contact group before
+  pub next : MayMigrate files
 
 -- the files stand for a journal of which the command has a text to show
 pub record MayShow (clients : Meaning) (shown : Facts → Showing) (files : Option (Two File)) : Type 0 where
@@ -97,14 +99,15 @@ pub record MayShow (clients : Meaning) (shown : Facts → Showing) (files : Opti
   pub stood : ReadsAs clients files of
   pub is : shown (facts of) ≡ shows text
 
--- The files stand for a journal in which each contact of the words is known, and there is room in either format for each batch that
--- comes next in a course over what was heard.
+-- The files stand for a journal in which each contact of the words is known, and there is room for each batch that comes next in a
+-- course over what was heard; where they are in format 1, a generation is left.
 pub record MaySync (clients : Meaning) (limits : Limits) (words : List LinkWords) (old new : Outside) : Type 0 where
   pub begin : List (List Entry)
   pub stood : ReadsAs clients old.files begin
   pub known : is_unknown (facts begin) words ≡ false
   pub room : (was : WasBroken clients limits words begin old new) (batch : List Entry) (next : Place)
-      → RunStep clients (terms_of limits begin) was.last (Commit batch) next → (format : Format) → needed_by format (begin ++ batches_of was.events) batch ≤ MAX_JOURNAL
+      → RunStep clients (terms_of limits begin) was.last (Commit batch) next → needed_by (begin ++ batches_of was.events) batch ≤ MAX_JOURNAL
+  pub next : MayMigrate old.files
 
 -- the tests of a command hold, the files as they read serve it, and there is room
 abbrev pub Serves : Meaning → Command → (old new : Outside) → (input input' : Stream) → Type 0
