@@ -32,24 +32,24 @@ own_step step file other o o' few is leaves becomes =
 
 -- a fault behind calls that left the file
 pub own_fault : {A : Type 0} (file : ℕ) (o o' : Option (Two File)) (e : MigrationFault) (result : Result A MigrationFault) → result ≡ Err e → Becomes (KeepsFile file) o o' → ReadsOnly file o o' result
-own_fault {A} file o o' e result is becomes = subst (λ (x : Result A MigrationFault). ReadsOnly file o o' x) (sym is) (own_so e)
+own_fault {A = A} file o o' e result is becomes = subst (λ (x : Result A MigrationFault). ReadsOnly file o o' x) (sym is) (own_so e)
   where
-    own_so : (e : MigrationFault) → ReadsOnly {A} file o o' (Err e)
+    own_so : (e : MigrationFault) → ReadsOnly {A = A} file o o' (Err e)
     own_so fault.Memory = becomes
     own_so fault.DiskFault = tt
 
 -- a fault of a later step
-pub own_later : {A B : Type 0} (file : ℕ) (o0 o1 o2 : Option (Two File)) (e : MigrationFault) (result : Result B MigrationFault) → result ≡ Err e → Becomes (KeepsFile file) o0 o1
-    → ReadsOnly {A} file o1 o2 (Err e) → ReadsOnly file o0 o2 result
-own_later {A} {B} file o0 o1 o2 e result is first later = subst (λ (x : Result B MigrationFault). ReadsOnly file o0 o2 x) (sym is) (later_so e later)
+pub own_later : (A : Type 0) {B : Type 0} (file : ℕ) (o0 o1 o2 : Option (Two File)) (e : MigrationFault) (result : Result B MigrationFault) → result ≡ Err e → Becomes (KeepsFile file) o0 o1
+    → ReadsOnly {A = A} file o1 o2 (Err e) → ReadsOnly file o0 o2 result
+own_later A {B = B} file o0 o1 o2 e result is first later = subst (λ (x : Result B MigrationFault). ReadsOnly file o0 o2 x) (sym is) (later_so e later)
   where
-    later_so : (e : MigrationFault) → ReadsOnly {A} file o1 o2 (Err e) → ReadsOnly {B} file o0 o2 (Err e)
+    later_so : (e : MigrationFault) → ReadsOnly {A = A} file o1 o2 (Err e) → ReadsOnly {A = B} file o0 o2 (Err e)
     later_so fault.Memory becomes = own_then file o0 o1 o2 first becomes
     later_so fault.DiskFault becomes = tt
 
 -- a call on the disk failed
 pub own_cut : {A : Type 0} (file : ℕ) (o o' : Option (Two File)) (result : Result A MigrationFault) → result ≡ Err fault.DiskFault → ReadsOnly file o o' result
-own_cut {A} file o o' result is = subst (λ (x : Result A MigrationFault). ReadsOnly file o o' x) (sym is) tt
+own_cut {A = A} file o o' result is = subst (λ (x : Result A MigrationFault). ReadsOnly file o o' x) (sym is) tt
 
 -- the other file was prepared
 pub own_begun : (file generation : ℕ) (o0 o1 o2 : Outside) → file < 2 → Looks o0 o1 → Becomes (Prepares (1 - file) 2 generation) o1.files o2.files → Becomes (KeepsFile file) o0.files o2.files

@@ -80,11 +80,7 @@ pub fn migrate_and_settle<D: Disk, C: Clients>(
 }
 
 // Writes the journal anew in format 2 where it is of format 1.
-fn migrate<D: Disk, C: Clients>(
-    store: &mut Store,
-    disk: &mut D,
-    clients: &C,
-) -> Result<(), Outcome>
+fn migrate<D: Disk, C: Clients>(store: &mut Store, disk: &mut D, clients: &C) -> Result<(), Outcome>
     requires ready { IsReady (C.meaning clients.now) store.old (D.tells disk.old).files }
     ensures run { DiskRun (D.tells disk.old) (D.tells disk.new) }
     ensures by { ExtendsBy (D.tells disk.old) (D.tells disk.new) result }
@@ -105,11 +101,7 @@ fn migrate<D: Disk, C: Clients>(
 }
 
 // Settles the journal. `Memory` and `DiskFault` are its only outcomes beside `Ok`.
-fn settle<D: Disk, C: Clients>(
-    store: &mut Store,
-    disk: &mut D,
-    clients: &C,
-) -> Result<(), Outcome>
+fn settle<D: Disk, C: Clients>(store: &mut Store, disk: &mut D, clients: &C) -> Result<(), Outcome>
     requires ready { IsReady (C.meaning clients.now) store.old (D.tells disk.old).files }
     ensures run { DiskRun (D.tells disk.old) (D.tells disk.new) }
     ensures by { ExtendsBy (D.tells disk.old) (D.tells disk.new) result }

@@ -49,17 +49,17 @@ impl Store {
         cite_laws();
         match format_meant(self.format()) {
             Format::Short => Ok(()),
-            Format::Whole if self.generation() == u64::MAX => Err(StoreFault::Full),
-            Format::Whole => self.move_on(disk, clients),
+            Format::Whole => {
+                if self.generation() == u64::MAX {
+                    return Err(StoreFault::Full);
+                }
+                self.move_on(disk, clients)
+            }
         }
     }
 
     // The same of a journal in format 1 for which there is a further generation.
-    fn move_on<D: Disk, C: Clients>(
-        &mut self,
-        disk: &mut D,
-        clients: &C,
-    ) -> Result<(), StoreFault>
+    fn move_on<D: Disk, C: Clients>(&mut self, disk: &mut D, clients: &C) -> Result<(), StoreFault>
         requires ready { IsReady (C.meaning clients.now) self.old (D.tells disk.old).files }
         requires old { IsOld self.old }
         ensures migrated { HasMigrated (C.meaning clients.now) self.old self.new result

@@ -64,8 +64,8 @@ returns-in_err-brought-clause-own g c =
     let o1 = (g.D.Disk.tells c.frames.disk).files in
     let o2 = (g.D.Disk.tells c.copy_next.new.disk).files in
     let e = c.in_err-brought.field-0.0 in
-    own_later {A = Option ℕ} c.args.reader.now.file (g.D.Disk.tells c.args.disk.now).files o1 o2 e c.from_residual.result (err_is c.from_residual.result e c.from_residual.ensures.1) c.frames.invariant.own
-    (subst (λ (k : ℕ). ReadsOnly {Option ℕ} k o1 o2 (Err e)) c.frames.invariant.same.reader_file c.in_err-brought.ensures.own)
+    own_later (Option ℕ) c.args.reader.now.file (g.D.Disk.tells c.args.disk.now).files o1 o2 e c.from_residual.result (err_is c.from_residual.result e c.from_residual.ensures.1) c.frames.invariant.own
+    (subst (λ (k : ℕ). ReadsOnly {A = Option ℕ} k o1 o2 (Err e)) c.frames.invariant.same.reader_file c.in_err-brought.ensures.own)
 
 pub returns-in-None-clause-own : goal.returns-in-None-clause-own
 returns-in-None-clause-own g c =

@@ -149,10 +149,10 @@ returns-in_err-copy_all-clause-own g c =
     let o3 = g.D.Disk.tells c.copy_all.new.disk in
     let reader : r.file ≡ file = sym c.file.ensures.value ∙ c.if-file.false in
     let e = c.in_err-copy_all.field-0.0 in
-    own_later {A = Unit {0}} file o0.files o2.files o3.files e c.from_residual-in_err-copy_all.result
+    own_later (Unit {0}) file o0.files o2.files o3.files e c.from_residual-in_err-copy_all.result
     (err_is c.from_residual-in_err-copy_all.result e c.from_residual-in_err-copy_all.ensures.1)
     (own_begun file (c.args.generation + 1) o0 o1 o2 c.requires.file c.start.ensures.looks c.in_ok-writer.ensures.prepared)
-    (subst (λ (k : ℕ). ReadsOnly {Unit {0}} k o2.files o3.files (Err e)) reader c.in_err-copy_all.ensures.own)
+    (subst (λ (k : ℕ). ReadsOnly {A = Unit {0}} k o2.files o3.files (Err e)) reader c.in_err-copy_all.ensures.own)
 
 pub returns-then-end-clause-own : goal.returns-then-end-clause-own
 returns-then-end-clause-own g c =
