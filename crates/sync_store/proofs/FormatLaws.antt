@@ -80,15 +80,16 @@ room_framed kind.Short few made many le some = omega (arith, le, some)
 
 -- ---- the first format
 
+whole_by : (n : ℕ) (a b : Bool) → (a ≡ true → n ≡ 1) → cond a (some_format kind.Whole) (cond b (some_format kind.Short) None) ≡ some_format kind.Whole → n ≡ 1
+unfolding some_format
+whole_by n true b one e = one refl
+whole_by n false true one e = cc
+whole_by n false false one e = cc
+
 -- its number is 1
 pub whole_is_one : (n : ℕ) → format_of n ≡ Some kind.Whole → n ≡ 1
-whole_is_one n is = whole_by (n == 1) (n == 2) (λ e. eqb-true n 1 e) is
-  where
-    whole_by : (a b : Bool) → (a ≡ true → n ≡ 1) → cond a (some_format kind.Whole) (cond b (some_format kind.Short) None) ≡ some_format kind.Whole → n ≡ 1
-    unfolding some_format
-    whole_by true b one e = one refl
-    whole_by false true one e = cc
-    whole_by false false one e = cc
+unfolding some_format
+whole_is_one n is = whole_by n (n == 1) (n == 2) (λ e. eqb-true n 1 e) is
 
 -- the room of the second is less
 pub short_room : (f : Facts) → room_of kind.Short f ≤ room_of kind.Whole f

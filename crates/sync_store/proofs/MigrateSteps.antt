@@ -179,3 +179,16 @@ leads_fits clients s new o o' run leads fits still two' told' =
     let begun = fits there.0 there.1 in
     let end = (leads there.0 there.1 begun.0 begun.1).ends still two' told' in
     (end.0, end.2)
+
+-- the same of numbers that are the store's
+pub gives_of : (clients : Meaning) (s : StoreValue) (result : Result JournalValue MigrationFault) (o o' : Outside) (file generation : ℕ) → file ≡ s.file → generation ≡ s.generation
+    → ((j : List (List Entry)) (two : Two File) → o.files ≡ Some two → facts j ≡ s.state.facts → HoldsFirst clients file generation j two → Migrates clients file generation j o o' result)
+    → Gives clients s result o o'
+gives_of clients s result o o' file generation one other given =
+    let At : ℕ → ℕ → Type 0 =
+    λ a b. (j : List (List Entry)) (two : Two File) → o.files ≡ Some two → facts j ≡ s.state.facts → HoldsFirst clients a b j two → Migrates clients a b j o o' result in
+    subst (λ (a : ℕ). At a s.generation) one (subst (λ (b : ℕ). At file b) other given)
+
+pub next_of : (s : StoreValue) (n : JournalValue) (file generation end : ℕ) → file ≡ s.file → generation ≡ s.generation → end ≡ s.end → IsNext file generation end n → IsNext s.file s.generation s.end n
+next_of s n file generation end one other last next =
+    subst (λ (a : ℕ). IsNext a s.generation s.end n) one (subst (λ (b : ℕ). IsNext file b s.end n) other (subst (λ (c : ℕ). IsNext file generation c n) last next))
