@@ -30,6 +30,10 @@ passed_on : (P : Result (Unit {0}) Outcome → Type 0) (r : Result (Unit {0}) Ou
 passed_on P (Ok u) x is h = absurd is
 passed_on P (Err e) x is h = subst (λ (o : Outcome). P (Err o)) (sym is) h
 
+-- what holds at Full
+abbrev pub AtFull : Type 0 → Result (Unit {0}) Outcome → Type 0
+AtFull P q = IsErrOf q outcome.Full → P
+
 module _ (r : Result (Unit {0}) Outcome) (x : Outcome) (is : IsErrAnd r (λ e. e ≡ x)) where
   pub by_on : (o o' : Outside) → ExtendsBy o o' (Err x) → ExtendsBy o o' r
   by_on o o' = passed_on (λ (q : Result (Unit {0}) Outcome). ExtendsBy o o' q) r x is
@@ -44,8 +48,8 @@ module _ (r : Result (Unit {0}) Outcome) (x : Outcome) (is : IsErrAnd r (λ e. e
   pub ready_on : (clients : Meaning) (s : StoreValue) (files : Option (Two File)) → StaysReady clients s files (Err x) → StaysReady clients s files r
   ready_on clients s files = passed_on (λ (q : Result (Unit {0}) Outcome). StaysReady clients s files q) r x is
 
-  pub full_on : (P : Type 0) → (x ≡ outcome.Full → P) → IsErrOf r outcome.Full → P
-  full_on P h = passed_on (λ (q : Result (Unit {0}) Outcome). IsErrOf q outcome.Full → P) r x is h
+  pub full_on : (P : Type 0) → AtFull P (Err x) → AtFull P r
+  full_on P = passed_on (AtFull P) r x is
 
   pub entry_on : (clients : Meaning) (asked : Settling) (s : StoreValue) (e : Entry) (o o' : Outside) (out out' : Stream) → EntryAdded clients asked s e o o' out out' x
       → EntryAdded clients asked s e o o' out out' (came_to r)

@@ -1,4 +1,4 @@
-use Rattle.std.proofs.Common.{ap}
+use Rattle.std.proofs.Common.{Err, ap}
 use Rattle.store_commands.specs.declared.commit.Settling.TheVariants as settling
 use Rattle.store_commands.proofs.Adds.{adds, caused_later, follows_settled, settles_only}
 use Rattle.store_commands.proofs.Passing.{by_on, told_on_error}
@@ -10,7 +10,7 @@ returns-in_err-migrate_and_settle-clause-told g c = λ two files j fits.
     let came = c.in_err-migrate_and_settle.field-0.0 in
     told_on_error c.from_residual.result came c.from_residual.ensures.1 clients c.args.settling j c.args.batch two _ _
     (settles_only clients _ _ c.args.store.now _ c.args.batch c.args.settling came two j files fits
-    (λ is. ap g.D.Disk.tells (c.in_err-migrate_and_settle.ensures.untouched is)) c.in_err-migrate_and_settle.ensures.settled)
+    (λ is. ap g.D.Disk.tells (c.in_err-migrate_and_settle.ensures.untouched (ap Err is))) c.in_err-migrate_and_settle.ensures.settled)
 
 pub returns-in_err-migrate_and_settle-clause-by : goal.returns-in_err-migrate_and_settle-clause-by
 returns-in_err-migrate_and_settle-clause-by g c = by_on c.from_residual.result c.in_err-migrate_and_settle.field-0.0 c.from_residual.ensures.1 (g.D.Disk.tells c.args.disk.now) (g.D.Disk.tells c.migrate_and_settle.new.disk)
