@@ -60,7 +60,7 @@ class Journal:
         self.levels = {}
         self.sessions = []
         self.takes = {}
-        self.held = []
+        self.held, self.places = [], {}
         self.judged, self.invalid, self.delivered = set(), set(), []
         self.rows = {}
         self.wanted = {}
@@ -69,6 +69,10 @@ class Journal:
     # ---- look-ups
     def find(self, id_):
         return next((h for h in self.held if h.id == id_), None)
+
+    def name(self, id_):
+        """How an entry names a message that is held."""
+        return self.places[id_].to_bytes(4, 'big')
 
     def group(self, gid):
         return next((g for g in self.groups if g[3] == gid), None)
@@ -108,6 +112,7 @@ class Journal:
         elif kind in ('author', 'arrive'):
             contact = None if kind == 'author' else self.sessions[rest[0]][1]
             held = Held(*rest[-1], 'self' if contact is None else contact)
+            self.places[held.id] = len(self.held)
             self.held.append(held)
             for wants in self.wanted.values():
                 if held.id in wants:
@@ -236,7 +241,8 @@ def message_bytes(message):
     return group + timestamp.to_bytes(8, 'big') + len(body).to_bytes(2, 'big') + body
 
 
-def entry_bytes(entry):
+def entry_bytes(entry, name):
+    """The bytes of an entry, where a message that is held has this name."""
     kind, rest = entry[0], entry[1:]
     if kind == 'contact':
         return bytes([1, rest[0]])
@@ -257,15 +263,16 @@ def entry_bytes(entry):
     if kind == 'arrive':
         return b'\x07' + rest[0].to_bytes(4, 'big') + message_bytes(rest[1])
     if kind in ('judged', 'deliver', 'invalid'):
-        return bytes([{'judged': 8, 'deliver': 9, 'invalid': 10}[kind]]) + rest[0]
+        return bytes([{'judged': 8, 'deliver': 9, 'invalid': 10}[kind]]) + name(rest[0])
     if kind in ('again', 'offered', 'seen', 'asked'):
         tag = {'again': 11, 'offered': 12, 'seen': 13, 'asked': 14}[kind]
-        return bytes([tag]) + rest[0].to_bytes(4, 'big') + rest[1]
+        return bytes([tag]) + rest[0].to_bytes(4, 'big') + (rest[1] if kind == 'offered' else name(rest[1]))
     session, now, what, ids = rest
     head = b'\x0f' + session.to_bytes(4, 'big') + now.to_bytes(8, 'big')
     if what == 'send':
-        return head + b'\x03' + ids[0]
-    return head + bytes([{'acks': 0, 'requests': 1, 'offers': 2}[what]]) + len(ids).to_bytes(2, 'big') + b''.join(ids)
+        return head + b'\x03' + name(ids[0])
+    names = ids if what == 'requests' else map(name, ids)
+    return head + bytes([{'acks': 0, 'requests': 1, 'offers': 2}[what]]) + len(ids).to_bytes(2, 'big') + b''.join(names)
 
 
 def record_bytes(kind, payload):
@@ -329,7 +336,7 @@ class Store:
         self.file = HEADER + CLOSED
 
     def write(self, batch):
-        payload = b''.join(entry_bytes(e) for e in batch)
+        payload = b''.join(entry_bytes(e, self.journal.name) for e in batch)
         self.file = self.file[:-1] + OPEN + len(payload).to_bytes(4, 'big') + payload + CLOSED
 
     def commit(self, batch):

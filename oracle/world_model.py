@@ -12,7 +12,7 @@ import re
 import sys
 
 from digests import group_id, message_id
-from journal import entries, frames
+from journal import SHORT, entries, frames
 from run_model import Host, Journal, Link, Run, Store, entry_bytes, judge, record_bytes
 from scripts import generated, has_form, is_number
 from store_file import CLOSED, HEADER, OPEN
@@ -73,10 +73,13 @@ def message_of(rest):
     return rest[:32], number(rest[32:40]), rest[42:]
 
 
-def out_of(rest):
-    ids = rest[13:] if rest[12] == 3 else rest[15:]
-    names = ('acks', 'requests', 'offers', 'send')
-    return ('out', number(rest[:4]), number(rest[4:12]), names[rest[12]], [ids[at:at + 32] for at in range(0, len(ids), 32)])
+def out_of(rest, named):
+    kind, told = rest[12], rest[13:] if rest[12] == 3 else rest[15:]
+    if kind == 1:
+        ids = [told[at:at + 32] for at in range(0, len(told), 32)]
+    else:
+        ids = [named(told[at:at + 4]) for at in range(0, len(told), 4)]
+    return 'out', number(rest[:4]), number(rest[4:12]), ('acks', 'requests', 'offers', 'send')[kind], ids
 
 
 def group_of(rest):
@@ -89,14 +92,14 @@ def session_of(rest):
     return 'session', number(rest[:4]), rest[4], mode, number(rest[6:10]), rest[11:] if rest[10] else None
 
 
-def entry_of(tag, rest):
-    """The entry with this tag and these bytes behind it."""
+def entry_of(tag, rest, named):
+    """The entry with this tag and these bytes behind it, where a name means this message."""
     simple = {8: 'judged', 9: 'deliver', 10: 'invalid'}
     heard = {11: 'again', 12: 'offered', 13: 'seen', 14: 'asked'}
     if tag in simple:
-        return simple[tag], rest
+        return simple[tag], named(rest)
     if tag in heard:
-        return heard[tag], number(rest[:4]), rest[4:]
+        return heard[tag], number(rest[:4]), rest[4:] if tag == 12 else named(rest[4:])
     return {
         1: lambda: ('contact', rest[0]),
         2: lambda: group_of(rest),
@@ -105,7 +108,7 @@ def entry_of(tag, rest):
         5: lambda: ('take', number(rest[:4]), number(rest[4:])),
         6: lambda: ('author', message_of(rest)),
         7: lambda: ('arrive', number(rest[:4]), message_of(rest[4:])),
-        15: lambda: out_of(rest),
+        15: lambda: out_of(rest, named),
     }[tag]()
 
 
@@ -133,6 +136,9 @@ class Facts(Journal):
     def find(self, id_):
         return self.by_id.get(id_)
 
+    def named(self, name):
+        return self.held[number(name)].id
+
     def fate(self, held):
         if held.id in self.delivered:
             return 'delivered'
@@ -150,15 +156,15 @@ class DiskStore(Store):
             disk.call()
             disk.call()
             self.end = at + 6 + len(payload)
-            for tag, rest in entries(payload):
-                entry = entry_of(tag, rest)
-                assert entry_bytes(entry) == bytes([tag]) + rest
+            for tag, rest in entries(payload, SHORT):
+                entry = entry_of(tag, rest, self.journal.named)
+                assert entry_bytes(entry, self.journal.name) == bytes([tag]) + rest
                 self.journal.apply(entry)
         disk.call()
         self.settle()
 
     def write(self, batch):
-        payload = b''.join(entry_bytes(entry) for entry in batch)
+        payload = b''.join(entry_bytes(entry, self.journal.name) for entry in batch)
         framed = len(payload).to_bytes(4, 'big') + payload + CLOSED
         self.disk.write(self.end, framed)
         self.disk.sync()
@@ -195,15 +201,16 @@ class Device(Run):
         fates = [journal.fate(held) for held in journal.held]
         told = [f'{fate} {fates.count(fate)}' for fate in ('delivered', 'invalid', 'pending', 'unknown')]
         lines = [f'device {place} held {len(fates)} ' + ' '.join(told)]
-        return lines + (self.shown() if is_shown else [])
+        return lines + (shown(journal) if is_shown else [])
 
-    def shown(self):
-        journal = self.store.journal
-        groups = [f'group {id_.hex()} {name.hex()} {major} {text.hex()}' for name, major, text, id_ in journal.groups]
-        levels = [f'level {contact} {group[3].hex()} {LEVELS[journal.level(contact, group[3])]}'
-                  for contact in range(journal.contacts) for group in journal.groups if journal.level(contact, group[3])]
-        held = [f'message {held.id.hex()} {held.group.hex()} {journal.fate(held)}' for held in journal.held]
-        return [f'contacts {journal.contacts}', *groups, *levels, *held, f'sessions {len(journal.sessions)}']
+
+def shown(journal):
+    """What `show` tells of a journal."""
+    groups = [f'group {id_.hex()} {name.hex()} {major} {text.hex()}' for name, major, text, id_ in journal.groups]
+    levels = [f'level {contact} {group[3].hex()} {LEVELS[journal.level(contact, group[3])]}'
+              for contact in range(journal.contacts) for group in journal.groups if journal.level(contact, group[3])]
+    held = [f'message {held.id.hex()} {held.group.hex()} {journal.fate(held)}' for held in journal.held]
+    return [f'contacts {journal.contacts}', *groups, *levels, *held, f'sessions {len(journal.sessions)}']
 
 
 class End:
@@ -498,8 +505,8 @@ class Checks:
         """Each message is held once and delivered once, and behind all that it depends on."""
         journal, held, delivered = device.store.journal, set(), set()
         for _, payload in frames(bytes(device.store.disk.content)):
-            for tag, rest in entries(payload):
-                kind, *rest = entry_of(tag, rest)
+            for tag, rest in entries(payload, SHORT):
+                kind, *rest = entry_of(tag, rest, journal.named)
                 if kind in ('author', 'arrive'):
                     id_ = message_id(*rest[-1])
                     assert id_ not in held
