@@ -90,9 +90,9 @@ def ended():
 
 
 def spoken():
-    """Somebody said that a group is joined, which is not judged yet."""
+    """It was said here that a group is joined."""
     person = bare(SHARING)
-    unsettled(person, lambda: person.said(SHARINGS, 0, 'join', *NOTE))
+    person.said(SHARINGS, 0, 'join', *NOTE)
     return person
 
 
@@ -153,17 +153,11 @@ def posts(group, time, body):
 
 
 def says(person):
-    """The previous message is one that is delivered in the journal as it was loaded."""
-    own = [id for id in person.order]
-    assert not own
-    person.settle()
-    body = b'\2' + bytes(32) + b'\4note' + bytes(4) + b'\0\1d'
-    person.post(SHARINGS, 1, body)
-    return f'posted {message_id(SHARINGS, 1, body).hex()}\n'
+    _, id = person.said(SHARINGS, 1, 'leave', *NOTE)
+    return f'posted {id.hex()}\n'
 
 
 def agrees(person):
-    person.settle()
     return person.agree(0, SHARINGS)
 
 
@@ -175,7 +169,6 @@ SCENES = [
     (held(NOTE, THREAD), f'post {THREADS.hex()} 5', b'\0root', posts(THREADS, 5, b'\0root')),
     (spoken(), f'say {SHARINGS.hex()} 1 leave note 0 d', b'', says),
     (spoken(), f'agree 0 {SHARINGS.hex()}', b'', agrees),
-    (heard(), 'contact', b'', adds_contact),
 ]
 
 
@@ -187,14 +180,14 @@ def hex_of(payloads):
     return ' '.join(payload.hex() for payload in payloads)
 
 
-def scene_rows():
-    yield f'pub(crate) static ADDING: [Old; {len(SCENES)}] = ['
-    for person, words, given, does in SCENES:
+def scene_rows(name, scenes):
+    yield f'pub(crate) static {name}: [Old; {len(scenes)}] = ['
+    for person, words, given, does in scenes:
         before = list(person.batches)
         text = does(person)
         adds = person.batches[len(before):]
         texts = [show_text(before + adds[:stage]) for stage in range(len(adds) + 1)]
-        assert len(texts) <= 4
+        assert len(texts) <= 3
         yield '    Old {'
         yield f'        old: "{hex_of(respelled(before, SHORT, WHOLE))}",'
         yield '        scene: Scene {'
@@ -205,8 +198,8 @@ def scene_rows():
         yield f'            out: b"{rust(text)}",'
         yield f'            adds: "{hex_of(adds)}",'
         yield '            shown: ['
-        for text in (texts + [''] * 4)[:4]:
-            yield f'                "{rust(text)}",'
+        for at_stage in (texts + [''])[:3]:
+            yield f'                "{rust(at_stage)}",'
         yield '            ],'
         yield '        },'
         yield '    },'
@@ -241,7 +234,8 @@ def table():
     yield 'use crate::scenes::Scene;'
     yield ''
     yield from look_rows()
-    yield from scene_rows()
+    yield from scene_rows('ADDING', SCENES)
+    yield from scene_rows('ADDED', [(heard(), 'contact', b'', adds_contact)])
 
 
 if __name__ == '__main__':

@@ -95,8 +95,8 @@ impl Scene {
         Ok(whole & shows(alloc, self.said_at(stage), disk)?)
     }
 
-    // What `show` comes to at a stage.
-    fn said_at(&self, stage: u64) -> Said<'_> {
+    /// What `show` comes to at a stage.
+    pub(crate) fn said_at(&self, stage: u64) -> Said<'_> {
         if !self.begun && stage == 0 {
             return Said::line(Status::NoStore, b"no store\n");
         }
@@ -107,8 +107,8 @@ impl Scene {
     }
 }
 
-// Whether `show` says this of a disk, and leaves its files.
-fn shows(alloc: Global, said: Said<'_>, disk: MemDisk) -> Result<bool> {
+/// Whether `show` says this of a disk, and leaves its files.
+pub(crate) fn shows(alloc: Global, said: Said<'_>, disk: MemDisk) -> Result<bool> {
     let kept = Files::on(&disk).disk(alloc)?;
     let came = play(alloc, &Order::new("show", b""), disk)?;
     Ok(said.is_of(&came) & Files::on(&kept).are_on(came.disk()))
