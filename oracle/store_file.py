@@ -32,6 +32,14 @@ class Note:
         self.body = f'note {time} '.encode().ljust(size, b'x')
         self.id = message_id(GROUP, time, self.body)
 
+    def batches(self, number):
+        """As the message of this number."""
+        return self.said(), steps(struct.pack('>I', number))
+
+    def old_batches(self):
+        """In format 1."""
+        return self.said(), steps(self.id)
+
     def said(self):
         return struct.pack('>B32sQH', 6, GROUP, self.time, len(self.body)) + self.body
 
@@ -43,7 +51,7 @@ class Note:
 
 
 def steps(name):
-    """The batch that settles a note, whose name is its arrival number in four bytes, or in format 1 its id."""
+    """The batch that settles a message at once. Its name is its arrival number in four bytes, and in format 1 its id."""
     return b'\x08' + name + b'\x09' + name
 
 
@@ -67,15 +75,15 @@ def file_bytes(notes, head=HEADER):
     """A store with these notes, of format 2."""
     payloads = list(first_batches())
     for number, note in enumerate(notes):
-        payloads += [note.said(), steps(struct.pack('>I', number))]
+        payloads += note.batches(number)
     return framed(head, payloads)
 
 
 def old_file_bytes(notes):
-    """The same of format 1, where a note has its id for a name."""
+    """The same of format 1."""
     payloads = list(first_batches())
     for note in notes:
-        payloads += [note.said(), steps(note.id)]
+        payloads += note.old_batches()
     return framed(OLD_HEADER, payloads)
 
 
