@@ -120,3 +120,52 @@ def whole_entries(content):
 def acknowledged(content):
     """The ids that a peer said to have, in digits."""
     return {rest[4:].hex() for tag, rest in whole_entries(content) if tag == 13}
+
+
+# ---- the entries of a file
+
+def number(bytes_):
+    return int.from_bytes(bytes_, 'big')
+
+
+def message_of(rest):
+    return rest[:32], number(rest[32:40]), rest[42:]
+
+
+def out_of(rest, named):
+    kind, told = rest[12], rest[13:] if rest[12] == 3 else rest[15:]
+    if kind == 1:
+        ids = [told[at:at + 32] for at in range(0, len(told), 32)]
+    else:
+        ids = [named(told[at:at + 4]) for at in range(0, len(told), 4)]
+    return 'out', number(rest[:4]), number(rest[4:12]), ('acks', 'requests', 'offers', 'send')[kind], ids
+
+
+def group_of(rest):
+    end = 1 + rest[0]
+    return 'group', rest[1:end], number(rest[end:end + 4]), rest[end + 6:]
+
+
+def session_of(rest):
+    mode = ('interactive', 'batch')[rest[5]]
+    return 'session', number(rest[:4]), rest[4], mode, number(rest[6:10]), rest[11:] if rest[10] else None
+
+
+def entry_of(tag, rest, named):
+    """The entry with this tag and these bytes behind it, where a name means this message."""
+    simple = {8: 'judged', 9: 'deliver', 10: 'invalid'}
+    heard = {11: 'again', 12: 'offered', 13: 'seen', 14: 'asked'}
+    if tag in simple:
+        return simple[tag], named(rest)
+    if tag in heard:
+        return heard[tag], number(rest[:4]), rest[4:] if tag == 12 else named(rest[4:])
+    return {
+        1: lambda: ('contact', rest[0]),
+        2: lambda: group_of(rest),
+        3: lambda: ('level', rest[0], rest[1:33], rest[33]),
+        4: lambda: session_of(rest),
+        5: lambda: ('take', number(rest[:4]), number(rest[4:])),
+        6: lambda: ('author', message_of(rest)),
+        7: lambda: ('arrive', number(rest[:4]), message_of(rest[4:])),
+        15: lambda: out_of(rest, named),
+    }[tag]()

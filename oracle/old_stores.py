@@ -8,10 +8,10 @@ What a node does is played by node_model.py and sharing.py, what is shown of its
 journal.py. Nothing here is shared with the program.
 """
 from digests import group_id, message_id
-from journal import SHORT, WHOLE, entries, respelled
+from journal import SHORT, WHOLE, entries, entry_of, respelled
 from node_model import ACK, INTERACTIVE, BATCH, OFFER, REQUEST, SHARED, VISIBLE, message, record
 from sharing import NOTE, SHARING, THREAD, Person, rust
-from world_model import Facts, entry_of, shown
+from world_model import Facts, shown
 
 NOTES, THREADS, SHARINGS = (group_id(*definition) for definition in (NOTE, THREAD, SHARING))
 X = message_id(NOTES, 0, b'x')

@@ -8,7 +8,8 @@ import hashlib
 import sys
 
 from digests import group_id, message_id
-from store_file import CLOSED, HEADER, OPEN
+from journal import SHORT, WHOLE, entries, entry_of, frames, number, respelled
+from store_file import CLOSED, HEADER, NEXT_HEADER, OPEN, framed
 
 MAX64 = 2**64 - 1
 
@@ -69,6 +70,9 @@ class Journal:
     # ---- look-ups
     def find(self, id_):
         return next((h for h in self.held if h.id == id_), None)
+
+    def named(self, name):
+        return self.held[number(name)].id
 
     def name(self, id_):
         """How an entry names a message that is held."""
@@ -331,9 +335,30 @@ def read_one(bytes_):
 # ---- a store
 
 class Store:
+    # the file of format 1 that the journal came from, and whether it is written anew in the other one
+    old, moved = None, True
+
     def __init__(self):
         self.journal = Journal()
         self.file = HEADER + CLOSED
+
+    def read_old(self, content):
+        """The store of a file of format 1."""
+        payloads = list(respelled((payload for _, payload in frames(content)), WHOLE, SHORT))
+        self.old, self.moved, self.file = content, False, framed(NEXT_HEADER, payloads)
+        for payload in payloads:
+            for tag, rest in entries(payload, SHORT):
+                self.journal.apply(entry_of(tag, rest, self.journal.named))
+
+    def migrate(self):
+        """Whether the journal is in format 2 then: behind the last generation there is none."""
+        self.moved = self.moved or number(self.old[6:14]) < 2 ** 64 - 1
+        return self.moved
+
+    def files(self):
+        if self.old is None:
+            return self.file, b''
+        return self.old, self.file if self.moved else b''
 
     def write(self, batch):
         payload = b''.join(entry_bytes(e, self.journal.name) for e in batch)
@@ -512,6 +537,8 @@ class Run:
         nonces, failed = self.dial()
         if nonces is None:
             return 7, 'link %d: failed\n' % failed
+        if not self.store.migrate():
+            return 10, 'full\n'
         self.store.settle()
         self.attach(nonces)
         still = made = 0
@@ -552,6 +579,10 @@ class Cases:
         elif kind == 'states':
             for h in self.store.journal.held:
                 print('message %s %s %s' % (h.id.hex(), h.group.hex(), self.store.journal.state(h)), file=self.out)
+        elif kind == 'old':
+            self.store.read_old(bytes.fromhex(words[1]))
+        elif kind == 'other':
+            print('other %s' % short(self.store.files()[1]), file=self.out)
         elif kind == 'input':
             self.input = bytes.fromhex(words[1])
         elif kind == 'got':
@@ -573,6 +604,7 @@ class Cases:
 
     def do(self, words):
         j = self.store.journal
+        self.store.migrate()
         self.store.settle()
         if words[0] == 'contact':
             self.store.commit([('contact', j.contacts)])
@@ -594,9 +626,8 @@ class Cases:
         for i, sent in enumerate(self.host.sent):
             if sent:
                 print('sent %d %s' % (i, short(sent)), file=self.out)
-        print('file %s' % short(self.store.file), file=self.out)
+        print('file %s' % short(self.store.files()[0]), file=self.out)
         self.host = Host()
-
 
     def stops(self, words):
         """No image is apart; and was something acknowledged before the last call of the disk?"""

@@ -12,7 +12,7 @@ import re
 import sys
 
 from digests import group_id, message_id
-from journal import SHORT, entries, frames
+from journal import SHORT, entries, entry_of, frames, number
 from run_model import Host, Journal, Link, Run, Store, entry_bytes, judge, record_bytes
 from scripts import generated, has_form, is_number
 from store_file import CLOSED, HEADER, OPEN
@@ -63,55 +63,6 @@ class Disk:
         return left
 
 
-# ---- the entries of a file
-
-def number(bytes_):
-    return int.from_bytes(bytes_, 'big')
-
-
-def message_of(rest):
-    return rest[:32], number(rest[32:40]), rest[42:]
-
-
-def out_of(rest, named):
-    kind, told = rest[12], rest[13:] if rest[12] == 3 else rest[15:]
-    if kind == 1:
-        ids = [told[at:at + 32] for at in range(0, len(told), 32)]
-    else:
-        ids = [named(told[at:at + 4]) for at in range(0, len(told), 4)]
-    return 'out', number(rest[:4]), number(rest[4:12]), ('acks', 'requests', 'offers', 'send')[kind], ids
-
-
-def group_of(rest):
-    end = 1 + rest[0]
-    return 'group', rest[1:end], number(rest[end:end + 4]), rest[end + 6:]
-
-
-def session_of(rest):
-    mode = ('interactive', 'batch')[rest[5]]
-    return 'session', number(rest[:4]), rest[4], mode, number(rest[6:10]), rest[11:] if rest[10] else None
-
-
-def entry_of(tag, rest, named):
-    """The entry with this tag and these bytes behind it, where a name means this message."""
-    simple = {8: 'judged', 9: 'deliver', 10: 'invalid'}
-    heard = {11: 'again', 12: 'offered', 13: 'seen', 14: 'asked'}
-    if tag in simple:
-        return simple[tag], named(rest)
-    if tag in heard:
-        return heard[tag], number(rest[:4]), rest[4:] if tag == 12 else named(rest[4:])
-    return {
-        1: lambda: ('contact', rest[0]),
-        2: lambda: group_of(rest),
-        3: lambda: ('level', rest[0], rest[1:33], rest[33]),
-        4: lambda: session_of(rest),
-        5: lambda: ('take', number(rest[:4]), number(rest[4:])),
-        6: lambda: ('author', message_of(rest)),
-        7: lambda: ('arrive', number(rest[:4]), message_of(rest[4:])),
-        15: lambda: out_of(rest, named),
-    }[tag]()
-
-
 # ---- a store on a disk
 
 class Ids(dict):
@@ -135,9 +86,6 @@ class Facts(Journal):
 
     def find(self, id_):
         return self.by_id.get(id_)
-
-    def named(self, name):
-        return self.held[number(name)].id
 
     def fate(self, held):
         if held.id in self.delivered:
