@@ -318,8 +318,8 @@ def old_file(person, generation=1):
     return 'old ' + framed(header(1, generation), respelled(person.batches, SHORT, WHOLE)).hex()
 
 
-def waiting():
-    """A store with the note `x`, which was not judged when its group became visible to a contact."""
+def visible():
+    """A store with a note, whose group is visible to a contact."""
     person = bare(NOTE)
     person.share(0, NOTES, 1)
     person.post(NOTES, 0, b'x')
@@ -342,7 +342,9 @@ def old_stores():
     say('end 0 1', 'sync 3 1 0 batch 1000 tcp:x', 'other', 'states')
 
     case('a store of format 1, stopped')
-    say(old_file(waiting()), 'got 0 ' + theirs.hex(), 'idle 0 9', 'clock 0', 'stops sync 3 2 0 batch 1000 std')
+    later = message(NOTES, 21, b'later')
+    say(old_file(visible()), 'got 0 ' + theirs.hex(), 'idle 0 1', 'got 0 ' + later.hex(), 'idle 0 9', 'clock 0')
+    say('stops sync 5 2 0 batch 1000 std')
 
 
 def main():
