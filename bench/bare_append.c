@@ -1,16 +1,25 @@
-/* The writes and syncs of a store that gets some batches, and nothing else: bare_append FILE0 FILE1 <frames
+/* The writes and syncs of a store that gets some batches, and nothing else:
+ *
+ *     bare_append FILE0 FILE1 <frames
+ *     bare_append FILE0 FILE1 HEADER <frames
  *
  * Each file that is there is synced. Then each frame of the input (its length in four bytes, its payload, a closed gate)
  * is added at the end of FILE0, whose last byte is the closed gate: written behind it and synced, then the gate opened
- * and synced. */
+ * and synced.
+ *
+ * With a header, in hexadecimal digits and without its gate, the journal is written anew into FILE1, which is not there: a
+ * closed gate, the header behind it, the frames, and then its gate is opened. The last frame is added behind that. */
 #include <fcntl.h>
 #include <stdint.h>
 #include <stdio.h>
 #include <stdlib.h>
+#include <string.h>
 #include <sys/stat.h>
 #include <unistd.h>
 
-enum { MOST = 1 << 28 };
+enum { MOST = 1 << 28, HEADER = 13 };
+
+static const unsigned char open_gate = 1, closed_gate = 0;
 
 static void check(int holds, const char *what)
 {
@@ -51,20 +60,37 @@ static size_t frame_size(const unsigned char *at)
     return 5 + ((size_t)at[0] << 24 | (size_t)at[1] << 16 | (size_t)at[2] << 8 | at[3]);
 }
 
+/* Makes a file whose header has these digits behind its closed gate, and a closed gate behind it. */
+static int prepare(const char *path, const char *digits)
+{
+    unsigned char bytes[HEADER + 1] = {0};
+    int file = open(path, O_RDWR | O_CREAT | O_EXCL | O_CLOEXEC, 0600);
+    check(file >= 0 && strlen(digits) == 2 * HEADER, path);
+    write_at(file, 0, &closed_gate, 1);
+    for (size_t at = 0; at < HEADER; at++)
+        check(sscanf(digits + 2 * at, "%2hhx", bytes + at) == 1, digits);
+    write_at(file, 1, bytes, HEADER + 1);
+    return file;
+}
+
 int main(int count, char **words)
 {
     static unsigned char frames[MOST];
-    const unsigned char open_gate = 1;
     struct stat told;
-    check(count == 3, "two files");
+    check(count == 3 || count == 4, "two files, and a header perhaps");
+    int moves = count == 4;
     int file = open_and_sync(words[1]);
     open_and_sync(words[2]);
+    if (moves)
+        file = prepare(words[2], words[3]);
     check(file >= 0 && fstat(file, &told) == 0, words[1]);
     off_t gate = told.st_size - 1;
     size_t have = read_input(frames);
     for (size_t at = 0; at + 5 < have;) {
         size_t size = frame_size(frames + at);
         check(at + size <= have, "frames");
+        if (moves && at + size == have)
+            write_at(file, 0, &open_gate, 1);
         write_at(file, gate + 1, frames + at, size);
         write_at(file, gate, &open_gate, 1);
         gate += (off_t)size;

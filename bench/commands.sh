@@ -73,7 +73,7 @@ def post_run(count, before=()):
 
 def bare_run(count, before=()):
     put(STORE, file_bytes(NOTES[:count]))
-    frames = b''.join(frame(payload) for payload in NOTES[count].batches())
+    frames = b''.join(frame(payload) for payload in NOTES[count].batches(count))
     used = run((*before, os.path.join(folder, 'bare_append'), STORE, OTHER), frames)
     expect(content_of(STORE) == file_bytes(NOTES[:count + 1]), 'the file after bare_append')
     return used

@@ -58,7 +58,7 @@ def payloads(count, name_of):
         body = bytes([NAMES]) + b"".join(name_of(n * NAMES + k) for k in range(NAMES))
         take = struct.pack(">BIQ", 5, 0, n)
         yield take + struct.pack(">BI32sQH", 7, 0, THREAD, n, len(body)) + body
-        yield b"\x08" + message_id(THREAD, n, body)
+        yield struct.pack(">BI", 8, n)
 
 
 def write_store(folder, count, name_of):

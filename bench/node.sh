@@ -14,7 +14,7 @@ from multiprocessing import get_context
 
 from digests import group_id, message_id
 from measure import least, run
-from store_file import CLOSED, HEADER, OPEN, frame
+from store_file import CLOSED, HEADER, OPEN, frame, steps
 
 RUNS, PIECE, MOST_OUTS, FEW, MANY, LENGTH = int(sys.argv[1]), 65_536, 64, 5_000, 20_000, 200
 GROUP = group_id(b"note", 0, b"")
@@ -26,15 +26,20 @@ def record(kind, payload):
     return struct.pack(">BBH", 0, kind, len(payload)) + payload
 
 
+def name(n):
+    """How an entry names the message that arrived as the nth, from 0."""
+    return struct.pack(">I", n)
+
+
 def before(way, ids):
     """The batches before the session's first record."""
     yield b"\1\0"
     yield b"\2\4note" + bytes(6)
     yield b"\3\0" + GROUP + b"\2"
     if way == "send":
-        for n, name in enumerate(ids):
+        for n in range(len(ids)):
             yield b"\6" + GROUP + struct.pack(">QH", n, LENGTH) + BODY
-            yield b"\x08" + name + b"\x09" + name
+            yield steps(name(n))
     yield b"\4" + struct.pack(">IBBIB", 0, 0, 1, 1, 0)
 
 
@@ -46,18 +51,18 @@ def heard(ids):
     """The batches of the messages that are heard, and what is sent then: an ACK behind each piece."""
     size, acked = len(record(1, GROUP + bytes(8) + BODY)), 0
     turn = [-(-(n + 1) * size // PIECE) for n in range(len(ids))] + [None]
-    for n, name in enumerate(ids):
+    for n in range(len(ids)):
         arrive = b"\7" + bytes(4) + GROUP + struct.pack(">QH", n, LENGTH) + BODY
         yield b"\5" + struct.pack(">IQ", 0, n) + arrive, b""
-        yield b"\x08" + name + b"\x09" + name, b""
+        yield steps(name(n)), b""
         if turn[n] != turn[n + 1]:
-            names, acked = ids[acked:n + 1], n + 1
-            yield out(0, struct.pack(">H", len(names)) + b"".join(names)), record(0, b"".join(names))
+            names, told, acked = map(name, range(acked, n + 1)), ids[acked:n + 1], n + 1
+            yield out(0, struct.pack(">H", len(told)) + b"".join(names)), record(0, b"".join(told))
 
 
 def sent(ids):
-    for n, name in enumerate(ids):
-        yield out(3, name), record(1, GROUP + struct.pack(">Q", n) + BODY)
+    for n in range(len(ids)):
+        yield out(3, name(n)), record(1, GROUP + struct.pack(">Q", n) + BODY)
 
 
 def digest(data):

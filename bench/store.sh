@@ -11,7 +11,7 @@ import os, struct, sys, tempfile
 
 from digests import block_hash, group_id, id_over
 from measure import least, run, run_silent
-from store_file import CLOSED, HEADER, OPEN, frame
+from store_file import CLOSED, HEADER, OPEN, frame, steps
 
 runs, some = int(sys.argv[1]), int(sys.argv[2])
 GROUP = group_id(b"note", 0, b"")
@@ -29,7 +29,7 @@ def frames(count, length, contacts):
         time = struct.pack(">Q", n)
         name = id_over(GROUP, n, block)
         yield b"\6" + GROUP + time + struct.pack(">H", length) + body, name
-        yield b"\x08" + name + b"\x09" + name, None
+        yield steps(struct.pack(">I", n)), None
 
 
 def write_journal(path, count, length, contacts):

@@ -25,7 +25,7 @@ export MODE=${MODE:-batch} LATENCY=${LATENCY:-600000} STILL=${STILL:-100} PYTHON
 python3 - "$bsp" "$folder" "${RUNS:-1}" "${PART:-1}" <<'PY'
 import os, re, shutil, subprocess, sys, time
 
-from journal import ACKS, OFFERS, SEND, entries, frames
+from journal import ACKS, OFFERS, SEND, SHORT, entries, frames
 from store_file import Note, file_bytes
 
 bsp, folder, runs, part = sys.argv[1], sys.argv[2], int(sys.argv[3]), float(sys.argv[4])
@@ -130,7 +130,7 @@ def outs(content):
     """How many messages each output of a session names, for each kind."""
     told = {kind: [] for kind in (ACKS, OFFERS, SEND)}
     for _, payload in frames(content):
-        for tag, rest in entries(payload):
+        for tag, rest in entries(payload, SHORT):
             if tag == 15 and rest[12] in told:
                 told[rest[12]].append(1 if rest[12] == SEND else rest[13] << 8 | rest[14])
     return told

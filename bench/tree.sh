@@ -25,7 +25,7 @@ import os, struct, sys, tempfile
 
 from digests import group_id, message_id
 from measure import least, run
-from store_file import CLOSED, HEADER, OPEN, frame
+from store_file import CLOSED, HEADER, OPEN, frame, steps
 
 bsp, runs, chains = sys.argv[1], int(sys.argv[2]), [int(word) for word in sys.argv[3].split()]
 FEW, MANY, LENGTH, FROM, COUNT = 50_000, 200_000, 20_000, 100_000, 20
@@ -103,7 +103,7 @@ class Replies:
             body = bytes([len(above) // 32]) + above + f'reply {n}'.encode()
             self.ids.append(message_id(GROUP, n, body))
             payloads.append(struct.pack('>B32sQH', 6, GROUP, n, len(body)) + body)
-            payloads.append(b'\x08' + self.ids[n] + b'\x09' + self.ids[n])
+            payloads.append(steps(struct.pack('>I', n)))
         self.file = HEADER + b''.join(OPEN + frame(payload)[:-1] for payload in payloads) + CLOSED
 
     def text(self, place, count):

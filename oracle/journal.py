@@ -1,10 +1,21 @@
-"""The journal in a store's file, as docs/FORMATS.md has it: its frames, and its entries. It shares nothing with the program."""
+"""The journal in a store's file, as docs/FORMATS.md has it: its frames, and its entries in either format. It shares nothing with
+the program.
+"""
 import struct
 
+from digests import message_id
+
 HEADER = 14
-# how many bytes an entry has behind its tag, where that is always the same
-LENGTHS = {1: 1, 3: 34, 5: 12, 8: 32, 9: 32, 10: 32, 11: 36, 12: 36, 13: 36, 14: 36}
+WHOLE, SHORT = 1, 2
+ID, NUMBER = 32, 4
+# how many bytes name a message that is held
+NAMED = {WHOLE: ID, SHORT: NUMBER}
 ACKS, REQUESTS, OFFERS, SEND = range(4)
+
+
+def format_of(content):
+    """The format of a file."""
+    return content[5]
 
 
 def frames(content):
@@ -24,11 +35,15 @@ def journal_of(content):
     return content[:end]
 
 
-def length_of(payload, at):
-    """How many bytes the entry at a place of a payload has behind its tag."""
-    tag = payload[at]
-    if tag in LENGTHS:
-        return LENGTHS[tag]
+def length_of(payload, at, spelled):
+    """How many bytes the entry at a place of a payload has behind its tag, in this format."""
+    tag, named = payload[at], NAMED[spelled]
+    if tag in (1, 3, 5, 12):
+        return {1: 1, 3: 34, 5: 12, 12: 4 + ID}[tag]
+    if tag in (8, 9, 10):
+        return named
+    if tag in (11, 13, 14):
+        return 4 + named
     at += 1
     if tag == 2:
         name = payload[at]
@@ -41,19 +56,116 @@ def length_of(payload, at):
         body, = struct.unpack_from('>H', payload, at + front)
         return front + 2 + body
     if tag == 15:
-        return 13 + 32 if payload[at + 12] == SEND else 15 + 32 * struct.unpack_from('>H', payload, at + 13)[0]
+        kind = payload[at + 12]
+        if kind == SEND:
+            return 13 + named
+        return 15 + (ID if kind == REQUESTS else named) * struct.unpack_from('>H', payload, at + 13)[0]
     raise ValueError(f'tag {tag}')
 
 
-def entries(payload):
-    """The entries of a payload: the tag of each, and what is behind it."""
+def entries(payload, spelled):
+    """The entries of a payload in this format: the tag of each, and what is behind it."""
     at = 0
     while at < len(payload):
-        size = length_of(payload, at)
+        size = length_of(payload, at, spelled)
         yield payload[at], payload[at + 1:at + 1 + size]
         at += 1 + size
 
 
+def id_in(tag, rest):
+    """The id of the message that an entry brings, or None."""
+    if tag not in (6, 7):
+        return None
+    group, time, _ = struct.unpack_from('>32sQH', rest, 4 * (tag == 7))
+    return message_id(group, time, rest[4 * (tag == 7) + 42:])
+
+
+def named_places(tag, rest, spelled):
+    """The places behind the tag at which an entry names a message that is held."""
+    if tag in (8, 9, 10):
+        return range(1)
+    if tag in (11, 13, 14):
+        return range(4, 5)
+    if tag == 15 and rest[12] == SEND:
+        return range(13, 14)
+    if tag == 15 and rest[12] != REQUESTS:
+        return range(15, len(rest), NAMED[spelled])
+    return range(0)
+
+
+def respelled(payloads, before, after):
+    """These payloads of a whole journal in one format, in another: a held message has its id there, or its arrival number."""
+    held, places_of = [], {}
+    for payload in payloads:
+        said = b''
+        for tag, rest in entries(payload, before):
+            places = named_places(tag, rest, before)
+            front = rest[:places[0]] if places else rest
+            names = [rest[place:place + NAMED[before]] for place in places]
+            numbers = [places_of[name] if before == WHOLE else int.from_bytes(name, 'big') for name in names]
+            told = [held[number] if after == WHOLE else struct.pack('>I', number) for number in numbers]
+            said += bytes([tag]) + front + b''.join(told)
+        for id in [id for tag, rest in entries(payload, before) if (id := id_in(tag, rest))]:
+            places_of[id] = len(held)
+            held.append(id)
+        yield said
+
+
+def whole_entries(content):
+    """The entries of a file, a held message by its id whatever the format."""
+    payloads = respelled((payload for _, payload in frames(content)), format_of(content), WHOLE)
+    return [entry for payload in payloads for entry in entries(payload, WHOLE)]
+
+
 def acknowledged(content):
     """The ids that a peer said to have, in digits."""
-    return {rest[4:].hex() for _, payload in frames(content) for tag, rest in entries(payload) if tag == 13}
+    return {rest[4:].hex() for tag, rest in whole_entries(content) if tag == 13}
+
+
+# ---- the entries of a file
+
+def number(bytes_):
+    return int.from_bytes(bytes_, 'big')
+
+
+def message_of(rest):
+    return rest[:32], number(rest[32:40]), rest[42:]
+
+
+def out_of(rest, named):
+    kind, told = rest[12], rest[13:] if rest[12] == 3 else rest[15:]
+    if kind == 1:
+        ids = [told[at:at + 32] for at in range(0, len(told), 32)]
+    else:
+        ids = [named(told[at:at + 4]) for at in range(0, len(told), 4)]
+    return 'out', number(rest[:4]), number(rest[4:12]), ('acks', 'requests', 'offers', 'send')[kind], ids
+
+
+def group_of(rest):
+    end = 1 + rest[0]
+    return 'group', rest[1:end], number(rest[end:end + 4]), rest[end + 6:]
+
+
+def session_of(rest):
+    mode = ('interactive', 'batch')[rest[5]]
+    return 'session', number(rest[:4]), rest[4], mode, number(rest[6:10]), rest[11:] if rest[10] else None
+
+
+def entry_of(tag, rest, named):
+    """The entry with this tag and these bytes behind it, where a name means this message."""
+    simple = {8: 'judged', 9: 'deliver', 10: 'invalid'}
+    heard = {11: 'again', 12: 'offered', 13: 'seen', 14: 'asked'}
+    if tag in simple:
+        return simple[tag], named(rest)
+    if tag in heard:
+        return heard[tag], number(rest[:4]), rest[4:] if tag == 12 else named(rest[4:])
+    return {
+        1: lambda: ('contact', rest[0]),
+        2: lambda: group_of(rest),
+        3: lambda: ('level', rest[0], rest[1:33], rest[33]),
+        4: lambda: session_of(rest),
+        5: lambda: ('take', number(rest[:4]), number(rest[4:])),
+        6: lambda: ('author', message_of(rest)),
+        7: lambda: ('arrive', number(rest[:4]), message_of(rest[4:])),
+        15: lambda: out_of(rest, named),
+    }[tag]()

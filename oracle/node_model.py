@@ -10,7 +10,7 @@ from store_file import CLOSED, HEADER, OPEN
 INVISIBLE, VISIBLE, SHARED = range(3)
 INTERACTIVE, BATCH = range(2)
 ACK, MESSAGE, OFFER, REQUEST, VERSIONS, PRIORITY = range(6)
-DELIVER, INVALID = 9, 10
+JUDGED, DELIVER, INVALID, AGAIN, OFFERED, SEEN, ASKED = range(8, 15)
 IDLE, END = 'idle', 'end'
 LATEST = 2 ** 64 - 1
 PIECE, MOST_OUTS, MOST_IDS, MOST_WANTED, MOST_STEPS = 65_536, 64, 1_536, 1_000, 256
@@ -46,11 +46,13 @@ def judge_thread(_, body):
 
 
 class Held:
-    """A message that is held: what its client said once it was judged, and the step that ended it."""
+    """A message that is held: what its client said once it was judged, and the step that ended it. The journal names it by its
+    arrival number.
+    """
 
     def __init__(self, group, time, body, is_own):
         self.group, self.time, self.body, self.is_own = group, time, body, is_own
-        self.id = message_id(group, time, body)
+        self.id, self.name = message_id(group, time, body), None
         self.judged, self.verdict, self.end = False, None, None
 
 
@@ -107,6 +109,7 @@ class Node:
         self.settle()
 
     def hold(self, held):
+        held.name = struct.pack('>I', len(self.held))
         self.held[held.id] = held
         for peer in self.peers:
             peer.wanted.pop(held.id, None)
@@ -123,21 +126,21 @@ class Node:
         return DELIVER if all(parent and parent.end == DELIVER for parent in parents) else None
 
     def make_step(self):
-        """Makes the next step; its entry, or None."""
+        """Makes the next step; its tag and the message, or None."""
         for held in self.held.values():
             if not held.judged:
                 held.judged, held.verdict = True, self.groups[held.group](held.time, held.body)
-                return b'\x08' + held.id
+                return JUDGED, held
             if held.end is None:
                 held.end = self.end_of(held)
                 if held.end:
-                    return bytes([held.end]) + held.id
+                    return held.end, held
         return None
 
     def settle(self):
         steps = []
         while (step := self.make_step()) is not None:
-            steps.append(step)
+            steps.append(bytes([step[0]]) + step[1].name)
         for place in range(0, len(steps), MOST_STEPS):
             self.batches.append(b''.join(steps[place:place + MOST_STEPS]))
 
@@ -163,7 +166,7 @@ class Node:
         peer.seen.add(id)
         peer.owed.add(id)
         if id in self.held:
-            return struct.pack('>BI', 11, link.number) + id
+            return struct.pack('>BI', AGAIN, link.number) + self.held[id].name
         self.hold(Held(group, time, body, False))
         return struct.pack('>BI32sQH', 7, link.number, group, time, len(body)) + body
 
@@ -173,17 +176,17 @@ class Node:
             if kind != OFFER or id in peer.wanted or len(peer.wanted) >= MOST_WANTED:
                 return None
             peer.wanted[id] = True
-            return 12
+            return OFFERED
         if not self.sees(peer, self.held[id].group) or (kind == ACK and id in peer.seen):
             return None
         if kind == REQUEST:
             peer.asked.add(id)
             peer.tries[id] = peer.expiry[id] = 0
-            return 14
+            return ASKED
         peer.seen.add(id)
         if kind == OFFER:
             peer.owed.add(id)
-        return 11 if kind == OFFER else 13
+        return AGAIN if kind == OFFER else SEEN
 
     def take(self, link, kind, payload):
         peer = self.peers[link.contact]
@@ -194,7 +197,8 @@ class Node:
         elif kind in (ACK, OFFER, REQUEST):
             for id in dict.fromkeys(payload[place:place + 32] for place in range(0, len(payload), 32)):
                 tag = self.take_id(kind, peer, id)
-                batch += struct.pack('>BI', tag, link.number) + id if tag else b''
+                name = id if tag == OFFERED else tag and self.held[id].name
+                batch += struct.pack('>BI', tag, link.number) + name if tag else b''
         elif kind == PRIORITY:
             link.nonce = link.nonce or payload
         self.batches.append(batch)
@@ -250,7 +254,8 @@ class Node:
         peer = self.peers[link.contact]
         tag = {ACK: 0, REQUEST: 1, OFFER: 2, MESSAGE: 3}[kind]
         count = b'' if kind == MESSAGE else struct.pack('>H', len(ids))
-        self.batches.append(struct.pack('>BIQB', 15, link.number, now, tag) + count + b''.join(ids))
+        names = ids if kind == REQUEST else [self.held[id].name for id in ids]
+        self.batches.append(struct.pack('>BIQB', 15, link.number, now, tag) + count + b''.join(names))
         if kind == MESSAGE:
             held = self.held[ids[0]]
             link.sent += message(held.group, held.time, held.body)

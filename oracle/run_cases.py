@@ -4,6 +4,10 @@ The named ones come first; then some that are drawn, the same each time."""
 import random
 
 from digests import group_id, message_id
+from journal import SHORT, WHOLE, respelled
+from old_stores import bare, heard
+from sharing import NOTE
+from store_file import framed, header
 from run_model import record_bytes
 
 NOTES, THREADS, FEEDS, CYCLE = (group_id(name, 0, b'd') for name in (b'note', b'thread', b'feed', b'cycle'))
@@ -309,11 +313,46 @@ class Drawn:
             self.run()
 
 
+def old_file(person, generation=1):
+    """The line for a store of format 1."""
+    return 'old ' + framed(header(1, generation), respelled(person.batches, SHORT, WHOLE)).hex()
+
+
+def visible():
+    """A store with a note, whose group is visible to a contact."""
+    person = bare(NOTE)
+    person.share(0, NOTES, 1)
+    person.post(NOTES, 0, b'x')
+    return person
+
+
+def old_stores():
+    mine, theirs = message_id(NOTES, 0, b'x'), message(NOTES, 20, b'theirs')
+    case('a store of format 1, heard and sent over')
+    say(old_file(heard()), 'nonce ' + '04' * 16, 'got 0 ' + (ids_record(3, [mine]) + theirs).hex(), 'idle 0 5', 'clock 100000')
+    say('sync 9 2 0 interactive 1000 tcp:x', 'other', 'states')
+    say('end 0 1', 'end 1 1', 'clock 200000', 'sync 3 1 1 batch 1000 std 0 batch 5 listen:y', 'other')
+
+    case('a store of format 1, whose links are not dialled')
+    say(old_file(heard()), 'faildial 1', 'sync 3 1 0 batch 1000 tcp:x 1 batch 1000 tcp:y', 'other')
+    say('sync 3 1 0 interactive 1000 tcp:x', 'other', 'sync 3 1 2 batch 1000 tcp:x', 'other')
+
+    case('a store of format 1 and the last generation')
+    say(old_file(heard(), 2 ** 64 - 1), 'faildial 0', 'sync 3 1 0 batch 1000 tcp:x', 'other')
+    say('end 0 1', 'sync 3 1 0 batch 1000 tcp:x', 'other', 'states')
+
+    case('a store of format 1, stopped')
+    later = message(NOTES, 21, b'later')
+    say(old_file(visible()), 'got 0 ' + theirs.hex(), 'idle 0 1', 'got 0 ' + later.hex(), 'idle 0 9', 'clock 0')
+    say('stops sync 5 2 0 batch 1000 std')
+
+
 def main():
     named()
     crossed()
     stopped()
     endings()
+    old_stores()
     for seed in range(40):
         case('drawn %d' % seed)
         Drawn(seed).play()

@@ -8,7 +8,8 @@ import hashlib
 import sys
 
 from digests import group_id, message_id
-from store_file import CLOSED, HEADER, OPEN
+from journal import SHORT, WHOLE, entries, entry_of, frames, number, respelled
+from store_file import CLOSED, HEADER, NEXT_HEADER, OPEN, framed
 
 MAX64 = 2**64 - 1
 
@@ -60,7 +61,7 @@ class Journal:
         self.levels = {}
         self.sessions = []
         self.takes = {}
-        self.held = []
+        self.held, self.places = [], {}
         self.judged, self.invalid, self.delivered = set(), set(), []
         self.rows = {}
         self.wanted = {}
@@ -69,6 +70,13 @@ class Journal:
     # ---- look-ups
     def find(self, id_):
         return next((h for h in self.held if h.id == id_), None)
+
+    def named(self, name):
+        return self.held[number(name)].id
+
+    def name(self, id_):
+        """How an entry names a message that is held."""
+        return self.places[id_].to_bytes(4, 'big')
 
     def group(self, gid):
         return next((g for g in self.groups if g[3] == gid), None)
@@ -108,6 +116,7 @@ class Journal:
         elif kind in ('author', 'arrive'):
             contact = None if kind == 'author' else self.sessions[rest[0]][1]
             held = Held(*rest[-1], 'self' if contact is None else contact)
+            self.places[held.id] = len(self.held)
             self.held.append(held)
             for wants in self.wanted.values():
                 if held.id in wants:
@@ -236,7 +245,8 @@ def message_bytes(message):
     return group + timestamp.to_bytes(8, 'big') + len(body).to_bytes(2, 'big') + body
 
 
-def entry_bytes(entry):
+def entry_bytes(entry, name):
+    """The bytes of an entry, where a message that is held has this name."""
     kind, rest = entry[0], entry[1:]
     if kind == 'contact':
         return bytes([1, rest[0]])
@@ -257,15 +267,16 @@ def entry_bytes(entry):
     if kind == 'arrive':
         return b'\x07' + rest[0].to_bytes(4, 'big') + message_bytes(rest[1])
     if kind in ('judged', 'deliver', 'invalid'):
-        return bytes([{'judged': 8, 'deliver': 9, 'invalid': 10}[kind]]) + rest[0]
+        return bytes([{'judged': 8, 'deliver': 9, 'invalid': 10}[kind]]) + name(rest[0])
     if kind in ('again', 'offered', 'seen', 'asked'):
         tag = {'again': 11, 'offered': 12, 'seen': 13, 'asked': 14}[kind]
-        return bytes([tag]) + rest[0].to_bytes(4, 'big') + rest[1]
+        return bytes([tag]) + rest[0].to_bytes(4, 'big') + (rest[1] if kind == 'offered' else name(rest[1]))
     session, now, what, ids = rest
     head = b'\x0f' + session.to_bytes(4, 'big') + now.to_bytes(8, 'big')
     if what == 'send':
-        return head + b'\x03' + ids[0]
-    return head + bytes([{'acks': 0, 'requests': 1, 'offers': 2}[what]]) + len(ids).to_bytes(2, 'big') + b''.join(ids)
+        return head + b'\x03' + name(ids[0])
+    names = ids if what == 'requests' else map(name, ids)
+    return head + bytes([{'acks': 0, 'requests': 1, 'offers': 2}[what]]) + len(ids).to_bytes(2, 'big') + b''.join(names)
 
 
 def record_bytes(kind, payload):
@@ -324,12 +335,33 @@ def read_one(bytes_):
 # ---- a store
 
 class Store:
+    # the file of format 1 that the journal came from, and whether it is written anew in the other one
+    old, moved = None, True
+
     def __init__(self):
         self.journal = Journal()
         self.file = HEADER + CLOSED
 
+    def read_old(self, content):
+        """The store of a file of format 1."""
+        payloads = list(respelled((payload for _, payload in frames(content)), WHOLE, SHORT))
+        self.old, self.moved, self.file = content, False, framed(NEXT_HEADER, payloads)
+        for payload in payloads:
+            for tag, rest in entries(payload, SHORT):
+                self.journal.apply(entry_of(tag, rest, self.journal.named))
+
+    def migrate(self):
+        """Whether the journal is in format 2 then: behind the last generation there is none."""
+        self.moved = self.moved or number(self.old[6:14]) < 2 ** 64 - 1
+        return self.moved
+
+    def files(self):
+        if self.old is None:
+            return self.file, b''
+        return self.old, self.file if self.moved else b''
+
     def write(self, batch):
-        payload = b''.join(entry_bytes(e) for e in batch)
+        payload = b''.join(entry_bytes(e, self.journal.name) for e in batch)
         self.file = self.file[:-1] + OPEN + len(payload).to_bytes(4, 'big') + payload + CLOSED
 
     def commit(self, batch):
@@ -505,6 +537,8 @@ class Run:
         nonces, failed = self.dial()
         if nonces is None:
             return 7, 'link %d: failed\n' % failed
+        if not self.store.migrate():
+            return 10, 'full\n'
         self.store.settle()
         self.attach(nonces)
         still = made = 0
@@ -545,6 +579,10 @@ class Cases:
         elif kind == 'states':
             for h in self.store.journal.held:
                 print('message %s %s %s' % (h.id.hex(), h.group.hex(), self.store.journal.state(h)), file=self.out)
+        elif kind == 'old':
+            self.store.read_old(bytes.fromhex(words[1]))
+        elif kind == 'other':
+            print('other %s' % short(self.store.files()[1]), file=self.out)
         elif kind == 'input':
             self.input = bytes.fromhex(words[1])
         elif kind == 'got':
@@ -566,6 +604,7 @@ class Cases:
 
     def do(self, words):
         j = self.store.journal
+        self.store.migrate()
         self.store.settle()
         if words[0] == 'contact':
             self.store.commit([('contact', j.contacts)])
@@ -587,9 +626,8 @@ class Cases:
         for i, sent in enumerate(self.host.sent):
             if sent:
                 print('sent %d %s' % (i, short(sent)), file=self.out)
-        print('file %s' % short(self.store.file), file=self.out)
+        print('file %s' % short(self.store.files()[0]), file=self.out)
         self.host = Host()
-
 
     def stops(self, words):
         """No image is apart; and was something acknowledged before the last call of the disk?"""

@@ -61,7 +61,7 @@ class Person(Node):
     def make_step(self):
         step = super().make_step()
         if step and step[0] == DELIVER:
-            self.order.append(step[1:])
+            self.order.append(step[1].id)
         return step
 
     def take_message(self, link, peer, payload):

@@ -12,7 +12,7 @@ import re
 import sys
 
 from digests import group_id, message_id
-from journal import entries, frames
+from journal import SHORT, entries, entry_of, frames, number
 from run_model import Host, Journal, Link, Run, Store, entry_bytes, judge, record_bytes
 from scripts import generated, has_form, is_number
 from store_file import CLOSED, HEADER, OPEN
@@ -63,52 +63,6 @@ class Disk:
         return left
 
 
-# ---- the entries of a file
-
-def number(bytes_):
-    return int.from_bytes(bytes_, 'big')
-
-
-def message_of(rest):
-    return rest[:32], number(rest[32:40]), rest[42:]
-
-
-def out_of(rest):
-    ids = rest[13:] if rest[12] == 3 else rest[15:]
-    names = ('acks', 'requests', 'offers', 'send')
-    return ('out', number(rest[:4]), number(rest[4:12]), names[rest[12]], [ids[at:at + 32] for at in range(0, len(ids), 32)])
-
-
-def group_of(rest):
-    end = 1 + rest[0]
-    return 'group', rest[1:end], number(rest[end:end + 4]), rest[end + 6:]
-
-
-def session_of(rest):
-    mode = ('interactive', 'batch')[rest[5]]
-    return 'session', number(rest[:4]), rest[4], mode, number(rest[6:10]), rest[11:] if rest[10] else None
-
-
-def entry_of(tag, rest):
-    """The entry with this tag and these bytes behind it."""
-    simple = {8: 'judged', 9: 'deliver', 10: 'invalid'}
-    heard = {11: 'again', 12: 'offered', 13: 'seen', 14: 'asked'}
-    if tag in simple:
-        return simple[tag], rest
-    if tag in heard:
-        return heard[tag], number(rest[:4]), rest[4:]
-    return {
-        1: lambda: ('contact', rest[0]),
-        2: lambda: group_of(rest),
-        3: lambda: ('level', rest[0], rest[1:33], rest[33]),
-        4: lambda: session_of(rest),
-        5: lambda: ('take', number(rest[:4]), number(rest[4:])),
-        6: lambda: ('author', message_of(rest)),
-        7: lambda: ('arrive', number(rest[:4]), message_of(rest[4:])),
-        15: lambda: out_of(rest),
-    }[tag]()
-
-
 # ---- a store on a disk
 
 class Ids(dict):
@@ -150,15 +104,15 @@ class DiskStore(Store):
             disk.call()
             disk.call()
             self.end = at + 6 + len(payload)
-            for tag, rest in entries(payload):
-                entry = entry_of(tag, rest)
-                assert entry_bytes(entry) == bytes([tag]) + rest
+            for tag, rest in entries(payload, SHORT):
+                entry = entry_of(tag, rest, self.journal.named)
+                assert entry_bytes(entry, self.journal.name) == bytes([tag]) + rest
                 self.journal.apply(entry)
         disk.call()
         self.settle()
 
     def write(self, batch):
-        payload = b''.join(entry_bytes(entry) for entry in batch)
+        payload = b''.join(entry_bytes(entry, self.journal.name) for entry in batch)
         framed = len(payload).to_bytes(4, 'big') + payload + CLOSED
         self.disk.write(self.end, framed)
         self.disk.sync()
@@ -195,15 +149,16 @@ class Device(Run):
         fates = [journal.fate(held) for held in journal.held]
         told = [f'{fate} {fates.count(fate)}' for fate in ('delivered', 'invalid', 'pending', 'unknown')]
         lines = [f'device {place} held {len(fates)} ' + ' '.join(told)]
-        return lines + (self.shown() if is_shown else [])
+        return lines + (shown(journal) if is_shown else [])
 
-    def shown(self):
-        journal = self.store.journal
-        groups = [f'group {id_.hex()} {name.hex()} {major} {text.hex()}' for name, major, text, id_ in journal.groups]
-        levels = [f'level {contact} {group[3].hex()} {LEVELS[journal.level(contact, group[3])]}'
-                  for contact in range(journal.contacts) for group in journal.groups if journal.level(contact, group[3])]
-        held = [f'message {held.id.hex()} {held.group.hex()} {journal.fate(held)}' for held in journal.held]
-        return [f'contacts {journal.contacts}', *groups, *levels, *held, f'sessions {len(journal.sessions)}']
+
+def shown(journal):
+    """What `show` tells of a journal."""
+    groups = [f'group {id_.hex()} {name.hex()} {major} {text.hex()}' for name, major, text, id_ in journal.groups]
+    levels = [f'level {contact} {group[3].hex()} {LEVELS[journal.level(contact, group[3])]}'
+              for contact in range(journal.contacts) for group in journal.groups if journal.level(contact, group[3])]
+    held = [f'message {held.id.hex()} {held.group.hex()} {journal.fate(held)}' for held in journal.held]
+    return [f'contacts {journal.contacts}', *groups, *levels, *held, f'sessions {len(journal.sessions)}']
 
 
 class End:
@@ -498,8 +453,8 @@ class Checks:
         """Each message is held once and delivered once, and behind all that it depends on."""
         journal, held, delivered = device.store.journal, set(), set()
         for _, payload in frames(bytes(device.store.disk.content)):
-            for tag, rest in entries(payload):
-                kind, *rest = entry_of(tag, rest)
+            for tag, rest in entries(payload, SHORT):
+                kind, *rest = entry_of(tag, rest, journal.named)
                 if kind in ('author', 'arrive'):
                     id_ = message_id(*rest[-1])
                     assert id_ not in held

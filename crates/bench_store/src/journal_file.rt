@@ -1,4 +1,4 @@
-//! The file of a settled journal, as the commits of a store write it.
+//! The file of a settled journal in either format, as the commits of a store write it.
 ghost use Rattle.std.specs.Prelude.{◌≡◌, ◌∷◌, [], IfOk};
 ghost use Rattle.std.specs.List.{AllByRecursion};
 ghost use Rattle.entry_codec.specs.Spelling.{HasLatency};
@@ -7,11 +7,9 @@ ghost use Rattle.sync_rules.specs.declared.entries.Entry.TheVariants as kind;
 use crate::messages::{Entries, Plan};
 use crate::stop::Stop;
 use entry_codec::{Format, NoNames, batch_len, write_batch};
-use outside::MemDisk;
 use std::alloc::{AllocError, Global};
 use sync_ids::MessageId;
 use sync_rules::{Batch, Entry, id_of};
-use sync_store::Store;
 
 /// The bytes of a message's two frames beside its body.
 const BESIDE: usize = 121;
@@ -26,18 +24,16 @@ fn make_room(alloc: Global, plan: &Plan) -> Result<Vec<u8>, AllocError> {
     Vec::with_capacity(alloc, all.saturating_add(OTHERS))
 }
 
-/// Appends the header of a store's first file, up to the gate of the first frame.
-fn add_header(alloc: Global, file: &mut Vec<u8>) -> Result<(), Stop> {
-    let mut disk = MemDisk::new(alloc, Vec::new(alloc), Vec::new(alloc))?;
-    if Store::init(&mut disk).is_err() {
-        return Err(Stop::NotBegun);
-    }
-    file.extend_from_slice(disk.file(0))?;
-    file.pop();
-    Ok(())
+/// Appends the header of a store's first file in this format.
+fn add_header(file: &mut Vec<u8>, format: Format) -> Result<(), AllocError> {
+    let number = match format {
+        Format::Whole => 1,
+        Format::Short => 2,
+    };
+    file.extend_from_slice(&[1, b'B', b'S', b'P', b'J', number, 0, 0, 0, 0, 0, 0, 0, 1])
 }
 
-/// Appends a frame behind its open gate.
+/// Appends a frame behind its open gate. No entry of its batch names a held message by its number.
 fn add_frame(file: &mut Vec<u8>, batch: &Batch) -> Result<(), AllocError>
     requires { AllByRecursion HasLatency batch.now }
 {
@@ -68,14 +64,41 @@ fn add_entry(alloc: Global, file: &mut Vec<u8>, entry: Entry) -> Result<(), Allo
     add_frame(file, &batch)
 }
 
-/// Appends the frame of the steps of a message.
-fn add_settling(alloc: Global, file: &mut Vec<u8>, id: MessageId) -> Result<(), AllocError> {
+/// Appends the frame of the steps of a message that is named by its number.
+fn add_short(file: &mut Vec<u8>, number: u32) -> Result<(), AllocError> {
+    let [a, b, c, d] = number.to_be_bytes();
+    file.extend_from_slice(&[1, 0, 0, 0, 10, 8, a, b, c, d, 9, a, b, c, d])
+}
+
+/// Appends the frame of the steps of a message that is named by its id.
+fn add_whole(alloc: Global, file: &mut Vec<u8>, id: MessageId) -> Result<(), AllocError> {
     let batch = settling_of(alloc, id)?;
     add_frame(file, &batch)
 }
 
-/// Appends the frame of an entry and, where it brings a message, that of its steps.
-fn add_settled(alloc: Global, file: &mut Vec<u8>, entry: Entry) -> Result<(), AllocError>
+/// Appends the frame of the steps of the message of this id and number.
+fn add_settling(
+    alloc: Global,
+    file: &mut Vec<u8>,
+    format: Format,
+    id: MessageId,
+    number: u32,
+) -> Result<(), AllocError> {
+    match format {
+        Format::Whole => add_whole(alloc, file, id),
+        Format::Short => add_short(file, number),
+    }
+}
+
+/// Appends the frame of an entry and, where it brings a message, that of its steps. Answers how
+/// many messages are held then, of so many before.
+fn add_settled(
+    alloc: Global,
+    file: &mut Vec<u8>,
+    format: Format,
+    entry: Entry,
+    held: u32,
+) -> Result<u32, AllocError>
     requires { HasLatency entry }
 {
     let posted = match &entry {
@@ -83,20 +106,22 @@ fn add_settled(alloc: Global, file: &mut Vec<u8>, entry: Entry) -> Result<(), Al
         _ => None,
     };
     add_entry(alloc, file, entry)?;
-    match posted {
-        Some(id) => add_settling(alloc, file, id),
-        None => Ok(()),
-    }
+    let Some(id) = posted else {
+        return Ok(held);
+    };
+    add_settling(alloc, file, format, id, held)?;
+    Ok(held.saturating_add(1))
 }
 
-/// The file of the settled journal of a plan, in format 1.
-pub(crate) fn make_file(alloc: Global, plan: Plan) -> Result<Vec<u8>, Stop> {
+/// The file of the settled journal of a plan in this format.
+pub(crate) fn make_file(alloc: Global, plan: Plan, format: Format) -> Result<Vec<u8>, Stop> {
     let entries = Entries::new(alloc, plan)?;
     let mut file = make_room(alloc, &plan)?;
-    add_header(alloc, &mut file)?;
+    add_header(&mut file, format)?;
+    let mut held = 0u32;
     for k in 0..entries.len() {
         let entry = entries.get(k)?;
-        add_settled(alloc, &mut file, entry)?;
+        held = add_settled(alloc, &mut file, format, entry, held)?;
     }
     file.push(0)?;
     Ok(file)

@@ -1,7 +1,7 @@
-//! Commits messages to a store on a disk in memory, loads a store that has them, or computes their
-//! ids alone; loads the store whose file lies in the folder that it runs in, or takes an OFFER of
-//! ids over it: for the speed and memory of a store. The error output has the microseconds of
-//! processor time that this alone took.
+//! Commits messages to a store on a disk in memory, loads a store that has them, writes one of format
+//! 1 anew in format 2, or computes their ids alone; loads the store whose file lies in the folder
+//! that it runs in, or takes an OFFER of ids over it: for the speed and memory of a store. The error
+//! output has the microseconds of processor time that this alone took.
 #![tactic(auto)]
 
 mod journal_file;
@@ -15,6 +15,7 @@ use crate::offers::{ID_LEN, take_often, whole_ids};
 use crate::stop::Stop;
 use anyhow::{Context, Result, bail};
 use client_basic::Bundle;
+use entry_codec::Format;
 use outside::{MAX_JOURNAL, MemDisk};
 use std::alloc::Global;
 use std::time::{CpuClock, Duration};
@@ -29,6 +30,8 @@ enum Step {
     Ids(Plan),
     Make(Plan),
     Load(Plan),
+    LoadOld(Plan),
+    Migrate(Plan),
     Commit(Plan),
     File,
     Offer(u32),
@@ -69,6 +72,8 @@ fn step_of(name: &str, first: u32, length: usize, contacts: u8) -> Result<Step> 
         "ids" => Ok(Step::Ids(plan)),
         "make" => Ok(Step::Make(plan)),
         "load" => Ok(Step::Load(plan)),
+        "load_old" => Ok(Step::LoadOld(plan)),
+        "migrate" => Ok(Step::Migrate(plan)),
         "commit" => Ok(Step::Commit(plan)),
         "file" => Ok(Step::File),
         "offer" => Ok(Step::Offer(first)),
@@ -102,9 +107,9 @@ fn measure_ids(rt: &HostRuntime, plan: Plan) -> Result<()> {
     Ok(())
 }
 
-// A disk in memory with the file of the messages.
-fn make_disk(alloc: Global, plan: Plan) -> Result<MemDisk, Stop> {
-    let file = make_file(alloc, plan)?;
+// A disk in memory with the file of the messages in this format.
+fn make_disk(alloc: Global, plan: Plan, format: Format) -> Result<MemDisk, Stop> {
+    let file = make_file(alloc, plan, format)?;
     let disk = MemDisk::new(alloc, file, Vec::new(alloc))?;
     Ok(disk)
 }
@@ -112,7 +117,7 @@ fn make_disk(alloc: Global, plan: Plan) -> Result<MemDisk, Stop> {
 // Makes the file, and no store.
 fn measure_make(rt: &HostRuntime, plan: Plan) -> Result<()> {
     let start = rt.process_cpu_time()?;
-    let disk = make_disk(rt.alloc(), plan)?;
+    let disk = make_disk(rt.alloc(), plan, Format::Short)?;
     print_time(rt, start)?;
     let bytes = disk.file(0).len();
     println!(rt; "{bytes} bytes")?;
@@ -124,6 +129,19 @@ fn measure_load(rt: &HostRuntime, disk: MemDisk) -> Result<()> {
     let start = rt.process_cpu_time()?;
     let device = Device::load(rt.alloc(), disk, Bundle::new(), MAX_JOURNAL)?;
     print_time(rt, start)?;
+    print_store(rt, device.store())
+}
+
+// Writes the journal of a plan anew, which is of format 1 and loaded.
+fn measure_migrate(rt: &HostRuntime, plan: Plan) -> Result<()> {
+    let disk = make_disk(rt.alloc(), plan, Format::Whole)?;
+    let mut device = Device::load(rt.alloc(), disk, Bundle::new(), MAX_JOURNAL)?;
+    let start = rt.process_cpu_time()?;
+    let answer = device.migrate();
+    print_time(rt, start)?;
+    if answer.is_err() {
+        bail!("the journal was not written anew");
+    }
     print_store(rt, device.store())
 }
 
@@ -201,7 +219,9 @@ fn main(rt: HostRuntime) -> Result<()> {
     match read_step(&rt)? {
         Step::Ids(plan) => measure_ids(&rt, plan),
         Step::Make(plan) => measure_make(&rt, plan),
-        Step::Load(plan) => measure_load(&rt, make_disk(rt.alloc(), plan)?),
+        Step::Load(plan) => measure_load(&rt, make_disk(rt.alloc(), plan, Format::Short)?),
+        Step::LoadOld(plan) => measure_load(&rt, make_disk(rt.alloc(), plan, Format::Whole)?),
+        Step::Migrate(plan) => measure_migrate(&rt, plan),
         Step::Commit(plan) => measure_commit(&rt, plan),
         Step::File => measure_load(&rt, read_disk(&rt)?),
         Step::Offer(rounds) => measure_offer(&rt, rounds),

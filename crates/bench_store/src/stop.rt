@@ -10,8 +10,6 @@ pub(crate) enum Stop {
     Memory(#[from(alloc)] AllocError),
     #[error("no such message, group or list of ids")]
     NoValue,
-    #[error("no store was begun")]
-    NotBegun,
     #[error("no message was added: {0}")]
     NotAdded(#[from] AddFault),
 }

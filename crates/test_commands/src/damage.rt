@@ -2,9 +2,10 @@
 //! changes them.
 
 use crate::damage_tables::{
-    CHANGED, CUT, FOREIGN, Found, GROWN, INVERTED, MAY_NOT_FOLLOW, NO_FRAME, ONE, PAIRS,
+    CHANGED, CUT, FOREIGN, Found, GROWN, INVERTED, MAY_NOT_FOLLOW, NO_FRAME, OLD_GROWN,
+    OLD_MAY_NOT_FOLLOW, OLD_ONE, ONE, PAIRS,
 };
-use crate::journal::{BEGUN, add_frames, journal_of};
+use crate::journal::{BEGUN, OLD_BEGUN, add_frames, journal_from};
 use crate::play::Order;
 use crate::tally::{Tally, expect};
 use crate::want::{Files, Said};
@@ -15,12 +16,14 @@ use sync_top::Status;
 
 /// Plays all damages.
 pub(crate) fn play_all(tally: &mut Tally) -> Result<()> {
-    play_inverted(tally)?;
-    play_changed(tally)?;
-    play_cut(tally)?;
+    for one in [&ONE, &OLD_ONE] {
+        play_inverted(one, tally)?;
+        play_changed(one, tally)?;
+        play_cut(one, tally)?;
+        play_raw(one, tally)?;
+    }
     play_pairs(tally)?;
     play_grown(tally)?;
-    play_raw(tally)?;
     play_payloads(tally)?;
     play_foreign(tally)
 }
@@ -58,25 +61,31 @@ fn refuse(files: Files<'_>, said: Said<'_>, tally: &mut Tally) -> Result<()> {
 }
 
 // Each byte of the file is inverted in turn.
-fn play_inverted(tally: &mut Tally) -> Result<()> {
+fn play_inverted(one: &[u8; 22], tally: &mut Tally) -> Result<()> {
     for (place, found) in &INVERTED {
-        let value = ONE.get(*place).copied().unwrap_or(0);
-        play_byte(*place, !value, *found, tally)?;
+        let value = one.get(*place).copied().unwrap_or(0);
+        play_byte(one, *place, !value, *found, tally)?;
     }
     Ok(())
 }
 
 // Some bytes of the file have another value.
-fn play_changed(tally: &mut Tally) -> Result<()> {
+fn play_changed(one: &[u8; 22], tally: &mut Tally) -> Result<()> {
     for (place, value, found) in &CHANGED {
-        play_byte(*place, *value, *found, tally)?;
+        play_byte(one, *place, *value, *found, tally)?;
     }
     Ok(())
 }
 
 // The byte at this place has this value.
-fn play_byte(place: usize, value: u8, found: Found, tally: &mut Tally) -> Result<()> {
-    let mut file = ONE;
+fn play_byte(
+    one: &[u8; 22],
+    place: usize,
+    value: u8,
+    found: Found,
+    tally: &mut Tally,
+) -> Result<()> {
+    let mut file = *one;
     if let Some(byte) = file.get_mut(place) {
         *byte = value;
     }
@@ -84,9 +93,9 @@ fn play_byte(place: usize, value: u8, found: Found, tally: &mut Tally) -> Result
 }
 
 // The file is cut to each length; the same in file 1.
-fn play_cut(tally: &mut Tally) -> Result<()> {
+fn play_cut(one: &[u8; 22], tally: &mut Tally) -> Result<()> {
     for (len, found) in &CUT {
-        let file = ONE.get(..*len).unwrap_or(&[]);
+        let file = one.get(..*len).unwrap_or(&[]);
         find(Files::one(file), *found, tally)?;
         find(Files::new(&[], file), in_second(*found), tally)?;
     }
@@ -118,14 +127,23 @@ fn play_pairs(tally: &mut Tally) -> Result<()> {
     Ok(())
 }
 
-// `contact` leaves the other file, and what lies behind the new closed gate.
+// `contact` leaves the other file, and what lies behind the new closed gate; of a journal in format
+// 1 it leaves the file.
 fn play_grown(tally: &mut Tally) -> Result<()> {
-    for (first, second, after0, after1) in &GROWN {
-        let before = disk_of(tally.alloc, first, second)?;
-        let after = disk_of(tally.alloc, after0, after1)?;
-        play_contact(Files::on(&before), Files::on(&after), tally)?;
+    for row in &GROWN {
+        play_growing(row, tally)?;
+    }
+    for row in &OLD_GROWN {
+        play_growing(row, tally)?;
     }
     Ok(())
+}
+
+fn play_growing(row: &(&str, &str, &str, &str), tally: &mut Tally) -> Result<()> {
+    let (first, second, after0, after1) = *row;
+    let before = disk_of(tally.alloc, first, second)?;
+    let after = disk_of(tally.alloc, after0, after1)?;
+    play_contact(Files::on(&before), Files::on(&after), tally)
 }
 
 fn play_contact(before: Files<'_>, after: Files<'_>, tally: &mut Tally) -> Result<()> {
@@ -134,9 +152,9 @@ fn play_contact(before: Files<'_>, after: Files<'_>, tally: &mut Tally) -> Resul
 }
 
 // Bytes in the place of the closed gate that are no whole frame, or are none at all.
-fn play_raw(tally: &mut Tally) -> Result<()> {
+fn play_raw(one: &[u8; 22], tally: &mut Tally) -> Result<()> {
     for digits in &NO_FRAME {
-        let file = raw_file(tally.alloc, digits)?;
+        let file = raw_file(tally.alloc, one, digits)?;
         let files = Files::one(file.as_slice());
         find(files, Found::Damaged(0, 21), tally)?;
     }
@@ -144,9 +162,9 @@ fn play_raw(tally: &mut Tally) -> Result<()> {
 }
 
 // The journal of one contact with the bytes of these digits in the place of the closed gate.
-fn raw_file(alloc: Global, digits: &str) -> Result<Vec<u8>> {
+fn raw_file(alloc: Global, one: &[u8; 22], digits: &str) -> Result<Vec<u8>> {
     let bytes = hex::decode(alloc, digits)?;
-    let mut file = ONE[..21].to_vec(alloc)?;
+    let mut file = one[..21].to_vec(alloc)?;
     file.extend_from_slice(bytes.as_slice())?;
     Ok(file)
 }
@@ -155,13 +173,16 @@ fn raw_file(alloc: Global, digits: &str) -> Result<Vec<u8>> {
 // it.
 fn play_payloads(tally: &mut Tally) -> Result<()> {
     for (before, payload) in &MAY_NOT_FOLLOW {
-        play_payload(before, payload, tally)?;
+        play_payload(&BEGUN, before, payload, tally)?;
+    }
+    for (before, payload) in &OLD_MAY_NOT_FOLLOW {
+        play_payload(&OLD_BEGUN, before, payload, tally)?;
     }
     Ok(())
 }
 
-fn play_payload(before: &str, payload: &str, tally: &mut Tally) -> Result<()> {
-    let mut file = journal_of(tally.alloc, before)?;
+fn play_payload(begun: &[u8], before: &str, payload: &str, tally: &mut Tally) -> Result<()> {
+    let mut file = journal_from(tally.alloc, begun, before)?;
     let place = (file.len() as u64).saturating_sub(1);
     add_frames(tally.alloc, &mut file, payload, u64::MAX)?;
     let files = Files::one(file.as_slice());

@@ -4,12 +4,28 @@
 use anyhow::Result;
 use std::alloc::{AllocError, Global};
 
-/// The header of a journal of generation 1, and its closed gate.
-pub(crate) const BEGUN: [u8; 15] = [1, b'B', b'S', b'P', b'J', 1, 0, 0, 0, 0, 0, 0, 0, 1, 0];
+/// The header of a journal of generation 1 and its closed gate, as `init` leaves them.
+pub(crate) const BEGUN: [u8; 15] = [1, b'B', b'S', b'P', b'J', 2, 0, 0, 0, 0, 0, 0, 0, 1, 0];
+
+/// The same of a journal of format 1, in which stores were begun before.
+pub(crate) const OLD_BEGUN: [u8; 15] = [1, b'B', b'S', b'P', b'J', 1, 0, 0, 0, 0, 0, 0, 0, 1, 0];
+
+/// Those of the journal that such a one becomes.
+pub(crate) const NEXT_BEGUN: [u8; 15] = [1, b'B', b'S', b'P', b'J', 2, 0, 0, 0, 0, 0, 0, 0, 2, 0];
+
+/// Those of a journal of format 1 behind whose generation there is none.
+pub(crate) const LAST_BEGUN: [u8; 15] = [
+    1, b'B', b'S', b'P', b'J', 1, 255, 255, 255, 255, 255, 255, 255, 255, 0,
+];
 
 /// The file of a journal with these payloads, which have single spaces between them.
 pub(crate) fn journal_of(alloc: Global, payloads: &str) -> Result<Vec<u8>> {
-    let mut file = BEGUN.to_vec(alloc)?;
+    journal_from(alloc, &BEGUN, payloads)
+}
+
+/// The file of a journal that begins with these bytes and has these payloads.
+pub(crate) fn journal_from(alloc: Global, begun: &[u8], payloads: &str) -> Result<Vec<u8>> {
+    let mut file = begun.to_vec(alloc)?;
     add_frames(alloc, &mut file, payloads, u64::MAX)?;
     Ok(file)
 }

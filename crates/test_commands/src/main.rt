@@ -10,6 +10,8 @@ mod journal;
 mod journals;
 mod letters;
 mod limits;
+mod migrations;
+mod old_rows;
 mod play;
 mod records;
 mod refusals;
@@ -46,9 +48,11 @@ enum Table {
     Trees,
     Sharing,
     Drawn,
+    Old,
+    Adding,
 }
 
-static TABLES: [(&str, Table); 13] = [
+static TABLES: [(&str, Table); 15] = [
     ("session", Table::Session),
     ("stored", Table::Stored),
     ("refusals", Table::Refusals),
@@ -62,6 +66,8 @@ static TABLES: [(&str, Table); 13] = [
     ("trees", Table::Trees),
     ("sharing", Table::Sharing),
     ("sharing, drawn", Table::Drawn),
+    ("stores of format 1", Table::Old),
+    ("stores of format 1, added to", Table::Adding),
 ];
 
 fn main(rt: HostRuntime) -> Result<()> {
@@ -88,5 +94,7 @@ fn play_table(table: Table, tally: &mut Tally) -> Result<()> {
         Table::Trees => trees::play_all(tally),
         Table::Sharing => sharing::play_all(tally),
         Table::Drawn => sharing::play_drawn(tally),
+        Table::Old => migrations::play_all(tally),
+        Table::Adding => migrations::play_adding(tally),
     }
 }

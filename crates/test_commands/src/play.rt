@@ -16,6 +16,7 @@ use sync_top::{Status, run};
 pub(crate) enum Failing {
     Nothing,
     Disk(u64),
+    Dial(u8),
     Read(u64),
     Out(u64),
     Err(u64),
@@ -229,7 +230,7 @@ fn calls_of(alloc: Global, call: Option<u64>) -> Result<Vec<u64>, AllocError> {
     }
 }
 
-// A host over the disk, which is to fail at the call counted from now on.
+// A host over the disk, which is to fail at the call counted from now on, or at a dial.
 fn host_of(alloc: Global, disk: MemDisk, failing: Failing) -> Result<MemHost, AllocError>
     ensures { IfOk result (λ h. links_of h.disk ≡ []) }
 {
@@ -239,5 +240,17 @@ fn host_of(alloc: Global, disk: MemDisk, failing: Failing) -> Result<MemHost, Al
         let made = disk.calls();
         disk.fail_at(made.saturating_add(call))?;
     }
-    MemHost::new(alloc, disk)
+    let mut host = MemHost::new(alloc, disk)?;
+    fail_dial(&mut host, failing)?;
+    Ok(host)
+}
+
+// The host is to fail at the dial of this number.
+fn fail_dial(host: &mut MemHost, failing: Failing) -> Result<(), AllocError>
+    ensures { links_of host.new.disk ≡ links_of host.old.disk }
+{
+    match failing {
+        Failing::Dial(call) => host.fail_dial(call),
+        _ => Ok(()),
+    }
 }

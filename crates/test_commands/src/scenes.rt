@@ -95,8 +95,8 @@ impl Scene {
         Ok(whole & shows(alloc, self.said_at(stage), disk)?)
     }
 
-    // What `show` comes to at a stage.
-    fn said_at(&self, stage: u64) -> Said<'_> {
+    /// What `show` comes to at a stage.
+    pub(crate) fn said_at(&self, stage: u64) -> Said<'_> {
         if !self.begun && stage == 0 {
             return Said::line(Status::NoStore, b"no store\n");
         }
@@ -107,8 +107,8 @@ impl Scene {
     }
 }
 
-// Whether `show` says this of a disk, and leaves its files.
-fn shows(alloc: Global, said: Said<'_>, disk: MemDisk) -> Result<bool> {
+/// Whether `show` says this of a disk, and leaves its files.
+pub(crate) fn shows(alloc: Global, said: Said<'_>, disk: MemDisk) -> Result<bool> {
     let kept = Files::on(&disk).disk(alloc)?;
     let came = play(alloc, &Order::new("show", b""), disk)?;
     Ok(said.is_of(&came) & Files::on(&kept).are_on(came.disk()))
@@ -139,7 +139,7 @@ pub(crate) static SCENES: [Scene; 10] = [
         words: "contact",
         input: b"",
         out: b"contact 1\n",
-        adds: "083443418c0382800e42ae01fb9d676b7b25405d2875809cf8d6808f04741c96a4093443418c0382800e42ae01fb9d676b7b25405d2875809cf8d6808f04741c96a4 0101",
+        adds: "08000000000900000000 0101",
         shown: [
             "contacts 1\ngroup 76ff4980d3b5f63962cee45401b6b1bb92efe989c27de4629aac92b18163e6e0 6e6f7465 0 64\nmessage 3443418c0382800e42ae01fb9d676b7b25405d2875809cf8d6808f04741c96a4 76ff4980d3b5f63962cee45401b6b1bb92efe989c27de4629aac92b18163e6e0 unknown\nsessions 0\n",
             "contacts 1\ngroup 76ff4980d3b5f63962cee45401b6b1bb92efe989c27de4629aac92b18163e6e0 6e6f7465 0 64\nmessage 3443418c0382800e42ae01fb9d676b7b25405d2875809cf8d6808f04741c96a4 76ff4980d3b5f63962cee45401b6b1bb92efe989c27de4629aac92b18163e6e0 delivered\nsessions 0\n",
@@ -178,7 +178,7 @@ pub(crate) static SCENES: [Scene; 10] = [
         words: "post 76ff4980d3b5f63962cee45401b6b1bb92efe989c27de4629aac92b18163e6e0 0",
         input: b"hello, all",
         out: b"posted 50cb8797d89a0de4ff1e84fc2b295b602916f17f16a041f5afa4e1adb1820bc1\n",
-        adds: "0676ff4980d3b5f63962cee45401b6b1bb92efe989c27de4629aac92b18163e6e00000000000000000000a68656c6c6f2c20616c6c 0850cb8797d89a0de4ff1e84fc2b295b602916f17f16a041f5afa4e1adb1820bc10950cb8797d89a0de4ff1e84fc2b295b602916f17f16a041f5afa4e1adb1820bc1",
+        adds: "0676ff4980d3b5f63962cee45401b6b1bb92efe989c27de4629aac92b18163e6e00000000000000000000a68656c6c6f2c20616c6c 08000000000900000000",
         shown: [
             "contacts 1\ngroup 76ff4980d3b5f63962cee45401b6b1bb92efe989c27de4629aac92b18163e6e0 6e6f7465 0 64\nsessions 0\n",
             "contacts 1\ngroup 76ff4980d3b5f63962cee45401b6b1bb92efe989c27de4629aac92b18163e6e0 6e6f7465 0 64\nmessage 50cb8797d89a0de4ff1e84fc2b295b602916f17f16a041f5afa4e1adb1820bc1 76ff4980d3b5f63962cee45401b6b1bb92efe989c27de4629aac92b18163e6e0 unknown\nsessions 0\n",

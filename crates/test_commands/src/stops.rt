@@ -13,13 +13,13 @@ use sync_top::Status;
 /// An image of those that a crash may leave, and from which call of an append on it may have the
 /// gate open: the third writes it, and until the sync behind it it may be as it was or any byte.
 #[derive(Clone, Copy)]
-struct Crash {
-    pick: Pick,
-    opened: u64,
-    name: &'static str,
+pub(crate) struct Crash {
+    pub(crate) pick: Pick,
+    pub(crate) opened: u64,
+    pub(crate) name: &'static str,
 }
 
-static CRASHES: [Crash; 4] = [
+pub(crate) static CRASHES: [Crash; 4] = [
     Crash {
         pick: Pick::Old,
         opened: 4,

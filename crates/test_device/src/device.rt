@@ -99,6 +99,11 @@ impl<D: Disk + Drop, C: Clients + Drop> Device<D, C> {
         )
     }
 
+    /// Writes the journal anew in format 2, where it is of format 1.
+    pub fn migrate(&mut self) -> Result<(), StoreFault> {
+        self.store.migrate(&mut self.disk, &self.clients)
+    }
+
     /// Settles the journal.
     pub fn settle(&mut self) -> Result<(), StoreFault> {
         self.store.settle(&mut self.disk, &self.clients)

@@ -54,7 +54,7 @@ fn unknown_ids(rt: HostRuntime) {
     leaves(
         &rt,
         &device,
-        "349e55701f5c55122d6b33a891f392c10ed6fcab3b1c7834159ff5d8c2dfe0dd",
+        "d2937958c31bdc66ea94ddd9432727444db663bd0e8352cccd239ec0509a3c3a",
         &["68dc839e312814dd121b6fc0096b89a3230536bfe4f04cd7d708d6f52c717d3a"],
     );
 }
@@ -91,7 +91,7 @@ fn out_of_sight(rt: HostRuntime) {
     leaves(
         &rt,
         &device,
-        "ea6ccd297d49152a663715528ff41cebda2fcf783892620a01169b8ab6cad5de",
+        "2eea14bb6be4986ba2bf49cb9a8494899e60b24108d9c7edf57c944c520350dd",
         &["68dc839e312814dd121b6fc0096b89a3230536bfe4f04cd7d708d6f52c717d3a"],
     );
 }
@@ -121,7 +121,7 @@ fn another_client(rt: HostRuntime) {
     leaves(
         &rt,
         &device,
-        "03650b877ed632ad7a289e3b325d2861179c9f74fb5fb1c073c1309767c6b6be",
+        "f9fb4eb72130851b5b4a8eb5e4b4552e3ff0dde3dadd86a00c83b5e97da47161",
         &["89a823374dc221db94e9c211a35a5b483decb0908e29b4843a9c7acdc4d3f73a"],
     );
 }
@@ -157,13 +157,13 @@ fn twice(rt: HostRuntime) {
     leave_twice(
         &rt,
         1,
-        "2af341d8b713c9fb43db1d045179a7738425bad43f4e2e008d03ce206746f2ab",
+        "cb3ae4a5124d275615b208c2c6051434e320e4bbe537167ec7619bd99c269289",
         "27750353c2794dd35dc8ca88aa9e2a149ec02d055ebfe104de1502d2c3b1a10d",
     );
     leave_twice(
         &rt,
         0,
-        "6df83205cd8f163e835cb40c17d214f5753fbe8533792a8080f8f48f483b315e",
+        "80a64ef2272677a1d69eb18c78411effef516b155a1e396af696e76153afbf69",
         "27750353c2794dd35dc8ca88aa9e2a149ec02d055ebfe104de1502d2c3b1a10d",
     );
 }

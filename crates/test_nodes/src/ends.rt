@@ -150,7 +150,7 @@ fn hear_cut<R: Abort + AllocGlobal>(rt: &R, place: usize, front: &[u8], behind: 
     leaves(
         rt,
         &device,
-        "fa2b56a7bc5a75add77065543a7309a12159d88640b912ab59e79f85ecf7e445",
+        "ce7aef39cd77b05a7f0658f6588804570d73ea82db659214df7164ebb036ccda",
         &["27750353c2794dd35dc8ca88aa9e2a149ec02d055ebfe104de1502d2c3b1a10d"],
     );
 }

@@ -12,22 +12,22 @@ use test_links::Device;
 // What the two leave, the first of which posted 40 messages of 2,000 letters.
 static BATCH: [[&str; 2]; 2] = [
     [
-        "a2fe231ec4be0bf3b7e6e41cf0dbb7c480e1542cc73a35829599fd49eee30612",
+        "50800dd3ffa084562d11c7a49d4ab563ec0fb2e18205d19da4a4cc5979f56b93",
         "eb03ebc1515a633543993b6d94b02a39a5a1e3d28da9e11ec269983910b61762",
     ],
     [
-        "e6685db8c985d5a243b5a97e9557a3191d7e4f50eaba12b5d85b171c8721c43b",
+        "a097c95bc3aaea3d6e9758f2ca57e4d12550eba1c629d447fc34a6b875c3719c",
         "1af41440102ebb1080bd40b8e5f6fc3779d5070ff202390a98c94fefdf1439f2",
     ],
 ];
 
 static INTERACTIVE: [[&str; 2]; 2] = [
     [
-        "555be5e8b0dbed826f6c1dacb58e654c3c9ad2a7f11721163c9a1c13f8deb42d",
+        "85bccc3af074bc2d3e90e7cb7f42a4eefb06cbd82bb6519eafaf54283d8bb29f",
         "2fd39b8a820b584414bab92522e37bede01ace6fd2da7e24357f6e9a944a2824",
     ],
     [
-        "adb0c977d5f707f4aa352e604b133f419e3261d0a4c860d433cb4b255c411035",
+        "70b8eb87d79de26e57f95acd97ac5920d31a8b4c9ce5c09e78e9d992884c3435",
         "85b1bf661122fdf0597e0c29a0767197318482384446ca453ddbdcabe0f2dc06",
     ],
 ];

@@ -53,7 +53,7 @@ fn invisible(rt: HostRuntime) {
     leaves(
         &rt,
         &device,
-        "0ea263f1cf280f300c3f40bda372a0fb94bcca0aca927eff0b7e796aac286d1c",
+        "53d4194666a2c0370f57cbd33623b417a78ff72af6f46ce7429bf3aec97d7a21",
         &[
             "27750353c2794dd35dc8ca88aa9e2a149ec02d055ebfe104de1502d2c3b1a10d",
             "68dc839e312814dd121b6fc0096b89a3230536bfe4f04cd7d708d6f52c717d3a",
@@ -116,7 +116,7 @@ fn doubled(rt: HostRuntime) {
     leaves(
         &rt,
         &device,
-        "3255e38ce922bc07fb21d53326a4fa929bb48cf81e6c3d9cf4900bb880f14333",
+        "1546792567af71b2d01590a9a4dc1ea1ac1f64f11df4475787969c28e3225638",
         &["d4a3c5e896b3d649a9d496866e5c19a6d69f1832996f634808e2b883d808a13e"],
     );
 }
@@ -161,7 +161,7 @@ fn posted(rt: HostRuntime) {
     leaves(
         &rt,
         &device,
-        "bfb0e8fe75896c4959e4b641637cdfe5d495e006c37f9f9e8d091609dc9f597c",
+        "44a2a5ae03f8e2d17afbe40c391359eb3533a773c465a0169e69dabc71fe5a3d",
         &["a1e7b937db4ca40ee598ef68a635d1856bc1c287ae8d15c9cfd056e816d13ead"],
     );
 }
@@ -194,7 +194,7 @@ fn offered(rt: HostRuntime) {
     leaves(
         &rt,
         &device,
-        "aa14fe268dbe0735aa94fd196d0e7985e6694663d1edec0c2db6d009b66bf519",
+        "d04fd279a7da3ecfdf848a0dc0c4be3d5f5f40b3b6b65f028458638325916643",
         &["b3872d3d43d21daa49405875f94931e6ab7a2c7024293406bddf55c988d844e7"],
     );
 }
@@ -207,7 +207,7 @@ fn hundred_offers(rt: HostRuntime) {
     leaves(
         &rt,
         &device,
-        "0a9d604591b3fbf1e994053b9e14f359c3734e26bfa55bbc6189c524522fae4e",
+        "899c84b542a41fd2b80cbc3ea0fdcd78441355fbca51ac2a052951fa1b7455b1",
         &["b3872d3d43d21daa49405875f94931e6ab7a2c7024293406bddf55c988d844e7"],
     );
 }
@@ -254,7 +254,7 @@ fn seventy(rt: HostRuntime) {
     leaves(
         &rt,
         &device,
-        "269570fe5ec5aa7f2e527b10b1078913ba77ad526209ee6bcb90c7485e3e7631",
+        "af2eb6f165689a37e0e0f398ebb7df4fa9293c15ac7f979611eeab77b0180352",
         &["f2426545a1e9abbbd7ddca858076b3ac8e7874cf7051673ac7359de4f323d574"],
     );
 }

@@ -110,7 +110,7 @@ fn waiting(rt: HostRuntime) {
     leaves(
         &rt,
         &device,
-        "6b02c2e029b35b8367514b4c45d2d14e1b49252cacff8a765bc55e01c90b761c",
+        "8dcba7ef100d64bce07a64f11c6cd0a60e5a4fcfd182135f2dcf12309b650776",
         &["ebc0f1433afe72ed486936fdd5f32a6d219c06c7a23484cffecbdfc7011b1374"],
     );
 }

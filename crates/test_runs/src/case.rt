@@ -57,13 +57,16 @@ impl Case {
 
     /// Plays a line.
     pub(crate) fn play(&mut self, line: &str) -> Result<()> {
-        if line == "states" {
-            return self.tell_states();
+        match line {
+            "states" => return self.tell_states(),
+            "other" => return self.tell_other(),
+            _ => {}
         }
         let (kind, rest) = line.split_once(' ').context("a line of one word")?;
         match kind {
             "case" => self.begin(line),
             "do" => self.obey(rest),
+            "old" => self.set_file(rest),
             "input" => self.set_input(rest),
             "crossed" => self.set_clients(rest),
             "sync" => self.run(line),
@@ -90,6 +93,19 @@ impl Case {
     fn tell(&mut self, line: &str) -> Result<(), AllocError> {
         self.told.push_str(line)?;
         self.told.push('\n')
+    }
+
+    // The files are this one and an empty one.
+    fn set_file(&mut self, digits: &str) -> Result<()> {
+        let first = decoded(self.alloc, digits)?;
+        self.disk = MemDisk::new(self.alloc, first, Vec::new(self.alloc))?;
+        Ok(())
+    }
+
+    // A line of file 1.
+    fn tell_other(&mut self) -> Result<()> {
+        self.told.push_str("other ")?;
+        Ok(tell_bytes(self.alloc, self.disk.file(1), &mut self.told)?)
     }
 
     fn set_input(&mut self, digits: &str) -> Result<()> {

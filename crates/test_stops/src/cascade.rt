@@ -145,17 +145,23 @@ fn look(
     let frames = read_frames(alloc, file)?;
     let got = frames.sizes.get(FRAMES..).unwrap_or(&[]);
     compare(rt, "batches of a cascade", WHOLE, &got, &sizes);
-    let ids = frames.deliveries.as_slice();
-    compare(rt, "deliveries of a cascade", WHOLE, &ids.len(), &delivered);
-    let distinct = count_distinct(alloc, ids)?;
+    let numbers = frames.deliveries.as_slice();
+    compare(
+        rt,
+        "deliveries of a cascade",
+        WHOLE,
+        &numbers.len(),
+        &delivered,
+    );
+    let distinct = count_distinct(alloc, numbers)?;
     compare(rt, "deliveries apart", WHOLE, &distinct, &delivered);
     Ok(())
 }
 
-fn count_distinct(alloc: Global, ids: &[MessageId]) -> Result<usize, AllocError> {
+fn count_distinct(alloc: Global, numbers: &[u32]) -> Result<usize, AllocError> {
     let mut distinct = IndexSet::new(alloc);
-    for id in ids {
-        distinct.insert(*id)?;
+    for number in numbers {
+        distinct.insert(*number)?;
     }
     Ok(distinct.len())
 }

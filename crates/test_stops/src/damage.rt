@@ -24,18 +24,18 @@ const BAD: (usize, u8) = (19, 0x63);
 
 /// What is changed of file 0, and what file 1 has. The label names what is not as it was.
 static PAIRS: [Pair; 19] = [
-    ("byte 19 is 63", 1, BAD, (1, 0), 0),
-    ("byte 20 is 05", 1, (20, 0x05), (1, 0), 0),
-    ("generations 1 and 0", 1, SAME, (1, 0), 15),
-    ("generations 1 and 1", 1, SAME, (1, 1), 15),
-    ("generations 1 and 2", 1, SAME, (1, 2), 15),
-    ("generations 255 and 256", 255, SAME, (1, 256), 15),
-    ("generations 256 and 255", 256, SAME, (1, 255), 15),
+    ("byte 19 is 63", 1, BAD, (2, 0), 0),
+    ("byte 20 is 05", 1, (20, 0x05), (2, 0), 0),
+    ("generations 1 and 0", 1, SAME, (2, 0), 15),
+    ("generations 1 and 1", 1, SAME, (2, 1), 15),
+    ("generations 1 and 2", 1, SAME, (2, 2), 15),
+    ("generations 255 and 256", 255, SAME, (2, 256), 15),
+    ("generations 256 and 255", 256, SAME, (2, 255), 15),
     (
         "generations 9223372036854775807 and 9223372036854775808",
         0x7fff_ffff_ffff_ffff,
         SAME,
-        (1, 0x8000_0000_0000_0000),
+        (2, 0x8000_0000_0000_0000),
         15,
     ),
     (
@@ -56,51 +56,51 @@ static PAIRS: [Pair; 19] = [
         "file 0 of format 9, generations 1 and 1",
         1,
         (5, 9),
-        (1, 1),
+        (2, 1),
         15,
     ),
     (
         "file 0 of format 9, generations 1 and 2",
         1,
         (5, 9),
-        (1, 2),
+        (2, 2),
         15,
     ),
     (
         "file 0 with a bad frame, generations 1 and 0",
         1,
         BAD,
-        (1, 0),
+        (2, 0),
         15,
     ),
     (
         "file 0 with a bad frame, generations 1 and 2",
         1,
         BAD,
-        (1, 2),
+        (2, 2),
         15,
     ),
     (
         "file 1 of generation 2 cut to 14 bytes",
         1,
         SAME,
-        (1, 2),
+        (2, 2),
         14,
     ),
     (
         "file 1 of generation 2 cut to 13 bytes",
         1,
         SAME,
-        (1, 2),
+        (2, 2),
         13,
     ),
-    ("file 0 closed, file 1 of generation 0", 1, SHUT, (1, 0), 15),
-    ("file 0 of format 2", 1, (5, 2), (1, 0), 0),
+    ("file 0 closed, file 1 of generation 0", 1, SHUT, (2, 0), 15),
+    ("file 0 of format 1", 1, (5, 1), (2, 0), 0),
     (
-        "file 1 of format 2, generations 1 and 2",
+        "file 1 of format 1, generations 1 and 2",
         1,
         SAME,
-        (2, 2),
+        (1, 2),
         15,
     ),
 ];
@@ -141,7 +141,7 @@ fn load_pairs(rt: &impl Print, alloc: Global) -> Result<()> {
 fn contact_file(generation: u64, changed: (usize, u8)) -> [u8; 22] {
     let [a, b, c, d, e, f, g, h] = generation.to_be_bytes();
     let mut file = [
-        1, b'B', b'S', b'P', b'J', 1, a, b, c, d, e, f, g, h, 1, 0, 0, 0, 2, 1, 0, 0,
+        1, b'B', b'S', b'P', b'J', 2, a, b, c, d, e, f, g, h, 1, 0, 0, 0, 2, 1, 0, 0,
     ];
     let (place, byte) = changed;
     if let Some(old) = file.get_mut(place) {

@@ -1,26 +1,23 @@
 //! Files that are written by hand, and what their frames say.
 
-use entry_codec::{Format, NoNames, read_batch};
 use outside::MemDisk;
 use std::alloc::{AllocError, Global};
-use sync_ids::MessageId;
-use sync_rules::Entry;
 use test_device::Payloads;
 
 /// A journal of generation 1 with one contact.
 pub(crate) static CONTACT: [u8; 22] = [
-    1, b'B', b'S', b'P', b'J', 1, 0, 0, 0, 0, 0, 0, 0, 1, 1, 0, 0, 0, 2, 1, 0, 0,
+    1, b'B', b'S', b'P', b'J', 2, 0, 0, 0, 0, 0, 0, 0, 1, 1, 0, 0, 0, 2, 1, 0, 0,
 ];
 
 /// The same, and the group `note` of major version 0 with the descriptor `d`.
 pub(crate) static GROUP: [u8; 40] = [
-    1, b'B', b'S', b'P', b'J', 1, 0, 0, 0, 0, 0, 0, 0, 1, 1, 0, 0, 0, 2, 1, 0, 1, 0, 0, 0, 13, 2,
+    1, b'B', b'S', b'P', b'J', 2, 0, 0, 0, 0, 0, 0, 0, 1, 1, 0, 0, 0, 2, 1, 0, 1, 0, 0, 0, 13, 2,
     4, b'n', b'o', b't', b'e', 0, 0, 0, 0, 0, 1, b'd', 0,
 ];
 
-/// The same in format 2, where no entry names a message.
-pub(crate) static SHORT_GROUP: [u8; 40] = [
-    1, b'B', b'S', b'P', b'J', 2, 0, 0, 0, 0, 0, 0, 0, 1, 1, 0, 0, 0, 2, 1, 0, 1, 0, 0, 0, 13, 2,
+/// The same in format 1, where no entry names a message.
+pub(crate) static OLD_GROUP: [u8; 40] = [
+    1, b'B', b'S', b'P', b'J', 1, 0, 0, 0, 0, 0, 0, 0, 1, 1, 0, 0, 0, 2, 1, 0, 1, 0, 0, 0, 13, 2,
     4, b'n', b'o', b't', b'e', 0, 0, 0, 0, 0, 1, b'd', 0,
 ];
 
@@ -52,10 +49,10 @@ pub(crate) fn count_front(file: &[u8], whole: &[u8]) -> Option<usize> {
 
 /// What the frames of a file say.
 pub(crate) struct Frames {
-    /// How many entries each has.
+    /// How many steps each has, and 0 where it has another entry.
     pub(crate) sizes: Vec<usize>,
-    /// The ids of the Deliver entries, in order.
-    pub(crate) deliveries: Vec<MessageId>,
+    /// The numbers of the messages that are delivered, in order.
+    pub(crate) deliveries: Vec<u32>,
 }
 
 // Written out, so that whoever drops it proves one call.
@@ -68,32 +65,38 @@ impl Drop for Frames {
     }
 }
 
-/// The frames of a file.
+/// How many bytes a step has in format 2: its tag, and the number of the message.
+const STEP: usize = 5;
+
+/// The frames of a file of format 2.
 pub(crate) fn read_frames(alloc: Global, file: &[u8]) -> Result<Frames, AllocError> {
     let mut frames = Frames {
         sizes: Vec::new(alloc),
         deliveries: Vec::new(alloc),
     };
     for payload in Payloads::of(file) {
-        frames.read(alloc, payload)?;
+        frames.read(payload)?;
     }
     Ok(frames)
 }
 
 impl Frames {
-    fn read(&mut self, alloc: Global, payload: &[u8]) -> Result<(), AllocError> {
-        match read_batch(alloc, Format::Whole, &NoNames, payload)? {
-            Some(batch) => self.add(batch.entries()),
-            None => self.sizes.push(0).map_err(AllocError::from),
+    fn read(&mut self, payload: &[u8]) -> Result<(), AllocError> {
+        let tag = payload.first().copied().unwrap_or(0);
+        if !(8..=10).contains(&tag) {
+            self.sizes.push(0)?;
+            return Ok(());
         }
+        self.sizes.push(payload.len() / STEP)?;
+        for step in payload.chunks_exact(STEP) {
+            self.add(step)?;
+        }
+        Ok(())
     }
 
-    fn add(&mut self, entries: &[Entry]) -> Result<(), AllocError> {
-        self.sizes.push(entries.len())?;
-        for entry in entries {
-            if let Entry::Deliver(id) = entry {
-                self.deliveries.push(*id)?;
-            }
+    fn add(&mut self, step: &[u8]) -> Result<(), AllocError> {
+        if let [9, a, b, c, d] = *step {
+            self.deliveries.push(u32::from_be_bytes([a, b, c, d]))?;
         }
         Ok(())
     }

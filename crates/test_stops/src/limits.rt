@@ -1,6 +1,6 @@
 //! A limit that leaves room for a message and its settling, and one that lacks a byte.
 use crate::compare::{WHOLE, compare, say};
-use crate::files::{GROUP, SHORT_GROUP, disk_with};
+use crate::files::{GROUP, OLD_GROUP, disk_with};
 use crate::posting::{LOAD_CALLS, Node, note_batch};
 use anyhow::Result;
 use client_basic::Bundle;
@@ -41,11 +41,7 @@ struct Sizes {
 
 /// The file of a case.
 fn file_of(case: &Case) -> &'static [u8; 40] {
-    if case.format == 2 {
-        &SHORT_GROUP
-    } else {
-        &GROUP
-    }
+    if case.format == 2 { &GROUP } else { &OLD_GROUP }
 }
 
 /// Posts a message in the store of each file with either limit.

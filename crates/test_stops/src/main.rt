@@ -10,6 +10,7 @@ mod failing;
 mod files;
 mod hearing;
 mod limits;
+mod migrating;
 mod pair;
 mod posting;
 mod stages;
@@ -23,6 +24,7 @@ fn main(rt: HostRuntime) -> Result<()> {
     posting::stop_each(&rt, alloc)?;
     failing::fail_each(&rt, alloc)?;
     limits::fill(&rt, alloc)?;
+    migrating::stop_each(&rt, alloc)?;
     damage::load_each(&rt, alloc)?;
     pair::wait(&rt, alloc)?;
     cascade::settle(&rt, alloc)

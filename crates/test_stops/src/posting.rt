@@ -7,7 +7,7 @@ use anyhow::Result;
 use client_basic::Bundle;
 use outside::{MAX_JOURNAL, MemDisk, Pick};
 use std::alloc::{AllocError, Global};
-use sync_ids::{GroupId, Message, MessageId, group_id};
+use sync_ids::{GroupId, Message, group_id};
 use sync_rules::{Batch, Entry, id_of};
 use sync_store::StoreFault;
 use test_device::{AddFault, Device, end_of};
@@ -28,7 +28,7 @@ pub(crate) struct Posted {
 }
 
 /// The message: the text `x` of this time.
-fn note(alloc: Global, time: u64) -> Result<Message> {
+pub(crate) fn note(alloc: Global, time: u64) -> Result<Message> {
     message(alloc, group_id(&group_def(alloc, "note")?), time, b"x")
 }
 
@@ -62,7 +62,7 @@ fn post_batch(alloc: Global, batch: Batch, stop: u64) -> Result<Posted> {
 }
 
 /// These bytes, one behind the other.
-fn joined(alloc: Global, parts: &[&[u8]]) -> Result<Vec<u8>, AllocError> {
+pub(crate) fn joined(alloc: Global, parts: &[&[u8]]) -> Result<Vec<u8>, AllocError> {
     let mut bytes = Vec::new(alloc);
     for part in parts {
         bytes.extend_from_slice(part)?;
@@ -70,8 +70,8 @@ fn joined(alloc: Global, parts: &[&[u8]]) -> Result<Vec<u8>, AllocError> {
     Ok(bytes)
 }
 
-/// The file once the message of this group and id is posted and settled, written by hand.
-fn whole_file(alloc: Global, group: &GroupId, id: &MessageId) -> Result<Vec<u8>, AllocError> {
+/// The file once the message of this group is posted and settled, written by hand.
+fn whole_file(alloc: Global, group: &GroupId) -> Result<Vec<u8>, AllocError> {
     joined(
         alloc,
         &[
@@ -79,10 +79,7 @@ fn whole_file(alloc: Global, group: &GroupId, id: &MessageId) -> Result<Vec<u8>,
             &[1, 0, 0, 0, 44, 6],
             group.as_bytes(),
             &[0, 0, 0, 0, 0, 0, 0, 0, 0, 1, b'x'],
-            &[1, 0, 0, 0, 66, 8],
-            id.as_bytes(),
-            &[9],
-            id.as_bytes(),
+            &[1, 0, 0, 0, 10, 8, 0, 0, 0, 0, 9, 0, 0, 0, 0],
             &[0],
         ],
     )
@@ -93,7 +90,7 @@ pub(crate) fn stop_each(rt: &impl Print, alloc: Global) -> Result<()> {
     let group = group_id(&group_def(alloc, "note")?);
     let id = id_of(&note(alloc, 0)?);
     let mut images = Images::default();
-    stop_all(rt, alloc, &whole_file(alloc, &group, &id)?, &mut images)?;
+    stop_all(rt, alloc, &whole_file(alloc, &group)?, &mut images)?;
     say(rt, &format_args!("post of {}", id.to_hex(alloc)?))?;
     print_images(rt, images)
 }

@@ -8,7 +8,7 @@ pub(crate) const APPEND_CALLS: u64 = 4;
 pub(crate) const POST_CALLS: u64 = 2 * APPEND_CALLS;
 
 /// The ends of the journal without the message, with it, and with its settling.
-pub(crate) const ENDS: [u64; 3] = [40, 89, 160];
+pub(crate) const ENDS: [u64; 3] = [40, 89, 104];
 
 /// How far an image has come.
 #[derive(Clone, Copy, PartialEq, Eq)]

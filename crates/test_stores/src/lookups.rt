@@ -45,7 +45,7 @@ fn end_of(batches: &[Batch]) -> u64 {
     for batch in batches {
         end = end
             .saturating_add(5)
-            .saturating_add(batch_len(Format::Whole, batch) as u64);
+            .saturating_add(batch_len(Format::Short, batch) as u64);
     }
     end
 }
@@ -55,8 +55,8 @@ fn room_of(fates: &[Option<Fate>]) -> u64 {
     let mut room = 0u64;
     for fate in fates {
         room = room.saturating_add(match fate {
-            Some(Fate::Unknown) => 76,
-            Some(Fate::Pending) => 38,
+            Some(Fate::Unknown) => 20,
+            Some(Fate::Pending) => 10,
             _ => 0,
         });
     }

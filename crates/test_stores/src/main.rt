@@ -11,6 +11,7 @@ mod listed;
 mod lookups;
 mod play;
 mod tables;
+mod whole;
 
 use crate::play::play_case;
 use anyhow::Result;

@@ -1,0 +1,242 @@
+#!/usr/bin/env python3
+"""The rows of test_commands for stores of format 1: what a command prints of them, and the journal that one which adds leaves in
+format 2.
+
+    old_stores.py > crates/test_commands/src/old_rows.rt
+
+What a node does is played by node_model.py and sharing.py, what is shown of its journal by run_model.py, and both formats are those of
+journal.py. Nothing here is shared with the program.
+"""
+from digests import group_id, message_id
+from journal import SHORT, WHOLE, entries, entry_of, respelled
+from node_model import ACK, INTERACTIVE, BATCH, OFFER, REQUEST, SHARED, VISIBLE, message, record
+from sharing import NOTE, SHARING, THREAD, Person, rust
+from world_model import Facts, shown
+
+NOTES, THREADS, SHARINGS = (group_id(*definition) for definition in (NOTE, THREAD, SHARING))
+X = message_id(NOTES, 0, b'x')
+ROOT = message_id(THREADS, 5, b'\0root')
+
+
+# ---- what is printed of a journal in format 2
+
+def facts_of(payloads):
+    facts = Facts()
+    for payload in payloads:
+        for tag, rest in entries(payload, SHORT):
+            facts.apply(entry_of(tag, rest, facts.named))
+    return facts
+
+
+def show_text(payloads):
+    return ''.join(line + '\n' for line in shown(facts_of(payloads)))
+
+
+def inbox_text(payloads):
+    facts = facts_of(payloads)
+    held = [facts.find(id) for id in facts.delivered]
+    return ''.join(f'{it.id.hex()} {it.group.hex()} {it.timestamp} {it.origin} {len(it.body)}\n' for it in held)
+
+
+def tree_text(payloads, group):
+    """The walk of a thread: a message replies to its first parent."""
+    facts = facts_of(payloads)
+    walk = [facts.find(id) for id in facts.delivered if facts.find(id).group == group]
+    numbers = {it.id: number for number, it in enumerate(walk)}
+    paths = []
+    for it in walk:
+        above = paths[numbers[it.body[1:33]]] if it.body[0] else []
+        paths.append(above + [numbers[it.id]])
+    size = {tuple(path): sum(other[:len(path)] == path for other in paths) for path in paths}
+    return ''.join(f'{len(path) - 1} {size[tuple(path)]} {walk[path[-1]].id.hex()}\n' for path in sorted(paths))
+
+
+# ---- stores
+
+def bare(*definitions):
+    person = Person()
+    person.add_contact()
+    for definition in definitions:
+        person.add(*definition)
+    return person
+
+
+def fresh(*definitions):
+    """A store with the note `x`, which is not judged yet."""
+    person = bare(*definitions)
+    unsettled(person, lambda: person.post(NOTES, 0, b'x'))
+    return person
+
+
+def unsettled(person, does):
+    settle, person.settle = person.settle, lambda: None
+    does()
+    person.settle = settle
+
+
+def held(*definitions):
+    person = bare(*definitions)
+    person.post(NOTES, 0, b'x')
+    return person
+
+
+def ended():
+    """A note that a contact sent, which its client refuses."""
+    person = bare(NOTE)
+    person.share(0, NOTES, VISIBLE)
+    person.attach(0, BATCH)
+    person.take(person.links[0], 1, message(NOTES, 0, b'\xff')[4:])
+    return person
+
+
+def spoken():
+    """It was said here that a group is joined."""
+    person = bare(SHARING)
+    person.said(SHARINGS, 0, 'join', *NOTE)
+    return person
+
+
+def heard():
+    """Two sessions, in which all was heard and sent that may be; messages in each state."""
+    person = bare(NOTE, THREAD)
+    person.add_contact()
+    for contact, group, level in ((0, NOTES, SHARED), (0, THREADS, VISIBLE), (1, NOTES, SHARED), (1, THREADS, SHARED)):
+        person.share(contact, group, level)
+    person.post(NOTES, 0, b'x')
+    person.post(THREADS, 5, b'\0root')
+    person.attach(0, INTERACTIVE, nonce=bytes(15) + b'\7')
+    first = person.links[0]
+    reply, lost = b'\1' + ROOT + b'reply', b'\1' + X + b'lost'
+    for group, time, body in ((NOTES, 1, b'hi'), (NOTES, 2, b'\xff'), (THREADS, 6, reply), (THREADS, 7, b'\1' + bytes(32) + b'lost')):
+        person.take(first, 1, message(group, time, body)[4:])
+    person.take(first, 1, message(THREADS, 8, lost)[4:])
+    unknown = message_id(NOTES, 9, b'unknown')
+    person.take(first, OFFER, X + unknown + ROOT)
+    person.take(first, ACK, ROOT)
+    person.send_due(0, now=1_000)
+    person.take(first, REQUEST, X)
+    person.send_due(0, now=2_000)
+    person.attach(1, BATCH)
+    person.send_due(1, now=3_000)
+    person.attach(1, INTERACTIVE, latency=1)
+    person.take(person.links[2], ACK, X)
+    person.send_due(2, now=9_000)
+    unsettled(person, lambda: person.take(first, 1, message(NOTES, 4, 'né'.encode())[4:]))
+    return person
+
+
+# ---- the tables
+
+def adds_contact(person):
+    person.settle()
+    number = len(person.peers)
+    person.add_contact()
+    return f'contact {number}\n'
+
+
+def adds_group(person):
+    return f'group {person.add(*NOTE).hex()}\n'
+
+
+def sets_level(person):
+    person.settle()
+    person.share(0, NOTES, SHARED)
+    return f'level 0 {NOTES.hex()} shared\n'
+
+
+def posts(group, time, body):
+    def does(person):
+        person.settle()
+        person.post(group, time, body)
+        return f'posted {message_id(group, time, body).hex()}\n'
+    return does
+
+
+def says(person):
+    _, id = person.said(SHARINGS, 1, 'leave', *NOTE)
+    return f'posted {id.hex()}\n'
+
+
+def agrees(person):
+    return person.agree(0, SHARINGS)
+
+
+SCENES = [
+    (bare(), 'contact', b'', adds_contact),
+    (fresh(NOTE), 'contact', b'', adds_contact),
+    (bare(), 'group note 0 d', b'', adds_group),
+    (ended(), f'share 0 {NOTES.hex()} shared', b'', sets_level),
+    (held(NOTE, THREAD), f'post {THREADS.hex()} 5', b'\0root', posts(THREADS, 5, b'\0root')),
+    (spoken(), f'say {SHARINGS.hex()} 1 leave note 0 d', b'', says),
+    (spoken(), f'agree 0 {SHARINGS.hex()}', b'', agrees),
+]
+
+
+def escaped(data):
+    return ''.join(chr(byte) if 32 <= byte < 127 and byte not in b'"\\' else {10: '\\n'}.get(byte, f'\\x{byte:02x}') for byte in data)
+
+
+def hex_of(payloads):
+    return ' '.join(payload.hex() for payload in payloads)
+
+
+def scene_rows(name, scenes):
+    yield f'pub(crate) static {name}: [Old; {len(scenes)}] = ['
+    for person, words, given, does in scenes:
+        before = list(person.batches)
+        text = does(person)
+        adds = person.batches[len(before):]
+        texts = [show_text(before + adds[:stage]) for stage in range(len(adds) + 1)]
+        assert len(texts) <= 3
+        yield '    Old {'
+        yield f'        old: "{hex_of(respelled(before, SHORT, WHOLE))}",'
+        yield '        scene: Scene {'
+        yield '            begun: true,'
+        yield f'            before: "{hex_of(before)}",'
+        yield f'            words: "{words}",'
+        yield f'            input: b"{escaped(given)}",'
+        yield f'            out: b"{rust(text)}",'
+        yield f'            adds: "{hex_of(adds)}",'
+        yield '            shown: ['
+        for at_stage in (texts + [''])[:3]:
+            yield f'                "{rust(at_stage)}",'
+        yield '            ],'
+        yield '        },'
+        yield '    },'
+    yield '];'
+    yield ''
+
+
+def look_rows():
+    person = heard()
+    payloads = list(person.batches)
+    facts = facts_of(payloads)
+    looks = [('show', show_text(payloads).encode()), ('inbox', inbox_text(payloads).encode())]
+    looks += [(f'body {it.id.hex()}', it.body) for it in facts.held]
+    looks.append((f'tree {THREADS.hex()} 0 10', tree_text(payloads, THREADS).encode()))
+    yield 'pub(crate) const OLD_HEARD: &str ='
+    yield f'    "{hex_of(respelled(payloads, SHORT, WHOLE))}";'
+    yield ''
+    yield 'pub(crate) const HEARD: &str ='
+    yield f'    "{hex_of(payloads)}";'
+    yield ''
+    yield f'pub(crate) static LOOKS: [(&str, &[u8]); {len(looks)}] = ['
+    for words, out in looks:
+        yield f'    ("{words}", b"{escaped(out)}"),'
+    yield '];'
+    yield ''
+
+
+def table():
+    yield '//! The rows of stores of format 1, by oracle/old_stores.py.'
+    yield ''
+    yield 'use crate::migrations::Old;'
+    yield 'use crate::scenes::Scene;'
+    yield ''
+    yield from look_rows()
+    yield from scene_rows('ADDING', SCENES)
+    yield from scene_rows('ADDED', [(heard(), 'contact', b'', adds_contact)])
+
+
+if __name__ == '__main__':
+    print('\n'.join(table()).rstrip())
