@@ -2,7 +2,7 @@ mod Sides
 mod Keeping
 mod FirstIds
 mod Brought
-mod Fronts
+pub mod Fronts
 mod Copied
 mod Errors
 mod All

@@ -1,5 +1,6 @@
 mod LoadSteps
 mod LoadEnds
+mod LoadCounts
 mod Headers
 mod FormatLaws
 mod Framing

@@ -32,7 +32,7 @@ use Rattle.sync_store.specs.Ready.{IsReady}
 use Rattle.sync_store.specs.Faults.{load_of_start}
 use Rattle.sync_store.specs.declared.fault.LoadFault.{LoadFault}
 use Rattle.sync_store.specs.declared.fault.LoadFault.TheVariants as load
-use Rattle.sync_store.specs.Loading.{AreDamaged, HasReadAll, IsLoaded, LeavesSettled, ReadsAll, SoFar, StandsFor}
+use Rattle.sync_store.specs.Loading.{AreDamaged, HasReadAll, HasReadSome, IsLoaded, LeavesSettled, ReadsAll, SoFar, StandsFor}
 use Rattle.sync_store.proofs.FormatLaws.{known_format, unknown_format}
 use Rattle.sync_store.proofs.LoadSteps.{as_read}
 
@@ -78,6 +78,25 @@ no_records f session end empty =
     let none : takes_of f.takes session ≡ 0 = ap (λ (g : Facts). takes_of g.takes session) empty ∙ ap count_or (fin_map.get-empty nat_cmp session) in
     omega (arith, none)
 
+-- no batch was read yet
+pub starts_some : (clients : Meaning) (two : Two File) (j : JournalValue) (s : StateValue) → Starts (read_files two) (Ok j) → j.end ≡ 15 → s.facts ≡ nothing → HasReadSome clients two j s 0
+starts_some clients two j s is fresh empty =
+    let same : j.format ≡ format_in (file_of (read_files two) j.file) = ap (λ (v : JournalValue). v.format) is.2 in
+    let known = known_format j.format (ap is_format same ∙ is.1) in
+    let At : ℕ → Type 0 = λ n. Front clients (read_files two) j.file (format_meant j.format) [] n in
+    record {
+      read = record {
+        long = ap length (sym (as_read two j.file)) ∙ sym (ap (λ (v : JournalValue). v.len) is.2);
+        known_format = known;
+        format_is = ap format_in (sym (as_read two j.file)) ∙ sym same;
+        known_generation = ap generation_in (sym (as_read two j.file)) ∙ sym (ap (λ (v : JournalValue). v.generation) is.2);
+        done = [];
+        front = subst At (sym fresh) (front_start clients (read_files two) j.file (format_meant j.format) is.0 (ap format_of (sym same) ∙ known));
+        facts_are = sym empty;
+      };
+      counted = refl;
+    }
+
 -- the first gate
 pub starts_so_far : (clients : Meaning) (files : Option (Two File)) (j : JournalValue) (s : StateValue) → ((two : Two File) → files ≡ Some two → Starts (read_files two) (Ok j)) → (j.end ≡ 15)
     → s.facts ≡ nothing → Knows clients s → SoFar clients files j s
@@ -91,20 +110,7 @@ starts_so_far clients files j s starts fresh empty knows = record {
   started = omega (arith, fresh);
   bounded = omega (arith, fresh);
   begun = λ early. empty;
-  known = λ two told.
-      let is = starts two told in
-      let same : j.format ≡ format_in (file_of (read_files two) j.file) = ap (λ (v : JournalValue). v.format) is.2 in
-      let known = known_format j.format (ap is_format same ∙ is.1) in
-      let At : ℕ → Type 0 = λ n. Front clients (read_files two) j.file (format_meant j.format) [] n in
-      record {
-        long = ap length (sym (as_read two j.file)) ∙ sym (ap (λ (v : JournalValue). v.len) is.2);
-        known_format = known;
-        format_is = ap format_in (sym (as_read two j.file)) ∙ sym same;
-        known_generation = ap generation_in (sym (as_read two j.file)) ∙ sym (ap (λ (v : JournalValue). v.generation) is.2);
-        done = [];
-        front = subst At (sym fresh) (front_start clients (read_files two) j.file (format_meant j.format) is.0 (ap format_of (sym same) ∙ known));
-        facts_are = sym empty;
-      };
+  known = λ two told. (starts_some clients two j s (starts two told) fresh empty).read;
 }
 
 starts_none : (clients : Meaning) (o0 o1 : Outside) (two : Two File) → Becomes SyncsBoth o0.files o1.files → ((mid : Two File) → o1.files ≡ Some mid → Starts (read_files mid) (Err start.NoStore))

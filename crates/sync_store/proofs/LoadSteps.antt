@@ -1,5 +1,5 @@
 -- Steps of a load.
-use Rattle.std.proofs.Common.{◌≡◌, ℕ, zero, suc, ◌+◌, ◌-◌, ◌<◌, ◌≤◌, Bool, true, false, List, [], ◌∷◌, ◌++◌, length, drop, refl, sym, ap, subst, inl, inr, ◌∙◌, arith}
+use Rattle.std.proofs.Common.{◌≡◌, ℕ, zero, suc, ◌+◌, ◌-◌, ◌<◌, ◌≤◌, Bool, true, false, List, [], ◌∷◌, ◌++◌, length, drop, refl, sym, ap, subst, inl, inr, ◌∙◌, arith, length-append}
 use Rattle.std.specs.Prelude.{Option, Some, Result, Ok, Err}
 use Rattle.sync_rules.specs.Clients.{Meaning}
 use Rattle.sync_rules.specs.Facts.{Facts, after_all, facts}
@@ -25,7 +25,7 @@ use Rattle.sync_store.specs.Store.{HasNumbers, format_meant}
 use Rattle.sync_store.specs.Faults.{load_of_frame}
 use Rattle.sync_store.specs.declared.fault.LoadFault.{LoadFault}
 use Rattle.sync_store.specs.declared.fault.LoadFault.TheVariants as load
-use Rattle.sync_store.specs.Loading.{AreDamaged, HasItsRoom, HasPlayed, HasRead, IsAtEnd, IsRefused, Plays, ReadsAll, SoFar, Turns}
+use Rattle.sync_store.specs.Loading.{AreDamaged, HasItsRoom, HasPlayed, HasRead, HasReadSome, IsAtEnd, IsRefused, Plays, ReadsAll, SoFar, Turns}
 
 -- a file of the two as they read
 pub as_read : (two : Two File) (file : ℕ) → file_of (read_files two) file ≡ (file_of two file).now
@@ -71,6 +71,15 @@ has_more laws clients two j j' s s' to read next played =
       front = subst At (sym next.moved) more;
       facts_are = facts_push read.done played.batch ∙ ap (λ (f : Facts). after_all f played.batch) same ∙ sym played.facts_are;
     }
+
+-- it is one more
+pub more_read : CitedLaws → (clients : Meaning) (two : Two File) (j j' : JournalValue) (s s' : StateValue) (to : List ℕ) (batches : ℕ) → HasReadSome clients two j s batches
+    → NextFrame (file_of two j.file).now j j' to → HasPlayed clients (format_meant j'.format) s s' to → HasReadSome clients two j' s' (batches + 1)
+unfolding has_more
+more_read laws clients two j j' s s' to batches some next played = record {
+  read = has_more laws clients two j j' s s' to some.read next played;
+  counted = length-append some.read.done (played.batch ∷ []) ∙ ap (λ n. n + 1) some.counted;
+}
 
 -- the counts after a batch are bounded by the end behind its frame
 more_numbers : CitedLaws → (clients : Meaning) (format : Format) (s s' : StateValue) (to : List ℕ) (end end' : ℕ) → HasPlayed clients format s s' to → HasNumbers s.facts end → end + 1 ≤ end' → HasNumbers s'.facts end'
@@ -209,6 +218,9 @@ moves_true j j' more is moves = let P : Bool → Type 0 = λ b. Moves j j' (Ok b
 
 pub turns_false : (clients : Meaning) (files : Option (Two File)) (j j' : JournalValue) (s : StateValue) (more : Bool) → more ≡ false → Turns clients files j j' s (Ok more) → SoFar clients files j' s × IsAtEnd files j' × (j'.file ≡ j.file)
 turns_false clients files j j' s more is turn = let P : Bool → Type 0 = λ b. Turns clients files j j' s (Ok b) in subst P is turn
+
+pub turns_true : (clients : Meaning) (files : Option (Two File)) (j j' : JournalValue) (s : StateValue) (more : Bool) → more ≡ true → Turns clients files j j' s (Ok more) → SoFar clients files j' s × (j.end < j'.end) × (j'.file ≡ j.file)
+turns_true clients files j j' s more is turn = let P : Bool → Type 0 = λ b. Turns clients files j j' s (Ok b) in subst P is turn
 
 pub played_as : (clients : Meaning) (j : JournalValue) (s s' : StateValue) (to to' : List ℕ) (r : Result (Unit {0}) LoadFault) → to ≡ to' → Plays clients j s s' to r → Plays clients j s s' to' r
 played_as clients j s s' to to' r is played = let P : List ℕ → Type 0 = λ l. Plays clients j s s' l r in subst P is played

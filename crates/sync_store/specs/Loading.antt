@@ -1,12 +1,14 @@
 -- What a load answers, and how far it has come.
-use Rattle.std.specs.Prelude.{◌≡◌, ◌⊎◌, ℕ, ◌+◌, ◌-◌, ◌<◌, ◌≤◌, Bool, true, false, List, length, Option, None, Some, Result, Ok, Err}
+use Rattle.std.specs.Prelude.{◌≡◌, ◌⊎◌, ℕ, ◌+◌, ◌*◌, ◌-◌, ◌<◌, ◌≤◌, Bool, true, false, List, length, Option, None, Some, Result, Ok, Err, IfOk, OnOk}
 use Rattle.std.specs.List.{AllByRecursion}
 use Rattle.outside.specs.Files.{Two, File, file_of, read_files}
 use Rattle.outside.specs.Frames.{closed, format_in, frame_at, generation_in}
 use Rattle.outside.specs.Disk.{Becomes}
+use Rattle.outside.specs.Outside.{Outside, MakesAtMost, MakesJust}
 use Rattle.outside.specs.declared.disk.Place.{Place}
 use Rattle.frame_journal.specs.Gates.{SyncsBoth}
 use Rattle.frame_journal.specs.Journal.{JournalValue}
+use Rattle.frame_journal.specs.Next.{FrameCalls}
 use Rattle.sync_rules.specs.declared.entries.Entry.{Entry}
 use Rattle.sync_rules.specs.Clients.{Meaning}
 use Rattle.sync_rules.specs.Facts.{after_all, facts, nothing}
@@ -58,6 +60,45 @@ pub record HasRead (clients : Meaning) (two : Two File) (j : JournalValue) (s : 
   pub done : List (List Entry)
   pub front : Front clients (read_files two) j.file (format_meant j.format) done j.end
   pub facts_are : facts done ≡ s.facts
+
+-- so many batches were read of these files
+pub record HasReadSome (clients : Meaning) (two : Two File) (j : JournalValue) (s : StateValue) (batches : ℕ) : Type 0 where
+  pub read : HasRead clients two j s
+  pub counted : length read.done ≡ batches
+
+-- where the files are told, a batch more was read, or none was left
+abbrev pub ReadsMore : Meaning → Option (Two File) → JournalValue → JournalValue → StateValue → StateValue → Result Bool LoadFault → Type 0
+ReadsMore clients files j j' s s' (Ok true) =
+    (two : Two File) → files ≡ Some two → (batches : ℕ) → HasReadSome clients two j s batches → HasReadSome clients two j' s' (batches + 1)
+ReadsMore clients files j j' s s' (Ok false) =
+    (two : Two File) → files ≡ Some two → (batches : ℕ) → HasReadSome clients two j s batches → HasReadSome clients two j' s' batches
+ReadsMore clients files j j' s s' (Err e) = Unit {0}
+
+-- a frame takes two calls of the disk, and the closed gate one
+pub record TurnCalls {E : Type 0} (result : Result Bool E) (old new : Outside) : Type 0 where
+  pub just : IfOk result (λ more. FrameCalls more old new)
+  pub most : MakesAtMost 2 old new
+
+-- How many calls of the disk it takes to read the frames of so many batches: two for each, and one at the closed gate. Where it
+-- fails, at most one more.
+pub record ReadsWithin {T E : Type 0} (batches : ℕ) (result : Result T E) (old new : Outside) : Type 0 where
+  pub just : OnOk result (MakesJust (2 * batches + 1) old new)
+  pub most : MakesAtMost (2 * batches + 2) old new
+
+-- how many calls of the disk a load of a journal of so many batches takes: two for the barrier, three for the header and the
+-- length, and those for the frames
+pub record LoadsWithin {T E : Type 0} (batches : ℕ) (result : Result T E) (old new : Outside) : Type 0 where
+  pub just : OnOk result (MakesJust (2 * batches + 6) old new)
+  pub most : MakesAtMost (2 * batches + 7) old new
+
+-- so many where the files are told and stand for a journal
+abbrev pub ReadsIn : {T E : Type 0} → Meaning → Result T E → (old new : Outside) → Type 0
+ReadsIn clients result old new =
+    (two : Two File) → old.files ≡ Some two → (done : List (List Entry)) → stands clients (read_files two) ≡ journal done → ReadsWithin (length done) result old new
+
+abbrev pub LoadsIn : {T E : Type 0} → Meaning → Result T E → (old new : Outside) → Type 0
+LoadsIn clients result old new =
+    (two : Two File) → old.files ≡ Some two → (done : List (List Entry)) → stands clients (read_files two) ≡ journal done → LoadsWithin (length done) result old new
 
 -- A reader of a journal's file has played the batches up to its gate: the state is that of these batches.
 pub record SoFar (clients : Meaning) (files : Option (Two File)) (j : JournalValue) (s : StateValue) : Type 0 where

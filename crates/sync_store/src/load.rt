@@ -9,8 +9,9 @@ ghost use Rattle.frame_journal.specs.Gates.{AnyImage, ReadsSame};
 ghost use Rattle.journal_state.specs.Taking.{HasNextNumbers};
 ghost use Rattle.journal_state.specs.Whole.{Knows};
 ghost use Rattle.sync_rules.specs.Facts.{nothing};
-ghost use Rattle.sync_store.specs.Loading.{HasItsRoom, IsLoaded, LeavesSettled, Plays, ReadsAll};
-ghost use Rattle.sync_store.specs.Loading.{SoFar, Turns};
+ghost use Rattle.sync_store.specs.Loading.{HasItsRoom, HasReadSome, IsLoaded, LeavesSettled};
+ghost use Rattle.sync_store.specs.Loading.{LoadsIn, Plays, ReadsAll, TurnCalls, ReadsMore};
+ghost use Rattle.sync_store.specs.Loading.{ReadsIn, SoFar, Turns};
 ghost use Rattle.sync_store.specs.Ready.{IsReady};
 ghost use Rattle.sync_store.specs.Store.{IsStore};
 
@@ -62,6 +63,9 @@ fn read_next<D: Disk, C: Clients>(
     requires { SoFar (C.meaning clients.now) (D.tells disk.old).files journal.old state.old }
     ensures turn { Turns (C.meaning clients.now) (D.tells disk.new).files journal.old journal.new
         state.new result }
+    ensures more { ReadsMore (C.meaning clients.now) (D.tells disk.old).files journal.old
+        journal.new state.old state.new result }
+    ensures calls { TurnCalls result (D.tells disk.old) (D.tells disk.new) }
     ensures looks { Looks (D.tells disk.old) (D.tells disk.new) }
     ensures fault { IsErrOf result LoadFault.DiskFault
         → Rose (D.tells disk.old).disk_faults (D.tells disk.new).disk_faults }
@@ -101,9 +105,12 @@ fn read_all<D: Disk, C: Clients>(
     journal: &mut Journal,
     state: &mut State,
 ) -> Result<(), LoadFault>
-    requires { SoFar (C.meaning clients.now) (D.tells disk.old).files journal.old state.old }
+    requires so_far { SoFar (C.meaning clients.now) (D.tells disk.old).files journal.old state.old }
+    requires unread { (two : Two File) → (D.tells disk.old).files ≡ Some two
+        → HasReadSome (C.meaning clients.now) two journal.old state.old 0 }
     ensures all { ReadsAll (C.meaning clients.now) (D.tells disk.new).files journal.new state.new
         result }
+    ensures calls { ReadsIn (C.meaning clients.now) result (D.tells disk.old) (D.tells disk.new) }
     ensures looks { Looks (D.tells disk.old) (D.tells disk.new) }
     ensures fault { IsErrOf result LoadFault.DiskFault
         → Rose (D.tells disk.old).disk_faults (D.tells disk.new).disk_faults }
@@ -123,7 +130,8 @@ impl Store {
     /// `limit` is the length in bytes that commits may fill, at most `MAX_JOURNAL`; ids are hashed
     /// by `hasher`. `NoStore` comes exactly where no file has an open header, `Damaged` exactly
     /// where the files stand for no legal journal, with the first place that shows it, and
-    /// `DiskFault` only where a call on the disk failed.
+    /// `DiskFault` only where a call on the disk failed. A journal of n batches takes 2 n + 6 calls
+    /// of the disk.
     pub fn load<D: Disk, C: Clients>(
         alloc: Global,
         hasher: RandomState,
@@ -142,6 +150,10 @@ impl Store {
         // At each moment a crash leaves what it might have left before.
         ensures any_moment { AnyImage (D.tells disk.old) (D.tells disk.new) }
         ensures settled { LeavesSettled (D.tells disk.old).files (D.tells disk.new).files result }
+
+        // So many calls of the disk it makes over files that stand for a journal.
+        ensures calls { LoadsIn (C.meaning clients.now) result (D.tells disk.old)
+            (D.tells disk.new) }
 
         // Whatever it answers, the files read as before.
         ensures reads { Becomes ReadsSame (D.tells disk.old).files (D.tells disk.new).files }

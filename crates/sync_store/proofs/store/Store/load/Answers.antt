@@ -1,4 +1,7 @@
-use Rattle.std.proofs.Common.{◌≡◌, sym, ◌∙◌, subst, Result}
+use Rattle.std.proofs.Common.{◌≡◌, sym, ap, ◌∙◌, subst, Result, length, lit≤}
+use Rattle.outside.proofs.CallCounts.{most_then}
+use Rattle.entry_codec.specs.Standing.{stands}
+use Rattle.sync_store.specs.declared.fault.LoadFault.TheVariants as load
 use Rattle.sync_rules.specs.Facts.{nothing}
 use Rattle.outside.proofs.CallSteps.{looks_then, run_then}
 use Rattle.outside.specs.Files.{read_files}
@@ -7,7 +10,8 @@ use Rattle.sync_store.specs.Faults.{load_of_start}
 use Rattle.sync_store.specs.Loading.{IsLoaded, LeavesSettled}
 use Rattle.sync_store.specs.declared.fault.LoadFault.{LoadFault}
 use Rattle.sync_store.proofs.Errors.{err_is}
-use Rattle.sync_store.proofs.LoadEnds.{answers, answers_fault, images_then, knows_none, reads_leaves, ready_loaded, starts_fault, starts_leaves, starts_so_far, store_of}
+use Rattle.sync_store.proofs.LoadEnds.{answers, answers_fault, barrier_told, images_then, knows_none, reads_leaves, ready_loaded, starts_fault, starts_leaves, starts_so_far, starts_some, store_of}
+use Rattle.sync_store.proofs.LoadCounts.{loads_cut, loads_failed, loads_whole}
 use Rattle.sync_store.proofs.store.Store.load.Goals as goal
 
 pub returns-in_err-journal-clause-answer : goal.returns-in_err-journal-clause-answer
@@ -33,12 +37,17 @@ pub returns-in_err-state-clause-any_moment : goal.returns-in_err-state-clause-an
 returns-in_err-state-clause-any_moment g c =
     images_then (g.D.Disk.tells c.args.disk.now) (g.D.Disk.tells c.barrier.new.disk) (g.D.Disk.tells c.start.new.disk) c.barrier.ensures.any_moment c.in_ok-barrier.ensures.settled c.barrier.ensures.run c.start.ensures.looks
 
-pub read_all-requires : goal.read_all-requires
-read_all-requires g c =
+pub read_all-requires-clause-so_far : goal.read_all-requires-clause-so_far
+read_all-requires-clause-so_far g c =
     let clients = g.C.Clients.meaning c.args.clients.now in
     let empty : c.in_ok-state.state.facts ≡ nothing = c.in_ok-state.ensures.facts in
     starts_so_far clients (g.D.Disk.tells c.start.new.disk).files c.in_ok-journal.journal c.in_ok-state.state (λ two told. c.in_ok-journal.ensures.start two (sym c.start.ensures.looks.same_files ∙ told)) c.in_ok-journal.ensures.fresh.1 empty
     (knows_none clients c.in_ok-state.state empty c.in_ok-state.ensures.answers)
+
+pub read_all-requires-clause-unread : goal.read_all-requires-clause-unread
+read_all-requires-clause-unread g c two told =
+    starts_some (g.C.Clients.meaning c.args.clients.now) two c.in_ok-journal.journal c.in_ok-state.state (c.in_ok-journal.ensures.start two (sym c.start.ensures.looks.same_files ∙ told))
+    c.in_ok-journal.ensures.fresh.1 c.in_ok-state.ensures.facts
 
 pub returns-in_err-read_all-clause-answer : goal.returns-in_err-read_all-clause-answer
 returns-in_err-read_all-clause-answer g c two told =
@@ -95,3 +104,45 @@ returns-clause-run g c =
     let o2 = g.D.Disk.tells c.start.new.disk in
     let o3 = g.D.Disk.tells c.read_all.new.disk in
     run_then (g.D.Disk.tells c.args.disk.now) o1 o3 c.barrier.ensures.run (looks_then o1 o2 o3 c.start.ensures.looks c.read_all.ensures.looks).run
+
+pub returns-in_err-barrier-clause-calls : goal.returns-in_err-barrier-clause-calls
+returns-in_err-barrier-clause-calls g c two told j stood =
+    loads_failed load.DiskFault c.from_residual.result (length j) 2 (g.D.Disk.tells c.args.disk.now) (g.D.Disk.tells c.barrier.new.disk)
+    (err_is c.from_residual.result load.DiskFault c.from_residual.ensures.1) (lit≤ tt) c.barrier.ensures.calls.most
+
+pub returns-in_err-journal-clause-calls : goal.returns-in_err-journal-clause-calls
+returns-in_err-journal-clause-calls g c two told j stood =
+    let o1 = g.D.Disk.tells c.barrier.new.disk in
+    let e = load_of_start c.in_err-journal.field-0.0 in
+    loads_failed e c.from_residual-in_err-journal.result (length j) 5 (g.D.Disk.tells c.args.disk.now) (g.D.Disk.tells c.start.new.disk)
+    (err_is c.from_residual-in_err-journal.result e c.from_residual-in_err-journal.ensures.1) (lit≤ tt)
+    (most_then 2 3 (g.D.Disk.tells c.args.disk.now) o1 (g.D.Disk.tells c.start.new.disk) c.barrier.ensures.calls.most c.start.ensures.calls.most)
+
+pub returns-in_err-state-clause-calls : goal.returns-in_err-state-clause-calls
+returns-in_err-state-clause-calls g c two told j stood =
+    let o1 = g.D.Disk.tells c.barrier.new.disk in
+    loads_failed load.Memory c.from_residual-in_err-state.result (length j) 5 (g.D.Disk.tells c.args.disk.now) (g.D.Disk.tells c.start.new.disk)
+    (err_is c.from_residual-in_err-state.result load.Memory c.from_residual-in_err-state.ensures.1) (lit≤ tt)
+    (most_then 2 3 (g.D.Disk.tells c.args.disk.now) o1 (g.D.Disk.tells c.start.new.disk) c.barrier.ensures.calls.most c.start.ensures.calls.most)
+
+pub returns-in_err-read_all-clause-calls : goal.returns-in_err-read_all-clause-calls
+returns-in_err-read_all-clause-calls g c two told j stood =
+    let clients = g.C.Clients.meaning c.args.clients.now in
+    let o0 = g.D.Disk.tells c.args.disk.now in
+    let o1 = g.D.Disk.tells c.barrier.new.disk in
+    let o2 = g.D.Disk.tells c.start.new.disk in
+    let mid = barrier_told o0 o1 two c.in_ok-barrier.ensures.settled told in
+    let e = c.in_err-read_all.field-0.0 in
+    loads_cut e c.from_residual-in_err-read_all.result _ (length j) o0 o1 o2 (g.D.Disk.tells c.read_all.new.disk) (err_is c.from_residual-in_err-read_all.result e c.from_residual-in_err-read_all.ensures.1)
+    c.in_ok-barrier.ensures.calls.just c.in_ok-journal.ensures.calls.just
+    (c.read_all.ensures.calls mid.0 (c.start.ensures.looks.same_files ∙ mid.1) j (ap (stands clients) mid.2 ∙ stood))
+
+pub returns-clause-calls : goal.returns-clause-calls
+returns-clause-calls g c two told j stood =
+    let clients = g.C.Clients.meaning c.args.clients.now in
+    let o0 = g.D.Disk.tells c.args.disk.now in
+    let o1 = g.D.Disk.tells c.barrier.new.disk in
+    let o2 = g.D.Disk.tells c.start.new.disk in
+    let mid = barrier_told o0 o1 two c.in_ok-barrier.ensures.settled told in
+    loads_whole (store_of c.read_all.new.journal c.read_all.new.state c.args.limit) tt (length j) o0 o1 o2 (g.D.Disk.tells c.read_all.new.disk) c.in_ok-barrier.ensures.calls.just
+    c.in_ok-journal.ensures.calls.just (c.in_ok-read_all.ensures.calls mid.0 (c.start.ensures.looks.same_files ∙ mid.1) j (ap (stands clients) mid.2 ∙ stood))
