@@ -98,7 +98,7 @@ fn new_file(alloc: Global, group: &GroupId) -> Result<Vec<u8>, AllocError> {
 }
 
 /// Both files, the old one of this generation.
-fn journals(alloc: Global, generation: u64) -> Result<Journals> {
+fn make_journals(alloc: Global, generation: u64) -> Result<Journals> {
     let group = group_id(&group_def(alloc, "note")?);
     let id = id_of(&note(alloc, 0)?);
     Ok(Journals {
@@ -109,7 +109,7 @@ fn journals(alloc: Global, generation: u64) -> Result<Journals> {
 
 /// Stops at each call of a migration, and lets one come to its end.
 pub(crate) fn stop_each(rt: &impl Print, alloc: Global) -> Result<()> {
-    let journals = journals(alloc, 1)?;
+    let journals = make_journals(alloc, 1)?;
     let mut images = Images::default();
     for stop in 0..CALLS {
         stop_at(rt, alloc, &journals, stop, &mut images)?;
@@ -224,7 +224,7 @@ fn end(rt: &impl Print, alloc: Global, journals: &Journals) -> Result<()> {
 
 /// The last generation leaves none for a new file: the store is full, open, and as it was.
 fn spend(rt: &impl Print, alloc: Global) -> Result<()> {
-    let journals = journals(alloc, u64::MAX)?;
+    let journals = make_journals(alloc, u64::MAX)?;
     let mut node = loaded(alloc, &journals, u64::MAX)?;
     let full = Err(StoreFault::Full);
     compare(rt, "the last generation", WHOLE, &node.migrate(), &full);
