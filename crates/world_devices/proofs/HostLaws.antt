@@ -258,3 +258,11 @@ calls_then a b c first second = go_on_then (calls_of a.disk) (calls_of b.disk) (
 -- of a host that is another one by name
 pub calls_seen : (h h' at : MemHostValue) → h ≡ h' → HostGoesOn h at → HostGoesOn h' at
 calls_seen h h' at is goes = subst (λ (x : MemHostValue). HostGoesOn x at) is goes
+
+-- of a host whose clock is set, or that begins anew, no call of the disk is made
+pub made_clocked : (h h' : MemHostValue) (clock : Readings) (result : Result (Unit {0}) AllocError) → OnOk result (h' ≡ record h { clock = clock }) → OnErr result (h' ≡ h) → h'.disk.made ≡ h.disk.made
+made_clocked h h' clock (Ok u) ok err = ap (λ (x : MemHostValue). x.disk.made) ok
+made_clocked h h' clock (Err e) ok err = ap (λ (x : MemHostValue). x.disk.made) err
+
+pub made_anew : (h h' : MemHostValue) → h' ≡ fresh_host h.disk → h'.disk.made ≡ h.disk.made
+made_anew h h' is = ap (λ (x : MemHostValue). x.disk.made) is

@@ -1,12 +1,13 @@
 -- What a device comes to that starts again: its journal, settled, over its files or over what a crash left of them.
-use Rattle.std.proofs.Common.{◌≡◌, ◌≤◌, ℕ, List, [], ◌∷◌, ◌++◌, refl, sym, ap, ◌∙◌, subst, inr, append-nil, Option, Some, None, Result, Ok, Err, OnOk}
+use Rattle.std.proofs.Common.{◌≡◌, ◌+◌, ◌*◌, ◌≤◌, ℕ, List, length, arith, [], ◌∷◌, ◌++◌, refl, sym, ap, ◌∙◌, subst, inr, append-nil, Option, Some, None, Result, Ok, Err, OnOk}
 use Rattle.outside.specs.Files.{Two, File, IsImage, read_files, settled}
 use Rattle.outside.specs.HostTold.{host_told}
 use Rattle.outside.specs.Links.{Links, sent_of}
 use Rattle.outside.specs.MemDisk.{calls_of, fresh}
+use Rattle.outside.proofs.CallCounts.{most_more, most_then}
 use Rattle.outside.proofs.CallSteps.{go_on_then}
 use Rattle.outside.specs.MemHost.{Crashes, MemHostValue, fresh_host, upcoming_of}
-use Rattle.outside.specs.Outside.{Moment, Outside}
+use Rattle.outside.specs.Outside.{MakesAtMost, Moment, Outside}
 use Rattle.outside.specs.declared.limits.TheConstants.{LINKS}
 use Rattle.outside.specs.declared.pick.Pick.{Pick}
 use Rattle.frame_journal.specs.Gates.{AnyImage}
@@ -16,13 +17,15 @@ use Rattle.sync_rules.specs.Facts.{Facts, after_all, facts}
 use Rattle.sync_rules.specs.Legal.{AllSettling}
 use Rattle.sync_rules.specs.Steps.{IsSettled}
 use Rattle.sync_store.specs.Fitting.{Fits}
+use Rattle.sync_store.specs.Loading.{LoadsIn}
 use Rattle.sync_store.specs.Ready.{IsReady}
 use Rattle.sync_store.specs.Settling.{HasSettled}
 use Rattle.sync_store.specs.Store.{StoreValue}
+use Rattle.sync_store.specs.declared.fault.LoadFault.{LoadFault}
 use Rattle.sync_store.specs.declared.fault.StoreFault.{StoreFault}
 use Rattle.world_devices.specs.Brought.{IsSilent}
 use Rattle.world_devices.specs.Devices.{DeviceValue, HostGoesOn, IsAnew, links_made}
-use Rattle.world_devices.specs.Doing.{BreaksOff, CrashesTo, ComesOf, HoldsSettling, IsAhead, IsNotFull, Restarts, SettlesFrom, StandsSettling, StartsAgain}
+use Rattle.world_devices.specs.Doing.{BreaksOff, CameStarting, CrashesTo, ComesOf, HoldsSettling, IsAhead, IsNotFull, Restarts, SettlesFrom, SettlesWithin, StandsSettling, StartsAgain, StartsWithin}
 use Rattle.world_devices.specs.Keeping.{IsQuiet, Journal, TellsSame}
 use Rattle.world_devices.specs.Linking.{IsUnlinked}
 use Rattle.world_devices.specs.Refusals.{IsNotRefused}
@@ -122,6 +125,70 @@ holds_settling j h holds = record {
   };
 }
 
+-- ---- how many calls of the disk a start makes
+
+-- no more than four for each settling batch
+pub settles_within : (j : Journal) (s s' : StoreValue) (result : Result (Unit {0}) StoreFault) (h h' : MemHostValue) → IsReady bundle_meaning s (host_told h).files
+    → HasSettled bundle_meaning s s' result (host_told h) (host_told h') → Holds j h → SettlesWithin j (host_told h) (host_told h')
+settles_within j s s' result h h' ready settled holds =
+    let has = journal_of s h ready in
+    let same : has.whole ≡ j = holds_fits s j has.whole h holds has.fits in
+    let f : s.state.facts ≡ facts j = sym has.fits.facts_are ∙ ap facts same in
+    record {
+      more = settled.more;
+      settling = subst (λ (g : Facts). AllSettling bundle_meaning g settled.more) f settled.comes.settling;
+      most = settled.comes.calls.most;
+    }
+
+-- no more than the load of the journal takes
+load_most : (j : Journal) (result : Result StoreValue LoadFault) (h h' : MemHostValue) → LoadsIn bundle_meaning result (host_told h) (host_told h') → Holds j h → MakesAtMost (2 * length j + 7) (host_told h) (host_told h')
+load_most j result h h' loads holds =
+    let two = (told_host h).two in
+    let told = (told_host h).files_are in
+    (loads two told j (holds.each two told (read_files two) ((host_told h).reads two told))).most
+
+-- a load that failed
+pub load_within : (j : Journal) (result : Result StoreValue LoadFault) (h h' : MemHostValue) → LoadsIn bundle_meaning result (host_told h) (host_told h') → Holds j h → StartsWithin j (host_told h) (host_told h')
+load_within j result h h' loads holds = record {
+  more = [];
+  settling = tt;
+  most = most_more (2 * length j + 7) (2 * length j + 7 + 4 * 0) (host_told h) (host_told h') (omega arith) (load_most j result h h' loads holds);
+}
+
+-- a load, and settling behind it
+pub load_settles : (j : Journal) (result : Result StoreValue LoadFault) (h h' at : MemHostValue) → LoadsIn bundle_meaning result (host_told h) (host_told h') → Holds j h → SettlesWithin j (host_told h') (host_told at)
+    → StartsWithin j (host_told h) (host_told at)
+load_settles j result h h' at loads holds within = record {
+  more = within.more;
+  settling = within.settling;
+  most = most_then (2 * length j + 7) (4 * length within.more) (host_told h) (host_told h') (host_told at) (load_most j result h h' loads holds) within.most;
+}
+
+-- behind what makes no call of the disk
+pub within_then : (j : Journal) (h h' at : MemHostValue) → h'.disk.made ≡ h.disk.made → StartsWithin j (host_told h') (host_told at) → StartsWithin j (host_told h) (host_told at)
+within_then j h h' at same within = record {
+  more = within.more;
+  settling = within.settling;
+  most = record { made = subst (λ (n : ℕ). at.disk.made ≤ n + (2 * length j + 7 + 4 * length within.more)) same within.most.made };
+}
+
+-- no call of the disk was made
+pub within_none : (j : Journal) (h at : MemHostValue) → at.disk.made ≡ h.disk.made → StartsWithin j (host_told h) (host_told at)
+within_none j h at same = record {
+  more = [];
+  settling = tt;
+  most = record { made = omega (arith, same) };
+}
+
+-- of a host that is another one by name
+pub within_seen : (j : Journal) (h h' at : MemHostValue) → h ≡ h' → (Holds j h → StartsWithin j (host_told h) (host_told at)) → Holds j h' → StartsWithin j (host_told h') (host_told at)
+within_seen j h h' at is within holds = subst (λ (x : MemHostValue). Holds j x → StartsWithin j (host_told x) (host_told at)) is within holds
+
+-- of a device that dialled its links and set its clock, and then loaded its store
+pub start_within : (j : Journal) (h h' at : MemHostValue) → (host_told h').files ≡ (host_told h).files → h'.disk.made ≡ h.disk.made → (Holds j h' → StartsWithin j (host_told h') (host_told at))
+    → Holds j h → StartsWithin j (host_told h) (host_told at)
+start_within j h h' at files same loaded holds = within_then j h h' at same (loaded (holds_on j h h' files holds))
+
 -- ---- a device that starts
 
 pub start_settling : (j : Journal) (h0 h2 h3 : MemHostValue) → (host_told h2).files ≡ (host_told h0).files → (Holds j h2 → HoldsSettling j h3) → Holds j h0 → HoldsSettling j h3
@@ -184,17 +251,17 @@ starts_again d old new h seen files loads anew unlinked clock stop since ahead =
       loads = λ j holds. loads j (holds_on j d.host h files holds);
     })
 
-pub restart_broken : (result : Result (Unit {0}) StepFault) (d old mid new : DeviceValue) → d ≡ old → HostGoesOn d.host mid.host → ((j : Journal) → Holds j d.host → HoldsSettling j mid.host) → mid.stop ≡ d.stop → mid.clock ≡ d.clock → new.clock ≡ mid.clock
+pub restart_broken : (result : Result (Unit {0}) StepFault) (d old mid new : DeviceValue) → d ≡ old → HostGoesOn d.host mid.host → ((j : Journal) → Holds j d.host → HoldsSettling j mid.host) → CameStarting d mid.host → mid.stop ≡ d.stop → mid.clock ≡ d.clock → new.clock ≡ mid.clock
     → OnOk result (BreaksOff mid.stop mid.host new) → ComesOf mid.host new.host → IsNotRefused result → IsNotFull result → Restarts result old new
-restart_broken (Ok u) d old mid new seen since settling stop clock went off left unrefused unfilled =
+restart_broken (Ok u) d old mid new seen since settling came stop clock went off left unrefused unfilled =
     subst (λ (x : DeviceValue). Restarts (Ok u) x new) seen (inr (record {
       at = mid.host;
       since = since;
-      broken = settling;
+      broken = (settling, came);
       off = subst (λ (s : Option Stop). BreaksOff s mid.host new) stop off;
       clock = went ∙ clock;
     }))
-restart_broken (Err fault.Refused) d old mid new seen since settling stop clock went off left unrefused unfilled = absurd unrefused
-restart_broken (Err fault.Full) d old mid new seen since settling stop clock went off left unrefused unfilled = absurd unfilled
-restart_broken (Err fault.Memory) d old mid new seen since settling stop clock went off left unrefused unfilled =
+restart_broken (Err fault.Refused) d old mid new seen since settling came stop clock went off left unrefused unfilled = absurd unrefused
+restart_broken (Err fault.Full) d old mid new seen since settling came stop clock went off left unrefused unfilled = absurd unfilled
+restart_broken (Err fault.Memory) d old mid new seen since settling came stop clock went off left unrefused unfilled =
     subst (λ (x : DeviceValue). Restarts (Err fault.Memory) x new) seen (record { at = mid.host; since = since; broken = settling; left = left })

@@ -1,5 +1,5 @@
 -- What calls of a device do: the entry that stands in its journal, a turn, and where a stop of its disk leads.
-use Rattle.std.specs.Prelude.{◌≡◌, ◌⊎◌, ℕ, ◌+◌, ◌<◌, ◌≤◌, ◌^◌, Bool, if◌then◌else◌, nat_lt, List, [], ◌∷◌, ◌++◌, Option, Some, None, Result, Ok, Err}
+use Rattle.std.specs.Prelude.{◌≡◌, ◌⊎◌, ℕ, ◌+◌, ◌*◌, ◌<◌, ◌≤◌, ◌^◌, Bool, if◌then◌else◌, nat_lt, List, [], ◌∷◌, ◌++◌, length, Option, Some, None, Result, Ok, Err}
 use Rattle.std.specs.Option.{option_map}
 use Rattle.outside.specs.Files.{Two, File, IsImage}
 use Rattle.outside.specs.HostTold.{host_told}
@@ -8,6 +8,7 @@ use Rattle.outside.specs.Calls.{CallsGoOn}
 use Rattle.outside.specs.MemDisk.{MemDiskValue, calls_of, disk_files, files_of}
 use Rattle.outside.specs.MemHost.{MemHostValue, reading_set, script_of, with_script}
 use Rattle.outside.specs.MemImage.{Pictures}
+use Rattle.outside.specs.Outside.{MakesAtMost, Outside}
 use Rattle.outside.specs.declared.pick.Pick.{Pick}
 use Rattle.client_basic.specs.Bodies.{bundle_meaning}
 use Rattle.entry_codec.specs.Standing.{stands, journal}
@@ -15,6 +16,7 @@ use Rattle.sync_rules.specs.declared.entries.Entry.{Entry}
 use Rattle.sync_rules.specs.declared.entries.Entry.TheVariants as entry
 use Rattle.sync_rules.specs.declared.entries.Session.{Session}
 use Rattle.sync_rules.specs.Facts.{after_all, facts}
+use Rattle.sync_rules.specs.Legal.{AllSettling}
 use Rattle.sync_rules.specs.Steps.{IsSettled}
 use Rattle.sync_store.specs.Store.{StoreValue}
 use Rattle.sync_store.specs.Commits.{needed}
@@ -76,6 +78,19 @@ pub record ComesOfImage (at : MemHostValue) (files : Two (List ℕ)) : Type 0 wh
 -- so is whatever a crash leaves of the files of another host
 pub record ComesOf (at host : MemHostValue) : Type 0 where
   pub each : (two : Two File) → (host_told host).files ≡ Some two → (left : Two (List ℕ)) → IsImage two left → ComesOfImage at left
+
+-- Settling behind this journal came there by no more than four calls of the disk for each of some settling batches.
+pub record SettlesWithin (j : Journal) (old new : Outside) : Type 0 where
+  pub more : Journal
+  pub settling : AllSettling bundle_meaning (facts j) more
+  pub most : MakesAtMost (4 * length more) old new
+
+-- A start over files that stand for this journal came there by no more calls of the disk than its load takes, and four for each of
+-- some settling batches behind it.
+pub record StartsWithin (j : Journal) (old new : Outside) : Type 0 where
+  pub more : Journal
+  pub settling : AllSettling bundle_meaning (facts j) more
+  pub most : MakesAtMost (2 * length j + 7 + 4 * length more) old new
 
 -- A device was started again over this image of the files of a host: what the image stands for was settled. It has no links, and
 -- no stop is left.
@@ -271,9 +286,14 @@ pub record StartsAgain (old new : DeviceValue) : Type 0 where
 abbrev pub HasSettling : DeviceValue → MemHostValue → Type 0
 HasSettling old at = (j : Journal) → Holds j old.host → HoldsSettling j at
 
--- it starts again; where its disk stopped in that, settling had come so far as it had, and it starts once more
+-- it came there by no more calls of the disk than a start over such a journal takes
+abbrev pub CameStarting : DeviceValue → MemHostValue → Type 0
+CameStarting old at = (j : Journal) → Holds j old.host → StartsWithin j (host_told old.host) (host_told at)
+
+-- It starts again. Where its disk stopped in that, settling had come so far as it had, no more calls were made than that takes, and it
+-- starts once more.
 abbrev pub Restarts : Result (Unit {0}) StepFault → DeviceValue → DeviceValue → Type 0
-Restarts (Ok _) old new = StartsAgain old new ⊎ StopsIn (HasSettling old) old new
+Restarts (Ok _) old new = StartsAgain old new ⊎ StopsIn (λ at. HasSettling old at × CameStarting old at) old new
 Restarts (Err fault.Refused) old new = ⊥
 Restarts (Err fault.Full) old new = ⊥
 Restarts (Err fault.Memory) old new = GivesUp (HasSettling old) old new

@@ -21,8 +21,8 @@ ghost use Rattle.world_devices.specs.Running.{DeviceRuns, Holds, IsStill, Leaves
 ghost use Rattle.world_devices.specs.Doing.{Adds, Attaches, BreaksOff, ComesOf, CrashesTo};
 ghost use Rattle.world_devices.specs.Doing.{HoldsSettling, IsAhead, IsNotFull, KeepsOwn};
 ghost use Rattle.world_devices.specs.Doing.{KeepsRest, Restarts};
-ghost use Rattle.world_devices.specs.Doing.{SettlesFrom, Turns, clocked, stopped, with_plan};
-ghost use Rattle.world_devices.specs.Doing.{with_stop};
+ghost use Rattle.world_devices.specs.Doing.{SettlesFrom, StartsWithin, Turns, clocked, stopped};
+ghost use Rattle.world_devices.specs.Doing.{with_plan, with_stop};
 ghost use Rattle.outside.specs.Script.{planned_of};
 
 use crate::starting::{StartFault, begin, cite_laws, dial_all, load};
@@ -240,6 +240,8 @@ impl Device {
         ensures settling { (j : Journal) → Holds j self.old.host → HoldsSettling j self.new.host }
         ensures anew { OnOk result (IsAnew self.new.clock self.new.host) }
         ensures calls { HostGoesOn self.old.host self.new.host }
+        ensures within { (j : Journal) → Holds j self.old.host
+            → StartsWithin j (host_told self.old.host) (host_told self.new.host) }
     {
         self.node = None;
         self.links = 0;

@@ -8,6 +8,7 @@ ghost use Rattle.world_devices.specs.Devices.{HostGoesOn, IsStarted, links_made}
 ghost use Rattle.world_devices.specs.Brought.{IsSilent};
 ghost use Rattle.world_devices.specs.Cited.{CitedLaws};
 ghost use Rattle.world_devices.specs.Doing.{HoldsSettling, SettlesFrom};
+ghost use Rattle.world_devices.specs.Doing.{SettlesWithin, StartsWithin};
 ghost use Rattle.world_devices.specs.Keeping.{IsQuiet, Journal, Keeps, KeepsOn};
 ghost use Rattle.world_devices.specs.Linking.{IsBare};
 ghost use Rattle.world_devices.specs.Running.{Holds, LeavesOn};
@@ -68,6 +69,7 @@ pub(crate) fn dial_all(host: &mut MemHost) -> Result<(), StartFault>
     ensures files { (host_told host.new).files ≡ (host_told host.old).files }
     ensures scripts { host.new.scripts ≡ host.old.scripts }
     ensures calls { HostGoesOn host.old host.new }
+    ensures uncalled { host.new.disk.made ≡ host.old.disk.made }
 {
     'links: for _link in 0..LINKS {
         match host.dial("tcp:world") {
@@ -92,6 +94,8 @@ pub(crate) fn load(
     ensures bare { Holds [] host.old → IfOk result (IsBare 0) }
     ensures loads { (j : Journal) → Holds j host.old → OnOk result (SettlesFrom j host.new) }
     ensures settling { (j : Journal) → Holds j host.old → HoldsSettling j host.new }
+    ensures within { (j : Journal) → Holds j host.old
+        → StartsWithin j (host_told host.old) (host_told host.new) }
 {
     match Store::load(alloc, hasher, host, &Bundle::new(), MAX_JOURNAL) {
         Ok(store) => settle(store, host),
@@ -112,6 +116,8 @@ fn settle(store: Store, host: &mut MemHost) -> Result<Store, StartFault>
     ensures bare { (contacts : ℕ) → IsBare contacts store → IfOk result (IsBare contacts) }
     ensures settles { (j : Journal) → Holds j host.old → OnOk result (SettlesFrom j host.new) }
     ensures settling { (j : Journal) → Holds j host.old → HoldsSettling j host.new }
+    ensures within { (j : Journal) → Holds j host.old
+        → SettlesWithin j (host_told host.old) (host_told host.new) }
 {
     cite_laws();
     let mut store = store;

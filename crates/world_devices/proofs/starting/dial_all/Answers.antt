@@ -7,7 +7,7 @@ use Rattle.world_devices.proofs.HostLaws.{calls_then, quiet_dialled, quiet_none,
 use Rattle.world_devices.proofs.starting.dial_all.Goals as goal
 
 pub links-init : goal.links-init
-links-init c = record { made = c.requires; quiet = quiet_none (host_told c.args.host.now) (told_host c.args.host.now) c.requires; files = refl; scripts = refl; calls = go_on_none (calls_of c.args.host.now.disk) }
+links-init c = record { made = c.requires; quiet = quiet_none (host_told c.args.host.now) (told_host c.args.host.now) c.requires; files = refl; scripts = refl; calls = go_on_none (calls_of c.args.host.now.disk); uncalled = refl }
 
 pub links-preserved : goal.links-preserved
 links-preserved c = record {
@@ -16,7 +16,11 @@ links-preserved c = record {
   files = c.dial.ensures.call.same_files ∙ c.links.invariant.files;
   scripts = ap (λ (h : MemHostValue). h.scripts) c.dial.ensures.makes.rest ∙ c.links.invariant.scripts;
   calls = calls_then c.args.host.now c.links.host c.dial.new.self c.links.invariant.calls c.dial.ensures.call.calls.goes_on;
+  uncalled = c.dial.ensures.call.calls.made ∙ c.links.invariant.uncalled;
 }
 
 pub returns-in-Err-clause-calls : goal.returns-in-Err-clause-calls
 returns-in-Err-clause-calls c = calls_then c.args.host.now c.links.host c.dial.new.self c.links.invariant.calls c.dial.ensures.call.calls.goes_on
+
+pub returns-in-Err-clause-uncalled : goal.returns-in-Err-clause-uncalled
+returns-in-Err-clause-uncalled c = c.dial.ensures.call.calls.made ∙ c.links.invariant.uncalled

@@ -11,4 +11,5 @@ invariant-links l = record {
   files : (host_told l.host).files ≡ (host_told l.initial.host).files;
   scripts : l.host.scripts ≡ l.initial.host.scripts;
   calls : HostGoesOn l.initial.host l.host;
+  uncalled : l.host.disk.made ≡ l.initial.host.disk.made;
 }

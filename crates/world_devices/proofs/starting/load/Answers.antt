@@ -3,7 +3,7 @@ use Rattle.world_devices.proofs.HostLaws.{calls_then, told_host}
 use Rattle.world_devices.proofs.LeaveLaws.{leave_looks}
 use Rattle.world_devices.proofs.RunningLaws.{load_keeps}
 use Rattle.world_devices.proofs.NewLaws.{bare_loaded}
-use Rattle.world_devices.proofs.StartLaws.{holds_looks, holds_settling}
+use Rattle.world_devices.proofs.StartLaws.{holds_looks, holds_settling, load_settles, load_within}
 use Rattle.world_devices.proofs.starting.load.Goals as goal
 
 pub returns-in-Ok-clause-keeps : goal.returns-in-Ok-clause-keeps
@@ -53,3 +53,16 @@ returns-in-Err-DiskFault-clause-calls c = c.load.ensures.run.calls
 
 pub returns-in-Err-clause-calls : goal.returns-in-Err-clause-calls
 returns-in-Err-clause-calls c = c.load.ensures.run.calls
+
+pub returns-in-Ok-clause-within : goal.returns-in-Ok-clause-within
+returns-in-Ok-clause-within c = λ j holds.
+    load_settles j c.load.result c.args.host.now c.load.new.disk c.settle.new.host c.load.ensures.calls holds
+    (c.settle.ensures.within j (holds_looks j c.args.host.now c.load.new.disk c.load.ensures.any_moment holds))
+
+pub returns-in-Err-DiskFault-clause-within : goal.returns-in-Err-DiskFault-clause-within
+returns-in-Err-DiskFault-clause-within c = λ j holds.
+    load_within j c.load.result c.args.host.now c.load.new.disk c.load.ensures.calls holds
+
+pub returns-in-Err-clause-within : goal.returns-in-Err-clause-within
+returns-in-Err-clause-within c = λ j holds.
+    load_within j c.load.result c.args.host.now c.load.new.disk c.load.ensures.calls holds

@@ -2,7 +2,7 @@ use Rattle.std.proofs.Common.{◌∙◌}
 use Rattle.world_devices.proofs.RunningLaws.{settle_keeps}
 use Rattle.world_devices.proofs.CallLaws.{settle_leaves}
 use Rattle.world_devices.proofs.NewLaws.{bare_settled}
-use Rattle.world_devices.proofs.StartLaws.{settles_at_most, settles_from}
+use Rattle.world_devices.proofs.StartLaws.{settles_at_most, settles_from, settles_within}
 use Rattle.world_devices.proofs.starting.settle.Goals as goal
 
 pub returns-in-Ok-clause-keeps : goal.returns-in-Ok-clause-keeps
@@ -63,3 +63,15 @@ returns-in-Err-DiskFault-clause-calls c = c.settle.ensures.run.calls
 
 pub returns-clause-calls : goal.returns-clause-calls
 returns-clause-calls c = c.settle.ensures.run.calls
+
+pub returns-in-Ok-clause-within : goal.returns-in-Ok-clause-within
+returns-in-Ok-clause-within c = λ j holds.
+    settles_within j c.args.store c.settle.new.self c.settle.result c.args.host.now c.settle.new.disk c.requires.ready (c.settle.ensures.settled c.requires.ready.still_open) holds
+
+pub returns-in-Err-DiskFault-clause-within : goal.returns-in-Err-DiskFault-clause-within
+returns-in-Err-DiskFault-clause-within c = λ j holds.
+    settles_within j c.args.store c.settle.new.self c.settle.result c.args.host.now c.settle.new.disk c.requires.ready (c.settle.ensures.settled c.requires.ready.still_open) holds
+
+pub returns-clause-within : goal.returns-clause-within
+returns-clause-within c = λ j holds.
+    settles_within j c.args.store c.settle.new.self c.settle.result c.args.host.now c.settle.new.disk c.requires.ready (c.settle.ensures.settled c.requires.ready.still_open) holds

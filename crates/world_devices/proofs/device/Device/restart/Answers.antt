@@ -7,11 +7,11 @@ use Rattle.outside.proofs.CallSteps.{go_on_none}
 use Rattle.world_devices.specs.Doing.{Restarts}
 use Rattle.world_devices.specs.declared.stop.StepFault.TheVariants as fault
 use Rattle.world_devices.proofs.GivingUpLaws.{comes_anew, comes_same, restart_ended, restart_failed}
-use Rattle.world_devices.proofs.HostLaws.{calls_anew, calls_then, files_anew, silent_fresh}
+use Rattle.world_devices.proofs.HostLaws.{calls_anew, calls_then, files_anew, made_anew, silent_fresh}
 use Rattle.world_devices.proofs.LeaveLaws.{leave_held}
 use Rattle.world_devices.proofs.RunningLaws.{anew_keeps, keeps_seen}
 use Rattle.world_devices.proofs.NewLaws.{holds_on}
-use Rattle.world_devices.proofs.StartLaws.{holds_settling, restart_broken}
+use Rattle.world_devices.proofs.StartLaws.{holds_settling, restart_broken, start_within}
 use Rattle.world_devices.proofs.device.Device.restart.Goals as goal
 
 pub invariant_of-self : goal.invariant_of-self
@@ -78,4 +78,6 @@ returns-in-Err-DiskFault-clause-restarts c =
     restart_broken c.break_off.result _ c.args.self.now c.start.new.self c.break_off.new.self c.self.view_is
     (calls_then c.self.inside.host c.restart.new.self c.start.new.self.host (calls_anew c.self.inside.host c.restart.new.self c.restart.result c.restart.ensures.ok c.restart.ensures.err) c.start.ensures.calls)
     (λ j holds. c.start.ensures.settling j (holds_on j c.self.inside.host c.restart.new.self (files_anew c.self.inside.host c.restart.new.self c.in_ok-restart.ensures.ok) holds))
+    (λ j. start_within j c.self.inside.host c.restart.new.self c.start.new.self.host (files_anew c.self.inside.host c.restart.new.self c.in_ok-restart.ensures.ok) (made_anew c.self.inside.host c.restart.new.self c.in_ok-restart.ensures.ok)
+    (c.start.ensures.within j))
     c.start.ensures.stop c.start.ensures.clock c.break_off.ensures.clock c.break_off.ensures.to c.break_off.ensures.left c.break_off.ensures.unrefused c.break_off.ensures.unfilled

@@ -5,14 +5,14 @@ use Rattle.outside.specs.Links.{Links}
 use Rattle.outside.specs.declared.limits.TheConstants.{LINKS}
 use Rattle.world_devices.specs.Devices.{links_made}
 use Rattle.world_devices.proofs.CallLaws.{leaves_seen, ready_still, silent_seen, silent_started, start_leaves}
-use Rattle.world_devices.proofs.HostLaws.{calls_clocked, calls_seen, calls_then, clock_same, quiet_same, scripts_clocked}
+use Rattle.world_devices.proofs.HostLaws.{calls_clocked, calls_seen, calls_then, clock_same, made_clocked, quiet_same, scripts_clocked}
 use Rattle.world_devices.proofs.RunningLaws.{begins_running, keeps_seen, quiet_told, start_keeps}
 use Rattle.outside.specs.MemHost.{MemHostValue}
 use Rattle.sync_node.specs.Node.{NodeValue}
 use Rattle.world_devices.specs.Linking.{IsBare}
 use Rattle.world_devices.specs.Running.{Holds}
 use Rattle.world_devices.proofs.NewLaws.{holds_on}
-use Rattle.world_devices.proofs.StartLaws.{files_settling, settling_seen, start_anew, start_settling}
+use Rattle.world_devices.proofs.StartLaws.{files_settling, settling_seen, start_anew, start_settling, start_within, within_none, within_seen}
 use Rattle.world_devices.proofs.device.Device.start.Goals as goal
 
 pub invariant_of-self-in_err-store : goal.invariant_of-self-in_err-store
@@ -123,3 +123,30 @@ returns-clause-calls c =
     calls_seen c.self.inside.host c.args.self.now.host c.load.new.host (ap (λ (d : DeviceValue). d.host) c.self.view_is)
     (calls_then c.self.inside.host c.set_clock.new.self c.load.new.host
     (calls_then c.self.inside.host c.dial_all.new.host c.set_clock.new.self c.dial_all.ensures.calls (calls_clocked c.dial_all.new.host c.set_clock.new.self _ c.set_clock.result c.set_clock.ensures.ok c.set_clock.ensures.err)) c.load.ensures.calls)
+
+pub returns-in_err-dial_all-clause-within : goal.returns-in_err-dial_all-clause-within
+returns-in_err-dial_all-clause-within c = λ j.
+    within_seen j c.self.inside.host c.args.self.now.host c.dial_all.new.host (ap (λ (d : DeviceValue). d.host) c.self.view_is) (λ holds. within_none j c.self.inside.host c.dial_all.new.host c.dial_all.ensures.uncalled)
+
+pub returns-in_err-set_clock-clause-within : goal.returns-in_err-set_clock-clause-within
+returns-in_err-set_clock-clause-within c = λ j.
+    within_seen j c.self.inside.host c.args.self.now.host c.set_clock.new.self (ap (λ (d : DeviceValue). d.host) c.self.view_is)
+    (λ holds. within_none j c.self.inside.host c.set_clock.new.self (made_clocked c.dial_all.new.host c.set_clock.new.self _ c.set_clock.result c.set_clock.ensures.ok c.set_clock.ensures.err ∙ c.dial_all.ensures.uncalled))
+
+pub returns-in_err-store-clause-within : goal.returns-in_err-store-clause-within
+returns-in_err-store-clause-within c = λ j.
+    within_seen j c.self.inside.host c.args.self.now.host c.load.new.host (ap (λ (d : DeviceValue). d.host) c.self.view_is)
+    (start_within j c.self.inside.host c.set_clock.new.self c.load.new.host ((clock_same c.dial_all.new.host c.set_clock.new.self _ c.set_clock.result c.set_clock.ensures.ok c.set_clock.ensures.err).files ∙ c.dial_all.ensures.files)
+    (made_clocked c.dial_all.new.host c.set_clock.new.self _ c.set_clock.result c.set_clock.ensures.ok c.set_clock.ensures.err ∙ c.dial_all.ensures.uncalled) (c.load.ensures.within j))
+
+pub returns-in_err-new-clause-within : goal.returns-in_err-new-clause-within
+returns-in_err-new-clause-within c = λ j.
+    within_seen j c.self.inside.host c.args.self.now.host c.load.new.host (ap (λ (d : DeviceValue). d.host) c.self.view_is)
+    (start_within j c.self.inside.host c.set_clock.new.self c.load.new.host ((clock_same c.dial_all.new.host c.set_clock.new.self _ c.set_clock.result c.set_clock.ensures.ok c.set_clock.ensures.err).files ∙ c.dial_all.ensures.files)
+    (made_clocked c.dial_all.new.host c.set_clock.new.self _ c.set_clock.result c.set_clock.ensures.ok c.set_clock.ensures.err ∙ c.dial_all.ensures.uncalled) (c.load.ensures.within j))
+
+pub returns-clause-within : goal.returns-clause-within
+returns-clause-within c = λ j.
+    within_seen j c.self.inside.host c.args.self.now.host c.load.new.host (ap (λ (d : DeviceValue). d.host) c.self.view_is)
+    (start_within j c.self.inside.host c.set_clock.new.self c.load.new.host ((clock_same c.dial_all.new.host c.set_clock.new.self _ c.set_clock.result c.set_clock.ensures.ok c.set_clock.ensures.err).files ∙ c.dial_all.ensures.files)
+    (made_clocked c.dial_all.new.host c.set_clock.new.self _ c.set_clock.result c.set_clock.ensures.ok c.set_clock.ensures.err ∙ c.dial_all.ensures.uncalled) (c.load.ensures.within j))
