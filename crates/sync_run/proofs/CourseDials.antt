@@ -4,7 +4,7 @@ use Rattle.std.specs.Option.{option_map}
 use Rattle.outside.specs.declared.failed.Failed.{Failed}
 use Rattle.outside.specs.Faults.{Rose, one_more}
 use Rattle.outside.specs.Files.{Two, File, read_files}
-use Rattle.outside.specs.Links.{HeardOn}
+use Rattle.outside.specs.Links.{HeardOn, Links}
 use Rattle.outside.specs.Outside.{Outside}
 use Rattle.sync_rules.specs.declared.entries.Session.{Session}
 use Rattle.sync_rules.specs.Clients.{Meaning}
@@ -160,10 +160,10 @@ module _ (clients : Meaning) (limits : Limits) (words : List LinkWords) (links :
   spent_so spent = record {
     last = λ two told. spent.last two (files ∙ told);
     still = λ two two' told told'.
-        let both : Some two' ≡ Some two = sym told' ∙ ap (λ (x : Outside). x.files) spent.same ∙ files ∙ told in
+        let both : Some two' ≡ Some two = sym told' ∙ spent.same_files ∙ files ∙ told in
         let one : two' ≡ two = cc in
         ap (λ (t : Two File). read_files t) one;
-    links = subst (λ (x : Outside). MakesLinks words o0.links x.links) (sym spent.same) makes;
+    links = subst (λ (l : Links). MakesLinks words o0.links l) (sym spent.same_links) makes;
   }
 
   full_so : (RunFilled clients limits (sessions_from (facts j).begun links) j o1 o ⊎ RunSpent o1 o) → WasFull clients limits words j o0 o

@@ -145,7 +145,12 @@ module _ (clients : Meaning) (limits : Limits) (links : List Dialled) (j : Journ
         let both : Some fit.0 ≡ Some two = sym fit.1 ∙ files in
         let one : fit.0 ≡ two = cc in
         last_here clients s0 j two (subst (λ (t : Two File). Fits clients s0 j t) one fit.2) spent;
-    same = same;
+    same_files = ap (λ (x : Outside). x.files) same;
+    same_links = ap (λ (x : Outside). x.links) same;
+    same_clock = ap (λ (x : Outside). x.clock) same;
+    no_moments = λ t m. subst (λ (x : Outside). x.moments t m → o0.moments t m) (sym same) (λ w. w);
+    same_faults = ap (λ (x : Outside). x.disk_faults) same;
+    same_calls = ap (λ (x : Outside). x.calls) same;
   }
 
   -- ---- settling
