@@ -1,4 +1,4 @@
-use Rattle.std.proofs.Common.{ap, Err}
+use Rattle.std.proofs.Common.{ap, inl, Err}
 use Rattle.sync_node.specs.Node.{NodeValue}
 use Rattle.sync_words.specs.declared.outcome.Outcome.TheVariants as outcome
 use Rattle.sync_run.specs.Parts.{RunsOver, sessions_from}
@@ -131,10 +131,11 @@ returns-in-Err-DiskFault-clause-course g c = λ j fit.
 
 pub returns-in-Err-Full-clause-course : goal.returns-in-Err-Full-clause-course
 returns-in-Err-Full-clause-course g c = λ j fit.
-    over_filled _ c.args.limits c.args.links.now _ _ _ _ c.in_ok-migrate_and_settle.field-0 c.migrate_and_settle.ensures.run c.in_ok-migrate_and_settle.ensures.settled j fit c.in_ok-node.node
+    inl
+    (over_filled _ c.args.limits c.args.links.now _ _ _ _ c.in_ok-migrate_and_settle.field-0 c.migrate_and_settle.ensures.run c.in_ok-migrate_and_settle.ensures.settled j fit c.in_ok-node.node
     (ap (λ (n : NodeValue). n.store) c.in_ok-node.ensures) _ _ c.requires.limited c.run_node.ensures.limit c.run_node.ensures.format
     (joined_none _ c.migrate_and_settle.new.store _ (unused_disk _ _ c.migrate_and_settle.ensures.run c.requires.unused))
-    (c.in-Err-Full.ensures.full (ap (λ e. Err e) c.in-Err-Full.field-0-is))
+    (c.in-Err-Full.ensures.full (ap (λ e. Err e) c.in-Err-Full.field-0-is)))
 
 pub returns-in_err-migrate_and_settle-clause-sent_full : goal.returns-in_err-migrate_and_settle-clause-sent_full
 returns-in_err-migrate_and_settle-clause-sent_full g c = λ is.
