@@ -20,6 +20,7 @@ use Rattle.sync_store.proofs.Runs.{runs_none, runs_then}
 use Rattle.sync_words.specs.declared.outcome.Outcome.{Outcome}
 use Rattle.sync_words.specs.declared.outcome.Outcome.TheVariants as outcome
 use Rattle.entry_codec.specs.declared.naming.Format.{Format}
+use Rattle.entry_codec.specs.declared.naming.Format.TheVariants as kind
 use Rattle.store_commands.specs.Commit.{needed_by}
 use Rattle.sharing_commands.specs.Adding.{AddsFront, AddsSo, IsFront, LacksRoom}
 use Rattle.sharing_commands.specs.Agreeing.{AreRoomy}
@@ -48,7 +49,7 @@ nothing_added images clients s o u store still = record {
   front = [];
   runs = runs_none images clients s s o store (as_before s);
   ends = λ opened j ends. end_on s s j refl ends;
-  roomy = λ limited j ends same. tt;
+  roomy = λ limited short j ends same. tt;
   answer = (still, refl);
 }
 
@@ -59,20 +60,22 @@ none_added images clients s o all store = record {
   front = [];
   runs = runs_none images clients s s o store (as_before s);
   ends = λ opened j ends. end_on s s j refl ends;
-  roomy = λ limited j ends same. tt;
+  roomy = λ limited short j ends same. tt;
   answer = record { rest = all; parts = refl };
 }
 
 -- ---- one
 
--- the sum of a store is that of a journal that ends where it does and has its facts
-pub weighed : (s : StoreValue) (j : List (List Entry)) (batch : List Entry) → s.end ≡ journal_end (written_in s) j → facts j ≡ s.state.facts
-    → needed s batch ≡ needed_by (written_in s) j batch
-weighed s j batch ends same = λ i. ends i + 5 + payload_len (written_in s) batch + room_of (written_in s) (after_all (sym same i) batch)
+-- the sum of a store in format 2 is that of a journal that ends where it does and has its facts
+pub weighed : (s : StoreValue) (j : List (List Entry)) (batch : List Entry) → written_in s ≡ kind.Short → s.end ≡ journal_end (written_in s) j → facts j ≡ s.state.facts
+    → needed s batch ≡ needed_by j batch
+weighed s j batch short ends same =
+    (λ i. ends i + 5 + payload_len (written_in s) batch + room_of (written_in s) (after_all (sym same i) batch))
+    ∙ ap (λ (f : Format). journal_end f j + 5 + payload_len f batch + room_of f (after_all (facts j) batch)) short
 
-room_for : (s : StoreValue) (j : List (List Entry)) (batch : List Entry) → s.limit ≡ MAX_JOURNAL → s.end ≡ journal_end (written_in s) j → facts j ≡ s.state.facts
-    → needed s batch ≤ s.limit → needed_by (written_in s) j batch ≤ MAX_JOURNAL
-room_for s j batch limited ends same within = omega (arith, weighed s j batch ends same, limited, within)
+room_for : (s : StoreValue) (j : List (List Entry)) (batch : List Entry) → s.limit ≡ MAX_JOURNAL → written_in s ≡ kind.Short → s.end ≡ journal_end (written_in s) j → facts j ≡ s.state.facts
+    → needed s batch ≤ s.limit → needed_by j batch ≤ MAX_JOURNAL
+room_for s j batch limited short ends same within = omega (arith, weighed s j batch short ends same, limited, within)
 
 true≢false : {P : Type 0} (b : Bool) → b ≡ true → b ≡ false → P
 true≢false b is not = absurd (let e : true ≡ false = sym is ∙ not in cc)
@@ -83,7 +86,7 @@ module _ (clients : Meaning) (s s' : StoreValue) (o o' : Outside) (batch : List 
     front = batch ∷ [];
     runs = runs;
     ends = λ opened j ends. omega (arith, commits.2.end, journal_end_push (written_in s) j batch, ends);
-    roomy = λ limited j ends same. (room_for s j batch limited ends same commits.1, tt);
+    roomy = λ limited short j ends same. (room_for s j batch limited short ends same commits.1, tt);
     answer = (commits.2.closed, refl);
   }
 
@@ -92,7 +95,7 @@ module _ (clients : Meaning) (s s' : StoreValue) (o o' : Outside) (batch : List 
     front = batch ∷ [];
     runs = runs;
     ends = λ opened j ends. true≢false s'.closed commits.2.closed opened;
-    roomy = λ limited j ends same. (room_for s j batch limited ends same commits.1, tt);
+    roomy = λ limited short j ends same. (room_for s j batch limited short ends same commits.1, tt);
     answer = record { rest = []; parts = refl };
   }
 
@@ -101,7 +104,7 @@ module _ (clients : Meaning) (s s' : StoreValue) (o o' : Outside) (batch : List 
     front = [];
     runs = runs;
     ends = λ opened j ends. end_on s s' j commits.2.end ends;
-    roomy = λ limited j ends same. tt;
+    roomy = λ limited short j ends same. tt;
     answer = record { rest = batch ∷ []; parts = refl };
   }
 
@@ -113,7 +116,7 @@ module _ (clients : Meaning) (s s' : StoreValue) (o o' : Outside) (batch : List 
         front = [];
         runs = runs;
         ends = λ opened j ends. end_on s s' j commits.2.end ends;
-        roomy = λ limited j ends same. tt;
+        roomy = λ limited short j ends same. tt;
         answer = (
           commits.2.closed ∙ commits.0,
           record { next = batch; rest = []; parts = refl; over = omega (arith, as_needed, commits.2.limit, commits.1) },
@@ -122,16 +125,16 @@ module _ (clients : Meaning) (s s' : StoreValue) (o o' : Outside) (batch : List 
 
 -- ---- some behind others
 
-roomy_both : (f : Format) (j xs ys : List (List Entry)) → AreRoomy f j xs → AreRoomy f (j ++ xs) ys → AreRoomy f j (xs ++ ys)
-roomy_both f j [] ys first second = subst (λ (k : List (List Entry)). AreRoomy f k ys) (append-nil j) second
-roomy_both f j (x ∷ xs) ys first second =
-    (first.0, roomy_both f (j ++ x ∷ []) xs ys first.1 (subst (λ (k : List (List Entry)). AreRoomy f k ys) (sym (append_assoc j (x ∷ []) xs)) second))
+roomy_both : (j xs ys : List (List Entry)) → AreRoomy j xs → AreRoomy (j ++ xs) ys → AreRoomy j (xs ++ ys)
+roomy_both j [] ys first second = subst (λ (k : List (List Entry)). AreRoomy k ys) (append-nil j) second
+roomy_both j (x ∷ xs) ys first second =
+    (first.0, roomy_both (j ++ x ∷ []) xs ys first.1 (subst (λ (k : List (List Entry)). AreRoomy k ys) (sym (append_assoc j (x ∷ []) xs)) second))
 
 -- there was room for a batch that was added
-pub room_at : (f : Format) (j front : List (List Entry)) (next : List Entry) (rest : List (List Entry)) → AreRoomy f j (front ++ next ∷ rest) → needed_by f (j ++ front) next ≤ MAX_JOURNAL
-room_at f j [] next rest roomy = subst (λ (k : List (List Entry)). needed_by f k next ≤ MAX_JOURNAL) (sym (append-nil j)) roomy.0
-room_at f j (x ∷ xs) next rest roomy =
-    subst (λ (k : List (List Entry)). needed_by f k next ≤ MAX_JOURNAL) (append_assoc j (x ∷ []) xs) (room_at f (j ++ x ∷ []) xs next rest roomy.1)
+pub room_at : (j front : List (List Entry)) (next : List Entry) (rest : List (List Entry)) → AreRoomy j (front ++ next ∷ rest) → needed_by (j ++ front) next ≤ MAX_JOURNAL
+room_at j [] next rest roomy = subst (λ (k : List (List Entry)). needed_by k next ≤ MAX_JOURNAL) (sym (append-nil j)) roomy.0
+room_at j (x ∷ xs) next rest roomy =
+    subst (λ (k : List (List Entry)). needed_by k next ≤ MAX_JOURNAL) (append_assoc j (x ∷ []) xs) (room_at (j ++ x ∷ []) xs next rest roomy.1)
 
 more_front : (xs ys front back : List (List Entry)) → front ≡ xs → IsFront ys back → IsFront (xs ++ ys) (front ++ back)
 more_front xs ys front back whole some = record {
@@ -168,21 +171,20 @@ pub adds_then : (clients : Meaning) (s0 s1 s2 : StoreValue) (o0 o1 o2 : Outside)
     → AddsFront clients s0 s1 o0 o1 xs (Ok u) → AddsFront clients s1 s2 o1 o2 ys r → AddsFront clients s0 s2 o0 o2 (xs ++ ys) r
 adds_then clients s0 s1 s2 o0 o1 o2 xs ys u r first second =
     let still = first.answer.0 in
-    let kind : written_in s1 ≡ written_in s0 = ap format_meant first.runs.format in
+    let format : written_in s1 ≡ written_in s0 = ap format_meant first.runs.format in
     let end_of : (j : List (List Entry)) → s0.end ≡ journal_end (written_in s0) j → s1.end ≡ journal_end (written_in s1) (j ++ first.front) =
-    λ j ends. first.ends still j ends ∙ ap (λ (k : Format). journal_end k (j ++ first.front)) (sym kind) in
+    λ j ends. first.ends still j ends ∙ ap (λ (k : Format). journal_end k (j ++ first.front)) (sym format) in
     record {
       front = first.front ++ second.front;
       runs = runs_then clients s0 s1 s2 o0 o1 o2 first.front second.front still first.runs second.runs;
       ends = λ opened j ends.
           second.ends opened (j ++ first.front) (end_of j ends)
-          ∙ ap (λ (k : Format). journal_end k ((j ++ first.front) ++ second.front)) kind
+          ∙ ap (λ (k : Format). journal_end k ((j ++ first.front) ++ second.front)) format
           ∙ ap (journal_end (written_in s0)) (append_assoc j first.front second.front);
-      roomy = λ limited j ends same.
-          roomy_both (written_in s0) j first.front second.front (first.roomy limited j ends same)
-          (subst (λ (k : Format). AreRoomy k (j ++ first.front) second.front) kind
-          (second.roomy (first.runs.limit ∙ limited) (j ++ first.front) (end_of j ends)
-          (facts-append j first.front ∙ ap (λ (g : Facts). after_batches g first.front) same ∙ sym (first.runs.facts still))));
+      roomy = λ limited short j ends same.
+          roomy_both j first.front second.front (first.roomy limited short j ends same)
+          (second.roomy (first.runs.limit ∙ limited) (format ∙ short) (j ++ first.front) (end_of j ends)
+          (facts-append j first.front ∙ ap (λ (g : Facts). after_batches g first.front) same ∙ sym (first.runs.facts still)));
       answer = more_so s2 xs ys first.front second.front r first.answer.1 second.answer;
     }
 

@@ -14,15 +14,14 @@ use Rattle.sync_rules.specs.Clients.{Meaning}
 use Rattle.sync_rules.specs.Facts.{Facts, Id, after_batches, facts, group_at}
 use Rattle.sync_rules.specs.Legal.{AllSettling}
 use Rattle.sync_rules.specs.Steps.{IsSettled}
-use Rattle.sync_rules.proofs.WorkLaws.{settling_goes_on}
+use Rattle.entry_codec.specs.declared.naming.Format.TheVariants as kind
 use Rattle.entry_codec.specs.Standing.{Standing, journal, stands}
 use Rattle.sync_store.specs.Commits.{needed}
 use Rattle.sync_store.specs.Fitting.{Fits}
 use Rattle.sync_store.specs.Moments.{IsBetween, JournalMoment}
-use Rattle.sync_store.specs.Runs.{RunsBy}
-use Rattle.sync_store.specs.Settling.{ComesBy}
+use Rattle.sync_store.specs.Runs.{LeadsBy}
 use Rattle.sync_store.specs.Store.{StoreValue, format_meant, written_in}
-use Rattle.sync_store.proofs.Runs.{runs_then}
+use Rattle.sync_store.proofs.Runs.{leads_both}
 use Rattle.sync_words.specs.declared.outcome.Outcome.{Outcome}
 use Rattle.sync_words.specs.declared.outcome.Outcome.TheVariants as outcome
 use Rattle.sync_words.specs.Outcomes.{came_to}
@@ -31,10 +30,9 @@ use Rattle.std.specs.Prelude.{IsErrAnd, if◌then◌else◌, nat_lt}
 use borrow.Author.Tests.{ltb-true}
 use Rattle.store_commands.proofs.Follow.{stays}
 use Rattle.sharing_commands.specs.Sayings.{sharing_test}
-use Rattle.store_commands.specs.Commit.{ExtendsBy, SettledBy, SettlesAs, format_stood, needed_by}
-use Rattle.store_commands.proofs.Stood.{fits_format}
-use Rattle.entry_codec.specs.declared.naming.Format.{Format}
-use Rattle.store_commands.specs.Entries.{AddsBy, is_late}
+use Rattle.store_commands.specs.Commit.{ComesAnew, ExtendsBy, HasLastGeneration, SettledAnew, SettlesAnew, WasSpent, needed_by}
+use Rattle.store_commands.proofs.Stood.{fits_format, last_here, spent_here}
+use Rattle.store_commands.specs.Entries.{AddsBy, is_added, is_late}
 use Rattle.store_commands.specs.Load.{HasFacts, IsLoaded, LoadedBy, LoadKeeps, MayExtend}
 use Rattle.store_commands.specs.Show.{Keeps, PrintsText, Rests}
 use Rattle.sharing_commands.specs.Adding.{AddsFront, AddsSo, AgreedEnds, Agrees, IsFront}
@@ -59,6 +57,12 @@ failed_late o o2 outcome.DiskFault by = refl
 failed_late o o2 outcome.Memory by = refl
 failed_late o o2 _ by = absurd by
 
+failed_unadded : (o o2 : Outside) (came : Outcome) → ExtendsBy o o2 (Err came) → is_added came ≡ false
+failed_unadded o o2 outcome.Full by = refl
+failed_unadded o o2 outcome.DiskFault by = refl
+failed_unadded o o2 outcome.Memory by = refl
+failed_unadded o o2 _ by = absurd by
+
 caused_later : (o o1 o2 : Outside) (came : Outcome) → o.disk_faults ≤ o1.disk_faults → ExtendsBy o1 o2 (Err came) → ExtendsBy o o2 (Err came)
 caused_later o o1 o2 outcome.DiskFault later by = rose_before o.disk_faults o1.disk_faults o2.disk_faults later by
 caused_later o o1 o2 outcome.Full later by = tt
@@ -82,29 +86,24 @@ printed_late out out' text _ p = absurd p
 settles_from : (clients : Meaning) (s : StoreValue) (two : Two File) (j more : List (List Entry)) → Fits clients s j two → AllSettling clients s.state.facts more → AllSettling clients (facts j) more
 settles_from clients s two j more fits settling = subst (λ (g : Facts). AllSettling clients g more) (sym fits.facts_are) settling
 
-runs_of : (clients : Meaning) (s s1 : StoreValue) (o o1 : Outside) (more : List (List Entry)) → ComesBy clients s s1 o o1 more → DiskRun o o1 → RunsBy clients s s1 o o1 more
-runs_of clients s s1 o o1 more comes run = record {
-  goes_on = settling_goes_on clients s.state.facts more comes.settling;
-  facts = λ still. comes.facts;
-  file = comes.file;
-  format = comes.format;
-  generation = comes.generation;
-  limit = comes.limit;
-  run = run;
-  leads = comes.leads;
-  calls = comes.calls;
-}
+-- files that are told of one outside read alike
+one_told : (o o1 : Outside) (two two1 : Two File) → o1 ≡ o → o.files ≡ Some two → o1.files ≡ Some two1 → read_files two1 ≡ read_files two
+one_told o o1 two two1 same files files1 =
+    let both : Some two1 ≡ Some two = sym files1 ∙ ap (λ (x : Outside). x.files) same ∙ files in
+    let one : two1 ≡ two = cc in
+    ap read_files one
 
-not_settled_ends : (clients : Meaning) (contact : ℕ) (group : Id) (j : List (List Entry)) (s1 : StoreValue) (out out' : Stream) (came : Outcome) (two : Two File)
-    → SettledBy clients s1 (Err came) → AgreedEnds clients contact group j out out' came two
-not_settled_ends clients contact group j s1 out out' outcome.Memory two answer = tt
-not_settled_ends clients contact group j s1 out out' outcome.DiskFault two answer = tt
-not_settled_ends clients contact group j s1 out out' _ two answer = absurd answer
+not_settled_ends : (clients : Meaning) (contact : ℕ) (group : Id) (j : List (List Entry)) (s s1 : StoreValue) (out out' : Stream) (came : Outcome) (two two1 : Two File) → Fits clients s j two
+    → (came ≡ outcome.Full → read_files two1 ≡ read_files two) → SettledAnew clients s s1 (Err came) → AgreedEnds clients contact group j out out' came two two1
+not_settled_ends clients contact group j s s1 out out' outcome.Full two two1 fits still answer = inr (last_here clients s j two fits answer.0, still refl)
+not_settled_ends clients contact group j s s1 out out' outcome.Memory two two1 fits still answer = tt
+not_settled_ends clients contact group j s s1 out out' outcome.DiskFault two two1 fits still answer = tt
+not_settled_ends clients contact group j s s1 out out' _ two two1 fits still answer = absurd answer
 
--- settling that failed
+-- migrating or settling that failed
 pub agrees_unsettled : (clients : Meaning) (contact : ℕ) (group : Id) (s s1 : StoreValue) (o o1 : Outside) (out out' : Stream) (came : Outcome) → IsIdle out out' → DiskRun o o1
-    → ExtendsBy o o1 (Err came) → SettlesAs clients s s1 o o1 (Err came) → Agrees clients contact group s o o1 out out' came
-agrees_unsettled clients contact group s s1 o o1 out out' came idle run by settled = record {
+    → ExtendsBy o o1 (Err came) → (came ≡ outcome.Full → o1 ≡ o) → SettlesAnew clients s s1 o o1 (Err came) → Agrees clients contact group s o o1 out out' came
+agrees_unsettled clients contact group s s1 o o1 out out' came idle run by still settled = record {
   run = run;
   by = failed_by o o1 out out' came idle by;
   late = failed_late o o1 came by;
@@ -115,7 +114,8 @@ agrees_unsettled clients contact group s s1 o o1 out out' came idle run by settl
       stands_for = w.stands_for;
       nothing_sent = w.nothing_sent;
     }) (settled.comes.leads two files j fits).moments;
-    ends = λ two' files'. not_settled_ends clients contact group j s1 out out' came two' settled.answer;
+    ends = λ two1 files1. not_settled_ends clients contact group j s s1 out out' came two two1 fits (λ is. one_told o o1 two two1 (still is) files files1) settled.answer;
+    spent = λ last. failed_unadded o o1 came by;
   };
 }
 
@@ -129,7 +129,7 @@ front_of s all front (Err outcome.DiskFault) so = so
 front_of s all front (Err _) so = absurd so
 
 module _ (clients : Meaning) (contact : ℕ) (group : Id) (s s1 s2 : StoreValue) (o o1 o2 : Outside) (u : Unit {0}) (r : Result (Unit {0}) Outcome) (run : DiskRun o o1)
-    (settled : SettlesAs clients s s1 o o1 (Ok u)) (added : AddsFront clients s1 s2 o1 o2 (agreed_batches clients contact group s1.state.facts) r)
+    (settled : SettlesAnew clients s s1 o o1 (Ok u)) (added : AddsFront clients s1 s2 o1 o2 (agreed_batches clients contact group s1.state.facts) r)
     (two : Two File) (files : o.files ≡ Some two) (j : List (List Entry)) (fits : Fits clients s j two) where
   first : List (List Entry)
   first = settled.more
@@ -150,8 +150,8 @@ module _ (clients : Meaning) (contact : ℕ) (group : Id) (s s1 s2 : StoreValue)
   settles : AllSettling clients (facts j) settled.more
   settles = settles_from clients s two j settled.more fits settled.comes.settling
 
-  both : RunsBy clients s s2 o o2 (settled.more ++ added.front)
-  both = runs_then clients s s1 s2 o o1 o2 settled.more added.front settled.answer.0 (runs_of clients s s1 o o1 settled.more settled.comes run) added.runs
+  both : LeadsBy clients s s2 o o2 (settled.more ++ added.front)
+  both = leads_both clients s s1 s2 o o1 o2 settled.more added.front settled.answer.0 run settled.comes.leads added.runs.leads
 
   is_front : IsFront (agreed_batches clients contact group (after_batches (facts j) settled.more)) added.front
   is_front = subst (λ (xs : List (List Entry)). IsFront xs added.front) all_is (front_of s2 (agreed_batches clients contact group s1.state.facts) added.front r added.answer)
@@ -178,7 +178,7 @@ module _ (clients : Meaning) (contact : ℕ) (group : Id) (s s1 s2 : StoreValue)
     };
     stands_for = w.stands_for;
     nothing_sent = w.nothing_sent;
-  }) (both.leads two files j fits).moments
+  }) (both two files j fits).moments
 
   -- the journal that the disk fits once it is settled
   settled_fits : (two1 : Two File) → o1.files ≡ Some two1 → Fits clients s1 (j ++ settled.more) two1
@@ -188,25 +188,23 @@ module _ (clients : Meaning) (contact : ℕ) (group : Id) (s s1 s2 : StoreValue)
 
   last_fits : s2.closed ≡ false → (two2 : Two File) → o2.files ≡ Some two2 → Fits clients s2 (j ++ (settled.more ++ added.front)) two2
   last_fits still two2 files2 =
-      let at = (both.leads two files j fits).ends still two2 files2 in
+      let at = (both two files j fits).ends still two2 files2 in
       subst (λ (w : List (List Entry)). Fits clients s2 w two2) at.1 at.2
 
   -- there was room for what was added
-  front_roomy : s.limit ≡ MAX_JOURNAL → AreRoomy (written_in s1) (j ++ settled.more) added.front
+  front_roomy : s.limit ≡ MAX_JOURNAL → AreRoomy (j ++ settled.more) added.front
   front_roomy limited =
       let told1 = told_on o o1 two run.same_told files in
       let fits1 = settled_fits told1.0 told1.1 in
-      added.roomy (settled.comes.limit ∙ limited) (j ++ settled.more) fits1.end_is fits1.facts_are
+      added.roomy (settled.comes.limit ∙ limited) settled.answer.2 (j ++ settled.more) fits1.end_is fits1.facts_are
 
-  -- the format of the files at the end
-  last_kind : (two2 : Two File) → Fits clients s2 (j ++ (settled.more ++ added.front)) two2 → written_in s1 ≡ format_stood (read_files two2)
-  last_kind two2 fits2 = ap format_meant (sym added.runs.format) ∙ fits_format clients s2 (j ++ (settled.more ++ added.front)) two2 fits2
+  -- the store is in format 2 at the end
+  last_short : written_in s2 ≡ kind.Short
+  last_short = ap format_meant added.runs.format ∙ settled.answer.2
 
-  whole_roomy : s.limit ≡ MAX_JOURNAL → added.front ≡ agreed_batches clients contact group s1.state.facts → (format : Format) → written_in s1 ≡ format
-      → AreRoomy format (j ++ settled.more) (agreed_batches clients contact group (after_batches (facts j) settled.more))
-  whole_roomy limited whole format kind =
-      subst (λ (k : Format). AreRoomy k (j ++ settled.more) (agreed_batches clients contact group (after_batches (facts j) settled.more))) kind
-      (subst (λ (xs : List (List Entry)). AreRoomy (written_in s1) (j ++ settled.more) xs) (whole ∙ all_is) (front_roomy limited))
+  whole_roomy : s.limit ≡ MAX_JOURNAL → added.front ≡ agreed_batches clients contact group s1.state.facts
+      → AreRoomy (j ++ settled.more) (agreed_batches clients contact group (after_batches (facts j) settled.more))
+  whole_roomy limited whole = subst (AreRoomy (j ++ settled.more)) (whole ∙ all_is) (front_roomy limited)
 
   -- all that the targets ask for was added
   pub agreed_whole : s.limit ≡ MAX_JOURNAL → s2.closed ≡ false → added.front ≡ agreed_batches clients contact group s1.state.facts
@@ -218,7 +216,8 @@ module _ (clients : Meaning) (contact : ℕ) (group : Id) (s s1 s2 : StoreValue)
         first = settled.more;
         settles = settles;
         settled = is_settled;
-        roomy = whole_roomy limited whole (format_stood (read_files two2)) (last_kind two2 fits2);
+        short = fits_format clients s2 (j ++ (settled.more ++ added.front)) two2 kind.Short fits2 last_short;
+        roomy = whole_roomy limited whole;
         stands_for = fits2.stands_for ∙ ap (λ (xs : List (List Entry)). journal (j ++ (settled.more ++ xs))) (whole ∙ all_is);
         first_settled = fits2.first_settled;
         second_settled = fits2.second_settled;
@@ -231,11 +230,9 @@ module _ (clients : Meaning) (contact : ℕ) (group : Id) (s s1 s2 : StoreValue)
       → (two2 : Two File) → o2.files ≡ Some two2 → IsCut clients contact group j two2
   agreed_cut limited still next rest parts over two2 files2 =
       let fits2 = last_fits still two2 files2 in
-      let limit : s2.limit ≡ MAX_JOURNAL = both.limit ∙ limited in
-      let sum : needed s2 next ≡ needed_by (format_stood (read_files two2)) (j ++ (settled.more ++ added.front)) next =
-      weighed s2 (j ++ (settled.more ++ added.front)) next fits2.end_is fits2.facts_are
-      ∙ ap (λ (k : Format). needed_by k (j ++ (settled.more ++ added.front)) next)
-      (fits_format clients s2 (j ++ (settled.more ++ added.front)) two2 fits2) in
+      let limit : s2.limit ≡ MAX_JOURNAL = added.runs.limit ∙ settled.comes.limit ∙ limited in
+      let sum : needed s2 next ≡ needed_by (j ++ (settled.more ++ added.front)) next =
+      weighed s2 (j ++ (settled.more ++ added.front)) next last_short fits2.end_is fits2.facts_are in
       record {
         first = settled.more;
         front = added.front;
@@ -245,24 +242,25 @@ module _ (clients : Meaning) (contact : ℕ) (group : Id) (s s1 s2 : StoreValue)
         settled = is_settled;
         parts = sym all_is ∙ parts;
         stands_for = fits2.stands_for;
+        short = fits_format clients s2 (j ++ (settled.more ++ added.front)) two2 kind.Short fits2 last_short;
         over = omega (arith, sum, limit, over);
       }
 
 -- ---- an agreement that failed
 
 cut_ends : (clients : Meaning) (contact : ℕ) (group : Id) (s s1 s2 : StoreValue) (o o1 o2 : Outside) (out out' : Stream) (u : Unit {0}) (came : Outcome) → DiskRun o o1
-    → SettlesAs clients s s1 o o1 (Ok u) → (added : AddsFront clients s1 s2 o1 o2 (agreed_batches clients contact group s1.state.facts) (Err came)) → s.limit ≡ MAX_JOURNAL
+    → SettlesAnew clients s s1 o o1 (Ok u) → (added : AddsFront clients s1 s2 o1 o2 (agreed_batches clients contact group s1.state.facts) (Err came)) → s.limit ≡ MAX_JOURNAL
     → (two : Two File) → o.files ≡ Some two → (j : List (List Entry)) → Fits clients s j two
-    → (two2 : Two File) → o2.files ≡ Some two2 → AgreedEnds clients contact group j out out' came two2
+    → (two2 : Two File) → o2.files ≡ Some two2 → AgreedEnds clients contact group j out out' came two two2
 cut_ends clients contact group s s1 s2 o o1 o2 out out' u outcome.Full run settled added limited two files j fits two2 files2 =
-    agreed_cut clients contact group s s1 s2 o o1 o2 u (Err outcome.Full) run settled added two files j fits limited added.answer.0 added.answer.1.next added.answer.1.rest
-    added.answer.1.parts added.answer.1.over two2 files2
+    inl (agreed_cut clients contact group s s1 s2 o o1 o2 u (Err outcome.Full) run settled added two files j fits limited added.answer.0 added.answer.1.next added.answer.1.rest
+    added.answer.1.parts added.answer.1.over two2 files2)
 cut_ends clients contact group s s1 s2 o o1 o2 out out' u outcome.Memory run settled added limited two files j fits two2 files2 = tt
 cut_ends clients contact group s s1 s2 o o1 o2 out out' u outcome.DiskFault run settled added limited two files j fits two2 files2 = tt
 cut_ends clients contact group s s1 s2 o o1 o2 out out' u _ run settled added limited two files j fits two2 files2 = absurd added.answer
 
 pub agrees_stopped : (clients : Meaning) (contact : ℕ) (group : Id) (s s1 s2 : StoreValue) (o o1 o2 : Outside) (out out' : Stream) (u : Unit {0}) (came : Outcome) → IsIdle out out'
-    → s.limit ≡ MAX_JOURNAL → DiskRun o o1 → SettlesAs clients s s1 o o1 (Ok u)
+    → s.limit ≡ MAX_JOURNAL → DiskRun o o1 → SettlesAnew clients s s1 o o1 (Ok u)
     → AddsFront clients s1 s2 o1 o2 (agreed_batches clients contact group s1.state.facts) (Err came) → ExtendsBy o1 o2 (Err came)
     → Agrees clients contact group s o o2 out out' came
 agrees_stopped clients contact group s s1 s2 o o1 o2 out out' u came idle limited run settled added by =
@@ -274,20 +272,21 @@ agrees_stopped clients contact group s s1 s2 o o1 o2 out out' u came idle limite
       told = λ two files j fits. record {
         moments = agreed_moments clients contact group s s1 s2 o o1 o2 u (Err came) run settled added two files j fits;
         ends = λ two2 files2. cut_ends clients contact group s s1 s2 o o1 o2 out out' u came run settled added limited two files j fits two2 files2;
+        spent = λ last. failed_unadded o o2 came whole;
       };
     }
 
 -- ---- an agreement and its text
 
-printed_ends : (clients : Meaning) (contact : ℕ) (group : Id) (j : List (List Entry)) (out out' : Stream) (text : List ℕ) (came : Outcome) (two : Two File)
-    → ((P : List ℕ → Type 0) → P text → IsAgreed clients contact group j two P) → PrintsText text out out' came → AgreedEnds clients contact group j out out' came two
-printed_ends clients contact group j out out' text outcome.Done two agreed p = agreed _ p
-printed_ends clients contact group j out out' text outcome.WriteFault two agreed p = agreed _ p.1
-printed_ends clients contact group j out out' text outcome.Memory two agreed p = tt
-printed_ends clients contact group j out out' text _ two agreed p = absurd p
+printed_ends : (clients : Meaning) (contact : ℕ) (group : Id) (j : List (List Entry)) (out out' : Stream) (text : List ℕ) (came : Outcome) (two two2 : Two File)
+    → ((P : List ℕ → Type 0) → P text → IsAgreed clients contact group j two2 P) → PrintsText text out out' came → AgreedEnds clients contact group j out out' came two two2
+printed_ends clients contact group j out out' text outcome.Done two two2 agreed p = agreed _ p
+printed_ends clients contact group j out out' text outcome.WriteFault two two2 agreed p = agreed _ p.1
+printed_ends clients contact group j out out' text outcome.Memory two two2 agreed p = tt
+printed_ends clients contact group j out out' text _ two two2 agreed p = absurd p
 
 pub agrees_printed : (clients : Meaning) (contact : ℕ) (group : Id) (s s1 s2 : StoreValue) (o o1 o2 : Outside) (out out' : Stream) (u v : Unit {0}) (text : List ℕ) (came : Outcome)
-    → s.limit ≡ MAX_JOURNAL → DiskRun o o1 → SettlesAs clients s s1 o o1 (Ok u)
+    → s.limit ≡ MAX_JOURNAL → DiskRun o o1 → SettlesAnew clients s s1 o o1 (Ok u)
     → AddsFront clients s1 s2 o1 o2 (agreed_batches clients contact group s1.state.facts) (Ok v) → text ≡ agreed_text clients contact group s1.state.facts
     → PrintsText text out out' came → Agrees clients contact group s o o2 out out' came
 agrees_printed clients contact group s s1 s2 o o1 o2 out out' u v text came limited run settled added is printed = record {
@@ -297,8 +296,9 @@ agrees_printed clients contact group s s1 s2 o o1 o2 out out' u v text came limi
   told = λ two files j fits. record {
     moments = agreed_moments clients contact group s s1 s2 o o1 o2 u (Ok v) run settled added two files j fits;
     ends = λ two2 files2.
-        printed_ends clients contact group j out out' text came two2
+        printed_ends clients contact group j out out' text came two two2
         (λ P p. agreed_whole clients contact group s s1 s2 o o1 o2 u (Ok v) run settled added two files j fits limited added.answer.0 added.answer.1 P text is p two2 files2) printed;
+    spent = λ last. absurd (settled.answer.3 (spent_here clients s j two fits last));
   };
 }
 
@@ -323,6 +323,13 @@ none_ends clients contact group standing two two' old new out out' (outcome.Dama
 none_ends clients contact group standing two two' old new out out' outcome.Memory by loaded same = tt
 none_ends clients contact group standing two two' old new out out' _ by loaded same = absurd by
 
+none_unadded : (old new : Outside) (came : Outcome) → LoadedBy old new (Err came) → is_added came ≡ false
+none_unadded old new outcome.DiskFault by = refl
+none_unadded old new outcome.NoStore by = refl
+none_unadded old new (outcome.Damaged place) by = refl
+none_unadded old new outcome.Memory by = refl
+none_unadded old new _ by = absurd by
+
 pub agreed_none : (clients : Meaning) (contact : ℕ) (group : Id) (old new : Outside) (out out' : Stream) (came : Outcome) → DiskRun old new
     → ((two : Two File) → old.files ≡ Some two → Rests (LoadKeeps (Err came) two) two old new) → LoadedBy old new (Err came)
     → ((two : Two File) → old.files ≡ Some two → IsLoaded (stands clients (read_files two)) (Err came)) → IsIdle out out' → HasAgreed clients contact group old new out out' came
@@ -333,6 +340,7 @@ agreed_none clients contact group old new out out' came run rests by loaded idle
     moments = rest_moments clients contact group (stands clients (read_files two)) came _ two old new (rests two told);
     ends = λ two' told'.
         none_ends clients contact group (stands clients (read_files two)) two two' old new out out' came by (loaded two told) ((rests two told).kept two' told');
+    spent = λ last. none_unadded old new came by;
   };
 }
 
@@ -347,18 +355,26 @@ agreed_refused clients contact group old new out out' s why run rests loaded tes
     ends = λ two' told'.
         let has = loaded two told in
         (record { before = has.of; stood = has.stood; tested = ap (λ (f : Facts). agree_test f contact group) has.are ∙ tested }, (rests two told).kept two' told');
+    spent = λ last. refl;
   };
 }
 
-whole_ends : (clients : Meaning) (contact : ℕ) (group : Id) (standing : Standing) (two two' : Two File) (out out' : Stream) (j : List (List Entry)) (came : Outcome)
-    → is_late came ≡ true → standing ≡ journal j → agree_test (facts j) contact group ≡ None → AgreedEnds clients contact group j out out' came two'
-    → AgreesEnds clients contact group standing two two' out out' came
-whole_ends clients contact group standing two two' out out' j outcome.Done late stood tested ends = record { before = j; stood = stood; tested = tested; leads = ends }
-whole_ends clients contact group standing two two' out out' j outcome.WriteFault late stood tested ends = record { before = j; stood = stood; tested = tested; leads = ends }
-whole_ends clients contact group standing two two' out out' j outcome.Full late stood tested ends = record { before = j; stood = stood; tested = tested; leads = ends }
-whole_ends clients contact group standing two two' out out' j outcome.Memory late stood tested ends = tt
-whole_ends clients contact group standing two two' out out' j outcome.DiskFault late stood tested ends = tt
-whole_ends clients contact group standing two two' out out' j _ late stood tested ends = cc
+-- the files before the agreement read as those before the load
+cut_first : (clients : Meaning) (contact : ℕ) (group : Id) (j : List (List Entry)) (two two1 two2 : Two File) → read_files two1 ≡ read_files two
+    → IsCut clients contact group j two2 ⊎ WasSpent two1 two2 → IsCut clients contact group j two2 ⊎ WasSpent two two2
+cut_first clients contact group j two two1 two2 same (inl cut) = inl cut
+cut_first clients contact group j two two1 two2 same (inr spent) = inr (subst HasLastGeneration same spent.0, spent.1 ∙ same)
+
+whole_ends : (clients : Meaning) (contact : ℕ) (group : Id) (standing : Standing) (two two1 two2 : Two File) (out out' : Stream) (j : List (List Entry)) (came : Outcome)
+    → read_files two1 ≡ read_files two → is_late came ≡ true → standing ≡ journal j → agree_test (facts j) contact group ≡ None
+    → AgreedEnds clients contact group j out out' came two1 two2 → AgreesEnds clients contact group standing two two2 out out' came
+whole_ends clients contact group standing two two1 two2 out out' j outcome.Done same late stood tested ends = record { before = j; stood = stood; tested = tested; leads = ends }
+whole_ends clients contact group standing two two1 two2 out out' j outcome.WriteFault same late stood tested ends = record { before = j; stood = stood; tested = tested; leads = ends }
+whole_ends clients contact group standing two two1 two2 out out' j outcome.Full same late stood tested ends =
+    record { before = j; stood = stood; tested = tested; leads = cut_first clients contact group j two two1 two2 same ends }
+whole_ends clients contact group standing two two1 two2 out out' j outcome.Memory same late stood tested ends = tt
+whole_ends clients contact group standing two two1 two2 out out' j outcome.DiskFault same late stood tested ends = tt
+whole_ends clients contact group standing two two1 two2 out out' j _ same late stood tested ends = cc
 
 by_later : (o o1 o2 : Outside) (out out' : Stream) (came : Outcome) → o.disk_faults ≤ o1.disk_faults → AddsBy o1 o2 out out' came → AddsBy o o2 out out' came
 by_later o o1 o2 out out' outcome.DiskFault later by = (rose_before o.disk_faults o1.disk_faults o2.disk_faults later by.0, by.1)
@@ -400,8 +416,9 @@ agreed_loaded clients contact group o o1 o2 out out' s came run rests ready test
                 leads = subst (λ (l : Links). JournalMoment clients (AgreesOn clients contact group fit.0) (sent_of l.told) m) run.same_links w;
               },
             )) went.moments);
-        ends = λ two' told'.
-            whole_ends clients contact group (stands clients (read_files two)) two two' out out' fit.0 came agreed.late stood test (went.ends two' told');
+        ends = λ two2 told2.
+            whole_ends clients contact group (stands clients (read_files two)) two told1.0 two2 out out' fit.0 came (rest.kept told1.0 told1.1) agreed.late stood test (went.ends two2 told2);
+        spent = λ last. went.spent (subst HasLastGeneration (sym (rest.kept told1.0 told1.1)) last);
       };
 }
 
@@ -422,7 +439,7 @@ module _ (r : Result (Unit {0}) Outcome) (x : Outcome) (is : IsErrAnd r (λ e. e
 
 -- a contact that is known stays so while a journal is settled
 pub still_known : (clients : Meaning) (contact : ℕ) (s s1 : StoreValue) (o o1 : Outside) (more : List (List Entry)) → contact < s.state.facts.contacts
-    → ComesBy clients s s1 o o1 more → contact < s1.state.facts.contacts
+    → ComesAnew clients s s1 o o1 more → contact < s1.state.facts.contacts
 still_known clients contact s s1 o o1 more known comes =
     let same : s1.state.facts.contacts ≡ s.state.facts.contacts =
     ap (λ (f : Facts). f.contacts) comes.facts ∙ (stays clients s.state.facts more comes.settling).contacts in

@@ -1,5 +1,5 @@
--- What `agree` does: it migrates the journal and settles it, adds what the targets ask for, each entry a batch of its own, and prints a line for
--- each group.
+-- What `agree` does: it migrates the journal and settles it, adds what the targets ask for, each entry a batch of its own, and
+-- prints a line for each group.
 use Rattle.std.specs.Prelude.{◌≡◌, ◌⊎◌, ℕ, ◌<◌, ◌≤◌, false, true, List, [], ◌∷◌, ◌++◌, Some, None}
 use Rattle.std.specs.Io.KnownBytes.{Appends}
 use Rattle.outside.specs.declared.limits.TheConstants.{MAX_JOURNAL}
@@ -43,8 +43,8 @@ abbrev pub AreRoomy : List (List Entry) → List (List Entry) → Type 0
 AreRoomy j [] = Unit {0}
 AreRoomy j (b ∷ bs) = (needed_by j b ≤ MAX_JOURNAL) × AreRoomy (j ++ b ∷ []) bs
 
--- The files stand, in format 2, for the journal, all of its settling, and all that the targets ask for; nothing is pending in them, so that each
--- crash leaves this. The text is that of the targets.
+-- The files stand, in format 2, for the journal, all of its settling, and all that the targets ask for; nothing is pending in
+-- them, so that each crash leaves this. The text is that of the targets.
 pub record IsAgreed (clients : Meaning) (contact : ℕ) (group : Id) (j : List (List Entry)) (two : Two File) (P : List ℕ → Type 0) : Type 0 where
   pub first : List (List Entry)
   pub settles : AllSettling clients (facts j) first
@@ -56,8 +56,8 @@ pub record IsAgreed (clients : Meaning) (contact : ℕ) (group : Id) (j : List (
   pub second_settled : NothingPending two 1
   pub printed : P (agreed_text clients contact group (after_batches (facts j) first))
 
--- The files stand, in format 2, for the journal, all of its settling, and a front of what the targets ask for, and there is no room for the
--- batch behind it.
+-- The files stand, in format 2, for the journal, all of its settling, and a front of what the targets ask for, and there is no
+-- room for the batch behind it.
 pub record IsCut (clients : Meaning) (contact : ℕ) (group : Id) (j : List (List Entry)) (two : Two File) : Type 0 where
   pub first : List (List Entry)
   pub front : List (List Entry)

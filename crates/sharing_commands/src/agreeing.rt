@@ -23,9 +23,9 @@ use sync_store::Store;
 use sync_store::laws::images_stand;
 use sync_words::Outcome;
 
-/// Settles the journal, sets the level of each group that this device and a contact spoke of in a
-/// `sharing` group, adding those that both lead to and that are not known, and prints a line for
-/// each.
+/// Migrates the journal and settles it, sets the level of each group that this device and a contact
+/// spoke of in a `sharing` group, adding those that both lead to and that are not known, and prints
+/// a line for each.
 pub fn agree<D: Disk, W: Sink, C: Clients>(
     alloc: Global,
     hasher: RandomState,
@@ -56,7 +56,7 @@ fn agree_refusal(store: &Store, contact: u8, group: &GroupId) -> Option<Refused>
     }
 }
 
-// Settles, adds what the targets ask for, and prints their lines.
+// Migrates, settles, adds what the targets ask for, and prints their lines.
 fn agree_loaded<D: Disk, W: Sink, C: Clients>(
     alloc: Global,
     store: Store,

@@ -1,9 +1,10 @@
 -- What a command comes to whose links were dialled, by what the run on them came to.
-use Rattle.std.proofs.Common.{◌≡◌, ℕ, suc, ◌≤◌, Bool, true, false, cond, List, [], ◌∷◌, ◌++◌, length, append-nil, refl, sym, ◌∙◌, ap, subst, arith, Option, None, Some, is_some, Result, Ok, Err}
+use Rattle.std.proofs.Common.{◌≡◌, ◌⊎◌, ℕ, suc, ◌≤◌, Bool, true, false, cond, List, [], ◌∷◌, ◌++◌, length, append-nil, refl, sym, ◌∙◌, ap, subst, arith, inl, inr, Option, None, Some, is_some, Result, Ok, Err}
 use Rattle.std.specs.Option.{option_map}
 use Rattle.outside.specs.declared.failed.Failed.{Failed}
 use Rattle.outside.specs.Faults.{Rose, one_more}
-use Rattle.outside.specs.Links.{HeardOn}
+use Rattle.outside.specs.Files.{Two, File, read_files}
+use Rattle.outside.specs.Links.{HeardOn, Links}
 use Rattle.outside.specs.Outside.{Outside}
 use Rattle.sync_rules.specs.declared.entries.Session.{Session}
 use Rattle.sync_rules.specs.Clients.{Meaning}
@@ -24,9 +25,9 @@ use Rattle.sync_words.specs.Links.{has_nonce}
 use Rattle.sync_run.specs.declared.dialling.Dialled.{Dialled}
 use Rattle.sync_run.specs.declared.run.Limits.{Limits}
 use Rattle.sync_run.specs.Causes.{FailsAlone, IsCaused, RunCaused}
-use Rattle.sync_run.specs.Courses.{HearsRun, RanToEnd, RunComes, WasBroken, WasFull, terms_of}
+use Rattle.sync_run.specs.Courses.{HearsRun, RanToEnd, RunComes, WasBroken, WasFull, WasOver, WasSpent, terms_of}
 use Rattle.sync_run.specs.Dialling.{AreDialled, Calms, DialsAll, MakesLinks, unheard}
-use Rattle.sync_run.specs.Parts.{RunBroken, RunEnded, RunFilled, RunsOver, sessions_from}
+use Rattle.sync_run.specs.Parts.{RunBroken, RunEnded, RunFilled, RunSpent, RunsOver, sessions_from}
 use Rattle.sync_run.specs.Plans.{ArePlanned}
 use Rattle.sync_run.proofs.EndLaws.{course_by_heard}
 use Rattle.sync_run.proofs.HeardLaws.{course_told}
@@ -103,7 +104,7 @@ hears_dialled words es o0 o1 o none makes told same =
 -- ---- the run on the links
 
 module _ (clients : Meaning) (limits : Limits) (words : List LinkWords) (links : List Dialled) (j : Journal) (o0 o1 o : Outside) (none : o0.links.dialled ≡ 0)
-    (makes : MakesLinks words o0.links o1.links) (dialled : AreDialled words links) (count : length links ≡ length words) (same : o.links.dialled ≡ o1.links.dialled) where
+    (files : o1.files ≡ o0.files) (makes : MakesLinks words o0.links o1.links) (dialled : AreDialled words links) (count : length links ≡ length words) (same : o.links.dialled ≡ o1.links.dialled) where
   all_planned : length (sessions_from (facts j).begun links) ≡ length words
   all_planned = sessions_count (facts j).begun links ∙ count
 
@@ -127,6 +128,7 @@ module _ (clients : Meaning) (limits : Limits) (words : List LinkWords) (links :
         course_told clients (terms_of limits j) (sessions_from (facts j).begun links) (facts j) end.events end.last o0 o end.course (all_made ∙ sym all_planned)
         (hears_dialled words end.events o0 o1 o none makes end.told same).heard;
     quiet = end.quiet;
+    next = λ two told. end.next two (files ∙ told);
   }
 
   broken_so : RunBroken clients limits (sessions_from (facts j).begun links) j o1 o → WasBroken clients limits words j o0 o
@@ -142,7 +144,7 @@ module _ (clients : Meaning) (limits : Limits) (words : List LinkWords) (links :
     reads = broken.reads;
   }
 
-  filled_so : RunFilled clients limits (sessions_from (facts j).begun links) j o1 o → WasFull clients limits words j o0 o
+  filled_so : RunFilled clients limits (sessions_from (facts j).begun links) j o1 o → WasOver clients limits words j o0 o
   unfolding broken_so
   filled_so filled = record {
     run = broken_so filled.run;
@@ -153,9 +155,24 @@ module _ (clients : Meaning) (limits : Limits) (words : List LinkWords) (links :
     sent = filled.sent;
   }
 
+  -- nothing was done behind the dials
+  spent_so : RunSpent o1 o → WasSpent words o0 o
+  spent_so spent = record {
+    last = λ two told. spent.last two (files ∙ told);
+    still = λ two two' told told'.
+        let both : Some two' ≡ Some two = sym told' ∙ spent.same_files ∙ files ∙ told in
+        let one : two' ≡ two = cc in
+        ap (λ (t : Two File). read_files t) one;
+    links = subst (λ (l : Links). MakesLinks words o0.links l) (sym spent.same_links) makes;
+  }
+
+  full_so : (RunFilled clients limits (sessions_from (facts j).begun links) j o1 o ⊎ RunSpent o1 o) → WasFull clients limits words j o0 o
+  full_so (inl filled) = inl (filled_so filled)
+  full_so (inr spent) = inr (spent_so spent)
+
   pub run_comes : (r : Result Closing Outcome) → RunsOver clients limits (sessions_from (facts j).begun links) j o1 o r → RunComes clients limits words j o0 o r
   run_comes (Ok ends) over = ended_so ends over
-  run_comes (Err outcome.Full) over = filled_so over
+  run_comes (Err outcome.Full) over = full_so over
   run_comes (Err outcome.Memory) over = broken_so over
   run_comes (Err outcome.DiskFault) over = broken_so over
   run_comes (Err _) over = absurd over
@@ -191,7 +208,7 @@ module _ (clients : Meaning) (limits : Limits) (words : List LinkWords) (links :
       → ((j : Journal) → FitsWith clients s o1.files j → RunsOver clients limits (sessions_from (facts j).begun lent) j o1 o r)
       → (j : Journal) → FitsWith clients s o0.files j → RunComes clients limits words j o0 o r
   dialled_comes u lent o r dials is goes over j fit =
-      run_comes clients limits words links j o0 o1 o none (subst (λ (ws : List LinkWords). MakesLinks ws o0.links o1.links) dials.all.0 dials.makes) dials.dialled dials.all.1
+      run_comes clients limits words links j o0 o1 o none calms.same_files (subst (λ (ws : List LinkWords). MakesLinks ws o0.links o1.links) dials.all.0 dials.makes) dials.dialled dials.all.1
       goes.same_dialled r
       (subst (λ (ds : List Dialled). RunsOver clients limits (sessions_from (facts j).begun ds) j o1 o r) is (over j (fits_calm j fit)))
 

@@ -1,13 +1,13 @@
 -- What the command comes to, by its load, its test of the contacts, and the run on its links.
-use Rattle.std.proofs.Common.{◌≡◌, ◌+◌, ◌<◌, ◌≤◌, false, List, [], ◌++◌, append-nil, refl, sym, ◌∙◌, ap, subst, arith, Option, None, Some, Result, Ok, Err}
+use Rattle.std.proofs.Common.{◌≡◌, ◌+◌, ◌<◌, ◌≤◌, false, List, [], ◌++◌, append-nil, refl, sym, ◌∙◌, ap, subst, arith, inl, inr, Option, None, Some, Result, Ok, Err}
 use Rattle.std.specs.Prelude.{IsErrAnd}
 use Rattle.std.specs.Option.{option_map}
-use Rattle.outside.specs.declared.limits.TheConstants.{MAX_JOURNAL}
 use Rattle.outside.specs.Disk.{Becomes}
 use Rattle.outside.specs.Faults.{Rose, one_more}
 use Rattle.outside.specs.Files.{Two, File, read_files}
 use Rattle.outside.specs.Links.{HeardOn, Links}
 use Rattle.outside.specs.Outside.{DiskRun, Outside}
+use Rattle.outside.proofs.CallSteps.{becomes_told}
 use Rattle.outside.proofs.RunLaws.{grow_same}
 use Rattle.outside.specs.Runs.{Told}
 use Rattle.frame_journal.specs.Gates.{ReadsSame}
@@ -21,7 +21,7 @@ use Rattle.sync_store.specs.Store.{StoreValue}
 use Rattle.sync_course.specs.Events.{Event, GrowsBy, batches_of, RoseIf, has_failure, heard_after, readings_of}
 use Rattle.sync_node.specs.Courses.{FitsWith, ReadsAs}
 use Rattle.sync_node.specs.Output.{Journal, heard_on, sent_on}
-use Rattle.store_commands.specs.Commit.{format_told, needed_by}
+use Rattle.store_commands.specs.Commit.{HasLastGeneration}
 use Rattle.store_commands.specs.Load.{HasFacts, IsLoaded, LoadedBy}
 use Rattle.sync_words.specs.declared.link_words.LinkWords.{LinkWords}
 use Rattle.sync_course.specs.Closing.{Closing}
@@ -29,7 +29,7 @@ use Rattle.sync_words.specs.declared.outcome.Outcome.{Outcome}
 use Rattle.sync_words.specs.declared.outcome.Outcome.TheVariants as outcome
 use Rattle.sync_run.specs.declared.run.Limits.{Limits}
 use Rattle.sync_run.specs.Causes.{IsCaused}
-use Rattle.sync_run.specs.Courses.{ComesTo, HearsRun, RanToEnd, RunComes, TestsContacts, WasBroken, WasFull, is_unknown}
+use Rattle.sync_run.specs.Courses.{ComesTo, HearsRun, RanToEnd, RunComes, TestsContacts, WasBroken, WasFull, WasOver, WasSpent, is_unknown}
 use Rattle.sync_run.specs.Dialling.{MakesLinks, unheard}
 use Rattle.sync_run.proofs.CourseDials.{unbegun}
 
@@ -52,7 +52,11 @@ reads_as : (clients : Meaning) (a b : Option (Two File)) (j : Journal) → b ≡
 reads_as clients a b j same reads = subst (λ (f : Option (Two File)). ReadsAs clients f j) (sym same) reads
 
 module _ (clients : Meaning) (limits : Limits) (words : List LinkWords) (j : Journal) (o0 o1 o2 o3 : Outside) (first : o1.links ≡ o0.links) (last : o3.links ≡ o2.links)
-    (files : o3.files ≡ o2.files) where
+    (files : o3.files ≡ o2.files) (reads : Becomes ReadsSame o0.files o1.files) where
+  -- the files of the begin, as a load leaves them
+  loaded_two : (two : Two File) → o0.files ≡ Some two → (two1 : Two File) × (o1.files ≡ Some two1) × (read_files two1 ≡ read_files two)
+  loaded_two two told = becomes_told ReadsSame o0.files o1.files two told reads
+
   ran_as : (ends : Closing) → RanToEnd clients limits words j o1 o2 ends → RanToEnd clients limits words j o0 o3 ends
   ran_as ends ran = record {
     sessions = ran.sessions;
@@ -68,6 +72,9 @@ module _ (clients : Meaning) (limits : Limits) (words : List LinkWords) (j : Jou
     by_heard = ran.by_heard;
     as_told = λ i link at heard told. ran.as_told i link at heard (ap (λ (l : Links). l.heard) (sym last) ∙ told) ∙ ap (λ (l : Links). heard_on l i) (sym last);
     quiet = ran.quiet;
+    next = λ two told spent.
+        let at = loaded_two two told in
+        ran.next at.0 at.1 (subst HasLastGeneration (sym at.2) spent);
   }
 
   was_as : WasBroken clients limits words j o1 o2 → WasBroken clients limits words j o0 o3
@@ -93,17 +100,29 @@ module _ (clients : Meaning) (limits : Limits) (words : List LinkWords) (j : Jou
     heard_are = ap (λ (l : Links). l.heard) (sym last) ∙ told.heard_are;
   }
 
-  full_as : WasFull clients limits words j o1 o2 → WasFull clients limits words j o0 o3
+  over_as : WasOver clients limits words j o1 o2 → WasOver clients limits words j o0 o3
   unfolding was_as
-  full_as was = record {
+  over_as was = record {
     run = was_as was.run;
     batch = was.batch;
     next = was.next;
     steps = was.steps;
-    over =
-        subst (λ (f : Option (Two File)). MAX_JOURNAL < needed_by (format_told f) (j ++ batches_of was.run.events) was.batch) (sym files) was.over;
+    over = was.over;
     sent = λ told i l there unfailed. ap (λ (ls : Links). sent_on ls i) last ∙ was.sent (told_as told) i l there unfailed;
   }
+
+  spent_as : WasSpent words o1 o2 → WasSpent words o0 o3
+  spent_as was = record {
+    last = λ two told. let at = loaded_two two told in subst HasLastGeneration at.2 (was.last at.0 at.1);
+    still = λ two two' told told'. let at = loaded_two two told in was.still at.0 two' at.1 (sym files ∙ told') ∙ at.2;
+    links =
+        subst (λ (a : Links). MakesLinks words a o3.links) first
+        (subst (λ (b : Links). MakesLinks words o1.links b) (sym last) was.links);
+  }
+
+  full_as : WasFull clients limits words j o1 o2 → WasFull clients limits words j o0 o3
+  full_as (inl was) = inl (over_as was)
+  full_as (inr was) = inr (spent_as was)
 
   comes_as : (r : Result Closing Outcome) → RunComes clients limits words j o1 o2 r → RunComes clients limits words j o0 o3 r
   comes_as (Ok ends) comes = ran_as ends comes
@@ -209,7 +228,7 @@ module _ (clients : Meaning) (limits : Limits) (words : List LinkWords) (two : T
         → o3.files ≡ o2.files → ((j : Journal) → FitsWith clients s o'.files j → RunComes clients limits words j o' o2 r) → ComesTo clients limits words stood o o3 r
     links_come o2 o3 u r fits tests last files comes =
         run_comes_to clients limits words stood loaded.of o o3 loaded.stood (ap (λ (f : Facts). is_unknown f words) loaded.are ∙ tests) r
-        (comes_as clients limits words loaded.of o o' o2 o3 same last files r (comes loaded.of (fits_loaded fits)))
+        (comes_as clients limits words loaded.of o o' o2 o3 same last files reads r (comes loaded.of (fits_loaded fits)))
 
 -- ---- causes
 

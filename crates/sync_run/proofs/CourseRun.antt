@@ -1,5 +1,5 @@
 -- A run over a journal, from its first place on: settling, the sessions on the links that were dialled, and its end.
-use Rattle.std.proofs.Common.{◌≡◌, ℕ, ◌<◌, Bool, true, false, List, [], ◌++◌, refl, sym, ◌∙◌, ap, subst, arith, Some, Result, Ok, Err}
+use Rattle.std.proofs.Common.{◌≡◌, ℕ, ◌+◌, ◌<◌, Bool, true, false, List, [], ◌++◌, refl, sym, ◌∙◌, ap, subst, arith, inl, inr, Some, Result, Ok, Err}
 use Rattle.std.specs.Prelude.{IsErrAnd}
 use Rattle.outside.specs.declared.limits.TheConstants.{MAX_JOURNAL}
 use Rattle.outside.specs.Files.{Two, File}
@@ -13,17 +13,17 @@ use Rattle.sync_rules.specs.Legal.{AllSettling, Legal}
 use Rattle.sync_rules.proofs.StepKinds.{all_settling_only}
 use Rattle.sync_rules.specs.Steps.{IsSettled}
 use Rattle.entry_codec.specs.declared.naming.Format.{Format}
-use Rattle.entry_codec.specs.Payloads.{journal_end}
+use Rattle.entry_codec.specs.declared.naming.Format.TheVariants as kind
+use Rattle.entry_codec.specs.Payloads.{journal_end, payload_len}
 use Rattle.entry_codec.specs.Standing.{room_of}
 use Rattle.sync_store.specs.Commits.{needed}
 use Rattle.sync_store.specs.Fitting.{Fits, FitsSome}
 use Rattle.sync_store.specs.Moments.{IsBetween}
-use Rattle.sync_store.specs.Settling.{ComesBy}
-use Rattle.sync_store.specs.Store.{StoreValue, written_in}
+use Rattle.sync_store.specs.Migrations.{IsSpent}
+use Rattle.sync_store.specs.Store.{StoreValue, format_meant, written_in}
 use Rattle.sync_course.specs.Events.{Event, batches_of}
-use Rattle.sync_course.proofs.LiftLaws.{breaks_begun, runs_begun, runs_settled_begun}
+use Rattle.sync_course.proofs.LiftLaws.{runs_settled_begun}
 use Rattle.sync_course.specs.Quiet.{EndsQuiet}
-use Rattle.sync_course.proofs.ToldLaws.{breaks_then, runs_then}
 use Rattle.sync_course.specs.Turns.{Attaches, Course, Ended, Place, RunStep, Terms, first_place, is_over}
 use Rattle.sync_node.specs.declared.link.Link.{Link}
 use Rattle.sync_node.proofs.CourseLaws.{fits_grown, reads_front}
@@ -35,14 +35,15 @@ use Rattle.sync_node.specs.Output.{Journal}
 use Rattle.sync_course.specs.Closing.{Closing}
 use Rattle.sync_words.specs.declared.outcome.Outcome.{Outcome}
 use Rattle.sync_words.specs.declared.outcome.Outcome.TheVariants as outcome
-use Rattle.store_commands.specs.Commit.{SettledBy, SettlesAs, format_told, needed_by}
-use Rattle.store_commands.proofs.Stood.{fits_format}
+use Rattle.store_commands.specs.Commit.{ComesAnew, HasLastGeneration, MayMigrate, SettledAnew, SettlesAnew, needed_by}
+use Rattle.store_commands.proofs.Stood.{last_here, spent_here}
 use Rattle.sync_run.specs.declared.dialling.Dialled.{Dialled}
 use Rattle.sync_run.specs.declared.run.Limits.{Limits}
 use Rattle.sync_run.specs.Courses.{terms_of}
 use Rattle.sync_run.specs.Closed.{closed_by}
-use Rattle.sync_run.specs.Parts.{BreaksRun, EndsFrom, FullRun, RunBroken, RunEnded, RunFilled, RunsOver, RunsSessions, before_sessions, sessions_from}
-use Rattle.sync_run.proofs.CourseParts.{full_then, told_too}
+use Rattle.sync_run.specs.Parts.{BreaksRun, EndsFrom, FullRun, RunBroken, RunEnded, RunFilled, RunSpent, RunsOver, RunsSessions, before_sessions, sessions_from}
+use Rattle.sync_run.proofs.Coming.{Came, came_settling, came_then, front_settles}
+use Rattle.sync_run.proofs.CourseParts.{told_too}
 use Rattle.sync_run.proofs.LineLaws.{links_close}
 
 -- the law of what stands at the end of a run that is over
@@ -51,12 +52,14 @@ RunsEndQuiet =
     (clients : Meaning) (terms : Terms) (sessions : List Session) (j : List (List Entry)) (events : List Event) (last : Place) → Legal clients j
     → Course clients terms sessions (facts j) events last → is_over terms.quiet last ≡ true → EndsQuiet clients terms events last
 
--- the sum of a store is that of its journal
-sum_over : (s : StoreValue) (k : Journal) (batch : List Entry) → s.end ≡ journal_end (written_in s) k → facts k ≡ s.state.facts → s.limit ≡ MAX_JOURNAL → s.limit < needed s batch
-    → MAX_JOURNAL < needed_by (written_in s) k batch
-sum_over s k batch end same limit over =
+-- the sum of a store in format 2 is that of its journal
+sum_over : (s : StoreValue) (k : Journal) (batch : List Entry) → s.end ≡ journal_end (written_in s) k → facts k ≡ s.state.facts → written_in s ≡ kind.Short → s.limit ≡ MAX_JOURNAL
+    → s.limit < needed s batch → MAX_JOURNAL < needed_by k batch
+sum_over s k batch end same short limit over =
     let room : room_of (written_in s) (after_all (facts k) batch) ≡ room_of (written_in s) (after_all s.state.facts batch) = ap (λ (f : Facts). room_of (written_in s) (after_all f batch)) same in
-    omega (arith, end, limit, over, room)
+    let Over : Format → Type 0 = λ f. MAX_JOURNAL < journal_end f k + 5 + payload_len f batch + room_of f (after_all (facts k) batch) in
+    let here : Over (written_in s) = omega (arith, end, limit, over, room) in
+    subst Over short here
 
 module _ (clients : Meaning) (limits : Limits) (links : List Dialled) (j : Journal) (s0 : StoreValue) (o0 : Outside) (fit : FitsWith clients s0 o0.files j) where
   abbrev sessions : List Session
@@ -67,35 +70,35 @@ module _ (clients : Meaning) (limits : Limits) (links : List Dialled) (j : Journ
 
   -- the run came to this place
   abbrev pub ComesTo : Place → StoreValue → Outside → Type 0
-  ComesTo place s o = RunRuns clients terms (first_place sessions (facts j)) place s0 s o0 o
+  ComesTo place s o = Came clients terms (FitsWith clients s0 o0.files) (FitsWith clients s o.files) (first_place sessions (facts j)) place o0 o
 
-  abbrev pub StopsBy : Outside → Type 0
-  StopsBy o = RunBreaks clients terms (first_place sessions (facts j)) s0 o0 o
+  -- it was broken off at this place
+  abbrev pub StopsAt : Place → Outside → Type 0
+  StopsAt place o = Came clients terms (FitsWith clients s0 o0.files) (ReadsAs clients o.files) (first_place sessions (facts j)) place o0 o
 
   -- the files as they read, where a store fits them
   fits_reads : (s : StoreValue) (o : Outside) (k : Journal) → FitsWith clients s o.files k → ReadsAs clients o.files k
   fits_reads s o k f = (f.0, f.1, f.2.stands_for)
 
-  pub broken_by : (o : Outside) → StopsBy o → RunBroken clients limits sessions j o0 o
-  broken_by o breaks = record {
-    events = breaks.runs.events;
-    last = breaks.to;
-    broken = record { numbered = refl; path = breaks.runs.path };
-    told = breaks.runs.told;
-    reads = breaks.runs.journal j fit;
+  pub broken_by : (place : Place) (o : Outside) → StopsAt place o → RunBroken clients limits sessions j o0 o
+  broken_by place o came = record {
+    events = came.events;
+    last = place;
+    broken = record { numbered = refl; path = came.path };
+    told = came.told;
+    reads = came.journal j fit;
   }
 
   -- it stopped at a place between two calls
   pub broken_at : (place : Place) (s : StoreValue) (o : Outside) → ComesTo place s o → RunBroken clients limits sessions j o0 o
-  broken_at place s o runs = record {
-    events = runs.events;
+  broken_at place s o came = record {
+    events = came.events;
     last = place;
-    broken = record { numbered = refl; path = runs.path };
-    told = runs.told;
-    reads = fits_reads s o (j ++ batches_of runs.events) (runs.journal j fit);
+    broken = record { numbered = refl; path = came.path };
+    told = came.told;
+    reads = fits_reads s o (j ++ batches_of came.events) (came.journal j fit);
   }
 
-  -- the next batch would have passed the limit
   -- the files that are told are those that the disk has
   fits_told : (s : StoreValue) (o : Outside) (k : Journal) → FitsWith clients s o.files k → (told : Told o) → Fits clients s k told.two
   fits_told s o k fit told =
@@ -103,34 +106,56 @@ module _ (clients : Meaning) (limits : Limits) (links : List Dialled) (j : Journ
       let same : fit.0 ≡ told.two = cc in
       subst (λ (t : Two File). Fits clients s k t) same fit.2
 
-  filled_by : (Given : Type 0) (s : StoreValue) (o : Outside) → s.limit ≡ MAX_JOURNAL → Given → RunFullSent clients terms (first_place sessions (facts j)) Given s0 s o0 o
-      → RunFilled clients limits sessions j o0 o
-  filled_by Given s o limit given filled =
+  -- from a place the next batch would have passed the limit
+  filled_by : (Given : Type 0) (place : Place) (s1 s : StoreValue) (o1 o : Outside) → s.limit ≡ MAX_JOURNAL → written_in s ≡ kind.Short → Given → ComesTo place s1 o1
+      → RunFullSent clients terms place Given s1 s o1 o → RunFilled clients limits sessions j o0 o
+  filled_by Given place s1 s o1 o limit short given came filled =
       let full = filled.full in
-      let fit_now : FitsWith clients s o.files (j ++ batches_of full.runs.events) = full.runs.journal j fit in
+      let whole : ComesTo full.to s o =
+      came_then clients terms (FitsWith clients s0 o0.files) (FitsWith clients s1 o1.files) (FitsWith clients s o.files) (first_place sessions (facts j)) place full.to o0 o1 o came full.runs in
+      let fit_now : FitsWith clients s o.files (j ++ batches_of whole.events) = whole.journal j fit in
       record {
         run = record {
-          events = full.runs.events;
+          events = whole.events;
           last = full.to;
-          broken = record { numbered = refl; path = full.runs.path };
-          told = full.runs.told;
-          reads = fits_reads s o (j ++ batches_of full.runs.events) fit_now;
+          broken = record { numbered = refl; path = whole.path };
+          told = whole.told;
+          reads = fits_reads s o (j ++ batches_of whole.events) fit_now;
         };
         batch = full.batch;
         next = full.next;
         steps = full.steps;
-        over =
-            subst (λ (k : Format). MAX_JOURNAL < needed_by k (j ++ batches_of full.runs.events) full.batch)
-            (fits_format clients s (j ++ batches_of full.runs.events) fit_now.0 fit_now.2 ∙ sym (ap format_told fit_now.1))
-            (sum_over s (j ++ batches_of full.runs.events) full.batch fit_now.2.end_is fit_now.2.facts_are limit full.over);
+        over = sum_over s (j ++ batches_of whole.events) full.batch fit_now.2.end_is fit_now.2.facts_are short limit full.over;
         sent = λ told i l there unfailed.
-            filled.sent given i l there unfailed told (j ++ batches_of full.runs.events)
-            (fits_told s o (j ++ batches_of full.runs.events) fit_now told);
+            filled.sent given i l there unfailed told (j ++ batches_of whole.events)
+            (fits_told s o (j ++ batches_of whole.events) fit_now told);
       }
+
+  -- ---- whether a generation is left
+
+  pub may_migrate : (IsSpent s0 → ⊥) → MayMigrate o0.files
+  may_migrate unspent two files last =
+      let both : Some fit.0 ≡ Some two = sym fit.1 ∙ files in
+      let same : fit.0 ≡ two = cc in
+      unspent (spent_here clients s0 j two (subst (λ (t : Two File). Fits clients s0 j t) same fit.2) last)
+
+  pub spent_by : (o : Outside) → IsSpent s0 → o ≡ o0 → RunSpent o0 o
+  spent_by o spent same = record {
+    last = λ two files.
+        let both : Some fit.0 ≡ Some two = sym fit.1 ∙ files in
+        let one : fit.0 ≡ two = cc in
+        last_here clients s0 j two (subst (λ (t : Two File). Fits clients s0 j t) one fit.2) spent;
+    same_files = ap (λ (x : Outside). x.files) same;
+    same_links = ap (λ (x : Outside). x.links) same;
+    same_clock = ap (λ (x : Outside). x.clock) same;
+    no_moments = λ t m. subst (λ (x : Outside). x.moments t m → o0.moments t m) (sym same) (λ w. w);
+    same_faults = ap (λ (x : Outside). x.disk_faults) same;
+    same_calls = ap (λ (x : Outside). x.calls) same;
+  }
 
   -- ---- settling
 
-  module _ (s1 : StoreValue) (o1 : Outside) (more : List (List Entry)) (run : DiskRun o0 o1) (comes : ComesBy clients s0 s1 o0 o1 more) where
+  module _ (s1 : StoreValue) (o1 : Outside) (more : List (List Entry)) (run : DiskRun o0 o1) (comes : ComesAnew clients s0 s1 o0 o1 more) where
     settling : AllSettling clients (facts j) more
     settling = subst (λ (f : Facts). AllSettling clients f more) (sym fit.2.facts_are) comes.settling
 
@@ -152,19 +177,21 @@ module _ (clients : Meaning) (limits : Limits) (links : List Dialled) (j : Journ
         fits_grown clients s0 s1 more o0 o1 (λ k whole. IsBetween k more whole) run.same_told opened comes.leads in
         let is_settled : IsSettled clients (after_batches (facts j) more) = subst (IsSettled clients) (sym same_facts) settled in
         let whole : ComesTo (record mid { stage = Attaches sessions }) s1 o1 =
-        runs_then (RunStep clients terms) (FitsWith clients s0 o0.files) (FitsWith clients s1 o1.files) (FitsWith clients s1 o1.files) start mid
+        came_then clients terms (FitsWith clients s0 o0.files) (FitsWith clients s1 o1.files) (FitsWith clients s1 o1.files) start mid
         (record mid { stage = Attaches sessions }) o0 o1 o1
-        (runs_begun clients terms (FitsWith clients s0 o0.files) (FitsWith clients s1 o1.files) sessions more start o0 o1 refl settling run.same_links comes.calls.most grows)
+        (came_settling clients terms (FitsWith clients s0 o0.files) (FitsWith clients s1 o1.files) sessions more start o0 o1 refl settling run.same_links grows)
         (runs_settled_begun clients terms (FitsWith clients s1 o1.files) (FitsWith clients s1 o1.files) (λ k f. f) sessions mid o1 refl is_settled) in
         subst (λ (f : Facts). ComesTo (before_sessions sessions f) s1 o1) same_facts whole
 
     -- it was broken off while it was settled
-    pub stops_settling : FitsSome clients s0 o0.files → StopsBy o1
+    pub stops_settling : FitsSome clients s0 o0.files → RunBroken clients limits sessions j o0 o1
     stops_settling fits =
         let front = reads_front clients s0 s1 more o0 o1 (λ k whole. IsBetween k more whole) (λ k whole. whole ≡ k ++ more) fits run.same_told (λ k whole between. between)
         comes.leads in
-        breaks_begun clients terms (FitsWith clients s0 o0.files) (ReadsAs clients o1.files) front.front front.others front.reads sessions more
-        (first_place sessions (facts j)) o0 o1 refl settling run.same_links comes.calls.most front.parts
+        let start : Place = first_place sessions (facts j) in
+        broken_by (record start { facts = after_batches (facts j) front.front }) o1
+        (came_settling clients terms (FitsWith clients s0 o0.files) (ReadsAs clients o1.files) sessions front.front start o0 o1 refl
+        (front_settles clients (facts j) more front.front front.others front.parts settling) run.same_links front.reads)
 
     -- ---- behind it
 
@@ -175,22 +202,24 @@ module _ (clients : Meaning) (limits : Limits) (links : List Dialled) (j : Journ
       here : ComesTo (before_sessions sessions s1.state.facts) s1 o1
       here = comes_settled opened settled
 
-      pub run_stops : (t : StoreValue) (o : Outside) → t ≡ s1 → BreaksRun clients limits t.state.facts.begun (sessions_from t.state.facts.begun links) t o1 o → StopsBy o
+      pub run_stops : (t : StoreValue) (o : Outside) → t ≡ s1 → BreaksRun clients limits t.state.facts.begun (sessions_from t.state.facts.begun links) t o1 o
+          → RunBroken clients limits sessions j o0 o
       run_stops t o same breaks =
           let here_too : BreaksRun clients limits s1.state.facts.begun (sessions_from s1.state.facts.begun links) s1 o1 o =
           subst (λ (s : StoreValue). BreaksRun clients limits s.state.facts.begun (sessions_from s.state.facts.begun links) s o1 o) same breaks in
-          breaks_then (RunStep clients terms) (FitsWith clients s0 o0.files) (FitsWith clients s1 o1.files) (ReadsAs clients o.files) (first_place sessions (facts j))
-          (before_sessions sessions s1.state.facts) o0 o1 o here
-          ((subst (λ (k : ℕ). BreaksRun clients limits k (sessions_from k links) s1 o1 o) begun_same here_too).stops told.0 told.1)
+          let stops : RunBreaks clients terms (before_sessions sessions s1.state.facts) s1 o1 o =
+          (subst (λ (k : ℕ). BreaksRun clients limits k (sessions_from k links) s1 o1 o) begun_same here_too).stops told.0 told.1 in
+          broken_by stops.to o
+          (came_then clients terms (FitsWith clients s0 o0.files) (FitsWith clients s1 o1.files) (ReadsAs clients o.files) (first_place sessions (facts j))
+          (before_sessions sessions s1.state.facts) stops.to o0 o1 o here stops.runs)
 
-      pub run_fills : (t s : StoreValue) (o : Outside) → t ≡ s1 → s.limit ≡ MAX_JOURNAL → Joined clients [] s1 o1
+      pub run_fills : (t s : StoreValue) (o : Outside) → t ≡ s1 → s.limit ≡ MAX_JOURNAL → written_in s ≡ kind.Short → Joined clients [] s1 o1
           → FullRun clients limits t.state.facts.begun (sessions_from t.state.facts.begun links) t s o1 o → RunFilled clients limits sessions j o0 o
-      run_fills t s o same limit joined full =
+      run_fills t s o same limit short joined full =
           let here_too : FullRun clients limits s1.state.facts.begun (sessions_from s1.state.facts.begun links) s1 s o1 o =
           subst (λ (x : StoreValue). FullRun clients limits x.state.facts.begun (sessions_from x.state.facts.begun links) x s o1 o) same full in
-          filled_by (Joined clients [] s1 o1) s o limit joined
-          (full_then clients terms (first_place sessions (facts j)) (before_sessions sessions s1.state.facts) (Joined clients [] s1 o1) (Joined clients [] s1 o1) s0 s1 s o0 o1 o here (λ given. given)
-          ((subst (λ (k : ℕ). FullRun clients limits k (sessions_from k links) s1 s o1 o) begun_same here_too).fills told.0 told.1))
+          filled_by (Joined clients [] s1 o1) (before_sessions sessions s1.state.facts) s1 s o1 o limit short joined here
+          ((subst (λ (k : ℕ). FullRun clients limits k (sessions_from k links) s1 s o1 o) begun_same here_too).fills told.0 told.1)
 
       module _ (t : StoreValue) (nodes : List Link) (s : StoreValue) (o : Outside) (over : Bool) (same : t ≡ s1)
           (given : RunsSessions clients limits t.state.facts.begun (sessions_from t.state.facts.begun links) nodes t s o1 o over) where
@@ -205,15 +234,15 @@ module _ (clients : Meaning) (limits : Limits) (links : List Dialled) (j : Journ
 
         ended : ComesTo last s o
         ended =
-            runs_then (RunStep clients terms) (FitsWith clients s0 o0.files) (FitsWith clients s1 o1.files) (FitsWith clients s o.files) (first_place sessions (facts j))
+            came_then clients terms (FitsWith clients s0 o0.files) (FitsWith clients s1 o1.files) (FitsWith clients s o.files) (first_place sessions (facts j))
             (before_sessions sessions s1.state.facts) last o0 o1 o here end.runs
 
         -- but how its links ended was not written down
         pub run_unclosed : RunBroken clients limits sessions j o0 o
         run_unclosed = broken_at last s o ended
 
-        pub run_closed : RunsEndQuiet → (ends : Closing) → ends ≡ closed_by over nodes → RunEnded clients limits sessions j o0 o ends
-        run_closed law ends are =
+        pub run_closed : RunsEndQuiet → (IsSpent s0 → ⊥) → (ends : Closing) → ends ≡ closed_by over nodes → RunEnded clients limits sessions j o0 o ends
+        run_closed law unspent ends are =
             let course : Course clients terms sessions (facts j) ended.events last = record { numbered = refl; path = ended.path; at_end = refl } in
             record {
               events = ended.events;
@@ -224,6 +253,7 @@ module _ (clients : Meaning) (limits : Limits) (links : List Dialled) (j : Journ
               closes =
                   are ∙ links_close over limits.quiet Ended nodes end.heard end.moved end.still end.made s.state.facts end.is_so;
               quiet = law clients terms sessions j ended.events last fit.2.legal course;
+              next = may_migrate unspent;
             }
 
 -- ---- by the answers
@@ -233,21 +263,23 @@ pub passed : (P : Result Closing Outcome → Type 0) (r : Result Closing Outcome
 passed P (Ok ends) x is h = absurd is
 passed P (Err e) x is h = subst (λ (o : Outcome). P (Err o)) (sym is) h
 
-settling_answers : (clients : Meaning) (limits : Limits) (plans : List Session) (j : Journal) (s : StoreValue) (o0 o : Outside) (came : Outcome) → SettledBy clients s (Err came)
-    → RunBroken clients limits plans j o0 o → RunsOver clients limits plans j o0 o (Err came)
-settling_answers clients limits plans j s o0 o outcome.Memory answer broken = broken
-settling_answers clients limits plans j s o0 o outcome.DiskFault answer broken = broken
-settling_answers clients limits plans j s o0 o _ answer broken = absurd answer
+settling_answers : (clients : Meaning) (limits : Limits) (plans : List Session) (j : Journal) (s s1 : StoreValue) (o0 o : Outside) (came : Outcome) → SettledAnew clients s s1 (Err came)
+    → (came ≡ outcome.Full → IsSpent s → RunSpent o0 o) → RunBroken clients limits plans j o0 o → RunsOver clients limits plans j o0 o (Err came)
+settling_answers clients limits plans j s s1 o0 o outcome.Full answer spent broken = inr (spent refl answer.0)
+settling_answers clients limits plans j s s1 o0 o outcome.Memory answer spent broken = broken
+settling_answers clients limits plans j s s1 o0 o outcome.DiskFault answer spent broken = broken
+settling_answers clients limits plans j s s1 o0 o _ answer spent broken = absurd answer
 
 pub over_settling : (clients : Meaning) (limits : Limits) (links : List Dialled) (s0 s1 : StoreValue) (o0 o1 : Outside) (r : Result Closing Outcome) (came : Outcome) → IsErrAnd r (λ e. e ≡ came)
-    → FitsSome clients s0 o0.files → DiskRun o0 o1 → SettlesAs clients s0 s1 o0 o1 (Err came) → (j : Journal) → FitsWith clients s0 o0.files j
+    → FitsSome clients s0 o0.files → DiskRun o0 o1 → SettlesAnew clients s0 s1 o0 o1 (Err came) → (came ≡ outcome.Full → o1 ≡ o0) → (j : Journal) → FitsWith clients s0 o0.files j
     → RunsOver clients limits (sessions_from (facts j).begun links) j o0 o1 r
-over_settling clients limits links s0 s1 o0 o1 r came is fits run settles j fit =
+over_settling clients limits links s0 s1 o0 o1 r came is fits run settles still j fit =
     passed (λ (r : Result Closing Outcome). RunsOver clients limits (sessions_from (facts j).begun links) j o0 o1 r) r came is
-    (settling_answers clients limits (sessions_from (facts j).begun links) j s1 o0 o1 came settles.answer
-    (broken_by clients limits links j s0 o0 fit o1 (stops_settling clients limits links j s0 o0 fit s1 o1 settles.more run settles.comes fits)))
+    (settling_answers clients limits (sessions_from (facts j).begun links) j s0 s1 o0 o1 came settles.answer
+    (λ full spent. spent_by clients limits links j s0 o0 fit o1 spent (still full))
+    (stops_settling clients limits links j s0 o0 fit s1 o1 settles.more run settles.comes fits))
 
-module _ (clients : Meaning) (limits : Limits) (links : List Dialled) (s0 s1 : StoreValue) (o0 o1 : Outside) (u : Unit {0}) (run : DiskRun o0 o1) (settles : SettlesAs clients s0 s1 o0 o1 (Ok u))
+module _ (clients : Meaning) (limits : Limits) (links : List Dialled) (s0 s1 : StoreValue) (o0 o1 : Outside) (u : Unit {0}) (run : DiskRun o0 o1) (settles : SettlesAnew clients s0 s1 o0 o1 (Ok u))
     (j : Journal) (fit : FitsWith clients s0 o0.files j) where
   -- want of memory for the node
   pub over_unmade : RunBroken clients limits (sessions_from (facts j).begun links) j o0 o1
@@ -259,15 +291,15 @@ module _ (clients : Meaning) (limits : Limits) (links : List Dialled) (s0 s1 : S
     pub over_broken : (o : Outside) → BreaksRun clients limits n.store.state.facts.begun (sessions_from n.store.state.facts.begun links) n.store o1 o
         → RunBroken clients limits (sessions_from (facts j).begun links) j o0 o
     over_broken o breaks =
-        broken_by clients limits links j s0 o0 fit o
-        (run_stops clients limits links j s0 o0 fit s1 o1 settles.more run settles.comes settles.answer.0 settles.answer.1 n.store o is breaks)
+        run_stops clients limits links j s0 o0 fit s1 o1 settles.more run settles.comes settles.answer.0 settles.answer.1 n.store o is breaks
 
-    pub over_filled : (s : StoreValue) (o : Outside) → s0.limit ≡ MAX_JOURNAL → s.limit ≡ n.store.limit → Joined clients [] s1 o1
+    pub over_filled : (s : StoreValue) (o : Outside) → s0.limit ≡ MAX_JOURNAL → s.limit ≡ n.store.limit → s.format ≡ n.store.format → Joined clients [] s1 o1
         → FullRun clients limits n.store.state.facts.begun (sessions_from n.store.state.facts.begun links) n.store s o1 o
         → RunFilled clients limits (sessions_from (facts j).begun links) j o0 o
-    over_filled s o limited same joined full =
+    over_filled s o limited same format joined full =
         run_fills clients limits links j s0 o0 fit s1 o1 settles.more run settles.comes settles.answer.0 settles.answer.1 n.store s o is
-        (same ∙ ap (λ (x : StoreValue). x.limit) is ∙ settles.comes.limit ∙ limited) joined full
+        (same ∙ ap (λ (x : StoreValue). x.limit) is ∙ settles.comes.limit ∙ limited)
+        (ap format_meant (format ∙ ap (λ (x : StoreValue). x.format) is) ∙ settles.answer.2) joined full
 
     module _ (nodes : List Link) (s : StoreValue) (o : Outside) (over : Bool)
         (runs : RunsSessions clients limits n.store.state.facts.begun (sessions_from n.store.state.facts.begun links) nodes n.store s o1 o over) where
@@ -279,4 +311,4 @@ module _ (clients : Meaning) (limits : Limits) (links : List Dialled) (s0 s1 : S
       pub over_closed : RunsEndQuiet → (ends : Closing) → ends ≡ closed_by over nodes
           → RunEnded clients limits (sessions_from (facts j).begun links) j o0 o ends
       over_closed law ends are =
-          run_closed clients limits links j s0 o0 fit s1 o1 settles.more run settles.comes settles.answer.0 settles.answer.1 n.store nodes s o over is runs law ends are
+          run_closed clients limits links j s0 o0 fit s1 o1 settles.more run settles.comes settles.answer.0 settles.answer.1 n.store nodes s o over is runs law settles.answer.3 ends are

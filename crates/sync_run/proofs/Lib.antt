@@ -1,6 +1,7 @@
 mod LineLaws
 mod CourseParts
 mod CauseLaws
+mod Coming
 mod CourseRun
 mod CourseDials
 mod CourseLinks

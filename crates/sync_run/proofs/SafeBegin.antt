@@ -21,7 +21,7 @@ use Rattle.entry_codec.specs.Standing.{journal, stands}
 use Rattle.sync_store.specs.Store.{StoreValue}
 use Rattle.sync_store.specs.Fitting.{Fits}
 use Rattle.sync_store.specs.Moments.{IsBetween, JournalMoment}
-use Rattle.sync_store.specs.Settling.{ComesBy}
+use Rattle.store_commands.specs.Commit.{ComesAnew}
 use Rattle.sync_node.specs.Joined.{Joined}
 use Rattle.sync_node.specs.Output.{AreOutput, Journal, heard_on, output, sent_on}
 use Rattle.sync_node.specs.Safe.{Begin, IsCovered, IsEarly, Safe, read_now}
@@ -245,8 +245,8 @@ moment_settled clients b plans heard j f more sent m run are settling silent jm 
 pub told_file : (o o' : Outside) → DiskRun o o' → (two' : Two File) → o'.files ≡ Some two' → (two : Two File) × (o.files ≡ Some two)
 told_file o o' run two' told = told_back o o' two' run.same_told told
 
--- before anything was sent, settling leaves a run safe, whatever it answers
-pub safe_settled : (clients : Meaning) (b : Begin) (plans : List Session) (s s' : StoreValue) (o o' : Outside) (more : Journal) → s.closed ≡ false → DiskRun o o' → ComesBy clients s s' o o' more
+-- before anything was sent, migrating and settling leave a run safe, whatever they answer
+pub safe_settled : (clients : Meaning) (b : Begin) (plans : List Session) (s s' : StoreValue) (o o' : Outside) (more : Journal) → s.closed ≡ false → DiskRun o o' → ComesAnew clients s s' o o' more
     → ((told : Told o) (link : ℕ) → sent_on o.links link ≡ []) → Safe clients b plans s o → Safe clients b plans s' o'
 safe_settled clients b plans s s' o o' more opened run comes silent safe =
     let back : Told o' → Told o = λ told'. record {

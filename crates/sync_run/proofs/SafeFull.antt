@@ -12,7 +12,7 @@ use Rattle.entry_codec.specs.Standing.{stands}
 use Rattle.sync_store.specs.Store.{StoreValue}
 use Rattle.sync_store.specs.Fitting.{Fits}
 use Rattle.sync_store.specs.Ready.{IsReady}
-use Rattle.store_commands.specs.Commit.{SettledBy, SettlesAs}
+use Rattle.store_commands.specs.Commit.{SettlesAnew}
 use Rattle.store_commands.specs.Load.{HasFacts, LoadedBy}
 use Rattle.sync_node.specs.Causes.{FailByCause}
 use Rattle.sync_node.specs.Going.{Goes}
@@ -87,7 +87,7 @@ sessions_sent clients n0 n1 n2 o0 o1 o2 none cause goes goes1 joins first node o
 
 -- ---- a run on links that were dialled
 
-pub dialled_full : (clients : Meaning) (s s1 : StoreValue) (n0 n : NodeValue) (o o1 o2 : Outside) (r : Result (Unit {0}) Outcome) → AreUnused o → DiskRun o o1 → SettlesAs clients s s1 o o1 r → n0 ≡ new_node s1
+pub dialled_full : (clients : Meaning) (s s1 : StoreValue) (n0 n : NodeValue) (o o1 o2 : Outside) (r : Result (Unit {0}) Outcome) → AreUnused o → DiskRun o o1 → SettlesAnew clients s s1 o o1 r → n0 ≡ new_node s1
     → IsReady clients n.store o2.files → SessionsSent clients n0 n o1 o2 → SendsFull clients s.state.facts.begun o o2
 dialled_full clients s s1 n0 n o o1 o2 r unused run settles made ready sessions told whole stood i begun =
     let joined0 : Joined clients n0.links n0.store o1 =
@@ -102,8 +102,13 @@ dialled_full clients s s1 n0 n o o1 o2 r unused run settles made ready sessions 
       | inr sent ↦ inr (sent told whole has ∙ ap (λ (k : ℕ). output whole (k + i)) first)
     ]
 
-pub settled_unfull : (clients : Meaning) (s : StoreValue) (e : Outcome) → SettledBy clients s (Err e) → e ≡ outcome.Full → ⊥
-settled_unfull clients s e settled is = subst (λ (x : Outcome). SettledBy clients s (Err x)) is settled
+-- no session began where nothing was done
+pub unrun_full : (clients : Meaning) (s : StoreValue) (o o' : Outside) → IsReady clients s o.files → o' ≡ o → SendsFull clients s.state.facts.begun o o'
+unrun_full clients s o o' ready same told whole stood i begun =
+    let fit = ready.fits told.two (ap (λ (x : Outside). x.files) (sym same) ∙ told.files_are) in
+    let one : fit.0 ≡ whole = let is = sym fit.1.stands_for ∙ stood in cc in
+    let count : (facts whole).begun ≡ s.state.facts.begun = ap (λ (j : Journal). (facts j).begun) (sym one) ∙ ap (λ (f : Facts). f.begun) fit.1.facts_are in
+    absurd (omega (arith, begun, count))
 
 -- the counts of failures were no greater before
 pub full_before : (clients : Meaning) (first : ℕ) (o o1 o2 : Outside) → ((i : ℕ) → o.links.faults i ≤ o1.links.faults i) → SendsFull clients first o1 o2 → SendsFull clients first o o2

@@ -23,7 +23,7 @@ use Rattle.entry_codec.specs.Standing.{journal, stands}
 use Rattle.sync_store.specs.Store.{StoreValue}
 use Rattle.sync_store.specs.Fitting.{Fits}
 use Rattle.sync_store.specs.Ready.{IsReady}
-use Rattle.store_commands.specs.Commit.{SettlesAs}
+use Rattle.store_commands.specs.Commit.{SettlesAnew}
 use Rattle.store_commands.specs.Commit as commits
 use Rattle.store_commands.specs.Load.{HasFacts, LeavesSettled}
 use Rattle.sync_node.specs.Begun.{begin_at}
@@ -76,11 +76,11 @@ rests_settled (Some old) (Some new) becomes two told left image =
 -- ---- settling
 
 -- a store that came by settling has the same contacts and sessions
-pub settles_only : (clients : Meaning) (s s' : StoreValue) (o o' : Outside) (r : Result (Unit {0}) Outcome) → SettlesAs clients s s' o o' r → OnlySettles s.state.facts s'.state.facts
+pub settles_only : (clients : Meaning) (s s' : StoreValue) (o o' : Outside) (r : Result (Unit {0}) Outcome) → SettlesAnew clients s s' o o' r → OnlySettles s.state.facts s'.state.facts
 settles_only clients s s' o o' r settles =
     subst (λ (f : Facts). OnlySettles s.state.facts f) (sym settles.comes.facts) (all_settling_only clients s.state.facts settles.more settles.comes.settling)
 
-pub goes_settled : (clients : Meaning) (s s' : StoreValue) (o o' : Outside) (r : Result (Unit {0}) Outcome) → IsReady clients s o.files → DiskRun o o' → SettlesAs clients s s' o o' r → Goes o o'
+pub goes_settled : (clients : Meaning) (s s' : StoreValue) (o o' : Outside) (r : Result (Unit {0}) Outcome) → IsReady clients s o.files → DiskRun o o' → SettlesAnew clients s s' o o' r → Goes o o'
 goes_settled clients s s' o o' r ready run settles = record {
   same_files = run.same_told;
   later = run.later;
@@ -112,7 +112,7 @@ unused_disk o o' run unused link = record {
 
 -- settling alone
 pub runs_settling : (clients : Meaning) (links : List Dialled) (s s' : StoreValue) (o o' : Outside) (r : Result (Unit {0}) Outcome) → IsReady clients s o.files → AreUnused o → DiskRun o o'
-    → SettlesAs clients s s' o o' r → RunsSafe clients links s o o'
+    → SettlesAnew clients s s' o o' r → RunsSafe clients links s o o'
 runs_settling clients links s s' o o' r ready unused run settles = record {
   store = s';
   plans = [];
@@ -122,7 +122,7 @@ runs_settling clients links s s' o o' r ready unused run settles = record {
 
 -- settling, and then sessions on a node of the store
 pub runs_sessions : (clients : Meaning) (links : List Dialled) (s s1 : StoreValue) (n : NodeValue) (o o1 o2 : Outside) (r : Result (Unit {0}) Outcome) → IsReady clients s o.files → AreUnused o → DiskRun o o1
-    → SettlesAs clients s s1 o o1 r → SessionsSafe clients links (new_node s1) n o1 o2 → RunsSafe clients links s o o2
+    → SettlesAnew clients s s1 o o1 r → SessionsSafe clients links (new_node s1) n o1 o2 → RunsSafe clients links s o o2
 runs_sessions clients links s s1 n o o1 o2 r ready unused run settles sessions =
     let same = (settles_only clients s s1 o o1 r settles).begun in
     record {
@@ -283,21 +283,21 @@ pub rests_fault : (files : Option (Two File)) (r : Result Closing Outcome) (e : 
 rests_fault files r e is rests = subst (λ (x : Result Closing Outcome). Rests files x) (sym is) rests
 
 pub runs_node : (clients : Meaning) (links : List Dialled) (s s1 : StoreValue) (n0 n : NodeValue) (o o1 o2 : Outside) (r : Result (Unit {0}) Outcome) → IsReady clients s o.files → AreUnused o → DiskRun o o1
-    → SettlesAs clients s s1 o o1 r → n0 ≡ new_node s1 → SessionsSafe clients links n0 n o1 o2 → RunsSafe clients links s o o2
+    → SettlesAnew clients s s1 o o1 r → n0 ≡ new_node s1 → SessionsSafe clients links n0 n o1 o2 → RunsSafe clients links s o o2
 runs_node clients links s s1 n0 n o o1 o2 r ready unused run settles made sessions =
     runs_sessions clients links s s1 n o o1 o2 r ready unused run settles (subst (λ (m : NodeValue). SessionsSafe clients links m n o1 o2) made sessions)
 
 pub node_may : (clients : Meaning) (s : StoreValue) (n : NodeValue) (o : Outside) → IsReady clients s o.files → n ≡ new_node s → MayRun clients n o
 node_may clients s n o ready made = subst (λ (m : NodeValue). MayRun clients m o) (sym made) (new_may clients s o ready)
 
-pub node_begins : (clients : Meaning) (s s1 : StoreValue) (n : NodeValue) (o o1 : Outside) (r : Result (Unit {0}) Outcome) (links : List Dialled) → SettlesAs clients s s1 o o1 r → n ≡ new_node s1
+pub node_begins : (clients : Meaning) (s s1 : StoreValue) (n : NodeValue) (o o1 : Outside) (r : Result (Unit {0}) Outcome) (links : List Dialled) → SettlesAnew clients s s1 o o1 r → n ≡ new_node s1
     → AllMayBegin s.state.facts.contacts links → AllMayBegin n.store.state.facts.contacts links
 node_begins clients s s1 n o o1 r links settles made all =
     let same : n.store.state.facts.contacts ≡ s.state.facts.contacts = ap (λ (m : NodeValue). m.store.state.facts.contacts) made ∙ (settles_only clients s s1 o o1 r settles).contacts in
     subst (λ (k : ℕ). AllMayBegin k links) (sym same) all
 
 pub node_sends : (clients : Meaning) (links : List Dialled) (s s1 : StoreValue) (n0 n : NodeValue) (o o1 o2 : Outside) (r : Result (Unit {0}) Outcome) (over : Bool) (ends : Closing) → AreUnused o → DiskRun o o1
-    → SettlesAs clients s s1 o o1 r → n0 ≡ new_node s1 → AttachesAll clients links n0 n o1 o2 → n.closed ≡ false → IsNode n → MayRun clients n o2 → ends ≡ closed_by over n.links
+    → SettlesAnew clients s s1 o o1 r → n0 ≡ new_node s1 → AttachesAll clients links n0 n o1 o2 → n.closed ≡ false → IsNode n → MayRun clients n o2 → ends ≡ closed_by over n.links
     → SendsWhole clients s.state.facts.begun o2 ends
 node_sends clients links s s1 n0 n o o1 o2 r over ends unused run settles made attaches opened node may are =
     let joined0 : Joined clients n0.links n0.store o1 =

@@ -2,7 +2,7 @@
 use Rattle.std.specs.Prelude.{◌≡◌, ◌⊎◌, ℕ, suc, ◌<◌, Bool, true, false, List, [], ◌∷◌, ◌++◌, Some, is_some, Result, Ok, Err}
 use Rattle.outside.specs.declared.limits.TheConstants.{MAX_JOURNAL}
 use Rattle.outside.specs.Files.{Two, File, read_files}
-use Rattle.outside.specs.Outside.{Outside}
+use Rattle.outside.specs.Outside.{Moment, Outside}
 use Rattle.sync_rules.specs.declared.entries.Entry.{Entry}
 use Rattle.sync_rules.specs.declared.entries.Session.{Session}
 use Rattle.sync_rules.specs.Clients.{Meaning}
@@ -147,7 +147,12 @@ pub record RunFilled (clients : Meaning) (limits : Limits) (sessions : List Sess
 -- no generation was left for a journal in format 2, and nothing was done
 pub record RunSpent (o o' : Outside) : Type 0 where
   pub last : (two : Two File) → o.files ≡ Some two → HasLastGeneration (read_files two)
-  pub same : o' ≡ o
+  pub same_files : o'.files ≡ o.files
+  pub same_links : o'.links ≡ o.links
+  pub same_clock : o'.clock ≡ o.clock
+  pub no_moments : (t : ℕ) (m : Moment) → o'.moments t m → o.moments t m
+  pub same_faults : o'.disk_faults ≡ o.disk_faults
+  pub same_calls : o'.calls ≡ o.calls
 
 abbrev pub RunsOver : Meaning → Limits → List Session → Journal → Outside → Outside → Result Closing Outcome → Type 0
 RunsOver clients limits sessions j o o' (Ok ends) = RunEnded clients limits sessions j o o' ends

@@ -49,14 +49,16 @@ pub struct Limits {
 
 /// Runs a session on each of these links, 1 to 8 of them, over a host on which no link was made,
 /// and answers how the links ended. It loads the store, tests the contacts, dials the links and
-/// draws their nonces, migrates the journal and settles it, begins the sessions in order, and makes turns until the
-/// run is over or all were made. At the end every link is hung up.
+/// draws their nonces, migrates the journal and settles it, begins the sessions in order, and makes
+/// turns until the run is over or all were made. At the end every link is hung up.
 ///
 /// # Errors
 /// `NoStore`, `Damaged` and `Refused(UnknownContact)` leave the files as they read, and no link is
 /// made; nor is one, nor a byte written, whatever it answers, where one of these is due.
 /// `LinkFailed` names the one link whose dial or nonce failed, the journal is as it was,
-/// and nothing was sent or heard; `Full`, `Memory` and `DiskFault` break the run off.
+/// and nothing was sent or heard; `Full`, `Memory` and `DiskFault` break the run off. `Full` comes
+/// also where a journal of format 1 has the last generation: then the files read as before, and
+/// nothing was sent or heard.
 pub fn sync_links<H: Host, C: Clients>(
     alloc: Global,
     hasher: RandomState,

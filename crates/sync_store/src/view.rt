@@ -1,5 +1,7 @@
-//! What a session may ask of a store.
+//! What a session may ask of a store, and how the messages that it holds are named.
+use crate::formats::HeldNames;
 use crate::store::Store;
+use entry_codec::Names;
 use std::alloc::{AllocError, Global};
 use sync_ids::{GroupId, MessageId};
 use sync_rules::{Level, Mode, View};
@@ -47,5 +49,24 @@ impl View for Store {
 
     fn offers(&self, alloc: Global, contact: u8, now: u64) -> Result<Vec<MessageId>, AllocError> {
         self.state.offers(alloc, contact, now)
+    }
+}
+
+// The messages that it holds, each named by its arrival number.
+impl Names for Store {
+    ghost use Rattle.entry_codec.specs.Payloads.{names_of};
+
+    ghost named = { λ s. names_of s.state.facts };
+
+    fn number(&self, id: &MessageId) -> Option<u32> {
+        HeldNames { state: &self.state }.number(id)
+    }
+
+    fn name(&self, n: u32) -> Option<MessageId> {
+        HeldNames { state: &self.state }.name(n)
+    }
+
+    fn show_names(&self) {
+        HeldNames { state: &self.state }.show_names();
     }
 }

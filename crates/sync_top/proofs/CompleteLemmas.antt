@@ -30,7 +30,7 @@ use Rattle.commands.specs.declared.command.Command.TheVariants as command
 use Rattle.store_commands.specs.declared.commit.Settling.{Settling}
 use Rattle.store_commands.specs.declared.commit.Settling.TheVariants as settling
 use Rattle.store_commands.specs.declared.listing.Listing.TheVariants as listing
-use Rattle.store_commands.specs.Commit.{format_stood, needed_by}
+use Rattle.store_commands.specs.Commit.{IsFull, MayMigrate, WasSpent, needed_by}
 use Rattle.store_commands.specs.Entries.{HasAdded}
 use Rattle.store_commands.specs.Init.{HasBegun}
 use Rattle.store_commands.specs.Plans.{Plan, adds, contact_plan, group_plan, level_plan, refuses}
@@ -39,7 +39,7 @@ use Rattle.store_commands.specs.Show.{HasLooked}
 use Rattle.store_commands.specs.Shown.{Showing, body_shown, denies, listing_shown, shows}
 use Rattle.tree_commands.specs.Trees.{tree_shown}
 use Rattle.sync_node.specs.Courses.{ReadsAs}
-use Rattle.sharing_commands.specs.Agreeing.{AreRoomy, HasAgreed}
+use Rattle.sharing_commands.specs.Agreeing.{AreRoomy, HasAgreed, IsCut}
 use Rattle.sharing_commands.specs.Agreement.{agree_test}
 use Rattle.sharing_commands.specs.Sayings.{say_plan}
 use Rattle.sharing_commands.proofs.Fronts.{room_at}
@@ -119,6 +119,30 @@ one_journal clients files two j standing told reads is =
     let same : reads.0 ≡ two = cc in
     sym is ∙ ap (λ (t : Two File). stands clients (read_files t)) (sym same) ∙ reads.2
 
+-- a generation was left
+not_spent : {P : Type 0} (files : Option (Two File)) (two two' : Two File) → MayMigrate files → files ≡ Some two → WasSpent two two' → P
+not_spent files two two' next told spent = absurd (next two told spent.0)
+
+-- there was room for a batch
+not_full : {P : Type 0} (clients : Meaning) (files : Option (Two File)) (two two' : Two File) (j : List (List Entry)) (batch : List Entry)
+    → HasRoom clients j batch → MayMigrate files → files ≡ Some two → IsFull clients j batch two two' → P
+not_full clients files two two' j batch has next told (inl over) =
+    let room = has over.first over.settles over.settled in
+    absurd (omega (arith, room, over.over))
+not_full clients files two two' j batch has next told (inr spent) = not_spent files two two' next told spent
+
+-- there was room for each batch that the targets ask for
+not_cut : {P : Type 0} (clients : Meaning) (contact : ℕ) (group : Id) (files : Option (Two File)) (two two' : Two File) (j : List (List Entry))
+    → HasRooms clients contact group j → MayMigrate files → files ≡ Some two → IsCut clients contact group j two' ⊎ WasSpent two two' → P
+not_cut clients contact group files two two' j has next told (inl cut) =
+    let roomy : AreRoomy (j ++ cut.first) (cut.front ++ cut.next ∷ cut.rest) =
+    subst (AreRoomy (j ++ cut.first)) cut.parts (has cut.first cut.settles cut.settled) in
+    let room : needed_by (j ++ (cut.first ++ cut.front)) cut.next ≤ MAX_JOURNAL =
+    subst (λ (whole : List (List Entry)). needed_by whole cut.next ≤ MAX_JOURNAL) (append_assoc j cut.first cut.front)
+    (room_at (j ++ cut.first) cut.front cut.next cut.rest roomy) in
+    absurd (omega (arith, room, cut.over))
+not_cut clients contact group files two two' j has next told (inr spent) = not_spent files two two' next told spent
+
 module _ (clients : Meaning) (old new : Outside) (input input' out out' : Stream) (fails : NothingFails old new input input' out out') where
   abbrev Done : Outcome → Type 0
   Done came = (status_of came ≡ status.Done) ⊎ (status_of came ≡ status.Memory)
@@ -161,8 +185,7 @@ module _ (clients : Meaning) (old new : Outside) (input input' out out' : Stream
       let one : full.entry ≡ may.entry = cc in
       let has : HasRoom clients full.before (full.entry ∷ []) =
       subst (λ (j : List (List Entry)). HasRoom clients j (full.entry ∷ [])) (sym same) (subst (λ (e : Entry). HasRoom clients may.before (e ∷ [])) (sym one) may.room) in
-      let room = has full.leads.first full.leads.settles full.leads.settled (format_stood (read_files now.0)) in
-      absurd (omega (arith, room, full.leads.over))
+      not_full clients old.files may.stood.0 now.0 full.before (full.entry ∷ []) has may.next may.stood.1 full.leads
   added_done plan asked _ did may = absurd did.by
 
   agreed_done : (contact : ℕ) (group : Id) (came : Outcome) → HasAgreed clients contact group old new out out' came → MayAgreeOn clients contact group old.files → Done came
@@ -188,18 +211,11 @@ module _ (clients : Meaning) (old new : Outside) (input input' out out' : Stream
   agreed_done contact group outcome.Full did may =
       let now = told_on old new may.stood.0 did.run.same_told may.stood.1 in
       let full = (did.told may.stood.0 may.stood.1).ends now.0 now.1 in
-      let cut = full.leads in
       let both : journal full.before ≡ journal may.before = sym full.stood ∙ may.stood.2 in
       let same : full.before ≡ may.before = cc in
       let has : HasRooms clients contact group full.before =
       subst (λ (j : List (List Entry)). HasRooms clients contact group j) (sym same) may.room in
-      let format = format_stood (read_files now.0) in
-      let roomy : AreRoomy format (full.before ++ cut.first) (cut.front ++ cut.next ∷ cut.rest) =
-      subst (λ (all : List (List Entry)). AreRoomy format (full.before ++ cut.first) all) cut.parts (has cut.first cut.settles cut.settled format) in
-      let room : needed_by format (full.before ++ (cut.first ++ cut.front)) cut.next ≤ MAX_JOURNAL =
-      subst (λ (j : List (List Entry)). needed_by format j cut.next ≤ MAX_JOURNAL) (append_assoc full.before cut.first cut.front)
-      (room_at format (full.before ++ cut.first) cut.front cut.next cut.rest roomy) in
-      absurd (omega (arith, room, cut.over))
+      not_cut clients contact group old.files may.stood.0 now.0 full.before has may.next may.stood.1 full.leads
   agreed_done contact group _ did may = absurd did.by
 
   looked_done : (shown : Facts → Showing) (came : Outcome) → HasLooked clients shown old new out out' came → MayShow clients shown old.files → Done came

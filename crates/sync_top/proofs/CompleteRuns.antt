@@ -21,7 +21,6 @@ use Rattle.sync_course.specs.Events.{batches_of}
 use Rattle.sync_course.specs.Links.{Link, closes}
 use Rattle.sync_course.specs.Turns.{is_over}
 use Rattle.sync_node.specs.Courses.{ReadsAs}
-use Rattle.store_commands.specs.Commit.{format_told}
 use Rattle.sync_words.specs.declared.link_words.LinkWords.{LinkWords}
 use Rattle.sync_course.specs.Closing.{Closing}
 use Rattle.sync_words.specs.declared.outcome.Outcome.{Outcome}
@@ -149,6 +148,12 @@ module _ (clients : Meaning) (limits : Limits) (words : List LinkWords) (old new
     same_begin : (j : List (List Entry)) → stood ≡ journal j → j ≡ may.begin
     same_begin j is = let both : journal j ≡ journal may.begin = sym is ∙ may.stood.2 in cc
 
+    not_full : WasFull clients limits words may.begin old new → ⊥
+    not_full (inl over) =
+        let room = may.room over.run over.batch over.next over.steps in
+        omega (arith, room, over.over)
+    not_full (inr spent) = may.next may.stood.0 may.stood.1 (spent.last may.stood.0 may.stood.1)
+
     result_comes : (r : Result Closing Outcome) (came : Outcome) → came ≡ links_came_to r → IsCaused words old new r → ComesTo clients limits words stood old new r → ComesOut came
     result_comes (Ok lines) came is caused comes =
         let ran : RanToEnd clients limits words may.begin old new lines =
@@ -168,8 +173,7 @@ module _ (clients : Meaning) (limits : Limits) (words : List LinkWords) (old new
     result_comes (Err outcome.Full) came is caused comes =
         let full : WasFull clients limits words may.begin old new =
         subst (λ (j : List (List Entry)). WasFull clients limits words j old new) (same_begin comes.begin comes.began) comes.has in
-        let room = may.room full.run full.batch full.next full.steps (format_told new.files) in
-        absurd (omega (arith, room, full.over))
+        absurd (not_full full)
     result_comes (Err _) came is caused comes = absurd caused
 
   pub run_comes_out : (came : Outcome) → HasRun clients limits words old new came → MaySync clients limits words old new → ComesOut came

@@ -1,5 +1,6 @@
 //! Journals of format 1 in the one file, and what a migration makes of them in the other.
 use client_basic::Bundle;
+use frame_journal::barrier;
 use journal_migration::{MigrationFault, migrate};
 use outside::{MAX_JOURNAL, MemDisk, MemRandom};
 use std::alloc::Global;
@@ -77,5 +78,46 @@ fn another_end(rt: HostRuntime) -> Result<(), Fail> {
     let store = Store::load(alloc, hasher, &mut disk, &Bundle, MAX_JOURNAL)?;
     assert_eq!(rt; store.state().held(), 1);
     assert!(rt; disk.file(0) == hex::decode(alloc, first)?.as_slice());
+    Ok(())
+}
+
+/// A byte of the file of one message that is another one when it is read a second time: what it is
+/// of, its place and its value.
+static CHANGED: [(&str, usize, u8); 3] = [
+    ("the length of a frame", 15, 255),
+    ("the tag of an entry", 19, 99),
+    ("the id of a message that is judged", 153, 0),
+];
+
+#[test]
+fn other_bytes(rt: HostRuntime) -> Result<(), Fail> {
+    for (label, place, value) in CHANGED.iter() {
+        read_other(&rt, rt.alloc(), label, *place, *value)?;
+    }
+    Ok(())
+}
+
+fn read_other(
+    rt: &impl Abort,
+    alloc: Global,
+    label: &str,
+    place: usize,
+    value: u8,
+) -> Result<(), Fail> {
+    let (_, first, _) = JOURNALS[2];
+    let whole = hex::decode(alloc, first)?;
+    let end = whole.len() as u64;
+    let mut disk = MemDisk::new(alloc, whole, Vec::new(alloc))?;
+    let hasher = RandomState::new(&MemRandom(0))?;
+    let store = Store::load(alloc, hasher, &mut disk, &Bundle, MAX_JOURNAL)?;
+    let mut other = hex::decode(alloc, first)?;
+    if let Some(byte) = other.get_mut(place) {
+        *byte = value;
+    }
+    let mut second = MemDisk::new(alloc, other, Vec::new(alloc))?;
+    barrier(&mut second)?;
+    let answer = migrate(alloc, &mut second, 0, 1, end, store.state());
+    assert_eq!(rt; answer.err(), Some(MigrationFault::Memory), "{label}");
+    assert!(rt; second.file(1).first() != Some(&1), "{label}");
     Ok(())
 }

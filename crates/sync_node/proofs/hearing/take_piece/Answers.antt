@@ -9,7 +9,7 @@ use Rattle.sync_node.proofs.StopLaws.{stops_then}
 use Rattle.sync_node.proofs.hearing.take_piece.Goals as goal
 
 pub items-init : goal.items-init
-items-init g c = record { run = link_none _ _ _; limit = refl; able = c.requires.able; course = piece_none _ _ _ _ _ _ c.requires.asked; works = works_none _ _ _ _ _ _ }
+items-init g c = record { run = link_none _ _ _; limit = refl; format = refl; able = c.requires.able; course = piece_none _ _ _ _ _ _ c.requires.asked; works = works_none _ _ _ _ _ _ }
 
 pub returns-then-not-branch-clause-works : goal.returns-then-not-branch-clause-works
 returns-then-not-branch-clause-works g c =
@@ -24,6 +24,7 @@ pub items-preserved : goal.items-preserved
 items-preserved g c = record {
   run = link_then _ _ _ _ _ _ _ c.items.invariant.run c.take_next.ensures.run;
   limit = c.take_next.ensures.limit ∙ c.items.invariant.limit;
+  format = c.take_next.ensures.format ∙ c.items.invariant.format;
   able = c.in_ok-take_next.ensures.able;
   course = piece_then _ _ _ _ _ _ _ _ _ _ c.items.invariant.works.same_session (c.is_asked.ensures.0 c.items-test.true) c.items.invariant.course _ _ _ _
       (rw c.if-not-branch.false at c.in_ok-take_next.ensures.course);

@@ -9,6 +9,7 @@ invariant-items g l = record {
   run : LinkGoes l.number l.initial.link l.link (g.H.Disk.tells l.initial.host)
       (g.H.Disk.tells l.host);
   limit : l.store.limit ≡ l.initial.store.limit;
+  format : l.store.format ≡ l.initial.store.format;
   able : IsAble (g.C.Clients.meaning l.clients) l.number l.link.session l.store (g.H.Disk.tells l.host);
   course : PieceAsCourse (g.C.Clients.meaning l.clients) l.number l.initial.piece l.piece l.initial.link l.link l.initial.store l.store (g.H.Disk.tells l.initial.host) (g.H.Disk.tells l.host);
   works : Works (g.C.Clients.meaning l.clients) l.number l.initial.piece l.piece l.initial.link l.link l.initial.store l.store (g.H.Disk.tells l.initial.host) (g.H.Disk.tells l.host);

@@ -12,7 +12,7 @@ use Rattle.sync_node.proofs.StateLaws.{allowed_told, due_told}
 use Rattle.sync_node.proofs.sending.send_all.Goals as goal
 
 pub outs-init : goal.outs-init
-outs-init g c = record { run = link_none _ _ _; limit = refl; able = c.requires.able; waits = c.requires.waits; course = outs_none _ _ _ _ _ _; works = works_none _ _ _ _ _ _ }
+outs-init g c = record { run = link_none _ _ _; limit = refl; format = refl; able = c.requires.able; waits = c.requires.waits; course = outs_none _ _ _ _ _ _; works = works_none _ _ _ _ _ _ }
 
 pub returns-in_err-out-clause-stays : goal.returns-in_err-out-clause-stays
 returns-in_err-out-clause-stays g c = on_err _ _ c.outs.invariant.works.stays
@@ -48,6 +48,7 @@ pub outs-preserved : goal.outs-preserved
 outs-preserved g c = record {
   run = link_then _ _ _ _ _ _ _ c.outs.invariant.run c.put_out.ensures.run;
   limit = c.put_out.ensures.limit ∙ c.outs.invariant.limit;
+  format = c.put_out.ensures.format ∙ c.outs.invariant.format;
   able = c.in_ok-put_out.ensures.able;
   waits = c.in_ok-put_out.ensures.waits;
   course = outs_then _ _ _ _ _ _ _ _ _ _ c.outs.invariant.course (may_end _ (c.may_send.ensures.0 c.if-may_send.true)) _ _ _ c.outs-test.true c.in_ok-put_out.ensures.course;

@@ -10,6 +10,7 @@ invariant-outs g l = record {
   run : LinkGoes l.number l.initial.link l.link (g.H.Disk.tells l.initial.host)
       (g.H.Disk.tells l.host);
   limit : l.store.limit ≡ l.initial.store.limit;
+  format : l.store.format ≡ l.initial.store.format;
   able : IsAble (g.C.Clients.meaning l.clients) l.number l.link.session l.store (g.H.Disk.tells l.host);
   waits : Waits l.link;
   course : OutsAsCourse (g.C.Clients.meaning l.clients) l.number l.now l.made l.initial.link l.link l.initial.store l.store (g.H.Disk.tells l.initial.host) (g.H.Disk.tells l.host);

@@ -23,6 +23,9 @@ returns-in-Ok-clause-run g c = extended_goes _ c.args.batch _ _ _ _ _ c.requires
 pub returns-in-Ok-clause-limit : goal.returns-in-Ok-clause-limit
 returns-in-Ok-clause-limit g c = (c.in-Ok.ensures.extended c.requires.ready.still_open).runs.limit
 
+pub returns-in-Ok-clause-format : goal.returns-in-Ok-clause-format
+returns-in-Ok-clause-format g c = (c.in-Ok.ensures.extended c.requires.ready.still_open).runs.format
+
 pub returns-in-Err-Memory-clause-leads : goal.returns-in-Err-Memory-clause-leads
 returns-in-Err-Memory-clause-leads g c = extended_leads _ c.args.batch _ _ _ _ _ (c.in-Err-Memory.ensures.extended c.requires.ready.still_open)
 
@@ -31,6 +34,9 @@ returns-in-Err-Memory-clause-run g c = extended_goes _ c.args.batch _ _ _ _ _ c.
 
 pub returns-in-Err-Memory-clause-limit : goal.returns-in-Err-Memory-clause-limit
 returns-in-Err-Memory-clause-limit g c = (c.in-Err-Memory.ensures.extended c.requires.ready.still_open).runs.limit
+
+pub returns-in-Err-Memory-clause-format : goal.returns-in-Err-Memory-clause-format
+returns-in-Err-Memory-clause-format g c = (c.in-Err-Memory.ensures.extended c.requires.ready.still_open).runs.format
 
 pub returns-in-Err-DiskFault-clause-leads : goal.returns-in-Err-DiskFault-clause-leads
 returns-in-Err-DiskFault-clause-leads g c = extended_leads _ c.args.batch _ _ _ _ _ (c.in-Err-DiskFault.ensures.extended c.requires.ready.still_open)
@@ -41,6 +47,9 @@ returns-in-Err-DiskFault-clause-run g c = extended_goes _ c.args.batch _ _ _ _ _
 pub returns-in-Err-DiskFault-clause-limit : goal.returns-in-Err-DiskFault-clause-limit
 returns-in-Err-DiskFault-clause-limit g c = (c.in-Err-DiskFault.ensures.extended c.requires.ready.still_open).runs.limit
 
+pub returns-in-Err-DiskFault-clause-format : goal.returns-in-Err-DiskFault-clause-format
+returns-in-Err-DiskFault-clause-format g c = (c.in-Err-DiskFault.ensures.extended c.requires.ready.still_open).runs.format
+
 pub returns-in-Err-Full-clause-leads : goal.returns-in-Err-Full-clause-leads
 returns-in-Err-Full-clause-leads g c = extended_leads _ c.args.batch _ _ _ _ _ (c.in-Err-Full.ensures.extended c.requires.ready.still_open)
 
@@ -49,6 +58,9 @@ returns-in-Err-Full-clause-run g c = extended_goes _ c.args.batch _ _ _ _ _ c.re
 
 pub returns-in-Err-Full-clause-limit : goal.returns-in-Err-Full-clause-limit
 returns-in-Err-Full-clause-limit g c = (c.in-Err-Full.ensures.extended c.requires.ready.still_open).runs.limit
+
+pub returns-in-Err-Full-clause-format : goal.returns-in-Err-Full-clause-format
+returns-in-Err-Full-clause-format g c = (c.in-Err-Full.ensures.extended c.requires.ready.still_open).runs.format
 
 pub returns-in-Err-Memory-clause-ready : goal.returns-in-Err-Memory-clause-ready
 returns-in-Err-Memory-clause-ready g c =

@@ -12,7 +12,7 @@ use Rattle.sync_node.proofs.turning.turn_each.Goals as goal
 use Rattle.sync_node.proofs.turning.turn_each.Goals.{else-still, then-still}
 
 pub links-init : goal.links-init
-links-init g c = record { sessions = refl; run = links_go_none _ _; limit = refl; may = c.requires.may; works = λ first attached. links_none _ _ _ _ _ attached; course = λ first attached whole. turns_none _ first _ _ _; whole = refl; room = c.requires.room; later = omega arith }
+links-init g c = record { sessions = refl; run = links_go_none _ _; limit = refl; format = refl; may = c.requires.may; works = λ first attached. links_none _ _ _ _ _ attached; course = λ first attached whole. turns_none _ first _ _ _; whole = refl; room = c.requires.room; later = omega arith }
 
 pub turn_link-requires-clause-able : goal.turn_link-requires-clause-able
 turn_link-requires-clause-able g c =
@@ -41,6 +41,7 @@ links-preserved g c =
       sessions = sessions_set c.links.place c.links.links _ c.turn_link.new.link here c.turn_link.ensures.run.same_session ∙ c.links.invariant.sessions;
       run = links_go_set c.links.place _ c.links.links _ c.turn_link.new.link _ _ _ c.links.invariant.run here c.turn_link.ensures.run;
       limit = c.turn_link.ensures.limit ∙ c.links.invariant.limit;
+      format = c.turn_link.ensures.format ∙ c.links.invariant.format;
       may = links_go_on _ c.links.place c.links.links _ _ _ _ _ _ c.links.invariant.may (length_set c.links.links c.links.place c.turn_link.new.link) c.in_ok-quiet.ensures.works.goes c.in_ok-quiet.ensures.able;
       works = λ first attached.
           let works = c.links.invariant.works first attached in

@@ -10,6 +10,7 @@ invariant-links g l = record {
   sessions : sessions_of l.links ≡ sessions_of l.initial.links;
   run : LinksGo l.initial.links l.links (g.H.Disk.tells l.initial.host) (g.H.Disk.tells l.host);
   limit : l.store.limit ≡ l.initial.store.limit;
+  format : l.store.format ≡ l.initial.store.format;
   may : MayGoOn (g.C.Clients.meaning l.clients) l.links l.store (g.H.Disk.tells l.host);
   works : (first : ℕ) → AreAttached first l.initial.links l.initial.store.state.facts
       → LinksWork (g.C.Clients.meaning l.clients) first l.initial.links l.links l.initial.store l.store (g.H.Disk.tells l.initial.host) (g.H.Disk.tells l.host);

@@ -1,4 +1,4 @@
-use Rattle.std.proofs.Common.{ap, Err}
+use Rattle.std.proofs.Common.{ap, inl, Err}
 use Rattle.sync_node.specs.Node.{NodeValue}
 use Rattle.sync_words.specs.declared.outcome.Outcome.TheVariants as outcome
 use Rattle.sync_run.specs.Parts.{RunsOver, sessions_from}
@@ -9,137 +9,140 @@ use Rattle.sync_run.proofs.SafeBegin.{joined_none}
 use Rattle.sync_run.proofs.SafeRunning.{unused_disk, goes_settled, node_begins, node_may, node_sends, rests_at, rests_fault, rests_ready, rests_stays, runs_node, runs_settling}
 use Rattle.sync_run.proofs.CauseLaws.{ends_rose, goes_then}
 use Rattle.std.proofs.Common.{refl}
-use Rattle.sync_run.proofs.SafeFull.{dialled_full, err_was, settled_unfull}
+use Rattle.sync_run.proofs.SafeFull.{dialled_full, err_was, unrun_full}
 use Rattle.sync_run.proofs.run.run_dialled.Goals as goal
 
-pub returns-in_err-settle-clause-safe : goal.returns-in_err-settle-clause-safe
-returns-in_err-settle-clause-safe g c = runs_settling _ c.args.links.now _ _ _ _ _ c.requires.ready c.requires.unused c.settle.ensures.run c.settle.ensures.settled
+pub returns-in_err-migrate_and_settle-clause-safe : goal.returns-in_err-migrate_and_settle-clause-safe
+returns-in_err-migrate_and_settle-clause-safe g c = runs_settling _ c.args.links.now _ _ _ _ _ c.requires.ready c.requires.unused c.migrate_and_settle.ensures.run c.migrate_and_settle.ensures.settled
 
-pub returns-in_err-settle-clause-rests : goal.returns-in_err-settle-clause-rests
-returns-in_err-settle-clause-rests g c =
-    let e = c.in_err-settle.field-0.0 in
-    rests_fault _ _ e (err_is c.from_residual.result e c.from_residual.ensures.1) (rests_stays _ _ _ e c.in_err-settle.ensures.stays)
+pub returns-in_err-migrate_and_settle-clause-rests : goal.returns-in_err-migrate_and_settle-clause-rests
+returns-in_err-migrate_and_settle-clause-rests g c =
+    let e = c.in_err-migrate_and_settle.field-0.0 in
+    rests_fault _ _ e (err_is c.from_residual.result e c.from_residual.ensures.1) (rests_stays _ _ _ e c.in_err-migrate_and_settle.ensures.stays)
 
-pub returns-in_err-settle-clause-run : goal.returns-in_err-settle-clause-run
-returns-in_err-settle-clause-run g c = goes_settled _ _ _ _ _ _ c.requires.ready c.settle.ensures.run c.settle.ensures.settled
+pub returns-in_err-migrate_and_settle-clause-run : goal.returns-in_err-migrate_and_settle-clause-run
+returns-in_err-migrate_and_settle-clause-run g c = goes_settled _ _ _ _ _ _ c.requires.ready c.migrate_and_settle.ensures.run c.migrate_and_settle.ensures.settled
 
 pub returns-in_err-node-clause-safe : goal.returns-in_err-node-clause-safe
-returns-in_err-node-clause-safe g c = runs_settling _ c.args.links.now _ _ _ _ _ c.requires.ready c.requires.unused c.settle.ensures.run c.settle.ensures.settled
+returns-in_err-node-clause-safe g c = runs_settling _ c.args.links.now _ _ _ _ _ c.requires.ready c.requires.unused c.migrate_and_settle.ensures.run c.migrate_and_settle.ensures.settled
 
 pub returns-in_err-node-clause-rests : goal.returns-in_err-node-clause-rests
-returns-in_err-node-clause-rests g c = rests_at _ _ (rests_ready _ _ _ c.in_ok-settle.ensures.ready)
+returns-in_err-node-clause-rests g c = rests_at _ _ (rests_ready _ _ _ c.in_ok-migrate_and_settle.ensures.ready)
 
 pub returns-in_err-node-clause-run : goal.returns-in_err-node-clause-run
-returns-in_err-node-clause-run g c = goes_settled _ _ _ _ _ _ c.requires.ready c.settle.ensures.run c.settle.ensures.settled
+returns-in_err-node-clause-run g c = goes_settled _ _ _ _ _ _ c.requires.ready c.migrate_and_settle.ensures.run c.migrate_and_settle.ensures.settled
 
 pub run_node-requires-clause-may : goal.run_node-requires-clause-may
-run_node-requires-clause-may g c = node_may _ _ _ _ c.in_ok-settle.ensures.ready c.in_ok-node.ensures
+run_node-requires-clause-may g c = node_may _ _ _ _ c.in_ok-migrate_and_settle.ensures.ready c.in_ok-node.ensures
 
 pub run_node-requires-clause-each : goal.run_node-requires-clause-each
-run_node-requires-clause-each g c = node_begins _ _ _ _ _ _ _ c.args.links.now c.settle.ensures.settled c.in_ok-node.ensures c.requires.each
+run_node-requires-clause-each g c = node_begins _ _ _ _ _ _ _ c.args.links.now c.migrate_and_settle.ensures.settled c.in_ok-node.ensures c.requires.each
 
 pub returns-in_err-close-in-Ok-clause-safe : goal.returns-in_err-close-in-Ok-clause-safe
 returns-in_err-close-in-Ok-clause-safe g c =
-    runs_node _ c.args.links.now _ _ _ _ _ _ _ _ c.requires.ready c.requires.unused c.settle.ensures.run c.settle.ensures.settled c.in_ok-node.ensures c.run_node.ensures.safe
+    runs_node _ c.args.links.now _ _ _ _ _ _ _ _ c.requires.ready c.requires.unused c.migrate_and_settle.ensures.run c.migrate_and_settle.ensures.settled c.in_ok-node.ensures c.run_node.ensures.safe
 
 pub returns-in_err-close-in-Ok-clause-rests : goal.returns-in_err-close-in-Ok-clause-rests
 returns-in_err-close-in-Ok-clause-rests g c = rests_at _ _ (rests_ready _ _ _ (c.run_node.ensures.may c.in-Ok.ensures.answer).ready)
 
 pub returns-in_err-close-in-Ok-clause-run : goal.returns-in_err-close-in-Ok-clause-run
-returns-in_err-close-in-Ok-clause-run g c = goes_then _ _ _ (goes_settled _ _ _ _ _ _ c.requires.ready c.settle.ensures.run c.settle.ensures.settled) c.run_node.ensures.run
+returns-in_err-close-in-Ok-clause-run g c = goes_then _ _ _ (goes_settled _ _ _ _ _ _ c.requires.ready c.migrate_and_settle.ensures.run c.migrate_and_settle.ensures.settled) c.run_node.ensures.run
 
 pub returns-in-Ok-clause-safe : goal.returns-in-Ok-clause-safe
 returns-in-Ok-clause-safe g c =
-    runs_node _ c.args.links.now _ _ _ _ _ _ _ _ c.requires.ready c.requires.unused c.settle.ensures.run c.settle.ensures.settled c.in_ok-node.ensures c.run_node.ensures.safe
+    runs_node _ c.args.links.now _ _ _ _ _ _ _ _ c.requires.ready c.requires.unused c.migrate_and_settle.ensures.run c.migrate_and_settle.ensures.settled c.in_ok-node.ensures c.run_node.ensures.safe
 
 pub returns-in-Ok-clause-rests : goal.returns-in-Ok-clause-rests
 returns-in-Ok-clause-rests g c = rests_ready _ _ _ (c.run_node.ensures.may c.in-Ok.ensures.answer).ready
 
 pub returns-in-Ok-clause-sent : goal.returns-in-Ok-clause-sent
 returns-in-Ok-clause-sent g c =
-    node_sends _ c.args.links.now _ _ _ _ _ _ _ _ c.in-Ok.over _ c.requires.unused c.settle.ensures.run c.settle.ensures.settled c.in_ok-node.ensures c.in-Ok.ensures.joined c.in-Ok.ensures.answer
+    node_sends _ c.args.links.now _ _ _ _ _ _ _ _ c.in-Ok.over _ c.requires.unused c.migrate_and_settle.ensures.run c.migrate_and_settle.ensures.settled c.in_ok-node.ensures c.in-Ok.ensures.joined c.in-Ok.ensures.answer
     c.run_node.ensures.node c.run_node.ensures.may c.in_ok-close-in-Ok.ensures
 
 pub returns-in-Ok-clause-run : goal.returns-in-Ok-clause-run
-returns-in-Ok-clause-run g c = goes_then _ _ _ (goes_settled _ _ _ _ _ _ c.requires.ready c.settle.ensures.run c.settle.ensures.settled) c.run_node.ensures.run
+returns-in-Ok-clause-run g c = goes_then _ _ _ (goes_settled _ _ _ _ _ _ c.requires.ready c.migrate_and_settle.ensures.run c.migrate_and_settle.ensures.settled) c.run_node.ensures.run
 
 pub returns-in-Err-Memory-clause-safe : goal.returns-in-Err-Memory-clause-safe
 returns-in-Err-Memory-clause-safe g c =
-    runs_node _ c.args.links.now _ _ _ _ _ _ _ _ c.requires.ready c.requires.unused c.settle.ensures.run c.settle.ensures.settled c.in_ok-node.ensures c.run_node.ensures.safe
+    runs_node _ c.args.links.now _ _ _ _ _ _ _ _ c.requires.ready c.requires.unused c.migrate_and_settle.ensures.run c.migrate_and_settle.ensures.settled c.in_ok-node.ensures c.run_node.ensures.safe
 
 pub returns-in-Err-Memory-clause-rests : goal.returns-in-Err-Memory-clause-rests
 returns-in-Err-Memory-clause-rests g c = rests_ready _ _ _ (rw c.in-Err-Memory.field-0-is at c.in-Err-Memory.ensures.stays)
 
 pub returns-in-Err-Memory-clause-run : goal.returns-in-Err-Memory-clause-run
-returns-in-Err-Memory-clause-run g c = goes_then _ _ _ (goes_settled _ _ _ _ _ _ c.requires.ready c.settle.ensures.run c.settle.ensures.settled) c.run_node.ensures.run
+returns-in-Err-Memory-clause-run g c = goes_then _ _ _ (goes_settled _ _ _ _ _ _ c.requires.ready c.migrate_and_settle.ensures.run c.migrate_and_settle.ensures.settled) c.run_node.ensures.run
 
 pub returns-in-Err-DiskFault-clause-safe : goal.returns-in-Err-DiskFault-clause-safe
 returns-in-Err-DiskFault-clause-safe g c =
-    runs_node _ c.args.links.now _ _ _ _ _ _ _ _ c.requires.ready c.requires.unused c.settle.ensures.run c.settle.ensures.settled c.in_ok-node.ensures c.run_node.ensures.safe
+    runs_node _ c.args.links.now _ _ _ _ _ _ _ _ c.requires.ready c.requires.unused c.migrate_and_settle.ensures.run c.migrate_and_settle.ensures.settled c.in_ok-node.ensures c.run_node.ensures.safe
 
 pub returns-in-Err-DiskFault-clause-run : goal.returns-in-Err-DiskFault-clause-run
-returns-in-Err-DiskFault-clause-run g c = goes_then _ _ _ (goes_settled _ _ _ _ _ _ c.requires.ready c.settle.ensures.run c.settle.ensures.settled) c.run_node.ensures.run
+returns-in-Err-DiskFault-clause-run g c = goes_then _ _ _ (goes_settled _ _ _ _ _ _ c.requires.ready c.migrate_and_settle.ensures.run c.migrate_and_settle.ensures.settled) c.run_node.ensures.run
 
 pub returns-in-Err-Full-clause-safe : goal.returns-in-Err-Full-clause-safe
 returns-in-Err-Full-clause-safe g c =
-    runs_node _ c.args.links.now _ _ _ _ _ _ _ _ c.requires.ready c.requires.unused c.settle.ensures.run c.settle.ensures.settled c.in_ok-node.ensures c.run_node.ensures.safe
+    runs_node _ c.args.links.now _ _ _ _ _ _ _ _ c.requires.ready c.requires.unused c.migrate_and_settle.ensures.run c.migrate_and_settle.ensures.settled c.in_ok-node.ensures c.run_node.ensures.safe
 
 pub returns-in-Err-Full-clause-rests : goal.returns-in-Err-Full-clause-rests
 returns-in-Err-Full-clause-rests g c = rests_ready _ _ _ (rw c.in-Err-Full.field-0-is at c.in-Err-Full.ensures.stays)
 
 pub returns-in-Err-Full-clause-run : goal.returns-in-Err-Full-clause-run
-returns-in-Err-Full-clause-run g c = goes_then _ _ _ (goes_settled _ _ _ _ _ _ c.requires.ready c.settle.ensures.run c.settle.ensures.settled) c.run_node.ensures.run
+returns-in-Err-Full-clause-run g c = goes_then _ _ _ (goes_settled _ _ _ _ _ _ c.requires.ready c.migrate_and_settle.ensures.run c.migrate_and_settle.ensures.settled) c.run_node.ensures.run
 
-pub returns-in_err-settle-clause-course : goal.returns-in_err-settle-clause-course
-returns-in_err-settle-clause-course g c =
-    over_settling _ c.args.limits c.args.links.now _ _ _ _ c.from_residual.result c.in_err-settle.field-0.0 c.from_residual.ensures.1 c.requires.ready.fits c.settle.ensures.run
-    c.in_err-settle.ensures.settled
+pub returns-in_err-migrate_and_settle-clause-course : goal.returns-in_err-migrate_and_settle-clause-course
+returns-in_err-migrate_and_settle-clause-course g c =
+    over_settling _ c.args.limits c.args.links.now _ _ _ _ c.from_residual.result c.in_err-migrate_and_settle.field-0.0 c.from_residual.ensures.1 c.requires.ready.fits c.migrate_and_settle.ensures.run
+    c.in_err-migrate_and_settle.ensures.settled
+    (λ full. ap g.H.Disk.tells (c.in_err-migrate_and_settle.ensures.untouched (ap (λ e. Err e) full)))
 
 pub returns-in_err-node-clause-course : goal.returns-in_err-node-clause-course
 returns-in_err-node-clause-course g c = λ j fit.
-    passed (λ r. RunsOver (g.C.Clients.meaning c.args.clients.now) c.args.limits (sessions_from (facts j).begun c.args.links.now) j (g.H.Disk.tells c.args.host.now) (g.H.Disk.tells c.settle.new.disk) r)
+    passed (λ r. RunsOver (g.C.Clients.meaning c.args.clients.now) c.args.limits (sessions_from (facts j).begun c.args.links.now) j (g.H.Disk.tells c.args.host.now) (g.H.Disk.tells c.migrate_and_settle.new.disk) r)
     c.from_residual-in_err-node.result outcome.Memory c.from_residual-in_err-node.ensures.1
-    (over_unmade _ c.args.limits c.args.links.now _ _ _ _ c.in_ok-settle.field-0 c.settle.ensures.run c.in_ok-settle.ensures.settled j fit)
+    (over_unmade _ c.args.limits c.args.links.now _ _ _ _ c.in_ok-migrate_and_settle.field-0 c.migrate_and_settle.ensures.run c.in_ok-migrate_and_settle.ensures.settled j fit)
 
 pub returns-in_err-close-in-Ok-clause-course : goal.returns-in_err-close-in-Ok-clause-course
 returns-in_err-close-in-Ok-clause-course g c = λ j fit.
     passed (λ r. RunsOver (g.C.Clients.meaning c.args.clients.now) c.args.limits (sessions_from (facts j).begun c.args.links.now) j (g.H.Disk.tells c.args.host.now) (g.H.Disk.tells c.run_node.new.host) r)
     c.from_residual-in_err-close-in-Ok.result outcome.Memory c.from_residual-in_err-close-in-Ok.ensures.1
-    (over_unclosed _ c.args.limits c.args.links.now _ _ _ _ c.in_ok-settle.field-0 c.settle.ensures.run c.in_ok-settle.ensures.settled j fit c.in_ok-node.node
+    (over_unclosed _ c.args.limits c.args.links.now _ _ _ _ c.in_ok-migrate_and_settle.field-0 c.migrate_and_settle.ensures.run c.in_ok-migrate_and_settle.ensures.settled j fit c.in_ok-node.node
     (ap (λ (n : NodeValue). n.store) c.in_ok-node.ensures) _ _ _ c.in-Ok.over c.in-Ok.ensures.course)
 
 pub returns-in-Ok-clause-course : goal.returns-in-Ok-clause-course
 returns-in-Ok-clause-course g c = λ j fit.
-    over_closed _ c.args.limits c.args.links.now _ _ _ _ c.in_ok-settle.field-0 c.settle.ensures.run c.in_ok-settle.ensures.settled j fit c.in_ok-node.node
+    over_closed _ c.args.limits c.args.links.now _ _ _ _ c.in_ok-migrate_and_settle.field-0 c.migrate_and_settle.ensures.run c.in_ok-migrate_and_settle.ensures.settled j fit c.in_ok-node.node
     (ap (λ (n : NodeValue). n.store) c.in_ok-node.ensures) _ _ _ c.in-Ok.over c.in-Ok.ensures.course c.runs_end_quiet.ensures c.in_ok-close-in-Ok.field-0 c.in_ok-close-in-Ok.ensures
 
 pub returns-in-Ok-clause-caused : goal.returns-in-Ok-clause-caused
 returns-in-Ok-clause-caused g c =
-    ends_rose c.in-Ok.over _ _ _ (g.H.Disk.tells c.args.host.now) (g.H.Disk.tells c.settle.new.disk) (g.H.Disk.tells c.run_node.new.host)
-    (ap (λ (n : NodeValue). n.links) c.in_ok-node.ensures) c.in_ok-close-in-Ok.ensures c.settle.ensures.run.same_links c.run_node.ensures.cause
+    ends_rose c.in-Ok.over _ _ _ (g.H.Disk.tells c.args.host.now) (g.H.Disk.tells c.migrate_and_settle.new.disk) (g.H.Disk.tells c.run_node.new.host)
+    (ap (λ (n : NodeValue). n.links) c.in_ok-node.ensures) c.in_ok-close-in-Ok.ensures c.migrate_and_settle.ensures.run.same_links c.run_node.ensures.cause
 
 pub returns-in-Err-Memory-clause-course : goal.returns-in-Err-Memory-clause-course
 returns-in-Err-Memory-clause-course g c = λ j fit.
-    over_broken _ c.args.limits c.args.links.now _ _ _ _ c.in_ok-settle.field-0 c.settle.ensures.run c.in_ok-settle.ensures.settled j fit c.in_ok-node.node
+    over_broken _ c.args.limits c.args.links.now _ _ _ _ c.in_ok-migrate_and_settle.field-0 c.migrate_and_settle.ensures.run c.in_ok-migrate_and_settle.ensures.settled j fit c.in_ok-node.node
     (ap (λ (n : NodeValue). n.store) c.in_ok-node.ensures) _ c.in-Err-Memory.ensures.halts
 
 pub returns-in-Err-DiskFault-clause-course : goal.returns-in-Err-DiskFault-clause-course
 returns-in-Err-DiskFault-clause-course g c = λ j fit.
-    over_broken _ c.args.limits c.args.links.now _ _ _ _ c.in_ok-settle.field-0 c.settle.ensures.run c.in_ok-settle.ensures.settled j fit c.in_ok-node.node
+    over_broken _ c.args.limits c.args.links.now _ _ _ _ c.in_ok-migrate_and_settle.field-0 c.migrate_and_settle.ensures.run c.in_ok-migrate_and_settle.ensures.settled j fit c.in_ok-node.node
     (ap (λ (n : NodeValue). n.store) c.in_ok-node.ensures) _ c.in-Err-DiskFault.ensures.halts
 
 pub returns-in-Err-Full-clause-course : goal.returns-in-Err-Full-clause-course
 returns-in-Err-Full-clause-course g c = λ j fit.
-    over_filled _ c.args.limits c.args.links.now _ _ _ _ c.in_ok-settle.field-0 c.settle.ensures.run c.in_ok-settle.ensures.settled j fit c.in_ok-node.node
-    (ap (λ (n : NodeValue). n.store) c.in_ok-node.ensures) _ _ c.requires.limited c.run_node.ensures.limit
-    (joined_none _ c.settle.new.store _ (unused_disk _ _ c.settle.ensures.run c.requires.unused))
-    (c.in-Err-Full.ensures.full (ap (λ e. Err e) c.in-Err-Full.field-0-is))
+    inl
+    (over_filled _ c.args.limits c.args.links.now _ _ _ _ c.in_ok-migrate_and_settle.field-0 c.migrate_and_settle.ensures.run c.in_ok-migrate_and_settle.ensures.settled j fit c.in_ok-node.node
+    (ap (λ (n : NodeValue). n.store) c.in_ok-node.ensures) _ _ c.requires.limited c.run_node.ensures.limit c.run_node.ensures.format
+    (joined_none _ c.migrate_and_settle.new.store _ (unused_disk _ _ c.migrate_and_settle.ensures.run c.requires.unused))
+    (c.in-Err-Full.ensures.full (ap (λ e. Err e) c.in-Err-Full.field-0-is)))
 
-pub returns-in_err-settle-clause-sent_full : goal.returns-in_err-settle-clause-sent_full
-returns-in_err-settle-clause-sent_full g c = λ is.
-    absurd (settled_unfull (g.C.Clients.meaning c.args.clients.now) c.settle.new.store c.in_err-settle.field-0.0 c.in_err-settle.ensures.settled.answer (err_was _ c.in_err-settle.field-0.0 _ c.from_residual.ensures.1 is))
+pub returns-in_err-migrate_and_settle-clause-sent_full : goal.returns-in_err-migrate_and_settle-clause-sent_full
+returns-in_err-migrate_and_settle-clause-sent_full g c = λ is.
+    unrun_full _ _ _ _ c.requires.ready
+    (ap g.H.Disk.tells (c.in_err-migrate_and_settle.ensures.untouched (ap (λ e. Err e) (err_was _ c.in_err-migrate_and_settle.field-0.0 _ c.from_residual.ensures.1 is))))
 
 pub returns-in-Err-Full-clause-sent_full : goal.returns-in-Err-Full-clause-sent_full
 returns-in-Err-Full-clause-sent_full g c = λ is.
-    dialled_full _ _ _ _ _ _ _ _ _ c.requires.unused c.settle.ensures.run c.settle.ensures.settled c.in_ok-node.ensures (rw c.in-Err-Full.field-0-is at c.in-Err-Full.ensures.stays)
+    dialled_full _ _ _ _ _ _ _ _ _ c.requires.unused c.migrate_and_settle.ensures.run c.migrate_and_settle.ensures.settled c.in_ok-node.ensures (rw c.in-Err-Full.field-0-is at c.in-Err-Full.ensures.stays)
     ((rw c.in-Err-Full.field-0-is at c.in-Err-Full.ensures.sent) refl)

@@ -15,6 +15,7 @@ invariant-links g l = record {
   cause : FailByCause l.initial.node.links l.node.links (g.H.Disk.tells l.initial.host) (g.H.Disk.tells l.host);
   run : Goes (g.H.Disk.tells l.initial.host) (g.H.Disk.tells l.host);
   limit : l.node.store.limit ≡ l.initial.node.store.limit;
+  format : l.node.store.format ≡ l.initial.node.store.format;
   still_open : l.node.closed ≡ false;
   node : IsNode l.node;
   same_first : l.node.first ≡ l.initial.node.first;

@@ -17,6 +17,7 @@ invariant-turns g l = record {
   cause : FailByCause l.initial.node.links l.node.links (g.H.Disk.tells l.initial.host) (g.H.Disk.tells l.host);
   run : Goes (g.H.Disk.tells l.initial.host) (g.H.Disk.tells l.host);
   limit : l.node.store.limit ≡ l.initial.node.store.limit;
+  format : l.node.store.format ≡ l.initial.node.store.format;
   still_open : l.node.closed ≡ false;
   same_first : l.node.first ≡ l.initial.node.first;
   few_still : l.still ≤ l.counter;
