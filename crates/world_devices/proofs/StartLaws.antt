@@ -241,6 +241,11 @@ crashes_to pick h at h' new seen crashes loads anew unlinked disarmed since =
 
 -- ---- a device that starts again over its files
 
+-- what holds whatever is answered
+pub ok_anyway : {A E P : Type 0} (r : Result A E) → P → OnOk r P
+ok_anyway (Ok a) holds = holds
+ok_anyway (Err e) holds = tt
+
 pub starts_again : (d old new : DeviceValue) (h : MemHostValue) → d ≡ old → (host_told h).files ≡ (host_told d.host).files → ((j : Journal) → Holds j h → SettlesFrom j new.host) → IsAnew new.clock new.host → IsUnlinked new → new.clock ≡ d.clock → new.stop ≡ d.stop
     → HostGoesOn d.host new.host → IsAhead new.stop new.host → StartsAgain old new
 starts_again d old new h seen files loads anew unlinked clock stop since ahead =

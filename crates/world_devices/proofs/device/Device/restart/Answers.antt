@@ -11,7 +11,7 @@ use Rattle.world_devices.proofs.HostLaws.{calls_anew, calls_then, files_anew, ma
 use Rattle.world_devices.proofs.LeaveLaws.{leave_held}
 use Rattle.world_devices.proofs.RunningLaws.{anew_keeps, keeps_seen}
 use Rattle.world_devices.proofs.NewLaws.{holds_on}
-use Rattle.world_devices.proofs.StartLaws.{holds_settling, restart_broken, start_within}
+use Rattle.world_devices.proofs.StartLaws.{holds_settling, ok_anyway, restart_broken, start_within}
 use Rattle.world_devices.proofs.device.Device.restart.Goals as goal
 
 pub invariant_of-self : goal.invariant_of-self
@@ -81,3 +81,9 @@ returns-in-Err-DiskFault-clause-restarts c =
     (λ j. start_within j c.self.inside.host c.restart.new.self c.start.new.self.host (files_anew c.self.inside.host c.restart.new.self c.in_ok-restart.ensures.ok) (made_anew c.self.inside.host c.restart.new.self c.in_ok-restart.ensures.ok)
     (c.start.ensures.within j))
     c.start.ensures.stop c.start.ensures.clock c.break_off.ensures.clock c.break_off.ensures.to c.break_off.ensures.left c.break_off.ensures.unrefused c.break_off.ensures.unfilled
+
+pub returns-in-Ok-clause-running : goal.returns-in-Ok-clause-running
+returns-in-Ok-clause-running c = ok_anyway c.test_done.result c.in-Ok.ensures.running
+
+pub returns-in-Ok-clause-links : goal.returns-in-Ok-clause-links
+returns-in-Ok-clause-links c = ok_anyway c.test_done.result c.in-Ok.ensures.links
