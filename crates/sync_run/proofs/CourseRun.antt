@@ -1,5 +1,5 @@
 -- A run over a journal, from its first place on: settling, the sessions on the links that were dialled, and its end.
-use Rattle.std.proofs.Common.{◌≡◌, ℕ, ◌+◌, ◌<◌, Bool, true, false, List, [], ◌++◌, refl, sym, ◌∙◌, ap, subst, arith, inr, Some, Result, Ok, Err}
+use Rattle.std.proofs.Common.{◌≡◌, ℕ, ◌+◌, ◌<◌, Bool, true, false, List, [], ◌++◌, refl, sym, ◌∙◌, ap, subst, arith, inl, inr, Some, Result, Ok, Err}
 use Rattle.std.specs.Prelude.{IsErrAnd}
 use Rattle.outside.specs.declared.limits.TheConstants.{MAX_JOURNAL}
 use Rattle.outside.specs.Files.{Two, File}
@@ -24,10 +24,10 @@ use Rattle.sync_store.specs.Store.{StoreValue, format_meant, written_in}
 use Rattle.sync_course.specs.Events.{Event, batches_of}
 use Rattle.sync_course.proofs.LiftLaws.{runs_settled_begun}
 use Rattle.sync_course.specs.Quiet.{EndsQuiet}
-use Rattle.sync_course.specs.Turns.{Attaches, Course, Ended, Place, Terms, first_place, is_over}
+use Rattle.sync_course.specs.Turns.{Attaches, Course, Ended, Place, RunStep, Terms, first_place, is_over}
 use Rattle.sync_node.specs.declared.link.Link.{Link}
 use Rattle.sync_node.proofs.CourseLaws.{fits_grown, reads_front}
-use Rattle.sync_node.specs.Courses.{FitsWith, ReadsAs, RunBreaks, place_at}
+use Rattle.sync_node.specs.Courses.{FitsWith, ReadsAs, RunBreaks, RunRuns, place_at}
 use Rattle.sync_node.specs.Fulls.{RunFullSent}
 use Rattle.sync_node.specs.Joined.{Joined}
 use Rattle.sync_node.specs.Node.{NodeValue}
@@ -35,7 +35,7 @@ use Rattle.sync_node.specs.Output.{Journal}
 use Rattle.sync_course.specs.Closing.{Closing}
 use Rattle.sync_words.specs.declared.outcome.Outcome.{Outcome}
 use Rattle.sync_words.specs.declared.outcome.Outcome.TheVariants as outcome
-use Rattle.store_commands.specs.Commit.{ComesAnew, MayMigrate, SettledAnew, SettlesAnew, needed_by}
+use Rattle.store_commands.specs.Commit.{ComesAnew, HasLastGeneration, MayMigrate, SettledAnew, SettlesAnew, needed_by}
 use Rattle.store_commands.proofs.Stood.{last_here, spent_here}
 use Rattle.sync_run.specs.declared.dialling.Dialled.{Dialled}
 use Rattle.sync_run.specs.declared.run.Limits.{Limits}
