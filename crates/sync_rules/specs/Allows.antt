@@ -1,6 +1,6 @@
 -- Whether a batch may follow a journal, as a test: what `Allowed` says of the facts of the journal, by cases on the
 -- first entry.
-use Rattle.std.specs.Prelude.{◌≡◌, ℕ, Bool, true, false, ◌&&◌, nat_eq, nat_lt, nat_le, List, [], ◌∷◌, length, Option, Some, None, is_some, is_none}
+use Rattle.std.specs.Prelude.{◌≡◌, ℕ, Bool, true, false, not, ◌&&◌, ◌||◌, nat_eq, nat_lt, nat_le, List, [], ◌∷◌, length, Option, Some, None, is_some, is_none}
 use Rattle.std.specs.List.{filter_map, list_all}
 use Rattle.std.specs.Cmp.Lexicographic.{pointwise}
 use Rattle.sync_ids.specs.Values.{GroupValue, MessageValue}
@@ -14,13 +14,18 @@ use Rattle.sync_rules.specs.declared.entries.Entry.TheVariants as entry
 use Rattle.sync_rules.specs.declared.entries.Out.{Out}
 use Rattle.sync_rules.specs.declared.entries.Out.TheVariants as out
 use Rattle.sync_rules.specs.declared.entries.Session.{Session}
-use Rattle.sync_rules.specs.declared.limits.TheConstants.{MAX_CONTACTS, MAX_GROUPS, MAX_STEPS}
+use Rattle.sync_rules.specs.declared.entries.Tried.{Tried}
+use Rattle.sync_rules.specs.declared.states.Origin.{Origin}
+use Rattle.sync_rules.specs.declared.states.Origin.TheVariants as origin
+use Rattle.sync_rules.specs.declared.states.Start.{Start}
+use Rattle.sync_rules.specs.declared.states.Start.TheVariants as start
+use Rattle.sync_rules.specs.declared.limits.TheConstants.{MAX_CONTACTS, MAX_GROUPS, MAX_ROWS, MAX_SESSIONS, MAX_STEPS, MAX_TRIES, MAX_WANTED}
 use Rattle.sync_rules.specs.Clients.{Meaning}
-use Rattle.sync_rules.specs.Lists.{same_id}
-use Rattle.sync_rules.specs.Facts.{Facts, Id, group_at, held_at, session_at, takes_of, after}
+use Rattle.sync_rules.specs.Lists.{same_id, is_among}
+use Rattle.sync_rules.specs.Facts.{Facts, Id, group_at, held_at, is_held, is_no_row, row_at, session_at, takes_of, wanted_from, after}
 use Rattle.sync_rules.specs.Steps.{next, verdict_in, kind_of_def}
 use Rattle.sync_rules.specs.Sessions.{taken, due}
-use Rattle.sync_rules.specs.Legal.{Allowed, suits_nonce, accepts_served}
+use Rattle.sync_rules.specs.Legal.{Allowed, suits_nonce, accepts_served, is_empty_row}
 
 -- ---- equal values
 
@@ -125,7 +130,7 @@ may_add_group clients f def =
 abbrev pub may_begin : Facts → Session → Bool
 may_begin f s =
     nat_eq s.number f.begun
-    && (nat_lt s.contact f.contacts && (nat_le 1 s.latency && suits_nonce s.mode s.nonce))
+    && (nat_lt s.number MAX_SESSIONS && (nat_lt s.contact f.contacts && (nat_le 1 s.latency && suits_nonce s.mode s.nonce)))
 
 -- a message may be written
 abbrev pub may_author : Meaning → Facts → MessageValue → Bool
@@ -210,6 +215,55 @@ abbrev pub settles : Meaning → Facts → List Entry → Bool
 settles clients f [] = true
 settles clients f (e ∷ es) = is_some_of same_entry (next clients f) e && settles clients (after f e) es
 
+-- ---- a brief account
+
+abbrev pub is_empty_start : Start → Bool
+is_empty_start start.Empty = true
+is_empty_start start.Opening = false
+is_empty_start start.Going = false
+
+abbrev pub is_opening : Start → Bool
+is_opening start.Empty = false
+is_opening start.Opening = true
+is_opening start.Going = false
+
+abbrev pub is_kept_from : Meaning → Facts → Origin → MessageValue → Bool
+is_kept_from clients f origin.Author m = accepts_served f m.group (verdict_in clients f.groups m)
+is_kept_from clients f (origin.From contact) m = nat_lt contact f.contacts
+
+-- a message may be kept
+abbrev pub may_keep : Meaning → Facts → Origin → MessageValue → Bool
+may_keep clients f from m =
+    is_some (group_at f.groups m.group)
+    && (is_none (held_at f.held (message_id_of m)) && is_kept_from clients f from m)
+
+-- a row may be stated
+abbrev pub may_restore : Facts → Tried → Bool
+may_restore f t =
+    nat_lt t.contact f.contacts
+    && (is_held f.held t.id
+    && (nat_le t.tries MAX_TRIES
+    && ((not (nat_eq t.tries 0) || nat_eq t.expiry 0)
+    && (not (is_empty_row t) && is_no_row (row_at f.rows t.contact t.id)))))
+
+-- an id may be stated as wanted
+abbrev pub may_want : Facts → ℕ → Id → Bool
+may_want f contact id =
+    nat_lt contact f.contacts
+    && (not (is_held f.held id)
+    && (not (is_among (wanted_from f.wanted contact) id) && nat_lt (length (wanted_from f.wanted contact)) MAX_WANTED))
+
+-- an entry of a batch of rows and wanted ids suits the facts
+abbrev pub suits_rows : Facts → Entry → Bool
+suits_rows f (entry.Tried t) = may_restore f t
+suits_rows f (entry.Want contact id) = may_want f contact id
+suits_rows f _ = false
+
+-- each entry of a list suits the facts after those before it
+abbrev pub are_rows : Facts → List Entry → Bool
+are_rows f [] = true
+are_rows f (e ∷ es) = suits_rows f e && are_rows (after f e) es
+
 -- ---- batches
 
 abbrev pub is_empty : List Entry → Bool
@@ -223,6 +277,10 @@ alone clients f rest = is_empty rest && is_settled clients f
 -- at most MAX_STEPS entries, each the next step
 abbrev pub is_settling : Meaning → Facts → List Entry → Bool
 is_settling clients f es = nat_le (length es) MAX_STEPS && settles clients f es
+
+-- at most MAX_ROWS rows and wanted ids in a brief account
+abbrev pub is_rows : Meaning → Facts → List Entry → Bool
+is_rows clients f es = is_opening f.start && (is_settled clients f && (nat_le (length es) MAX_ROWS && are_rows f es))
 
 -- whether a batch may follow a journal of these facts
 abbrev pub allows : Meaning → Facts → List Entry → Bool
@@ -239,6 +297,10 @@ allows clients f (entry.Deliver id ∷ rest) = is_settling clients f (entry.Deli
 allows clients f (entry.Invalid id ∷ rest) = is_settling clients f (entry.Invalid id ∷ rest)
 allows clients f (entry.Out s now what ∷ rest) =
     alone clients f rest && is_due clients f (session_at f.sessions s) now what
+allows clients f (entry.Brief n ∷ rest) = is_empty rest && is_empty_start f.start
+allows clients f (entry.Kept from m ∷ rest) = alone clients f rest && (is_opening f.start && may_keep clients f from m)
+allows clients f (entry.Tried t ∷ rest) = is_rows clients f (entry.Tried t ∷ rest)
+allows clients f (entry.Want contact id ∷ rest) = is_rows clients f (entry.Want contact id ∷ rest)
 allows clients f _ = false
 
 -- the first entry of a settling batch
@@ -247,6 +309,14 @@ is_settling_kind (entry.Judged id ∷ rest) = true
 is_settling_kind (entry.Deliver id ∷ rest) = true
 is_settling_kind (entry.Invalid id ∷ rest) = true
 is_settling_kind _ = false
+
+-- the first entry of a batch of a brief account's own kinds
+abbrev pub is_account_kind : List Entry → Bool
+is_account_kind (entry.Brief n ∷ rest) = true
+is_account_kind (entry.Kept from m ∷ rest) = true
+is_account_kind (entry.Tried t ∷ rest) = true
+is_account_kind (entry.Want contact id ∷ rest) = true
+is_account_kind _ = false
 
 -- the test of a batch says yes exactly where the batch may follow a journal of these facts
 abbrev pub AllowsIsAllowed : Type 0

@@ -10,6 +10,7 @@ use Rattle.sync_rules.specs.Facts.{Id}
 abbrev pub brings : Id → Entry → Bool
 brings id (entry.Author m) = same_id (message_id_of m) id
 brings id (entry.Arrive s m) = same_id (message_id_of m) id
+brings id (entry.Kept from m) = same_id (message_id_of m) id
 brings id _ = false
 
 -- the entry says that the message was judged

@@ -16,7 +16,10 @@ use Rattle.sync_rules.specs.declared.entries.Out.TheVariants as out
 use Rattle.sync_rules.specs.declared.entries.Level.{Level}
 use Rattle.sync_rules.specs.declared.entries.Level.TheVariants as level
 use Rattle.sync_rules.specs.declared.entries.Session.{Session}
+use Rattle.sync_rules.specs.declared.entries.Tried.{Tried}
 use Rattle.sync_rules.specs.declared.states.Origin.{Origin}
+use Rattle.sync_rules.specs.declared.states.Start.{Start}
+use Rattle.sync_rules.specs.declared.states.Start.TheVariants as start
 use Rattle.sync_rules.specs.declared.limits.TheConstants.{MAX_TRIES}
 use Rattle.sync_rules.specs.declared.states.Origin.TheVariants as origin
 use Rattle.sync_rules.specs.Lists.{same_id, is_among, without, firsts}
@@ -71,18 +74,20 @@ abbrev pub Ids : Type 0
 Ids = fin_set.FinSet id_cmp
 
 pub record Facts : Type 0 where
+  -- how the journal began
+  pub start : Start
   -- the number of contacts
   pub contacts : ℕ
   -- the groups in the order in which they were added
   pub groups : List Known
   -- the levels of the pairs that are not Invisible
   pub levels : LevelMap
-  -- the number of sessions that have begun, these sessions in the order in which they began, and for each session number
-  -- the records taken
+  -- the number of sessions that have begun, those of them that a brief account did not drop in the order in which they
+  -- began, and for each session number the records taken
   pub begun : ℕ
   pub sessions : List Session
   pub takes : fin_map.FinMap nat_cmp ℕ
-  -- the messages written here or arrived, in order
+  -- the messages written here, arrived or kept, in order
   pub held : List Held
   -- the ids of the judged and of the invalid messages
   pub judged : Ids
@@ -179,6 +184,23 @@ takes_of takes n = count_or (fin_map.get takes n)
 
 -- ---- what one more entry makes of each part
 
+-- a brief account begins an empty journal, and it goes on with contacts, groups, levels, kept messages and their settling,
+-- rows and wanted ids
+abbrev pub start_after : Start → Entry → Start
+start_after start.Empty (entry.Brief n) = start.Opening
+start_after start.Empty _ = start.Going
+start_after start.Opening (entry.Contact c) = start.Opening
+start_after start.Opening (entry.Group def) = start.Opening
+start_after start.Opening (entry.Level contact group l) = start.Opening
+start_after start.Opening (entry.Judged id) = start.Opening
+start_after start.Opening (entry.Deliver id) = start.Opening
+start_after start.Opening (entry.Invalid id) = start.Opening
+start_after start.Opening (entry.Kept o m) = start.Opening
+start_after start.Opening (entry.Tried t) = start.Opening
+start_after start.Opening (entry.Want contact id) = start.Opening
+start_after start.Opening _ = start.Going
+start_after start.Going _ = start.Going
+
 abbrev pub contacts_after : ℕ → Entry → ℕ
 contacts_after n (entry.Contact c) = n + 1
 contacts_after n _ = n
@@ -201,6 +223,7 @@ levels_after levels _ = levels
 
 abbrev pub begun_after : ℕ → Entry → ℕ
 begun_after n (entry.Session s) = n + 1
+begun_after n (entry.Brief m) = n + m
 begun_after n _ = n
 
 abbrev pub sessions_after : List Session → Entry → List Session
@@ -217,9 +240,13 @@ authored m = record { id = message_id_of m; message = m; origin = origin.Author 
 abbrev pub arrived : ℕ → MessageValue → Held
 arrived contact m = record { id = message_id_of m; message = m; origin = origin.From contact }
 
+abbrev pub kept_as : Origin → MessageValue → Held
+kept_as from m = record { id = message_id_of m; message = m; origin = from }
+
 abbrev pub held_after : List Session → List Held → Entry → List Held
 held_after sessions held (entry.Author m) = held ++ authored m ∷ []
 held_after sessions held (entry.Arrive s m) = held ++ arrived (contact_of sessions s) m ∷ []
+held_after sessions held (entry.Kept from m) = held ++ kept_as from m ∷ []
 held_after sessions held _ = held
 
 abbrev pub judged_after : Ids → Entry → Ids
@@ -280,6 +307,20 @@ row_offered now latency r = record r { tries = one_more_try r.tries; expiry = ex
 abbrev pub row_sent : ℕ → ℕ → Row → Row
 row_sent now latency r = record r { asked = false; tries = one_more_try r.tries; expiry = expiry_after now latency (one_more_try r.tries) }
 
+-- the time from which a message may be sent again, for one that was tried so often
+abbrev pub wait_for : ℕ → ℕ → ℕ
+wait_for tries expiry = cond (nat_eq tries 0) 0 expiry
+
+-- what is kept of a row takes its place; only what the contact has stays what it has
+abbrev pub row_tried : Tried → Row → Row
+row_tried t r = record {
+  seen = t.seen || r.seen;
+  owed = t.owed;
+  asked = t.asked;
+  tries = min MAX_TRIES t.tries;
+  expiry = wait_for t.tries t.expiry;
+}
+
 abbrev pub rows_after_out : Rows → ℕ → ℕ → ℕ → Out → Rows
 rows_after_out rows contact now latency (out.Acks ids) = change_rows rows contact (firsts ids) row_acked
 rows_after_out rows contact now latency (out.Requests ids) = rows
@@ -292,6 +333,7 @@ rows_after sessions rows (entry.Again s id) = change_row rows (contact_of sessio
 rows_after sessions rows (entry.Seen s id) = change_row rows (contact_of sessions s) id row_seen
 rows_after sessions rows (entry.Asked s id) = change_row rows (contact_of sessions s) id row_asked
 rows_after sessions rows (entry.Out s now what) = rows_after_out rows (contact_of sessions s) now (latency_of sessions s) what
+rows_after sessions rows (entry.Tried t) = change_row rows t.contact t.id (row_tried t)
 rows_after sessions rows _ = rows
 
 -- ---- wanted ids
@@ -325,12 +367,16 @@ wanted_after sessions held wanted (entry.Arrive s m) = wanted_by_none wanted (me
 wanted_after sessions held wanted (entry.Offered s id) =
     fin_map.insert wanted (contact_of sessions s) (with_want (is_held held id) (wanted_from wanted (contact_of sessions s)) id)
 wanted_after sessions held wanted (entry.Out s now what) = wanted_after_out wanted (contact_of sessions s) what
+wanted_after sessions held wanted (entry.Kept from m) = wanted_by_none wanted (message_id_of m)
+wanted_after sessions held wanted (entry.Want contact id) =
+    fin_map.insert wanted contact (with_want (is_held held id) (wanted_from wanted contact) id)
 wanted_after sessions held wanted _ = wanted
 
 -- ---- the facts
 
 abbrev pub nothing : Facts
 nothing = record {
+  start = start.Empty;
   contacts = 0;
   groups = [];
   levels = fin_map.empty;
@@ -348,6 +394,7 @@ nothing = record {
 -- the facts after one more entry
 abbrev pub after : Facts → Entry → Facts
 after f e = record {
+  start = start_after f.start e;
   contacts = contacts_after f.contacts e;
   groups = groups_after f.groups e;
   levels = levels_after f.levels e;

@@ -6,6 +6,8 @@ use Rattle.sync_ids.specs.declared.records.Record.{Record}
 use Rattle.sync_rules.specs.declared.entries.Entry.{Entry}
 use Rattle.sync_rules.specs.declared.entries.Entry.TheVariants as entry
 use Rattle.sync_rules.specs.declared.entries.Session.{Session}
+use Rattle.sync_rules.specs.declared.states.Start.{Start}
+use Rattle.sync_rules.specs.declared.states.Start.TheVariants as start
 use Rattle.sync_rules.specs.Facts.{Facts, Held, Id, Known, after, after_all, group_at, held_at, is_held, session_at, takes_of}
 use Rattle.sync_rules.specs.Output.{first_records, records_of}
 
@@ -81,10 +83,18 @@ leaves_steps (entry.Arrive s m) = false
 leaves_steps (entry.Judged id) = false
 leaves_steps (entry.Deliver id) = false
 leaves_steps (entry.Invalid id) = false
+leaves_steps (entry.Kept from m) = false
 leaves_steps _ = true
+
+-- the journal has an entry
+abbrev pub IsBegun : Start → Type 0
+IsBegun start.Empty = ⊥
+IsBegun start.Opening = Unit {0}
+IsBegun start.Going = Unit {0}
 
 -- all but what settling changes is the same
 pub record OnlySettles (f later : Facts) : Type 0 where
+  pub start : IsBegun f.start → later.start ≡ f.start
   pub contacts : later.contacts ≡ f.contacts
   pub groups : later.groups ≡ f.groups
   pub levels : later.levels ≡ f.levels

@@ -44,6 +44,7 @@ held_names (entry.Again s id) = id ∷ []
 held_names (entry.Seen s id) = id ∷ []
 held_names (entry.Asked s id) = id ∷ []
 held_names (entry.Out s now what) = held_named what
+held_names (entry.Tried t) = t.id ∷ []
 held_names _ = []
 
 -- whatever a batch names so is held before it

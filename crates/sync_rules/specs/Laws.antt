@@ -1,5 +1,5 @@
 -- The laws of legal journals.
-use Rattle.std.specs.Prelude.{◌≡◌, ◌↔◌, ℕ, ◌≤◌, Bool, true, false, ◌&&◌, List, ◌∷◌, ◌++◌, length, count_by, Some, is_some}
+use Rattle.std.specs.Prelude.{◌≡◌, ◌↔◌, ◌⊎◌, ℕ, ◌≤◌, Bool, true, false, ◌&&◌, List, ◌∷◌, ◌++◌, length, count_by, Some, is_some}
 use Rattle.std.specs.List.{list_any, list_all}
 use Rattle.sync_ids.specs.Values.{MessageValue}
 use Rattle.sync_ids.specs.Ids.{message_id_of}
@@ -17,7 +17,7 @@ use Rattle.sync_rules.specs.EntryTests.{brings, judges, delivers, ends}
 
 -- ---- once
 
--- each id has at most one Author or Arrive entry
+-- each id has at most one Author, Arrive or Kept entry
 abbrev pub BringsOnce : List (List Entry) → Type 0
 BringsOnce journal = (id : Id) → count_by (brings id) (entries_of journal) ≤ 1
 
@@ -65,9 +65,15 @@ pub record IsFrom (entries : List Entry) (m : MessageValue) (contact : ℕ) : Ty
   pub same_contact : contact_of (after_all nothing before).sessions session ≡ contact
   pub shown : is_invisible (level_at (after_all nothing before).levels contact m.group) ≡ false
 
+-- the message stands in a Kept entry with this origin: in the journal that the brief account stands for it came so
+pub record IsKept (entries : List Entry) (m : MessageValue) (from : Origin) : Type 0 where
+  pub before : List Entry
+  pub behind : List Entry
+  pub stands : entries ≡ before ++ entry.Kept from m ∷ behind
+
 abbrev pub CameSo : List Entry → MessageValue → Origin → Type 0
-CameSo entries m origin.Author = IsAuthored entries m
-CameSo entries m (origin.From contact) = IsFrom entries m contact
+CameSo entries m origin.Author = IsAuthored entries m ⊎ IsKept entries m origin.Author
+CameSo entries m (origin.From contact) = IsFrom entries m contact ⊎ IsKept entries m (origin.From contact)
 
 -- each held message has its own id and the origin that its entry shows
 pub record HasOrigin (entries : List Entry) (h : Held) : Type 0 where

@@ -4,13 +4,14 @@ use Rattle.sync_ids.specs.Values.{MessageValue}
 use Rattle.sync_ids.specs.Ids.{message_id_of}
 use Rattle.sync_rules.specs.declared.entries.Entry.{Entry}
 use Rattle.sync_rules.specs.declared.entries.Entry.TheVariants as entry
+use Rattle.sync_rules.specs.declared.states.Start.TheVariants as start
 use Rattle.sync_rules.specs.declared.limits.TheConstants.{MAX_CONTACTS, MAX_WANTED}
 use Rattle.sync_rules.specs.Clients.{Meaning}
 use Rattle.sync_rules.specs.Lists.{is_among}
 use Rattle.sync_rules.specs.Facts.{Facts, Id, after, after_all, nothing, entries_of, group_at, is_held, session_at, contact_of, level_at, is_invisible, takes_of, wanted_from}
 use Rattle.sync_rules.specs.Steps.{IsSettled, next}
 use Rattle.sync_rules.specs.Sessions.{is_shown}
-use Rattle.sync_rules.specs.Legal.{IsDue, MayAddGroup, MayAuthor, MayBegin}
+use Rattle.sync_rules.specs.Legal.{IsDue, MayAddGroup, MayAuthor, MayBegin, MayKeep, MayRestore, MayWant}
 
 -- a message that comes in on a session: the session and the message's group are known, its id is not held, and the group is
 -- not Invisible to the session's contact
@@ -34,7 +35,7 @@ pub record IsNamedNew (f : Facts) (session : ℕ) (id : Id) : Type 0 where
   pub not_wanted : is_among (wanted_from f.wanted (contact_of f.sessions session)) id ≡ false
   pub few : length (wanted_from f.wanted (contact_of f.sessions session)) < MAX_WANTED
 
--- each entry but a step stands where no step is open
+-- each entry but a step and the first of a brief account stands where no step is open
 abbrev pub Meets : Meaning → Facts → Entry → Type 0
 Meets clients f (entry.Contact c) = IsSettled clients f × (c ≡ f.contacts) × (c < MAX_CONTACTS)
 Meets clients f (entry.Group def) = IsSettled clients f × MayAddGroup clients f def
@@ -51,6 +52,10 @@ Meets clients f (entry.Offered s id) = IsSettled clients f × IsNamedNew f s id
 Meets clients f (entry.Seen s id) = IsSettled clients f × IsNamedHeld f s id
 Meets clients f (entry.Asked s id) = IsSettled clients f × IsNamedHeld f s id
 Meets clients f (entry.Out s now what) = IsSettled clients f × IsDue clients f (session_at f.sessions s) now what
+Meets clients f (entry.Brief n) = f.start ≡ start.Empty
+Meets clients f (entry.Kept from m) = IsSettled clients f × (f.start ≡ start.Opening) × MayKeep clients f from m
+Meets clients f (entry.Tried t) = IsSettled clients f × (f.start ≡ start.Opening) × MayRestore f t
+Meets clients f (entry.Want contact id) = IsSettled clients f × (f.start ≡ start.Opening) × MayWant f contact id
 
 -- entries of which each meets this behind those before it
 abbrev pub AllMeet : Meaning → Facts → List Entry → Type 0

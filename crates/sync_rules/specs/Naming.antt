@@ -42,6 +42,8 @@ BringsWithin (entry.Author m) = IsMessage m
 BringsWithin (entry.Arrive s m) = IsMessage m
 BringsWithin (entry.Offered s id) = length id ≡ 32
 BringsWithin (entry.Session s) = IsWholeNonce s.nonce
+BringsWithin (entry.Kept from m) = IsMessage m
+BringsWithin (entry.Want contact id) = length id ≡ 32
 BringsWithin _ = Unit {0}
 
 -- held messages, wanted ids and nonces are within their limits

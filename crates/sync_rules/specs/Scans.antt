@@ -16,6 +16,7 @@ use Rattle.sync_rules.specs.Steps.{step, first_or_next}
 abbrev pub message_of : Entry → Option MessageValue
 message_of (entry.Author m) = Some m
 message_of (entry.Arrive s m) = Some m
+message_of (entry.Kept from m) = Some m
 message_of _ = None
 
 -- the definition that an entry adds

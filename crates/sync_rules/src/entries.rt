@@ -3,6 +3,7 @@ ghost use Rattle.std.specs.Prelude.{◌≡◌, ◌≤◌, ◌↔◌, [], ◌∷�
 
 use std::alloc::{AllocError, Global};
 use std::marker::Model;
+use crate::states::Origin;
 use sync_ids::{GroupDef, GroupId, IdList, MAX_IDS, Message, MessageId, Nonce};
 
 /// How far a contact sees a group (BSP, "Group visibility").
@@ -53,7 +54,28 @@ pub enum Out {
     Send(MessageId),
 }
 
-/// An entry of a journal.
+/// What is kept of a message for a contact once the history of its sessions is dropped, as a brief
+/// account of a journal states it.
+#[derive(Clone, Copy, Debug, PartialEq, Eq)]
+pub struct Tried {
+    /// The contact.
+    pub contact: u8,
+    /// The message's id.
+    pub id: MessageId,
+    /// The contact has the message.
+    pub seen: bool,
+    /// The message waits for our acknowledgement to the contact.
+    pub owed: bool,
+    /// The contact asked for the message.
+    pub asked: bool,
+    /// How often the message was sent or offered to the contact since, at most `MAX_TRIES`.
+    pub tries: u8,
+    /// The time in milliseconds from which it may be sent or offered again, 0 where `tries` is 0.
+    pub expiry: u64,
+}
+
+/// An entry of a journal. The last four kinds stand in a brief account alone, which begins a
+/// journal in place of a longer one.
 #[derive(Debug, Drop)]
 pub enum Entry {
     /// A contact was added, with this number.
@@ -86,6 +108,14 @@ pub enum Entry {
     Asked(u32, MessageId),
     /// On this session, at this time in milliseconds, this was sent.
     Out(u32, u64, Out),
+    /// A brief account begins: so many sessions have begun and are dropped.
+    Brief(u32),
+    /// A message is held, from there.
+    Kept(Origin, Message),
+    /// This is kept of a message for a contact.
+    Tried(Tried),
+    /// This id is wanted from this contact.
+    Want(u8, MessageId),
 }
 
 /// What is committed to a journal at once: a list of one or more entries. Contracts see that list.

@@ -3,8 +3,8 @@
 ghost use Rattle.std.specs.Prelude.{◌≡◌, ℕ, List, true};
 ghost use Rattle.sync_rules.specs.Allows.{AllowsIsAllowed};
 ghost use Rattle.sync_rules.specs.Clients.{Meaning};
-ghost use Rattle.sync_rules.specs.CountLaws.{BatchesKeepBegun, EntriesKeepBegun, EntryKeepsBegun};
-ghost use Rattle.sync_rules.specs.CountLaws.{JournalsListBegun, LeftIsBounded, StepLowersLeft};
+ghost use Rattle.sync_rules.specs.CountLaws.{EntriesKeepBegun, EntryKeepsBegun, JournalsCountBegun};
+ghost use Rattle.sync_rules.specs.CountLaws.{LeftIsBounded, StepLowersLeft};
 ghost use Rattle.sync_rules.specs.CountLaws.{StepsLowerLeft};
 ghost use Rattle.sync_rules.specs.Facts.{Extends, entries_of, facts};
 ghost use Rattle.sync_rules.specs.Laws.{BringsOnce, Decides, EndsOnce, HasOrigin, HasOwnOrigin};
@@ -20,7 +20,7 @@ ghost use Rattle.sync_rules.specs.declared.entries.Entry.{Entry};
 
 use sync_ids::message_ids_are_whole;
 
-/// Once: in a legal journal each id has at most one Author or Arrive entry, at most one Judged
+/// Once: in a legal journal each id has at most one Author, Arrive or Kept entry, at most one Judged
 /// entry, and at most one of Deliver and Invalid.
 pub fn once()
     ensures brings { (clients : Meaning) (j : List (List Entry)) → Legal clients j → BringsOnce j }
@@ -35,8 +35,9 @@ pub fn order()
     ensures { (clients : Meaning) (j : List (List Entry)) → Legal clients j → IsInOrder clients j }
 {}
 
-/// Origin: in a legal journal each held message stands in an Author entry, or in an Arrive entry of
-/// a session whose contact had a level other than Invisible for the message's group at that place.
+/// Origin: in a legal journal each held message stands in an Author entry, in an Arrive entry of a
+/// session whose contact had a level other than Invisible for the message's group at that place, or
+/// in a Kept entry with its origin.
 pub fn origin()
     ensures { (clients : Meaning) (j : List (List Entry)) → Legal clients j → HasOwnOrigin j }
 {}
@@ -79,55 +80,54 @@ pub fn shown()
 {}
 
 /// Seen: a contact has a message exactly where there is an Arrive, Again or Seen entry of it on a
-/// session with the contact. This law and the next five hold over every list of batches, legal or
+/// session with the contact, or a Tried entry of the pair that says so. This law and the next five hold over every list of batches, legal or
 /// not.
 pub fn seen()
     ensures { (j : List (List Entry)) → SeenLaw (entries_of j) }
 {}
 
 /// Owed: an acknowledgement is owed exactly where the last entry among the message's Arrive and
-/// Again entries on sessions with the contact and the Out entries to it whose Acks name the message
-/// is an Arrive or Again.
+/// Again entries on sessions with the contact, the Out entries to it whose Acks name the message,
+/// and the Tried entries of the pair is an Arrive, an Again, or a Tried that says so.
 pub fn owed()
     ensures { (j : List (List Entry)) → OwedLaw (entries_of j) }
 {}
 
 /// Wanted: an id is wanted from a contact exactly where it is not held and the last entry among its
-/// Offered entries on sessions with the contact and the Out entries to it whose Requests name it is
-/// an Offered.
+/// Offered entries on sessions with the contact, its Want entries for the contact, and the Out
+/// entries to it whose Requests name it is an Offered or a Want.
 pub fn wanted()
     ensures { (j : List (List Entry)) → WantedLaw (entries_of j) }
 {}
 
 /// Asked: a contact asks for a message exactly where the last entry among the message's Asked
-/// entries on sessions with the contact and the Out entries that send it the message is an Asked.
+/// entries on sessions with the contact, the Out entries that send it the message, and the Tried
+/// entries of the pair is an Asked, or a Tried that says so.
 pub fn asked()
     ensures { (j : List (List Entry)) → AskedLaw (entries_of j) }
 {}
 
 /// Tries: the number of Out entries to the contact that send or offer the message, after the last
-/// Asked entry of the pair or of all where there is none, cut at 64. There is always such a place
-/// behind the last Asked entry.
+/// Asked or Tried entry of the pair or of all where there is none, and the tries that this Tried
+/// states, cut at 64. There is always such a place behind the last Asked or Tried entry.
 pub fn tries()
     ensures count { (j : List (List Entry)) → TriesLaw (entries_of j) }
     ensures cut { (j : List (List Entry)) → CutLaw (entries_of j) }
 {}
 
-/// Expiry: 0 where no entry counts for tries, and otherwise by the last Out entry that counts, its
-/// time, the latency of its session and the tries.
+/// Expiry: where no Out entry counts for tries, what the last Tried entry states, and else 0; and
+/// otherwise by the last Out entry that counts, its time, the latency of its session and the tries.
 pub fn expiry()
     ensures none { (j : List (List Entry)) → NoExpiryLaw (entries_of j) }
     ensures last { (j : List (List Entry)) → ExpiryLaw (entries_of j) }
 {}
 
-/// Begun: the number of sessions that have begun is that of the sessions in the list. An entry,
-/// some entries and some batches keep it in any facts, and it holds of every list of batches, legal
-/// or not.
+/// Begun: in every list of batches, legal or not, no more sessions are in the list than have begun.
+/// Where the two numbers are the same, they stay so behind entries that begin no brief account.
 pub fn begun()
     ensures entry { EntryKeepsBegun }
     ensures entries { EntriesKeepBegun }
-    ensures batches { BatchesKeepBegun }
-    ensures journals { JournalsListBegun }
+    ensures journals { JournalsCountBegun }
 {}
 
 /// Left: in any facts the next step leaves one step fewer, so steps one after the other leave as

@@ -5,7 +5,7 @@
 //!
 //! - `entries`: the entries of a journal and its batches; `comparing` tells whether two are equal.
 //! - `limits`: the limits that a legal journal keeps.
-//! - `states`: what is said of a message, and why a command is refused.
+//! - `states`: what is said of a message, how a journal began, and why a command is refused.
 //! - `answers`: what a client says of a group's messages.
 //! - `view`: what a session may ask of a store.
 //! - `lookups`, `steps`: the facts and the next step of a list of batches, by plain scans.
@@ -25,9 +25,10 @@ mod view;
 
 pub use answers::{Clients, DepFault, DepList, Judgement};
 pub use comparing::{ids_named, same_entries, same_entry, same_out};
-pub use entries::{Batch, EmptyBatch, Entry, Level, Mode, Out, Session};
-pub use limits::{MAX_CONTACTS, MAX_DEPS, MAX_GROUPS, MAX_STEPS, MAX_TRIES, MAX_WANTED};
+pub use entries::{Batch, EmptyBatch, Entry, Level, Mode, Out, Session, Tried};
+pub use limits::{MAX_CONTACTS, MAX_DEPS, MAX_GROUPS, MAX_ROWS, MAX_SESSIONS, MAX_STEPS};
+pub use limits::{MAX_TRIES, MAX_WANTED};
 pub use lookups::{fate_in, id_of, level_in};
-pub use states::{Fate, Origin, Refused};
+pub use states::{Fate, Origin, Refused, Start};
 pub use steps::next_step_in;
 pub use view::View;

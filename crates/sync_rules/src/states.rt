@@ -1,4 +1,4 @@
-//! What is said of a message, and why a command is refused.
+//! What is said of a message, how a journal began, and why a command is refused.
 
 /// The state of a held message (BSP, "Message validation and delivery").
 #[derive(Clone, Copy, Debug, PartialEq, Eq)]
@@ -20,6 +20,18 @@ pub enum Origin {
     Author,
     /// It came from the contact of this number.
     From(u8),
+}
+
+/// How a journal began: with nothing yet, with a brief account to which nothing else was added, or
+/// otherwise.
+#[derive(Clone, Copy, Debug, PartialEq, Eq)]
+pub enum Start {
+    /// It has no entry.
+    Empty,
+    /// It is a brief account so far, so more of the account may follow.
+    Opening,
+    /// It has an entry that is none of a brief account.
+    Going,
 }
 
 /// Why a command is refused. The journal is then as it was.
