@@ -9,15 +9,15 @@ use Rattle.sync_rules.specs.Left.{left_of}
 use Rattle.sync_rules.specs.Steps.{next}
 use Rattle.brief_account.specs.Brief.{account_with}
 
-mutual
-  -- at most this many next steps, one after the other
-  abbrev pub cascade : Meaning → ℕ → Facts → List Entry
-  cascade clients zero g = []
-  cascade clients (suc n) g = steps_from clients n g (next clients g)
+-- the open step, and what further steps there are then
+abbrev pub steps_from : (Facts → List Entry) → Facts → Option Entry → List Entry
+steps_from further g None = []
+steps_from further g (Some e) = e ∷ further (after g e)
 
-  abbrev pub steps_from : Meaning → ℕ → Facts → Option Entry → List Entry
-  steps_from clients n g None = []
-  steps_from clients n g (Some e) = e ∷ cascade clients n (after g e)
+-- at most this many next steps, one after the other
+abbrev pub cascade : Meaning → ℕ → Facts → List Entry
+cascade clients zero g = []
+cascade clients (suc n) g = steps_from (cascade clients n) g (next clients g)
 
 -- all steps that are open, one after the other
 abbrev pub settling_of : Meaning → Facts → List Entry
