@@ -1,3 +1,4 @@
 pub mod Account
+pub mod Batches
 pub mod Brief
 pub mod Laws

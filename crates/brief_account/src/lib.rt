@@ -2,6 +2,7 @@
 //! that are over. Its laws are the contracts of functions that do nothing, over every journal and
 //! over every meaning of the clients.
 #![tactic(auto)]
+
 ghost use Rattle.brief_account.specs.Laws.{BriefIsByFacts, BriefKeepsFacts};
 
 /// Keeps: the brief account of a legal and settled journal is legal and settled, and its facts are

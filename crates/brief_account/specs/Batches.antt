@@ -1,0 +1,26 @@
+-- How many batches a brief account makes of entries, and what batches weigh, without making them.
+use Rattle.std.specs.Prelude.{ℕ, ◌+◌, zero, suc, Bool, cond, nat_lt, List, [], ◌∷◌}
+use Rattle.sync_rules.specs.declared.entries.Entry.{Entry}
+
+-- how many batches are being filled, where the last one has this many entries
+abbrev pub open_batches : ℕ → ℕ
+open_batches n = cond (nat_lt 0 n) 1 0
+
+-- how many batches these entries fill, `n` being the number of entries of the batch that is being filled
+abbrev pub batches : ℕ → (Entry → Bool) → ℕ → List Entry → ℕ
+batches most alone n [] = open_batches n
+batches most alone n (e ∷ es) =
+    cond (alone e) (open_batches n + (1 + batches most alone 0 es))
+    (cond (nat_lt n most) (batches most alone (n + 1) es) (1 + batches most alone 1 es))
+
+-- ---- weights
+
+-- what entries weigh, each weighing so much
+abbrev pub entries_weigh : (Entry → ℕ) → List Entry → ℕ
+entries_weigh weight [] = 0
+entries_weigh weight (e ∷ es) = weight e + entries_weigh weight es
+
+-- what batches weigh, each with a frame of this weight
+abbrev pub weighs : (Entry → ℕ) → ℕ → List (List Entry) → ℕ
+weighs weight frame [] = 0
+weighs weight frame (b ∷ bs) = (frame + entries_weigh weight b) + weighs weight frame bs
