@@ -80,8 +80,8 @@ pub fn shown()
 {}
 
 /// Seen: a contact has a message exactly where there is an Arrive, Again or Seen entry of it on a
-/// session with the contact, or a Tried entry of the pair that says so. This law and the next five hold over every list of batches, legal or
-/// not.
+/// session with the contact, or a Tried entry of the pair that says so. This law and the next five
+/// hold over every list of batches, legal or not.
 pub fn seen()
     ensures { (j : List (List Entry)) → SeenLaw (entries_of j) }
 {}

@@ -56,7 +56,9 @@ pub fn message_in(entry: &Entry) -> Option<&Message>
     ensures { option_copied result ≡ message_of entry.now }
 {
     match entry {
-        Entry::Author(message) | Entry::Arrive(_, message) => Some(message),
+        Entry::Author(message) | Entry::Arrive(_, message) | Entry::Kept(_, message) => {
+            Some(message)
+        }
         _ => None,
     }
 }
