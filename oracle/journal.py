@@ -11,6 +11,8 @@ ID, NUMBER = 32, 4
 # how many bytes name a message that is held
 NAMED = {WHOLE: ID, SHORT: NUMBER}
 ACKS, REQUESTS, OFFERS, SEND = range(4)
+# how many bytes stand before the message that an entry brings
+BEHIND = {6: 0, 7: 4, 17: 2}
 
 
 def format_of(content):
@@ -38,6 +40,8 @@ def journal_of(content):
 def length_of(payload, at, spelled):
     """How many bytes the entry at a place of a payload has behind its tag, in this format."""
     tag, named = payload[at], NAMED[spelled]
+    if tag in (16, 18, 19):
+        return {16: 4, 18: 1 + named + 10, 19: 1 + ID}[tag]
     if tag in (1, 3, 5, 12):
         return {1: 1, 3: 34, 5: 12, 12: 4 + ID}[tag]
     if tag in (8, 9, 10):
@@ -51,8 +55,8 @@ def length_of(payload, at, spelled):
         return 1 + name + 4 + 2 + descriptor
     if tag == 4:
         return 11 + 16 * payload[at + 10]
-    if tag in (6, 7):
-        front = 40 if tag == 6 else 44
+    if tag in (6, 7, 17):
+        front = 40 + BEHIND[tag]
         body, = struct.unpack_from('>H', payload, at + front)
         return front + 2 + body
     if tag == 15:
@@ -74,10 +78,10 @@ def entries(payload, spelled):
 
 def id_in(tag, rest):
     """The id of the message that an entry brings, or None."""
-    if tag not in (6, 7):
+    if tag not in BEHIND:
         return None
-    group, time, _ = struct.unpack_from('>32sQH', rest, 4 * (tag == 7))
-    return message_id(group, time, rest[4 * (tag == 7) + 42:])
+    group, time, _ = struct.unpack_from('>32sQH', rest, BEHIND[tag])
+    return message_id(group, time, rest[BEHIND[tag] + 42:])
 
 
 def named_places(tag, rest, spelled):
@@ -86,6 +90,8 @@ def named_places(tag, rest, spelled):
         return range(1)
     if tag in (11, 13, 14):
         return range(4, 5)
+    if tag == 18:
+        return range(1, 2)
     if tag == 15 and rest[12] == SEND:
         return range(13, 14)
     if tag == 15 and rest[12] != REQUESTS:
@@ -100,11 +106,11 @@ def respelled(payloads, before, after):
         said = b''
         for tag, rest in entries(payload, before):
             places = named_places(tag, rest, before)
-            front = rest[:places[0]] if places else rest
+            front, tail = (rest[:places[0]], rest[places[-1] + NAMED[before]:]) if places else (rest, b'')
             names = [rest[place:place + NAMED[before]] for place in places]
             numbers = [places_of[name] if before == WHOLE else int.from_bytes(name, 'big') for name in names]
             told = [held[number] if after == WHOLE else struct.pack('>I', number) for number in numbers]
-            said += bytes([tag]) + front + b''.join(told)
+            said += bytes([tag]) + front + b''.join(told) + tail
         for id in [id for tag, rest in entries(payload, before) if (id := id_in(tag, rest))]:
             places_of[id] = len(held)
             held.append(id)
@@ -141,6 +147,11 @@ def out_of(rest, named):
     return 'out', number(rest[:4]), number(rest[4:12]), ('acks', 'requests', 'offers', 'send')[kind], ids
 
 
+def tried_of(rest, named):
+    flags = rest[5]
+    return 'tried', rest[0], named(rest[1:5]), bool(flags & 1), bool(flags & 2), bool(flags & 4), rest[6], number(rest[7:])
+
+
 def group_of(rest):
     end = 1 + rest[0]
     return 'group', rest[1:end], number(rest[end:end + 4]), rest[end + 6:]
@@ -168,4 +179,8 @@ def entry_of(tag, rest, named):
         6: lambda: ('author', message_of(rest)),
         7: lambda: ('arrive', number(rest[:4]), message_of(rest[4:])),
         15: lambda: out_of(rest, named),
+        16: lambda: ('brief', number(rest)),
+        17: lambda: ('kept', rest[1] if rest[0] else 'self', message_of(rest[2:])),
+        18: lambda: tried_of(rest, named),
+        19: lambda: ('want', rest[0], rest[1:]),
     }[tag]()

@@ -303,7 +303,7 @@ class Drawn:
             say('clock %d' % now)
         say(' '.join(words))
 
-    def play(self):
+    def play(self, after_run=()):
         contacts(self.contacts)
         for name, gid in (('note', NOTES), ('thread', THREADS), ('feed', FEEDS)):
             if self.draw.random() < 0.9:
@@ -311,6 +311,7 @@ class Drawn:
                                    for c in range(self.contacts)])
         for _ in range(self.draw.randint(1, 3)):
             self.run()
+            say(*after_run)
 
 
 def old_file(person, generation=1):
@@ -347,6 +348,78 @@ def old_stores():
     say('stops sync 5 2 0 batch 1000 std')
 
 
+# ---- journals in whose place a brief account is put
+
+def compacted():
+    case('a note is compacted, and the account is the longer one')
+    contacts(1)
+    say('do group note 0 d')
+    post(NOTES, 0, b'x')
+    say('compact', 'states', 'compact')
+
+    case('a note that was sent is compacted: it is sent again when it is due')
+    one_contact()
+    post(NOTES, 0, b'x')
+    for now in (1000, 1000, 3000):
+        say('end 0 1', 'clock %d' % now, 'sync 10 1 0 batch 1000 std')
+        if now == 1000:
+            say('compact', 'states')
+
+    case('an acknowledgement that is owed stays owed')
+    one_contact('visible')
+    say('got 0 ' + message(NOTES, 3, b'hello').hex() + '01', 'sync 3 1 0 batch 1000 std', 'compact', 'states')
+    say('end 0 1', 'sync 3 1 0 batch 1000 std')
+
+    case('what two contacts offered stays wanted, and is requested in order')
+    contacts(2)
+    for contact, first in ((0, 0), (1, 500)):
+        say('got 0 ' + ids_record(2, some_ids(first, 1536)).hex(), 'sync 2 1 %d batch 1000 std' % contact)
+    say('compact', 'idle 0 3', 'idle 1 3', 'sync 9 1 1 interactive 9 std 0 interactive 9 listen:x')
+
+    case('requests, tries and waits go on')
+    one_contact()
+    ids = [post(NOTES, n, b'%d' % n) for n in range(4)]
+    say('idle 0 9', 'clock 1000', 'sync 2 1 0 interactive 1000 listen:x')
+    say('got 0 ' + ids_record(3, ids[1:3]).hex() + ids_record(0, ids[3:]).hex() + '01', 'clock 1500')
+    say('sync 2 1 0 interactive 1000 listen:x', 'compact')
+    for now in (2000, 2999, 3000, 9000):
+        say('idle 0 9', 'clock %d' % now, 'sync 2 1 0 interactive 1000 listen:x')
+    say('compact', 'idle 0 9', 'clock 10000', 'sync 9 1 0 batch 1000 std', 'compact')
+
+    case('599 replies before their root, compacted')
+    contacts(1)
+    group('thread', THREADS, (0, 'visible'))
+    root = reply([], b'root')
+    for n in range(599):
+        say('got 0 ' + message(THREADS, 1 + n, reply([message_id(THREADS, 0, root)], b'')).hex())
+    say('got 0 ' + message(THREADS, 0, root).hex(), 'end 0 1', 'sync 700 1 0 batch 1000 std', 'compact', 'compact')
+
+    case('messages that wait for each other are compacted, and refused ones')
+    contacts(2)
+    group('thread', THREADS, (0, 'shared'), (1, 'shared'))
+    bad = reply([], b'\xff')
+    second = reply([message_id(THREADS, 1, bad)], b'b')
+    waits = reply([message_id(THREADS, 9, b'unknown')], b'w')
+    for time, body in ((2, second), (1, bad), (4, waits)):
+        say('got 0 ' + message(THREADS, time, body).hex())
+    say('idle 0 3', 'idle 1 3', 'sync 5 2 0 batch 10 std 1 batch 10 listen:x', 'compact', 'states')
+    say('do share 1 %s invisible' % THREADS.hex(), 'compact', 'end 0 1', 'sync 3 1 0 batch 10 std')
+
+    case('a store of format 1 is compacted')
+    say(old_file(heard()), 'compact', 'states', 'idle 0 3', 'clock 200000', 'sync 3 2 0 interactive 1000 std')
+
+    for generation in (2 ** 64 - 1, 2 ** 64 - 2, 2 ** 64 - 3):
+        case('a store of format 1 and the generation %d' % generation)
+        say(old_file(heard(), generation), 'compact', 'states')
+
+    case('as many sessions as there may be, and one fewer')
+    for number in (2 ** 32 - 1, 2 ** 32 - 2):
+        say('old ' + framed(header(2, 7), [b'\x10' + number.to_bytes(4, 'big'), b'\x01\x00']).hex())
+        for links in ('0 batch 1 std', '0 batch 1 std 0 batch 1 listen:x'):
+            say('end 0 1', 'sync 1 1 ' + links)
+        say('compact')
+
+
 def main():
     named()
     crossed()
@@ -356,6 +429,10 @@ def main():
     for seed in range(40):
         case('drawn %d' % seed)
         Drawn(seed).play()
+    compacted()
+    for seed in range(40, 70):
+        case('drawn %d, compacted behind each run' % seed)
+        Drawn(seed).play(['compact', 'states'])
 
 
 if __name__ == '__main__':

@@ -4,14 +4,16 @@ the proved one and sharing nothing with it: its digest is hashlib's, its rules l
 
 `run_model.py CASES` plays the cases of a file, as the program test_runs does, and prints what that program must
 print. What a case is stands in crates/test_runs/src/main.rt."""
+import copy
 import hashlib
 import sys
 
 from digests import group_id, message_id
-from journal import SHORT, WHOLE, entries, entry_of, frames, number, respelled
-from store_file import CLOSED, HEADER, NEXT_HEADER, OPEN, framed
+from journal import SHORT, WHOLE, entries, entry_of, format_of, frames, number, respelled
+from store_file import CLOSED, HEADER, OPEN, framed, header
 
 MAX64 = 2**64 - 1
+MAX_STEPS, MAX_ROWS = 256, 1000
 
 
 # ---- clients
@@ -59,7 +61,9 @@ class Journal:
         self.contacts = 0
         self.groups = []
         self.levels = {}
-        self.sessions = []
+        # the number of sessions, and those that are live, by number
+        self.begun = 0
+        self.sessions = {}
         self.takes = {}
         self.held, self.places = [], {}
         self.judged, self.invalid, self.delivered = set(), set(), []
@@ -110,20 +114,29 @@ class Journal:
         elif kind == 'level':
             self.levels[(rest[0], rest[1])] = rest[2]
         elif kind == 'session':
-            self.sessions.append(rest)
+            self.sessions[rest[0]] = rest
+            self.begun += 1
+        elif kind == 'brief':
+            self.begun += rest[0]
         elif kind == 'take':
             self.takes[rest[0]] = rest[1] + 1
-        elif kind in ('author', 'arrive'):
-            contact = None if kind == 'author' else self.sessions[rest[0]][1]
-            held = Held(*rest[-1], 'self' if contact is None else contact)
+        elif kind in ('author', 'arrive', 'kept'):
+            origin = {'author': lambda: 'self', 'arrive': lambda: self.sessions[rest[0]][1], 'kept': lambda: rest[0]}[kind]()
+            held = Held(*rest[-1], origin)
             self.places[held.id] = len(self.held)
             self.held.append(held)
             for wants in self.wanted.values():
                 if held.id in wants:
                     wants.remove(held.id)
-            if contact is not None:
-                row = self.row(contact, held.id)
+            if kind == 'arrive':
+                row = self.row(origin, held.id)
                 row.seen = row.owed = True
+        elif kind == 'tried':
+            contact, id_, seen, owed, asked, tries, expiry = rest
+            row = self.row(contact, id_)
+            row.seen, row.owed, row.asked, row.tries, row.expiry = row.seen or seen, owed, asked, tries, expiry
+        elif kind == 'want':
+            self.wants(rest[0]).append(rest[1])
         elif kind == 'judged':
             self.judged.add(rest[0])
         elif kind == 'deliver':
@@ -154,7 +167,7 @@ class Journal:
             elif what == 'requests':
                 self.wants(contact).remove(id_)
             else:
-                row.tries += 1
+                row.tries = min(row.tries + 1, 64)
                 row.expiry = min(now + 2 * latency * 2**(row.tries - 1), MAX64)
                 if what == 'send':
                     row.asked = False
@@ -181,6 +194,16 @@ class Journal:
             if step:
                 return step
         return None
+
+    def settling(self):
+        """All steps that are open, in batches, each taken."""
+        batches = []
+        while step := self.next_step():
+            if not batches or len(batches[-1]) == MAX_STEPS:
+                batches.append([])
+            self.apply(step)
+            batches[-1].append(step)
+        return batches
 
     # ---- what a record is taken as
     def taken(self, session, record):
@@ -238,6 +261,34 @@ class Journal:
         return None
 
 
+# ---- the brief account of a journal
+
+def brief(journal, crossed=None):
+    """The batches of another journal with the same contacts, groups, levels, messages with their states, and what each
+    contact has seen, is owed, wants and was tried."""
+    told = Journal()
+    told.crossed = crossed
+    levels = [('level', c, g[3], journal.level(c, g[3])) for c in range(journal.contacts) for g in journal.groups
+              if journal.level(c, g[3])]
+    batches = [[e] for e in [('brief', journal.begun), *(('contact', c) for c in range(journal.contacts)),
+                             *(('group', *g[:3]) for g in journal.groups), *levels]]
+    for batch in batches:
+        told.apply(batch[0])
+    for held in journal.held:
+        kept = ('kept', held.origin, (held.group, held.timestamp, held.body))
+        told.apply(kept)
+        batches.append([kept])
+        batches += told.settling()
+    rows = []
+    for contact in range(journal.contacts):
+        for held in journal.held:
+            row = journal.row(contact, held.id)
+            if row.seen or row.owed or row.asked or row.tries:
+                rows.append(('tried', contact, held.id, row.seen, row.owed, row.asked, row.tries, row.expiry))
+        rows += [('want', contact, id_) for id_ in journal.wants(contact)]
+    return batches + [rows[at:at + MAX_ROWS] for at in range(0, len(rows), MAX_ROWS)]
+
+
 # ---- bytes of entries, of files and of records
 
 def message_bytes(message):
@@ -271,6 +322,15 @@ def entry_bytes(entry, name):
     if kind in ('again', 'offered', 'seen', 'asked'):
         tag = {'again': 11, 'offered': 12, 'seen': 13, 'asked': 14}[kind]
         return bytes([tag]) + rest[0].to_bytes(4, 'big') + (rest[1] if kind == 'offered' else name(rest[1]))
+    if kind == 'brief':
+        return b'\x10' + rest[0].to_bytes(4, 'big')
+    if kind == 'kept':
+        return (b'\x11\x00\x00' if rest[0] == 'self' else bytes([17, 1, rest[0]])) + message_bytes(rest[1])
+    if kind == 'tried':
+        contact, id_, seen, owed, asked, tries, expiry = rest
+        return bytes([18, contact]) + name(id_) + bytes([seen + 2 * owed + 4 * asked, tries]) + expiry.to_bytes(8, 'big')
+    if kind == 'want':
+        return bytes([19, rest[0]]) + rest[1]
     session, now, what, ids = rest
     head = b'\x0f' + session.to_bytes(4, 'big') + now.to_bytes(8, 'big')
     if what == 'send':
@@ -335,34 +395,56 @@ def read_one(bytes_):
 # ---- a store
 
 class Store:
-    # the file of format 1 that the journal came from, and whether it is written anew in the other one
-    old, moved = None, True
+    # the file of format 2 that a journal of format 1 is to be written anew into
+    anew = None
 
     def __init__(self):
         self.journal = Journal()
-        self.file = HEADER + CLOSED
+        # both files, and the number of the one that has the journal
+        self.files, self.at = [HEADER + CLOSED, b''], 0
 
-    def read_old(self, content):
-        """The store of a file of format 1."""
-        payloads = list(respelled((payload for _, payload in frames(content)), WHOLE, SHORT))
-        self.old, self.moved, self.file = content, False, framed(NEXT_HEADER, payloads)
+    def read(self, content):
+        """The store of a file of either format, and an empty one."""
+        payloads = [payload for _, payload in frames(content)]
+        self.files, self.at, self.anew = [content, b''], 0, None
+        if format_of(content) == WHOLE:
+            payloads = list(respelled(payloads, WHOLE, SHORT))
+            self.anew = framed(header(SHORT, min(self.generation() + 1, MAX64)), payloads)
+        self.journal = Journal()
         for payload in payloads:
             for tag, rest in entries(payload, SHORT):
                 self.journal.apply(entry_of(tag, rest, self.journal.named))
 
+    def generation(self):
+        return number(self.files[self.at][6:14])
+
+    def move_to(self, content):
+        self.at = 1 - self.at
+        self.files[self.at] = content
+
     def migrate(self):
         """Whether the journal is in format 2 then: behind the last generation there is none."""
-        self.moved = self.moved or number(self.old[6:14]) < 2 ** 64 - 1
-        return self.moved
+        if self.anew and self.generation() < MAX64:
+            self.move_to(self.anew)
+            self.anew = None
+        return self.anew is None
 
-    def files(self):
-        if self.old is None:
-            return self.file, b''
-        return self.old, self.file if self.moved else b''
+    def compact(self):
+        """The line of the command, the store being settled; None where there is no further generation."""
+        if self.generation() == MAX64:
+            return None
+        old = len(self.files[self.at])
+        batches = brief(self.journal, self.journal.crossed)
+        self.move_to(framed(header(2, self.generation() + 1), map(self.spelled, batches)))
+        self.journal.sessions, self.journal.takes = {}, {}
+        return 'compacted %d %d' % (old, len(self.files[self.at]))
+
+    def spelled(self, batch):
+        return b''.join(entry_bytes(e, self.journal.name) for e in batch)
 
     def write(self, batch):
-        payload = b''.join(entry_bytes(e, self.journal.name) for e in batch)
-        self.file = self.file[:-1] + OPEN + len(payload).to_bytes(4, 'big') + payload + CLOSED
+        payload = self.spelled(batch)
+        self.files[self.at] = self.files[self.at][:-1] + OPEN + len(payload).to_bytes(4, 'big') + payload + CLOSED
 
     def commit(self, batch):
         self.write(batch)
@@ -370,16 +452,7 @@ class Store:
             self.journal.apply(entry)
 
     def settle(self):
-        while True:
-            batch = []
-            while len(batch) < 256:
-                step = self.journal.next_step()
-                if not step:
-                    break
-                self.journal.apply(step)
-                batch.append(step)
-            if not batch:
-                return
+        for batch in self.journal.settling():
             self.write(batch)
 
 
@@ -439,7 +512,7 @@ class Run:
 
     def attach(self, nonces):
         for i, (contact, mode, latency, _) in enumerate(self.words):
-            number = len(self.store.journal.sessions)
+            number = self.store.journal.begun
             self.store.commit([('session', number, contact, mode, latency, nonces[i])])
             link = Link(number, nonces[i])
             greeting = [record_bytes(4, b'\x00')] + ([record_bytes(5, nonces[i])] if nonces[i] else [])
@@ -534,6 +607,8 @@ class Run:
         """The status and the error text."""
         if any(w[0] >= self.store.journal.contacts for w in self.words):
             return 4, 'refused: unknown contact\n'
+        if self.store.journal.begun + len(self.words) > 2 ** 32 - 1:
+            return 4, 'refused: too many sessions\n'
         nonces, failed = self.dial()
         if nonces is None:
             return 7, 'link %d: failed\n' % failed
@@ -564,13 +639,18 @@ def short(bytes_):
 class Cases:
     def __init__(self, out):
         self.out = out
+        self.begin()
+
+    def begin(self):
         self.store, self.host, self.input = Store(), Host(), b''
+        # the store as it would be had it not been compacted
+        self.twin = None
 
     def line(self, line):
         words = line.split(' ')
         kind = words[0]
         if kind == 'case':
-            self.store, self.host, self.input = Store(), Host(), b''
+            self.begin()
             print(line, file=self.out)
         elif kind == 'do':
             self.do(words[1:])
@@ -580,9 +660,12 @@ class Cases:
             for h in self.store.journal.held:
                 print('message %s %s %s' % (h.id.hex(), h.group.hex(), self.store.journal.state(h)), file=self.out)
         elif kind == 'old':
-            self.store.read_old(bytes.fromhex(words[1]))
+            self.store.read(bytes.fromhex(words[1]))
+            self.twin = None
         elif kind == 'other':
-            print('other %s' % short(self.store.files()[1]), file=self.out)
+            print('other %s' % short(self.store.files[1]), file=self.out)
+        elif kind == 'compact':
+            self.compact()
         elif kind == 'input':
             self.input = bytes.fromhex(words[1])
         elif kind == 'got':
@@ -602,23 +685,40 @@ class Cases:
         elif kind == 'stops':
             self.stops(words[1:])
 
+    def compact(self):
+        line = None
+        if self.store.migrate():
+            self.store.settle()
+            self.twin = copy.deepcopy(self.twin or self.store)
+            line = self.store.compact()
+        print(line or 'status 10', file=self.out)
+        for name, content in zip(('file', 'other'), self.store.files):
+            print(name, short(content), file=self.out)
+
     def do(self, words):
-        j = self.store.journal
-        self.store.migrate()
-        self.store.settle()
+        self.do_on(self.store, words)
+        if self.twin:
+            self.do_on(self.twin, words)
+
+    def do_on(self, store, words):
+        j = store.journal
+        store.migrate()
+        store.settle()
         if words[0] == 'contact':
-            self.store.commit([('contact', j.contacts)])
+            store.commit([('contact', j.contacts)])
         elif words[0] == 'group':
-            self.store.commit([('group', words[1].encode(), int(words[2]), words[3].encode())])
+            store.commit([('group', words[1].encode(), int(words[2]), words[3].encode())])
         elif words[0] == 'share':
             level = {'invisible': 0, 'visible': 1, 'shared': 2}[words[3]]
-            self.store.commit([('level', int(words[1]), bytes.fromhex(words[2]), level)])
+            store.commit([('level', int(words[1]), bytes.fromhex(words[2]), level)])
         elif words[0] == 'post':
-            self.store.commit([('author', (bytes.fromhex(words[1]), int(words[2]), self.input))])
-            self.store.settle()
+            store.commit([('author', (bytes.fromhex(words[1]), int(words[2]), self.input))])
+            store.settle()
 
     def sync(self, words):
         links = [(int(words[i]), words[i + 1], int(words[i + 2]), words[i + 3]) for i in range(3, len(words), 4)]
+        if self.twin:
+            self.compare(words, links)
         run = Run(self.store, self.host, int(words[1]), int(words[2]), links)
         status, err = run.play()
         print('status %d' % status, file=self.out)
@@ -626,8 +726,16 @@ class Cases:
         for i, sent in enumerate(self.host.sent):
             if sent:
                 print('sent %d %s' % (i, short(sent)), file=self.out)
-        print('file %s' % short(self.store.files()[0]), file=self.out)
+        print('file %s' % short(self.store.files[0]), file=self.out)
         self.host = Host()
+
+    def compare(self, words, links):
+        """A compacted store says and sends what it would have without: also from then on."""
+        came = []
+        for store in (copy.deepcopy(self.store), self.twin):
+            host = copy.deepcopy(self.host)
+            came.append((Run(store, host, int(words[1]), int(words[2]), links).play(), host.sent))
+        assert came[0] == came[1], (words, came)
 
     def stops(self, words):
         """No image is apart; and was something acknowledged before the last call of the disk?"""

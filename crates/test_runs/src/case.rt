@@ -60,6 +60,7 @@ impl Case {
         match line {
             "states" => return self.tell_states(),
             "other" => return self.tell_other(),
+            "compact" => return self.compact(),
             _ => {}
         }
         let (kind, rest) = line.split_once(' ').context("a line of one word")?;
@@ -100,6 +101,18 @@ impl Case {
         let first = decoded(self.alloc, digits)?;
         self.disk = MemDisk::new(self.alloc, first, Vec::new(self.alloc))?;
         Ok(())
+    }
+
+    // The journal is compacted; its line is printed, and both files.
+    fn compact(&mut self) -> Result<()> {
+        let came = self.came("compact")?;
+        if came.status != 0 {
+            writeln!(self.told, "status {}", came.status)?;
+        }
+        self.told.push_str(came.out_text()?)?;
+        self.told.push_str("file ")?;
+        tell_bytes(self.alloc, self.disk.file(0), &mut self.told)?;
+        self.tell_other()
     }
 
     // A line of file 1.

@@ -12,7 +12,9 @@
 //! - `crossed ID ID`: from now on there is a client of every group, for which a message of time 1
 //!   depends on the second of these ids, and any other one on the first.
 //! - `sync WORDS`: the run whose outcome is printed.
-//! - `old HEX`: the files are this one, which is of format 1, and an empty one.
+//! - `old HEX`: the files are this one, of either format, and an empty one.
+//! - `compact`: the line of the command `compact` is printed, or its status where it is another than
+//!   0, and both files.
 //! - `states`: the state of each held message is printed, as `show` does.
 //! - `other`: the other file is printed.
 //! - `stops WORDS`: the run is stopped at each call of the disk instead, and for each image that a
