@@ -1,8 +1,8 @@
 -- The test of a batch decides whether it is allowed.
-use Rattle.std.proofs.Common.{◌≡◌, ℕ, ◌≤◌, Bool, true, false, not, ◌&&◌, List, [], ◌∷◌, length, refl, ◌∙◌, ap, arith, Option, Some, None, is_some, nat_eq, nat_lt, nat_le, eqb-true, eq-eqb}
+use Rattle.std.proofs.Common.{◌≡◌, ℕ, ◌≤◌, Bool, true, false, not, ◌&&◌, ◌||◌, List, [], ◌∷◌, length, refl, sym, ◌∙◌, ap, arith, Option, Some, None, is_some, nat_eq, nat_lt, nat_le, eqb-true, eq-eqb, inl, inr}
 use Rattle.std.specs.Prelude.{is_none}
 use Rattle.std.specs.Bool.{Decides}
-use Rattle.std.proofs.lemmas.Bool.{and_parts, and_from, false≢true, not-true, leb-true, le-leb}
+use Rattle.std.proofs.lemmas.Bool.{and_parts, and_from, or_cases, false≢true, not-true, leb-true, le-leb}
 use Rattle.std.proofs.lemmas.Bool.Decides.{Decides-eqb, Decides-ltb}
 use Rattle.sync_ids.specs.Values.{GroupValue, MessageValue}
 use Rattle.sync_ids.specs.Ids.{group_id_of, message_id_of}
@@ -10,14 +10,20 @@ use Rattle.sync_rules.specs.declared.entries.Entry.{Entry}
 use Rattle.sync_rules.specs.declared.entries.Entry.TheVariants as entry
 use Rattle.sync_rules.specs.declared.entries.Out.{Out}
 use Rattle.sync_rules.specs.declared.entries.Session.{Session}
-use Rattle.sync_rules.specs.declared.limits.TheConstants.{MAX_CONTACTS, MAX_GROUPS, MAX_STEPS}
+use Rattle.sync_rules.specs.declared.entries.Tried.{Tried}
+use Rattle.sync_rules.specs.declared.states.Origin.{Origin}
+use Rattle.sync_rules.specs.declared.states.Origin.TheVariants as origin
+use Rattle.sync_rules.specs.declared.states.Start.{Start}
+use Rattle.sync_rules.specs.declared.states.Start.TheVariants as start
+use Rattle.sync_rules.specs.declared.limits.TheConstants.{MAX_CONTACTS, MAX_GROUPS, MAX_ROWS, MAX_SESSIONS, MAX_STEPS, MAX_TRIES, MAX_WANTED}
 use Rattle.sync_rules.specs.Clients.{Meaning}
-use Rattle.sync_rules.specs.Facts.{Facts, group_at, held_at, session_at, takes_of, after}
+use Rattle.sync_rules.specs.Lists.{is_among}
+use Rattle.sync_rules.specs.Facts.{Facts, Id, group_at, held_at, is_held, is_no_row, row_at, session_at, takes_of, wanted_from, after}
 use Rattle.sync_rules.specs.Steps.{IsSettled, next, kind_of_def, verdict_in}
 use Rattle.sync_rules.specs.Sessions.{due}
-use Rattle.sync_rules.specs.Legal.{Allowed, IsDue, IsSettling, IsSettlingBatch, MayAddGroup, MayAuthor, MayBegin, MayTake, accepts_served, suits_nonce}
+use Rattle.sync_rules.specs.Legal.{Allowed, AreRows, IsDue, IsKeptFrom, IsRowsBatch, IsSettling, IsSettlingBatch, MayAddGroup, MayAuthor, MayBegin, MayKeep, MayRestore, MayTake, MayWant, SuitsRows, accepts_served, is_empty_row, suits_nonce}
 use Rattle.sync_rules.proofs.StepLaws.{IsSettlingEntry, next_is_settling}
-use Rattle.sync_rules.specs.Allows.{allows, alone, gives, is_due, is_empty, is_settled, is_settling, is_some_of, may_add_group, may_author, may_begin, may_take, read_as, same_entry, settles}
+use Rattle.sync_rules.specs.Allows.{allows, alone, are_rows, gives, is_due, is_empty, is_empty_start, is_kept_from, is_opening, is_rows, is_settled, is_settling, is_some_of, may_add_group, may_author, may_begin, may_keep, may_restore, may_take, may_want, read_as, same_entry, settles, suits_rows}
 use Rattle.sync_rules.proofs.SameEntries.{both_decide, same_entry-is, some_out-Decides}
 use Rattle.sync_rules.proofs.TakenBack.{WholeIds, gives_some, some_gives}
 use Rattle.sync_rules.proofs.Elements.{same_id_itself}
@@ -64,11 +70,13 @@ add_group_decides clients f def =
 
 begin_decides : (f : Facts) (s : Session) → Decides (may_begin f s) (MayBegin f s)
 begin_decides f s =
-    let all = both_decide (nat_eq s.number f.begun) (nat_lt s.contact f.contacts && (nat_le 1 s.latency && suits_nonce s.mode s.nonce)) (Decides-eqb s.number f.begun)
+    let all = both_decide (nat_eq s.number f.begun) (nat_lt s.number MAX_SESSIONS && (nat_lt s.contact f.contacts && (nat_le 1 s.latency && suits_nonce s.mode s.nonce)))
+    (Decides-eqb s.number f.begun)
+    (both_decide (nat_lt s.number MAX_SESSIONS) (nat_lt s.contact f.contacts && (nat_le 1 s.latency && suits_nonce s.mode s.nonce)) (Decides-ltb s.number MAX_SESSIONS)
     (both_decide (nat_lt s.contact f.contacts) (nat_le 1 s.latency && suits_nonce s.mode s.nonce) (Decides-ltb s.contact f.contacts)
-    (both_decide (nat_le 1 s.latency) (suits_nonce s.mode s.nonce) (le_decides 1 s.latency) (itself (suits_nonce s.mode s.nonce)))) in (
-      λ h. let t = all.0 h in record { numbered = t.0; known_contact = t.1.0; some_latency = t.1.1.0; suited_nonce = t.1.1.1 },
-      λ h. all.1 (h.numbered, (h.known_contact, (h.some_latency, h.suited_nonce))),
+    (both_decide (nat_le 1 s.latency) (suits_nonce s.mode s.nonce) (le_decides 1 s.latency) (itself (suits_nonce s.mode s.nonce))))) in (
+      λ h. let t = all.0 h in record { numbered = t.0; few = t.1.0; known_contact = t.1.1.0; some_latency = t.1.1.1.0; suited_nonce = t.1.1.1.1 },
+      λ h. all.1 (h.numbered, (h.few, (h.known_contact, (h.some_latency, h.suited_nonce)))),
     )
 
 author_decides : (clients : Meaning) (f : Facts) (m : MessageValue) → Decides (may_author clients f m) (MayAuthor clients f m)
@@ -126,6 +134,100 @@ settling_decides clients f e es =
     let all = both_decide (nat_le (length (e ∷ es)) MAX_STEPS) (settles clients f (e ∷ es)) (le_decides (length (e ∷ es)) MAX_STEPS) (settles_decides clients f (e ∷ es)) in
     (λ h. let t = all.0 h in (omega arith, t.0, t.1), λ h. all.1 (h.1, h.2))
 
+-- ---- a brief account
+
+not_decides : (b : Bool) → Decides (not b) (b ≡ false)
+not_decides b = (not-true b, λ h. ap not h)
+
+empty_start_decides : (s : Start) → Decides (is_empty_start s) (s ≡ start.Empty)
+empty_start_decides start.Empty = (λ h. refl, λ h. refl)
+empty_start_decides start.Opening = (λ h. absurd (false≢true h), λ h. absurd cc)
+empty_start_decides start.Going = (λ h. absurd (false≢true h), λ h. absurd cc)
+
+opening_decides : (s : Start) → Decides (is_opening s) (s ≡ start.Opening)
+opening_decides start.Empty = (λ h. absurd (false≢true h), λ h. absurd cc)
+opening_decides start.Opening = (λ h. refl, λ h. refl)
+opening_decides start.Going = (λ h. absurd (false≢true h), λ h. absurd cc)
+
+kept_from_decides : (clients : Meaning) (f : Facts) (from : Origin) (m : MessageValue) → Decides (is_kept_from clients f from m) (IsKeptFrom clients f from m)
+kept_from_decides clients f origin.Author m = itself (accepts_served f m.group (verdict_in clients f.groups m))
+kept_from_decides clients f (origin.From contact) m = Decides-ltb contact f.contacts
+
+keep_decides : (clients : Meaning) (f : Facts) (from : Origin) (m : MessageValue) → Decides (may_keep clients f from m) (MayKeep clients f from m)
+keep_decides clients f from m =
+    let so : Bool = is_kept_from clients f from m in
+    let all = both_decide (is_some (group_at f.groups m.group)) (is_none (held_at f.held (message_id_of m)) && so) (itself (is_some (group_at f.groups m.group)))
+    (both_decide (is_none (held_at f.held (message_id_of m))) so (none_decides (held_at f.held (message_id_of m))) (kept_from_decides clients f from m)) in
+    (λ h. let t = all.0 h in record { known_group = t.0; new = t.1.0; kept_from = t.1.1 }, λ h. all.1 (h.known_group, (h.new, h.kept_from)))
+
+-- no wait without a try
+wait_decides : (tries expiry : ℕ) → Decides (not (nat_eq tries 0) || nat_eq expiry 0) (tries ≡ 0 → expiry ≡ 0)
+wait_decides tries expiry = (there, back) where
+  there : (not (nat_eq tries 0) || nat_eq expiry 0) ≡ true → tries ≡ 0 → expiry ≡ 0
+  there h none =
+      elim (or_cases (not (nat_eq tries 0)) (nat_eq expiry 0) h) [
+        | inl some ↦ absurd (false≢true (sym (not-true (nat_eq tries 0) some) ∙ eq-eqb tries 0 none))
+        | inr waits ↦ eqb-true expiry 0 waits
+      ]
+
+  back : (tries ≡ 0 → expiry ≡ 0) → (not (nat_eq tries 0) || nat_eq expiry 0) ≡ true
+  back none = by (nat_eq tries 0) refl where
+    by : (b : Bool) → nat_eq tries 0 ≡ b → (not b || nat_eq expiry 0) ≡ true
+    by true e = eq-eqb expiry 0 (none (eqb-true tries 0 e))
+    by false e = refl
+
+restore_decides : (f : Facts) (t : Tried) → Decides (may_restore f t) (MayRestore f t)
+restore_decides f t =
+    let known : Bool = nat_lt t.contact f.contacts in
+    let held : Bool = is_held f.held t.id in
+    let few : Bool = nat_le t.tries MAX_TRIES in
+    let waits : Bool = not (nat_eq t.tries 0) || nat_eq t.expiry 0 in
+    let some : Bool = not (is_empty_row t) in
+    let first : Bool = is_no_row (row_at f.rows t.contact t.id) in
+    let all = both_decide known (held && (few && (waits && (some && first)))) (Decides-ltb t.contact f.contacts)
+    (both_decide held (few && (waits && (some && first))) (itself held)
+    (both_decide few (waits && (some && first)) (le_decides t.tries MAX_TRIES)
+    (both_decide waits (some && first) (wait_decides t.tries t.expiry)
+    (both_decide some first (not_decides (is_empty_row t)) (itself first))))) in (
+      λ h. let x = all.0 h in
+          record { known_contact = x.0; held = x.1.0; few_tries = x.1.1.0; no_wait = x.1.1.1.0; not_empty = x.1.1.1.1.0; first = x.1.1.1.1.1 },
+      λ h. all.1 (h.known_contact, (h.held, (h.few_tries, (h.no_wait, (h.not_empty, h.first))))),
+    )
+
+want_decides : (f : Facts) (contact : ℕ) (id : Id) → Decides (may_want f contact id) (MayWant f contact id)
+want_decides f contact id =
+    let known : Bool = nat_lt contact f.contacts in
+    let ids : List Id = wanted_from f.wanted contact in
+    let new : Bool = not (is_held f.held id) in
+    let other : Bool = not (is_among ids id) in
+    let few : Bool = nat_lt (length ids) MAX_WANTED in
+    let all = both_decide known (new && (other && few)) (Decides-ltb contact f.contacts)
+    (both_decide new (other && few) (not_decides (is_held f.held id))
+    (both_decide other few (not_decides (is_among ids id)) (Decides-ltb (length ids) MAX_WANTED))) in (
+      λ h. let x = all.0 h in record { known_contact = x.0; not_held = x.1.0; not_wanted = x.1.1.0; few = x.1.1.1 },
+      λ h. all.1 (h.known_contact, (h.not_held, (h.not_wanted, h.few))),
+    )
+
+suits_decides : (f : Facts) (e : Entry) → Decides (suits_rows f e) (SuitsRows f e)
+suits_decides f (entry.Tried t) = restore_decides f t
+suits_decides f (entry.Want contact id) = want_decides f contact id
+suits_decides f _ = (λ h. false≢true h, λ h. absurd h)
+
+are_rows_decides : (f : Facts) (es : List Entry) → Decides (are_rows f es) (AreRows f es)
+are_rows_decides f [] = (λ h. tt, λ h. refl)
+are_rows_decides f (e ∷ es) =
+    both_decide (suits_rows f e) (are_rows (after f e) es) (suits_decides f e) (are_rows_decides (after f e) es)
+
+rows_decides : (clients : Meaning) (f : Facts) (e : Entry) (es : List Entry) → Decides (is_rows clients f (e ∷ es)) (IsRowsBatch clients f (e ∷ es))
+rows_decides clients f e es =
+    let few : Bool = nat_le (length (e ∷ es)) MAX_ROWS in
+    let all = both_decide (is_opening f.start) (is_settled clients f && (few && are_rows f (e ∷ es))) (opening_decides f.start)
+    (both_decide (is_settled clients f) (few && are_rows f (e ∷ es)) (settled_decides clients f)
+    (both_decide few (are_rows f (e ∷ es)) (le_decides (length (e ∷ es)) MAX_ROWS) (are_rows_decides f (e ∷ es)))) in (
+      λ h. let t = all.0 h in record { opening = t.0; settled = t.1.0; some = omega arith; few = t.1.1.0; suits = t.1.1.1 },
+      λ h. all.1 (h.opening, (h.settled, (h.few, h.suits))),
+    )
+
 -- ---- batches
 
 never : Decides false ⊥
@@ -150,3 +252,9 @@ allows_decides all clients f (entry.Seen s id ∷ rest) = never
 allows_decides all clients f (entry.Asked s id ∷ rest) = never
 allows_decides all clients f (entry.Out s now what ∷ rest) =
     alone_decides clients f rest (is_due clients f (session_at f.sessions s) now what) (due_decides clients f (session_at f.sessions s) now what)
+allows_decides all clients f (entry.Brief n ∷ rest) =
+    both_decide (is_empty rest) (is_empty_start f.start) (empty_decides rest) (empty_start_decides f.start)
+allows_decides all clients f (entry.Kept from m ∷ rest) =
+    alone_two clients f rest (is_opening f.start) (may_keep clients f from m) (opening_decides f.start) (keep_decides clients f from m)
+allows_decides all clients f (entry.Tried t ∷ rest) = rows_decides clients f (entry.Tried t) rest
+allows_decides all clients f (entry.Want contact id ∷ rest) = rows_decides clients f (entry.Want contact id) rest

@@ -7,6 +7,7 @@ use Rattle.std.specs.Ordering.{nat_cmp, eq_by_cmp}
 use Rattle.std.specs.Cmp.{nat_cmp_total, unsigned_tied}
 use Rattle.std.specs.Cmp.Lexicographic.{slice_cmp}
 use Rattle.std.proofs.lemmas.Bool.{and_parts, or_parts, or_cases, or_left, or_right, false≢true, not-true}
+use Rattle.sync_ids.specs.Values.{MessageValue}
 use Rattle.sync_ids.specs.Ids.{message_id_of}
 use Rattle.sync_rules.specs.declared.entries.Entry.{Entry}
 use Rattle.sync_rules.specs.declared.entries.Entry.TheVariants as entry
@@ -19,9 +20,9 @@ use Rattle.sync_rules.specs.declared.states.Origin.{Origin}
 use Rattle.sync_rules.specs.declared.states.Origin.TheVariants as origin
 use Rattle.sync_rules.specs.Clients.{Meaning}
 use Rattle.sync_rules.specs.Lists.{same_id, is_among, has_repeat, without, firsts}
-use Rattle.sync_rules.specs.Facts.{Facts, Held, Id, Known, Row, Rows, LevelMap, Wants, pair_cmp, after, after_all, nothing, facts, entries_of, group_at, held_at, is_held, session_at, contact_of, put_level, is_no_row, row_or, row_at, put_row, change_row, change_rows, row_heard, row_seen, row_acked, row_asked, row_offered, row_sent, one_more_try, latency_of, ids_or, wanted_from, change_each, wanted_by_none, with_want, without_each, authored, arrived, known_of}
+use Rattle.sync_rules.specs.Facts.{Facts, Held, Id, Known, Row, Rows, LevelMap, Wants, pair_cmp, after, after_all, nothing, facts, entries_of, group_at, held_at, is_held, session_at, contact_of, put_level, is_no_row, row_or, row_at, put_row, change_row, change_rows, row_heard, row_seen, row_acked, row_asked, row_offered, row_sent, row_tried, one_more_try, latency_of, ids_or, wanted_from, change_each, wanted_by_none, with_want, without_each, authored, arrived, kept_as, known_of}
 use Rattle.sync_rules.specs.Output.{NamesTheOpen}
-use Rattle.sync_rules.specs.Legal.{Legal, IsDue}
+use Rattle.sync_rules.specs.Legal.{Legal, IsDue, IsKeptFrom}
 use Rattle.sync_rules.specs.Meeting.{Meets, AllMeet}
 use Rattle.sync_rules.specs.Growth.{Continues}
 use Rattle.sync_rules.specs.Consistency.{ids_of_groups, ids_of_held, IsGroupOf, HasGroups, IsKnownOrigin, IsHeldOf, HasHeld, IsLevelOf, HasLevels, IsRowOf, HasRows, HasWanted, HasEnds, HasSessions, IsConsistent}
@@ -214,6 +215,11 @@ held_same f g c same h = record {
   each = λ id y at. held_of_there f g c id y (h.each id y (ap (λ (hs : List Held). held_at hs id) (sym same) ∙ at));
 }
 
+-- a message is kept as one that came from a known contact, or was written here
+kept_origin : (clients : Meaning) (f : Facts) (from : Origin) (m : MessageValue) → IsKeptFrom clients f from m → IsKnownOrigin f from
+kept_origin clients f origin.Author m k = tt
+kept_origin clients f (origin.From contact) m k = k
+
 pub held_after_one : (clients : Meaning) (f : Facts) (e : Entry) → Meets clients f e → HasSessions f → HasHeld f → HasHeld (after f e)
 held_after_one clients f (entry.Author m) met s h =
     held_more f (after f (entry.Author m)) (authored m) (continues_after f (entry.Author m)) refl met.1.new
@@ -226,6 +232,9 @@ held_after_one clients f (entry.Arrive t m) met s h =
       known_group = met.1.known_group;
       known_origin = session_contact_known f s t (session_at f.sessions t) refl met.1.known_session;
     }) h
+held_after_one clients f (entry.Kept from m) met s h =
+    held_more f (after f (entry.Kept from m)) (kept_as from m) (continues_after f (entry.Kept from m)) refl met.2.new
+    (record { named = refl; is_id = refl; known_group = met.2.known_group; known_origin = kept_origin clients f from m met.2.kept_from }) h
 held_after_one clients f (entry.Contact c) met s h = held_same f (after f (entry.Contact c)) (continues_after f (entry.Contact c)) refl h
 held_after_one clients f (entry.Group def) met s h = held_same f (after f (entry.Group def)) (continues_after f (entry.Group def)) refl h
 held_after_one clients f (entry.Level c g l) met s h = held_same f (after f (entry.Level c g l)) (continues_after f (entry.Level c g l)) refl h
@@ -239,6 +248,9 @@ held_after_one clients f (entry.Offered t id) met s h = held_same f (after f (en
 held_after_one clients f (entry.Seen t id) met s h = held_same f (after f (entry.Seen t id)) (continues_after f (entry.Seen t id)) refl h
 held_after_one clients f (entry.Asked t id) met s h = held_same f (after f (entry.Asked t id)) (continues_after f (entry.Asked t id)) refl h
 held_after_one clients f (entry.Out t now what) met s h = held_same f (after f (entry.Out t now what)) (continues_after f (entry.Out t now what)) refl h
+held_after_one clients f (entry.Brief n) met s h = held_same f (after f (entry.Brief n)) (continues_after f (entry.Brief n)) refl h
+held_after_one clients f (entry.Tried t) met s h = held_same f (after f (entry.Tried t)) (continues_after f (entry.Tried t)) refl h
+held_after_one clients f (entry.Want c id) met s h = held_same f (after f (entry.Want c id)) (continues_after f (entry.Want c id)) refl h
 
 -- ---- pairs
 
@@ -305,6 +317,10 @@ levels_after_one clients f (entry.Offered t id) m has = levels_there f (after f 
 levels_after_one clients f (entry.Seen t id) m has = levels_there f (after f (entry.Seen t id)) f.levels (continues_after f (entry.Seen t id)) has
 levels_after_one clients f (entry.Asked t id) m has = levels_there f (after f (entry.Asked t id)) f.levels (continues_after f (entry.Asked t id)) has
 levels_after_one clients f (entry.Out t now what) m has = levels_there f (after f (entry.Out t now what)) f.levels (continues_after f (entry.Out t now what)) has
+levels_after_one clients f (entry.Brief n) m has = levels_there f (after f (entry.Brief n)) f.levels (continues_after f (entry.Brief n)) has
+levels_after_one clients f (entry.Kept from x) m has = levels_there f (after f (entry.Kept from x)) f.levels (continues_after f (entry.Kept from x)) has
+levels_after_one clients f (entry.Tried t) m has = levels_there f (after f (entry.Tried t)) f.levels (continues_after f (entry.Tried t)) has
+levels_after_one clients f (entry.Want c id) m has = levels_there f (after f (entry.Want c id)) f.levels (continues_after f (entry.Want c id)) has
 
 -- ---- rows
 
@@ -427,6 +443,12 @@ rows_after_one clients f (entry.Judged id) sound met s has = rows_there f (after
 rows_after_one clients f (entry.Deliver id) sound met s has = rows_there f (after f (entry.Deliver id)) f.rows (continues_after f (entry.Deliver id)) has
 rows_after_one clients f (entry.Invalid id) sound met s has = rows_there f (after f (entry.Invalid id)) f.rows (continues_after f (entry.Invalid id)) has
 rows_after_one clients f (entry.Offered t id) sound met s has = rows_there f (after f (entry.Offered t id)) f.rows (continues_after f (entry.Offered t id)) has
+rows_after_one clients f (entry.Brief n) sound met s has = rows_there f (after f (entry.Brief n)) f.rows (continues_after f (entry.Brief n)) has
+rows_after_one clients f (entry.Kept from m) sound met s has = rows_there f (after f (entry.Kept from m)) f.rows (continues_after f (entry.Kept from m)) has
+rows_after_one clients f (entry.Want c id) sound met s has = rows_there f (after f (entry.Want c id)) f.rows (continues_after f (entry.Want c id)) has
+rows_after_one clients f (entry.Tried t) sound met s has =
+    row_change (after f (entry.Tried t)) f.rows t.contact t.id (row_tried t) (λ r few. omega arith) met.2.known_contact met.2.held
+    (rows_there f (after f (entry.Tried t)) f.rows (continues_after f (entry.Tried t)) has)
 
 -- ---- wanted ids
 
@@ -576,6 +598,13 @@ wanted_after_one clients f (entry.Offered t id) met s h =
     has_wanted g (want_list_put g f.wanted (contact_of f.sessions t) (with_want (is_held f.held id) (wanted_from f.wanted (contact_of f.sessions t)) id)
     (session_contact_known f s t (session_at f.sessions t) refl met.1.known_session)
     (offered_list g (wanted_from f.wanted (contact_of f.sessions t)) id met.1.not_held met.1.not_wanted met.1.few (has.lists (contact_of f.sessions t))) has)
+wanted_after_one clients f (entry.Kept from m) met s h =
+    has_wanted (after f (entry.Kept from m)) (wanted_held f (after f (entry.Kept from m)) (kept_as from m) (continues_after f (entry.Kept from m)) refl (wanted_in f h))
+wanted_after_one clients f (entry.Want c id) met s h =
+    let g : Facts = after f (entry.Want c id) in
+    let has : WantedIn g f.wanted = wanted_there f g f.wanted (continues_after f (entry.Want c id)) refl (wanted_in f h) in
+    has_wanted g (want_list_put g f.wanted c (with_want (is_held f.held id) (wanted_from f.wanted c) id) met.2.known_contact
+    (offered_list g (wanted_from f.wanted c) id met.2.not_held met.2.not_wanted met.2.few (has.lists c)) has)
 wanted_after_one clients f (entry.Out t now what) met s h =
     wanted_after_output f t now what
     (session_contact_known f s t (session_at f.sessions t) refl (due_session_known clients f (session_at f.sessions t) now what met.1)) h
@@ -589,6 +618,8 @@ wanted_after_one clients f (entry.Invalid id) met s h = same_wanted f (entry.Inv
 wanted_after_one clients f (entry.Again t id) met s h = same_wanted f (entry.Again t id) refl refl h
 wanted_after_one clients f (entry.Seen t id) met s h = same_wanted f (entry.Seen t id) refl refl h
 wanted_after_one clients f (entry.Asked t id) met s h = same_wanted f (entry.Asked t id) refl refl h
+wanted_after_one clients f (entry.Brief n) met s h = same_wanted f (entry.Brief n) refl refl h
+wanted_after_one clients f (entry.Tried t) met s h = same_wanted f (entry.Tried t) refl refl h
 
 -- ---- ends
 
@@ -677,6 +708,10 @@ ends_after_one clients f (entry.Offered t id) met h = ends_there f (after f (ent
 ends_after_one clients f (entry.Seen t id) met h = ends_there f (after f (entry.Seen t id)) (continues_after f (entry.Seen t id)) refl refl refl h
 ends_after_one clients f (entry.Asked t id) met h = ends_there f (after f (entry.Asked t id)) (continues_after f (entry.Asked t id)) refl refl refl h
 ends_after_one clients f (entry.Out t now what) met h = ends_there f (after f (entry.Out t now what)) (continues_after f (entry.Out t now what)) refl refl refl h
+ends_after_one clients f (entry.Brief n) met h = ends_there f (after f (entry.Brief n)) (continues_after f (entry.Brief n)) refl refl refl h
+ends_after_one clients f (entry.Kept from m) met h = ends_there f (after f (entry.Kept from m)) (continues_after f (entry.Kept from m)) refl refl refl h
+ends_after_one clients f (entry.Tried t) met h = ends_there f (after f (entry.Tried t)) (continues_after f (entry.Tried t)) refl refl refl h
+ends_after_one clients f (entry.Want c id) met h = ends_there f (after f (entry.Want c id)) (continues_after f (entry.Want c id)) refl refl refl h
 
 -- ---- all of it
 

@@ -10,7 +10,7 @@ use Rattle.sync_rules.specs.declared.entries.Entry.TheVariants as entry
 use Rattle.sync_rules.specs.declared.entries.Session.{Session}
 use Rattle.sync_rules.specs.Clients.{Meaning}
 use Rattle.sync_rules.specs.Lists.{same_id}
-use Rattle.sync_rules.specs.Facts.{Facts, Held, Id, Known, after, after_all, after_batches, nothing, facts, group_at, held_at, session_at, takes_of, count_or, authored, arrived, known_of, contact_of, Extends}
+use Rattle.sync_rules.specs.Facts.{Facts, Held, Id, Known, after, after_all, after_batches, nothing, facts, group_at, held_at, session_at, takes_of, count_or, authored, arrived, kept_as, known_of, contact_of, Extends}
 use Rattle.sync_rules.specs.Legal.{Legal, Allowed, GoesOn}
 use Rattle.sync_rules.specs.EntryTests.{judges, invalidates}
 use Rattle.sync_rules.specs.Growth.{IsFront, Continues}
@@ -81,6 +81,7 @@ continues_contacts f _ = omega arith
 
 continues_begun : (f : Facts) (e : Entry) → f.begun ≤ (after f e).begun
 continues_begun f (entry.Session s) = omega arith
+continues_begun f (entry.Brief n) = omega arith
 continues_begun f _ = omega arith
 
 continues_groups : (f : Facts) (e : Entry) → IsFront f.groups (after f e).groups
@@ -94,6 +95,7 @@ continues_sessions f _ = front_itself f.sessions
 continues_held : (f : Facts) (e : Entry) → IsFront f.held (after f e).held
 continues_held f (entry.Author m) = front_push f.held (authored m)
 continues_held f (entry.Arrive s m) = front_push f.held (arrived (contact_of f.sessions s) m)
+continues_held f (entry.Kept from m) = front_push f.held (kept_as from m)
 continues_held f _ = front_itself f.held
 
 continues_delivered : (f : Facts) (e : Entry) → IsFront f.delivered (after f e).delivered
@@ -111,6 +113,7 @@ same_session_after f _ n s at = at
 same_held_after : (f : Facts) (e : Entry) (id : Id) (h : Held) → held_at f.held id ≡ Some h → held_at (after f e).held id ≡ Some h
 same_held_after f (entry.Author m) id h at = held_at-push f.held (authored m) id h at
 same_held_after f (entry.Arrive s m) id h at = held_at-push f.held (arrived (contact_of f.sessions s) m) id h at
+same_held_after f (entry.Kept from m) id h at = held_at-push f.held (kept_as from m) id h at
 same_held_after f _ id h at = at
 
 takes_after_one : (f : Facts) (e : Entry) (n : ℕ) → takes_of f.takes n ≤ takes_of (after f e).takes n

@@ -19,7 +19,7 @@ use Rattle.sync_rules.specs.declared.entries.Mode.TheVariants as mode_kind
 use Rattle.sync_rules.specs.declared.entries.Session.{Session}
 use Rattle.sync_rules.specs.Clients.{Meaning}
 use Rattle.sync_rules.specs.Lists.{same_id, is_among, has_repeat, without}
-use Rattle.sync_rules.specs.Facts.{Facts, Held, Id, after, after_all, nothing, facts, entries_of, held_at, is_held, session_at, contact_of, contact_in, row_at, wanted_from, without_each, with_want, authored, arrived, ids_or}
+use Rattle.sync_rules.specs.Facts.{Facts, Held, Id, after, after_all, nothing, facts, entries_of, held_at, is_held, session_at, contact_of, contact_in, row_at, wanted_from, without_each, with_want, authored, arrived, kept_as, ids_or}
 use Rattle.sync_rules.specs.Steps.{IsSettled}
 use Rattle.sync_rules.specs.Sessions.{ids_where, shared_ids, is_sendable, is_ripe, owed_to, wanted_of, send_of, offers_of, out_or, acks_due, requests_due, send_due, offers_due, due_by, due}
 use Rattle.sync_rules.specs.Legal.{Legal, Allowed, IsDue}
@@ -232,6 +232,17 @@ limits_after f (entry.Author m) b l = record {
 limits_after f (entry.Arrive s m) b l = record {
   messages = message_limits f (arrived (contact_of f.sessions s) m) l b;
   wanted = λ contact id e. dropped_limits f l (message_id_of m) contact id (ap (λ (ids : List Id). is_among ids id) (sym (want_dropped f.wanted (message_id_of m) contact)) ∙ e);
+  nonces = l.nonces;
+}
+limits_after f (entry.Kept from m) b l = record {
+  messages = message_limits f (kept_as from m) l b;
+  wanted = λ contact id e. dropped_limits f l (message_id_of m) contact id (ap (λ (ids : List Id). is_among ids id) (sym (want_dropped f.wanted (message_id_of m) contact)) ∙ e);
+  nonces = l.nonces;
+}
+limits_after f (entry.Want c x) b l = record {
+  messages = l.messages;
+  wanted = changed_limits f l c (λ ids. with_want (is_held f.held x) ids x)
+      (λ contact id e. offered_limits f l x b contact id (is_held f.held x || is_among (wanted_from f.wanted contact) x) e);
   nonces = l.nonces;
 }
 limits_after f (entry.Offered s x) b l = record {

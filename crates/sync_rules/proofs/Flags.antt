@@ -10,7 +10,7 @@ use Rattle.sync_rules.specs.declared.entries.Entry.TheVariants as entry
 use Rattle.sync_ids.specs.Ids.{message_id_of}
 use Rattle.sync_rules.specs.Clients.{Meaning}
 use Rattle.sync_rules.specs.Lists.{same_id, is_among}
-use Rattle.sync_rules.specs.Facts.{Facts, Held, Id, after, after_all, nothing, entries_of, held_at, is_held, authored, arrived, contact_of}
+use Rattle.sync_rules.specs.Facts.{Facts, Held, Id, after, after_all, nothing, entries_of, held_at, is_held, authored, arrived, kept_as, contact_of}
 use Rattle.sync_rules.specs.Steps.{is_ended, is_served, is_beside}
 use Rattle.sync_rules.specs.Legal.{Legal}
 use Rattle.sync_rules.specs.EntryTests.{brings, judges, delivers, invalidates, ends}
@@ -87,6 +87,7 @@ is_held-push (y ∷ held) x id =
 pub held_scan : (id : Id) → IsScan (brings id) (λ f. is_held f.held id)
 held_scan id f (entry.Author m) = is_held-push f.held (authored m) id
 held_scan id f (entry.Arrive s m) = is_held-push f.held (arrived (contact_of f.sessions s) m) id
+held_scan id f (entry.Kept from m) = is_held-push f.held (kept_as from m) id
 held_scan id f _ = refl
 
 pub judged_scan : (id : Id) → IsScan (judges id) (λ f. fin_set.contains f.judged id)
@@ -120,6 +121,7 @@ at_id F x id e none = subst (λ (w : Id). F w ≡ false) (same_id-is x id e) non
 held_fresh : (clients : Meaning) (id : Id) (f : Facts) (e : Entry) → Fits clients f e → brings id e ≡ true → is_held f.held id ≡ false
 held_fresh clients id f (entry.Author m) fit b = at_id (is_held f.held) (message_id_of m) id b fit.new
 held_fresh clients id f (entry.Arrive s m) fit b = at_id (is_held f.held) (message_id_of m) id b fit.is_new.new
+held_fresh clients id f (entry.Kept from m) fit b = at_id (is_held f.held) (message_id_of m) id b fit.new
 held_fresh clients id f _ fit b = absurd (false≢true b)
 
 judged_fresh : (clients : Meaning) (id : Id) (f : Facts) (e : Entry) → Fits clients f e → judges id e ≡ true → fin_set.contains f.judged id ≡ false

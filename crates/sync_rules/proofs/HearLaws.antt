@@ -44,7 +44,7 @@ one_session_hears clients def known = record {
       (
         (refl, refl, omega arith, ap (λ b. is_some (cond b (Some (known_of def)) None)) (same_id_itself (group_id_of def))),
         (
-          (refl, refl, record { numbered = refl; known_contact = omega arith; some_latency = omega arith; suited_nonce = refl }),
+          (refl, refl, record { numbered = refl; few = omega arith; known_contact = omega arith; some_latency = omega arith; suited_nonce = refl }),
           tt,
         ),
       ),

@@ -5,7 +5,7 @@ use Rattle.sync_ids.specs.Ids.{message_id_of}
 use Rattle.sync_rules.specs.declared.entries.Entry.{Entry}
 use Rattle.sync_rules.specs.declared.entries.Entry.TheVariants as entry
 use Rattle.sync_rules.specs.Clients.{Meaning}
-use Rattle.sync_rules.specs.Facts.{Facts, Held, Id, after, after_all, after_batches, entries_of, group_at, is_held, session_at, contact_of, level_at, is_invisible, known_of, authored, arrived}
+use Rattle.sync_rules.specs.Facts.{Facts, Held, Id, after, after_all, after_batches, entries_of, group_at, is_held, session_at, contact_of, level_at, is_invisible, known_of, authored, arrived, kept_as}
 use Rattle.sync_rules.specs.Steps.{next}
 use Rattle.sync_rules.specs.Legal.{IsDue}
 use Rattle.sync_rules.specs.Lists.{In}
@@ -31,6 +31,7 @@ Fits clients f (entry.Judged id) = next clients f ≡ Some (entry.Judged id)
 Fits clients f (entry.Deliver id) = next clients f ≡ Some (entry.Deliver id)
 Fits clients f (entry.Invalid id) = next clients f ≡ Some (entry.Invalid id)
 Fits clients f (entry.Out s now what) = IsDue clients f (session_at f.sessions s) now what
+Fits clients f (entry.Kept from m) = IsNew f m
 Fits clients f _ = Unit {0}
 
 abbrev pub AllFit : Meaning → Facts → List Entry → Type 0
@@ -107,6 +108,8 @@ sound_after clients f (entry.Author m) fits s =
     Sound-held clients f.groups f.held f.invalid f.delivered (authored m) fits.known fits.new s
 sound_after clients f (entry.Arrive x m) fits s =
     Sound-held clients f.groups f.held f.invalid f.delivered (arrived (contact_of f.sessions x) m) fits.is_new.known fits.is_new.new s
+sound_after clients f (entry.Kept from m) fits s =
+    Sound-held clients f.groups f.held f.invalid f.delivered (kept_as from m) fits.known fits.new s
 sound_after clients f (entry.Deliver id) fits s = sound_delivered clients f id fits s
 sound_after clients f (entry.Invalid id) fits s = sound_refused clients f id fits s
 sound_after clients f _ fits s = s

@@ -28,6 +28,7 @@ pub mod ScanLaws
 pub mod SessionLaws
 pub mod Settling
 pub mod Sound
+pub mod StartLaws
 pub mod StepKinds
 pub mod StepLaws
 pub mod WorkLaws

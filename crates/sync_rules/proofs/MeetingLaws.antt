@@ -11,25 +11,33 @@ use Rattle.sync_ids.specs.declared.records.Record.{Record}
 use Rattle.sync_ids.specs.declared.records.Record.TheVariants as record_kind
 use Rattle.sync_rules.specs.declared.entries.Entry.{Entry}
 use Rattle.sync_rules.specs.declared.entries.Entry.TheVariants as entry
+use Rattle.sync_rules.specs.declared.states.Start.{Start}
+use Rattle.sync_rules.specs.declared.states.Start.TheVariants as start
 use Rattle.sync_rules.specs.Clients.{Meaning}
 use Rattle.sync_rules.specs.Lists.{same_id, is_among, has_repeat, firsts}
-use Rattle.sync_rules.specs.Facts.{Facts, Held, Id, Rows, Wants, after, after_all, nothing, entries_of, group_at, held_at, is_held, session_at, contact_of, level_at, is_invisible, row_at, wanted_from, change_row, row_heard, row_seen, row_asked, with_want}
+use Rattle.sync_rules.specs.Facts.{Facts, Held, Id, Rows, Wants, after, after_all, nothing, entries_of, group_at, held_at, is_held, session_at, contact_of, level_at, is_invisible, row_at, wanted_from, change_row, row_heard, row_seen, row_asked, start_after, with_want}
 use Rattle.sync_rules.specs.Steps.{IsSettled, next}
 use Rattle.sync_rules.specs.Sessions.{taken, taken_message, taken_message_of, taken_acks, taken_requests, taken_offers, one_if, is_welcome, is_shown, is_shown_held, is_remembered, room_after}
-use Rattle.sync_rules.specs.Legal.{Allowed, GoesOn, Legal, IsSettling}
+use Rattle.sync_rules.specs.Legal.{Allowed, AreRows, GoesOn, Legal, IsSettling, SuitsRows}
 use Rattle.sync_rules.specs.Meeting.{IsNamedHeld, Meets, AllMeet, EachMeets}
 use Rattle.sync_rules.proofs.Elements.{among-push, same_id-is, same_id_itself}
 use Rattle.sync_rules.proofs.StepLaws.{next_is_settling}
 use Rattle.sync_rules.proofs.Kept.{Fits, AllFit}
 use Rattle.sync_rules.proofs.RowLaws.{firsts_distinct}
 use Rattle.sync_rules.proofs.PeerFacts.{want_changed}
-use Rattle.sync_rules.proofs.StepKinds.{same_next}
+use Rattle.sync_rules.proofs.StepKinds.{same_next, settled_stays}
 
 -- ---- the entries of a record
 
--- what the entries of a record before the last may change
+-- what the entries of a record before the last may change: the journal has a record, so it is no brief account alone
 abbrev at : Facts → fin_map.FinMap nat_cmp ℕ → Rows → Wants → Facts
-at f takes rows wanted = record f { takes = takes; rows = rows; wanted = wanted }
+at f takes rows wanted = record f { start = start.Going; takes = takes; rows = rows; wanted = wanted }
+
+-- a journal with a record is no brief account alone
+goes_with_take : (s : Start) (session k : ℕ) → start_after s (entry.Take session k) ≡ start.Going
+goes_with_take start.Empty session k = refl
+goes_with_take start.Opening session k = refl
+goes_with_take start.Going session k = refl
 
 shown_at : (f : Facts) (takes : fin_map.FinMap nat_cmp ℕ) (rows : Rows) (wanted : Wants) (contact : ℕ) (o : Option Held)
     → is_shown_held f contact o ≡ true → is_shown_held (at f takes rows wanted) contact o ≡ true
@@ -228,10 +236,39 @@ settling_meets clients f (entry.Offered s id) n = absurd (next_is_settling clien
 settling_meets clients f (entry.Seen s id) n = absurd (next_is_settling clients f (entry.Seen s id) n)
 settling_meets clients f (entry.Asked s id) n = absurd (next_is_settling clients f (entry.Asked s id) n)
 settling_meets clients f (entry.Out s now what) n = absurd (next_is_settling clients f (entry.Out s now what) n)
+settling_meets clients f (entry.Brief k) n = absurd (next_is_settling clients f (entry.Brief k) n)
+settling_meets clients f (entry.Kept from m) n = absurd (next_is_settling clients f (entry.Kept from m) n)
+settling_meets clients f (entry.Tried t) n = absurd (next_is_settling clients f (entry.Tried t) n)
+settling_meets clients f (entry.Want c id) n = absurd (next_is_settling clients f (entry.Want c id) n)
 
 pub all_settling_meets : (clients : Meaning) (f : Facts) (es : List Entry) → IsSettling clients f es → AllMeet clients f es
 all_settling_meets clients f [] s = tt
 all_settling_meets clients f (e ∷ es) s = (settling_meets clients f e s.0, all_settling_meets clients (after f e) es s.1)
+
+-- ---- rows and wanted ids
+
+row_meets : (clients : Meaning) (f : Facts) (e : Entry) → IsSettled clients f → f.start ≡ start.Opening → SuitsRows f e → Meets clients f e
+row_meets clients f (entry.Tried t) settled opening s = (settled, opening, s)
+row_meets clients f (entry.Want c id) settled opening s = (settled, opening, s)
+row_meets clients f _ settled opening s = absurd s
+
+-- a row or a wanted id opens no step
+row_settles : (clients : Meaning) (f : Facts) (e : Entry) → IsSettled clients f → SuitsRows f e → IsSettled clients (after f e)
+row_settles clients f (entry.Tried t) settled s = settled_stays clients f (entry.Tried t ∷ []) refl settled
+row_settles clients f (entry.Want c id) settled s = settled_stays clients f (entry.Want c id ∷ []) refl settled
+row_settles clients f _ settled s = absurd s
+
+row_opens : (f : Facts) (e : Entry) → f.start ≡ start.Opening → SuitsRows f e → (after f e).start ≡ start.Opening
+row_opens f (entry.Tried t) opening s = ap (λ (x : Start). start_after x (entry.Tried t)) opening
+row_opens f (entry.Want c id) opening s = ap (λ (x : Start). start_after x (entry.Want c id)) opening
+row_opens f _ opening s = absurd s
+
+pub rows_meet : (clients : Meaning) (f : Facts) (es : List Entry) → IsSettled clients f → f.start ≡ start.Opening → AreRows f es → AllMeet clients f es
+rows_meet clients f [] settled opening s = tt
+rows_meet clients f (e ∷ es) settled opening s = (
+  row_meets clients f e settled opening s.0,
+  rows_meet clients (after f e) es (row_settles clients f e settled s.0) (row_opens f e opening s.0) s.1,
+)
 
 -- ---- batches
 
@@ -246,7 +283,9 @@ allowed_meets clients f (entry.Level c g l ∷ rest) a = meets_alone clients f (
 allowed_meets clients f (entry.Session s ∷ rest) a = meets_alone clients f (entry.Session s) rest a.0 (a.1, a.2)
 allowed_meets clients f (entry.Take s k ∷ rest) a = (
   (a.0, a.1.known_session, a.1.numbered),
-  subst (AllMeet clients (after f (entry.Take s k))) (sym a.1.taken_so) (meets_record clients f s a.1.known_session a.0 (after f (entry.Take s k)).takes a.1.read),
+  subst (AllMeet clients (after f (entry.Take s k))) (sym a.1.taken_so)
+      (subst (λ (from : Start). AllMeet clients (record f { start = from; takes = (after f (entry.Take s k)).takes }) (taken f s a.1.read))
+      (sym (goes_with_take f.start s k)) (meets_record clients f s a.1.known_session a.0 (after f (entry.Take s k)).takes a.1.read)),
 )
 allowed_meets clients f (entry.Author m ∷ rest) a = meets_alone clients f (entry.Author m) rest a.0 (a.1, a.2)
 allowed_meets clients f (entry.Arrive s m ∷ rest) a = absurd a
@@ -258,6 +297,10 @@ allowed_meets clients f (entry.Offered s id ∷ rest) a = absurd a
 allowed_meets clients f (entry.Seen s id ∷ rest) a = absurd a
 allowed_meets clients f (entry.Asked s id ∷ rest) a = absurd a
 allowed_meets clients f (entry.Out s now what ∷ rest) a = meets_alone clients f (entry.Out s now what) rest a.0 (a.1, a.2)
+allowed_meets clients f (entry.Brief n ∷ rest) a = meets_alone clients f (entry.Brief n) rest a.0 a.1
+allowed_meets clients f (entry.Kept from m ∷ rest) a = meets_alone clients f (entry.Kept from m) rest a.0 (a.1, a.2, a.3)
+allowed_meets clients f (entry.Tried t ∷ rest) a = rows_meet clients f (entry.Tried t ∷ rest) a.settled a.opening a.suits
+allowed_meets clients f (entry.Want contact id ∷ rest) a = rows_meet clients f (entry.Want contact id ∷ rest) a.settled a.opening a.suits
 
 -- ---- journals
 
@@ -295,6 +338,7 @@ meets_fits clients f (entry.Judged id) m = m
 meets_fits clients f (entry.Deliver id) m = m
 meets_fits clients f (entry.Invalid id) m = m
 meets_fits clients f (entry.Out s now what) m = m.1
+meets_fits clients f (entry.Kept from x) m = record { known = m.2.known_group; new = m.2.new }
 meets_fits clients f _ m = tt
 
 pub all_meet_fit : (clients : Meaning) (f : Facts) (es : List Entry) → AllMeet clients f es → AllFit clients f es

@@ -14,7 +14,7 @@ use Rattle.sync_rules.specs.Clients.{Meaning}
 use Rattle.sync_rules.specs.Lists.{same_id, is_among, firsts}
 use Rattle.sync_rules.specs.Facts.{Facts, Held, Id, after, facts, contact_in, contact_of, held_at, is_held, is_invisible, level_at, row_at, session_at}
 use Rattle.sync_rules.specs.Sessions.{is_remembered, is_shown, is_shown_held, is_welcome, one_if, room_after, taken, taken_acks, taken_message, taken_message_of, taken_offers, taken_requests}
-use Rattle.sync_rules.specs.Legal.{Allowed, IsSettling, Legal}
+use Rattle.sync_rules.specs.Legal.{Allowed, AreRows, IsSettling, Legal, SuitsRows}
 use Rattle.sync_rules.specs.Growth.{IsStepOf}
 use Rattle.sync_rules.specs.Output.{NamesTheOpen}
 use Rattle.sync_rules.specs.Knowing.{NamesHeld, held_named, held_names}
@@ -115,6 +115,24 @@ settling_held clients f (e ∷ es) s =
     and_from (are_held f.held e) (list_all (are_held f.held) es) (step_held f e (next_is_step clients f e s.0))
     (subst (λ (held : List Held). list_all (are_held held) es ≡ true) same (settling_held clients (after f e) es s.1))
 
+-- ---- rows and wanted ids
+
+row_held : (f : Facts) (e : Entry) → SuitsRows f e → are_held f.held e ≡ true
+row_held f (entry.Tried t) s = one_name f.held t.id s.held
+row_held f (entry.Want contact id) s = refl
+row_held f _ s = absurd s
+
+row_leaves : (f : Facts) (e : Entry) → SuitsRows f e → (after f e).held ≡ f.held
+row_leaves f (entry.Tried t) s = refl
+row_leaves f (entry.Want contact id) s = refl
+row_leaves f _ s = absurd s
+
+rows_held : (f : Facts) (es : List Entry) → AreRows f es → list_all (are_held f.held) es ≡ true
+rows_held f [] s = refl
+rows_held f (e ∷ es) s =
+    and_from (are_held f.held e) (list_all (are_held f.held) es) (row_held f e s.0)
+    (subst (λ (held : List Held). list_all (are_held held) es ≡ true) (row_leaves f e s.0) (rows_held (after f e) es s.1))
+
 -- ---- an output
 
 ids_held : (held : List Held) (ids : List Id) → ((id : Id) → is_among ids id ≡ true → is_held held id ≡ true) → list_all (is_held held) ids ≡ true
@@ -155,6 +173,10 @@ allowed_names_held clients f s (entry.Asked n id ∷ rest) a = absurd a
 allowed_names_held clients f s (entry.Out n now what ∷ rest) a =
     alone_held f (entry.Out n now what) rest a.0
     (out_held f (contact_in (session_at f.sessions n)) what (out_named clients f s (session_at f.sessions n) now what a.2))
+allowed_names_held clients f s (entry.Brief n ∷ rest) a = alone_held f (entry.Brief n) rest a.0 refl
+allowed_names_held clients f s (entry.Kept from m ∷ rest) a = alone_held f (entry.Kept from m) rest a.0 refl
+allowed_names_held clients f s (entry.Tried t ∷ rest) a = rows_held f (entry.Tried t ∷ rest) a.suits
+allowed_names_held clients f s (entry.Want contact id ∷ rest) a = rows_held f (entry.Want contact id ∷ rest) a.suits
 
 pub legal_names_held : (clients : Meaning) (j : List (List Entry)) (b : List Entry) → Legal clients j → Allowed clients (facts j) b → NamesHeld (facts j) b
 legal_names_held clients j b l a = allowed_names_held clients (facts j) (legal_sound clients j l) b a

@@ -162,6 +162,14 @@ records_unknown clients f s h (entry.Seen t id ∷ es) n later none m then = res
     (records_unknown clients (after f (entry.Seen t id)) (sound_after clients f (entry.Seen t id) (meets_fits clients f (entry.Seen t id) m.0) s) (sessions_after_one clients f (entry.Seen t id) m.0 h) es n later none m.1 then) refl refl
 records_unknown clients f s h (entry.Asked t id ∷ es) n later none m then = rest_unknown f (entry.Asked t id) es n later (session_at (after_all f ((entry.Asked t id) ∷ es)).sessions n)
     (records_unknown clients (after f (entry.Asked t id)) (sound_after clients f (entry.Asked t id) (meets_fits clients f (entry.Asked t id) m.0) s) (sessions_after_one clients f (entry.Asked t id) m.0 h) es n later none m.1 then) refl refl
+records_unknown clients f s h (entry.Brief k ∷ es) n later none m then = rest_unknown f (entry.Brief k) es n later (session_at (after_all f ((entry.Brief k) ∷ es)).sessions n)
+    (records_unknown clients (after f (entry.Brief k)) (sound_after clients f (entry.Brief k) (meets_fits clients f (entry.Brief k) m.0) s) (sessions_after_one clients f (entry.Brief k) m.0 h) es n later none m.1 then) refl refl
+records_unknown clients f s h (entry.Kept from x ∷ es) n later none m then = rest_unknown f (entry.Kept from x) es n later (session_at (after_all f ((entry.Kept from x) ∷ es)).sessions n)
+    (records_unknown clients (after f (entry.Kept from x)) (sound_after clients f (entry.Kept from x) (meets_fits clients f (entry.Kept from x) m.0) s) (sessions_after_one clients f (entry.Kept from x) m.0 h) es n later none m.1 then) refl refl
+records_unknown clients f s h (entry.Tried t ∷ es) n later none m then = rest_unknown f (entry.Tried t) es n later (session_at (after_all f ((entry.Tried t) ∷ es)).sessions n)
+    (records_unknown clients (after f (entry.Tried t)) (sound_after clients f (entry.Tried t) (meets_fits clients f (entry.Tried t) m.0) s) (sessions_after_one clients f (entry.Tried t) m.0 h) es n later none m.1 then) refl refl
+records_unknown clients f s h (entry.Want c id ∷ es) n later none m then = rest_unknown f (entry.Want c id) es n later (session_at (after_all f ((entry.Want c id) ∷ es)).sessions n)
+    (records_unknown clients (after f (entry.Want c id)) (sound_after clients f (entry.Want c id) (meets_fits clients f (entry.Want c id) m.0) s) (sessions_after_one clients f (entry.Want c id) m.0 h) es n later none m.1 then) refl refl
 
 -- ---- journals
 

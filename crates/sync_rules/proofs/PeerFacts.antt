@@ -9,8 +9,8 @@ use Rattle.sync_rules.specs.declared.entries.Entry.{Entry}
 use Rattle.sync_rules.specs.declared.entries.Entry.TheVariants as entry
 use Rattle.sync_rules.specs.declared.entries.Out.TheVariants as out
 use Rattle.sync_rules.specs.Lists.{same_id, is_among, without}
-use Rattle.sync_rules.specs.Facts.{Facts, Id, Row, Wants, pair_cmp, row_or, row_at, one_more_try, expiry_after, contact_of, latency_of, nothing, after, after_all, ids_or, wanted_from, change_each, wanted_by_none, with_want, without_each, is_held, authored, arrived}
-use Rattle.sync_rules.specs.PeerLaws.{Test, is_with, is_heard, is_shown_seen, is_asked, is_offered, acks, requests, sends, tries, is_out, never, NonePasses, IsLast, count_at, EndsWith, SeenLaw, OwedLaw, AskedLaw, WantedLaw, TriesLaw, NoExpiryLaw, ExpiryLaw, CutLaw}
+use Rattle.sync_rules.specs.Facts.{Facts, Id, Row, Wants, pair_cmp, row_or, row_at, one_more_try, expiry_after, contact_of, latency_of, nothing, after, after_all, ids_or, wanted_from, change_each, wanted_by_none, with_want, without_each, is_held, authored, arrived, kept_as}
+use Rattle.sync_rules.specs.PeerLaws.{Test, is_with, is_heard, is_shown_seen, is_asked, is_counted_from, is_offered, requests, tries, is_out, is_acked, is_answered, tries_stated, expiry_stated, last_stated, never, NonePasses, IsLast, count_at, EndsWith, SeenLaw, OwedLaw, AskedLaw, WantedLaw, TriesLaw, NoExpiryLaw, ExpiryLaw, CutLaw}
 use Rattle.sync_rules.proofs.Elements.{same_id-is, same_id_swap, among-push}
 use Rattle.sync_rules.proofs.Kept.{after_all-append}
 use Rattle.sync_rules.proofs.Flags.{is_held-push}
@@ -150,23 +150,23 @@ seen_law es contact id =
 
 pub owed_law : (es : List Entry) → OwedLaw es
 owed_law es contact id =
-    flag_law (is_heard contact id) (is_out contact (acks id)) (λ f. (row_at f.rows contact id).owed) (λ f e. owed_step f contact id e)
+    flag_law (is_heard contact id) (is_acked contact id) (λ f. (row_at f.rows contact id).owed) (λ f e. owed_step f contact id e)
     (ap (λ (r : Row). r.owed) (no_row_yet contact id)) es
 
 pub asked_law : (es : List Entry) → AskedLaw es
 asked_law es contact id =
-    flag_law (is_asked contact id) (is_out contact (sends id)) (λ f. (row_at f.rows contact id).asked) (λ f e. asked_step f contact id e)
+    flag_law (is_asked contact id) (is_answered contact id) (λ f. (row_at f.rows contact id).asked) (λ f e. asked_step f contact id e)
     (ap (λ (r : Row). r.asked) (no_row_yet contact id)) es
 
 -- ---- tries
 
-tries_run : (contact : ℕ) (id : Id) (f : Facts) (es : List Entry) (n : ℕ) → Fails (is_asked contact id) f es
+tries_run : (contact : ℕ) (id : Id) (f : Facts) (es : List Entry) (n : ℕ) → Fails (is_counted_from contact id) f es
     → (row_at f.rows contact id).tries ≡ min 64 n
     → (row_at (after_all f es).rows contact id).tries ≡ min 64 (n + count_at (is_out contact (tries id)) f es)
 tries_run contact id f [] n none h = h ∙ ap (min 64) (omega arith)
 tries_run contact id f (e ∷ es) n none h =
     let one = tries_step f contact id e
-    ∙ ap (λ b. cond b 0 (cond (is_out contact (tries id) f e) (one_more_try (row_at f.rows contact id).tries) (row_at f.rows contact id).tries)) none.0 in
+    ∙ ap (λ b. cond b (min 64 (tries_stated e)) (cond (is_out contact (tries id) f e) (one_more_try (row_at f.rows contact id).tries) (row_at f.rows contact id).tries)) none.0 in
     elim (is_out contact (tries id) f e) as (λ b.
     (row_at (after f e).rows contact id).tries ≡ cond b (one_more_try (row_at f.rows contact id).tries) (row_at f.rows contact id).tries
     → (row_at (after_all (after f e) es).rows contact id).tries
@@ -179,48 +179,59 @@ tries_run contact id f (e ∷ es) n none h =
       | false ↦ λ is. tries_run contact id (after f e) es n none.1 (is ∙ h)
     ] one
 
--- at the cut nothing counts
-tries_at_cut : (contact : ℕ) (id : Id) (before : List Entry) → (before ≡ []) ⊎ EndsWith (is_asked contact id) before
-    → ((row_at (after_all nothing before).rows contact id).tries ≡ 0) × ((row_at (after_all nothing before).rows contact id).expiry ≡ 0)
-tries_at_cut contact id before starts =
+-- the last of some entries is the one that was added last
+last_of : (stated : Entry → ℕ) (front : List Entry) (e : Entry) → last_stated stated (front ++ e ∷ []) ≡ stated e
+last_of stated [] e = refl
+last_of stated (x ∷ []) e = refl
+last_of stated (x ∷ y ∷ front) e = last_of stated (y ∷ front) e
+
+-- at the cut a row has the tries and the expiry that its last entry states
+record IsAtCut (contact : ℕ) (id : Id) (before : List Entry) : Type 0 where
+  tries : (row_at (after_all nothing before).rows contact id).tries ≡ min 64 (last_stated tries_stated before)
+  expiry : (row_at (after_all nothing before).rows contact id).expiry ≡ last_stated expiry_stated before
+
+at_cut : (contact : ℕ) (id : Id) (before : List Entry) → (before ≡ []) ⊎ EndsWith (is_counted_from contact id) before → IsAtCut contact id before
+at_cut contact id before starts =
     elim starts [
       | inl none ↦
-          let P : List Entry → Type 0 = λ b. ((row_at (after_all nothing b).rows contact id).tries ≡ 0) × ((row_at (after_all nothing b).rows contact id).expiry ≡ 0) in
-          let at : P [] = (ap (λ (r : Row). r.tries) (no_row_yet contact id), ap (λ (r : Row). r.expiry) (no_row_yet contact id)) in
-          subst P (sym none) at
+          let at : IsAtCut contact id [] = record {
+            tries = ap (λ (r : Row). r.tries) (no_row_yet contact id) ∙ omega arith;
+            expiry = ap (λ (r : Row). r.expiry) (no_row_yet contact id);
+          } in
+          subst (IsAtCut contact id) (sym none) at
       | inr e ↦
           let g : Facts = after_all nothing e.before in
-          let P : List Entry → Type 0 = λ b. ((row_at (after_all nothing b).rows contact id).tries ≡ 0) × ((row_at (after_all nothing b).rows contact id).expiry ≡ 0) in
-          let Q : Facts → Type 0 = λ h. ((row_at h.rows contact id).tries ≡ 0) × ((row_at h.rows contact id).expiry ≡ 0) in
-          let at : Q (after g e.of) = (
-            tries_step g contact id e.of
-                ∙ ap (λ b. cond b 0 (cond (is_out contact (tries id) g e.of) (one_more_try (row_at g.rows contact id).tries) (row_at g.rows contact id).tries)) e.passes,
-            expiry_step g contact id e.of
-                ∙ ap (λ b. cond b 0 (cond (is_out contact (tries id) g e.of) (expiry_by g contact id e.of) (row_at g.rows contact id).expiry)) e.passes,
-          ) in
-          let moved : P (e.before ++ e.of ∷ []) = subst Q (sym (after_all-append nothing e.before (e.of ∷ []))) at in
-          subst P (sym e.stands) moved
+          let whole : after_all nothing (e.before ++ e.of ∷ []) ≡ after g e.of = after_all-append nothing e.before (e.of ∷ []) in
+          let at : IsAtCut contact id (e.before ++ e.of ∷ []) = record {
+            tries = ap (λ (h : Facts). (row_at h.rows contact id).tries) whole
+                ∙ (tries_step g contact id e.of
+                ∙ (ap (λ b. cond b (min 64 (tries_stated e.of)) (cond (is_out contact (tries id) g e.of) (one_more_try (row_at g.rows contact id).tries) (row_at g.rows contact id).tries)) e.passes
+                ∙ ap (min 64) (sym (last_of tries_stated e.before e.of))));
+            expiry = ap (λ (h : Facts). (row_at h.rows contact id).expiry) whole
+                ∙ (expiry_step g contact id e.of
+                ∙ (ap (λ b. cond b (expiry_stated e.of) (cond (is_out contact (tries id) g e.of) (expiry_by g contact id e.of) (row_at g.rows contact id).expiry)) e.passes
+                ∙ sym (last_of expiry_stated e.before e.of)));
+          } in
+          subst (IsAtCut contact id) (sym e.stands) at
     ]
 
 pub tries_law : (es : List Entry) → TriesLaw es
 tries_law es contact id before behind c =
     let g : Facts = after_all nothing before in
-    let none = fails_from (is_asked contact id) g behind c.then in
-    let start : (row_at g.rows contact id).tries ≡ min 64 0 = (tries_at_cut contact id before c.starts).0 ∙ (omega arith) in
-    let run = tries_run contact id g behind 0 none start in
+    let none = fails_from (is_counted_from contact id) g behind c.then in
+    let run = tries_run contact id g behind (last_stated tries_stated before) none (at_cut contact id before c.starts).tries in
     ap (λ (x : List Entry). (row_at (after_all nothing x).rows contact id).tries) c.stands
-    ∙ (ap (λ (f : Facts). (row_at f.rows contact id).tries) (after_all-append nothing before behind)
-    ∙ (run ∙ ap (min 64) (omega arith)))
+    ∙ (ap (λ (f : Facts). (row_at f.rows contact id).tries) (after_all-append nothing before behind) ∙ run)
 
 -- ---- expiry
 
-expiry_run : (contact : ℕ) (id : Id) (f : Facts) (es : List Entry) → Fails (is_asked contact id) f es → Fails (is_out contact (tries id)) f es
+expiry_run : (contact : ℕ) (id : Id) (f : Facts) (es : List Entry) → Fails (is_counted_from contact id) f es → Fails (is_out contact (tries id)) f es
     → (row_at (after_all f es).rows contact id).expiry ≡ (row_at f.rows contact id).expiry
 expiry_run contact id f [] a t = refl
 expiry_run contact id f (e ∷ es) a t =
     expiry_run contact id (after f e) es a.1 t.1
     ∙ (expiry_step f contact id e
-    ∙ (λ i. cond (a.0 i) 0 (cond (t.0 i) (expiry_by f contact id e) (row_at f.rows contact id).expiry)))
+    ∙ (λ i. cond (a.0 i) (expiry_stated e) (cond (t.0 i) (expiry_by f contact id e) (row_at f.rows contact id).expiry)))
 
 no_count : (test : Test) (f : Facts) (es : List Entry) → Fails test f es → count_at test f es ≡ 0
 no_count test f [] h = refl
@@ -242,8 +253,8 @@ no_expiry_law es contact id before behind c none =
     let g : Facts = after_all nothing before in
     ap (λ (x : List Entry). (row_at (after_all nothing x).rows contact id).expiry) c.stands
     ∙ (ap (λ (f : Facts). (row_at f.rows contact id).expiry) (after_all-append nothing before behind)
-    ∙ (expiry_run contact id g behind (fails_from (is_asked contact id) g behind c.then) (fails_from (is_out contact (tries id)) g behind none)
-    ∙ (tries_at_cut contact id before c.starts).1))
+    ∙ (expiry_run contact id g behind (fails_from (is_counted_from contact id) g behind c.then) (fails_from (is_out contact (tries id)) g behind none)
+    ∙ (at_cut contact id before c.starts).expiry))
 
 pub expiry_law : (es : List Entry) → ExpiryLaw es
 expiry_law es contact id before behind c earlier later session now what stands passes none =
@@ -251,13 +262,14 @@ expiry_law es contact id before behind c earlier later session now what stands p
     let h : Facts = after_all g earlier in
     let e : Entry = entry.Out session now what in
     let test : Test = is_out contact (tries id) in
-    let quiet : Fails (is_asked contact id) g (earlier ++ e ∷ later) =
-    subst (Fails (is_asked contact id) g) stands (fails_from (is_asked contact id) g behind c.then) in
-    let front = fails_front (is_asked contact id) g earlier (e ∷ later) quiet in
-    let back = fails_back (is_asked contact id) g earlier (e ∷ later) quiet in
+    let from : Test = is_counted_from contact id in
+    let stated : ℕ = last_stated tries_stated before in
+    let quiet : Fails from g (earlier ++ e ∷ later) = subst (Fails from g) stands (fails_from from g behind c.then) in
+    let front = fails_front from g earlier (e ∷ later) quiet in
+    let back = fails_back from g earlier (e ∷ later) quiet in
     let still : Fails test (after h e) later = fails_from test (after h e) later none in
-    let start : (row_at g.rows contact id).tries ≡ min 64 0 = (tries_at_cut contact id before c.starts).0 ∙ (omega arith) in
-    let run : (row_at h.rows contact id).tries ≡ min 64 (0 + count_at test g earlier) = tries_run contact id g earlier 0 front start in
+    let run : (row_at h.rows contact id).tries ≡ min 64 (stated + count_at test g earlier) =
+    tries_run contact id g earlier stated front (at_cut contact id before c.starts).tries in
     let set : (row_at (after h e).rows contact id).expiry ≡ expiry_after now (latency_of h.sessions session) (one_more_try (row_at h.rows contact id).tries) =
     expiry_step h contact id e
     ∙ ap (λ b. cond b (expiry_by h contact id e) (row_at h.rows contact id).expiry) passes in
@@ -266,7 +278,7 @@ expiry_law es contact id before behind c earlier later session now what stands p
     ∙ ap (λ (n : ℕ). 1 + n) (no_count test (after h e) later still) in
     let count : count_at test g behind ≡ count_at test g earlier + count_at test h (e ∷ later) =
     ap (count_at test g) stands ∙ count-append test g earlier (e ∷ later) in
-    let same : one_more_try (row_at h.rows contact id).tries ≡ min 64 (count_at test g behind) =
+    let same : one_more_try (row_at h.rows contact id).tries ≡ min 64 (stated + count_at test g behind) =
     ap one_more_try run ∙ omega (arith, count, last) in
     ap (λ (x : List Entry). (row_at (after_all nothing x).rows contact id).expiry) (c.stands ∙ ap (λ (b : List Entry). before ++ b) stands)
     ∙ (ap (λ (f : Facts). (row_at f.rows contact id).expiry) (after_all-append nothing before (earlier ++ e ∷ later) ∙ after_all-append g earlier (e ∷ later))
@@ -388,19 +400,28 @@ module _ (contact : ℕ) (id : Id) where
   offer_step true true hx ax false w t eh ea e =
       (λ i. cond (eh refl i || ea refl i) w true) ∙ elim w as (λ v. cond v v true ≡ true) [ true ↦ refl | false ↦ refl ]
 
+  spread_more : (f : Facts) (x : Id) (b c : Bool)
+      → is_among (cond b (cond c (wanted_from f.wanted contact) (wanted_from f.wanted contact ++ x ∷ [])) (wanted_from f.wanted contact)) id
+      ≡ cond b (cond c (is_wanted f) (same_id x id || is_wanted f)) (is_wanted f)
+  spread_more f x true true = refl
+  spread_more f x true false = among-push (wanted_from f.wanted contact) x id
+  spread_more f x false c = refl
+
   offered_one : (f : Facts) (s : ℕ) (x : Id) (t : Bool) → is_wanted f ≡ (not (is_held f.held id) && t)
       → is_wanted (after f (entry.Offered s x)) ≡ (not (is_held f.held id) && cond (is_with contact f s && same_id x id) true t)
   offered_one f s x t e =
       ap (λ (l : List Id). is_among l id) (want_changed f.wanted contact (contact_of f.sessions s) (λ l. with_want (is_held f.held x) l x))
-      ∙ (spread (is_with contact f s) (is_held f.held x || is_among (wanted_from f.wanted contact) x)
+      ∙ (spread_more f x (is_with contact f s) (is_held f.held x || is_among (wanted_from f.wanted contact) x)
       ∙ offer_step (is_with contact f s) (same_id x id) (is_held f.held x) (is_among (wanted_from f.wanted contact) x) (is_held f.held id) (is_wanted f) t
       (λ s. ap (is_held f.held) (same_id-is x id s)) (λ s. ap (is_among (wanted_from f.wanted contact)) (same_id-is x id s)) e)
-    where
-      spread : (b c : Bool) → is_among (cond b (cond c (wanted_from f.wanted contact) (wanted_from f.wanted contact ++ x ∷ [])) (wanted_from f.wanted contact)) id
-          ≡ cond b (cond c (is_wanted f) (same_id x id || is_wanted f)) (is_wanted f)
-      spread true true = refl
-      spread true false = among-push (wanted_from f.wanted contact) x id
-      spread false c = refl
+
+  want_one : (f : Facts) (c : ℕ) (x : Id) (t : Bool) → is_wanted f ≡ (not (is_held f.held id) && t)
+      → is_wanted (after f (entry.Want c x)) ≡ (not (is_held f.held id) && cond (nat_eq contact c && same_id x id) true t)
+  want_one f c x t e =
+      ap (λ (l : List Id). is_among l id) (want_changed f.wanted contact c (λ l. with_want (is_held f.held x) l x))
+      ∙ (spread_more f x (nat_eq contact c) (is_held f.held x || is_among (wanted_from f.wanted contact) x)
+      ∙ offer_step (nat_eq contact c) (same_id x id) (is_held f.held x) (is_among (wanted_from f.wanted contact) x) (is_held f.held id) (is_wanted f) t
+      (λ s. ap (is_held f.held) (same_id-is x id s)) (λ s. ap (is_among (wanted_from f.wanted contact)) (same_id-is x id s)) e)
 
   -- b: the contact; n: the id is named
   request_step : (b n h w t : Bool) → w ≡ (not h && t) → cond b (w && not n) w ≡ (not h && cond (b && n) false t)
@@ -443,6 +464,9 @@ module _ (contact : ℕ) (id : Id) where
   wanted_one f (entry.Out s now (out.Requests ids)) t h = requested_one f s now ids t h
   wanted_one f (entry.Out s now (out.Offers ids)) t h = other_out (is_with contact f s) (is_held f.held id) t (is_wanted f) h
   wanted_one f (entry.Out s now (out.Send x)) t h = other_out (is_with contact f s) (is_held f.held id) t (is_wanted f) h
+  wanted_one f (entry.Kept from m) t h =
+      held_one f (message_id_of m) t h ∙ ap (λ b. not b && t) (sym (is_held-push f.held (kept_as from m) id))
+  wanted_one f (entry.Want c x) t h = want_one f c x t h
   wanted_one f _ t h = h
 
   wanted_all : (f : Facts) (es : List Entry) (t : Bool) → is_wanted f ≡ (not (is_held f.held id) && t)
@@ -498,7 +522,7 @@ cut_after test f (e ∷ es) =
 
 pub cut_law : (es : List Entry) → CutLaw es
 cut_law es contact id =
-    let c : CutAfter (is_asked contact id) nothing es = cut_after (is_asked contact id) nothing es in
+    let c : CutAfter (is_counted_from contact id) nothing es = cut_after (is_counted_from contact id) nothing es in
     record {
       before = c.before;
       behind = c.behind;
@@ -508,6 +532,6 @@ cut_law es contact id =
           | inl none ↦ inl none
           | inr s ↦ inr (record { before = s.0; of = s.1; stands = s.2; passes = s.3 })
         ];
-        then = none_from (is_asked contact id) (after_all nothing c.before) c.behind c.then;
+        then = none_from (is_counted_from contact id) (after_all nothing c.before) c.behind c.then;
       };
     }

@@ -1,5 +1,5 @@
 -- What one more entry makes of a row and of the wanted ids.
-use Rattle.std.proofs.Common.{◌≡◌, ℕ, Bool, true, false, not, cond, ◌&&◌, ◌||◌, List, [], ◌∷◌, refl, sym, ◌∙◌, ap, Option, Some, None, nat_eq, eqb-true}
+use Rattle.std.proofs.Common.{◌≡◌, ℕ, min, Bool, true, false, not, cond, ◌&&◌, ◌||◌, List, [], ◌∷◌, refl, sym, ◌∙◌, ap, Option, Some, None, nat_eq, eqb-true, eq-eqb, arith}
 use Rattle.std.specs.FinMap as fin_map
 use Rattle.std.specs.Ordering.{eq_by_cmp}
 use Rattle.std.proofs.lemmas.Bool.{and_parts, or_parts, not-true}
@@ -7,9 +7,10 @@ use Rattle.sync_ids.specs.Ids.{message_id_of}
 use Rattle.sync_rules.specs.declared.entries.Entry.{Entry}
 use Rattle.sync_rules.specs.declared.entries.Entry.TheVariants as entry
 use Rattle.sync_rules.specs.declared.entries.Out.TheVariants as out
+use Rattle.sync_rules.specs.declared.limits.TheConstants.{MAX_TRIES}
 use Rattle.sync_rules.specs.Lists.{same_id, is_among, has_repeat, firsts, firsts_after, unless_among}
-use Rattle.sync_rules.specs.Facts.{Facts, Id, Row, Rows, pair_cmp, no_row, is_no_row, row_or, row_at, put_row, change_row, change_rows, row_heard, row_seen, row_acked, row_asked, row_offered, row_sent, one_more_try, expiry_after, contact_of, latency_of, after}
-use Rattle.sync_rules.specs.PeerLaws.{is_with, is_heard, is_shown_seen, is_asked, acks, sends, tries, is_out, never}
+use Rattle.sync_rules.specs.Facts.{Facts, Id, Row, Rows, pair_cmp, no_row, is_no_row, row_or, row_at, put_row, change_row, change_rows, row_heard, row_seen, row_acked, row_asked, row_offered, row_sent, row_tried, one_more_try, expiry_after, wait_for, contact_of, latency_of, after, after_all, nothing}
+use Rattle.sync_rules.specs.PeerLaws.{is_with, is_of, is_heard, is_shown_seen, is_asked, is_counted_from, acks, sends, tries, is_out, is_acked, is_answered, tries_stated, expiry_stated, never}
 use Rattle.sync_rules.proofs.Elements.{same_id-is, same_id_itself, same_id_swap}
 use Rattle.sync_rules.proofs.ScanLaws.{pair_total, pair_tied}
 
@@ -175,6 +176,10 @@ module _ (f : Facts) (contact : ℕ) (id : Id) where
   part_kept p true g is = is row
   part_kept p false g is = refl
 
+  part_raised : {A : Type 0} (p : Row → A) (b : Bool) (g : Row → Row) (v : A) → p (g row) ≡ v → p (cond b (g row) row) ≡ cond b v (p row)
+  part_raised p true g v is = is
+  part_raised p false g v is = refl
+
   or_chosen : (b c : Bool) → cond b true c ≡ cond b true (cond false false c)
   or_chosen true c = refl
   or_chosen false c = refl
@@ -202,13 +207,29 @@ module _ (f : Facts) (contact : ℕ) (id : Id) where
   seen_step (entry.Out s now (out.Send x)) =
       ap (λ (r : Row). r.seen) (row_at_change f.rows contact (contact_of f.sessions s) id x (row_sent now (latency_of f.sessions s)))
       ∙ part_kept (λ r. r.seen) (is_with contact f s && same_id x id) (row_sent now (latency_of f.sessions s)) (λ r. refl)
+  seen_step (entry.Tried t) =
+      ap (λ (r : Row). r.seen) (row_at_change f.rows contact t.contact id t.id (row_tried t))
+      ∙ (part_raised (λ r. r.seen) (is_of contact id t) (row_tried t) (t.seen || row.seen) refl
+      ∙ or_set (is_of contact id t) t.seen row.seen)
+    where
+      -- b: the pair; s: it is said so
+      or_set : (b s was : Bool) → cond b (s || was) was ≡ cond (b && s) true was
+      or_set true true was = refl
+      or_set true false was = refl
+      or_set false s was = refl
   seen_step _ = refl
+
+  -- b: the pair; s: what is said of it
+  said : (b s was : Bool) → cond b s was ≡ cond (b && s) true (cond (b && not s) false was)
+  said true true was = refl
+  said true false was = refl
+  said false s was = refl
 
   no_clear : (b c : Bool) → c ≡ cond (b && false) false c
   no_clear true c = refl
   no_clear false c = refl
 
-  pub owed_step : (e : Entry) → (row_then e).owed ≡ cond (is_heard contact id f e) true (cond (is_out contact (acks id) f e) false row.owed)
+  pub owed_step : (e : Entry) → (row_then e).owed ≡ cond (is_heard contact id f e) true (cond (is_acked contact id f e) false row.owed)
   owed_step (entry.Arrive s m) =
       ap (λ (r : Row). r.owed) (row_at_change f.rows contact (contact_of f.sessions s) id (message_id_of m) row_heard)
       ∙ part_set (λ r. r.owed) (is_with contact f s && same_id (message_id_of m) id) row_heard true (λ r. refl)
@@ -233,9 +254,13 @@ module _ (f : Facts) (contact : ℕ) (id : Id) where
       ap (λ (r : Row). r.owed) (row_at_change f.rows contact (contact_of f.sessions s) id x (row_sent now (latency_of f.sessions s)))
       ∙ (part_kept (λ r. r.owed) (is_with contact f s && same_id x id) (row_sent now (latency_of f.sessions s)) (λ r. refl)
       ∙ no_clear (is_with contact f s) row.owed)
+  owed_step (entry.Tried t) =
+      ap (λ (r : Row). r.owed) (row_at_change f.rows contact t.contact id t.id (row_tried t))
+      ∙ (part_set (λ r. r.owed) (is_of contact id t) (row_tried t) t.owed (λ r. refl)
+      ∙ said (is_of contact id t) t.owed row.owed)
   owed_step _ = refl
 
-  pub asked_step : (e : Entry) → (row_then e).asked ≡ cond (is_asked contact id f e) true (cond (is_out contact (sends id) f e) false row.asked)
+  pub asked_step : (e : Entry) → (row_then e).asked ≡ cond (is_asked contact id f e) true (cond (is_answered contact id f e) false row.asked)
   asked_step (entry.Arrive s m) =
       ap (λ (r : Row). r.asked) (row_at_change f.rows contact (contact_of f.sessions s) id (message_id_of m) row_heard)
       ∙ part_kept (λ r. r.asked) (is_with contact f s && same_id (message_id_of m) id) row_heard (λ r. refl)
@@ -260,17 +285,18 @@ module _ (f : Facts) (contact : ℕ) (id : Id) where
   asked_step (entry.Out s now (out.Send x)) =
       ap (λ (r : Row). r.asked) (row_at_change f.rows contact (contact_of f.sessions s) id x (row_sent now (latency_of f.sessions s)))
       ∙ part_set (λ r. r.asked) (is_with contact f s && same_id x id) (row_sent now (latency_of f.sessions s)) false (λ r. refl)
+  asked_step (entry.Tried t) =
+      ap (λ (r : Row). r.asked) (row_at_change f.rows contact t.contact id t.id (row_tried t))
+      ∙ (part_set (λ r. r.asked) (is_of contact id t) (row_tried t) t.asked (λ r. refl)
+      ∙ said (is_of contact id t) t.asked row.asked)
   asked_step _ = refl
 
   no_try : {A : Type 0} (b : Bool) (n m : A) → m ≡ cond (b && false) n m
   no_try true n m = refl
   no_try false n m = refl
 
-  part_raised : {A : Type 0} (p : Row → A) (b : Bool) (g : Row → Row) (v : A) → p (g row) ≡ v → p (cond b (g row) row) ≡ cond b v (p row)
-  part_raised p true g v is = is
-  part_raised p false g v is = refl
-
-  pub tries_step : (e : Entry) → (row_then e).tries ≡ cond (is_asked contact id f e) 0 (cond (is_out contact (tries id) f e) (one_more_try row.tries) row.tries)
+  pub tries_step : (e : Entry) → (row_then e).tries
+      ≡ cond (is_counted_from contact id f e) (min MAX_TRIES (tries_stated e)) (cond (is_out contact (tries id) f e) (one_more_try row.tries) row.tries)
   tries_step (entry.Arrive s m) =
       ap (λ (r : Row). r.tries) (row_at_change f.rows contact (contact_of f.sessions s) id (message_id_of m) row_heard)
       ∙ part_kept (λ r. r.tries) (is_with contact f s && same_id (message_id_of m) id) row_heard (λ r. refl)
@@ -294,6 +320,9 @@ module _ (f : Facts) (contact : ℕ) (id : Id) where
   tries_step (entry.Out s now (out.Send x)) =
       ap (λ (r : Row). r.tries) (row_at_change f.rows contact (contact_of f.sessions s) id x (row_sent now (latency_of f.sessions s)))
       ∙ part_raised (λ r. r.tries) (is_with contact f s && same_id x id) (row_sent now (latency_of f.sessions s)) (one_more_try row.tries) refl
+  tries_step (entry.Tried t) =
+      ap (λ (r : Row). r.tries) (row_at_change f.rows contact t.contact id t.id (row_tried t))
+      ∙ part_set (λ r. r.tries) (is_of contact id t) (row_tried t) (min MAX_TRIES t.tries) (λ r. refl)
   tries_step _ = refl
 
   -- the expiry that an entry sets
@@ -301,7 +330,8 @@ module _ (f : Facts) (contact : ℕ) (id : Id) where
   expiry_by (entry.Out s now what) = expiry_after now (latency_of f.sessions s) (one_more_try row.tries)
   expiry_by _ = 0
 
-  pub expiry_step : (e : Entry) → (row_then e).expiry ≡ cond (is_asked contact id f e) 0 (cond (is_out contact (tries id) f e) (expiry_by e) row.expiry)
+  pub expiry_step : (e : Entry) → (row_then e).expiry
+      ≡ cond (is_counted_from contact id f e) (expiry_stated e) (cond (is_out contact (tries id) f e) (expiry_by e) row.expiry)
   expiry_step (entry.Arrive s m) =
       ap (λ (r : Row). r.expiry) (row_at_change f.rows contact (contact_of f.sessions s) id (message_id_of m) row_heard)
       ∙ part_kept (λ r. r.expiry) (is_with contact f s && same_id (message_id_of m) id) row_heard (λ r. refl)
@@ -325,4 +355,42 @@ module _ (f : Facts) (contact : ℕ) (id : Id) where
   expiry_step (entry.Out s now (out.Send x)) =
       ap (λ (r : Row). r.expiry) (row_at_change f.rows contact (contact_of f.sessions s) id x (row_sent now (latency_of f.sessions s)))
       ∙ part_raised (λ r. r.expiry) (is_with contact f s && same_id x id) (row_sent now (latency_of f.sessions s)) (expiry_by (entry.Out s now (out.Send x))) refl
+  expiry_step (entry.Tried t) =
+      ap (λ (r : Row). r.expiry) (row_at_change f.rows contact t.contact id t.id (row_tried t))
+      ∙ part_set (λ r. r.expiry) (is_of contact id t) (row_tried t) (wait_for t.tries t.expiry) (λ r. refl)
   expiry_step _ = refl
+
+  -- ---- no wait without a try
+
+  -- what an entry states has no wait where it has no try
+  stated_waits : (e : Entry) → min MAX_TRIES (tries_stated e) ≡ 0 → expiry_stated e ≡ 0
+  stated_waits (entry.Tried t) none =
+      let few : t.tries ≡ 0 = omega (arith, none) in
+      ap (λ b. cond b 0 t.expiry) (eq-eqb t.tries 0 few)
+  stated_waits _ none = refl
+
+  -- c: tries are counted from the entry; o: it is a try
+  waits_by : (c o : Bool) (e : Entry) → (row.tries ≡ 0 → row.expiry ≡ 0)
+      → cond c (min MAX_TRIES (tries_stated e)) (cond o (one_more_try row.tries) row.tries) ≡ 0
+      → cond c (expiry_stated e) (cond o (expiry_by e) row.expiry) ≡ 0
+  waits_by true o e was none = stated_waits e none
+  waits_by false true e was none = absurd (omega (arith, none))
+  waits_by false false e was none = was none
+
+  pub waits_one : (e : Entry) → (row.tries ≡ 0 → row.expiry ≡ 0) → (row_then e).tries ≡ 0 → (row_then e).expiry ≡ 0
+  waits_one e was none =
+      expiry_step e
+      ∙ waits_by (is_counted_from contact id f e) (is_out contact (tries id) f e) e was (sym (tries_step e) ∙ none)
+
+-- a row without a try has no wait, where none before had one
+pub waits_all : (f : Facts) (es : List Entry) (contact : ℕ) (id : Id)
+    → ((row_at f.rows contact id).tries ≡ 0 → (row_at f.rows contact id).expiry ≡ 0)
+    → (row_at (after_all f es).rows contact id).tries ≡ 0 → (row_at (after_all f es).rows contact id).expiry ≡ 0
+waits_all f [] contact id was = was
+waits_all f (e ∷ es) contact id was = waits_all (after f e) es contact id (waits_one f contact id e was)
+
+-- so it is in every list of entries, legal or not
+pub row_waits : (es : List Entry) (contact : ℕ) (id : Id)
+    → (row_at (after_all nothing es).rows contact id).tries ≡ 0 → (row_at (after_all nothing es).rows contact id).expiry ≡ 0
+row_waits es contact id =
+    waits_all nothing es contact id (λ none. ap (λ (o : Option Row). (row_or o).expiry) (fin_map.get-empty pair_cmp (contact, id)))

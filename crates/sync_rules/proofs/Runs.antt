@@ -15,7 +15,7 @@ use Rattle.sync_rules.specs.Lists.{firsts}
 use Rattle.sync_rules.specs.Facts.{Facts, Held, Id, after, after_all, after_batches, nothing, facts, entries_of, group_at, held_at, contact_of, session_at, level_at, is_invisible}
 use Rattle.sync_rules.specs.Steps.{next}
 use Rattle.sync_rules.specs.Sessions.{taken, taken_message, taken_message_of, taken_acks, taken_requests, taken_offers, taken_offer, one_if, is_welcome, is_remembered, room_after}
-use Rattle.sync_rules.specs.Legal.{Allowed, IsSettling, GoesOn, Legal}
+use Rattle.sync_rules.specs.Legal.{Allowed, AreRows, IsSettling, GoesOn, Legal, SuitsRows}
 use Rattle.sync_rules.proofs.StepLaws.{next_is_settling}
 use Rattle.sync_rules.proofs.Sound.{SoundFacts}
 use Rattle.sync_rules.proofs.Kept.{Fits, AllFit, sound_all, AllFit-append}
@@ -103,11 +103,23 @@ fits_settling_entry clients f (entry.Level c g l) n = absurd (next_is_settling c
 fits_settling_entry clients f (entry.Author m) n = absurd (next_is_settling clients f (entry.Author m) n)
 fits_settling_entry clients f (entry.Arrive s m) n = absurd (next_is_settling clients f (entry.Arrive s m) n)
 fits_settling_entry clients f (entry.Out s now what) n = absurd (next_is_settling clients f (entry.Out s now what) n)
+fits_settling_entry clients f (entry.Kept from m) n = absurd (next_is_settling clients f (entry.Kept from m) n)
 fits_settling_entry clients f _ n = tt
 
 pub fits_settling : (clients : Meaning) (f : Facts) (es : List Entry) → IsSettling clients f es → AllFit clients f es
 fits_settling clients f [] s = tt
 fits_settling clients f (e ∷ es) s = (fits_settling_entry clients f e s.0, fits_settling clients (after f e) es s.1)
+
+-- ---- rows and wanted ids
+
+fits_row : (clients : Meaning) (f : Facts) (e : Entry) → SuitsRows f e → Fits clients f e
+fits_row clients f (entry.Tried t) s = tt
+fits_row clients f (entry.Want contact id) s = tt
+fits_row clients f _ s = absurd s
+
+fits_rows : (clients : Meaning) (f : Facts) (es : List Entry) → AreRows f es → AllFit clients f es
+fits_rows clients f [] s = tt
+fits_rows clients f (e ∷ es) s = (fits_row clients f e s.0, fits_rows clients (after f e) es s.1)
 
 -- ---- batches
 
@@ -134,6 +146,11 @@ allowed_fits clients f (entry.Offered s id ∷ rest) a = absurd a
 allowed_fits clients f (entry.Seen s id ∷ rest) a = absurd a
 allowed_fits clients f (entry.Asked s id ∷ rest) a = absurd a
 allowed_fits clients f (entry.Out s now what ∷ rest) a = fits_alone clients f (entry.Out s now what) rest a.0 a.2
+allowed_fits clients f (entry.Brief n ∷ rest) a = fits_alone clients f (entry.Brief n) rest a.0 tt
+allowed_fits clients f (entry.Kept from m ∷ rest) a =
+    fits_alone clients f (entry.Kept from m) rest a.0 (record { known = a.3.known_group; new = a.3.new })
+allowed_fits clients f (entry.Tried t ∷ rest) a = fits_rows clients f (entry.Tried t ∷ rest) a.suits
+allowed_fits clients f (entry.Want contact id ∷ rest) a = fits_rows clients f (entry.Want contact id ∷ rest) a.suits
 
 pub goes_on_fits : (clients : Meaning) (f : Facts) (bs : List (List Entry)) → GoesOn clients f bs → AllFit clients f (entries_of bs)
 goes_on_fits clients f [] g = tt

@@ -14,7 +14,7 @@ use Rattle.sync_rules.specs.declared.entries.Level.{Level}
 use Rattle.sync_rules.specs.declared.entries.Level.TheVariants as level
 use Rattle.sync_rules.specs.Clients.{Meaning}
 use Rattle.sync_rules.specs.Lists.{same_id, is_among}
-use Rattle.sync_rules.specs.Facts.{Facts, Held, Known, Id, Pair, LevelMap, pair_cmp, after, after_all, after_batches, nothing, facts, entries_of, held_at, group_at, level_at, level_or, put_level, authored, arrived, known_of, contact_of}
+use Rattle.sync_rules.specs.Facts.{Facts, Held, Known, Id, Pair, LevelMap, pair_cmp, after, after_all, after_batches, nothing, facts, entries_of, held_at, group_at, level_at, level_or, put_level, authored, arrived, kept_as, known_of, contact_of}
 use Rattle.sync_rules.specs.Steps.{step, first_step, first_or_next, next, verdict_for, verdict_by, kind_of_def, is_beside, is_elsewhere}
 use Rattle.sync_rules.specs.EntryTests.{judges, delivers, invalidates}
 use Rattle.sync_rules.specs.Scans.{message_at, def_at, is_beside_message, is_elsewhere_message, message_of, def_of, message_named, def_named, first_of_two, first_message, first_message_in, first_def, first_def_in, any_entry, level_then, last_level, last_level_in, step_brought, first_step_of, first_step_in}
@@ -89,6 +89,7 @@ held_after_one : (f : Facts) (e : Entry) (id : Id)
     → message_at (held_at (after f e).held id) ≡ first_of_two (message_at (held_at f.held id)) (message_named id (message_of e))
 held_after_one f (entry.Author m) id = held_at-append f.held (authored m) id
 held_after_one f (entry.Arrive s m) id = held_at-append f.held (arrived (contact_of f.sessions s) m) id
+held_after_one f (entry.Kept from m) id = held_at-append f.held (kept_as from m) id
 held_after_one f _ id = sym (first-none (message_at (held_at f.held id)))
 
 pub held_after_all : (f : Facts) (es : List Entry) (id : Id)
@@ -209,6 +210,7 @@ module _ (clients : Meaning) (f : Facts) where
   steps_after_one : (g : Facts) (e : Entry) → first_step clients f (after g e).held ≡ first_or_next (first_step clients f g.held) (step_brought clients f (message_of e))
   steps_after_one g (entry.Author m) = first_step-push g.held (authored m)
   steps_after_one g (entry.Arrive s m) = first_step-push g.held (arrived (contact_of g.sessions s) m)
+  steps_after_one g (entry.Kept from m) = first_step-push g.held (kept_as from m)
   steps_after_one g _ = sym (next-none (first_step clients f g.held))
 
   steps_after_all : (g : Facts) (es : List Entry) → first_step clients f (after_all g es).held ≡ first_or_next (first_step clients f g.held) (first_step_of clients f es)

@@ -5,7 +5,7 @@ use Rattle.sync_rules.specs.declared.entries.Entry.{Entry}
 use Rattle.sync_rules.specs.declared.entries.Entry.TheVariants as entry
 use Rattle.sync_rules.specs.Clients.{Meaning}
 use Rattle.sync_rules.specs.Lists.{is_among, In}
-use Rattle.sync_rules.specs.Facts.{Facts, Held, Id, Known, after, after_all, arrived, authored, contact_of, entries_of, facts, group_at, held_at, known_of, nothing}
+use Rattle.sync_rules.specs.Facts.{Facts, Held, Id, Known, after, after_all, arrived, kept_as, authored, contact_of, entries_of, facts, group_at, held_at, known_of, nothing}
 use Rattle.sync_rules.specs.Steps.{is_beside, next}
 use Rattle.sync_rules.specs.Legal.{Legal}
 use Rattle.sync_rules.specs.Knowing.{AreServed, DeliversInOrder, IsServedBehind}
@@ -94,6 +94,8 @@ order_after clients f (entry.Author m) fits sound o =
 order_after clients f (entry.Arrive s m) fits sound o =
     served_kept clients f.groups f.groups f.held (f.held ++ arrived (contact_of f.sessions s) m ∷ [])
     (held_keeps clients f.groups f.held (arrived (contact_of f.sessions s) m)) [] f.delivered o
+order_after clients f (entry.Kept from m) fits sound o =
+    served_kept clients f.groups f.groups f.held (f.held ++ kept_as from m ∷ []) (held_keeps clients f.groups f.held (kept_as from m)) [] f.delivered o
 order_after clients f (entry.Deliver id) fits sound o =
     served_push clients f.groups f.held [] f.delivered id o (delivered_last clients f id sound fits)
 order_after clients f _ fits sound o = o

@@ -147,6 +147,23 @@ same_sessions f g c n_is s t h = record {
   untaken = λ n none. ap (λ m. takes_of m n) t ∙ h.untaken n (ap (λ (ss : List Session). session_at ss n) (sym s) ∙ none);
 }
 
+-- more sessions have begun, and none of them is in the list
+more_begun : (f : Facts) (n : ℕ) → HasSessions f → HasSessions (after f (entry.Brief n))
+more_begun f n h = record {
+  ascending = h.ascending;
+  below = all_by_weaker (λ (s : Session). s.number < f.begun) (λ (s : Session). s.number < f.begun + n) (λ s k. omega (arith, k)) f.sessions h.below;
+  each = λ k s at.
+      let is : IsSessionOf f k s = h.each k s at in
+      record {
+        numbered = is.numbered;
+        begun = let b : k < f.begun = is.begun in omega (arith, b);
+        known_contact = is.known_contact;
+        some_latency = is.some_latency;
+        suited_nonce = is.suited_nonce;
+      };
+  untaken = h.untaken;
+}
+
 pub sessions_after_one : (clients : Meaning) (f : Facts) (e : Entry) → Meets clients f e → HasSessions f → HasSessions (after f e)
 sessions_after_one clients f (entry.Contact c) m h = record {
   ascending = h.ascending;
@@ -168,6 +185,10 @@ sessions_after_one clients f (entry.Offered s id) m h = same_sessions f (after f
 sessions_after_one clients f (entry.Seen s id) m h = same_sessions f (after f (entry.Seen s id)) refl refl refl refl h
 sessions_after_one clients f (entry.Asked s id) m h = same_sessions f (after f (entry.Asked s id)) refl refl refl refl h
 sessions_after_one clients f (entry.Out s now what) m h = same_sessions f (after f (entry.Out s now what)) refl refl refl refl h
+sessions_after_one clients f (entry.Brief n) m h = more_begun f n h
+sessions_after_one clients f (entry.Kept from x) m h = same_sessions f (after f (entry.Kept from x)) refl refl refl refl h
+sessions_after_one clients f (entry.Tried t) m h = same_sessions f (after f (entry.Tried t)) refl refl refl refl h
+sessions_after_one clients f (entry.Want c id) m h = same_sessions f (after f (entry.Want c id)) refl refl refl refl h
 
 pub sessions_of_nothing : HasSessions nothing
 sessions_of_nothing = record {

@@ -10,7 +10,7 @@ use Rattle.sync_rules.specs.declared.states.Fate.{Fate}
 use Rattle.sync_rules.specs.declared.states.Fate.TheVariants as fate_kind
 use Rattle.sync_rules.specs.Clients.{Meaning}
 use Rattle.sync_rules.specs.Lists.{is_among}
-use Rattle.sync_rules.specs.Facts.{Facts, Held, Id, after, after_all, after_batches, nothing, facts, held_at, is_held, known_of, authored, arrived, contact_of, Extends}
+use Rattle.sync_rules.specs.Facts.{Facts, Held, Id, after, after_all, after_batches, nothing, facts, held_at, is_held, known_of, authored, arrived, kept_as, contact_of, Extends}
 use Rattle.sync_rules.specs.Steps.{IsSettled, verdict_in, is_beside, is_elsewhere, is_failing, is_served, fate, fate_held}
 use Rattle.sync_rules.specs.Rounds.{graph_of, good, good_by, good_next, bad, bad_by, bad_first, bad_more, worse_by}
 use Rattle.sync_rules.specs.Legal.{Legal, GoesOn}
@@ -207,6 +207,11 @@ kept_after clients f (entry.Arrive x m) s = record {
   good = good_grows (graph_of clients f) (graph_of clients (after f (entry.Arrive x m))) (held_grow clients f.groups f.held (arrived (contact_of f.sessions x) m));
   bad = bad_grows (graph_of clients f) (graph_of clients (after f (entry.Arrive x m))) (held_grow clients f.groups f.held (arrived (contact_of f.sessions x) m));
   held = push_grows f.held (arrived (contact_of f.sessions x) m);
+}
+kept_after clients f (entry.Kept from m) s = record {
+  good = good_grows (graph_of clients f) (graph_of clients (after f (entry.Kept from m))) (held_grow clients f.groups f.held (kept_as from m));
+  bad = bad_grows (graph_of clients f) (graph_of clients (after f (entry.Kept from m))) (held_grow clients f.groups f.held (kept_as from m));
+  held = push_grows f.held (kept_as from m);
 }
 kept_after clients f _ s = record { good = λ k id e. e; bad = λ k id e. e; held = omega arith }
 

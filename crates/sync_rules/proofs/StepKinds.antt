@@ -8,14 +8,16 @@ use Rattle.sync_ids.specs.declared.records.Record.{Record}
 use Rattle.sync_ids.specs.declared.records.Record.TheVariants as record_kind
 use Rattle.sync_rules.specs.declared.entries.Entry.{Entry}
 use Rattle.sync_rules.specs.declared.entries.Entry.TheVariants as entry
+use Rattle.sync_rules.specs.declared.states.Start.{Start}
+use Rattle.sync_rules.specs.declared.states.Start.TheVariants as start
 use Rattle.sync_rules.specs.Clients.{Meaning}
 use Rattle.sync_rules.specs.Lists.{same_id, firsts, In}
-use Rattle.sync_rules.specs.Facts.{Facts, Held, Id, Known, Ids, after, after_all, after_batches, facts, held_at, is_held, contact_of, takes_of}
+use Rattle.sync_rules.specs.Facts.{Facts, Held, Id, Known, Ids, after, after_all, after_batches, facts, held_at, is_held, contact_of, start_after, takes_of}
 use Rattle.sync_rules.specs.Steps.{step, first_step, first_or_next, next, IsSettled}
 use Rattle.sync_rules.specs.Sessions.{taken, taken_message, taken_message_of, taken_acks, taken_requests, taken_offers, taken_offer, one_if, is_welcome, is_remembered, room_after}
 use Rattle.sync_rules.specs.Legal.{Allowed, IsSettling, AllSettling}
 use Rattle.sync_rules.specs.Hearing.{Settles}
-use Rattle.sync_rules.specs.Growth.{IsStepOf, HasSameSteps, leaves_steps, OnlySettles, TakesOne}
+use Rattle.sync_rules.specs.Growth.{IsBegun, IsStepOf, HasSameSteps, leaves_steps, OnlySettles, TakesOne}
 use Rattle.std.specs.Cmp.{nat_eq_equiv}
 use Rattle.sync_rules.proofs.Elements.{same_id_itself}
 use Rattle.sync_rules.proofs.StepLaws.{Told, first_step_some, told_some, next_is_settling, IsSettlingEntry}
@@ -73,6 +75,7 @@ same_steps_after f (entry.Arrive s m) l = absurd (false≢true l)
 same_steps_after f (entry.Judged id) l = absurd (false≢true l)
 same_steps_after f (entry.Deliver id) l = absurd (false≢true l)
 same_steps_after f (entry.Invalid id) l = absurd (false≢true l)
+same_steps_after f (entry.Kept from m) l = absurd (false≢true l)
 same_steps_after f _ l = record { groups = refl; held = refl; judged = refl; invalid = refl; delivered = refl }
 
 pub same_steps_then : (f g h : Facts) → HasSameSteps f g → HasSameSteps g h → HasSameSteps f h
@@ -97,6 +100,7 @@ settled_stays clients f es l settled = same_next clients f (after_all f es) (sam
 
 pub only_settles_itself : (f : Facts) → OnlySettles f f
 only_settles_itself f = record {
+  start = λ some. refl;
   contacts = refl;
   groups = refl;
   levels = refl;
@@ -110,6 +114,7 @@ only_settles_itself f = record {
 
 pub only_settles_then : (f g h : Facts) → OnlySettles f g → OnlySettles g h → OnlySettles f h
 only_settles_then f g h a b = record {
+  start = λ some. b.start (subst IsBegun (sym (a.start some)) some) ∙ a.start some;
   contacts = b.contacts ∙ a.contacts;
   groups = b.groups ∙ a.groups;
   levels = b.levels ∙ a.levels;
@@ -121,10 +126,19 @@ only_settles_then f g h a b = record {
   wanted = b.wanted ∙ a.wanted;
 }
 
+-- settling begins no account, and leaves one that is begun as it is
+start_settles : (s : Start) (e : Entry) → IsSettlingEntry e → IsBegun s → start_after s e ≡ s
+start_settles start.Empty e k some = absurd some
+start_settles start.Opening (entry.Judged id) k some = refl
+start_settles start.Opening (entry.Deliver id) k some = refl
+start_settles start.Opening (entry.Invalid id) k some = refl
+start_settles start.Opening _ k some = absurd k
+start_settles start.Going e k some = refl
+
 settles_one : (f : Facts) (e : Entry) → IsSettlingEntry e → OnlySettles f (after f e)
-settles_one f (entry.Judged id) k = record { contacts = refl; groups = refl; levels = refl; begun = refl; sessions = refl; takes = refl; held = refl; rows = refl; wanted = refl }
-settles_one f (entry.Deliver id) k = record { contacts = refl; groups = refl; levels = refl; begun = refl; sessions = refl; takes = refl; held = refl; rows = refl; wanted = refl }
-settles_one f (entry.Invalid id) k = record { contacts = refl; groups = refl; levels = refl; begun = refl; sessions = refl; takes = refl; held = refl; rows = refl; wanted = refl }
+settles_one f (entry.Judged id) k = record { start = start_settles f.start (entry.Judged id) k; contacts = refl; groups = refl; levels = refl; begun = refl; sessions = refl; takes = refl; held = refl; rows = refl; wanted = refl }
+settles_one f (entry.Deliver id) k = record { start = start_settles f.start (entry.Deliver id) k; contacts = refl; groups = refl; levels = refl; begun = refl; sessions = refl; takes = refl; held = refl; rows = refl; wanted = refl }
+settles_one f (entry.Invalid id) k = record { start = start_settles f.start (entry.Invalid id) k; contacts = refl; groups = refl; levels = refl; begun = refl; sessions = refl; takes = refl; held = refl; rows = refl; wanted = refl }
 settles_one f _ k = absurd k
 
 pub settling_only : (clients : Meaning) (f : Facts) (es : List Entry) → IsSettling clients f es → OnlySettles f (after_all f es)

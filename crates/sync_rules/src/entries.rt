@@ -1,9 +1,9 @@
 //! The entries of a journal, and its batches.
 ghost use Rattle.std.specs.Prelude.{◌≡◌, ◌≤◌, ◌↔◌, [], ◌∷◌, ◌++◌, length, IfOk, IsErr, OnErr, OnOk};
 
+use crate::states::Origin;
 use std::alloc::{AllocError, Global};
 use std::marker::Model;
-use crate::states::Origin;
 use sync_ids::{GroupDef, GroupId, IdList, MAX_IDS, Message, MessageId, Nonce};
 
 /// How far a contact sees a group (BSP, "Group visibility").

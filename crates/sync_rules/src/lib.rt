@@ -26,8 +26,9 @@ mod view;
 pub use answers::{Clients, DepFault, DepList, Judgement};
 pub use comparing::{ids_named, same_entries, same_entry, same_out};
 pub use entries::{Batch, EmptyBatch, Entry, Level, Mode, Out, Session, Tried};
-pub use limits::{MAX_CONTACTS, MAX_DEPS, MAX_GROUPS, MAX_ROWS, MAX_SESSIONS, MAX_STEPS};
-pub use limits::{MAX_TRIES, MAX_WANTED};
+pub use limits::{
+    MAX_CONTACTS, MAX_DEPS, MAX_GROUPS, MAX_ROWS, MAX_SESSIONS, MAX_STEPS, MAX_TRIES, MAX_WANTED,
+};
 pub use lookups::{fate_in, id_of, level_in};
 pub use states::{Fate, Origin, Refused, Start};
 pub use steps::next_step_in;

@@ -1,4 +1,4 @@
-use Rattle.sync_rules.proofs.BegunLaws.{batches_keep, entries_keep, entry_keeps, journals_list}
+use Rattle.sync_rules.proofs.BegunLaws.{entries_keep, entry_keeps, journals_count}
 use Rattle.sync_rules.proofs.laws.begun.Goals as goal
 
 pub returns-clause-entry : goal.returns-clause-entry
@@ -7,8 +7,5 @@ returns-clause-entry c = entry_keeps
 pub returns-clause-entries : goal.returns-clause-entries
 returns-clause-entries c = entries_keep
 
-pub returns-clause-batches : goal.returns-clause-batches
-returns-clause-batches c = batches_keep
-
 pub returns-clause-journals : goal.returns-clause-journals
-returns-clause-journals c = journals_list
+returns-clause-journals c = journals_count
