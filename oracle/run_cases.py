@@ -355,7 +355,7 @@ def compacted():
     contacts(1)
     say('do group note 0 d')
     post(NOTES, 0, b'x')
-    say('compact', 'states', 'compact')
+    say('stops compact', 'compact', 'states', 'stops compact', 'compact')
 
     case('a note that was sent is compacted: it is sent again when it is due')
     one_contact()
@@ -363,7 +363,7 @@ def compacted():
     for now in (1000, 1000, 3000):
         say('end 0 1', 'clock %d' % now, 'sync 10 1 0 batch 1000 std')
         if now == 1000:
-            say('compact', 'states')
+            say('stops compact', 'compact', 'states')
 
     case('an acknowledgement that is owed stays owed')
     one_contact('visible')
@@ -406,7 +406,7 @@ def compacted():
     say('do share 1 %s invisible' % THREADS.hex(), 'compact', 'end 0 1', 'sync 3 1 0 batch 10 std')
 
     case('a store of format 1 is compacted')
-    say(old_file(heard()), 'compact', 'states', 'idle 0 3', 'clock 200000', 'sync 3 2 0 interactive 1000 std')
+    say(old_file(heard()), 'stops compact', 'compact', 'states', 'idle 0 3', 'clock 200000', 'sync 3 2 0 interactive 1000 std')
 
     for generation in (2 ** 64 - 1, 2 ** 64 - 2, 2 ** 64 - 3):
         case('a store of format 1 and the generation %d' % generation)

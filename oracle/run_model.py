@@ -394,6 +394,12 @@ def read_one(bytes_):
 
 # ---- a store
 
+def calls_of_clear(content):
+    """The first byte is read; a closed gate is written and synced where it is open or not there; the length is asked; a file
+    that is longer is cut and synced."""
+    return 2 + 2 * (content[:1] in (b'', OPEN)) + 2 * (len(content) > 1)
+
+
 class Store:
     # the file of format 2 that a journal of format 1 is to be written anew into
     anew = None
@@ -438,6 +444,20 @@ class Store:
         self.move_to(framed(header(2, self.generation() + 1), map(self.spelled, batches)))
         self.journal.sessions, self.journal.takes = {}, {}
         return 'compacted %d %d' % (old, len(self.files[self.at]))
+
+    def calls_of_compact(self):
+        """How many calls of the disk the command makes, by docs/FORMATS.md."""
+        twin = copy.deepcopy(self)
+        frames_of = lambda store: len(list(frames(store.files[store.at])))
+        read = frames_of(twin)
+        calls = 6 + 2 * read
+        if twin.anew:
+            calls += 4 + 2 * read + calls_of_clear(twin.files[1 - twin.at]) + 4 + 4 * read
+            twin.migrate()
+        twin.settle()
+        calls += 4 * (frames_of(twin) - read) + calls_of_clear(twin.files[1 - twin.at])
+        twin.compact()
+        return calls + 4 + 4 * frames_of(twin)
 
     def spelled(self, batch):
         return b''.join(entry_bytes(e, self.journal.name) for e in batch)
@@ -682,6 +702,8 @@ class Cases:
             self.host.failing_sends.add(int(words[1]))
         elif kind == 'sync':
             self.sync(words)
+        elif line == 'stops compact':
+            self.stops_of_compact()
         elif kind == 'stops':
             self.stops(words[1:])
 
@@ -736,6 +758,11 @@ class Cases:
             host = copy.deepcopy(self.host)
             came.append((Run(store, host, int(words[1]), int(words[2]), links).play(), host.sent))
         assert came[0] == came[1], (words, came)
+
+    def stops_of_compact(self):
+        """Of each call the four images; the journal takes over where its header's gate may be open: from the last write on."""
+        before, behind = 4 * self.store.calls_of_compact() - 4, 4
+        print('stopped: %d before, %d behind, 0 apart' % (before, behind), file=self.out)
 
     def stops(self, words):
         """No image is apart; and was something acknowledged before the last call of the disk?"""

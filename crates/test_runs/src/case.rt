@@ -1,6 +1,7 @@
 //! A case: the files as they stand, and what is to come of the next run.
 
 use crate::command::{Came, command};
+use crate::compacting;
 use crate::crossed::Crossed;
 use crate::stage::{Stage, copy_of, decoded};
 use crate::stops::play_stops;
@@ -203,7 +204,10 @@ impl Case {
     }
 
     fn stop(&mut self, words: &str) -> Result<()> {
-        let line = play_stops(self.alloc, self, words)?;
+        let line = match words {
+            "compact" => compacting::play_stops(self.alloc, self)?,
+            _ => play_stops(self.alloc, self, words)?,
+        };
         self.tell(line.as_str())?;
         self.prepared = Vec::new(self.alloc);
         Ok(())

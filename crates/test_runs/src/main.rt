@@ -17,6 +17,9 @@
 //!   0, and both files.
 //! - `states`: the state of each held message is printed, as `show` does.
 //! - `other`: the other file is printed.
+//! - `stops compact`: the command is stopped at each call of the disk, and each image that a crash
+//!   then leaves is asked whether it has the journal or its brief account, opens, and can be
+//!   compacted to the same; how many had which is printed.
 //! - `stops WORDS`: the run is stopped at each call of the disk instead, and for each image that a
 //!   crash then leaves it is asked whether it opens to a journal that goes on from the old one and
 //!   holds each message that was acknowledged.
@@ -24,6 +27,7 @@
 
 mod case;
 mod command;
+mod compacting;
 mod crossed;
 mod stage;
 mod stops;

@@ -10,7 +10,8 @@ use record_grammar::{Found, read_one};
 use std::alloc::{AllocError, Global};
 use sync_ids::{MessageId, Record};
 
-static PICKS: [Pick; 4] = [Pick::Old, Pick::New, Pick::Zero, Pick::Ones];
+/// The images that a crash may leave.
+pub(crate) static PICKS: [Pick; 4] = [Pick::Old, Pick::New, Pick::Zero, Pick::Ones];
 
 // What the images of a run came to.
 #[derive(Clone, Copy)]
