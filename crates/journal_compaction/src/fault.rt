@@ -1,0 +1,41 @@
+//! Why no brief account was written.
+ghost use Rattle.std.specs.Prelude.{◌≡◌};
+ghost use Rattle.journal_compaction.specs.declared.fault.CompactionFault.TheVariants as fault;
+
+use frame_journal::DiskFault;
+use std::alloc::{AllocError, AllocFailed};
+
+/// Why no brief account was written.
+#[derive(Clone, Copy, Debug, PartialEq, Eq)]
+pub enum CompactionFault {
+    /// The brief account and the room behind it would pass the limit.
+    Full,
+    /// No memory was found.
+    Memory,
+    /// A call on the disk failed.
+    DiskFault,
+}
+
+impl From<AllocError> for CompactionFault {
+    ghost from_gives = { λ _ e. e ≡ fault.Memory };
+
+    fn from(_: AllocError) -> CompactionFault {
+        CompactionFault::Memory
+    }
+}
+
+impl<T: Drop> From<AllocFailed<T>> for CompactionFault {
+    ghost from_gives = { λ _ e. e ≡ fault.Memory };
+
+    fn from(_: AllocFailed<T>) -> CompactionFault {
+        CompactionFault::Memory
+    }
+}
+
+impl From<DiskFault> for CompactionFault {
+    ghost from_gives = { λ _ e. e ≡ fault.DiskFault };
+
+    fn from(_: DiskFault) -> CompactionFault {
+        CompactionFault::DiskFault
+    }
+}
