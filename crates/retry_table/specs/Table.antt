@@ -1,6 +1,7 @@
 -- What is kept for each contact: a row for each message, by the message's number, and the ids that are wanted from it. A row that is
 -- not there counts as one that is all false and zero.
 use Rattle.std.specs.Prelude.{◌≡◌, ◌≢◌, ℕ, ◌-◌, max, Bool, true, false, List, [], ◌++◌, length, replicate, slice_index_or, slice_set}
+use Rattle.sync_rules.specs.declared.entries.Tried.{Tried}
 use Rattle.sync_rules.specs.Facts.{Id, Row, no_row}
 
 -- what is kept of one message for one contact: its row, and whether it is ready, that is, whether it may be sent to the contact as far
@@ -49,6 +50,14 @@ with_ready ready kept = record kept { ready = ready }
 -- our acknowledgement is owed
 abbrev pub row_owed : Row → Row
 row_owed r = record r { owed = true }
+
+-- what is stated of a message for a contact, whatever was kept before
+abbrev pub row_restored : Tried → Row → Row
+row_restored t r = record { seen = t.seen; owed = t.owed; asked = t.asked; tries = t.tries; expiry = t.expiry }
+
+-- what is kept of a message of this id for a contact, as it may be stated
+abbrev pub tried_of : ℕ → Id → Row → Tried
+tried_of contact id r = record { contact = contact; id = id; seen = r.seen; owed = r.owed; asked = r.asked; tries = r.tries; expiry = r.expiry }
 
 -- nobody has rows, wanted ids or room
 abbrev pub IsEmpty : Table → Type 0

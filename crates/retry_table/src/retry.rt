@@ -1,11 +1,11 @@
 //! `Retry`.
-ghost use Rattle.std.specs.Prelude.{◌≡◌, ◌+◌, ◌-◌, ◌^◌, ◌<◌, ◌++◌, ◌∷◌, [], ℕ, true, false, IfOk};
-ghost use Rattle.std.specs.Prelude.{OnOk, OnErr, length, slice_index_or};
+ghost use Rattle.std.specs.Prelude.{◌≡◌, ◌+◌, ◌-◌, ◌^◌, ◌<◌, ◌≤◌, ◌++◌, ◌∷◌, [], ℕ, true, false, IfOk};
+ghost use Rattle.std.specs.Prelude.{OnOk, OnErr, Some, length, slice_get, slice_index_or};
 ghost use Rattle.sync_rules.specs.Lists.{is_among, without};
 ghost use Rattle.sync_rules.specs.Facts.{row_seen, row_acked, row_asked, row_sent, row_offered};
 ghost use Rattle.retry_table.specs.Table.{no_wants, rows_of, wants_of, kept_at, with_row};
 ghost use Rattle.retry_table.specs.Table.{with_ready, row_owed, IsEmpty, Keeps, ChangesWants};
-ghost use Rattle.retry_table.specs.Table.{Reserves};
+ghost use Rattle.retry_table.specs.Table.{Reserves, row_restored, tried_of};
 ghost use Rattle.retry_table.specs.Due.{owed_in, message_in, offers_in, requests_in};
 
 use crate::queues::Queues;
@@ -15,7 +15,7 @@ use std::alloc::{AllocError, Global};
 use std::hash::RandomState;
 use std::marker::Model;
 use sync_ids::MessageId;
-use sync_rules::{MAX_CONTACTS, Mode};
+use sync_rules::{MAX_CONTACTS, Mode, Tried};
 
 /// What is kept for each contact, a number below `MAX_CONTACTS`: a row for each message, by its
 /// arrival number, and the ids wanted from the contact. Contracts see for each contact the list of
@@ -166,6 +166,25 @@ impl Retry {
         self.put(contact, n, self.row(contact, n).offer(now, latency));
     }
 
+    /// This is stated of the message for its contact, whatever was kept before; whether the message
+    /// is ready stays. At most 64 tries are counted.
+    pub fn restore(&mut self, tried: &Tried, n: u32)
+        requires room { n < length (rows_of self.old tried.now.contact) }
+        requires few { tried.now.tries ≤ 64 }
+        ensures { Keeps self.old self.new tried.now.contact n
+            (with_row (row_restored tried.now) (kept_at self.old tried.now.contact n)) }
+    {
+        self.put(tried.contact, n, self.row(tried.contact, n).restore(tried));
+    }
+
+    /// What is kept of the message for the contact, as it may be stated with this id: all false and
+    /// zero where there is no row. It takes no memory.
+    pub fn tried(&self, contact: u8, n: u32, id: MessageId) -> Tried
+        ensures { result ≡ tried_of contact id (kept_at self.now contact n).row }
+    {
+        self.row(contact, n).tried(contact, id)
+    }
+
     /// The message is ready: delivered, of a group that is Shared with the contact, and written
     /// here or judged to be shared.
     pub fn ready(&mut self, contact: u8, n: u32)
@@ -264,6 +283,14 @@ impl Retry {
         ensures { result ≡ is_among (wants_of self.now contact).ids id.now }
     {
         self.wants[contact as usize].contains(id)
+    }
+
+    /// The id of this place, from 0, among those wanted from the contact, in their order.
+    pub fn wanted_at(&self, contact: u8, place: u32) -> MessageId
+        requires { place < length (wants_of self.now contact).ids }
+        ensures { slice_get (wants_of self.now contact).ids place ≡ Some result }
+    {
+        self.wants[contact as usize].at(place)
     }
 
     /// The number of ids wanted from the contact.

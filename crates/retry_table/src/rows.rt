@@ -2,11 +2,14 @@
 ghost use Rattle.std.specs.Prelude.{◌≡◌, ◌≤◌, true, false};
 ghost use Rattle.sync_rules.specs.Facts.{one_more_try, expiry_after, row_seen, row_acked};
 ghost use Rattle.sync_rules.specs.Facts.{row_asked, row_sent, row_offered};
-ghost use Rattle.retry_table.specs.Table.{no_kept, with_row, with_ready, row_owed};
+ghost use Rattle.retry_table.specs.Table.{no_kept, with_row, with_ready, row_owed, row_restored};
+ghost use Rattle.retry_table.specs.Table.{tried_of};
 ghost use Rattle.retry_table.specs.Due.{is_open};
 ghost use Rattle.retry_table.specs.Queues.{message_place, asked_place, offer_place, owed_place};
 
 use std::marker::Model;
+use sync_ids::MessageId;
+use sync_rules::Tried;
 
 /// The most tries that are counted.
 const MOST_TRIES: u8 = 64;
@@ -154,6 +157,33 @@ impl KeptRow {
         let mut sent = self.offer(now, latency);
         sent.asked = false;
         sent
+    }
+
+    /// This is stated of the message.
+    pub(crate) fn restore(mut self, tried: &Tried) -> KeptRow
+        ensures { result ≡ with_row (row_restored tried.now) self }
+    {
+        self.seen = tried.seen;
+        self.owed = tried.owed;
+        self.asked = tried.asked;
+        self.tries = tried.tries;
+        self.expiry = tried.expiry;
+        self
+    }
+
+    /// What is kept, as it may be stated of a message of this id for this contact.
+    pub(crate) fn tried(self, contact: u8, id: MessageId) -> Tried
+        ensures { result ≡ tried_of contact id self.row }
+    {
+        Tried {
+            contact,
+            id,
+            seen: self.seen,
+            owed: self.owed,
+            asked: self.asked,
+            tries: self.tries,
+            expiry: self.expiry,
+        }
     }
 
     /// Whether the message is ready.
