@@ -147,6 +147,18 @@ def out_of(rest, named):
     return 'out', number(rest[:4]), number(rest[4:12]), ('acks', 'requests', 'offers', 'send')[kind], ids
 
 
+def is_spelled(tag, rest, spelled, held):
+    """Whether an entry of the kinds of a brief account, or a step, is spelled so: no further bytes of these have a meaning."""
+    if tag in (8, 9, 10):
+        return number(rest) < held
+    if tag == 17:
+        return rest[0] == 1 or rest[:2] == b'\0\0'
+    if tag == 18:
+        flags, tries, expiry = rest[5], rest[6], number(rest[7:])
+        return number(rest[1:5]) < held and flags < 8 and tries <= 64 and (flags or tries) and (tries or not expiry)
+    return tag < 16 or spelled == SHORT
+
+
 def tried_of(rest, named):
     flags = rest[5]
     return 'tried', rest[0], named(rest[1:5]), bool(flags & 1), bool(flags & 2), bool(flags & 4), rest[6], number(rest[7:])

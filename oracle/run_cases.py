@@ -350,6 +350,55 @@ def old_stores():
 
 # ---- journals in whose place a brief account is put
 
+def odd_files():
+    """Files of brief accounts in which something is not as it must be, and some in which all is."""
+    brief, contact, other = bytes([16]) + bytes(4), b'\1\0', b'\1\1'
+    group = b'\2\4note' + bytes(4) + b'\0\1d'
+    thread = b'\2\6thread' + bytes(4) + b'\0\1d'
+    level = b'\3\0' + NOTES + b'\2'
+    body = lambda time, text: NOTES + time.to_bytes(8, 'big') + len(text).to_bytes(2, 'big') + text
+    mine, theirs = bytes([17, 0, 0]) + body(0, b'x'), bytes([17, 1, 0]) + body(1, b'y')
+    wrong = bytes([17, 1, 0]) + body(2, b'\xff')
+    steps = lambda n: b'\x08' + n.to_bytes(4, 'big') + b'\x09' + n.to_bytes(4, 'big')
+    tried = lambda contact, n, flags, tries, expiry: (bytes([18, contact]) + n.to_bytes(4, 'big') + bytes([flags, tries])
+                                                      + expiry.to_bytes(8, 'big'))
+    want = lambda contact, id_: bytes([19, contact]) + id_
+    reply_to = lambda parent, text: THREADS + bytes(8) + (33 + len(text)).to_bytes(2, 'big') + b'\1' + parent + text
+    unknown = some_ids(0, 1001)
+    head = [brief, contact, group, level]
+    both = [*head, mine, steps(0), theirs, steps(1)]
+    row = tried(0, 0, 0, 1, 3000)
+    journals = [
+        both, [*both, row], [*both, row + tried(0, 1, 3, 0, 0) + want(0, unknown[0])], [*both, tried(0, 1, 7, 64, 2 ** 64 - 1)],
+        [*both, want(0, unknown[0])], [*both, row, want(0, unknown[0])],
+        # a brief that is not first, twice, or with something behind it in its batch
+        [contact, brief], [brief, brief], [brief + contact], [contact, group, mine],
+        # a message that is kept twice, of no group, of no contact, in the middle of settling, by its author though refused or
+        # behind what is not delivered, and one from a contact all the same
+        [*head, mine, steps(0), mine], [brief, contact, mine], [*head[:3], bytes([17, 1, 1]) + body(1, b'y')], [*head, mine, theirs],
+        [*head, bytes([17, 0, 0]) + body(2, b'\xff')], [*head, thread, bytes([17, 0, 0]) + reply_to(unknown[0], b'r')],
+        [*head, thread, bytes([17, 1, 0]) + reply_to(unknown[0], b'r'), b'\x08' + bytes(4)],
+        [*head, wrong, b'\x08' + bytes(4) + b'\x0a' + bytes(4)], [*head, wrong, steps(0)],
+        [*head, bytes([17, 0, 1]) + body(0, b'x')], [*head, bytes([17, 2, 0]) + body(0, b'x')],
+        # a row of no contact, of no message, empty, twice, with 65 tries, with a wait and no try, with a further flag
+        [*both, tried(1, 0, 1, 0, 0)], [*both, tried(0, 2, 1, 0, 0)], [*both, tried(0, 0, 0, 0, 0)], [*both, row + row], [*both, row, row],
+        [*both, tried(0, 0, 1, 65, 9)], [*both, tried(0, 0, 1, 0, 9)], [*both, tried(0, 0, 8, 1, 9)], [*both, tried(0, 0, 8, 0, 0)],
+        # an id that is held, wanted of no contact, twice, and the 1,001st
+        [*both, want(0, message_id(NOTES, 0, b'x'))], [*both, want(1, unknown[0])], [*both, want(0, unknown[0]) * 2],
+        [*both, want(0, unknown[0]), want(0, unknown[0])],
+        [*head, b''.join(want(0, id_) for id_ in unknown[:1000])], [*head, b''.join(want(0, id_) for id_ in unknown)],
+        [*head, b''.join(want(0, id_) for id_ in unknown[:1000]), want(0, unknown[1000])],
+        [*head, other, b''.join(want(0, id_) for id_ in unknown[:1000]), b''.join(want(1, id_) for id_ in unknown[:1000])],
+        [*head, other, b''.join(want(n // 501, id_) for n, id_ in enumerate(unknown))],
+        # rows and a message in one batch, rows before the messages, and a group and a contact behind them
+        [*both, row + mine], [*head, want(0, unknown[0]), mine, steps(0)], [*both, row, thread, other],
+        # an account in the middle of which is something else
+        [contact, want(0, unknown[0])], [contact, group, row],
+    ]
+    yield from (framed(header(2, 1), journal) for journal in journals)
+    yield from (framed(header(1, 1), [entry]) for entry in (brief, mine, want(0, unknown[0])))
+    yield framed(header(1, 1), [contact, group, row])
+
 def compacted():
     case('a note is compacted, and the account is the longer one')
     contacts(1)
@@ -411,6 +460,10 @@ def compacted():
     for generation in (2 ** 64 - 1, 2 ** 64 - 2, 2 ** 64 - 3):
         case('a store of format 1 and the generation %d' % generation)
         say(old_file(heard(), generation), 'compact', 'states')
+
+    case('brief accounts that are none')
+    for file in odd_files():
+        say('load ' + file.hex())
 
     case('as many sessions as there may be, and one fewer')
     for number in (2 ** 32 - 1, 2 ** 32 - 2):

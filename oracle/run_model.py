@@ -9,11 +9,13 @@ import hashlib
 import sys
 
 from digests import group_id, message_id
-from journal import SHORT, WHOLE, entries, entry_of, format_of, frames, number, respelled
+from journal import SHORT, WHOLE, entries, entry_of, format_of, frames, is_spelled, number, respelled
 from store_file import CLOSED, HEADER, OPEN, framed, header
 
 MAX64 = 2**64 - 1
-MAX_STEPS, MAX_ROWS = 256, 1000
+MAX_STEPS, MAX_ROWS, MAX_WANTED = 256, 1000, 1000
+STEPS = ('judged', 'deliver', 'invalid')
+ACCOUNT = ('contact', 'group', 'level', *STEPS, 'kept', 'tried', 'want')
 
 
 # ---- clients
@@ -58,6 +60,8 @@ class Journal:
     """What the batches of a journal come to."""
 
     def __init__(self):
+        # `empty` without an entry, `opening` where it is a brief account so far, else `going`
+        self.start = 'empty'
         self.contacts = 0
         self.groups = []
         self.levels = {}
@@ -106,6 +110,10 @@ class Journal:
     # ---- entries
     def apply(self, entry):
         kind, rest = entry[0], entry[1:]
+        if self.start == 'empty' and kind == 'brief':
+            self.start = 'opening'
+        elif self.start == 'empty' or kind not in ACCOUNT:
+            self.start = 'going'
         if kind == 'contact':
             self.contacts += 1
         elif kind == 'group':
@@ -204,6 +212,56 @@ class Journal:
             self.apply(step)
             batches[-1].append(step)
         return batches
+
+    # ---- which batch may follow, of the kinds of a brief account
+    def allows(self, batch):
+        kind, rest = batch[0][0], batch[0][1:]
+        if kind == 'brief':
+            return len(batch) == 1 and self.start == 'empty'
+        if kind in STEPS:
+            return len(batch) <= MAX_STEPS and self.follows(batch, lambda journal, entry: journal.next_step() == entry)
+        if self.next_step():
+            return False
+        if kind in ('tried', 'want'):
+            return self.start == 'opening' and len(batch) <= MAX_ROWS and self.follows(batch, Journal.suits)
+        if len(batch) > 1:
+            return False
+        if kind == 'contact':
+            return rest[0] == self.contacts
+        if kind == 'group':
+            return rest[0] in (b'note', b'thread', b'feed') and rest[1] == 0 and not self.group(group_id(*rest))
+        if kind == 'level':
+            return rest[0] < self.contacts and bool(self.group(rest[1]))
+        return kind == 'kept' and self.start == 'opening' and self.may_keep(*rest)
+
+    def follows(self, batch, test):
+        journal = copy.deepcopy(self)
+        for entry in batch:
+            if not test(journal, entry):
+                return False
+            journal.apply(entry)
+        return True
+
+    def may_keep(self, origin, message):
+        held = Held(*message, origin)
+        if not self.group(held.group) or self.find(held.id):
+            return False
+        if origin != 'self':
+            return origin < self.contacts
+        answer = self.answer(held)
+        deps = [(d, self.find(d)) for d in answer[0]] if answer else []
+        return answer is not None and all(h and h.group == held.group and d in self.delivered for d, h in deps)
+
+    def suits(self, entry):
+        if entry[0] == 'tried':
+            _, contact, id_, *_ = entry
+            row = self.row(contact, id_)
+            return contact < self.contacts and not (row.seen or row.owed or row.asked or row.tries)
+        if entry[0] == 'want':
+            _, contact, id_ = entry
+            wants = self.wants(contact)
+            return contact < self.contacts and not self.find(id_) and id_ not in wants and len(wants) < MAX_WANTED
+        return False
 
     # ---- what a record is taken as
     def taken(self, session, record):
@@ -702,6 +760,8 @@ class Cases:
             self.host.failing_sends.add(int(words[1]))
         elif kind == 'sync':
             self.sync(words)
+        elif kind == 'load':
+            print(loaded(bytes.fromhex(words[1])), file=self.out)
         elif line == 'stops compact':
             self.stops_of_compact()
         elif kind == 'stops':
@@ -771,6 +831,25 @@ class Cases:
         acked = any(kind == 0 for sent in self.host.sent for kind in kinds_of(sent))
         print('stopped: 0 apart, acknowledged %s' % str(acked).lower(), file=self.out)
         self.host = Host()
+
+
+def loaded(content):
+    """What a load comes to of a file whose journal has the kinds of a brief account alone."""
+    journal, spelled = Journal(), format_of(content)
+    for at, payload in frames(content):
+        parts = list(entries(payload, spelled)) if set_of_tags(payload) else []
+        if not parts or not all(is_spelled(*part, spelled, len(journal.held)) for part in parts):
+            return 'status 5\ndamaged: file 0 at %d' % at
+        batch = [entry_of(*part, journal.named) for part in parts]
+        if not journal.allows(batch):
+            return 'status 5\ndamaged: file 0 at %d' % at
+        for entry in batch:
+            journal.apply(entry)
+    return 'status 0'
+
+
+def set_of_tags(payload):
+    return payload[0] in range(1, 20)
 
 
 def kinds_of(bytes_):

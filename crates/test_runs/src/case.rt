@@ -69,6 +69,7 @@ impl Case {
             "case" => self.begin(line),
             "do" => self.obey(rest),
             "old" => self.set_file(rest),
+            "load" => self.load(rest),
             "input" => self.set_input(rest),
             "crossed" => self.set_clients(rest),
             "sync" => self.run(line),
@@ -114,6 +115,14 @@ impl Case {
         self.told.push_str("file ")?;
         tell_bytes(self.alloc, self.disk.file(0), &mut self.told)?;
         self.tell_other()
+    }
+
+    // What `show` comes to over this file and an empty one.
+    fn load(&mut self, digits: &str) -> Result<()> {
+        self.set_file(digits)?;
+        let came = self.came("show")?;
+        writeln!(self.told, "status {}", came.status)?;
+        Ok(self.told.push_str(came.err_text()?)?)
     }
 
     // A line of file 1.

@@ -13,6 +13,8 @@
 //!   depends on the second of these ids, and any other one on the first.
 //! - `sync WORDS`: the run whose outcome is printed.
 //! - `old HEX`: the files are this one, of either format, and an empty one.
+//! - `load HEX`: the files are this one and an empty one, and the status of `show` over them and what
+//!   it says of a fault are printed.
 //! - `compact`: the line of the command `compact` is printed, or its status where it is another than
 //!   0, and both files.
 //! - `states`: the state of each held message is printed, as `show` does.
