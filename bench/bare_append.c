@@ -2,13 +2,15 @@
  *
  *     bare_append FILE0 FILE1 <frames
  *     bare_append FILE0 FILE1 HEADER <frames
+ *     bare_append FILE0 FILE1 HEADER whole <frames
  *
  * Each file that is there is synced. Then each frame of the input (its length in four bytes, its payload, a closed gate)
  * is added at the end of FILE0, whose last byte is the closed gate: written behind it and synced, then the gate opened
  * and synced.
  *
  * With a header, in hexadecimal digits and without its gate, the journal is written anew into FILE1, which is not there: a
- * closed gate, the header behind it, the frames, and then its gate is opened. The last frame is added behind that. */
+ * closed gate, the header behind it, the frames, and then its gate is opened. The last frame is added behind that;
+ * with `whole` it stands before it too. */
 #include <fcntl.h>
 #include <stdint.h>
 #include <stdio.h>
@@ -77,8 +79,8 @@ int main(int count, char **words)
 {
     static unsigned char frames[MOST];
     struct stat told;
-    check(count == 3 || count == 4, "two files, and a header perhaps");
-    int moves = count == 4;
+    check(count >= 3 && count <= 5, "two files, and a header perhaps");
+    int moves = count >= 4, whole = count == 5;
     int file = open_and_sync(words[1]);
     open_and_sync(words[2]);
     if (moves)
@@ -89,12 +91,14 @@ int main(int count, char **words)
     for (size_t at = 0; at + 5 < have;) {
         size_t size = frame_size(frames + at);
         check(at + size <= have, "frames");
-        if (moves && at + size == have)
+        if (moves && !whole && at + size == have)
             write_at(file, 0, &open_gate, 1);
         write_at(file, gate + 1, frames + at, size);
         write_at(file, gate, &open_gate, 1);
         gate += (off_t)size;
         at += size;
     }
+    if (whole)
+        write_at(file, 0, &open_gate, 1);
     return 0;
 }
