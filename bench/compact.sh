@@ -29,7 +29,7 @@ from journal import ACKS, SEND
 from store_file import GROUP, HEADER, Note, first_batches, frame, framed, header, steps
 
 bsp, folder, memory, runs, count = *sys.argv[1:4], int(sys.argv[4]), int(sys.argv[5])
-SIZE, SESSIONS, LATENCY, NOW = 200, 100, 1_000, 5_000
+SIZE, SESSIONS, AT_ONCE, LATENCY, NOW = 200, 100, 1_000, 1_000, 5_000
 UNKNOWN = '0' * 64
 Used = namedtuple('Used', 'clock processor memory')
 
@@ -66,8 +66,8 @@ def heard(notes, sessions):
         for place, number in enumerate(part):
             yield struct.pack('>BIQ', 5, 2 * session, place) + b'\7' + name(2 * session) + notes[number].said()[1:]
             yield steps(name(number))
-        for at in range(0, len(part), 1_000):
-            yield out(2 * session, ACKS, part[at:at + 1_000])
+            if (place + 1) % AT_ONCE == 0 or number == part[-1]:
+                yield out(2 * session, ACKS, part[place - place % AT_ONCE:place + 1])
         yield begins(2 * session + 1, 1)
         for number in part:
             yield out(2 * session + 1, SEND, [number])
