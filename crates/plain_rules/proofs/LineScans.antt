@@ -8,7 +8,7 @@ use Rattle.sync_rules.specs.declared.entries.Entry.TheVariants as entry
 use Rattle.sync_rules.specs.declared.entries.Mode.{Mode}
 use Rattle.plain_rules.specs.declared.lines.HeldLine.{HeldLine}
 use Rattle.sync_rules.specs.Lists.{same_id}
-use Rattle.sync_rules.specs.Facts.{Facts, Held, Id, after, after_all, after_batches, nothing, facts, held_at, contact_of, row_at, authored, arrived}
+use Rattle.sync_rules.specs.Facts.{Facts, Held, Id, after, after_all, after_batches, nothing, facts, held_at, contact_of, row_at, authored, arrived, kept_as}
 use Rattle.sync_rules.specs.Sessions.{ids_where, first_id, owed_to, offers_of, send_of}
 use Rattle.plain_rules.specs.Lines.{line_of, lines_of, line_by, lines_in, lines_among, line_ids, line_place, is_line_owed, is_line_offered, is_line_sent}
 use Rattle.sync_rules.specs.Views.{place_of, IsPlace, IsFound, group_in, is_seen_in}
@@ -21,6 +21,7 @@ lines_of-push (x ∷ hs) h = ap (λ t. line_of x ∷ t) (lines_of-push hs h)
 lines_after_one : (f : Facts) (e : Entry) → lines_of (after f e).held ≡ lines_of f.held ++ line_by e
 lines_after_one f (entry.Author m) = lines_of-push f.held (authored m)
 lines_after_one f (entry.Arrive s m) = lines_of-push f.held (arrived (contact_of f.sessions s) m)
+lines_after_one f (entry.Kept from m) = lines_of-push f.held (kept_as from m)
 lines_after_one f _ = sym (append-nil (lines_of f.held))
 
 lines_after_all : (f : Facts) (es : List Entry) → lines_of (after_all f es).held ≡ lines_of f.held ++ lines_in es

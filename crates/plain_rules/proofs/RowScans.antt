@@ -7,7 +7,7 @@ use Rattle.sync_rules.specs.declared.entries.Entry.{Entry}
 use Rattle.sync_rules.specs.declared.entries.Entry.TheVariants as entry
 use Rattle.sync_rules.specs.declared.entries.Out.TheVariants as out
 use Rattle.sync_rules.specs.Lists.{same_id, is_among}
-use Rattle.sync_rules.specs.Facts.{Facts, Id, Row, after, after_all, nothing, contact_of, latency_of, row_at, row_or, no_row, pair_cmp, row_heard, row_seen, row_asked, row_acked, row_offered, row_sent}
+use Rattle.sync_rules.specs.Facts.{Facts, Id, Row, after, after_all, nothing, contact_of, latency_of, row_at, row_or, no_row, pair_cmp, row_heard, row_seen, row_asked, row_acked, row_offered, row_sent, row_tried}
 use Rattle.plain_rules.specs.Rows.{row_then}
 use Rattle.sync_rules.proofs.RowLaws.{row_at_change, row_at_firsts}
 use Rattle.plain_rules.proofs.Loops.{entries_more, same_conds}
@@ -32,6 +32,7 @@ row_step f contact id (entry.Out s now (out.Offers ids)) =
 row_step f contact id (entry.Out s now (out.Send x)) =
     row_at_change f.rows contact (contact_of f.sessions s) id x (row_sent now (latency_of f.sessions s))
     ∙ both_conds (nat_eq contact (contact_of f.sessions s)) (same_id x id) (row_sent now (latency_of f.sessions s) (row_at f.rows contact id)) (row_at f.rows contact id)
+row_step f contact id (entry.Tried t) = row_at_change f.rows contact t.contact id t.id (row_tried t)
 row_step f contact id _ = refl
 
 pub no_row_at : (contact : ℕ) (id : Id) → row_at nothing.rows contact id ≡ no_row

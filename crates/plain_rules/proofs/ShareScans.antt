@@ -3,7 +3,7 @@ use Rattle.std.proofs.Common.{◌≡◌, Bool, true, false, cond, List, [], ◌�
 use Rattle.sync_rules.specs.declared.entries.Entry.{Entry}
 use Rattle.sync_rules.specs.declared.entries.Entry.TheVariants as entry
 use Rattle.sync_rules.specs.Clients.{Meaning}
-use Rattle.sync_rules.specs.Facts.{Facts, Held, after, after_all, after_batches, nothing, facts, contact_of, authored, arrived}
+use Rattle.sync_rules.specs.Facts.{Facts, Held, after, after_all, after_batches, nothing, facts, contact_of, authored, arrived, kept_as}
 use Rattle.sync_rules.specs.Sessions.{may_share, ids_where, shared_ids}
 use Rattle.sync_rules.specs.Steps.{answer_of}
 use Rattle.sync_rules.specs.Scans.{message_of}
@@ -24,6 +24,7 @@ module _ (clients : Meaning) (f : Facts) where
   shared_after_one : (g : Facts) (e : Entry) → ids_where shares (after g e).held ≡ ids_where shares g.held ++ shared_by clients f (message_of e)
   shared_after_one g (entry.Author m) = ids_where-append shares g.held (authored m ∷ [])
   shared_after_one g (entry.Arrive s m) = ids_where-append shares g.held (arrived (contact_of g.sessions s) m ∷ [])
+  shared_after_one g (entry.Kept from m) = ids_where-append shares g.held (kept_as from m ∷ [])
   shared_after_one g _ = sym (append-nil (ids_where shares g.held))
 
   shared_after_all : (g : Facts) (es : List Entry) → ids_where shares (after_all g es).held ≡ ids_where shares g.held ++ shared_of clients f es

@@ -10,7 +10,7 @@ use Rattle.plain_rules.specs.declared.wants.WantedLine.{WantedLine}
 use Rattle.sync_rules.specs.Lists.{same_id, is_among, without}
 use Rattle.sync_rules.specs.Facts.{Facts, Held, Id, after, after_all, nothing, facts, held_at, is_held, contact_of, ids_or, wanted_from, with_want, without_each}
 use Rattle.sync_rules.specs.Scans.{first_of_two, first_message, message_at}
-use Rattle.plain_rules.specs.Wants.{wanted_in, WantsAre, lines_without, want_then}
+use Rattle.plain_rules.specs.Wants.{wanted_in, WantsAre, lines_without, want_then, with_line}
 use Rattle.sync_rules.proofs.Elements.{same_id_swap}
 use Rattle.sync_rules.proofs.PeerFacts.{want_changed, want_dropped}
 use Rattle.sync_rules.proofs.ScanLaws.{held_after_all}
@@ -119,9 +119,11 @@ offer_line true false l x u e = sym (ap (λ v. cond v l (l ++ x ∷ [])) (e refl
 offer_line false true l x u e = refl
 offer_line false false l x u e = refl
 
-wants_offered : (f : Facts) (ws : List WantedLine) (s : ℕ) (x : Id) → WantsAre f ws → WantsAre (after f (entry.Offered s x)) (want_then f ws (entry.Offered s x))
-wants_offered f ws s x h c =
-    let cs : ℕ = contact_of f.sessions s in
+-- the lines where an id is offered by this contact, or stated as wanted from it
+wants_more : (f : Facts) (ws : List WantedLine) (cs : ℕ) (x : Id) → WantsAre f ws → (c : ℕ)
+    → wanted_in c (with_line (is_held f.held x) cs x ws)
+    ≡ wanted_from (fin_map.insert f.wanted cs (with_want (is_held f.held x) (wanted_from f.wanted cs) x)) c
+wants_more f ws cs x h c =
     let held : Bool = is_held f.held x in
     let t : Bool = held || is_among (wanted_in cs ws) x in
     let line : WantedLine = record { contact = cs; id = x } in
@@ -143,7 +145,7 @@ wants_after f ws (entry.Author m) h c =
     wanted_without_held c ws (message_id_of m) ∙ (ap (without (message_id_of m)) (h c) ∙ sym (want_dropped f.wanted (message_id_of m) c))
 wants_after f ws (entry.Arrive s m) h c =
     wanted_without_held c ws (message_id_of m) ∙ (ap (without (message_id_of m)) (h c) ∙ sym (want_dropped f.wanted (message_id_of m) c))
-wants_after f ws (entry.Offered s x) h c = wants_offered f ws s x h c
+wants_after f ws (entry.Offered s x) h c = wants_more f ws (contact_of f.sessions s) x h c
 wants_after f ws (entry.Out s now (out.Acks ids)) h c = h c
 wants_after f ws (entry.Out s now (out.Requests ids)) h c =
     wanted_without_requested c ws (contact_of f.sessions s) ids
@@ -151,6 +153,9 @@ wants_after f ws (entry.Out s now (out.Requests ids)) h c =
     ∙ sym (want_changed f.wanted c (contact_of f.sessions s) (without_each ids)))
 wants_after f ws (entry.Out s now (out.Offers ids)) h c = h c
 wants_after f ws (entry.Out s now (out.Send x)) h c = h c
+wants_after f ws (entry.Kept from m) h c =
+    wanted_without_held c ws (message_id_of m) ∙ (ap (without (message_id_of m)) (h c) ∙ sym (want_dropped f.wanted (message_id_of m) c))
+wants_after f ws (entry.Want contact x) h c = wants_more f ws contact x h c
 wants_after f ws _ h c = h c
 
 pub wants_go_on : (f : Facts) (es : List Entry) (k : ℕ) (e : Entry) (was now : List WantedLine) → k < length es → e ≡ get_or es k e

@@ -22,6 +22,7 @@ lines_of (h ∷ hs) = line_of h ∷ lines_of hs
 abbrev pub line_by : Entry → List HeldLine
 line_by (entry.Author m) = record { id = message_id_of m; group = m.group; is_author = true } ∷ []
 line_by (entry.Arrive s m) = record { id = message_id_of m; group = m.group; is_author = false } ∷ []
+line_by (entry.Kept from m) = record { id = message_id_of m; group = m.group; is_author = is_author from } ∷ []
 line_by _ = []
 
 abbrev pub lines_in : List Entry → List HeldLine

@@ -6,7 +6,7 @@ use Rattle.sync_rules.specs.declared.entries.Entry.TheVariants as entry
 use Rattle.sync_rules.specs.declared.entries.Out.{Out}
 use Rattle.sync_rules.specs.declared.entries.Out.TheVariants as out
 use Rattle.sync_rules.specs.Lists.{same_id, is_among}
-use Rattle.sync_rules.specs.Facts.{Facts, Id, Row, contact_of, latency_of, row_heard, row_seen, row_acked, row_asked, row_offered, row_sent}
+use Rattle.sync_rules.specs.Facts.{Facts, Id, Row, contact_of, latency_of, row_heard, row_seen, row_acked, row_asked, row_offered, row_sent, row_tried}
 
 -- the row after an output to the contact
 abbrev pub row_then_out : Id → ℕ → ℕ → Row → Out → Row
@@ -23,4 +23,5 @@ row_then contact id f r (entry.Seen s x) = cond (nat_eq contact (contact_of f.se
 row_then contact id f r (entry.Asked s x) = cond (nat_eq contact (contact_of f.sessions s) && same_id x id) (row_asked r) r
 row_then contact id f r (entry.Out s now what) =
     cond (nat_eq contact (contact_of f.sessions s)) (row_then_out id now (latency_of f.sessions s) r what) r
+row_then contact id f r (entry.Tried t) = cond (nat_eq contact t.contact && same_id t.id id) (row_tried t r) r
 row_then contact id f r _ = r

@@ -23,6 +23,11 @@ abbrev pub lines_without : (WantedLine → Bool) → List WantedLine → List Wa
 lines_without test [] = []
 lines_without test (w ∷ ws) = cond (test w) (lines_without test ws) (w ∷ lines_without test ws)
 
+-- the lines with this id at the end, unless it is held or wanted from this contact already
+abbrev pub with_line : Bool → ℕ → Id → List WantedLine → List WantedLine
+with_line held contact id ws =
+    cond (held || is_among (wanted_in contact ws) id) ws (ws ++ record { contact = contact; id = id } ∷ [])
+
 -- the lines after an output to this contact, and after one more entry
 abbrev pub want_then_out : ℕ → List WantedLine → Out → List WantedLine
 want_then_out contact ws (out.Requests ids) = lines_without (λ w. nat_eq w.contact contact && is_among ids w.id) ws
@@ -31,8 +36,8 @@ want_then_out contact ws _ = ws
 abbrev pub want_then : Facts → List WantedLine → Entry → List WantedLine
 want_then f ws (entry.Author m) = lines_without (λ w. same_id w.id (message_id_of m)) ws
 want_then f ws (entry.Arrive s m) = lines_without (λ w. same_id w.id (message_id_of m)) ws
-want_then f ws (entry.Offered s x) =
-    cond (is_held f.held x || is_among (wanted_in (contact_of f.sessions s) ws) x) ws
-    (ws ++ record { contact = contact_of f.sessions s; id = x } ∷ [])
+want_then f ws (entry.Offered s x) = with_line (is_held f.held x) (contact_of f.sessions s) x ws
 want_then f ws (entry.Out s now what) = want_then_out (contact_of f.sessions s) ws what
+want_then f ws (entry.Kept from m) = lines_without (λ w. same_id w.id (message_id_of m)) ws
+want_then f ws (entry.Want contact x) = with_line (is_held f.held x) contact x ws
 want_then f ws _ = ws

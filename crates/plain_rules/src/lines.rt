@@ -3,10 +3,11 @@ ghost use Rattle.plain_rules.specs.Lines.{line_by, line_place, lines_in, lines_o
 ghost use Rattle.std.specs.Option.{option_to_list};
 ghost use Rattle.std.specs.Prelude.{◌≡◌, ◌+◌, ◌^◌, ◌<◌, ◌++◌, length, IfOk, OnOk};
 ghost use Rattle.sync_rules.specs.Facts.{facts};
+ghost use Rattle.sync_rules.specs.Sessions.{is_author};
 
 use std::alloc::{AllocError, Global};
 use sync_ids::{GroupId, MessageId};
-use sync_rules::{Batch, Entry, id_of};
+use sync_rules::{Batch, Entry, Origin, id_of};
 
 // A held message as a plain view keeps it.
 #[derive(Clone, Copy, Debug, Drop)]
@@ -14,6 +15,15 @@ pub(crate) struct HeldLine {
     pub(crate) id: MessageId,
     pub(crate) group: GroupId,
     pub(crate) is_author: bool,
+}
+
+fn is_author(from: Origin) -> bool
+    ensures { result ≡ is_author from }
+{
+    match from {
+        Origin::Author => true,
+        Origin::From(_) => false,
+    }
 }
 
 // The line that an entry brings.
@@ -30,6 +40,11 @@ fn line_in(entry: &Entry) -> Option<HeldLine>
             id: id_of(message),
             group: message.group(),
             is_author: false,
+        }),
+        Entry::Kept(from, message) => Some(HeldLine {
+            id: id_of(message),
+            group: message.group(),
+            is_author: is_author(*from),
         }),
         _ => None,
     }

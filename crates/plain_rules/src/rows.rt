@@ -3,13 +3,13 @@ ghost use Rattle.plain_rules.specs.Rows.{row_then, row_then_out};
 ghost use Rattle.std.specs.Prelude.{◌≡◌, ◌≤◌, ◌&&◌, cond, nat_eq};
 ghost use Rattle.sync_rules.specs.Facts.{after_all, contact_of, expiry_after, facts, row_acked};
 ghost use Rattle.sync_rules.specs.Facts.{row_asked, row_at, row_heard, row_offered, row_seen};
-ghost use Rattle.sync_rules.specs.Facts.{row_sent};
+ghost use Rattle.sync_rules.specs.Facts.{row_sent, row_tried};
 ghost use Rattle.sync_rules.specs.Lists.{is_among, same_id};
 
 use crate::sessions::{contact_before, latency_before};
 use std::marker::Model;
 use sync_ids::MessageId;
-use sync_rules::{Batch, Entry, MAX_TRIES, Out, id_of};
+use sync_rules::{Batch, Entry, MAX_TRIES, Out, Tried, id_of};
 
 // What is kept of a message for a contact.
 #[derive(Clone, Copy, Debug)]
@@ -138,6 +138,23 @@ fn asked(row: PlainRow) -> PlainRow
     }
 }
 
+fn tried(row: PlainRow, kept: &Tried) -> PlainRow
+    ensures { result ≡ row_tried kept.now row }
+{
+    let tries = if kept.tries < MAX_TRIES {
+        kept.tries
+    } else {
+        MAX_TRIES
+    };
+    PlainRow {
+        seen: kept.seen || row.seen,
+        owed: kept.owed,
+        asked: kept.asked,
+        tries,
+        expiry: if kept.tries == 0 { 0 } else { kept.expiry },
+    }
+}
+
 pub(crate) fn is_in(ids: &[MessageId], id: &MessageId) -> bool
     ensures { result ≡ is_among ids.now id.now }
 {
@@ -227,6 +244,10 @@ fn row_after_one(
             } else {
                 row
             }
+        }
+        Entry::Tried(kept) => {
+            let named = contact == kept.contact && kept.id == *id;
+            changed_if(named, row, tried(row, kept))
         }
         _ => row,
     }

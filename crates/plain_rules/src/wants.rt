@@ -1,6 +1,6 @@
 //! The ids that are wanted from contacts, as lines.
 ghost use Rattle.plain_rules.specs.Wants.{lines_without, want_then, want_then_out, wanted_in};
-ghost use Rattle.plain_rules.specs.Wants.{WantsAre};
+ghost use Rattle.plain_rules.specs.Wants.{WantsAre, with_line};
 ghost use Rattle.std.specs.Prelude.{◌≡◌, ◌+◌, ◌≤◌, ◌&&◌, ◌∷◌, ◌++◌, [], length, nat_eq, cond, ◌||◌};
 ghost use Rattle.std.specs.Prelude.{IfOk};
 ghost use Rattle.sync_rules.specs.Facts.{after_all, facts, is_held};
@@ -114,7 +114,7 @@ fn is_held_before(earlier: &[Batch], before: &[Entry], id: &MessageId) -> bool
     held_in(earlier, id).is_some() || find_message(before, id).is_some()
 }
 
-// The lines with an id that was offered by the contact, unless it is held or wanted already.
+// The lines with an id that the contact offered, unless it is held or wanted already.
 fn with_offered(
     lines: Vec<WantedLine>,
     is_held: bool,
@@ -122,9 +122,7 @@ fn with_offered(
     id: &MessageId,
 ) -> Result<Vec<WantedLine>, AllocError>
     ensures { IfOk result
-        (λ kept. kept.items ≡ cond (is_held || is_among (wanted_in contact lines.items) id.now)
-        lines.items
-        (lines.items ++ record { contact = contact; id = id.now } ∷ [])) }
+        (λ kept. kept.items ≡ with_line is_held contact id.now lines.items) }
 {
     if is_held || is_wanted_in(lines.as_slice(), contact, id) {
         return Ok(lines);
@@ -161,7 +159,7 @@ fn want_one(
         lines.items entry.now) }
 {
     match entry {
-        Entry::Author(message) | Entry::Arrive(_, message) => {
+        Entry::Author(message) | Entry::Arrive(_, message) | Entry::Kept(_, message) => {
             without_held(alloc, lines.as_slice(), &id_of(message))
         }
         Entry::Offered(session, id) => {
@@ -180,6 +178,10 @@ fn want_one(
                 contact_before(earlier, before, *session),
                 what,
             )
+        }
+        Entry::Want(contact, id) => {
+            let is_held = is_held_before(earlier, before, id);
+            with_offered(lines, is_held, *contact, id)
         }
         _ => Ok(lines),
     }
