@@ -1,7 +1,8 @@
 -- What new batches say was seen or arrived comes from records that were heard.
 use Rattle.std.proofs.Common.{◌≡◌, ℕ, Bool, true, false, cond, ◌⊎◌, eqb-true, List, [], ◌∷◌, ◌++◌, refl, sym, ◌∙◌, ap, subst, inl, inr, Option, Some, None, is_some}
-use Rattle.std.specs.List.{AllByRecursion}
+use Rattle.std.specs.List.{AllByRecursion, list_all}
 use Rattle.std.proofs.lemmas.Bool.{and_parts, false≢true, or_left, or_right}
+use Rattle.std.proofs.lemmas.List.Folds.{list_all-append}
 use Rattle.sync_ids.specs.Values.{MessageValue}
 use Rattle.sync_ids.specs.Ids.{message_id_of}
 use Rattle.sync_ids.specs.declared.records.Record.{Record}
@@ -9,7 +10,10 @@ use Rattle.sync_ids.specs.declared.records.Record.TheVariants as record_kind
 use Rattle.sync_rules.specs.declared.entries.Entry.{Entry}
 use Rattle.sync_rules.specs.declared.entries.Entry.TheVariants as entry
 use Rattle.sync_rules.specs.declared.entries.Session.{Session}
+use Rattle.sync_rules.specs.declared.states.Start.TheVariants as start
+use Rattle.sync_rules.specs.Allows.{is_opening}
 use Rattle.sync_rules.specs.Clients.{Meaning}
+use Rattle.sync_rules.specs.CountLaws.{is_no_brief}
 use Rattle.sync_rules.proofs.ConsistencyLaws.{held_at-cases}
 use Rattle.sync_rules.proofs.Continuing.{continues_all}
 use Rattle.sync_rules.specs.Lists.{In, firsts, is_among, same_id}
@@ -21,19 +25,23 @@ use Rattle.sync_rules.specs.Meeting.{AllMeet, Meets}
 use Rattle.sync_rules.specs.PeerLaws.{is_shown_seen, is_with}
 use Rattle.sync_rules.proofs.RowLaws.{among-firsts, seen_step}
 use Rattle.sync_rules.specs.Sessions.{is_remembered, is_welcome, one_if, room_after, taken, taken_acks, taken_message, taken_message_of, taken_offer, taken_offers, taken_requests}
+use Rattle.sync_rules.proofs.StartLaws.{stays_closed_all}
 use Rattle.sync_rules.proofs.StepLaws.{IsSettlingEntry, next_is_settling}
-use Rattle.world_laws.specs.Worlds.{AllHeard, IsHeard, names}
+use Rattle.world_laws.specs.Worlds.{AllHeard, HasNoBrief, IsHeard, names}
 
 -- ---- what the entries of a record say
 
 abbrev pub HeardNaming : (ℕ → List Record) → ℕ → Id → Type 0
 HeardNaming heard session id = (r : Record) × In r (heard session) × (names r id ≡ true)
 
--- an entry that says that a message arrived, or that a contact has one, comes from a record that was heard
+-- an entry that says that a message arrived, or that a contact has one, comes from a record that was heard; no brief account
+-- says so
 abbrev pub SaysHeard : (ℕ → List Record) → Entry → Type 0
 SaysHeard heard (entry.Arrive s m) = In (record_kind.Message m) (heard s)
 SaysHeard heard (entry.Again s id) = HeardNaming heard s id
 SaysHeard heard (entry.Seen s id) = HeardNaming heard s id
+SaysHeard heard (entry.Kept from m) = ⊥
+SaysHeard heard (entry.Tried t) = ⊥
 SaysHeard heard _ = Unit {0}
 
 module _ (P : Entry → Type 0) where
@@ -100,6 +108,8 @@ step_says heard (entry.Invalid id) k = tt
 step_says heard (entry.Arrive s m) k = absurd k
 step_says heard (entry.Again s id) k = absurd k
 step_says heard (entry.Seen s id) k = absurd k
+step_says heard (entry.Kept from m) k = absurd k
+step_says heard (entry.Tried t) k = absurd k
 step_says heard _ k = tt
 
 settling_says : (heard : ℕ → List Record) (clients : Meaning) (f : Facts) (es : List Entry) → IsSettling clients f es → AllByRecursion (SaysHeard heard) es
@@ -109,30 +119,42 @@ settling_says heard clients f (e ∷ es) s = (step_says heard e (next_is_settlin
 says_alone : (heard : ℕ → List Record) (e : Entry) (rest : List Entry) → rest ≡ [] → SaysHeard heard e → AllByRecursion (SaysHeard heard) (e ∷ rest)
 says_alone heard e rest none says = (says, subst (AllByRecursion (SaysHeard heard)) (sym none) tt)
 
-batch_says : (heard : ℕ → List Record) (clients : Meaning) (f : Facts) (b : List Entry) → Allowed clients f b → IsHeard heard f b → AllByRecursion (SaysHeard heard) b
-batch_says heard clients f [] a h = absurd a
-batch_says heard clients f (entry.Contact c ∷ rest) a h = says_alone heard (entry.Contact c) rest a.0 tt
-batch_says heard clients f (entry.Group def ∷ rest) a h = says_alone heard (entry.Group def) rest a.0 tt
-batch_says heard clients f (entry.Level c g l ∷ rest) a h = says_alone heard (entry.Level c g l) rest a.0 tt
-batch_says heard clients f (entry.Session s ∷ rest) a h = says_alone heard (entry.Session s) rest a.0 tt
-batch_says heard clients f (entry.Take s k ∷ rest) a h =
-    (tt, subst (AllByRecursion (SaysHeard heard)) (sym h.2) (record_says heard f s h.0 h.1))
-batch_says heard clients f (entry.Author m ∷ rest) a h = says_alone heard (entry.Author m) rest a.0 tt
-batch_says heard clients f (entry.Arrive s m ∷ rest) a h = absurd a
-batch_says heard clients f (entry.Judged id ∷ rest) a h = settling_says heard clients f (entry.Judged id ∷ rest) a.2
-batch_says heard clients f (entry.Deliver id ∷ rest) a h = settling_says heard clients f (entry.Deliver id ∷ rest) a.2
-batch_says heard clients f (entry.Invalid id ∷ rest) a h = settling_says heard clients f (entry.Invalid id ∷ rest) a.2
-batch_says heard clients f (entry.Again s id ∷ rest) a h = absurd a
-batch_says heard clients f (entry.Offered s id ∷ rest) a h = absurd a
-batch_says heard clients f (entry.Seen s id ∷ rest) a h = absurd a
-batch_says heard clients f (entry.Asked s id ∷ rest) a h = absurd a
-batch_says heard clients f (entry.Out s now what ∷ rest) a h = says_alone heard (entry.Out s now what) rest a.0 tt
+-- where a journal is no brief account, none of an account's own kinds stands behind it
+not_opening : (f : Facts) → is_opening f.start ≡ false → f.start ≡ start.Opening → ⊥
+not_opening f closed opening = false≢true (sym closed ∙ ap is_opening opening)
 
-pub batches_say : (heard : ℕ → List Record) (clients : Meaning) (f : Facts) (bs : List (List Entry)) → GoesOn clients f bs → AllHeard heard f bs
-    → AllByRecursion (SaysHeard heard) (entries_of bs)
-batches_say heard clients f [] g h = tt
-batches_say heard clients f (b ∷ bs) g h =
-    all_by_append (SaysHeard heard) b (entries_of bs) (batch_says heard clients f b g.0 h.0) (batches_say heard clients (after_all f b) bs g.1 h.1)
+batch_says : (heard : ℕ → List Record) (clients : Meaning) (f : Facts) (b : List Entry) → is_opening f.start ≡ false → Allowed clients f b → IsHeard heard f b
+    → AllByRecursion (SaysHeard heard) b
+batch_says heard clients f [] closed a h = absurd a
+batch_says heard clients f (entry.Contact c ∷ rest) closed a h = says_alone heard (entry.Contact c) rest a.0 tt
+batch_says heard clients f (entry.Group def ∷ rest) closed a h = says_alone heard (entry.Group def) rest a.0 tt
+batch_says heard clients f (entry.Level c g l ∷ rest) closed a h = says_alone heard (entry.Level c g l) rest a.0 tt
+batch_says heard clients f (entry.Session s ∷ rest) closed a h = says_alone heard (entry.Session s) rest a.0 tt
+batch_says heard clients f (entry.Take s k ∷ rest) closed a h =
+    (tt, subst (AllByRecursion (SaysHeard heard)) (sym h.2) (record_says heard f s h.0 h.1))
+batch_says heard clients f (entry.Author m ∷ rest) closed a h = says_alone heard (entry.Author m) rest a.0 tt
+batch_says heard clients f (entry.Arrive s m ∷ rest) closed a h = absurd a
+batch_says heard clients f (entry.Judged id ∷ rest) closed a h = settling_says heard clients f (entry.Judged id ∷ rest) a.2
+batch_says heard clients f (entry.Deliver id ∷ rest) closed a h = settling_says heard clients f (entry.Deliver id ∷ rest) a.2
+batch_says heard clients f (entry.Invalid id ∷ rest) closed a h = settling_says heard clients f (entry.Invalid id ∷ rest) a.2
+batch_says heard clients f (entry.Again s id ∷ rest) closed a h = absurd a
+batch_says heard clients f (entry.Offered s id ∷ rest) closed a h = absurd a
+batch_says heard clients f (entry.Seen s id ∷ rest) closed a h = absurd a
+batch_says heard clients f (entry.Asked s id ∷ rest) closed a h = absurd a
+batch_says heard clients f (entry.Out s now what ∷ rest) closed a h = says_alone heard (entry.Out s now what) rest a.0 tt
+batch_says heard clients f (entry.Brief n ∷ rest) closed a h = says_alone heard (entry.Brief n) rest a.0 tt
+batch_says heard clients f (entry.Kept from m ∷ rest) closed a h = absurd (not_opening f closed a.2)
+batch_says heard clients f (entry.Tried t ∷ rest) closed a h = absurd (not_opening f closed a.opening)
+batch_says heard clients f (entry.Want contact id ∷ rest) closed a h = absurd (not_opening f closed a.opening)
+
+pub batches_say : (heard : ℕ → List Record) (clients : Meaning) (f : Facts) (bs : List (List Entry)) → is_opening f.start ≡ false → HasNoBrief bs
+    → GoesOn clients f bs → AllHeard heard f bs → AllByRecursion (SaysHeard heard) (entries_of bs)
+batches_say heard clients f [] closed plain g h = tt
+batches_say heard clients f (b ∷ bs) closed plain g h =
+    let both = and_parts (list_all is_no_brief b) (list_all is_no_brief (entries_of bs))
+    (sym (list_all-append is_no_brief b (entries_of bs)) ∙ plain) in
+    all_by_append (SaysHeard heard) b (entries_of bs) (batch_says heard clients f b closed g.0 h.0)
+    (batches_say heard clients (after_all f b) bs (stays_closed_all f b both.0 closed) both.1 g.1 h.1)
 
 -- ---- what is seen
 
@@ -169,6 +191,7 @@ shown_by heard clients f contact id (entry.Seen s x) meets says shows =
     let both = and_parts (is_with contact f s) (same_id x id) shows in
     session_with heard f contact s id (subst (HeardNaming heard s) (same_id-is x id both.1) says) (eqb-true contact (contact_of f.sessions s) both.0)
     (session_at f.sessions s) refl meets.1.known_session
+shown_by heard clients f contact id (entry.Tried t) meets says shows = absurd says
 shown_by heard clients f contact id _ meets says shows = absurd (false≢true shows)
 
 seen_later : (heard : ℕ → List Record) (f : Facts) (es : List Entry) (contact : ℕ) (id : Id) → SeenFrom heard f contact id → SeenFrom heard (after_all f es) contact id
@@ -223,6 +246,7 @@ held_one heard f (entry.Arrive s m) es id h says at =
       | inl was ↦ Before was
       | inr new ↦ Heard s (subst (λ (x : Held). In (record_kind.Message x.message) (heard s)) (sym new.0) says)
     ]
+held_one heard f (entry.Kept from m) es id h says at = absurd says
 held_one heard f _ es id h says at = Before at
 
 held_back : (heard : ℕ → List Record) (f : Facts) (e : Entry) (es : List Entry) (id : Id) (h : Held) → SaysHeard heard e → HeldFrom heard (after f e) es id h

@@ -110,6 +110,7 @@ move_is_step clients w move near i = inl (
     more = [];
     goes_on = sym (append-nil (journal_at w 0));
     allowed = tt;
+    plain = refl;
     others = λ e other. refl;
     heard = λ session. [];
     all_heard = tt;

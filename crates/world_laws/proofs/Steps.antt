@@ -1,8 +1,10 @@
 -- Each step of a sound world leads to a sound world.
-use Rattle.std.proofs.Common.{◌≡◌, ℕ, zero, suc, ◌-◌, ◌<◌, ◌≤◌, Bool, true, false, not, cond, ◌||◌, ◌⊎◌, List, [], ◌∷◌, ◌++◌, append_assoc, append-nil, refl, sym, ◌∙◌, ap, subst, inl, inr, arith, Option, Some, None, is_some}
+use Rattle.std.proofs.Common.{◌≡◌, ℕ, zero, suc, ◌-◌, ◌<◌, ◌≤◌, Bool, true, false, not, cond, ◌&&◌, ◌||◌, ◌⊎◌, List, [], ◌∷◌, ◌++◌, append_assoc, append-nil, refl, sym, ◌∙◌, ap, subst, inl, inr, arith, Option, Some, None, is_some}
 use Rattle.std.specs.Prelude.{nat_lt}
 use Rattle.std.specs.FinMap as fin_map
+use Rattle.std.specs.List.{list_all}
 use Rattle.std.proofs.lemmas.Bool.{cases_eq, false≢true, ltb-true, ltb-false}
+use Rattle.std.proofs.lemmas.List.Folds.{list_all-append}
 use Rattle.sync_ids.specs.Values.{MessageValue}
 use Rattle.sync_ids.specs.Ids.{message_id_of}
 use Rattle.sync_ids.specs.declared.records.Record.{Record}
@@ -10,8 +12,10 @@ use Rattle.sync_ids.specs.declared.records.Record.TheVariants as record_kind
 use Rattle.sync_rules.specs.declared.entries.Entry.{Entry}
 use Rattle.sync_rules.specs.declared.entries.Entry.TheVariants as entry
 use Rattle.sync_rules.specs.declared.entries.Session.{Session}
+use Rattle.sync_rules.specs.Allows.{is_opening}
 use Rattle.sync_rules.specs.Clients.{Meaning}
 use Rattle.sync_rules.specs.Consistency.{HasRows}
+use Rattle.sync_rules.specs.CountLaws.{is_no_brief}
 use Rattle.sync_rules.proofs.ConsistencyLaws.{legal_consistent}
 use Rattle.sync_rules.proofs.Continuing.{continues_journals, facts-append, legal-append}
 use Rattle.sync_rules.specs.Lists.{In, is_among}
@@ -24,8 +28,9 @@ use Rattle.sync_rules.proofs.Outputs.{entries_of-append}
 use Rattle.sync_rules.specs.Output.{sent}
 use Rattle.sync_rules.specs.Sessions.{is_author, shared_ids}
 use Rattle.sync_rules.proofs.Sound.{held_at-In, held_at-id}
+use Rattle.sync_rules.proofs.StartLaws.{facts_closed}
 use Rattle.world_laws.specs.Theorem.{HeldIsWritten, IsNewWorld, IsSoundWorld, IsWritten, RestIsDone, SeenIsHeld}
-use Rattle.world_laws.specs.Worlds.{AreSteps, HasSession, IsSent, IsStep, Journal, Link, Linked, Runs, WasGiven, Way, WayRuns, WaysRun, World, contact_for, journal_at, last_of, link_in, new_end, way_at, way_in, way_of}
+use Rattle.world_laws.specs.Worlds.{AreSteps, HasNoBrief, HasSession, IsSent, IsStep, Journal, Link, Linked, Runs, WasGiven, Way, WayRuns, WaysRun, World, contact_for, journal_at, last_of, link_in, new_end, way_at, way_in, way_of}
 use Rattle.world_laws.proofs.SentNames.{SentHeld, sent_message, sent_named, sent_stays}
 use Rattle.world_laws.proofs.HeardLaws.{Before, Heard, HeldFrom, Written, batches_say, held_from, seen_from}
 use Rattle.world_laws.proofs.RestLaws.{none_sendable, seen_if_not_sendable}
@@ -107,6 +112,12 @@ authored_stays : (j before : Journal) → Extends j before → (m : MessageValue
 authored_stays j before e m a =
     subst (λ (t : List Entry). IsAuthored t m) (sym (ap entries_of e.1 ∙ entries_of-append before e.0)) (authored_front (entries_of before) (entries_of e.0) m a)
 
+-- a journal goes on without a brief account
+plain_append : (j more : Journal) → HasNoBrief j → HasNoBrief more → HasNoBrief (j ++ more)
+plain_append j more plain then =
+    ap (list_all is_no_brief) (entries_of-append j more)
+    ∙ (list_all-append is_no_brief (entries_of j) (entries_of more) ∙ (λ i. plain i && then i))
+
 -- ---- a device runs
 
 module _ (clients : Meaning) (d : ℕ) (old new : World) (s : IsSoundWorld clients old) (r : Runs clients d old new) where
@@ -127,6 +138,16 @@ module _ (clients : Meaning) (d : ℕ) (old new : World) (s : IsSoundWorld clien
             subst (Legal clients) (sym r.goes_on) (legal-append clients (journal_at old d) r.more (s.legal d) r.allowed) in
             subst (λ (k : ℕ). Legal clients (journal_at new k)) (sym same) own
         | inr other ↦ subst (Legal clients) (sym (r.others e other)) (s.legal e)
+      ]
+
+  plain_at : (e : ℕ) → HasNoBrief (journal_at new e)
+  plain_at e =
+      elim (cases_eq e d) [
+        | inl same ↦
+            let own : HasNoBrief (journal_at new d) =
+            subst HasNoBrief (sym r.goes_on) (plain_append (journal_at old d) r.more (s.plain d) r.plain) in
+            subst (λ (k : ℕ). HasNoBrief (journal_at new k)) (sym same) own
+        | inr other ↦ subst HasNoBrief (sym (r.others e other)) (s.plain e)
       ]
 
   before : (i : ℕ) (near : Bool) (way : Way) → way_at new i near ≡ Some way → OldWay d (journal_at new d) (way_at old i near) way
@@ -218,6 +239,9 @@ module _ (clients : Meaning) (d : ℕ) (old new : World) (s : IsSoundWorld clien
   abbrev added : List Entry
   added = entries_of r.more
 
+  closed : is_opening first.start ≡ false
+  closed = facts_closed (journal_at old d) (s.plain d)
+
   now_is : facts (journal_at new d) ≡ after_all first added
   now_is = ap facts r.goes_on ∙ (facts-append (journal_at old d) r.more ∙ after_batches-is first r.more)
 
@@ -230,7 +254,7 @@ module _ (clients : Meaning) (d : ℕ) (old new : World) (s : IsSoundWorld clien
       → is_held (facts (journal_at new b)).held id ≡ true
   seen_own b id apart seen =
       elim (seen_from r.heard clients first added (contact_for d b) id (goes_on_meets clients first r.more r.allowed)
-      (batches_say r.heard clients first r.more r.allowed r.all_heard)
+      (batches_say r.heard clients first r.more closed r.plain r.allowed r.all_heard)
       (ap (λ (f : Facts). (row_at f.rows (contact_for d b) id).seen) (sym now_is) ∙ seen)) [
         | inl earlier ↦ held_now b id (s.seen d b id apart earlier)
         | inr new_one ↦
@@ -284,7 +308,7 @@ module _ (clients : Meaning) (d : ℕ) (old new : World) (s : IsSoundWorld clien
         | inl same ↦
             let own : held_at (after_all first added).held id ≡ Some h =
             ap (λ (f : Facts). held_at f.held id) (sym now_is) ∙ (ap (λ (k : ℕ). held_at (facts (journal_at new k)).held id) (sym same) ∙ at) in
-            written_own id h (held_from r.heard first added id h (batches_say r.heard clients first r.more r.allowed r.all_heard) own)
+            written_own id h (held_from r.heard first added id h (batches_say r.heard clients first r.more closed r.plain r.allowed r.all_heard) own)
         | inr other ↦
             written_now h (s.written e id h (ap (λ (j : Journal). held_at (facts j).held id) (sym (r.others e other)) ∙ at))
       ]
@@ -292,6 +316,7 @@ module _ (clients : Meaning) (d : ℕ) (old new : World) (s : IsSoundWorld clien
   pub runs_keep : IsSoundWorld clients new
   runs_keep = record {
     legal = legal_at;
+    plain = plain_at;
     apart = apart_at;
     sessions = sessions_at;
     flight = flight_at;
@@ -344,6 +369,7 @@ module _ (clients : Meaning) (d e : ℕ) (two : d ≡ e → ⊥) (old : World) (
   pub linked_keeps : IsSoundWorld clients linked
   linked_keeps = record {
     legal = s.legal;
+    plain = s.plain;
     apart = λ i near way stands same.
         elim (way_cases i near way stands) [
           | inl was ↦ s.apart i near way was same
@@ -400,6 +426,7 @@ module _ (clients : Meaning) (w : World) (n : IsNewWorld clients w) where
   pub new_is_sound : IsSoundWorld clients w
   new_is_sound = record {
     legal = n.legal;
+    plain = n.plain;
     apart = λ i near way stands same. let none : None ≡ Some way = sym (no_way i near) ∙ stands in cc;
     sessions = λ i near way number stands on. let none : None ≡ Some way = sym (no_way i near) ∙ stands in cc;
     flight = λ i near way x stands inside. let none : None ≡ Some way = sym (no_way i near) ∙ stands in cc;

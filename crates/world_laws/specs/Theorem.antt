@@ -8,7 +8,7 @@ use Rattle.sync_rules.specs.Facts.{Facts, Held, Id, entries_of, facts, held_at, 
 use Rattle.sync_rules.specs.Laws.{IsAuthored}
 use Rattle.sync_rules.specs.Legal.{Legal}
 use Rattle.sync_rules.specs.Sessions.{due, is_author, shared_ids}
-use Rattle.world_laws.specs.Worlds.{HasSession, IsSent, Way, World, contact_for, journal_at, way_at}
+use Rattle.world_laws.specs.Worlds.{HasNoBrief, HasSession, IsSent, Way, World, contact_for, journal_at, way_at}
 
 -- what a device counts as seen by another one is held by that other device
 abbrev pub SeenIsHeld : World → Type 0
@@ -52,6 +52,7 @@ RestIsDone clients w = (a b number now : ℕ) (id : Id) → (a ≡ b → ⊥)
 -- what every step keeps. Each record that is in flight or was given is one that the sender's session sends
 pub record IsSoundWorld (clients : Meaning) (w : World) : Type 0 where
   pub legal : (d : ℕ) → Legal clients (journal_at w d)
+  pub plain : (d : ℕ) → HasNoBrief (journal_at w d)
   pub apart : (i : ℕ) (near : Bool) (way : Way) → way_at w i near ≡ Some way → way.sender.device ≡ way.receiver.device → ⊥
   pub sessions : (i : ℕ) (near : Bool) (way : Way) (number : ℕ) → way_at w i near ≡ Some way → way.sender.session ≡ Some number
       → HasSession (journal_at w way.sender.device) number (contact_for way.sender.device way.receiver.device)
@@ -62,8 +63,9 @@ pub record IsSoundWorld (clients : Meaning) (w : World) : Type 0 where
   pub seen : SeenIsHeld w
   pub written : HeldIsWritten w
 
--- a world with no link, whose devices have legal journals and hold no message
+-- a world with no link, whose devices have legal journals, of which none begins a brief account, and hold no message
 pub record IsNewWorld (clients : Meaning) (w : World) : Type 0 where
   pub legal : (d : ℕ) → Legal clients (journal_at w d)
+  pub plain : (d : ℕ) → HasNoBrief (journal_at w d)
   pub empty : (d : ℕ) → (facts (journal_at w d)).held ≡ []
   pub unlinked : w.links ≡ []

@@ -1,6 +1,7 @@
 -- A world of devices that are linked: the journal of each device, and for each link what is in flight on it and what each of
 -- its ends was given. A step of a world is that one device runs, or that two are linked.
 use Rattle.std.specs.Prelude.{◌≡◌, ◌⊎◌, ℕ, zero, suc, ◌-◌, Bool, true, false, cond, nat_lt, List, [], ◌∷◌, ◌++◌, Option, Some, None}
+use Rattle.std.specs.List.{list_all}
 use Rattle.sync_ids.specs.Ids.{message_id_of}
 use Rattle.sync_ids.specs.declared.records.Record.{Record}
 use Rattle.sync_ids.specs.declared.records.Record.TheVariants as record_kind
@@ -8,14 +9,19 @@ use Rattle.sync_rules.specs.declared.entries.Entry.{Entry}
 use Rattle.sync_rules.specs.declared.entries.Entry.TheVariants as entry
 use Rattle.sync_rules.specs.declared.entries.Session.{Session}
 use Rattle.sync_rules.specs.Clients.{Meaning}
+use Rattle.sync_rules.specs.CountLaws.{is_no_brief}
 use Rattle.sync_rules.specs.Lists.{In, same_id, is_among}
-use Rattle.sync_rules.specs.Facts.{Facts, Id, after_all, facts, session_at}
+use Rattle.sync_rules.specs.Facts.{Facts, Id, after_all, entries_of, facts, session_at}
 use Rattle.sync_rules.specs.Legal.{GoesOn}
 use Rattle.sync_rules.specs.Output.{sent}
 use Rattle.sync_rules.specs.Sessions.{taken}
 
 abbrev pub Journal : Type 0
 Journal = List (List Entry)
+
+-- no batch of a journal begins a brief account
+abbrev pub HasNoBrief : Journal → Type 0
+HasNoBrief j = list_all is_no_brief (entries_of j) ≡ true
 
 -- ---- worlds
 
@@ -141,13 +147,14 @@ pub record WasGiven (w : World) (d session : ℕ) (r : Record) : Type 0 where
   pub on : way.receiver.session ≡ Some session
   pub inside : In r way.receiver.given
 
--- one device runs: its journal goes on by batches that may follow, each record that they take was given to an end of it, and
--- each way of each link goes on. Where no batch is added this is any loss, repeat, swap or carrying of what is in flight, a
+-- one device runs: its journal goes on by batches that may follow, none of which begins a brief account, each record that they
+-- take was given to an end of it, and each way of each link goes on. Where no batch is added this is any loss, repeat, swap or carrying of what is in flight, a
 -- cut, a restart or a crash; where some are, the device may have stopped anywhere behind the last of them
 pub record Runs (clients : Meaning) (d : ℕ) (old new : World) : Type 0 where
   pub more : List (List Entry)
   pub goes_on : journal_at new d ≡ journal_at old d ++ more
   pub allowed : GoesOn clients (facts (journal_at old d)) more
+  pub plain : HasNoBrief more
   pub others : (e : ℕ) → (e ≡ d → ⊥) → journal_at new e ≡ journal_at old e
   pub heard : ℕ → List Record
   pub all_heard : AllHeard heard (facts (journal_at old d)) more

@@ -2,7 +2,7 @@
 //! breaks off, each device's journal is legal, and what one device counts as seen by another is
 //! held there. No host, no file and no clock stands in it: a step of a world is that one device
 //! runs, or that two are linked. All loss, repeats, swaps, cuts, restarts and crashes are such
-//! steps.
+//! steps. No device of a world puts a brief account in the place of its journal.
 #![tactic(auto)]
 
 ghost use Rattle.std.specs.Prelude.{Bool, List, ℕ};
