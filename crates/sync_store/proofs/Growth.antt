@@ -47,7 +47,7 @@ grown_numbers laws clients f batch end later allowed numbers far =
     let added = laws.add_one clients f batch allowed in
     record {
       held = omega (arith, added.0, numbers.held);
-      begun = omega (arith, added.1, numbers.begun);
+      sessions = omega (arith, added.1, numbers.sessions);
       records = λ session. omega (arith, laws.take_one clients f batch session allowed, numbers.records session);
     }
 

@@ -13,4 +13,6 @@ pub mod Limits
 mod Growth
 mod Errors
 mod MigrateSteps
+mod BriefCounts
+mod CompactSteps
 pub mod Runs

@@ -35,13 +35,10 @@ counts_few kind.Short end few = omega (arith, few)
 pub numbers_wider : (f : Facts) (bound wider : ℕ) → HasNumbers f bound → bound ≤ wider → HasNumbers f wider
 numbers_wider f bound wider numbers far = record {
   held = omega (arith, numbers.held, far);
-  begun = omega (arith, numbers.begun, far);
+  sessions = omega (arith, numbers.sessions, far);
   records = λ session. omega (arith, numbers.records session, far);
 }
 
--- there is a number for one more message, and for one more session
+-- there is a number for one more message
 pub few_held : (s : StoreValue) → IsStore s → length s.state.facts.held < 2 ^ 32 - 1
 few_held s store = omega (arith, store.numbers.held, store.roomy, counts_few (written_in s) s.end (omega (arith, store.roomy)))
-
-pub few_sessions : (s : StoreValue) → IsStore s → s.state.facts.begun < 2 ^ 32 - 1
-few_sessions s store = omega (arith, store.numbers.begun, store.roomy, counts_few (written_in s) s.end (omega (arith, store.roomy)))

@@ -104,7 +104,7 @@ starts_so_far clients files j s starts fresh empty knows = record {
   knows = knows;
   numbers = record {
     held = omega (arith, ap (λ (f : Facts). length f.held) empty, fresh);
-    begun = omega (arith, ap (λ (f : Facts). f.begun) empty, fresh);
+    sessions = omega (arith, ap (λ (f : Facts). length f.sessions) empty, fresh);
     records = λ session. no_records s.facts session j.end empty;
   };
   started = omega (arith, fresh);

@@ -88,7 +88,7 @@ more_numbers laws clients format s s' to end end' played numbers far =
     let added = laws.add_one clients s.facts played.batch allowed in
     let grown : HasNumbers (after_all s.facts played.batch) end' = record {
       held = omega (arith, added.0, numbers.held);
-      begun = omega (arith, added.1, numbers.begun);
+      sessions = omega (arith, added.1, numbers.sessions);
       records = λ session. omega (arith, laws.take_one clients s.facts played.batch session allowed, numbers.records session);
     } in
     subst (λ (f : Facts). HasNumbers f end') (sym played.facts_are) grown

@@ -17,6 +17,7 @@ use Rattle.entry_codec.specs.Naming.{format_of}
 use Rattle.entry_codec.specs.Payloads.{journal_end, payloads}
 use Rattle.entry_codec.specs.Standing.{room_of}
 use Rattle.entry_codec.specs.StandingLaws.{JournalsStand}
+use Rattle.journal_state.specs.Whole.{StateValue}
 use Rattle.journal_migration.specs.Migrating.{HoldsFirst, HoldsSecond, IsNext, KeepsFile, Keeps, Migrates, MigratesSo, ReadsOnly, StandsStill}
 use Rattle.journal_migration.specs.Starting.{IsSettledBoth}
 use Rattle.journal_migration.specs.declared.fault.MigrationFault.{MigrationFault}
@@ -35,7 +36,7 @@ use Rattle.sync_store.proofs.Limits.{numbers_wider}
 
 -- ---- no call of the disk
 
-same_self : (s : StoreValue) → IsSame s s
+pub same_self : (s : StoreValue) → IsSame s s
 same_self s = record { facts = refl; file = refl; format = refl; generation = refl; end = refl }
 
 between_none : (j : List (List Entry)) → IsBetween j [] j
@@ -63,9 +64,13 @@ settled_both clients s files fits two told = let there = fits two told in record
 
 -- ---- after
 
+-- the store with this state, and its journal there
+abbrev pub moved_with : StoreValue → StateValue → JournalValue → StoreValue
+moved_with s state n = record { state = state; file = n.file; format = n.format; generation = n.generation; end = n.end; limit = s.limit; closed = s.closed }
+
 -- the store with its journal there
 abbrev pub moved_to : StoreValue → JournalValue → StoreValue
-moved_to s n = record { state = s.state; file = n.file; format = n.format; generation = n.generation; end = n.end; limit = s.limit; closed = s.closed }
+moved_to s n = moved_with s s.state n
 
 pub moves_on : (s : StoreValue) (n : JournalValue) → IsOld s → s.closed ≡ false → IsNext s.file s.generation s.end n → Moves s (moved_to s n)
 moves_on s n old still next = record {
@@ -94,9 +99,9 @@ moved_store s n old store next =
     }
 
 -- the disk fits the store with its journal there
-fits_moved : (clients : Meaning) (s : StoreValue) (n : JournalValue) (j : List (List Entry)) (two : Two File) → facts j ≡ s.state.facts → n.format ≡ 2 → HoldsSecond clients n j two
-    → Fits clients (moved_to s n) j two
-fits_moved clients s n j two facts_are short holds = record {
+pub fits_at : (clients : Meaning) (s : StoreValue) (state : StateValue) (n : JournalValue) (j : List (List Entry)) (two : Two File) → facts j ≡ state.facts → n.format ≡ 2 → HoldsSecond clients n j two
+    → Fits clients (moved_with s state n) j two
+fits_at clients s state n j two facts_are short holds = record {
   first_settled = holds.first_settled;
   second_settled = holds.second_settled;
   stands_for = holds.stands_for;
@@ -150,7 +155,7 @@ leads_moved clients s n o o' old short gives two told j fits =
     let kept = gives j two told fits.facts_are (holds_of clients s j two old fits) in
     record {
       moments = still_moments clients j o o' kept.moments;
-      ends = λ still two' told'. (j, sym (append-nil j), fits_moved clients s n j two' fits.facts_are short (kept.ends two' told'));
+      ends = λ still two' told'. (j, sym (append-nil j), fits_at clients s s.state n j two' fits.facts_are short (kept.ends two' told'));
     }
 
 pub leads_memory : (clients : Meaning) (s : StoreValue) (o o' : Outside) → IsOld s → Becomes (KeepsFile s.file) o.files o'.files → Gives clients s (Err migration.Memory) o o'

@@ -44,7 +44,7 @@ numbers_stay clients f es end settling numbers =
     let only = settling_only clients f es settling in
     record {
       held = omega (arith, ap length only.held, numbers.held);
-      begun = omega (arith, only.begun, numbers.begun);
+      sessions = omega (arith, ap length only.sessions, numbers.sessions);
       records = λ session. omega (arith, ap (λ t. takes_of t session) only.takes, numbers.records session);
     }
 

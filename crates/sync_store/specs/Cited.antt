@@ -1,4 +1,5 @@
 -- The laws of the crates below that the proofs of this one rest on.
+use Rattle.brief_account.specs.Laws.{BriefKeepsFacts}
 use Rattle.sync_rules.specs.Allows.{AllowsIsAllowed}
 use Rattle.entry_codec.specs.Laws.{AllowedNames, PayloadsFitFrames}
 use Rattle.entry_codec.specs.StandingLaws.{AllowedAddOne, AllowedHaveLatency, AllowedTakeOne, JournalsStand}
@@ -11,3 +12,4 @@ pub record CitedLaws : Type 0 where
   pub add_one : AllowedAddOne
   pub take_one : AllowedTakeOne
   pub decided : AllowsIsAllowed
+  pub keeps : BriefKeepsFacts

@@ -9,6 +9,7 @@ pub mod Commits
 pub mod Settling
 pub mod Runs
 pub mod Migrations
+pub mod Compactions
 pub mod Refusals
 pub mod Loading
 pub mod Cited

@@ -44,10 +44,11 @@ store_code =
     })
     (λ _. refl)
 
--- the counts of a journal are within a bound
+-- The counts of a journal are within a bound. Of the sessions those count that a brief account did not drop: how many there were
+-- before them it states as one number.
 pub record HasNumbers (f : Facts) (bound : ℕ) : Type 0 where
   pub held : length f.held ≤ bound
-  pub begun : f.begun ≤ bound
+  pub sessions : length f.sessions ≤ bound
   pub records : (session : ℕ) → takes_of f.takes session ≤ bound
 
 -- The bound on the counts of a journal in this format that ends there. In format 1 it is the end: each held message, each session

@@ -12,7 +12,7 @@ ghost use Rattle.outside.specs.Outside.{DiskRun, MakesCalls};
 ghost use Rattle.journal_state.specs.Taking.{HasRoom};
 ghost use Rattle.journal_state.specs.Whole.{Knows};
 ghost use Rattle.sync_rules.specs.declared.entries.Entry.{Entry};
-ghost use Rattle.sync_rules.specs.Allows.{allows, is_settling_kind};
+ghost use Rattle.sync_rules.specs.Allows.{allows, is_account_kind, is_settling_kind};
 ghost use Rattle.sync_rules.specs.Clients.{Meaning};
 ghost use Rattle.sync_rules.specs.Legal.{Allowed};
 ghost use Rattle.session_core.specs.Known.{IsOfAll};
@@ -34,8 +34,9 @@ use sync_ids::MessageId;
 use sync_rules::{Batch, Clients};
 
 impl Store {
-    /// Commits a batch, which may follow the journal and is no settling batch. Before its first
-    /// call on the disk it takes all the memory that it needs. `Closed` comes exactly where an
+    /// Commits a batch, which may follow the journal, and is neither a settling batch nor one of the
+    /// kinds that only a brief account has. Before its first call on the disk it takes all the
+    /// memory that it needs. `Closed` comes exactly where an
     /// earlier call answered `DiskFault`; then `Full` exactly where the journal, the frame and the
     /// room that settling may then need pass the limit. After `Closed`, `Full` and `Memory` all is
     /// as before, and no call on the disk was made; after `DiskFault` the store is closed, and else
@@ -53,6 +54,7 @@ impl Store {
         requires allowed { self.old.closed ≡ false
             → Allowed (C.meaning clients.now) self.old.state.facts batch }
         requires kind { is_settling_kind batch ≡ false }
+        requires plain { is_account_kind batch ≡ false }
         ensures answer { Commits self.old self.new batch result }
         ensures extends { self.old.closed ≡ false → (two : Two File)
             → (D.tells disk.old).files ≡ Some two → (j : List (List Entry))
@@ -85,6 +87,7 @@ impl Store {
         requires allowed { self.old.closed ≡ false
             → Allowed (C.meaning clients.now) self.old.state.facts batch }
         requires kind { is_settling_kind batch ≡ false }
+        requires plain { is_account_kind batch ≡ false }
         requires named { IsOfAll id batch }
         ensures answer { Commits self.old self.new batch result }
         ensures extends { self.old.closed ≡ false → (two : Two File)
@@ -118,6 +121,7 @@ impl Store {
         requires knows { Knows (C.meaning clients.now) self.now.state }
         requires allowed { Allowed (C.meaning clients.now) self.now.state.facts batch.now }
         requires kind { is_settling_kind batch.now ≡ false }
+        requires plain { is_account_kind batch.now ≡ false }
         ensures { result ≡ nat_lt self.now.limit (needed self.now batch.now) }
     {
         let _meaning = clients;
@@ -159,6 +163,7 @@ impl Store {
         requires ready { IsReady (C.meaning clients.now) self.old (D.tells disk.old).files }
         requires may { MayAdd (C.meaning clients.now) self.old batch framed.now }
         requires kind { is_settling_kind batch ≡ false }
+        requires plain { is_account_kind batch ≡ false }
         requires named { IsOfAll id batch }
         requires room { HasRoom self.old.state batch }
         ensures ok { OnOk result (Gains self.old self.new batch) }

@@ -2,7 +2,7 @@
 ghost use Rattle.std.specs.Prelude.{◌≡◌, Err, IsErrOf, false, true};
 ghost use Rattle.outside.specs.Faults.{Rose};
 ghost use Rattle.outside.specs.Outside.{DiskRun};
-ghost use Rattle.sync_rules.specs.Allows.{is_settling_kind};
+ghost use Rattle.sync_rules.specs.Allows.{is_account_kind, is_settling_kind};
 ghost use Rattle.sync_rules.specs.Legal.{Allowed};
 ghost use Rattle.session_core.specs.Known.{IsOfAll};
 ghost use Rattle.sync_store.specs.Commits.{Stays};
@@ -35,6 +35,7 @@ impl Store {
         requires allowed { self.old.closed ≡ false
             → Allowed (C.meaning clients.now) self.old.state.facts batch }
         requires kind { is_settling_kind batch ≡ false }
+        requires plain { is_account_kind batch ≡ false }
         ensures extended { self.old.closed ≡ false → HasExtended (C.meaning clients.now)
             self.old self.new batch result (D.tells disk.old) (D.tells disk.new) }
         ensures closed { self.old.closed ≡ true → (result ≡ Err StoreFault.Closed)
@@ -64,6 +65,7 @@ impl Store {
         requires allowed { self.old.closed ≡ false
             → Allowed (C.meaning clients.now) self.old.state.facts batch }
         requires kind { is_settling_kind batch ≡ false }
+        requires plain { is_account_kind batch ≡ false }
         requires named { IsOfAll id batch }
         ensures extended { self.old.closed ≡ false → HasExtended (C.meaning clients.now)
             self.old self.new batch result (D.tells disk.old) (D.tells disk.new) }

@@ -23,4 +23,5 @@ pub(crate) fn cite_laws()
     codec::allowed_add_one();
     codec::allowed_take_one();
     rules::allows_is_allowed();
+    brief_account::keeps();
 }

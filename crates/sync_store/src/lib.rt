@@ -4,6 +4,7 @@
 
 mod begin;
 mod committing;
+mod compacting;
 mod extending;
 mod fault;
 mod formats;

@@ -13,7 +13,7 @@ use Rattle.sync_store.specs.Fitting.{Fits, FitsSome}
 use Rattle.sync_store.specs.Commits.{Gains, MayAdd}
 use Rattle.sync_store.proofs.FitSteps.{adds_err, adds_ok, framed_len, rests}
 use Rattle.sync_store.proofs.Growth.{grown_store}
-use Rattle.sync_store.proofs.Limits.{counts_few, few_held, few_sessions}
+use Rattle.sync_store.proofs.Limits.{counts_few, few_held}
 use Rattle.sync_store.proofs.SettleSteps.{adds_ready_fits}
 use Rattle.sync_store.proofs.store.Store.add.Goals as goal
 
@@ -35,7 +35,6 @@ take_known-requires-clause-numbers g c =
     let store = c.self.invariant in
     record {
       held = few_held (value_of c.self.inside) store;
-      begun = few_sessions (value_of c.self.inside) store;
       records = λ session.
           omega (
             arith,
