@@ -21,7 +21,7 @@ use Rattle.entry_codec.specs.Payloads.{journal_end, names_of, payload, payload_l
 use Rattle.entry_codec.proofs.LawProofs.{batch_len_same}
 use Rattle.sync_rules.proofs.Continuing.{legal-push}
 use Rattle.entry_codec.proofs.Growing.{all_push, facts_push, payloads_push}
-use Rattle.entry_codec.specs.Spelling.{IsEntry}
+use Rattle.entry_codec.specs.Spelling.{IsEntry, IsOfFormat}
 use Rattle.entry_codec.specs.Standing.{stands, journal, room_of}
 use Rattle.entry_codec.specs.StandingLaws.{JournalsStand}
 use Rattle.outside.specs.declared.limits.TheConstants.{MAX_JOURNAL}
@@ -70,8 +70,8 @@ this_reads two (suc _) = refl
 -- frames of a journal behind the store's header, and the other file as it was
 stands_at : JournalsStand → (clients : Meaning) (s : StoreValue) (j : List (List Entry)) (two : Two File) (fits : Fits clients s j two) (m : Two (List ℕ)) (k : List (List Entry))
     → HasFrames (file_of m s.file) fits.header (payloads (written_in s) nothing k) → other_of m s.file ≡ (other_of two s.file).now → Legal clients k
-    → AllByRecursion (λ batch. AllByRecursion IsEntry batch) k → journal_end (written_in s) k + room_of (written_in s) (facts k) ≤ MAX_JOURNAL → stands clients m ≡ journal k
-stands_at stand clients s j two fits m k frames other legal within bounded =
+    → AllByRecursion (AllByRecursion (IsOfFormat (written_in s))) k → AllByRecursion (AllByRecursion IsEntry) k → journal_end (written_in s) k + room_of (written_in s) (facts k) ≤ MAX_JOURNAL → stands clients m ≡ journal k
+stands_at stand clients s j two fits m k frames other legal kinds within bounded =
     let reads : HasFrames (file_of (read_files two) s.file) fits.header (payloads (written_in s) nothing j) =
     subst (λ (bytes : List ℕ). HasFrames bytes fits.header (payloads (written_in s) nothing j)) (sym (this_reads two s.file)) fits.frames in
     stand clients m s.file (written_in s) k (record {
@@ -86,6 +86,7 @@ stands_at stand clients s j two fits m k frames other legal within bounded =
       header = fits.header;
       frames = frames;
       legal = legal;
+      kinds = kinds;
       within = within;
       bounded = bounded;
     })
@@ -107,7 +108,7 @@ fits_image stand clients s j two m fits roomy image =
     let other : other_of m s.file ≡ (other_of two s.file).now =
     settled_only (other_of two s.file).now (other_of m s.file)
     (subst (λ (f : File). IsFileImage f (other_of m s.file)) (other_settled two s.file fits.first_settled fits.second_settled) (image_other two m s.file image)) in
-    stands_at stand clients s j two fits m j (subst (λ (bytes : List ℕ). HasFrames bytes fits.header (payloads (written_in s) nothing j)) (sym this) fits.frames) other fits.legal fits.within
+    stands_at stand clients s j two fits m j (subst (λ (bytes : List ℕ). HasFrames bytes fits.header (payloads (written_in s) nothing j)) (sym this) fits.frames) other fits.legal fits.kinds fits.within
     (bounded_now clients s j two fits roomy)
 
 -- ---- a batch more
@@ -155,7 +156,7 @@ adds_moment stand clients s j two batch framed sent fits may m moment =
       | inl before ↦ record {
         whole = j;
         has = inl refl;
-        stands_for = stands_at stand clients s j two fits m.files j before other fits.legal fits.within (bounded_now clients s j two fits may.roomy);
+        stands_for = stands_at stand clients s j two fits m.files j before other fits.legal fits.kinds fits.within (bounded_now clients s j two fits may.roomy);
         nothing_sent = moment.nothing_sent;
       }
       | inr with_it ↦ record {
@@ -165,7 +166,7 @@ adds_moment stand clients s j two batch framed sent fits may m moment =
             stands_at stand clients s j two fits m.files (j ++ batch ∷ [])
             (more_frames (written_in s) (file_of m.files s.file) fits.header j batch framed (payload_here clients s j two batch framed fits may) with_it) other
             (legal-push clients j batch fits.legal (allowed_here clients s j two batch framed fits may))
-            (all_push (λ b. AllByRecursion IsEntry b) j batch fits.within may.within) (bounded_then clients s j two batch framed fits may);
+            (all_push (AllByRecursion (IsOfFormat (written_in s))) j batch fits.kinds may.kinds) (all_push (AllByRecursion IsEntry) j batch fits.within may.within) (bounded_then clients s j two batch framed fits may);
         nothing_sent = moment.nothing_sent;
       }
     ]
@@ -188,12 +189,13 @@ adds_fits stand clients s new j two two' batch framed fits may appends is_with =
     let before : HasFrames (file_of (read_files two) s.file) fits.header (payloads (written_in s) nothing j) =
     subst (λ (bytes : List ℕ). HasFrames bytes fits.header (payloads (written_in s) nothing j)) (sym (this_reads two s.file)) fits.frames in
     let legal = legal-push clients j batch fits.legal (allowed_here clients s j two batch framed fits may) in
-    let within = all_push (λ b. AllByRecursion IsEntry b) j batch fits.within may.within in
+    let kinds = all_push (AllByRecursion (IsOfFormat (written_in s))) j batch fits.kinds may.kinds in
+    let within = all_push (AllByRecursion IsEntry) j batch fits.within may.within in
     record {
       first_settled = first_of two' s.file appends.at_rest.settled other;
       second_settled = second_of two' s.file appends.at_rest.settled other;
       stands_for =
-          stands_at stand clients s j two fits (read_files two') (j ++ batch ∷ []) read_frames reads_other legal within (bounded_then clients s j two batch framed fits may);
+          stands_at stand clients s j two fits (read_files two') (j ++ batch ∷ []) read_frames reads_other legal kinds within (bounded_then clients s j two batch framed fits may);
       facts_are = facts_push j batch ∙ ap (λ (f : Facts). after_all f batch) fits.facts_are ∙ sym is_with.facts;
       legal = legal;
       file_is =
@@ -213,6 +215,7 @@ adds_fits stand clients s new j two two' batch framed fits may appends is_with =
       end_is =
           grows ∙ ap (λ e. e + length framed) fits.end_is ∙ sym (end_framed (written_in s) j batch framed may.is_framed payload_is)
           ∙ ap (λ n. journal_end (format_meant n) (j ++ batch ∷ [])) (sym is_with.format);
+      kinds = subst (λ n. AllByRecursion (AllByRecursion (IsOfFormat (format_meant n))) (j ++ batch ∷ [])) (sym is_with.format) kinds;
       within = within;
     }
 
@@ -270,6 +273,7 @@ fits_same clients s new j two fits same = record {
   header = fits.header;
   frames = same_frames two s new fits.header j same.format (subst (λ k. HasFrames (file_of two k).now fits.header (payloads (written_in s) nothing j)) (sym same.file) fits.frames);
   end_is = same.end ∙ fits.end_is ∙ ap (λ n. journal_end (format_meant n) j) (sym same.format);
+  kinds = subst (λ n. AllByRecursion (AllByRecursion (IsOfFormat (format_meant n))) j) (sym same.format) fits.kinds;
   within = fits.within;
 }
 

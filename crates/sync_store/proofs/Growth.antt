@@ -11,6 +11,7 @@ use Rattle.outside.proofs.CallCounts.{most_none}
 use Rattle.frame_journal.specs.Append.{Appends, BeforeOrWith, IsFramed, framed_of, payload_of}
 use Rattle.sync_rules.specs.declared.entries.Entry.{Entry}
 use Rattle.sync_rules.specs.declared.limits.TheConstants.{MAX_STEPS}
+use Rattle.sync_rules.specs.Allows.{is_account_kind}
 use Rattle.sync_rules.specs.Clients.{Meaning}
 use Rattle.sync_rules.specs.Facts.{Facts, after_all}
 use Rattle.sync_rules.specs.Left.{left_of}
@@ -36,9 +37,10 @@ use Rattle.sync_store.proofs.FitSteps.{adds_err, adds_ok, framed_len, true≢fal
 use Rattle.sync_store.proofs.FormatLaws.{room_framed, room_less, steps_few, steps_some}
 use Rattle.sync_store.proofs.Framing.{framed_length, framed_so, payload_framed}
 use Rattle.sync_store.proofs.HeldIds.{names_stay}
+use Rattle.sync_store.proofs.Kinds.{kinds_of, steps_old}
 use Rattle.sync_store.proofs.Limits.{counts_more}
 use Rattle.sync_store.proofs.SettleSteps.{calls_closed, calls_one, leads_one, leads_one_closed}
-use Rattle.sync_store.proofs.Steps.{numbers_stay}
+use Rattle.sync_store.proofs.Steps.{all_steps, numbers_stay}
 
 -- ---- numbers
 
@@ -97,9 +99,9 @@ length_by p framed is = ap length is ∙ framed_length p
 
 -- what a commit found of its batch
 pub may_add : CitedLaws → (clients : Meaning) (s new : StoreValue) (batch : List Entry) (framed : List ℕ) → IsStore s → new.state.facts ≡ s.state.facts → new.end ≡ s.end
-    → new.format ≡ s.format → Allowed clients s.state.facts batch → AllByRecursion IsEntry batch → framed ≡ framed_of (payload (written_in s) s.state.facts batch) → needed s batch ≤ s.limit
+    → new.format ≡ s.format → Allowed clients s.state.facts batch → is_account_kind batch ≡ false → AllByRecursion IsEntry batch → framed ≡ framed_of (payload (written_in s) s.state.facts batch) → needed s batch ≤ s.limit
     → MayAdd clients new batch framed
-may_add laws clients s new batch framed store facts end format allowed within is fits =
+may_add laws clients s new batch framed store facts end format allowed plain within is fits =
     let kind = written_in s in
     let p = payload kind s.state.facts batch in
     let short = laws.fit clients s.state.facts kind batch allowed within in
@@ -111,6 +113,7 @@ may_add laws clients s new batch framed store facts end format allowed within is
     ap (λ (f : Facts). room_of (written_in new) (after_all f batch)) facts ∙ ap (λ (k : Format). room_of k (after_all s.state.facts batch)) same in
     record {
       allowed = subst (λ (f : Facts). Allowed clients f batch) (sym facts) allowed;
+      kinds = kinds_of (written_in new) batch (laws.old_kinds clients s.state.facts batch allowed plain);
       within = within;
       is_framed = framed_by p framed is (omega (arith, short.0, len), omega (arith, short.1, len));
       payload_is =
@@ -143,6 +146,7 @@ filled_may clients s facts es framed f =
     let frame = room_framed kind (left_of (after_all s.state.facts es)) (length es) (left_of s.state.facts) fewer f.some in
     record {
       allowed = allowed_settling clients s.state.facts es (f.some, f.few, f.settling);
+      kinds = kinds_of kind es (steps_old es (all_steps clients s.state.facts es f.settling));
       within = f.within;
       is_framed = framed_by p framed f.framed_is (omega (arith, f.long, len, steps_some kind (length es) f.some), omega (arith, f.long, len, f.few, steps_few kind (length es)));
       payload_is = payload_by p framed f.framed_is;

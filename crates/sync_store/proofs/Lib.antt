@@ -3,6 +3,7 @@ mod LoadEnds
 mod LoadCounts
 mod Headers
 mod FormatLaws
+mod Kinds
 mod Framing
 mod HeldIds
 mod FitSteps

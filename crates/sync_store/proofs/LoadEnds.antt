@@ -205,6 +205,7 @@ fits_loaded clients o0 o1 o2 j s limit settles same all two told =
         header = take 14 (file_of (read_files two) j.file);
         frames = subst At (as_read two j.file) (front_frames clients (read_files two) j.file (format_meant j.format) read.done j.end read.front (all.at_end two told));
         end_is = read.front.end_is;
+        kinds = read.front.kinds;
         within = read.front.within;
       },
     )

@@ -1,5 +1,6 @@
 -- A journal written anew, as the store sees it.
 use Rattle.std.proofs.Common.{◌≡◌, ◌⊎◌, ℕ, ◌+◌, ◌*◌, ◌-◌, ◌<◌, ◌≤◌, true, false, List, [], ◌++◌, Option, Some, Result, Ok, Err, refl, sym, ap, ◌∙◌, subst, inl, inr, arith, append-nil}
+use Rattle.std.specs.List.{AllByRecursion}
 use Rattle.std.specs.Option.{ForSome}
 use Rattle.outside.specs.Disk.{Becomes}
 use Rattle.outside.specs.Files.{Two, File, file_of}
@@ -15,6 +16,7 @@ use Rattle.entry_codec.specs.declared.naming.Format.{Format}
 use Rattle.entry_codec.specs.declared.naming.Format.TheVariants as kind
 use Rattle.entry_codec.specs.Naming.{format_of}
 use Rattle.entry_codec.specs.Payloads.{journal_end, payloads}
+use Rattle.entry_codec.specs.Spelling.{IsOfFormat}
 use Rattle.entry_codec.specs.Standing.{room_of}
 use Rattle.entry_codec.specs.StandingLaws.{JournalsStand}
 use Rattle.journal_state.specs.Whole.{StateValue}
@@ -32,6 +34,7 @@ use Rattle.sync_store.specs.Runs.{LeadsBy}
 use Rattle.sync_store.specs.Store.{HasNumbers, IsStore, StoreValue, counts_to, format_meant, written_in}
 use Rattle.sync_store.proofs.FitSteps.{IsSame, leads_none, true≢false}
 use Rattle.sync_store.proofs.FormatLaws.{short_room, whole_is_one}
+use Rattle.sync_store.proofs.Kinds.{all_short}
 use Rattle.sync_store.proofs.Limits.{numbers_wider}
 
 -- ---- no call of the disk
@@ -114,6 +117,7 @@ fits_at clients s state n j two facts_are short holds = record {
   header = holds.header;
   frames = subst (λ k. HasFrames (file_of two n.file).now holds.header (payloads (format_meant k) nothing j)) (sym short) holds.frames;
   end_is = holds.end_is ∙ ap (λ k. journal_end (format_meant k) j) (sym short);
+  kinds = subst (λ k. AllByRecursion (AllByRecursion (IsOfFormat (format_meant k))) j) (sym short) (all_short j);
   within = holds.within;
 }
 
@@ -133,6 +137,7 @@ fits_still clients s j two two' fits holds same = record {
   header = fits.header;
   frames = subst (λ (f : File). HasFrames f.now fits.header (payloads (written_in s) nothing j)) (sym same) fits.frames;
   end_is = fits.end_is;
+  kinds = fits.kinds;
   within = fits.within;
 }
 

@@ -7,7 +7,7 @@ use Rattle.sync_rules.specs.Clients.{Meaning}
 use Rattle.sync_rules.specs.Facts.{after_all}
 use Rattle.sync_rules.specs.Legal.{Allowed}
 use Rattle.entry_codec.specs.Payloads.{payload, payload_len}
-use Rattle.entry_codec.specs.Spelling.{IsEntry}
+use Rattle.entry_codec.specs.Spelling.{IsEntry, IsOfFormat}
 use Rattle.entry_codec.specs.Standing.{room_of}
 use Rattle.outside.specs.declared.limits.TheConstants.{MAX_JOURNAL}
 use Rattle.sync_store.specs.Store.{StoreValue, written_in}
@@ -40,9 +40,11 @@ pub record Gains (old new : StoreValue) (batch : List Entry) : Type 0 where
   pub limit : new.limit ≡ old.limit
   pub closed : new.closed ≡ false
 
--- A batch that may be added to a store: it is allowed, its entries are within their limits, and these bytes frame it.
+-- A batch that may be added to a store: it is allowed, its entries are of kinds that the format has and within their limits, and
+-- these bytes frame it.
 pub record MayAdd (clients : Meaning) (s : StoreValue) (batch : List Entry) (framed : List ℕ) : Type 0 where
   pub allowed : Allowed clients s.state.facts batch
+  pub kinds : AllByRecursion (IsOfFormat (written_in s)) batch
   pub within : AllByRecursion IsEntry batch
   pub is_framed : IsFramed framed
   pub payload_is : payload_of framed ≡ payload (written_in s) s.state.facts batch

@@ -9,7 +9,7 @@ use Rattle.sync_rules.specs.Facts.{facts, nothing}
 use Rattle.sync_rules.specs.Legal.{Legal}
 use Rattle.entry_codec.specs.Naming.{format_of}
 use Rattle.entry_codec.specs.Payloads.{journal_end, payloads}
-use Rattle.entry_codec.specs.Spelling.{IsEntry}
+use Rattle.entry_codec.specs.Spelling.{IsEntry, IsOfFormat}
 use Rattle.entry_codec.specs.Standing.{stands, journal, room_of}
 use Rattle.outside.specs.declared.limits.TheConstants.{MAX_JOURNAL}
 use Rattle.sync_store.specs.Store.{StoreValue, written_in}
@@ -31,7 +31,9 @@ pub record Fits (clients : Meaning) (s : StoreValue) (j : List (List Entry)) (tw
   pub header : List ℕ
   pub frames : HasFrames (file_of two s.file).now header (payloads (written_in s) nothing j)
   pub end_is : s.end ≡ journal_end (written_in s) j
-  pub within : AllByRecursion (λ batch. AllByRecursion IsEntry batch) j
+  -- its entries are of kinds that the format has, and within their limits
+  pub kinds : AllByRecursion (AllByRecursion (IsOfFormat (written_in s))) j
+  pub within : AllByRecursion (AllByRecursion IsEntry) j
 
 -- where the files are told they fit the store with some journal
 abbrev pub FitsSome : Meaning → StoreValue → Option (Two File) → Type 0

@@ -4,7 +4,7 @@ ghost use Rattle.std.specs.Prelude.{vec_len, IfOk};
 ghost use Rattle.std.specs.List.{AllByRecursion};
 ghost use Rattle.entry_codec.specs.Naming.{IsNamed, held_bytes};
 ghost use Rattle.entry_codec.specs.Payloads.{payload_len, spellings};
-ghost use Rattle.entry_codec.specs.Spelling.{EntryNames, HasLatency, IsEntry, IsId, spelling_in};
+ghost use Rattle.entry_codec.specs.Spelling.{EntryNames, IsEntry, IsId, MayBeWritten, spelling_in};
 ghost use Rattle.entry_codec.specs.Standing.{step_len};
 ghost use Rattle.frame_journal.specs.Append.{framed_of};
 ghost use Rattle.sync_store.specs.Settling.{IsStep};
@@ -27,7 +27,7 @@ pub(crate) fn frame_batch<N: Names>(
     names: &N,
     batch: &Batch,
 ) -> Result<Vec<u8>, AllocError>
-    requires latency { AllByRecursion HasLatency batch.now }
+    requires written { AllByRecursion MayBeWritten batch.now }
     requires named { AllByRecursion (EntryNames (IsNamed format (N.named names.now))) batch.now }
     requires few { payload_len format batch.now ≤ MAX_JOURNAL }
     requires len { length (spellings format (N.named names.now) batch.now) ≡ payload_len format

@@ -19,7 +19,8 @@ pub(crate) fn cite_laws()
     codec::journals_stand();
     codec::payloads_fit_frames();
     codec::allowed_names();
-    codec::allowed_have_latency();
+    codec::allowed_may_be_written();
+    codec::allowed_old_kinds();
     codec::allowed_add_one();
     codec::allowed_take_one();
     rules::allows_is_allowed();
