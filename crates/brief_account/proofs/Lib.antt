@@ -5,3 +5,10 @@ pub mod Emptied
 pub mod Filled
 pub mod ToldBatches
 pub mod ToldLeaves
+pub mod LevelEntries
+pub mod Peers
+pub mod PeersBatches
+pub mod PeersKnown
+pub mod PeersMaps
+pub mod PeersRows
+pub mod PeersWants
