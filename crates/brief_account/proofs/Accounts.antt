@@ -119,4 +119,4 @@ module _ (clients : Meaning) where
       let behind : HasSameSteps (after_all (after g e) steps) (after_all (after h e) steps) =
       same_steps_behind_all clients steps (after g e) (after h e) (settling_steps clients (after g e)) more in
       ap (λ (t : List Entry). e ∷ (steps ++ t)) (same_account (after_all (after g e) steps) (after_all (after h e) steps) hs behind)
-      ∙ ap (λ (t : List Entry). e ∷ (t ++ account clients (after_all (after h e) t) hs)) (sym (same_settling clients (after g e) (after h e) more))
+      ∙ ap (λ (t : List Entry). e ∷ (t ++ account clients (after_all (after h e) t) hs)) (same_settling clients (after g e) (after h e) more)

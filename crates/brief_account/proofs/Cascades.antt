@@ -149,5 +149,5 @@ module _ (clients : Meaning) where
             (same_cascade n (after g e) (after h e) (same_steps_behind g h e (next_is_settling clients g e open_now) s))
       ] refl
 
-  pub same_settling : (g h : Facts) → HasSameSteps g h → settling_of clients h ≡ settling_of clients g
-  same_settling g h s = ap (λ (n : ℕ). cascade clients n h) (same_left g h s) ∙ same_cascade (left_of g) g h s
+  pub same_settling : (g h : Facts) → HasSameSteps g h → settling_of clients g ≡ settling_of clients h
+  same_settling g h s = sym (same_cascade (left_of g) g h s) ∙ sym (ap (λ (n : ℕ). cascade clients n h) (same_left g h s))

@@ -1,9 +1,13 @@
 pub mod Accounts
+pub mod Added
 pub mod Alongside
+pub mod BriefLaws
 pub mod Cascades
 pub mod Emptied
 pub mod Filled
+pub mod Heads
 pub mod ToldBatches
+pub mod ToldLaws
 pub mod ToldLeaves
 pub mod LevelEntries
 pub mod Peers
