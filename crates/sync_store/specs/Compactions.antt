@@ -1,5 +1,5 @@
 -- A store whose journal is replaced by its brief account.
-use Rattle.std.specs.Prelude.{◌≡◌, ◌⊎◌, ℕ, ◌+◌, ◌-◌, ◌^◌, ◌<◌, ◌≤◌, true, false, List, Some, Result, Ok, Err}
+use Rattle.std.specs.Prelude.{◌≡◌, ◌⊎◌, ℕ, ◌+◌, ◌-◌, ◌^◌, ◌<◌, ◌≤◌, true, false, List, ◌++◌, Some, Result, Ok, Err}
 use Rattle.outside.specs.Files.{Two, File}
 use Rattle.outside.specs.Outside.{Outside}
 use Rattle.sync_rules.specs.declared.entries.Entry.{Entry}
@@ -12,7 +12,7 @@ use Rattle.entry_codec.specs.Payloads.{journal_end}
 use Rattle.journal_compaction.specs.Compacting.{compacted_len}
 use Rattle.sync_store.specs.Store.{StoreValue}
 use Rattle.sync_store.specs.Fitting.{Fits}
-use Rattle.sync_store.specs.Moments.{Leads}
+use Rattle.sync_store.specs.Moments.{IsBetween, Leads}
 use Rattle.sync_store.specs.declared.fault.StoreFault.{StoreFault}
 use Rattle.sync_store.specs.declared.fault.StoreFault.TheVariants as fault
 
@@ -56,6 +56,10 @@ compacted_by j (Err _) = j
 -- this journal, or its brief account
 abbrev pub IsOrBrief : List (List Entry) → List (List Entry) → Type 0
 IsOrBrief j whole = (whole ≡ j) ⊎ (whole ≡ brief j)
+
+-- this journal with a front of some further batches, or the brief account of it with all of them
+abbrev pub IsBetweenOrBrief : List (List Entry) → List (List Entry) → List (List Entry) → Type 0
+IsBetweenOrBrief j more whole = IsBetween j more whole ⊎ (whole ≡ brief (j ++ more))
 
 -- whatever journal the disk fits: at each moment the files stand for it or for its brief account, and in the end, unless the store
 -- is closed, the disk fits the store with the one of the answer
