@@ -1,15 +1,17 @@
 //! Whether a batch may follow a journal.
-ghost use Rattle.std.specs.Prelude.{◌≡◌, ◌&&◌, false, is_some, nat_eq, nat_lt, IfOk};
+ghost use Rattle.std.specs.Prelude.{◌≡◌, ◌&&◌, false, is_none, is_some, nat_eq, nat_lt, IfOk};
 ghost use Rattle.std.specs.List.{list_all};
-ghost use Rattle.sync_rules.specs.Facts.{group_at, session_at};
+ghost use Rattle.sync_ids.specs.Ids.{message_id_of};
+ghost use Rattle.sync_rules.specs.Facts.{group_at, held_at, session_at};
 ghost use Rattle.sync_rules.specs.Legal.{accepts_served, suits_nonce};
 ghost use Rattle.sync_rules.specs.Sessions.{shared_ids};
 ghost use Rattle.sync_rules.specs.Steps.{is_served, verdict_in};
 ghost use Rattle.sync_rules.specs.declared.limits.TheConstants.{MAX_CONTACTS};
 ghost use Rattle.sync_rules.specs.Allows.{allows, is_due, is_settled, is_settling_kind};
-ghost use Rattle.sync_rules.specs.Allows.{may_add_group, may_author, may_begin, may_take};
+ghost use Rattle.sync_rules.specs.Allows.{is_empty_start, is_opening, may_add_group, may_author};
+ghost use Rattle.sync_rules.specs.Allows.{may_begin, may_keep, may_take};
 ghost use Rattle.session_core.specs.Known.{IsIdOf, IsOfAll, IsOfEntry};
-ghost use Rattle.batch_tests.specs.Alone.{allows_alone};
+ghost use Rattle.batch_tests.specs.Alone.{allows_alone, is_rows_kind};
 
 use crate::given::gives;
 use crate::journal_view::JournalView;
@@ -17,7 +19,10 @@ use crate::known_id::id_known;
 use session_core::due;
 use std::alloc::{AllocError, Global};
 use sync_ids::{GroupDef, GroupId, Message, MessageId, group_id};
-use sync_rules::{Batch, Clients, Entry, Judgement, MAX_GROUPS, Mode, Out, Session, same_out};
+use sync_rules::{
+    Batch, Clients, Entry, Judgement, MAX_GROUPS, MAX_SESSIONS, Mode, Origin, Out, Session, Start,
+    same_out,
+};
 
 // ---- one entry
 
@@ -62,7 +67,10 @@ fn suits_nonce(session: &Session) -> bool
 fn allows_session<J: JournalView>(journal: &J, session: &Session) -> bool
     ensures { result ≡ may_begin (J.seen journal.now).facts session.now }
 {
-    if session.number != journal.begun() || u32::from(session.contact) >= journal.contacts() {
+    if session.number != journal.begun() || session.number >= MAX_SESSIONS {
+        return false;
+    }
+    if u32::from(session.contact) >= journal.contacts() {
         return false;
     }
     session.latency >= 1 && suits_nonce(session)
@@ -126,6 +134,67 @@ fn allows_author<J: JournalView, C: Clients>(
     Ok(accepts_served(journal, &message.group(), &judgement))
 }
 
+// Whether a journal has no entry yet.
+fn is_empty_start(start: Start) -> bool
+    ensures { result ≡ is_empty_start start }
+{
+    match start {
+        Start::Empty => true,
+        Start::Opening | Start::Going => false,
+    }
+}
+
+// Whether a journal is a brief account so far.
+fn is_opening(start: Start) -> bool
+    ensures { result ≡ is_opening start }
+{
+    match start {
+        Start::Opening => true,
+        Start::Empty | Start::Going => false,
+    }
+}
+
+// Whether a message that came from this contact may be held.
+fn allows_held<J: JournalView>(
+    journal: &J,
+    known: &Option<MessageId>,
+    contact: u8,
+    message: &Message,
+) -> bool
+    requires { IsIdOf known.now message.now }
+    ensures { result ≡ (is_some (group_at (J.seen journal.now).facts.groups message.now.group)
+        && (is_none (held_at (J.seen journal.now).facts.held (message_id_of message.now))
+        && nat_lt contact (J.seen journal.now).facts.contacts)) }
+{
+    if !journal.knows_group(&message.group()) {
+        return false;
+    }
+    let new = journal.find(&id_known(known, message)).is_none();
+    new && u32::from(contact) < journal.contacts()
+}
+
+// Whether a message may be kept, by a brief account.
+fn allows_kept<J: JournalView, C: Clients>(
+    alloc: Global,
+    journal: &J,
+    clients: &C,
+    known: &Option<MessageId>,
+    from: Origin,
+    message: &Message,
+) -> Result<bool, AllocError>
+    requires { IsIdOf known.now message.now }
+    ensures { IfOk result (λ yes. yes ≡ (is_opening (J.seen journal.now).facts.start
+        && may_keep (C.meaning clients.now) (J.seen journal.now).facts from message.now)) }
+{
+    if !is_opening(journal.start()) {
+        return Ok(false);
+    }
+    match from {
+        Origin::Author => allows_author(alloc, journal, clients, known, message),
+        Origin::From(contact) => Ok(allows_held(journal, known, contact, message)),
+    }
+}
+
 // Whether this is what is due on a session at this time, by what these clients let be sent on.
 #[tactic(auto, using(crate::proofs::Due::due_along))]
 fn allows_out<J: JournalView, C: Clients>(
@@ -150,7 +219,8 @@ fn allows_out<J: JournalView, C: Clients>(
     }
 }
 
-// Whether an entry may follow a settled journal as a batch of its own, where it is no Take.
+// Whether an entry may follow a settled journal as a batch of its own, where it is no Take and
+// begins no brief account.
 fn allows_alone<J: JournalView, C: Clients>(
     alloc: Global,
     journal: &J,
@@ -172,6 +242,9 @@ fn allows_alone<J: JournalView, C: Clients>(
         Entry::Author(message) => allows_author(alloc, journal, clients, known, message),
         Entry::Out(session, now, what) => {
             allows_out(alloc, journal, clients, *session, *now, what)
+        }
+        Entry::Kept(from, message) => {
+            allows_kept(alloc, journal, clients, known, *from, message)
         }
         _ => Ok(false),
     }
@@ -200,9 +273,10 @@ fn allows_take<J: JournalView>(
 
 // ---- batches
 
-/// Whether a batch that does not begin with a step may follow the journal that the view shows. The
-/// caller says whether the journal is settled, and may give the id of the one message that the
-/// batch brings, which is then not computed. It fails only for want of memory.
+/// Whether a batch that begins neither with a step nor with a row or a wanted id may follow the
+/// journal that the view shows. The caller says whether the journal is settled, and may give the id
+/// of the one message that the batch brings, which is then not computed. It fails only for want of
+/// memory.
 pub fn allows<J: JournalView, C: Clients>(
     alloc: Global,
     journal: &J,
@@ -215,6 +289,7 @@ pub fn allows<J: JournalView, C: Clients>(
         (J.seen journal.now).facts }
     requires settled { settled ≡ is_settled (C.meaning clients.now) (J.seen journal.now).facts }
     requires kind { is_settling_kind batch.now ≡ false }
+    requires plain { is_rows_kind batch.now ≡ false }
     requires named { IsOfAll id batch.now }
     ensures { IfOk result (λ yes. yes ≡ allows (C.meaning clients.now) (J.seen journal.now).facts
         batch.now) }
@@ -222,6 +297,9 @@ pub fn allows<J: JournalView, C: Clients>(
     let Some((first, rest)) = batch.entries().split_first() else {
         return Ok(false);
     };
+    if let Entry::Brief(_) = first {
+        return Ok(rest.is_empty() && is_empty_start(journal.start()));
+    }
     if !settled {
         return Ok(false);
     }

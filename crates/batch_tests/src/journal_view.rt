@@ -6,10 +6,14 @@ ghost use Rattle.sync_rules.specs.Scans.{def_at};
 ghost use Rattle.sync_rules.specs.Steps.{is_served};
 
 use sync_ids::{GroupDef, GroupId, MessageId};
-use sync_rules::{Session, View};
+use sync_rules::{Session, Start, View};
 
 /// What the test of a batch asks of a journal, beside what a session does.
 pub trait JournalView: View {
+    /// How the journal began.
+    fn start(&self) -> Start
+        ensures { result ≡ (Self.seen self.now).facts.start };
+
     /// The number of contacts.
     fn contacts(&self) -> u32
         ensures { result ≡ (Self.seen self.now).facts.contacts };

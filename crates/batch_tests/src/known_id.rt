@@ -13,9 +13,9 @@ pub fn id_brought(entries: &[Entry]) -> Option<MessageId>
     ensures { IsOfAll result entries.now }
 {
     match entries {
-        [Entry::Author(message)] | [Entry::Take(_, _), Entry::Arrive(_, message)] => {
-            Some(id_of(message))
-        }
+        [Entry::Author(message)]
+        | [Entry::Kept(_, message)]
+        | [Entry::Take(_, _), Entry::Arrive(_, message)] => Some(id_of(message)),
         _ => None,
     }
 }

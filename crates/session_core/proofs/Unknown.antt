@@ -20,6 +20,10 @@ unknown_of (entry.Offered n id) = tt
 unknown_of (entry.Seen n id) = tt
 unknown_of (entry.Asked n id) = tt
 unknown_of (entry.Out n now what) = tt
+unknown_of (entry.Brief n) = tt
+unknown_of (entry.Kept from m) = tt
+unknown_of (entry.Tried t) = tt
+unknown_of (entry.Want contact id) = tt
 
 pub unknown : (es : List Entry) → IsOfAll None es
 unknown [] = tt

@@ -14,6 +14,7 @@ IsIdOf id m = IfSome id (λ i. i ≡ message_id_of m)
 abbrev pub IsOfEntry : Option Id → Entry → Type 0
 IsOfEntry id (entry.Author m) = IsIdOf id m
 IsOfEntry id (entry.Arrive s m) = IsIdOf id m
+IsOfEntry id (entry.Kept from m) = IsIdOf id m
 IsOfEntry id _ = Unit {0}
 
 -- it is that of each message that entries bring
