@@ -71,7 +71,7 @@ module _ (most : ℕ) (alone : Entry → Bool) where
 
 -- ---- what they weigh
 
-weigh-append : (weight : Entry → ℕ) (es fs : List Entry)
+pub weigh-append : (weight : Entry → ℕ) (es fs : List Entry)
     → entries_weigh weight (es ++ fs) ≡ entries_weigh weight es + entries_weigh weight fs
 weigh-append weight [] fs = omega arith
 weigh-append weight (e ∷ es) fs = let rest = weigh-append weight es fs in omega (arith, rest)

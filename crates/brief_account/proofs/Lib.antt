@@ -3,6 +3,7 @@ pub mod Added
 pub mod Alongside
 pub mod BriefLaws
 pub mod Cascades
+pub mod Counts
 pub mod Emptied
 pub mod Filled
 pub mod Heads
