@@ -2,7 +2,6 @@
 use Rattle.std.proofs.Common.{◌≡◌, ℕ, Bool, true, false, cond, ◌⊎◌, eqb-true, List, [], ◌∷◌, ◌++◌, refl, sym, ◌∙◌, ap, subst, inl, inr, Option, Some, None, is_some}
 use Rattle.std.specs.List.{AllByRecursion, list_all}
 use Rattle.std.proofs.lemmas.Bool.{and_parts, false≢true, or_left, or_right}
-use Rattle.std.proofs.lemmas.List.Folds.{list_all-append}
 use Rattle.sync_ids.specs.Values.{MessageValue}
 use Rattle.sync_ids.specs.Ids.{message_id_of}
 use Rattle.sync_ids.specs.declared.records.Record.{Record}
@@ -13,7 +12,6 @@ use Rattle.sync_rules.specs.declared.entries.Session.{Session}
 use Rattle.sync_rules.specs.declared.states.Start.TheVariants as start
 use Rattle.sync_rules.specs.Allows.{is_opening}
 use Rattle.sync_rules.specs.Clients.{Meaning}
-use Rattle.sync_rules.specs.CountLaws.{is_no_brief}
 use Rattle.sync_rules.proofs.ConsistencyLaws.{held_at-cases}
 use Rattle.sync_rules.proofs.Continuing.{continues_all}
 use Rattle.sync_rules.specs.Lists.{In, firsts, is_among, same_id}
@@ -27,7 +25,8 @@ use Rattle.sync_rules.proofs.RowLaws.{among-firsts, seen_step}
 use Rattle.sync_rules.specs.Sessions.{is_remembered, is_welcome, one_if, room_after, taken, taken_acks, taken_message, taken_message_of, taken_offer, taken_offers, taken_requests}
 use Rattle.sync_rules.proofs.StartLaws.{stays_closed_all}
 use Rattle.sync_rules.proofs.StepLaws.{IsSettlingEntry, next_is_settling}
-use Rattle.world_laws.specs.Worlds.{AllHeard, HasNoBrief, IsHeard, names}
+use Rattle.world_laws.specs.Worlds.{AllHeard, HasNoBrief, IsHeard, begins_no_brief, names}
+use Rattle.world_laws.proofs.PlainLaws.{batch_plain}
 
 -- ---- what the entries of a record say
 
@@ -151,10 +150,10 @@ pub batches_say : (heard : ℕ → List Record) (clients : Meaning) (f : Facts) 
     → GoesOn clients f bs → AllHeard heard f bs → AllByRecursion (SaysHeard heard) (entries_of bs)
 batches_say heard clients f [] closed plain g h = tt
 batches_say heard clients f (b ∷ bs) closed plain g h =
-    let both = and_parts (list_all is_no_brief b) (list_all is_no_brief (entries_of bs))
-    (sym (list_all-append is_no_brief b (entries_of bs)) ∙ plain) in
+    let both = and_parts (begins_no_brief b) (list_all begins_no_brief bs) plain in
+    let closed_then = stays_closed_all f b (batch_plain clients f b g.0 both.0) closed in
     all_by_append (SaysHeard heard) b (entries_of bs) (batch_says heard clients f b closed g.0 h.0)
-    (batches_say heard clients (after_all f b) bs (stays_closed_all f b both.0 closed) both.1 g.1 h.1)
+    (batches_say heard clients (after_all f b) bs closed_then both.1 g.1 h.1)
 
 -- ---- what is seen
 

@@ -1,4 +1,5 @@
 pub mod SentNames
+pub mod PlainLaws
 pub mod HeardLaws
 pub mod RestLaws
 pub mod Steps

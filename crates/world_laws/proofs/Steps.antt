@@ -1,10 +1,8 @@
 -- Each step of a sound world leads to a sound world.
-use Rattle.std.proofs.Common.{◌≡◌, ℕ, zero, suc, ◌-◌, ◌<◌, ◌≤◌, Bool, true, false, not, cond, ◌&&◌, ◌||◌, ◌⊎◌, List, [], ◌∷◌, ◌++◌, append_assoc, append-nil, refl, sym, ◌∙◌, ap, subst, inl, inr, arith, Option, Some, None, is_some}
+use Rattle.std.proofs.Common.{◌≡◌, ℕ, zero, suc, ◌-◌, ◌<◌, ◌≤◌, Bool, true, false, not, cond, ◌||◌, ◌⊎◌, List, [], ◌∷◌, ◌++◌, append_assoc, append-nil, refl, sym, ◌∙◌, ap, subst, inl, inr, arith, Option, Some, None, is_some}
 use Rattle.std.specs.Prelude.{nat_lt}
 use Rattle.std.specs.FinMap as fin_map
-use Rattle.std.specs.List.{list_all}
 use Rattle.std.proofs.lemmas.Bool.{cases_eq, false≢true, ltb-true, ltb-false}
-use Rattle.std.proofs.lemmas.List.Folds.{list_all-append}
 use Rattle.sync_ids.specs.Values.{MessageValue}
 use Rattle.sync_ids.specs.Ids.{message_id_of}
 use Rattle.sync_ids.specs.declared.records.Record.{Record}
@@ -15,7 +13,6 @@ use Rattle.sync_rules.specs.declared.entries.Session.{Session}
 use Rattle.sync_rules.specs.Allows.{is_opening}
 use Rattle.sync_rules.specs.Clients.{Meaning}
 use Rattle.sync_rules.specs.Consistency.{HasRows}
-use Rattle.sync_rules.specs.CountLaws.{is_no_brief}
 use Rattle.sync_rules.proofs.ConsistencyLaws.{legal_consistent}
 use Rattle.sync_rules.proofs.Continuing.{continues_journals, facts-append, legal-append}
 use Rattle.sync_rules.specs.Lists.{In, is_among}
@@ -28,11 +25,11 @@ use Rattle.sync_rules.proofs.Outputs.{entries_of-append}
 use Rattle.sync_rules.specs.Output.{sent}
 use Rattle.sync_rules.specs.Sessions.{is_author, shared_ids}
 use Rattle.sync_rules.proofs.Sound.{held_at-In, held_at-id}
-use Rattle.sync_rules.proofs.StartLaws.{facts_closed}
 use Rattle.world_laws.specs.Theorem.{HeldIsWritten, IsNewWorld, IsSoundWorld, IsWritten, RestIsDone, SeenIsHeld}
 use Rattle.world_laws.specs.Worlds.{AreSteps, HasNoBrief, HasSession, IsSent, IsStep, Journal, Link, Linked, Runs, WasGiven, Way, WayRuns, WaysRun, World, contact_for, journal_at, last_of, link_in, new_end, way_at, way_in, way_of}
 use Rattle.world_laws.proofs.SentNames.{SentHeld, sent_message, sent_named, sent_stays}
 use Rattle.world_laws.proofs.HeardLaws.{Before, Heard, HeldFrom, Written, batches_say, held_from, seen_from}
+use Rattle.world_laws.proofs.PlainLaws.{plain_append, plain_closed}
 use Rattle.world_laws.proofs.RestLaws.{none_sendable, seen_if_not_sendable}
 
 -- ---- contacts and ways
@@ -111,12 +108,6 @@ authored_back es fs m a = record {
 authored_stays : (j before : Journal) → Extends j before → (m : MessageValue) → IsAuthored (entries_of before) m → IsAuthored (entries_of j) m
 authored_stays j before e m a =
     subst (λ (t : List Entry). IsAuthored t m) (sym (ap entries_of e.1 ∙ entries_of-append before e.0)) (authored_front (entries_of before) (entries_of e.0) m a)
-
--- a journal goes on without a brief account
-plain_append : (j more : Journal) → HasNoBrief j → HasNoBrief more → HasNoBrief (j ++ more)
-plain_append j more plain then =
-    ap (list_all is_no_brief) (entries_of-append j more)
-    ∙ (list_all-append is_no_brief (entries_of j) (entries_of more) ∙ (λ i. plain i && then i))
 
 -- ---- a device runs
 
@@ -240,7 +231,7 @@ module _ (clients : Meaning) (d : ℕ) (old new : World) (s : IsSoundWorld clien
   added = entries_of r.more
 
   closed : is_opening first.start ≡ false
-  closed = facts_closed (journal_at old d) (s.plain d)
+  closed = plain_closed clients (journal_at old d) (s.legal d) (s.plain d)
 
   now_is : facts (journal_at new d) ≡ after_all first added
   now_is = ap facts r.goes_on ∙ (facts-append (journal_at old d) r.more ∙ after_batches-is first r.more)

@@ -9,9 +9,8 @@ use Rattle.sync_rules.specs.declared.entries.Entry.{Entry}
 use Rattle.sync_rules.specs.declared.entries.Entry.TheVariants as entry
 use Rattle.sync_rules.specs.declared.entries.Session.{Session}
 use Rattle.sync_rules.specs.Clients.{Meaning}
-use Rattle.sync_rules.specs.CountLaws.{is_no_brief}
 use Rattle.sync_rules.specs.Lists.{In, same_id, is_among}
-use Rattle.sync_rules.specs.Facts.{Facts, Id, after_all, entries_of, facts, session_at}
+use Rattle.sync_rules.specs.Facts.{Facts, Id, after_all, facts, session_at}
 use Rattle.sync_rules.specs.Legal.{GoesOn}
 use Rattle.sync_rules.specs.Output.{sent}
 use Rattle.sync_rules.specs.Sessions.{taken}
@@ -20,8 +19,12 @@ abbrev pub Journal : Type 0
 Journal = List (List Entry)
 
 -- no batch of a journal begins a brief account
+abbrev pub begins_no_brief : List Entry → Bool
+begins_no_brief (entry.Brief n ∷ rest) = false
+begins_no_brief _ = true
+
 abbrev pub HasNoBrief : Journal → Type 0
-HasNoBrief j = list_all is_no_brief (entries_of j) ≡ true
+HasNoBrief j = list_all begins_no_brief j ≡ true
 
 -- ---- worlds
 
