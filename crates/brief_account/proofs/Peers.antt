@@ -1,6 +1,6 @@
--- The rows and wanted ids of a brief account: their entries may follow in batches, and make known the rows and wanted ids that
--- they tell.
-use Rattle.std.proofs.Common.{◌≡◌, ℕ, zero, suc, ◌<◌, ◌≤◌, true, cond, nat_lt, List, [], ◌∷◌, ◌++◌, Some, None, refl, sym, ◌∙◌, ap, subst, arith}
+-- The rows and wanted ids of a brief account: their entries may follow in batches, and make known the rows and wanted ids
+-- told.
+use Rattle.std.proofs.Common.{◌≡◌, ℕ, zero, suc, ◌<◌, ◌≤◌, true, cond, nat_lt, List, [], ◌++◌, Some, None, sym, ◌∙◌, ap, subst, arith}
 use Rattle.std.specs.FinMap as fin_map
 use Rattle.std.proofs.lemmas.Bool.{lt-ltb}
 use Rattle.sync_rules.specs.declared.entries.Entry.{Entry}
@@ -11,7 +11,7 @@ use Rattle.sync_rules.specs.Lists.{is_among}
 use Rattle.sync_rules.specs.Facts.{Facts, Held, Id, Rows, after_all, facts, is_held, pair_cmp, wanted_from}
 use Rattle.sync_rules.specs.Steps.{IsSettled}
 use Rattle.sync_rules.specs.Legal.{AreRows, GoesOn, Legal}
-use Rattle.sync_rules.specs.Consistency.{ids_of_held}
+use Rattle.sync_rules.specs.Consistency.{IsRowOf, ids_of_held}
 use Rattle.sync_rules.proofs.ConsistencyLaws.{among_held}
 use Rattle.brief_account.specs.Brief.{filled, never_alone, peer_entries, row_entries, want_entries}
 use Rattle.brief_account.proofs.Emptied.{HasEmptyWanted}
@@ -29,7 +29,8 @@ module _ (f g : Facts) (has : HasPeers f) (held : g.held ≡ f.held) (empty : Ha
   empty_there contact known = empty contact ∙ ap (λ b. cond b (Some []) None) (lt-ltb contact g.contacts known)
 
   below_told : (rows : Rows) (n : ℕ) → n ≤ g.contacts → ((contact : ℕ) (id : Id) → fin_map.get rows (contact, id) ≡ None)
-      → IsTold g (peer_entries f n) rows g.wanted (fill_below f.rows rows (ids_of_held f.held) n) (wants_below f.wanted g.wanted n)
+      → IsTold g (peer_entries f n) rows g.wanted (fill_below f.rows rows (ids_of_held f.held) n)
+      (wants_below f.wanted g.wanted n)
   below_told rows zero few none = told_none g rows g.wanted
   below_told rows (suc n) few none =
       let known : n < g.contacts = omega (arith, few) in
@@ -51,12 +52,16 @@ module _ (f g : Facts) (has : HasPeers f) (held : g.held ≡ f.held) (empty : Ha
   whole_told : g.contacts ≡ f.contacts → IsTold g (peer_entries f f.contacts) fin_map.empty g.wanted f.rows f.wanted
   whole_told contacts =
       subst (λ (rows : Rows). IsTold g (peer_entries f f.contacts) fin_map.empty g.wanted rows f.wanted) rows
-      (subst (IsTold g (peer_entries f f.contacts) fin_map.empty g.wanted (fill_below f.rows fin_map.empty (ids_of_held f.held) f.contacts)) wanted
-      (below_told fin_map.empty f.contacts (omega (arith, contacts)) (λ contact id. fin_map.get-empty pair_cmp (contact, id))))
+      (subst (IsTold g (peer_entries f f.contacts) fin_map.empty g.wanted
+      (fill_below f.rows fin_map.empty (ids_of_held f.held) f.contacts)) wanted
+      (below_told fin_map.empty f.contacts (omega (arith, contacts))
+      (λ contact id. fin_map.get-empty pair_cmp (contact, id))))
     where
       rows : fill_below f.rows fin_map.empty (ids_of_held f.held) f.contacts ≡ f.rows
       rows = filled_whole f.rows (ids_of_held f.held) f.contacts
-          (λ contact id r at. ((has.rows contact id r at).known_contact, among_held f.held id ∙ (has.rows contact id r at).held))
+          (λ contact id r at.
+          let is : IsRowOf f contact id r = has.rows contact id r at in
+          (is.known_contact, among_held f.held id ∙ is.held))
 
       wanted : wants_below f.wanted g.wanted f.contacts ≡ f.wanted
       wanted = wants_whole f.wanted g.wanted f.contacts
@@ -65,17 +70,20 @@ module _ (f g : Facts) (has : HasPeers f) (held : g.held ≡ f.held) (empty : Ha
 
 -- ---- of legal journals
 
-pub peers_told : (clients : Meaning) (j : List (List Entry)) → Legal clients j → (g : Facts) → g.start ≡ start.Opening → IsSettled clients g
+pub peers_told : (clients : Meaning) (j : List (List Entry)) → Legal clients j → (g : Facts) → g.start ≡ start.Opening
+    → IsSettled clients g
     → g.contacts ≡ (facts j).contacts → g.held ≡ (facts j).held → g.rows ≡ fin_map.empty → HasEmptyWanted g
     → GoesOn clients g (filled MAX_ROWS never_alone [] (peer_entries (facts j) (facts j).contacts))
 peers_told clients j l g opening settled contacts held none empty =
     filled_follow clients g (peer_entries (facts j) (facts j).contacts) opening settled
-    (subst (λ h. AreRows h (peer_entries (facts j) (facts j).contacts)) (λ i. record g { start = sym opening i; rows = sym none i })
+    (subst (λ h. AreRows h (peer_entries (facts j) (facts j).contacts))
+    (λ i. record g { start = sym opening i; rows = sym none i })
     (whole_told (facts j) g (legal_has_peers clients j l) held empty contacts).suits)
 
 pub peers_after : (clients : Meaning) (j : List (List Entry)) → Legal clients j → (g : Facts) → g.start ≡ start.Opening
     → g.contacts ≡ (facts j).contacts → g.held ≡ (facts j).held → g.rows ≡ fin_map.empty → HasEmptyWanted g
-    → after_all g (peer_entries (facts j) (facts j).contacts) ≡ record g { rows = (facts j).rows; wanted = (facts j).wanted }
+    → after_all g (peer_entries (facts j) (facts j).contacts)
+    ≡ record g { rows = (facts j).rows; wanted = (facts j).wanted }
 peers_after clients j l g opening contacts held none empty =
     (λ i. after_all (record g { start = opening i; rows = none i }) (peer_entries (facts j) (facts j).contacts))
     ∙ ((whole_told (facts j) g (legal_has_peers clients j l) held empty contacts).reached

@@ -7,6 +7,7 @@ use Rattle.std.proofs.lemmas.Bool.{and_parts, lt-ltb, le-ltb}
 use Rattle.sync_rules.specs.Lists.{same_id, is_among}
 use Rattle.sync_rules.specs.Facts.{Id, Pair, id_cmp, pair_cmp}
 use Rattle.sync_rules.proofs.Elements.{same_id-is, same_id_swap}
+use Rattle.sync_rules.proofs.RowLaws.{hits}
 use Rattle.sync_rules.proofs.ScanLaws.{pair_total, pair_tied}
 
 -- ---- two maps are one where they find the same
@@ -15,19 +16,22 @@ tied_parts : (a b : ℕ) (x y : Id) → ordering_then (nat_cmp a b) (id_cmp x y)
 tied_parts a b x y =
     elim (nat_cmp a b) as (λ r. nat_cmp a b ≡ r → ordering_then r (id_cmp x y) ≡ Equal → ◌≡◌ {A = Pair} (a, x) (b, y)) [
       | Less ↦ λ p e. cc
-      | Equal ↦ λ p e i. (fin_map.nat_cmp-IsAntisymmetric a b p i, fin_map.slice_cmp-IsAntisymmetric fin_map.nat_cmp-IsAntisymmetric x y e i)
+      | Equal ↦ λ p e i. (
+        fin_map.nat_cmp-IsAntisymmetric a b p i,
+        fin_map.slice_cmp-IsAntisymmetric
+            fin_map.nat_cmp-IsAntisymmetric x y e i,
+      )
       | Greater ↦ λ p e. cc
     ] refl
 
-pub pair_same : fin_map.IsAntisymmetric pair_cmp
+pair_same : fin_map.IsAntisymmetric pair_cmp
 pair_same a b e = tied_parts a.0 b.0 a.1 b.1 e
 
--- a contact and an id are those of a pair
-abbrev pub hits : ℕ → Id → ℕ → Id → Bool
-hits contact id c x = nat_eq contact c && same_id x id
-
-pub hits_is : (contact c : ℕ) (id x : Id) → eq_by_cmp pair_cmp (contact, id) (c, x) ≡ hits contact id c x
+hits_is : (contact c : ℕ) (id x : Id) → eq_by_cmp pair_cmp (contact, id) (c, x) ≡ hits contact id c x
 hits_is contact c id x = pair_tied contact c id x ∙ ap (λ b. nat_eq contact c && b) (same_id_swap id x)
+
+pub below_or_last : (a n : ℕ) → nat_lt a (suc n) ≡ (nat_lt a n || nat_eq a n)
+below_or_last a n = grind arith
 
 -- ---- one value after the other
 
@@ -59,7 +63,8 @@ module _ {X : Type 0} where
   same_choice false o = refl
 
   put_at : (into : fin_map.FinMap pair_cmp X) (pair at : Pair) (o : Option X)
-      → fin_map.get (put into pair o) at ≡ cond (eq_by_cmp pair_cmp at pair) (first_of o (fin_map.get into at)) (fin_map.get into at)
+      → fin_map.get (put into pair o) at
+      ≡ cond (eq_by_cmp pair_cmp at pair) (first_of o (fin_map.get into at)) (fin_map.get into at)
   put_at into pair at None = same_choice (eq_by_cmp pair_cmp at pair) (fin_map.get into at)
   put_at into pair at (Some v) = fin_map.get-insert pair_total into pair v at
 
@@ -79,10 +84,12 @@ module _ {X : Type 0} where
     same_pair into contact c id x false h = refl
 
     pub put-get : (into : fin_map.FinMap pair_cmp X) (contact c : ℕ) (id x : Id)
-        → fin_map.get (put into (c, x) (fin_map.get from (c, x))) (contact, id) ≡ cond (hits contact id c x) (both into contact id) (fin_map.get into (contact, id))
+        → fin_map.get (put into (c, x) (fin_map.get from (c, x))) (contact, id)
+        ≡ cond (hits contact id c x) (both into contact id) (fin_map.get into (contact, id))
     put-get into contact c id x =
         put_at into (c, x) (contact, id) (fin_map.get from (c, x))
-        ∙ (ap (λ b. cond b (first_of (fin_map.get from (c, x)) (fin_map.get into (contact, id))) (fin_map.get into (contact, id))) (hits_is contact c id x)
+        ∙ (ap (λ b. cond b (first_of (fin_map.get from (c, x)) (fin_map.get into (contact, id)))
+        (fin_map.get into (contact, id))) (hits_is contact c id x)
         ∙ same_pair into contact c id x (hits contact id c x) refl)
 
     first_again : (f m : Option X) → first_of f (first_of f m) ≡ first_of f m
@@ -91,27 +98,33 @@ module _ {X : Type 0} where
 
     -- a: the contact; s: this id; t: among the later ids
     fill_step : (a s t : Bool) (f m : Option X)
-        → cond (a && t) (first_of f (cond (a && s) (first_of f m) m)) (cond (a && s) (first_of f m) m) ≡ cond (a && (s || t)) (first_of f m) m
+        → cond (a && t) (first_of f (cond (a && s) (first_of f m) m)) (cond (a && s) (first_of f m) m)
+        ≡ cond (a && (s || t)) (first_of f m) m
     fill_step false s t f m = refl
     fill_step true true true f m = first_again f m
     fill_step true true false f m = refl
     fill_step true false t f m = refl
 
     pub fill-get : (into : fin_map.FinMap pair_cmp X) (contact c : ℕ) (id : Id) (ids : List Id)
-        → fin_map.get (fill from into c ids) (contact, id) ≡ cond (nat_eq contact c && is_among ids id) (both into contact id) (fin_map.get into (contact, id))
+        → fin_map.get (fill from into c ids) (contact, id)
+        ≡ cond (nat_eq contact c && is_among ids id) (both into contact id) (fin_map.get into (contact, id))
     fill-get into contact c id [] =
-        elim (nat_eq contact c) as (λ b. fin_map.get into (contact, id) ≡ cond (b && false) (both into contact id) (fin_map.get into (contact, id))) [
+        elim (nat_eq contact c) as (λ b. fin_map.get into (contact, id)
+        ≡ cond (b && false) (both into contact id) (fin_map.get into (contact, id))) [
           | true ↦ refl
           | false ↦ refl
         ]
     fill-get into contact c id (x ∷ ids) =
         fill-get (put into (c, x) (fin_map.get from (c, x))) contact c id ids
-        ∙ (ap (λ (m : Option X). cond (nat_eq contact c && is_among ids id) (first_of (fin_map.get from (contact, id)) m) m) (put-get into contact c id x)
-        ∙ fill_step (nat_eq contact c) (same_id x id) (is_among ids id) (fin_map.get from (contact, id)) (fin_map.get into (contact, id)))
+        ∙ (ap (λ (m : Option X). cond (nat_eq contact c && is_among ids id)
+        (first_of (fin_map.get from (contact, id)) m) m) (put-get into contact c id x)
+        ∙ fill_step (nat_eq contact c) (same_id x id) (is_among ids id) (fin_map.get from (contact, id))
+        (fin_map.get into (contact, id)))
 
     -- a: below the number; b: this number; s: among the ids
     below_step : (a b s : Bool) (f m : Option X)
-        → cond (b && s) (first_of f (cond (a && s) (first_of f m) m)) (cond (a && s) (first_of f m) m) ≡ cond ((a || b) && s) (first_of f m) m
+        → cond (b && s) (first_of f (cond (a && s) (first_of f m) m)) (cond (a && s) (first_of f m) m)
+        ≡ cond ((a || b) && s) (first_of f m) m
     below_step true true true f m = first_again f m
     below_step true true false f m = refl
     below_step true false s f m = refl
@@ -120,30 +133,33 @@ module _ {X : Type 0} where
     below_step false false s f m = refl
 
     pub fill_below-get : (into : fin_map.FinMap pair_cmp X) (ids : List Id) (n contact : ℕ) (id : Id)
-        → fin_map.get (fill_below from into ids n) (contact, id) ≡ cond (nat_lt contact n && is_among ids id) (both into contact id) (fin_map.get into (contact, id))
+        → fin_map.get (fill_below from into ids n) (contact, id)
+        ≡ cond (nat_lt contact n && is_among ids id) (both into contact id) (fin_map.get into (contact, id))
     fill_below-get into ids zero contact id =
         let none : nat_lt contact 0 ≡ false = le-ltb contact 0 (omega arith) in
         ap (λ b. cond (b && is_among ids id) (both into contact id) (fin_map.get into (contact, id))) (sym none)
     fill_below-get into ids (suc n) contact id =
         fill-get (fill_below from into ids n) contact n id ids
-        ∙ (ap (λ (m : Option X). cond (nat_eq contact n && is_among ids id) (first_of (fin_map.get from (contact, id)) m) m) (fill_below-get into ids n contact id)
-        ∙ (below_step (nat_lt contact n) (nat_eq contact n) (is_among ids id) (fin_map.get from (contact, id)) (fin_map.get into (contact, id))
-        ∙ ap (λ b. cond (b && is_among ids id) (both into contact id) (fin_map.get into (contact, id))) (sym (below_or_last contact n))))
-      where
-        below_or_last : (a n : ℕ) → nat_lt a (suc n) ≡ (nat_lt a n || nat_eq a n)
-        below_or_last a n = grind arith
+        ∙ (ap (λ (m : Option X). cond (nat_eq contact n && is_among ids id)
+        (first_of (fin_map.get from (contact, id)) m) m) (fill_below-get into ids n contact id)
+        ∙ (below_step (nat_lt contact n) (nat_eq contact n) (is_among ids id) (fin_map.get from (contact, id))
+        (fin_map.get into (contact, id))
+        ∙ ap (λ b. cond (b && is_among ids id) (both into contact id) (fin_map.get into (contact, id)))
+        (sym (below_or_last contact n))))
 
     -- ---- the whole map
 
     -- a map whose pairs are all among these
     abbrev pub IsWithin : List Id → ℕ → Type 0
-    IsWithin ids n = (contact : ℕ) (id : Id) (v : X) → fin_map.get from (contact, id) ≡ Some v → (contact < n) × (is_among ids id ≡ true)
+    IsWithin ids n = (contact : ℕ) (id : Id) (v : X) → fin_map.get from (contact, id) ≡ Some v
+        → (contact < n) × (is_among ids id ≡ true)
 
     pub not_filled : (into : fin_map.FinMap pair_cmp X) (ids : List Id) (n contact : ℕ) (id : Id) → n ≤ contact
         → fin_map.get (fill_below from into ids n) (contact, id) ≡ fin_map.get into (contact, id)
     not_filled into ids n contact id beyond =
         fill_below-get into ids n contact id
-        ∙ ap (λ b. cond (b && is_among ids id) (both into contact id) (fin_map.get into (contact, id))) (le-ltb contact n beyond)
+        ∙ ap (λ b. cond (b && is_among ids id) (both into contact id) (fin_map.get into (contact, id)))
+        (le-ltb contact n beyond)
 
     found_all : (b : Bool) (o : Option X) → ((v : X) → o ≡ Some v → b ≡ true) → cond b (first_of o None) None ≡ o
     found_all true None only = refl
@@ -155,6 +171,7 @@ module _ {X : Type 0} where
     filled_whole ids n within =
         fin_map.same_map pair_total pair_same (fill_below from fin_map.empty ids n) from
         (λ q. fill_below-get fin_map.empty ids n q.0 q.1
-        ∙ (ap (λ (m : Option X). cond (nat_lt q.0 n && is_among ids q.1) (first_of (fin_map.get from q) m) m) (fin_map.get-empty pair_cmp q)
+        ∙ (ap (λ (m : Option X). cond (nat_lt q.0 n && is_among ids q.1) (first_of (fin_map.get from q) m) m)
+        (fin_map.get-empty pair_cmp q)
         ∙ found_all (nat_lt q.0 n && is_among ids q.1) (fin_map.get from q)
         (λ v e. λ i. lt-ltb q.0 n (within q.0 q.1 v e).0 i && (within q.0 q.1 v e).1 i)))
