@@ -1,5 +1,5 @@
 -- The groups of a legal journal may be added one after the other.
-use Rattle.std.proofs.Common.{◌≡◌, ◌+◌, ◌<◌, true, false, List, [], ◌∷◌, ◌++◌, length, refl, sym, ◌∙◌, ap, subst, append_assoc, append-nil, is_some}
+use Rattle.std.proofs.Common.{◌≡◌, ◌<◌, true, false, List, [], ◌∷◌, ◌++◌, length, refl, sym, subst, append_assoc, append-nil, is_some}
 use Rattle.sync_ids.specs.Ids.{group_id_of}
 use Rattle.sync_ids.specs.Values.{GroupValue}
 use Rattle.sync_rules.specs.declared.entries.Entry.{Entry}
@@ -19,11 +19,14 @@ pub record IsAddable (clients : Meaning) (before : List Known) (def : GroupValue
 -- groups that may be added to these, one after the other
 abbrev pub AreAdded : Meaning → List Known → List Known → Type 0
 AreAdded clients before [] = Unit {0}
-AreAdded clients before (g ∷ gs) = (g ≡ known_of g.def) × IsAddable clients before g.def × AreAdded clients (before ++ g ∷ []) gs
+AreAdded clients before (g ∷ gs) =
+    (g ≡ known_of g.def) × IsAddable clients before g.def × AreAdded clients (before ++ g ∷ []) gs
 
-added_push : (clients : Meaning) (before gs : List Known) (def : GroupValue) → AreAdded clients before gs → IsAddable clients (before ++ gs) def
+added_push : (clients : Meaning) (before gs : List Known) (def : GroupValue) → AreAdded clients before gs
+    → IsAddable clients (before ++ gs) def
     → AreAdded clients before (gs ++ known_of def ∷ [])
-added_push clients before [] def added may = (refl, subst (λ (x : List Known). IsAddable clients x def) (append-nil before) may, tt)
+added_push clients before [] def added may =
+    (refl, subst (λ (x : List Known). IsAddable clients x def) (append-nil before) may, tt)
 added_push clients before (g ∷ gs) def added may = (
   added.0,
   added.1,
@@ -31,9 +34,11 @@ added_push clients before (g ∷ gs) def added may = (
       (subst (λ (x : List Known). IsAddable clients x def) (sym (append_assoc before (g ∷ []) gs)) may),
 )
 
-added_one : (clients : Meaning) (f : Facts) (e : Entry) → Meets clients f e → AreAdded clients [] f.groups → AreAdded clients [] (after f e).groups
+added_one : (clients : Meaning) (f : Facts) (e : Entry) → Meets clients f e → AreAdded clients [] f.groups
+    → AreAdded clients [] (after f e).groups
 added_one clients f (entry.Group def) met added =
-    added_push clients [] f.groups def added (record { known_client = met.1.known_client; new = met.1.new; few = met.1.few })
+    added_push clients [] f.groups def added
+    (record { known_client = met.1.known_client; new = met.1.new; few = met.1.few })
 added_one clients f _ met added = added
 
 pub added_all : (clients : Meaning) (f : Facts) (es : List Entry) → AllMeet clients f es → AreAdded clients [] f.groups

@@ -1,11 +1,9 @@
 -- The brief account of a legal and settled journal is legal and settled, and makes known the same but for the sessions.
-use Rattle.std.proofs.Common.{◌≡◌, ℕ, ◌+◌, ◌≤◌, List, [], ◌∷◌, ◌++◌, refl, sym, ◌∙◌, ap, subst, arith}
+use Rattle.std.proofs.Common.{◌≡◌, ◌≤◌, List, [], ◌++◌, refl, sym, ◌∙◌, ap, subst, arith}
 use Rattle.sync_rules.specs.declared.entries.Entry.{Entry}
-use Rattle.sync_rules.specs.declared.entries.Entry.TheVariants as entry
 use Rattle.sync_rules.specs.declared.limits.TheConstants.{MAX_CONTACTS, MAX_ROWS, MAX_STEPS}
-use Rattle.sync_rules.specs.declared.states.Start.TheVariants as start
 use Rattle.sync_rules.specs.Clients.{Meaning}
-use Rattle.sync_rules.specs.Facts.{Facts, after, after_all, after_batches, entries_of, facts, nothing}
+use Rattle.sync_rules.specs.Facts.{Facts, after_all, after_batches, entries_of, facts, nothing}
 use Rattle.sync_rules.specs.Legal.{GoesOn, Legal}
 use Rattle.sync_rules.specs.Steps.{IsSettled}
 use Rattle.sync_rules.proofs.ConsistencyLaws.{legal_consistent}
@@ -18,7 +16,7 @@ use Rattle.brief_account.specs.Laws.{KeepsFacts}
 use Rattle.brief_account.proofs.Added.{added_all, AreAdded}
 use Rattle.brief_account.proofs.Alongside.{GoesAlong}
 use Rattle.brief_account.proofs.Emptied.{HasEmptyWanted}
-use Rattle.brief_account.proofs.Filled.{alone_entries, filled_entries}
+use Rattle.brief_account.proofs.Filled.{filled_entries}
 use Rattle.brief_account.proofs.Heads.{alone_after, alone_then, contacts_give, contacts_go, groups_give, groups_go, headed, opened}
 use Rattle.brief_account.proofs.LevelEntries.{levels_after, levels_told}
 use Rattle.brief_account.proofs.Peers.{peers_after, peers_told}
@@ -45,13 +43,16 @@ module _ (clients : Meaning) (j : List (List Entry)) (legal : Legal clients j) w
   few_contacts : f.contacts ≤ MAX_CONTACTS
   few_contacts = (legal_consistent clients j legal).groups.few_contacts
 
-  contacts_and_groups : GoesOn clients (headed f.begun 0 []) (each_alone (contact_entries f.contacts ++ group_entries f.groups))
+  contacts_and_groups : GoesOn clients (headed f.begun 0 [])
+      (each_alone (contact_entries f.contacts ++ group_entries f.groups))
   contacts_and_groups =
-      alone_then clients (headed f.begun 0 []) (headed f.begun f.contacts []) (contact_entries f.contacts) (group_entries f.groups)
+      alone_then clients (headed f.begun 0 []) (headed f.begun f.contacts []) (contact_entries f.contacts)
+      (group_entries f.groups)
       (contacts_go clients f.begun f.contacts few_contacts) (contacts_give f.begun f.contacts)
       (groups_go clients f.begun f.contacts [] f.groups groups_added)
 
-  contacts_and_groups_give : after_all (headed f.begun 0 []) (contact_entries f.contacts ++ group_entries f.groups) ≡ groups_there
+  contacts_and_groups_give : after_all (headed f.begun 0 []) (contact_entries f.contacts ++ group_entries f.groups)
+      ≡ groups_there
   contacts_and_groups_give =
       after_all-append (headed f.begun 0 []) (contact_entries f.contacts) (group_entries f.groups)
       ∙ (ap (λ (x : Facts). after_all x (group_entries f.groups)) (contacts_give f.begun f.contacts)
@@ -71,7 +72,8 @@ module _ (clients : Meaning) (j : List (List Entry)) (legal : Legal clients j) w
       let levels : after_all groups_there (level_entries f.levels f.groups f.contacts) ≡ head_facts f =
       levels_after clients j legal groups_there refl refl in
       ap (λ (x : Facts). after_all x begins) (opened f.begun)
-      ∙ (after_all-append (headed f.begun 0 []) (contact_entries f.contacts ++ group_entries f.groups) (level_entries f.levels f.groups f.contacts)
+      ∙ (after_all-append (headed f.begun 0 []) (contact_entries f.contacts ++ group_entries f.groups)
+      (level_entries f.levels f.groups f.contacts)
       ∙ (ap (λ (x : Facts). after_all x (level_entries f.levels f.groups f.contacts)) contacts_and_groups_give ∙ levels))
 
   -- ---- all of it
@@ -90,12 +92,14 @@ module _ (clients : Meaning) (j : List (List Entry)) (legal : Legal clients j) w
     told_empty = still_empty (head_facts f) told_facts leaves (head_empty clients j legal)
 
     peers_go : GoesOn clients told_facts (filled MAX_ROWS never_alone [] (peer_entries f f.contacts))
-    peers_go = peers_told clients j legal told_facts goes.along.opening (told_settled clients j legal settled) goes.has_whole.contacts
-        goes.along.held leaves.rows told_empty
+    peers_go =
+        peers_told clients j legal told_facts goes.along.opening (told_settled clients j legal settled)
+        goes.has_whole.contacts goes.along.held leaves.rows told_empty
 
     peers_give : after_all told_facts (peer_entries f f.contacts) ≡ without_sessions f
     peers_give =
-        peers_after clients j legal told_facts goes.along.opening goes.has_whole.contacts goes.along.held leaves.rows told_empty
+        peers_after clients j legal told_facts goes.along.opening goes.has_whole.contacts goes.along.held leaves.rows
+        told_empty
         ∙ (λ i. record {
           start = goes.along.opening i;
           contacts = goes.has_whole.contacts i;
@@ -150,6 +154,7 @@ module _ (clients : Meaning) (j : List (List Entry)) (legal : Legal clients j) w
     brief_keeps = record {
       legal = brief_legal;
       settled = subst (IsSettled clients) (sym brief_facts)
-          (same_next clients f (without_sessions f) (record { groups = refl; held = refl; judged = refl; invalid = refl; delivered = refl }) ∙ settled);
+          (same_next clients f (without_sessions f)
+          (record { groups = refl; held = refl; judged = refl; invalid = refl; delivered = refl }) ∙ settled);
       same = brief_facts;
     }

@@ -1,6 +1,6 @@
 -- The steps that are open in some facts, one after the other: how many turns find them all, and that they read groups and
 -- held messages with their ends alone.
-use Rattle.std.proofs.Common.{◌≡◌, ℕ, zero, suc, ◌+◌, ◌≤◌, List, [], ◌∷◌, ◌++◌, refl, sym, ◌∙◌, ap, subst, arith, Option, Some, None}
+use Rattle.std.proofs.Common.{◌≡◌, ℕ, zero, suc, ◌+◌, ◌≤◌, List, [], ◌∷◌, ◌++◌, refl, sym, ◌∙◌, ap, arith, Some, None}
 use Rattle.std.specs.FinSet as fin_set
 use Rattle.sync_rules.specs.declared.entries.Entry.{Entry}
 use Rattle.sync_rules.specs.declared.entries.Entry.TheVariants as entry
@@ -23,7 +23,8 @@ module _ (clients : Meaning) where
   no_cascade g zero settled = refl
   no_cascade g (suc n) settled = ap (steps_from (cascade clients n) g) settled
 
-  cascade_more : (g : Facts) (n : ℕ) (e : Entry) → next clients g ≡ Some e → cascade clients (suc n) g ≡ e ∷ cascade clients n (after g e)
+  cascade_more : (g : Facts) (n : ℕ) (e : Entry) → next clients g ≡ Some e
+      → cascade clients (suc n) g ≡ e ∷ cascade clients n (after g e)
   cascade_more g n e open_now = ap (steps_from (cascade clients n) g) open_now
 
   -- a step that is open is one that is left
@@ -58,11 +59,13 @@ module _ (clients : Meaning) where
   pub settling_none : (g : Facts) → IsSettled clients g → settling_of clients g ≡ []
   settling_none g settled = no_cascade g (left_of g) settled
 
-  pub settling_more : (g : Facts) (e : Entry) → next clients g ≡ Some e → settling_of clients g ≡ e ∷ settling_of clients (after g e)
+  pub settling_more : (g : Facts) (e : Entry) → next clients g ≡ Some e
+      → settling_of clients g ≡ e ∷ settling_of clients (after g e)
   settling_more g e open_now =
       let lower = step_lowers clients g e open_now in
       sym (enough g (suc (left_of g)) (omega arith))
-      ∙ (cascade_more g (left_of g) e open_now ∙ ap (λ (t : List Entry). e ∷ t) (enough (after g e) (left_of g) (omega (arith, lower))))
+      ∙ (cascade_more g (left_of g) e open_now
+      ∙ ap (λ (t : List Entry). e ∷ t) (enough (after g e) (left_of g) (omega (arith, lower))))
 
   -- ---- each is a step, and none is open behind them
 
@@ -80,7 +83,8 @@ module _ (clients : Meaning) where
   cascade_settles : (n : ℕ) (g : Facts) → left_of g ≤ n → IsSettled clients (after_all g (cascade clients n g))
   cascade_settles zero g few = none_left g few
   cascade_settles (suc n) g few =
-      elim (next clients g) as (λ o. next clients g ≡ o → IsSettled clients (after_all g (steps_from (cascade clients n) g o))) [
+      elim (next clients g) as
+      (λ o. next clients g ≡ o → IsSettled clients (after_all g (steps_from (cascade clients n) g o))) [
         | None ↦ λ settled. settled
         | Some e ↦ λ open_now.
             let one = some_left g e (suc n) open_now few in
@@ -100,14 +104,16 @@ left_by_ends : (f g : Facts) (judged invalid : Ids) (delivered : List Id) (hs : 
     → left_among (with_ends f judged invalid delivered) hs ≡ left_among (with_ends g judged invalid delivered) hs
 left_by_ends f g judged invalid delivered [] = refl
 left_by_ends f g judged invalid delivered (h ∷ hs) =
-    ap (λ (n : ℕ). left_for (with_ends g judged invalid delivered) h.id + n) (left_by_ends f g judged invalid delivered hs)
+    ap (λ (n : ℕ). left_for (with_ends g judged invalid delivered) h.id + n)
+    (left_by_ends f g judged invalid delivered hs)
 
 pub same_left : (g h : Facts) → HasSameSteps g h → left_of h ≡ left_of g
 same_left g h s =
     (λ i. left_among (with_ends h (s.judged i) (s.invalid i) (s.delivered i)) (s.held i))
     ∙ left_by_ends h g g.judged g.invalid g.delivered g.held
 
-pub same_steps_behind : (g h : Facts) (e : Entry) → IsSettlingEntry e → HasSameSteps g h → HasSameSteps (after g e) (after h e)
+pub same_steps_behind : (g h : Facts) (e : Entry) → IsSettlingEntry e → HasSameSteps g h
+    → HasSameSteps (after g e) (after h e)
 same_steps_behind g h (entry.Judged id) is s = record {
   groups = s.groups;
   held = s.held;
@@ -132,7 +138,8 @@ same_steps_behind g h (entry.Invalid id) is s = record {
 same_steps_behind g h _ is s = absurd is
 
 module _ (clients : Meaning) where
-  pub same_steps_behind_all : (es : List Entry) (g h : Facts) → IsSettling clients g es → HasSameSteps g h → HasSameSteps (after_all g es) (after_all h es)
+  pub same_steps_behind_all : (es : List Entry) (g h : Facts) → IsSettling clients g es → HasSameSteps g h
+      → HasSameSteps (after_all g es) (after_all h es)
   same_steps_behind_all [] g h settling s = s
   same_steps_behind_all (e ∷ es) g h settling s =
       same_steps_behind_all es (after g e) (after h e) settling.1
@@ -141,7 +148,8 @@ module _ (clients : Meaning) where
   same_cascade : (n : ℕ) (g h : Facts) → HasSameSteps g h → cascade clients n h ≡ cascade clients n g
   same_cascade zero g h s = refl
   same_cascade (suc n) g h s =
-      elim (next clients g) as (λ o. next clients g ≡ o → cascade clients (suc n) h ≡ steps_from (cascade clients n) g o) [
+      elim (next clients g) as
+      (λ o. next clients g ≡ o → cascade clients (suc n) h ≡ steps_from (cascade clients n) g o) [
         | None ↦ λ settled. no_cascade clients h (suc n) (same_next clients g h s ∙ settled)
         | Some e ↦ λ open_now.
             cascade_more clients h n e (same_next clients g h s ∙ open_now)
@@ -150,4 +158,6 @@ module _ (clients : Meaning) where
       ] refl
 
   pub same_settling : (g h : Facts) → HasSameSteps g h → settling_of clients g ≡ settling_of clients h
-  same_settling g h s = sym (same_cascade (left_of g) g h s) ∙ sym (ap (λ (n : ℕ). cascade clients n h) (same_left g h s))
+  same_settling g h s =
+      sym (same_cascade (left_of g) g h s)
+      ∙ sym (ap (λ (n : ℕ). cascade clients n h) (same_left g h s))

@@ -1,5 +1,5 @@
 -- Lists of wanted ids that are empty: those with which a brief account begins, which messages leave as they are.
-use Rattle.std.proofs.Common.{◌≡◌, ℕ, zero, suc, ◌+◌, ◌<◌, ◌≤◌, Bool, true, false, cond, nat_eq, eqb-true, lt-ltb, le-ltb, ltb-true, ltb-false, List, [], ◌∷◌, refl, sym, ◌∙◌, ap, arith, Option, Some, None}
+use Rattle.std.proofs.Common.{◌≡◌, ℕ, zero, suc, ◌<◌, ◌≤◌, Bool, true, false, cond, nat_eq, eqb-true, lt-ltb, le-ltb, ltb-true, ltb-false, List, [], ◌∷◌, refl, sym, ◌∙◌, ap, arith, Option, Some, None}
 use Rattle.std.specs.Prelude.{nat_lt}
 use Rattle.std.specs.FinMap as fin_map
 use Rattle.std.specs.Ordering.{nat_cmp, eq_by_cmp}
@@ -68,14 +68,18 @@ one_more contact n ids none true is =
 one_more contact n ids none false is = ap (λ b. cond b (Some []) None) (by (nat_lt contact n) refl)
   where
     by : (b : Bool) → nat_lt contact n ≡ b → nat_lt contact n ≡ nat_lt contact (suc n)
-    by true below = let k : contact < n = ltb-true contact n below in below ∙ sym (lt-ltb contact (suc n) (omega (arith, k)))
+    by true below =
+        let k : contact < n = ltb-true contact n below in
+        below ∙ sym (lt-ltb contact (suc n) (omega (arith, k)))
     by false above =
         let k : n ≤ contact = ltb-false contact n above in
         let other : contact ≡ n → ⊥ = eqb-false contact n is in
         above ∙ sym (le-ltb contact (suc n) (further contact n k other))
 
 pub contacts_empty : (n : ℕ) → AreEmpty n (emptied n)
-contacts_empty zero contact = fin_map.get-empty nat_cmp contact ∙ sym (ap (λ b. cond b (Some []) None) (le-ltb contact zero (omega arith)))
+contacts_empty zero contact =
+    fin_map.get-empty nat_cmp contact
+    ∙ sym (ap (λ b. cond b (Some []) None) (le-ltb contact zero (omega arith)))
 contacts_empty (suc n) contact =
     let ids : List Id = wanted_from (emptied n) n in
     let none : ids ≡ [] = ap ids_or (contacts_empty n n) ∙ none_there (nat_lt n n) in

@@ -1,5 +1,5 @@
 -- Entries cut into batches: what they hold, how many they are and what they weigh, and how they follow a journal.
-use Rattle.std.proofs.Common.{◌≡◌, ℕ, ◌+◌, ◌*◌, ◌<◌, ◌≤◌, Bool, true, false, cond, List, [], ◌∷◌, ◌++◌, length, length-append, refl, sym, ◌∙◌, ap, subst, arith, append_assoc, append-nil, lt-ltb, suc-mul}
+use Rattle.std.proofs.Common.{◌≡◌, ℕ, ◌+◌, ◌*◌, Bool, true, false, cond, List, [], ◌∷◌, ◌++◌, length, length-append, refl, sym, ◌∙◌, ap, arith, append_assoc, append-nil, lt-ltb, suc-mul}
 use Rattle.std.specs.Prelude.{nat_lt}
 use Rattle.std.proofs.lemmas.List.{length_push}
 use Rattle.sync_rules.specs.declared.entries.Entry.{Entry}
@@ -11,7 +11,9 @@ use Rattle.brief_account.specs.Brief.{closed, each_alone, filled}
 
 pub entries-append : (bs cs : List (List Entry)) → entries_of (bs ++ cs) ≡ entries_of bs ++ entries_of cs
 entries-append [] cs = refl
-entries-append (b ∷ bs) cs = ap (λ (t : List Entry). b ++ t) (entries-append bs cs) ∙ sym (append_assoc b (entries_of bs) (entries_of cs))
+entries-append (b ∷ bs) cs =
+    ap (λ (t : List Entry). b ++ t) (entries-append bs cs)
+    ∙ sym (append_assoc b (entries_of bs) (entries_of cs))
 
 pub closed_entries : (front : List Entry) → entries_of (closed front) ≡ front
 closed_entries [] = refl
@@ -34,13 +36,16 @@ module _ (most : ℕ) (alone : Entry → Bool) where
   filled_entries front [] = closed_entries front ∙ sym (append-nil front)
   filled_entries front (e ∷ es) =
       elim (alone e) as (λ b. entries_of (cond b (closed front ++ (e ∷ []) ∷ filled most alone [] es)
-      (cond (nat_lt (length front) most) (filled most alone (front ++ e ∷ []) es) (front ∷ filled most alone (e ∷ []) es)))
+      (cond (nat_lt (length front) most) (filled most alone (front ++ e ∷ []) es)
+      (front ∷ filled most alone (e ∷ []) es)))
       ≡ front ++ e ∷ es) [
         | true ↦
             entries-append (closed front) ((e ∷ []) ∷ filled most alone [] es)
             ∙ (λ i. closed_entries front i ++ e ∷ filled_entries [] es i)
         | false ↦
-            elim (nat_lt (length front) most) as (λ b. entries_of (cond b (filled most alone (front ++ e ∷ []) es) (front ∷ filled most alone (e ∷ []) es))
+            elim (nat_lt (length front) most) as
+            (λ b. entries_of (cond b (filled most alone (front ++ e ∷ []) es)
+            (front ∷ filled most alone (e ∷ []) es))
             ≡ front ++ e ∷ es) [
               | true ↦ filled_entries (front ++ e ∷ []) es ∙ append_assoc front (e ∷ []) es
               | false ↦ ap (λ (t : List Entry). front ++ t) (filled_entries (e ∷ []) es)
@@ -53,7 +58,8 @@ module _ (most : ℕ) (alone : Entry → Bool) where
   filled_count front [] = closed_count front
   filled_count front (e ∷ es) =
       elim (alone e) as (λ b. length (cond b (closed front ++ (e ∷ []) ∷ filled most alone [] es)
-      (cond (nat_lt (length front) most) (filled most alone (front ++ e ∷ []) es) (front ∷ filled most alone (e ∷ []) es)))
+      (cond (nat_lt (length front) most) (filled most alone (front ++ e ∷ []) es)
+      (front ∷ filled most alone (e ∷ []) es)))
       ≡ cond b (open_batches (length front) + (1 + batches most alone 0 es))
       (cond (nat_lt (length front) most) (batches most alone (length front + 1) es) (1 + batches most alone 1 es))) [
         | true ↦
@@ -62,7 +68,8 @@ module _ (most : ℕ) (alone : Entry → Bool) where
             let mine = closed_count front in
             omega (arith, rest, both, mine)
         | false ↦
-            elim (nat_lt (length front) most) as (λ b. length (cond b (filled most alone (front ++ e ∷ []) es) (front ∷ filled most alone (e ∷ []) es))
+            elim (nat_lt (length front) most) as
+            (λ b. length (cond b (filled most alone (front ++ e ∷ []) es) (front ∷ filled most alone (e ∷ []) es))
             ≡ cond b (batches most alone (length front + 1) es) (1 + batches most alone 1 es)) [
               | true ↦ filled_count (front ++ e ∷ []) es ∙ ap (λ n. batches most alone n es) (length_push front e)
               | false ↦ let rest = filled_count (e ∷ []) es in omega (arith, rest)

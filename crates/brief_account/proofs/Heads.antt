@@ -1,5 +1,5 @@
 -- How a brief account begins: the number of sessions, the contacts and the groups follow one after the other.
-use Rattle.std.proofs.Common.{◌≡◌, ℕ, zero, suc, ◌+◌, ◌<◌, ◌≤◌, List, [], ◌∷◌, ◌++◌, refl, sym, ◌∙◌, ap, subst, arith, append_assoc, append-nil, is_some}
+use Rattle.std.proofs.Common.{◌≡◌, ℕ, zero, suc, ◌+◌, ◌≤◌, List, [], ◌∷◌, ◌++◌, refl, sym, ◌∙◌, ap, subst, arith, append_assoc, append-nil}
 use Rattle.sync_rules.specs.declared.entries.Entry.{Entry}
 use Rattle.sync_rules.specs.declared.entries.Entry.TheVariants as entry
 use Rattle.sync_rules.specs.declared.states.Start.TheVariants as start
@@ -16,7 +16,8 @@ use Rattle.brief_account.proofs.Filled.{alone-append}
 
 -- the facts with so many sessions, so many contacts, and these groups
 abbrev pub headed : ℕ → ℕ → List Known → Facts
-headed begun n groups = record nothing { start = start.Opening; contacts = n; groups = groups; begun = begun; wanted = emptied n }
+headed begun n groups =
+    record nothing { start = start.Opening; contacts = n; groups = groups; begun = begun; wanted = emptied n }
 
 pub opened : (begun : ℕ) → after nothing (entry.Brief begun) ≡ headed begun 0 []
 opened begun = let same : 0 + begun ≡ begun = omega arith in ap (λ (k : ℕ). headed k 0 []) same
@@ -26,7 +27,8 @@ alone_after g [] = refl
 alone_after g (e ∷ es) = alone_after (after g e) es
 
 -- entries each alone, before others
-pub alone_then : (clients : Meaning) (g h : Facts) (es fs : List Entry) → GoesOn clients g (each_alone es) → after_all g es ≡ h
+pub alone_then : (clients : Meaning) (g h : Facts) (es fs : List Entry) → GoesOn clients g (each_alone es)
+    → after_all g es ≡ h
     → GoesOn clients h (each_alone fs) → GoesOn clients g (each_alone (es ++ fs))
 alone_then clients g h es fs a to b =
     subst (GoesOn clients g) (sym (alone-append es fs))
@@ -43,7 +45,8 @@ contacts_give begun (suc n) =
     ∙ (ap (λ (g : Facts). after g (entry.Contact n)) (contacts_give begun n)
     ∙ ap (λ (k : ℕ). record (headed begun (suc n) []) { contacts = k }) one)
 
-pub contacts_go : (clients : Meaning) (begun n : ℕ) → n ≤ MAX_CONTACTS → GoesOn clients (headed begun 0 []) (each_alone (contact_entries n))
+pub contacts_go : (clients : Meaning) (begun n : ℕ) → n ≤ MAX_CONTACTS
+    → GoesOn clients (headed begun 0 []) (each_alone (contact_entries n))
 contacts_go clients begun zero few = tt
 contacts_go clients begun (suc n) few =
     alone_then clients (headed begun 0 []) (headed begun n []) (contact_entries n) (entry.Contact n ∷ [])
@@ -60,7 +63,8 @@ module _ (clients : Meaning) (begun n : ℕ) where
       ap (λ (x : Known). after_all (headed begun n (before ++ x ∷ [])) (group_entries gs)) (sym added.0)
       ∙ (groups_give (before ++ g ∷ []) gs added.2 ∙ ap (headed begun n) (append_assoc before (g ∷ []) gs))
 
-  pub groups_go : (before gs : List Known) → AreAdded clients before gs → GoesOn clients (headed begun n before) (each_alone (group_entries gs))
+  pub groups_go : (before gs : List Known) → AreAdded clients before gs
+      → GoesOn clients (headed begun n before) (each_alone (group_entries gs))
   groups_go before [] added = tt
   groups_go before (g ∷ gs) added = (
     (refl, refl, record { known_client = added.1.known_client; new = added.1.new; few = added.1.few }),

@@ -1,9 +1,9 @@
 -- What a brief account tells of the messages of a legal journal: it may be told behind the head, it leaves what is held and
 -- what has ended as the journal has it, and where no step is open it is a function of the facts.
-use Rattle.std.proofs.Common.{◌≡◌, ℕ, List, [], ◌∷◌, ◌++◌, refl, sym, ◌∙◌, ap}
+use Rattle.std.proofs.Common.{◌≡◌, List, refl, sym, ◌∙◌, ap}
 use Rattle.sync_rules.specs.declared.entries.Entry.{Entry}
 use Rattle.sync_rules.specs.Clients.{Meaning}
-use Rattle.sync_rules.specs.Facts.{Facts, Held, after_all, entries_of, facts, nothing}
+use Rattle.sync_rules.specs.Facts.{Facts, after_all, entries_of, facts, nothing}
 use Rattle.sync_rules.specs.Growth.{HasSameSteps}
 use Rattle.sync_rules.specs.Legal.{Legal}
 use Rattle.sync_rules.specs.Steps.{IsSettled}
@@ -31,7 +31,8 @@ told_in j = retold nothing (entries_of j)
 module _ (clients : Meaning) (j : List (List Entry)) (legal : Legal clients j) where
   pub told_goes_along : GoesAlong clients (facts j) (facts j) (head_facts (facts j)) (told_in j)
   told_goes_along =
-      told_along clients (facts j) (entries_of j) nothing (head_facts (facts j)) (legal_meets clients j legal) (sound_nothing clients)
+      told_along clients (facts j) (entries_of j) nothing (head_facts (facts j)) (legal_meets clients j legal)
+      (sound_nothing clients)
       sessions_of_nothing (sym (after_batches-is nothing j))
       (record { opening = refl; held = refl; judged = refl; invalid = refl; delivered = refl })
       (record { contacts = refl; groups = refl })
@@ -52,7 +53,9 @@ module _ (clients : Meaning) (j : List (List Entry)) (legal : Legal clients j) w
   }
 
   pub kept_is : kept_in (told_in j) ≡ (facts j).held
-  kept_is = sym (all_told_held clients (head_facts (facts j)) (told_in j) told_goes_along.tells) ∙ told_goes_along.along.held
+  kept_is =
+      sym (all_told_held clients (head_facts (facts j)) (told_in j) told_goes_along.tells)
+      ∙ told_goes_along.along.held
 
   module _ (settled : IsSettled clients (facts j)) where
     pub told_settled : IsSettled clients (after_all (head_facts (facts j)) (told_in j))

@@ -30,7 +30,8 @@ left_itself g = record {
   wanted = refl;
 }
 
-left_one : (clients : Meaning) (g : Facts) (e : Entry) → Tells clients g e → HasEmptyWanted g → IsLeftByTold g (after g e)
+left_one : (clients : Meaning) (g : Facts) (e : Entry) → Tells clients g e → HasEmptyWanted g
+    → IsLeftByTold g (after g e)
 left_one clients g (entry.Kept from m) t empty = record {
   contacts = refl;
   groups = refl;
@@ -42,22 +43,52 @@ left_one clients g (entry.Kept from m) t empty = record {
   wanted = none_wanted g.contacts g.wanted (message_id_of m) empty;
 }
 left_one clients g (entry.Judged id) t empty =
-    record { contacts = refl; groups = refl; levels = refl; begun = refl; sessions = refl; takes = refl; rows = refl; wanted = refl }
+    record {
+      contacts = refl;
+      groups = refl;
+      levels = refl;
+      begun = refl;
+      sessions = refl;
+      takes = refl;
+      rows = refl;
+      wanted = refl;
+    }
 left_one clients g (entry.Deliver id) t empty =
-    record { contacts = refl; groups = refl; levels = refl; begun = refl; sessions = refl; takes = refl; rows = refl; wanted = refl }
+    record {
+      contacts = refl;
+      groups = refl;
+      levels = refl;
+      begun = refl;
+      sessions = refl;
+      takes = refl;
+      rows = refl;
+      wanted = refl;
+    }
 left_one clients g (entry.Invalid id) t empty =
-    record { contacts = refl; groups = refl; levels = refl; begun = refl; sessions = refl; takes = refl; rows = refl; wanted = refl }
+    record {
+      contacts = refl;
+      groups = refl;
+      levels = refl;
+      begun = refl;
+      sessions = refl;
+      takes = refl;
+      rows = refl;
+      wanted = refl;
+    }
 left_one clients g _ t empty = absurd t
 
 -- empty lists stay empty where contacts and lists are the same
 pub still_empty : (g later : Facts) → IsLeftByTold g later → HasEmptyWanted g → HasEmptyWanted later
-still_empty g later left empty = subst (λ (n : ℕ). AreEmpty n later.wanted) (sym left.contacts) (subst (AreEmpty g.contacts) (sym left.wanted) empty)
+still_empty g later left empty =
+    subst (λ (n : ℕ). AreEmpty n later.wanted) (sym left.contacts) (subst (AreEmpty g.contacts) (sym left.wanted) empty)
 
-pub left_by_told : (clients : Meaning) (g : Facts) (es : List Entry) → AllTell clients g es → HasEmptyWanted g → IsLeftByTold g (after_all g es)
+pub left_by_told : (clients : Meaning) (g : Facts) (es : List Entry) → AllTell clients g es → HasEmptyWanted g
+    → IsLeftByTold g (after_all g es)
 left_by_told clients g [] t empty = left_itself g
 left_by_told clients g (e ∷ es) t empty =
     let a : IsLeftByTold g (after g e) = left_one clients g e t.0 empty in
-    let b : IsLeftByTold (after g e) (after_all (after g e) es) = left_by_told clients (after g e) es t.1 (still_empty g (after g e) a empty) in
+    let b : IsLeftByTold (after g e) (after_all (after g e) es) =
+    left_by_told clients (after g e) es t.1 (still_empty g (after g e) a empty) in
     record {
       contacts = b.contacts ∙ a.contacts;
       groups = b.groups ∙ a.groups;
