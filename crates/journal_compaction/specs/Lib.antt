@@ -1,1 +1,7 @@
 pub mod Compacting
+pub mod Items
+pub mod Paging
+pub mod Planning
+pub mod Writing
+pub mod Cited
+pub mod Faults

@@ -62,11 +62,11 @@ pub fn compact<D: Disk, C: Clients>(
 {
     cite_laws();
     let told = state.account(alloc, clients)?;
-    let plan = Plan::of(alloc, state, told)?;
-    if plan.total_len(state) > limit {
+    let plan = Plan::of(alloc, state, told.as_slice())?;
+    if plan.len(state) > limit {
         return Err(CompactionFault::Full);
     }
-    let mut page = Page::new(alloc);
+    let mut page = Page::new(alloc)?;
     let mut writer = begin(disk, 1 - journal.file(), journal.generation() + 1)?;
     write_plan(disk, state, &plan, &mut writer, &mut page)?;
     publish(disk, writer.file())?;

@@ -3,6 +3,7 @@ ghost use Rattle.std.specs.Prelude.{◌≡◌};
 ghost use Rattle.journal_compaction.specs.declared.fault.CompactionFault.TheVariants as fault;
 
 use frame_journal::DiskFault;
+use journal_migration::MigrationFault;
 use std::alloc::{AllocError, AllocFailed};
 
 /// Why no brief account was written.
@@ -37,5 +38,18 @@ impl From<DiskFault> for CompactionFault {
 
     fn from(_: DiskFault) -> CompactionFault {
         CompactionFault::DiskFault
+    }
+}
+
+impl From<MigrationFault> for CompactionFault {
+    ghost use Rattle.journal_compaction.specs.Faults.{fault_of};
+
+    ghost from_gives = { λ f e. e ≡ fault_of f };
+
+    fn from(fault: MigrationFault) -> CompactionFault {
+        match fault {
+            MigrationFault::Memory => CompactionFault::Memory,
+            MigrationFault::DiskFault => CompactionFault::DiskFault,
+        }
     }
 }

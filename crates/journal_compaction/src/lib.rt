@@ -9,6 +9,7 @@ mod fault;
 mod items;
 mod laws;
 mod page;
+mod paging;
 mod plan;
 mod writing;
 

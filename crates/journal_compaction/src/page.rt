@@ -1,0 +1,84 @@
+//! The payload that is being filled.
+ghost use Rattle.std.specs.Prelude.{◌≡◌, ◌+◌, ◌-◌, ◌≤◌, [], cond, length, IfOk, IsErrOf, OnErr, OnOk};
+ghost use Rattle.std.specs.Option.{ForSome};
+ghost use Rattle.outside.specs.Faults.{Rose};
+ghost use Rattle.outside.specs.Outside.{DiskRun};
+ghost use Rattle.frame_journal.specs.Append.{framed_of};
+ghost use Rattle.journal_migration.specs.Migrating.{ReadsOnly};
+ghost use Rattle.journal_compaction.specs.Paging.{closed_page, frames_len};
+ghost use Rattle.journal_compaction.specs.Writing.{Adding, LeavesIdle, StaysShut, Works};
+
+use frame_journal::Journal;
+use journal_migration::MigrationFault;
+use outside::{Disk, MAX_FRAME, MAX_JOURNAL};
+use std::alloc::{AllocError, Global};
+
+/// The greatest length of a payload of a brief account: `MAX_ROWS` wanted ids, each in 34 bytes.
+const MOST_PAYLOAD: usize = 34_000;
+
+/// A payload that is being filled, and a buffer in which it is framed.
+#[derive(Drop)]
+pub(crate) struct Page {
+    pub(crate) payload: Vec<u8>,
+    framed: Vec<u8>,
+}
+
+impl Page {
+    /// An empty payload, with the memory that the longest takes.
+    pub(crate) fn new(alloc: Global) -> Result<Page, AllocError>
+        ensures { IfOk result (λ p. p.payload.items ≡ []) }
+    {
+        let payload = Vec::with_capacity(alloc, MOST_PAYLOAD)?;
+        let framed = Vec::with_capacity(alloc, MOST_PAYLOAD + 5)?;
+        Ok(Page { payload, framed })
+    }
+
+    /// The payload behind its length, and a closed gate.
+    fn frame(&mut self) -> Result<(), AllocError>
+        requires { length self.old.payload.items ≤ MAX_FRAME }
+        ensures framed { OnOk result
+            (self.new.framed.items ≡ framed_of self.old.payload.items) }
+        ensures same { self.new.payload ≡ self.old.payload }
+    {
+        let len = self.payload.len() as u32;
+        self.framed.truncate(0);
+        self.framed.extend_from_slice(&len.to_be_bytes())?;
+        self.framed.extend_from_slice(self.payload.as_slice())?;
+        self.framed.push(0)?;
+        Ok(())
+    }
+
+    /// Writes the payload in a frame and empties it, unless it stays or has no bytes.
+    pub(crate) fn flush<D: Disk>(
+        &mut self,
+        disk: &mut D,
+        writer: &mut Journal,
+        stays: bool,
+    ) -> Result<(), MigrationFault>
+        requires few { length self.old.payload.items ≤ MAX_FRAME }
+        requires room { writer.old.end + frames_len (cond stays [] (closed_page
+            self.old.payload.items)) ≤ MAX_JOURNAL }
+        requires works { ForSome (D.tells disk.old).files (Works writer.old) }
+        ensures left { OnOk result
+            (self.new.payload.items ≡ cond stays self.old.payload.items []) }
+        ensures adding { OnOk result (Adding writer.old writer.new
+            (cond stays [] (closed_page self.old.payload.items)) (D.tells disk.old).files
+            (D.tells disk.new).files) }
+        ensures works { OnOk result (ForSome (D.tells disk.new).files (Works writer.new)) }
+        ensures shut { StaysShut writer.old.file (D.tells disk.old) (D.tells disk.new) }
+        ensures own { ReadsOnly (1 - writer.old.file) (D.tells disk.old).files
+            (D.tells disk.new).files result }
+        ensures idle { LeavesIdle writer.old.file (D.tells disk.new).files result }
+        ensures run { DiskRun (D.tells disk.old) (D.tells disk.new) }
+        ensures fault { IsErrOf result MigrationFault.DiskFault
+            → Rose (D.tells disk.old).disk_faults (D.tells disk.new).disk_faults }
+    {
+        if stays || self.payload.is_empty() {
+            return Ok(());
+        }
+        self.frame()?;
+        writer.append(disk, self.framed.as_slice())?;
+        self.payload.truncate(0);
+        Ok(())
+    }
+}
