@@ -2,11 +2,15 @@
 ghost use Rattle.std.specs.Prelude.{◌≡◌, ◌≤◌, false, true, IfOk};
 ghost use Rattle.journal_state.specs.Whole.{Knows};
 ghost use Rattle.outside.specs.declared.limits.TheConstants.{MAX_JOURNAL};
-ghost use Rattle.sync_rules.specs.Allows.{is_settling_kind};
+ghost use Rattle.sync_rules.specs.Allows.{is_account_kind, is_settling_kind};
 ghost use Rattle.sync_rules.specs.Legal.{Allowed};
+ghost use Rattle.sync_rules.specs.Clients.{Meaning};
+ghost use Rattle.sync_rules.specs.Steps.{IsSettled};
+ghost use Rattle.entry_codec.specs.declared.naming.Format.TheVariants as kind;
 ghost use Rattle.sync_store.specs.Ready.{IsReady};
+ghost use Rattle.sync_store.specs.Store.{written_in};
 
-use crate::batches::begins_with_step;
+use crate::batches::{begins_with_step, is_of_account};
 use crate::fault::AddFault;
 use anyhow::{Result, anyhow, bail};
 use outside::{Disk, MAX_JOURNAL, MemRandom};
@@ -81,14 +85,13 @@ impl<D: Disk + Drop, C: Clients + Drop> Device<D, C> {
         self.disk
     }
 
-    /// Whether a batch begins with no step and may follow the journal, where the store is not
-    /// closed. It fails only for want of memory.
+    /// Whether a batch begins with no step, is none that stands in a brief account alone, and may
+    /// follow the journal, where the store is not closed. It fails only for want of memory.
     pub fn allows(&self, batch: &Batch) -> Result<bool, AllocError> {
         may_add(self.alloc, &self.store, &self.clients, batch)
     }
 
-    /// Commits a batch, where it may follow the journal and begins with no step. A closed store
-    /// answers by itself.
+    /// Commits a batch, where `allows` says that it may be. A closed store answers by itself.
     pub fn add(&mut self, batch: Batch) -> Result<(), AddFault> {
         add(
             self.alloc,
@@ -102,6 +105,12 @@ impl<D: Disk + Drop, C: Clients + Drop> Device<D, C> {
     /// Writes the journal anew in format 2, where it is of format 1.
     pub fn migrate(&mut self) -> Result<(), StoreFault> {
         self.store.migrate(&mut self.disk, &self.clients)
+    }
+
+    /// Puts the brief account of the journal in its place, where it is settled and of format 2. A
+    /// closed store answers by itself.
+    pub fn compact(&mut self) -> Result<(), AddFault> {
+        compact(&mut self.store, &mut self.disk, &self.clients)
     }
 
     /// Settles the journal.
@@ -137,8 +146,35 @@ fn add<D: Disk, C: Clients>(
     Ok(())
 }
 
-// Whether a batch may follow the journal and begins with no step; of a closed store the latter
-// alone is asked.
+// Compacts a store, where it is settled and of format 2.
+fn compact<D: Disk, C: Clients>(
+    store: &mut Store,
+    disk: &mut D,
+    clients: &C,
+) -> Result<(), AddFault>
+    requires { store.old.closed ≡ false
+        → IsReady (C.meaning clients.now) store.old (D.tells disk.old).files }
+    ensures { store.new.closed ≡ false
+        → IsReady (C.meaning clients.now) store.new (D.tells disk.new).files }
+{
+    if !store.is_closed() && !may_compact(store) {
+        return Err(AddFault::NotAllowed);
+    }
+    store.compact(disk, clients)?;
+    Ok(())
+}
+
+// Whether the journal of a store is settled and of format 2.
+fn may_compact(store: &Store) -> bool
+    ensures settled { (clients : Meaning) → Knows clients store.now.state
+        → result ≡ true → IsSettled clients store.now.state.facts }
+    ensures short { result ≡ true → written_in store.now ≡ kind.Short }
+{
+    store.state().is_settled() && store.format() == 2
+}
+
+// Whether a batch may follow the journal, begins with no step, and stands not in a brief account
+// alone; of a closed store the latter two are asked.
 fn may_add<C: Clients>(
     alloc: Global,
     store: &Store,
@@ -149,8 +185,9 @@ fn may_add<C: Clients>(
     ensures allowed { IfOk result (λ yes. yes ≡ true → store.now.closed ≡ false
         → Allowed (C.meaning clients.now) store.now.state.facts batch.now) }
     ensures kind { IfOk result (λ yes. yes ≡ true → is_settling_kind batch.now ≡ false) }
+    ensures plain { IfOk result (λ yes. yes ≡ true → is_account_kind batch.now ≡ false) }
 {
-    if begins_with_step(batch.entries()) {
+    if begins_with_step(batch.entries()) || is_of_account(batch.entries()) {
         return Ok(false);
     }
     if store.is_closed() {

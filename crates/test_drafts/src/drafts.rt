@@ -71,6 +71,8 @@ pub struct Draft {
     dice: Dice,
     contacts: u8,
     groups: u8,
+    /// How many sessions are over.
+    over: u32,
     sessions: Vec<Session>,
     posts: Posts,
 }
@@ -107,6 +109,7 @@ impl Draft {
             dice,
             contacts: 0,
             groups: 0,
+            over: 0,
             sessions: Vec::new(alloc),
             posts,
         })
@@ -239,8 +242,20 @@ impl Draft {
             Mode::Interactive
         };
         let latency = *self.dice.pick(&LATENCIES).ok_or(DraftFault::Nothing)?;
-        let number = u32::try_from(self.sessions.len()).unwrap_or(u32::MAX);
+        let number = self.next_session();
         self.begin_session(&make_session(number, contact, mode, latency))
+    }
+
+    // The number of the next session.
+    fn next_session(&self) -> u32 {
+        let live = u32::try_from(self.sessions.len()).unwrap_or(u32::MAX);
+        self.over.saturating_add(live)
+    }
+
+    /// Goes on as if all sessions were over.
+    pub fn end_sessions(&mut self) {
+        self.over = self.next_session();
+        self.sessions.clear();
     }
 
     fn begin_session(&mut self, session: &Session) -> Result<Option<Entry>, DraftFault> {

@@ -4,7 +4,7 @@
 use crate::timing::may_share;
 use std::alloc::{AllocError, Global};
 use sync_ids::{GroupId, IdList, MAX_IDS, Message, MessageId, Record, group_id};
-use sync_rules::{Batch, Entry, Level, MAX_WANTED, Mode, Out, Session, id_of};
+use sync_rules::{Batch, Entry, Level, MAX_WANTED, Mode, Origin, Out, Session, Tried, id_of};
 
 /// An entry of the journal, and the id of the message that it brings.
 #[derive(Clone, Copy)]
@@ -18,7 +18,9 @@ pub type Lines<'a> = &'a [Line<'a>];
 
 fn line_of(entry: &Entry) -> Line<'_> {
     let brings = match entry {
-        Entry::Author(message) | Entry::Arrive(_, message) => Some(id_of(message)),
+        Entry::Author(message) | Entry::Arrive(_, message) | Entry::Kept(_, message) => {
+            Some(id_of(message))
+        }
         _ => None,
     };
     Line { entry, brings }
@@ -76,7 +78,9 @@ fn message_in<'a>(line: &Line<'a>, id: &MessageId) -> Option<&'a Message> {
         return None;
     }
     match line.entry {
-        Entry::Author(message) | Entry::Arrive(_, message) => Some(message),
+        Entry::Author(message) | Entry::Arrive(_, message) | Entry::Kept(_, message) => {
+            Some(message)
+        }
         _ => None,
     }
 }
@@ -94,6 +98,14 @@ fn is_shown(lines: Lines<'_>, contact: u8, id: &MessageId) -> bool {
 
 // ---- facts about a contact
 
+/// What a Tried entry of the contact and the message says.
+fn tried_in(line: &Line<'_>, contact: u8, id: &MessageId) -> Option<Tried> {
+    match line.entry {
+        Entry::Tried(tried) if tried.contact == contact && tried.id == *id => Some(*tried),
+        _ => None,
+    }
+}
+
 /// What is sent by an Out entry to the contact.
 fn out_to<'a>(lines: Lines<'_>, line: &Line<'a>, contact: u8) -> Option<&'a Out> {
     match line.entry {
@@ -102,14 +114,15 @@ fn out_to<'a>(lines: Lines<'_>, line: &Line<'a>, contact: u8) -> Option<&'a Out>
     }
 }
 
-/// Whether there is an Arrive, Again or Seen entry of the message on a session with the contact.
+/// Whether there is an Arrive, Again or Seen entry of the message on a session with the contact, or a
+/// Tried entry of both that says so.
 fn is_seen(lines: Lines<'_>, contact: u8, id: &MessageId) -> bool {
     lines.iter().any(|line| match line.entry {
         Entry::Arrive(number, _) => line.brings == Some(*id) && is_with(lines, *number, contact),
         Entry::Again(number, named) | Entry::Seen(number, named) => {
             named == id && is_with(lines, *number, contact)
         }
-        _ => false,
+        _ => tried_in(line, contact, id).is_some_and(|tried| tried.seen),
     })
 }
 
@@ -121,6 +134,7 @@ fn owes(lines: Lines<'_>, line: &Line<'_>, contact: u8, id: &MessageId) -> Optio
         Entry::Again(number, named) if named == id && is_with(lines, *number, contact) => {
             Some(true)
         }
+        Entry::Tried(_) => tried_in(line, contact, id).map(|tried| tried.owed),
         _ => match out_to(lines, line, contact) {
             Some(Out::Acks(ids)) if ids.as_slice().contains(id) => Some(false),
             _ => None,
@@ -142,6 +156,7 @@ fn wants(lines: Lines<'_>, line: &Line<'_>, contact: u8, id: &MessageId) -> Opti
         Entry::Offered(number, named) if named == id && is_with(lines, *number, contact) => {
             Some(true)
         }
+        Entry::Want(who, named) if *who == contact && named == id => Some(true),
         _ => match out_to(lines, line, contact) {
             Some(Out::Requests(ids)) if ids.as_slice().contains(id) => Some(false),
             _ => None,
@@ -163,6 +178,7 @@ fn asks(lines: Lines<'_>, line: &Line<'_>, contact: u8, id: &MessageId) -> Optio
         Entry::Asked(number, named) if named == id && is_with(lines, *number, contact) => {
             Some(true)
         }
+        Entry::Tried(_) => tried_in(line, contact, id).map(|tried| tried.asked),
         _ => match out_to(lines, line, contact) {
             Some(Out::Send(named)) if named == id => Some(false),
             _ => None,
@@ -187,19 +203,31 @@ fn is_try(lines: Lines<'_>, line: &Line<'_>, contact: u8, id: &MessageId) -> boo
     }
 }
 
-/// How many entries stand behind the last Asked entry of the message on a session with the contact,
-/// or all.
-fn count_after_asked(lines: Lines<'_>, contact: u8, id: &MessageId) -> usize {
-    let last = lines
-        .iter()
-        .rev()
-        .position(|line| asks(lines, line, contact, id) == Some(true));
-    last.unwrap_or(lines.len())
+/// Whether tries are counted from this entry: an Asked entry of the message on a session with the
+/// contact, or a Tried entry of both.
+fn counts_from(lines: Lines<'_>, line: &Line<'_>, contact: u8, id: &MessageId) -> bool {
+    match line.entry {
+        Entry::Asked(number, named) => named == id && is_with(lines, *number, contact),
+        _ => tried_in(line, contact, id).is_some(),
+    }
+}
+
+/// How many entries stand behind the last one from which tries are counted, or all; and what that
+/// says, if it is a Tried entry.
+fn count_behind(lines: Lines<'_>, contact: u8, id: &MessageId) -> (usize, Option<Tried>) {
+    let mut behind = 0usize;
+    for line in lines.iter().rev() {
+        if counts_from(lines, line, contact, id) {
+            return (behind, tried_in(line, contact, id));
+        }
+        behind = behind.saturating_add(1);
+    }
+    (behind, None)
 }
 
 /// The time from which the message may be sent or offered to the contact again, in milliseconds.
 pub fn expiry(lines: Lines<'_>, contact: u8, id: &MessageId) -> u64 {
-    let behind = count_after_asked(lines, contact, id);
+    let (behind, tried) = count_behind(lines, contact, id);
     let tries = lines
         .iter()
         .rev()
@@ -211,9 +239,10 @@ pub fn expiry(lines: Lines<'_>, contact: u8, id: &MessageId) -> u64 {
         .rev()
         .take(behind)
         .find(|line| is_try(lines, line, contact, id));
+    let before = tried.map_or(0, |tried| usize::from(tried.tries));
     match last {
-        Some(line) => expiry_after(lines, line, tries.min(64) as u32),
-        None => 0,
+        Some(line) => expiry_after(lines, line, tries.saturating_add(before).min(64) as u32),
+        None => tried.map_or(0, |tried| tried.expiry),
     }
 }
 
@@ -237,7 +266,8 @@ fn is_delivered(lines: Lines<'_>, id: &MessageId) -> bool {
 }
 
 fn is_authored(lines: Lines<'_>, id: &MessageId) -> bool {
-    lines.iter().any(|line| line.brings == Some(*id) && matches!(line.entry, Entry::Author(_)))
+    lines.iter().any(|line| line.brings == Some(*id)
+        && matches!(line.entry, Entry::Author(_) | Entry::Kept(Origin::Author, _)))
 }
 
 /// Whether the held message may be sent to the contact.
@@ -270,15 +300,16 @@ fn held_where<F: Fn(&MessageId, &Message) -> bool>(
     Ok(ids)
 }
 
-/// The id that an entry offers on a session with the contact.
+/// The id that an entry offers on a session with the contact, or says to be wanted from it.
 fn offered_in(lines: Lines<'_>, line: &Line<'_>, contact: u8) -> Option<MessageId> {
     match line.entry {
+        Entry::Want(who, id) if *who == contact => Some(*id),
         Entry::Offered(number, id) if is_with(lines, *number, contact) => Some(*id),
         _ => None,
     }
 }
 
-/// The ids wanted from the contact, in the order of their Offered entries.
+/// The ids wanted from the contact, in the order of their Offered and Want entries.
 fn wanted(alloc: Global, lines: Lines<'_>, contact: u8) -> Result<Vec<MessageId>, AllocError> {
     let mut ids = Vec::new(alloc);
     for (place, line) in lines.iter().enumerate() {

@@ -7,6 +7,7 @@ pub(crate) enum Lookup {
     Frames,
     Settling,
     Load,
+    Compact,
     Held,
     Contacts,
     Groups,

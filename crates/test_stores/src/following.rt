@@ -38,7 +38,7 @@ pub(crate) fn may_follow(alloc: Global, j: &[Batch], batch: &Batch) -> Result<bo
 /// A session has the next number, a known contact and a latency; one without a nonce may have
 /// either mode.
 fn may_begin(listed: &Listed<'_>, session: &Session) -> bool {
-    session.number as usize == listed.sessions.len()
+    session.number == listed.begun
         && u32::from(session.contact) < listed.contacts
         && session.latency > 0
         && session.nonce.is_none()

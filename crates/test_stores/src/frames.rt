@@ -1,5 +1,6 @@
 //! The batches of a journal's file, frame by frame.
 
+use crate::account::{is_account, read_account};
 use crate::whole::whole_of;
 use anyhow::{Context, Result};
 use entry_codec::{Format, NoNames, read_batch};
@@ -27,15 +28,23 @@ pub(crate) fn read_batches(alloc: Global, bytes: &[u8]) -> Result<Vec<Batch>> {
 
 /// The batch of a payload, where the messages of these ids are held before it.
 fn read_payload(alloc: Global, payload: &[u8], ids: &[MessageId]) -> Result<Batch> {
-    let whole = whole_of(alloc, payload, ids)?;
-    let found = read_batch(alloc, Format::Whole, &NoNames, whole.as_slice())?;
+    if is_account(payload) {
+        return read_account(alloc, payload, ids);
+    }
+    read_whole(alloc, whole_of(alloc, payload, ids)?.as_slice())
+}
+
+/// The batch of a payload in format 1.
+pub(crate) fn read_whole(alloc: Global, whole: &[u8]) -> Result<Batch> {
+    let found = read_batch(alloc, Format::Whole, &NoNames, whole)?;
     found.context("a batch in its frame")
 }
 
 /// Adds the ids of the messages that entries bring.
 fn add_ids(ids: &mut Vec<MessageId>, entries: &[Entry]) -> Result<(), AllocError> {
     for entry in entries {
-        if let Entry::Author(message) | Entry::Arrive(_, message) = entry {
+        if let Entry::Author(message) | Entry::Arrive(_, message) | Entry::Kept(_, message) = entry
+        {
             ids.push(id_of(message))?;
         }
     }

@@ -38,6 +38,8 @@ pub(crate) struct Game {
     pub(crate) dice: Dice,
     pub(crate) draft: Draft,
     pub(crate) batches: Vec<Batch>,
+    /// The number of the file that has the journal.
+    pub(crate) file: u8,
     pub(crate) findings: Vec<Finding>,
     /// How many batches are tried.
     pub(crate) steps: u64,
@@ -57,6 +59,7 @@ impl Game {
             dice,
             draft,
             batches: Vec::new(alloc),
+            file: 0,
             findings: Vec::new(alloc),
             steps,
             step: 0,
@@ -159,6 +162,19 @@ impl Game {
         }
         let settles = !self.dice.one_in(6);
         Ok(Plan { follows, settles })
+    }
+
+    /// Whether the journal is to be compacted.
+    pub(crate) fn compacts(&mut self) -> bool {
+        self.dice.one_in(7)
+    }
+
+    /// Goes on with the journal of the other file: no session of the old one is live.
+    pub(crate) fn move_to(&mut self, bytes: &[u8]) -> Result<()> {
+        self.file = 1 - self.file.min(1);
+        self.batches = read_batches(self.alloc, bytes)?;
+        self.draft.end_sessions();
+        Ok(())
     }
 
     /// Reads the journal's file, which is to have the batch where it may follow, and the settling

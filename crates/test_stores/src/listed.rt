@@ -9,6 +9,8 @@ use sync_rules::{Batch, Entry, Origin, Session, id_of};
 pub(crate) struct Listed<'a> {
     pub(crate) contacts: u32,
     pub(crate) groups: Vec<&'a GroupDef>,
+    /// The number of sessions that have begun, and those of them that a brief account did not drop.
+    pub(crate) begun: u32,
     pub(crate) sessions: Vec<Session>,
     /// The held messages: the id of each, the message and its origin.
     pub(crate) ids: Vec<MessageId>,
@@ -29,6 +31,7 @@ pub(crate) fn list(alloc: Global, batches: &[Batch]) -> Result<Listed<'_>, Alloc
     let mut listed = Listed {
         contacts: 0,
         groups: Vec::new(alloc),
+        begun: 0,
         sessions: Vec::new(alloc),
         ids: Vec::new(alloc),
         messages: Vec::new(alloc),
@@ -47,13 +50,18 @@ impl<'a> Listed<'a> {
         match entry {
             Entry::Contact(_) => self.contacts = self.contacts.saturating_add(1),
             Entry::Group(def) => self.groups.push(def)?,
-            Entry::Session(session) => self.sessions.push(*session)?,
+            Entry::Session(session) => {
+                self.begun = self.begun.saturating_add(1);
+                self.sessions.push(*session)?;
+            }
+            Entry::Brief(sessions) => self.begun = self.begun.saturating_add(*sessions),
             Entry::Take(session, _) => self.takes.push(*session)?,
             Entry::Author(message) => self.bring(message, Origin::Author)?,
             Entry::Arrive(session, message) => {
                 let from = self.session(*session).map_or(0, |session| session.contact);
                 self.bring(message, Origin::From(from))?;
             }
+            Entry::Kept(from, message) => self.bring(message, *from)?,
             Entry::Deliver(id) => self.delivered.push(*id)?,
             _ => {}
         }

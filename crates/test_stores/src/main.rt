@@ -2,6 +2,7 @@
 //! functions over the batches.
 #![tactic(auto)]
 
+mod account;
 mod compare;
 mod finding;
 mod following;

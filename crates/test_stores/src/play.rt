@@ -46,14 +46,35 @@ fn play_batch(game: &mut Game, device: &mut Node, batch: Batch) -> Result<()> {
     if plan.settles {
         device.settle().map_err(AddFault::Store)?;
     }
-    compare_all(game, device, plan.settles)
+    compare_all(game, device, plan.settles)?;
+    if plan.settles && game.compacts() {
+        compact(game, device)?;
+    }
+    Ok(())
+}
+
+/// Compacts the journal, and compares again: the look-ups are to be as they were.
+fn compact(game: &mut Game, device: &mut Node) -> Result<()> {
+    let done = device.compact().is_ok();
+    game.note(Lookup::Compact, done)?;
+    if done {
+        let left = device.disk().image(Pick::Old)?;
+        game.move_to(left.file(1 - game.file.min(1)))?;
+        compare_loaded(game, device, left)?;
+    }
+    Ok(())
 }
 
 /// Compares what the disk has, the store's look-ups, and those of the store that is loaded of what
 /// a crash may leave of the disk, as little as may be.
 fn compare_all(game: &mut Game, device: &Node, settles: bool) -> Result<()> {
     let left = device.disk().image(Pick::Old)?;
-    game.read(left.file(0), settles)?;
+    game.read(left.file(game.file.min(1)), settles)?;
+    compare_loaded(game, device, left)
+}
+
+/// Compares the store's look-ups, and those of the store that is loaded of this disk.
+fn compare_loaded(game: &mut Game, device: &Node, left: MemDisk) -> Result<()> {
     match Device::load(game.alloc, left, Timing, MAX_JOURNAL) {
         Ok(loaded) => compare(game, device.store(), loaded.store()),
         Err(_) => game.note(Lookup::Load, false),
