@@ -12,7 +12,7 @@ use Rattle.record_stream.specs.Reading.{ReadsOn, fresh}
 use Rattle.sync_ids.specs.declared.records.Record.{Record}
 use Rattle.sync_rules.specs.declared.entries.Entry.{Entry}
 use Rattle.sync_rules.specs.declared.entries.Entry.TheVariants as entry
-use Rattle.sync_rules.specs.Allows.{is_settling_kind}
+use Rattle.sync_rules.specs.Allows.{is_account_kind, is_settling_kind}
 use Rattle.sync_rules.specs.declared.entries.Session.{Session}
 use Rattle.sync_rules.specs.Clients.{Meaning}
 use Rattle.sync_rules.specs.Facts.{Facts, after_all, facts, session_at, takes_of}
@@ -48,6 +48,13 @@ plain_kind (entry.Group def ∷ []) plain = refl
 plain_kind (entry.Level c g l ∷ []) plain = refl
 plain_kind (entry.Author m ∷ []) plain = refl
 plain_kind _ plain = absurd plain
+
+pub plain_own : (batch : List Entry) → IsPlain batch → is_account_kind batch ≡ false
+plain_own (entry.Contact c ∷ []) plain = refl
+plain_own (entry.Group def ∷ []) plain = refl
+plain_own (entry.Level c g l ∷ []) plain = refl
+plain_own (entry.Author m ∷ []) plain = refl
+plain_own _ plain = absurd plain
 
 plain_silent : (batch : List Entry) → IsPlain batch → list_all is_silent batch ≡ true
 plain_silent (entry.Contact c ∷ []) plain = refl

@@ -18,7 +18,7 @@ use Rattle.sync_ids.specs.declared.records.Record.TheVariants as record_kind
 use Rattle.sync_rules.specs.declared.entries.Entry.{Entry}
 use Rattle.sync_rules.specs.declared.entries.Entry.TheVariants as entry
 use Rattle.sync_rules.specs.declared.entries.Session.{Session}
-use Rattle.sync_rules.specs.Allows.{is_settling_kind}
+use Rattle.sync_rules.specs.Allows.{is_account_kind, is_settling_kind}
 use Rattle.sync_rules.specs.Clients.{Meaning}
 use Rattle.sync_rules.specs.Facts.{Facts, facts, session_at, takes_of}
 use Rattle.sync_rules.specs.Growth.{output_of}
@@ -344,6 +344,10 @@ allowed_as clients f batch batch' is allowed =
 pub kind_as : (x : Session) (batch : List Entry) → batch ≡ session_batch x
     → is_settling_kind batch ≡ false
 kind_as x batch is = ap is_settling_kind is
+
+pub own_as : (x : Session) (batch : List Entry) → batch ≡ session_batch x
+    → is_account_kind batch ≡ false
+own_as x batch is = ap is_account_kind is
 
 -- a session that was committed is there
 session_there : (ss : List Session) (x : Session) → session_at (ss ++ x ∷ []) x.number ≡ None → ⊥

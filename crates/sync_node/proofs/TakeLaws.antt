@@ -20,7 +20,7 @@ use Rattle.sync_ids.specs.declared.records.Record.TheVariants as record_kind
 use Rattle.session_core.specs.Taking.{take_of}
 use Rattle.sync_rules.specs.declared.entries.Entry.{Entry}
 use Rattle.sync_rules.specs.declared.entries.Session.{Session}
-use Rattle.sync_rules.specs.Allows.{is_settling_kind}
+use Rattle.sync_rules.specs.Allows.{is_account_kind, is_settling_kind}
 use Rattle.sync_rules.specs.Clients.{Meaning}
 use Rattle.sync_rules.specs.Facts.{Facts, after_all, after_batches, contact_in, contact_of, facts, session_at, takes_of}
 use Rattle.sync_rules.specs.Growth.{OnlySettles, TakesOne, output_of}
@@ -202,6 +202,10 @@ take_allowed clients session k r s o batch may within numbered is =
 pub take_kind : (f : Facts) (session : Session) (k : ℕ) (r : Record) (batch : List Entry)
     → batch ≡ take_of f session k r → is_settling_kind batch ≡ false
 take_kind f session k r batch is = ap is_settling_kind is
+
+pub take_own : (f : Facts) (session : Session) (k : ℕ) (r : Record) (batch : List Entry)
+    → batch ≡ take_of f session k r → is_account_kind batch ≡ false
+take_own f session k r batch is = ap is_account_kind is
 
 pub take_is : (f : Facts) (session : Session) (k : ℕ) (r : Record) (batch : List Entry)
     → k ≡ takes_of f.takes session.number → batch ≡ take_of f session k r

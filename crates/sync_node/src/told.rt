@@ -5,7 +5,7 @@ ghost use Rattle.outside.specs.Faults.{Rose};
 ghost use Rattle.outside.specs.Files.{Two, File};
 ghost use Rattle.outside.specs.Runs.{IsFront, Told};
 ghost use Rattle.session_core.specs.Known.{IsOfAll};
-ghost use Rattle.sync_rules.specs.Allows.{is_settling_kind};
+ghost use Rattle.sync_rules.specs.Allows.{is_account_kind, is_settling_kind};
 ghost use Rattle.sync_rules.specs.Legal.{Allowed};
 ghost use Rattle.sync_rules.specs.declared.entries.Session.{Session};
 ghost use Rattle.sync_store.specs.Commits.{needed};
@@ -58,6 +58,7 @@ pub(crate) fn commit<H: Host, C: Clients>(
     requires ready { IsReady (C.meaning clients.now) store.old (H.tells host.old).files }
     requires allowed { Allowed (C.meaning clients.now) store.old.state.facts batch }
     requires kind { is_settling_kind batch ≡ false }
+    requires plain { is_account_kind batch ≡ false }
     requires named { IsOfAll id batch }
     ensures ready { IfErr result (KeepsReady (C.meaning clients.now) store.new
         (H.tells host.new)) }

@@ -3,7 +3,7 @@ use Rattle.sync_node.proofs.Undone.{if_err_all, if_err_was, undone_none}
 use Rattle.std.proofs.Common.{arith, refl, sym, ◌∙◌, subst}
 use Rattle.record_stream.specs.Reading.{AwaitsBytes, ReaderState}
 use Rattle.sync_node.proofs.CourseStart.{start_broken, start_none, starts_course}
-use Rattle.sync_node.proofs.StartLaws.{allowed_as, commits_as, commits_safe_as, first_bytes, kind_as, session_found, starts, starts_as_before, starts_failed, starts_safe}
+use Rattle.sync_node.proofs.StartLaws.{allowed_as, commits_as, commits_safe_as, first_bytes, kind_as, own_as, session_found, starts, starts_as_before, starts_failed, starts_safe}
 use Rattle.sync_node.proofs.WorkLaws.{on_err}
 use Rattle.sync_node.proofs.CauseLaws.{greeted_cause}
 use Rattle.sync_node.proofs.SafeLaws.{goes_none}
@@ -32,6 +32,9 @@ commit-requires-clause-allowed g c =
 
 pub commit-requires-clause-kind : goal.commit-requires-clause-kind
 commit-requires-clause-kind g c = kind_as c.args.session c.in_ok-batch.batch c.in_ok-batch.ensures
+
+pub commit-requires-clause-plain : goal.commit-requires-clause-plain
+commit-requires-clause-plain g c = own_as c.args.session c.in_ok-batch.batch c.in_ok-batch.ensures
 
 pub returns-in_err-commit-clause-safe : goal.returns-in_err-commit-clause-safe
 returns-in_err-commit-clause-safe g c =

@@ -1,4 +1,4 @@
-use Rattle.sync_node.proofs.TakeLaws.{take_allowed, take_is, take_kind, take_safe, take_safe_none, take_safe_then, taken_on}
+use Rattle.sync_node.proofs.TakeLaws.{take_allowed, take_is, take_kind, take_own, take_safe, take_safe_none, take_safe_then, taken_on}
 use Rattle.sync_node.proofs.WorkLaws.{on_err, on_err_then, on_ok}
 use Rattle.sync_node.proofs.CourseTakes.{stops_at_commit, stops_at_none, stops_at_settle, takes_course, take_named}
 use Rattle.sync_node.proofs.SafeLaws.{goes_none}
@@ -20,6 +20,10 @@ commit-requires-clause-allowed g c =
 pub commit-requires-clause-kind : goal.commit-requires-clause-kind
 commit-requires-clause-kind g c =
     take_kind c.args.store.now.state.facts c.args.session.now c.takes-taken.result c.args.rec c.in_ok-known.known.0 c.in_ok-known.ensures.batch
+
+pub commit-requires-clause-plain : goal.commit-requires-clause-plain
+commit-requires-clause-plain g c =
+    take_own c.args.store.now.state.facts c.args.session.now c.takes-taken.result c.args.rec c.in_ok-known.known.0 c.in_ok-known.ensures.batch
 
 pub returns-in_err-known-clause-safe : goal.returns-in_err-known-clause-safe
 returns-in_err-known-clause-safe g c = take_safe_none _ _ _ _ _

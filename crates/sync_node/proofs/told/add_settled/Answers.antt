@@ -1,9 +1,12 @@
 use Rattle.std.proofs.Common.{Err, ap, ◌∙◌}
-use Rattle.sync_node.proofs.AddLaws.{extended, extended_goes, extended_leads, extended_within, plain_kind}
+use Rattle.sync_node.proofs.AddLaws.{extended, extended_goes, extended_leads, extended_within, plain_kind, plain_own}
 use Rattle.sync_node.proofs.told.add_settled.Goals as goal
 
 pub extend-requires-clause-kind : goal.extend-requires-clause-kind
 extend-requires-clause-kind g c = plain_kind c.args.batch c.requires.plain
+
+pub extend-requires-clause-plain : goal.extend-requires-clause-plain
+extend-requires-clause-plain g c = plain_own c.args.batch c.requires.plain
 
 pub unreachable-requires : goal.unreachable-requires
 unreachable-requires g c =
