@@ -12,7 +12,7 @@ use Rattle.sync_rules.specs.Facts.{Facts, Held, after, after_all, count_or, noth
 use Rattle.sync_rules.specs.Left.{left_among, left_for, left_of}
 use Rattle.sync_rules.specs.Steps.{IsSettled}
 use Rattle.sync_rules.proofs.StepKinds.{same_next}
-use Rattle.brief_account.specs.Account.{account, brief_of, settling_of, told_of}
+use Rattle.brief_account.specs.Account.{account, brief_of, settling_of, told_of, with_groups}
 use Rattle.brief_account.specs.Brief.{closed, each_alone, filled, head_entries, is_kept, never_alone, peer_entries, without_sessions}
 use Rattle.entry_codec.specs.declared.naming.Format.{Format}
 use Rattle.entry_codec.specs.Payloads.{journal_end, payload, payloads}
@@ -82,7 +82,7 @@ brief_long clients f format =
     let rows = filled MAX_ROWS never_alone [] (peer_entries f f.contacts) in
     omega (
       arith,
-      account_many clients _ f.held,
+      account_many clients (with_groups f.groups) f.held,
       filled_many MAX_STEPS [] told,
       length-append head steps,
       length-append (head ++ steps) rows,

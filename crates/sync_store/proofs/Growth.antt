@@ -37,7 +37,7 @@ use Rattle.sync_store.proofs.FitSteps.{adds_err, adds_ok, framed_len, true≢fal
 use Rattle.sync_store.proofs.FormatLaws.{room_framed, room_less, steps_few, steps_some}
 use Rattle.sync_store.proofs.Framing.{framed_length, framed_so, payload_framed}
 use Rattle.sync_store.proofs.HeldIds.{names_stay}
-use Rattle.sync_store.proofs.Kinds.{kinds_of, steps_old}
+use Rattle.sync_store.proofs.OldKinds.{kinds_of, steps_old}
 use Rattle.sync_store.proofs.Limits.{counts_more}
 use Rattle.sync_store.proofs.SettleSteps.{calls_closed, calls_one, leads_one, leads_one_closed}
 use Rattle.sync_store.proofs.Steps.{all_steps, numbers_stay}

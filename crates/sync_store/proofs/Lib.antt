@@ -3,7 +3,7 @@ mod LoadEnds
 mod LoadCounts
 mod Headers
 mod FormatLaws
-mod Kinds
+mod OldKinds
 mod Framing
 mod HeldIds
 mod FitSteps

@@ -34,7 +34,7 @@ use Rattle.sync_store.specs.Runs.{LeadsBy}
 use Rattle.sync_store.specs.Store.{HasNumbers, IsStore, StoreValue, counts_to, format_meant, written_in}
 use Rattle.sync_store.proofs.FitSteps.{IsSame, leads_none, true≢false}
 use Rattle.sync_store.proofs.FormatLaws.{short_room, whole_is_one}
-use Rattle.sync_store.proofs.Kinds.{all_short}
+use Rattle.sync_store.proofs.OldKinds.{all_short}
 use Rattle.sync_store.proofs.Limits.{numbers_wider}
 
 -- ---- no call of the disk

@@ -26,6 +26,10 @@ pub invariant_of-self : goal.invariant_of-self
 invariant_of-self g c =
     shortened_store (g.C.Clients.meaning c.args.clients.now) (value_of c.self.inside) c.forget.new.self c.self.inside.journal c.in-Ok.journal c.self.invariant c.in-Ok.ensures.room c.forget.ensures.facts c.in-Ok.ensures.next
 
+pub returns-in-Ok-clause-numbers : goal.returns-in-Ok-clause-numbers
+returns-in-Ok-clause-numbers g c =
+    shortened_store (g.C.Clients.meaning c.args.clients.now) (value_of c.self.inside) c.forget.new.self c.self.inside.journal c.in-Ok.journal c.self.invariant c.in-Ok.ensures.room c.forget.ensures.facts c.in-Ok.ensures.next
+
 pub returns-in-Ok-clause-compacted : goal.returns-in-Ok-clause-compacted
 returns-in-Ok-clause-compacted g c =
     let clients = g.C.Clients.meaning c.args.clients.now in
