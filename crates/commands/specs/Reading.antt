@@ -136,6 +136,7 @@ plain_in word =
     else if bytes_eq word (codes "contact") then Some command.Contact
     else if bytes_eq word (codes "show") then Some command.Show
     else if bytes_eq word (codes "inbox") then Some command.Inbox
+    else if bytes_eq word (codes "compact") then Some command.Compact
     else None
 
 abbrev pub ends_or_usage : Option Command → Rest

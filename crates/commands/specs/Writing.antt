@@ -3,7 +3,7 @@ use Rattle.std.specs.Prelude.{Bool, true, false}
 use Rattle.commands.specs.declared.command.Command.{Command}
 use Rattle.commands.specs.declared.command.Command.TheVariants as command
 
--- those that make a store or add to it; the others read a stream, or show what a store holds
+-- those that make a store, add to it or write it anew; the others read a stream, or show what a store holds
 abbrev pub may_write : Command → Bool
 may_write (command.Try name descriptor) = false
 may_write command.Records = false
@@ -18,6 +18,7 @@ may_write (command.Body id) = false
 may_write (command.Tree group from count) = false
 may_write (command.Say group timestamp join name major descriptor) = true
 may_write (command.Agree contact group) = true
+may_write command.Compact = true
 may_write (command.Sync turns quiet links) = true
 
 -- those that write a message, whose body is their input

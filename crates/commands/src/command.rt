@@ -38,6 +38,8 @@ pub enum Command {
     /// `agree CONTACT GROUP`: sets the levels of the groups on which this device and a contact agree
     /// in a sharing group.
     Agree(u8, GroupId),
+    /// `compact`: writes the journal anew as its brief account.
+    Compact,
     /// `sync TURNS QUIET` and the words of each link: runs sessions over the links, at most so many
     /// turns, and until so many turns in a row were still.
     Sync(u32, u32, LinkList),
@@ -63,6 +65,7 @@ impl Command {
             | Command::Post(_, _)
             | Command::Say(_, _, _, _, _, _)
             | Command::Agree(_, _)
+            | Command::Compact
             | Command::Sync(_, _, _) => true,
             Command::Try(_, _)
             | Command::Records

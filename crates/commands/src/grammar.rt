@@ -76,6 +76,7 @@ fn plain(word: &str) -> Option<Command>
         "contact" => Some(Command::Contact),
         "show" => Some(Command::Show),
         "inbox" => Some(Command::Inbox),
+        "compact" => Some(Command::Compact),
         _ => None,
     }
 }

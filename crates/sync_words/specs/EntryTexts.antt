@@ -1,4 +1,4 @@
--- The lines of the commands that add an entry to a journal.
+-- The lines of the commands that write a journal.
 use Rattle.std.specs.Prelude.{ℕ, List, [], ◌∷◌, ◌++◌, codes}
 use Rattle.std.specs.Fmt.{decimal}
 use Rattle.hex.specs.Hex.{encode_lower}
@@ -20,3 +20,7 @@ set_level_text contact group l =
 
 abbrev pub posted_text : List ℕ → List ℕ
 posted_text id = codes "posted " ++ (encode_lower id ++ 10 ∷ [])
+
+-- where a journal ended before it was written anew as its brief account, and where that ends
+abbrev pub compacted_text : (old new : ℕ) → List ℕ
+compacted_text old new = codes "compacted " ++ (decimal old ++ (32 ∷ decimal new ++ 10 ∷ []))

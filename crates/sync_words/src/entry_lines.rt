@@ -1,9 +1,9 @@
-//! The lines of the commands that add an entry to a journal. Each builder appends its line; it
-//! fails only for want of memory, and then nothing is said of what was appended.
+//! The lines of the commands that write a journal. Each builder appends its line; it fails only for
+//! want of memory, and then nothing is said of what was appended.
 ghost use Rattle.std.specs.Prelude.{◌≡◌, ◌++◌, OnOk};
 ghost use Rattle.std.specs.String.{string_bytes};
-ghost use Rattle.sync_words.specs.EntryTexts.{contact_text, group_text, posted_text, ready_text};
-ghost use Rattle.sync_words.specs.EntryTexts.{set_level_text};
+ghost use Rattle.sync_words.specs.EntryTexts.{compacted_text, contact_text, group_text};
+ghost use Rattle.sync_words.specs.EntryTexts.{posted_text, ready_text, set_level_text};
 ghost use Rattle.sync_words.specs.Texts.{level_text};
 
 use std::alloc::{AllocError, Global};
@@ -65,4 +65,12 @@ pub fn posted_line(alloc: Global, id: &MessageId, to: &mut String) -> Result<(),
 {
     let id = id.to_hex(alloc)?;
     writeln!(to, "posted {id}")
+}
+
+/// The line of `compact`: the place, in bytes, where the journal ended before it was written anew as
+/// its brief account, and that where it ends now.
+pub fn compacted_line(old: u64, new: u64, to: &mut String) -> Result<(), AllocError>
+    ensures { OnOk result (string_bytes to.new ≡ string_bytes to.old ++ compacted_text old new) }
+{
+    writeln!(to, "compacted {old} {new}")
 }

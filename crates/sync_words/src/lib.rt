@@ -13,7 +13,9 @@ mod status;
 mod stream_lines;
 mod word;
 
-pub use entry_lines::{contact_line, group_line, level_line, posted_line, ready_line};
+pub use entry_lines::{
+    compacted_line, contact_line, group_line, level_line, posted_line, ready_line,
+};
 pub use error_lines::{
     ErrorText, MAX_ERROR, bad_record_line, damaged_line, inside_line, link_line, plain_line,
     refused_line, script_line, usage_line,

@@ -11,10 +11,10 @@ use sync_ids::{
 };
 use sync_rules::{Fate, Level, Mode, Origin, Refused};
 use sync_words::{
-    LinkWords, Outcome, Status, Word, bad_record_line, contact_line, contacts_line, damaged_line,
-    device_line, group_line, inbox_line, inside_line, known_group_line, level_line, link_line,
-    plain_line, posted_line, ready_line, record_line, refused_line, script_line, sessions_line,
-    skipped_line, state_line, try_line, usage_line,
+    LinkWords, Outcome, Status, Word, bad_record_line, compacted_line, contact_line, contacts_line,
+    damaged_line, device_line, group_line, inbox_line, inside_line, known_group_line, level_line,
+    link_line, plain_line, posted_line, ready_line, record_line, refused_line, script_line,
+    sessions_line, skipped_line, state_line, try_line, usage_line,
 };
 
 pub(crate) const GROUP: &str = "76ff4980d3b5f63962cee45401b6b1bb92efe989c27de4629aac92b18163e6e0";
@@ -187,6 +187,7 @@ fn show(rt: &impl Abort, alloc: Global, command: &Command, to: &mut String) {
             show_def(rt, alloc, name, *major, descriptor, to);
         }
         Command::Agree(contact, group) => show_agree(rt, alloc, *contact, group, to),
+        Command::Compact => add(rt, to, &["compact"]),
         Command::Sync(turns, quiet, links) => {
             show_sync(rt, alloc, *turns, *quiet, to);
             for link in links.as_slice() {
@@ -245,7 +246,7 @@ const FRONT: &str = "tree 76ff4980d3b5f63962cee45401b6b1bb92efe989c27de4629aac92
 const END: &str =
     "tree 76ff4980d3b5f63962cee45401b6b1bb92efe989c27de4629aac92b18163e6e0+4294967295+4294967295";
 
-static COMMANDS: [(&[&str], &str); 69] = [
+static COMMANDS: [(&[&str], &str); 71] = [
     (&[], "usage 0"),
     (&[""], "usage 0"),
     (&["Try", "note", "d"], "usage 0"),
@@ -300,6 +301,8 @@ static COMMANDS: [(&[&str], &str); 69] = [
     (&["show", "x"], "usage 1"),
     (&["inbox"], "inbox"),
     (&["inbox", "x"], "usage 1"),
+    (&["compact"], "compact"),
+    (&["compact", ""], "usage 1"),
     (&["body", ID], BODY),
     (&["body"], "usage 1"),
     (&["body", ""], "usage 1"),
@@ -580,6 +583,7 @@ level 0 76ff4980d3b5f63962cee45401b6b1bb92efe989c27de4629aac92b18163e6e0 invisib
 level 255 76ff4980d3b5f63962cee45401b6b1bb92efe989c27de4629aac92b18163e6e0 visible
 level 7 76ff4980d3b5f63962cee45401b6b1bb92efe989c27de4629aac92b18163e6e0 shared
 posted 3443418c0382800e42ae01fb9d676b7b25405d2875809cf8d6808f04741c96a4
+compacted 0 18446744073709551615
 contacts 256
 group 76ff4980d3b5f63962cee45401b6b1bb92efe989c27de4629aac92b18163e6e0 6e6f7465 0 64
 group 76ff4980d3b5f63962cee45401b6b1bb92efe989c27de4629aac92b18163e6e0 6e 4294967295 \nmessage 3443418c0382800e42ae01fb9d676b7b25405d2875809cf8d6808f04741c96a4 76ff4980d3b5f63962cee45401b6b1bb92efe989c27de4629aac92b18163e6e0 unknown
@@ -639,6 +643,7 @@ fn lines_of_stores(rt: HostRuntime) {
     made(&rt, group_line(alloc, &group, &mut to));
     add_levels(&rt, alloc, &group, &mut to);
     made(&rt, posted_line(alloc, &message, &mut to));
+    made(&rt, compacted_line(0, u64::MAX, &mut to));
     made(&rt, contacts_line(256, &mut to));
     add_group(&rt, alloc, "note", 0, b"d", &mut to);
     add_group(&rt, alloc, "n", u32::MAX, b"", &mut to);
