@@ -37,10 +37,10 @@ use Rattle.sync_store.proofs.FitSteps.{adds_err, adds_ok, framed_len, true≢fal
 use Rattle.sync_store.proofs.FormatLaws.{room_framed, room_less, steps_few, steps_some}
 use Rattle.sync_store.proofs.Framing.{framed_length, framed_so, payload_framed}
 use Rattle.sync_store.proofs.HeldIds.{names_stay}
-use Rattle.sync_store.proofs.OldKinds.{kinds_of, steps_old}
+use Rattle.sync_store.proofs.OldKinds.{allowed_old, kinds_of, settling_old}
 use Rattle.sync_store.proofs.Limits.{counts_more}
 use Rattle.sync_store.proofs.SettleSteps.{calls_closed, calls_one, leads_one, leads_one_closed}
-use Rattle.sync_store.proofs.Steps.{all_steps, numbers_stay}
+use Rattle.sync_store.proofs.Steps.{numbers_stay}
 
 -- ---- numbers
 
@@ -113,7 +113,7 @@ may_add laws clients s new batch framed store facts end format allowed plain wit
     ap (λ (f : Facts). room_of (written_in new) (after_all f batch)) facts ∙ ap (λ (k : Format). room_of k (after_all s.state.facts batch)) same in
     record {
       allowed = subst (λ (f : Facts). Allowed clients f batch) (sym facts) allowed;
-      kinds = kinds_of (written_in new) batch (laws.old_kinds clients s.state.facts batch allowed plain);
+      kinds = kinds_of (written_in new) batch (allowed_old clients s.state.facts batch allowed plain);
       within = within;
       is_framed = framed_by p framed is (omega (arith, short.0, len), omega (arith, short.1, len));
       payload_is =
@@ -146,7 +146,7 @@ filled_may clients s facts es framed f =
     let frame = room_framed kind (left_of (after_all s.state.facts es)) (length es) (left_of s.state.facts) fewer f.some in
     record {
       allowed = allowed_settling clients s.state.facts es (f.some, f.few, f.settling);
-      kinds = kinds_of kind es (steps_old es (all_steps clients s.state.facts es f.settling));
+      kinds = kinds_of kind es (settling_old clients s.state.facts es f.settling);
       within = f.within;
       is_framed = framed_by p framed f.framed_is (omega (arith, f.long, len, steps_some kind (length es) f.some), omega (arith, f.long, len, f.few, steps_few kind (length es)));
       payload_is = payload_by p framed f.framed_is;

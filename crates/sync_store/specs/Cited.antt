@@ -2,14 +2,13 @@
 use Rattle.brief_account.specs.Laws.{BriefKeepsFacts}
 use Rattle.sync_rules.specs.Allows.{AllowsIsAllowed}
 use Rattle.entry_codec.specs.Laws.{AllowedNames, PayloadsFitFrames}
-use Rattle.entry_codec.specs.StandingLaws.{AllowedAddOne, AllowedMayBeWritten, AllowedOldKinds, AllowedTakeOne, JournalsStand}
+use Rattle.entry_codec.specs.StandingLaws.{AllowedAddOne, AllowedMayBeWritten, AllowedTakeOne, JournalsStand}
 
 pub record CitedLaws : Type 0 where
   pub stand : JournalsStand
   pub fit : PayloadsFitFrames
   pub names : AllowedNames
   pub written : AllowedMayBeWritten
-  pub old_kinds : AllowedOldKinds
   pub add_one : AllowedAddOne
   pub take_one : AllowedTakeOne
   pub decided : AllowsIsAllowed

@@ -20,7 +20,6 @@ pub(crate) fn cite_laws()
     codec::payloads_fit_frames();
     codec::allowed_names();
     codec::allowed_may_be_written();
-    codec::allowed_old_kinds();
     codec::allowed_add_one();
     codec::allowed_take_one();
     rules::allows_is_allowed();
