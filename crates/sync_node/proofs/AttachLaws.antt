@@ -9,6 +9,7 @@ use Rattle.sync_rules.specs.Clients.{Meaning}
 use Rattle.sync_rules.proofs.Continuing.{continues_all}
 use Rattle.sync_rules.specs.Facts.{Facts, after_all, session_at}
 use Rattle.sync_rules.specs.Legal.{Allowed, suits_nonce}
+use Rattle.sync_rules.specs.declared.limits.TheConstants.{MAX_SESSIONS}
 use Rattle.sync_rules.specs.Steps.{IsSettled}
 use Rattle.record_grammar.specs.Laws.{FrontsHaveFronts}
 use Rattle.sync_store.specs.Store.{StoreValue}
@@ -32,11 +33,20 @@ get_push (z ∷ xs) x (suc i) y e =
 
 -- a session of a plan may begin
 pub plan_allowed : (clients : Meaning) (f : Facts) (x : Session) → IsSettled clients f
-    → x.number ≡ f.begun → x.contact < f.contacts → 1 ≤ x.latency
+    → x.number ≡ f.begun → f.begun < MAX_SESSIONS → x.contact < f.contacts → 1 ≤ x.latency
     → suits_nonce x.mode x.nonce ≡ true
     → Allowed clients f (session_batch x)
-plan_allowed clients f x settled number contact latency nonce =
-    (refl, settled, record { numbered = number; known_contact = contact; some_latency = latency; suited_nonce = nonce })
+plan_allowed clients f x settled number few contact latency nonce = (
+  refl,
+  settled,
+  record {
+    numbered = number;
+    few = subst (λ (n : ℕ). n < MAX_SESSIONS) (sym number) few;
+    known_contact = contact;
+    some_latency = latency;
+    suited_nonce = nonce;
+  },
+)
 
 module _ (clients : Meaning) (first link : ℕ) (x : Session) (links : List Link) (l : Link) (s s' : StoreValue) (o o' : Outside) (attached : AreAttached first links s.state.facts) (number : x.number ≡ s.state.facts.begun)
     (last : length links ≡ link) (starts : Starts clients link x l s s' o o') where

@@ -101,6 +101,7 @@ impl Node {
     ghost use Rattle.outside.specs.Faults.{Rose};
     ghost use Rattle.outside.specs.Files.{Two, File};
     ghost use Rattle.sync_rules.specs.Legal.{Allowed, suits_nonce};
+    ghost use Rattle.sync_rules.specs.declared.limits.TheConstants.{MAX_SESSIONS};
     ghost use Rattle.sync_store.specs.Fitting.{Fits};
     ghost use Rattle.sync_store.specs.Moments.{Leads};
     ghost use Rattle.sync_node.specs.Adding.{AddsAtMost, AddsSettled, AddsWithin, IsPlain};
@@ -223,9 +224,9 @@ impl Node {
     }
 
     /// Begins a session on a link that was dialled, the next number: commits it, and sends VERSIONS
-    /// and, where it has a nonce, PRIORITY. The journal is settled, the contact is known, the
-    /// latency is at least 1, and a nonce is given in interactive mode alone. A failed send closes
-    /// the link, and the answer is Ok.
+    /// and, where it has a nonce, PRIORITY. The journal is settled and has fewer than 4,294,967,295
+    /// sessions, the contact is known, the latency is at least 1, and a nonce is given in
+    /// interactive mode alone. A failed send closes the link, and the answer is Ok.
     pub fn attach<H: Host, C: Clients>(
         &mut self,
         host: &mut H,
@@ -237,6 +238,7 @@ impl Node {
         requires may { MayRun (C.meaning clients.now) self.old (H.tells host.old) }
         requires settled { self.old.closed ≡ false
             → IsSettled (C.meaning clients.now) self.old.store.state.facts }
+        requires begun { self.old.store.state.facts.begun < MAX_SESSIONS }
         requires contact { plan.now.contact < self.old.store.state.facts.contacts }
         requires latency { 1 ≤ plan.now.latency }
         requires nonce { suits_nonce plan.now.mode nonce ≡ true }

@@ -1,4 +1,5 @@
-use Rattle.std.proofs.Common.{inl, List, [], ◌∷◌, ◌++◌, ℕ, arith, refl, ap, ◌∙◌, length}
+use Rattle.std.proofs.Common.{inl, List, [], ◌∷◌, ◌++◌, ◌<◌, ℕ, arith, refl, ap, ◌∙◌, length, subst, sym}
+use Rattle.sync_rules.specs.declared.limits.TheConstants.{MAX_SESSIONS}
 use Rattle.sync_node.specs.declared.link.Link.{Link}
 use Rattle.sync_node.specs.Node.{NodeValue}
 use Rattle.sync_node.proofs.CourseStart.{beginning_halted, begins_behind, node_beginning_halted, node_begins}
@@ -38,6 +39,7 @@ pub attach_on-requires-clause-allowed : goal.attach_on-requires-clause-allowed
 attach_on-requires-clause-allowed g c =
     plan_allowed (g.C.Clients.meaning c.args.clients.now) c.self.inside.store.state.facts (session_of c.sessions.result c.args.plan.now c.args.nonce)
     (node_settled (g.C.Clients.meaning c.args.clients.now) c.self.inside.store c.self.inside.first c.self.inside.links.items c.self.inside.closed _ c.self.view_is c.requires.settled c.if-self.false) c.sessions.ensures
+    (subst (λ (n : NodeValue). n.store.state.facts.begun < MAX_SESSIONS) (sym c.self.view_is) c.requires.begun)
     (omega (arith, c.requires.contact, ap (λ (n : NodeValue). n.store.state.facts.contacts) c.self.view_is)) c.requires.latency c.requires.nonce
 
 pub attach_on-requires-clause-dialled : goal.attach_on-requires-clause-dialled
