@@ -10,7 +10,7 @@ use Rattle.outside.specs.Files.{Two, file_of}
 use Rattle.outside.specs.Frames.{IsPayload, format_in, frame_of, journal_file}
 use Rattle.entry_codec.specs.declared.naming.Format.{Format}
 use Rattle.entry_codec.specs.Naming.{format_of}
-use Rattle.entry_codec.specs.Spelling.{IsEntry}
+use Rattle.entry_codec.specs.Spelling.{IsEntry, IsOfFormat}
 use Rattle.entry_codec.specs.Payloads.{journal_end, payloads}
 use Rattle.entry_codec.specs.Standing.{rest_from, stands}
 
@@ -25,12 +25,13 @@ pub record FitsFile (bytes : List ℕ) (place : ℕ) (to : List ℕ) : Type 0 wh
 
 -- ---- a reader in the journal of two files
 -- A reader has come to the gate before `end`: these batches are before it. They are legal and within their limits, and what
--- the files stand for is what the rest of the file gives behind them. The file has this format.
+-- the files stand for is what the rest of the file gives behind them. The file has this format, which has their kinds.
 pub record Front (clients : Meaning) (files : Two (List ℕ)) (file : ℕ) (format : Format) (done : List (List Entry)) (end : ℕ) : Type 0 where
   pub found : journal_file files ≡ Some file
   pub format_is : format_of (format_in (file_of files file)) ≡ Some format
   pub going : stands clients files ≡ rest_from clients format file (file_of files file) (end - 1) done
   pub legal : Legal clients done
+  pub kinds : AllByRecursion (AllByRecursion (IsOfFormat format)) done
   pub within : AllByRecursion (AllByRecursion IsEntry) done
   pub long : length (take 14 (file_of files file)) ≡ 14
   pub whole : file_of files file ≡ take 14 (file_of files file) ++ flat_map frame_of (payloads format nothing done) ++ drop (end - 1) (file_of files file)

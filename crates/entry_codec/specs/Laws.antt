@@ -40,7 +40,7 @@ NoneBeginsAnother = (f : Format) (names : List (List ℕ)) → AreNames names �
 abbrev pub SpellingsAreShort : Type 0
 SpellingsAreShort = (e : Entry) (bytes : List ℕ) → Spells e bytes → (2 ≤ length bytes) × (length bytes ≤ MAX_SPELLING)
 
--- a spelling of the second format has 2 bytes or more, and is never longer than that of the first
+-- a spelling of the second format has 2 bytes or more, and is never longer than it would be with whole ids
 abbrev pub ShortIsNotLonger : Type 0
 ShortIsNotLonger = (names : List (List ℕ)) (e : Entry) → IsEntry e
     → (2 ≤ length (spelling_in format.Short names e)) × (length (spelling_in format.Short names e) ≤ length (spelling e))

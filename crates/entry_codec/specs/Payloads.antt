@@ -52,7 +52,7 @@ followed others (Some x) = put_before x.0 (others x.1)
 unfoldable pub entries_in : Format → List (List ℕ) → ℕ → List ℕ → Option (List Entry)
 entries_in format names n [] = Some []
 entries_in format names zero (x ∷ bytes) = None
-entries_in format names (suc n) (x ∷ bytes) = followed (entries_in format names n) (entry_by (held_in format names) (x ∷ bytes))
+entries_in format names (suc n) (x ∷ bytes) = followed (entries_in format names n) (entry_by format (held_in format names) (x ∷ bytes))
 
 -- The batch that some bytes spell: they are a list of one or more spellings of entries and nothing else. No entry is spelled
 -- by no byte, so there are no more entries than bytes.

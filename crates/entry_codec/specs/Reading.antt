@@ -1,6 +1,7 @@
 -- How the parts of an entry are read from the front of some bytes: a part, and the bytes behind it. The id of a message that
 -- is held is read in a way that is given, as `Spelling` writes it in one; an id of another message is read whole.
-use Rattle.std.specs.Prelude.{ℕ, zero, suc, Bool, ◌==◌, ◌&&◌, nat_lt, nat_le, if◌then◌else◌, List, [], ◌∷◌, length, take, drop, Option, Some, None}
+use Rattle.std.specs.Prelude.{ℕ, zero, suc, ◌/◌, ◌%◌, Bool, not, ◌==◌, ◌&&◌, ◌||◌, nat_eq, nat_lt, nat_le, if◌then◌else◌}
+use Rattle.std.specs.Prelude.{List, [], ◌∷◌, length, take, drop, Option, Some, None}
 use Rattle.std.specs.Int.{Width, w16, w32, w64, byte_len, from_be_bytes}
 use Rattle.std.specs.List.{slice_get}
 use Rattle.std.specs.Str.{is_utf8}
@@ -17,6 +18,11 @@ use Rattle.sync_rules.specs.declared.entries.Mode.TheVariants as mode_kind
 use Rattle.sync_rules.specs.declared.entries.Out.{Out}
 use Rattle.sync_rules.specs.declared.entries.Out.TheVariants as out
 use Rattle.sync_rules.specs.declared.entries.Session.{Session}
+use Rattle.sync_rules.specs.declared.entries.Tried.{Tried}
+use Rattle.sync_rules.specs.declared.states.Origin.{Origin}
+use Rattle.sync_rules.specs.declared.states.Origin.TheVariants as origin
+use Rattle.sync_rules.specs.declared.limits.TheConstants.{MAX_TRIES}
+use Rattle.sync_rules.specs.Legal.{is_empty_row}
 use Rattle.entry_codec.specs.declared.naming.Format.{Format}
 use Rattle.entry_codec.specs.declared.naming.Format.TheVariants as format
 
@@ -124,6 +130,23 @@ session_of a = record { number = a.0; contact = a.1.0; mode = a.1.1.0; latency =
 unfoldable pub session_in : List ℕ → Option (Session × List ℕ)
 session_in bytes = made session_of (both (be_number_in w32) (both byte_in (both mode_in (both latency_in nonce_in))) bytes)
 
+-- where a message came from: a flag and a contact, which is 0 for a message that was written here
+abbrev pub origin_of : ℕ × ℕ → Option Origin
+origin_of a =
+    if a.0 == 0 then (if a.1 == 0 then Some origin.Author else None)
+    else if a.0 == 1 then Some (origin.From a.1)
+    else None
+
+unfoldable pub origin_in : List ℕ → Option (Origin × List ℕ)
+origin_in bytes = meant origin_of (both byte_in byte_in bytes)
+
+-- the three flags of a row, in a number below 8
+abbrev pub flags_of : ℕ → Bool × Bool × Bool
+flags_of n = ((n % 2) == 1, ((n / 2) % 2) == 1, (n / 4) == 1)
+
+unfoldable pub flags_in : List ℕ → Option ((Bool × Bool × Bool) × List ℕ)
+flags_in bytes = made flags_of (passed (λ n. nat_le n 7) (byte_in bytes))
+
 -- so many parts, one behind the other
 unfoldable pub list_in : {A : Type 0} → (List ℕ → Option (A × List ℕ)) → ℕ → List ℕ → Option (List A × List ℕ)
 list_in p zero bytes = Some ([], bytes)
@@ -153,6 +176,26 @@ out_of held kind rest =
 
 unfoldable pub out_in : IdReader → List ℕ → Option (Out × List ℕ)
 out_in held bytes = chained (out_of held) (byte_in bytes)
+
+-- what is kept of a message that is held
+abbrev pub tried_of : ℕ × (List ℕ × ((Bool × Bool × Bool) × (ℕ × ℕ))) → Tried
+tried_of a = record {
+  contact = a.0;
+  id = a.1.0;
+  seen = a.1.1.0.0;
+  owed = a.1.1.0.1;
+  asked = a.1.1.0.2;
+  tries = a.1.1.1.0;
+  expiry = a.1.1.1.1;
+}
+
+-- it may be stated: its tries are within MAX_TRIES, it has no wait without a try, and it is not empty
+abbrev pub is_stated : Tried → Bool
+is_stated t = nat_le t.tries MAX_TRIES && ((not (nat_eq t.tries 0) || nat_eq t.expiry 0) && not (is_empty_row t))
+
+unfoldable pub tried_in : IdReader → List ℕ → Option (Tried × List ℕ)
+tried_in held bytes =
+    passed is_stated (made tried_of (both byte_in (both held (both flags_in (both byte_in (be_number_in w64)))) bytes))
 
 -- ---- entries
 
@@ -194,19 +237,30 @@ moved_of held tag rest =
     else if tag == 15 then made (λ a. entry.Out a.0 a.1.0 a.1.1) (both (be_number_in w32) (both (be_number_in w64) (out_in held)) rest)
     else None
 
--- what follows a tag. The message of the tag 12 is not held
-abbrev pub entry_of : IdReader → ℕ → List ℕ → Option (Entry × List ℕ)
-entry_of held tag rest =
+-- what follows the tags 16 to 19, of a brief account. The message of the tag 19 is not held. In the first format they are none
+abbrev pub account_of : Format → IdReader → ℕ → List ℕ → Option (Entry × List ℕ)
+account_of format.Whole held tag rest = None
+account_of format.Short held tag rest =
+    if tag == 16 then made entry.Brief (be_number_in w32 rest)
+    else if tag == 17 then made (λ a. entry.Kept a.0 a.1) (both origin_in message_in rest)
+    else if tag == 18 then made entry.Tried (tried_in held rest)
+    else if tag == 19 then made (λ a. entry.Want a.0 a.1) (both byte_in id_in rest)
+    else None
+
+-- what follows a tag in a format. The message of the tag 12 is not held
+abbrev pub entry_of : Format → IdReader → ℕ → List ℕ → Option (Entry × List ℕ)
+entry_of f held tag rest =
     if is_between 1 3 tag then known_of tag rest
     else if is_between 8 10 tag then meant (step_of tag) (held rest)
     else if tag == 12 then made (λ a. entry.Offered a.0 a.1) (pair_in id_in rest)
     else if is_between 11 14 tag then meant (heard_of tag) (pair_in held rest)
+    else if is_between 16 19 tag then account_of f held tag rest
     else moved_of held tag rest
 
--- an entry at the front of some bytes, where the id of a message that is held is read in this way
-unfoldable pub entry_by : IdReader → List ℕ → Option (Entry × List ℕ)
-entry_by held bytes = chained (entry_of held) (byte_in bytes)
+-- an entry at the front of some bytes in a format, where the id of a message that is held is read in this way
+unfoldable pub entry_by : Format → IdReader → List ℕ → Option (Entry × List ℕ)
+entry_by f held bytes = chained (entry_of f held) (byte_in bytes)
 
 -- an entry at the front of some bytes in the first format: every id is read whole
 unfoldable pub entry_in : List ℕ → Option (Entry × List ℕ)
-entry_in bytes = entry_by id_in bytes
+entry_in bytes = entry_by format.Whole id_in bytes

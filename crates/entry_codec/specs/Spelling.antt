@@ -1,5 +1,5 @@
 -- How the entries of a journal are spelled: a tag byte, and behind it what the entry says.
-use Rattle.std.specs.Prelude.{◌≡◌, ℕ, ◌^◌, ◌<◌, ◌≤◌, List, [], ◌∷◌, ◌++◌, length, Option, Some, None}
+use Rattle.std.specs.Prelude.{◌≡◌, ℕ, ◌+◌, ◌^◌, ◌<◌, ◌≤◌, Bool, false, cond, List, [], ◌∷◌, ◌++◌, length, Option, Some, None}
 use Rattle.std.specs.Int.{w16, w32, w64, to_be_bytes}
 use Rattle.std.specs.List.{AllByRecursion, flat_map}
 use Rattle.std.specs.Str.{IsUtf8}
@@ -14,6 +14,11 @@ use Rattle.sync_rules.specs.declared.entries.Mode.TheVariants as mode_kind
 use Rattle.sync_rules.specs.declared.entries.Out.{Out}
 use Rattle.sync_rules.specs.declared.entries.Out.TheVariants as out
 use Rattle.sync_rules.specs.declared.entries.Session.{Session}
+use Rattle.sync_rules.specs.declared.entries.Tried.{Tried}
+use Rattle.sync_rules.specs.declared.states.Origin.{Origin}
+use Rattle.sync_rules.specs.declared.states.Origin.TheVariants as origin
+use Rattle.sync_rules.specs.declared.limits.TheConstants.{MAX_TRIES}
+use Rattle.sync_rules.specs.Legal.{is_empty_row}
 use Rattle.entry_codec.specs.declared.naming.Format.{Format}
 use Rattle.entry_codec.specs.declared.naming.Format.TheVariants as format
 use Rattle.entry_codec.specs.Naming.{IsNamed, held_bytes}
@@ -51,6 +56,15 @@ abbrev pub session_bytes : Session → List ℕ
 session_bytes s =
     to_be_bytes w32 s.number ++ (s.contact ∷ mode_byte s.mode ∷ (to_be_bytes w32 s.latency ++ nonce_bytes s.nonce))
 
+-- where a message came from: a flag, and the contact, which is 0 for a message that was written here
+abbrev pub origin_bytes : Origin → List ℕ
+origin_bytes origin.Author = 0 ∷ 0 ∷ []
+origin_bytes (origin.From contact) = 1 ∷ contact ∷ []
+
+-- the flags of a row, added: 1 where the contact has the message, 2 where it waits for our acknowledgement, 4 where it asked
+abbrev pub flags_byte : Bool → Bool → Bool → ℕ
+flags_byte seen owed asked = cond seen 1 0 + (cond owed 2 0 + cond asked 4 0)
+
 -- ---- ids
 
 -- an id, written whole
@@ -67,6 +81,10 @@ out_bytes held (out.Acks ids) = 0 ∷ ids_bytes held ids
 out_bytes held (out.Requests ids) = 1 ∷ ids_bytes whole ids
 out_bytes held (out.Offers ids) = 2 ∷ ids_bytes held ids
 out_bytes held (out.Send id) = 3 ∷ held id
+
+-- what is kept of a message that is held
+abbrev pub tried_bytes : (List ℕ → List ℕ) → Tried → List ℕ
+tried_bytes held t = t.contact ∷ (held t.id ++ (flags_byte t.seen t.owed t.asked ∷ t.tries ∷ to_be_bytes w64 t.expiry))
 
 -- ---- entries
 
@@ -91,12 +109,17 @@ entry_bytes held (entry.Offered s id) = 12 ∷ on_session s (whole id)
 entry_bytes held (entry.Seen s id) = 13 ∷ on_session s (held id)
 entry_bytes held (entry.Asked s id) = 14 ∷ on_session s (held id)
 entry_bytes held (entry.Out s now what) = 15 ∷ on_session s (to_be_bytes w64 now ++ out_bytes held what)
+entry_bytes held (entry.Brief n) = 16 ∷ to_be_bytes w32 n
+entry_bytes held (entry.Kept from m) = 17 ∷ (origin_bytes from ++ message_bytes m)
+entry_bytes held (entry.Tried t) = 18 ∷ tried_bytes held t
+entry_bytes held (entry.Want contact id) = 19 ∷ contact ∷ whole id
 
--- the one spelling of an entry in the first format: every id is written whole
+-- the one spelling of an entry in the first format: every id is written whole. That format spells the older kinds alone
+-- (`IsOld`); of the others these bytes give a length, and no reader takes them
 unfoldable pub spelling : Entry → List ℕ
 spelling e = entry_bytes whole e
 
--- the one spelling of an entry in a format, where these are the ids held
+-- the one spelling of an entry in a format that has its kind, where these are the ids held
 unfoldable pub spelling_in : Format → List (List ℕ) → Entry → List ℕ
 spelling_in f names e = entry_bytes (held_bytes f names) e
 
@@ -127,6 +150,22 @@ pub record IsSession (s : Session) : Type 0 where
   pub latency_fits : s.latency < 2 ^ 32
   pub whole_nonce : IsNonce s.nonce
 
+-- a row that may be stated: its tries are within MAX_TRIES, it has no wait without a try, and it is not empty
+pub record IsStated (t : Tried) : Type 0 where
+  pub few_tries : t.tries ≤ MAX_TRIES
+  pub no_wait : t.tries ≡ 0 → t.expiry ≡ 0
+  pub not_empty : is_empty_row t ≡ false
+
+pub record IsTried (t : Tried) : Type 0 where
+  pub contact_fits : t.contact < 256
+  pub whole_id : IsId t.id
+  pub stated : IsStated t
+  pub expiry_fits : t.expiry < 2 ^ 64
+
+abbrev pub IsOrigin : Origin → Type 0
+IsOrigin origin.Author = Unit {0}
+IsOrigin (origin.From contact) = contact < 256
+
 abbrev pub IsEntry : Entry → Type 0
 IsEntry (entry.Contact c) = c < 256
 IsEntry (entry.Group def) = IsDef def
@@ -143,6 +182,23 @@ IsEntry (entry.Offered s id) = (s < 2 ^ 32) × IsId id
 IsEntry (entry.Seen s id) = (s < 2 ^ 32) × IsId id
 IsEntry (entry.Asked s id) = (s < 2 ^ 32) × IsId id
 IsEntry (entry.Out s now what) = (s < 2 ^ 32) × (now < 2 ^ 64) × IsOut what
+IsEntry (entry.Brief n) = n < 2 ^ 32
+IsEntry (entry.Kept from m) = IsOrigin from × IsMessage m
+IsEntry (entry.Tried t) = IsTried t
+IsEntry (entry.Want contact id) = (contact < 256) × IsId id
+
+-- an entry of an older kind, which each format spells: all but those that stand in a brief account alone
+abbrev pub IsOld : Entry → Type 0
+IsOld (entry.Brief n) = ⊥
+IsOld (entry.Kept from m) = ⊥
+IsOld (entry.Tried t) = ⊥
+IsOld (entry.Want contact id) = ⊥
+IsOld e = Unit {0}
+
+-- an entry of a kind that a format spells
+abbrev pub IsOfFormat : Format → Entry → Type 0
+IsOfFormat format.Whole e = IsOld e
+IsOfFormat format.Short e = Unit {0}
 
 -- what holds of the id of each message that an entry names as one that is held
 abbrev pub OutNames : (List ℕ → Type 0) → Out → Type 0
@@ -159,6 +215,7 @@ EntryNames H (entry.Again s id) = H id
 EntryNames H (entry.Seen s id) = H id
 EntryNames H (entry.Asked s id) = H id
 EntryNames H (entry.Out s now what) = OutNames H what
+EntryNames H (entry.Tried t) = H t.id
 EntryNames H _ = Unit {0}
 
 -- how many messages an entry names as held
@@ -176,10 +233,13 @@ named_count (entry.Again s id) = 1
 named_count (entry.Seen s id) = 1
 named_count (entry.Asked s id) = 1
 named_count (entry.Out s now what) = out_count what
+named_count (entry.Tried t) = 1
 named_count _ = 0
 
--- these bytes spell this entry in a format, where these are the ids held: it is within its limits and names no others
+-- these bytes spell this entry in a format, where these are the ids held: the format has its kind, it is within its limits, and
+-- it names no others
 pub record SpellsIn (f : Format) (names : List (List ℕ)) (e : Entry) (bytes : List ℕ) : Type 0 where
+  pub kind : IsOfFormat f e
   pub within : IsEntry e
   pub named : EntryNames (IsNamed f names) e
   pub is : bytes ≡ spelling_in f names e
@@ -188,10 +248,11 @@ pub record SpellsIn (f : Format) (names : List (List ℕ)) (e : Entry) (bytes : 
 abbrev pub Spells : Entry → List ℕ → Type 0
 Spells e bytes = SpellsIn format.Whole [] e bytes
 
--- what an entry has to keep of itself to be written: a session has a latency of at least 1
-abbrev pub HasLatency : Entry → Type 0
-HasLatency (entry.Session s) = 1 ≤ s.latency
-HasLatency e = Unit {0}
+-- what an entry has to keep of itself to be written: a session has a latency of at least 1, and a row may be stated
+abbrev pub MayBeWritten : Entry → Type 0
+MayBeWritten (entry.Session s) = 1 ≤ s.latency
+MayBeWritten (entry.Tried t) = IsStated t
+MayBeWritten e = Unit {0}
 
 -- new is old with some bytes at its end
 abbrev pub AddsTo : List ℕ → List ℕ → Type 0

@@ -3,7 +3,7 @@ ghost use Rattle.std.specs.Prelude.{◌≡◌, ◌++◌, ◌-◌, ◌^◌, min, 
 ghost use Rattle.std.specs.List.{AllByRecursion};
 ghost use Rattle.entry_codec.specs.Naming.{IsNamed};
 ghost use Rattle.entry_codec.specs.Payloads.{batch_in, payload_len, spellings};
-ghost use Rattle.entry_codec.specs.Spelling.{AddsTo, EntryNames, HasLatency, IsEntry};
+ghost use Rattle.entry_codec.specs.Spelling.{AddsTo, EntryNames, IsEntry, MayBeWritten};
 
 use crate::front::Front;
 use crate::lengths::spelled_len;
@@ -51,7 +51,7 @@ fn write_entries<N: Names>(
     entries: &[Entry],
     to: &mut Vec<u8>,
 ) -> Result<(), AllocError>
-    requires latency { AllByRecursion HasLatency entries.now }
+    requires written { AllByRecursion MayBeWritten entries.now }
     requires named { AllByRecursion (EntryNames (IsNamed format (N.named names.now))) entries.now }
     ensures ok { OnOk result
         (to.new.items ≡ to.old.items ++ spellings format (N.named names.now) entries.now) }
@@ -65,15 +65,17 @@ fn write_entries<N: Names>(
 }
 
 /// Appends a batch's payload in this format, where these are the names of the messages held before
-/// it. A session's latency is at least 1, and in format 2 each message that the batch names as held
-/// has a name. It fails only for want of memory, and then leaves the bytes as they were.
+/// it. A session's latency is at least 1, a row may be stated, and in format 2 each message that the
+/// batch names as held has a name. Format 1 has no payload for the entries that stand in a brief
+/// account alone: what is written of them there is not read again. It fails only for want of
+/// memory, and then leaves the bytes as they were.
 pub fn write_batch<N: Names>(
     format: Format,
     names: &N,
     batch: &Batch,
     to: &mut Vec<u8>,
 ) -> Result<(), AllocError>
-    requires latency { AllByRecursion HasLatency batch.now }
+    requires written { AllByRecursion MayBeWritten batch.now }
     requires named { AllByRecursion (EntryNames (IsNamed format (N.named names.now))) batch.now }
     ensures ok { OnOk result
         (to.new.items ≡ to.old.items ++ spellings format (N.named names.now) batch.now) }

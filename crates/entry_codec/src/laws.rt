@@ -2,9 +2,10 @@
 ghost use Rattle.entry_codec.specs.Laws.{AllowedNames, NoneBeginsAnother, PayloadsFitFrames};
 ghost use Rattle.entry_codec.specs.Laws.{ShortBatchesAreNotLonger, ShortIsNotLonger};
 ghost use Rattle.entry_codec.specs.Laws.{SpellingsAreShort, SpellingsReadBack};
-ghost use Rattle.entry_codec.specs.StandingLaws.{AllowedAddOne, AllowedHaveLatency, AllowedTakeOne};
-ghost use Rattle.entry_codec.specs.StandingLaws.{BatchesReadBack, JournalsStand, PayloadsSpellOnce};
-ghost use Rattle.entry_codec.specs.StandingLaws.{LegalHasNames, StandingIsLegal};
+ghost use Rattle.entry_codec.specs.StandingLaws.{AllowedAddOne, AllowedBeginOne, AllowedTakeOne};
+ghost use Rattle.entry_codec.specs.StandingLaws.{AllowedMayBeWritten, BatchesReadBack};
+ghost use Rattle.entry_codec.specs.StandingLaws.{JournalsStand, LegalHasNames, PayloadsSpellOnce};
+ghost use Rattle.entry_codec.specs.StandingLaws.{StandingIsLegal};
 
 use sync_ids::message_ids_are_whole;
 use sync_rules::laws::allows_is_allowed;
@@ -25,12 +26,13 @@ pub fn spellings_are_short()
     ensures { SpellingsAreShort }
 {}
 
-/// A spelling of format 2 has 2 bytes or more, and is never longer than that of format 1.
+/// A spelling of format 2 has 2 bytes or more, and is never longer than it would be with whole ids,
+/// as those of format 1 are.
 pub fn short_is_not_longer()
     ensures { ShortIsNotLonger }
 {}
 
-/// The spellings of a batch in format 2 are together never longer than those in format 1.
+/// The spellings of a batch in format 2 are together never longer than with whole ids.
 pub fn short_batches_are_not_longer()
     ensures { ShortBatchesAreNotLonger }
 {}
@@ -57,14 +59,20 @@ pub fn payloads_spell_once()
     ensures { PayloadsSpellOnce }
 {}
 
-/// In a batch that may follow a journal each session has a latency.
-pub fn allowed_have_latency()
-    ensures { AllowedHaveLatency }
+/// In a batch that may follow a journal each session has a latency, and each row may be stated.
+pub fn allowed_may_be_written()
+    ensures { AllowedMayBeWritten }
 {}
 
-/// A batch that may follow a journal adds one message at most, and one session at most.
+/// A batch that may follow a journal adds one message at most.
 pub fn allowed_add_one()
     ensures { AllowedAddOne }
+{}
+
+/// A batch that may follow a journal, and does not begin a brief account, begins one session at
+/// most.
+pub fn allowed_begin_one()
+    ensures { AllowedBeginOne }
 {}
 
 /// A batch that may follow a journal takes one record at most on a session.

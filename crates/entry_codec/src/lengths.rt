@@ -2,15 +2,18 @@
 ghost use Rattle.std.specs.Prelude.{◌≡◌, ◌+◌, ◌*◌, ◌≤◌, List, [], length, ℕ};
 ghost use Rattle.std.specs.List.{flat_map};
 ghost use Rattle.entry_codec.specs.Spelling.{def_bytes, ids_bytes, message_bytes, out_bytes};
-ghost use Rattle.entry_codec.specs.Spelling.{session_bytes, spelling, whole};
-ghost use Rattle.entry_codec.specs.Spelling.{EntryNames, IsId, OutNames, named_count, out_count};
+ghost use Rattle.entry_codec.specs.Spelling.{session_bytes, spelling, tried_bytes, whole};
+ghost use Rattle.entry_codec.specs.Spelling.{EntryNames, IsId, IsOld, OutNames, named_count};
+ghost use Rattle.entry_codec.specs.Spelling.{out_count};
 ghost use Rattle.entry_codec.specs.Spelling.{spelling_in};
 ghost use Rattle.entry_codec.specs.Standing.{step_bytes};
 ghost use Rattle.entry_codec.specs.declared.naming.Format.TheVariants as format_kind;
+ghost use Rattle.sync_rules.specs.declared.entries.Entry.TheVariants as entry_kind;
+ghost use Rattle.sync_rules.specs.declared.states.Origin.{Origin};
 
 use crate::naming::{Format, show_whole};
 use sync_ids::{GroupDef, IdList, MAX_IDS, Message, MessageId};
-use sync_rules::{Entry, Out, Session};
+use sync_rules::{Entry, Out, Session, Tried};
 
 /// The length of the longest spelling of an entry, in bytes.
 pub const MAX_SPELLING: usize = 49_168;
@@ -90,9 +93,28 @@ fn out_len(what: &Out) -> usize
     }
 }
 
-/// How many bytes the spelling of an entry has: 2 to `MAX_SPELLING`. It takes no memory.
-#[tactic(auto, unfolding(crate::specs::Spelling::spelling))]
+fn tried_len(tried: &Tried) -> usize
+    ensures value { result ≡ length (tried_bytes whole tried.now) }
+    ensures some { 1 ≤ result }
+    ensures few { result ≤ 43 }
+{
+    11 + tried.id.as_bytes().len()
+}
+
+/// How many bytes the spelling of an entry has in format 1, which spells all kinds but the four
+/// that stand in a brief account alone: 2 to `MAX_SPELLING`. It takes no memory.
 pub fn entry_len(entry: &Entry) -> usize
+    requires { IsOld entry.now }
+    ensures value { result ≡ length (spelling entry.now) }
+    ensures some { 2 ≤ result }
+    ensures few { result ≤ MAX_SPELLING }
+{
+    whole_len(entry)
+}
+
+// How many bytes an entry takes whose ids are all written whole.
+#[tactic(auto, unfolding(crate::specs::Spelling::spelling))]
+fn whole_len(entry: &Entry) -> usize
     ensures value { result ≡ length (spelling entry.now) }
     ensures some { 2 ≤ result }
     ensures few { result ≤ MAX_SPELLING }
@@ -109,6 +131,10 @@ pub fn entry_len(entry: &Entry) -> usize
         Entry::Again(_, id) | Entry::Offered(_, id) | Entry::Seen(_, id) | Entry::Asked(_, id) => 5
             + id.as_bytes().len(),
         Entry::Out(_, _, what) => 13 + out_len(what),
+        Entry::Brief(_) => 5,
+        Entry::Kept(_, message) => 3 + message_len(message),
+        Entry::Tried(tried) => 1 + tried_len(tried),
+        Entry::Want(_, id) => 2 + id.as_bytes().len(),
     }
 }
 
@@ -142,20 +168,25 @@ fn named_count(entry: &Entry) -> usize
             1
         }
         Entry::Out(_, _, what) => out_count(what),
+        Entry::Tried(tried) => {
+            show_whole(&tried.id);
+            1
+        }
         Entry::Contact(_) | Entry::Group(_) | Entry::Level(_, _, _) | Entry::Session(_) => 0,
         Entry::Take(_, _) | Entry::Author(_) | Entry::Arrive(_, _) | Entry::Offered(_, _) => 0,
+        Entry::Brief(_) | Entry::Kept(_, _) | Entry::Want(_, _) => 0,
     }
 }
 
 /// How many bytes the spelling of an entry has in format 2, whatever the names: a number has 28
-/// bytes less than an id. These are 2 at least, and no more than in format 1. It takes no memory.
+/// bytes less than an id. These are 2 at least, and no more than with whole ids. It takes no memory.
 pub fn short_len(entry: &Entry) -> usize
     ensures value { (names : List (List ℕ)) → result
         ≡ length (spelling_in format_kind.Short names entry.now) }
     ensures some { 2 ≤ result }
     ensures few { result ≤ length (spelling entry.now) }
 {
-    entry_len(entry) - 28 * named_count(entry)
+    whole_len(entry) - 28 * named_count(entry)
 }
 
 /// How many bytes the spelling of an entry has in this format, whatever the names: 2 at least. It
@@ -166,7 +197,30 @@ pub fn spelled_len(format: Format, entry: &Entry) -> usize
     ensures some { 2 ≤ result }
 {
     match format {
-        Format::Whole => entry_len(entry),
+        Format::Whole => whole_len(entry),
         Format::Short => short_len(entry),
     }
+}
+
+/// How many bytes `write_group` appends, whatever the names. It takes no memory.
+#[tactic(auto, unfolding(crate::specs::Spelling::spelling_in))]
+pub fn group_len(def: &GroupDef) -> usize
+    ensures value { (names : List (List ℕ)) → result
+        ≡ length (spelling_in format_kind.Short names (entry_kind.Group def.now)) }
+    ensures some { 2 ≤ result }
+    ensures few { result ≤ MAX_SPELLING }
+{
+    1 + def_len(def)
+}
+
+/// How many bytes `write_kept` appends, from wherever the message came and whatever the names. It
+/// takes no memory.
+#[tactic(auto, unfolding(crate::specs::Spelling::spelling_in))]
+pub fn kept_len(message: &Message) -> usize
+    ensures value { (names : List (List ℕ)) (from : Origin) → result
+        ≡ length (spelling_in format_kind.Short names (entry_kind.Kept from message.now)) }
+    ensures some { 2 ≤ result }
+    ensures few { result ≤ MAX_SPELLING }
+{
+    3 + message_len(message)
 }

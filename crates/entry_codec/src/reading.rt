@@ -2,14 +2,16 @@
 ghost use Rattle.std.specs.Prelude.{IfOk};
 ghost use Rattle.entry_codec.specs.Laws.{IsRead, IsReadIn};
 ghost use Rattle.entry_codec.specs.Answers.{Reads};
-ghost use Rattle.entry_codec.specs.Reading.{entry_by, entry_of, entry_in, heard_of, held_in};
-ghost use Rattle.entry_codec.specs.Reading.{known_of, meant, moved_of, id_in, pair_in, step_of};
+ghost use Rattle.entry_codec.specs.Reading.{account_of, entry_by, entry_of, entry_in, heard_of};
+ghost use Rattle.entry_codec.specs.Reading.{held_in, known_of, meant, moved_of, id_in, pair_in};
+ghost use Rattle.entry_codec.specs.Reading.{step_of};
 ghost use Rattle.entry_codec.specs.declared.naming.Format.TheVariants as format_kind;
 
 use crate::front::Front;
 use crate::naming::{Format, Names, NoNames};
 use crate::stop::Stop;
-use crate::values::{read_def, read_level, read_message, read_out, read_session};
+use crate::values::{read_def, read_level, read_message, read_origin, read_out, read_session};
+use crate::values::{read_tried};
 use std::alloc::{AllocError, Global};
 use sync_ids::MessageId;
 use sync_rules::Entry;
@@ -118,6 +120,49 @@ fn read_heard<N: Names>(
     }
 }
 
+// What follows the tags 16 to 19, which format 1 has not. The message of the tag 19 is not held.
+fn read_account<N: Names>(
+    alloc: Global,
+    format: Format,
+    names: &N,
+    tag: u8,
+    front: &mut Front,
+) -> Result<Entry, Stop>
+    ensures { Reads (account_of format (held_in format (N.named names.now)) tag)
+        front.old.rest.now result front.new.rest.now }
+{
+    match format {
+        Format::Whole => Err(Stop::BadEntry),
+        Format::Short => read_stated(alloc, names, tag, front),
+    }
+}
+
+// The same in format 2.
+fn read_stated<N: Names>(
+    alloc: Global,
+    names: &N,
+    tag: u8,
+    front: &mut Front,
+) -> Result<Entry, Stop>
+    ensures { Reads
+        (account_of format_kind.Short (held_in format_kind.Short (N.named names.now)) tag)
+        front.old.rest.now result front.new.rest.now }
+{
+    match tag {
+        16 => Ok(Entry::Brief(front.read_u32()?)),
+        17 => {
+            let from = read_origin(front)?;
+            Ok(Entry::Kept(from, read_message(alloc, front)?))
+        }
+        18 => Ok(Entry::Tried(read_tried(Format::Short, names, front)?)),
+        19 => {
+            let contact = front.read_byte()?;
+            Ok(Entry::Want(contact, front.read_id()?))
+        }
+        _ => Err(Stop::BadEntry),
+    }
+}
+
 // An entry of this format. The message of the tag 12 is not held.
 #[tactic(auto, unfolding(crate::specs::Reading::entry_by))]
 pub(crate) fn read_tagged<N: Names>(
@@ -126,8 +171,8 @@ pub(crate) fn read_tagged<N: Names>(
     names: &N,
     front: &mut Front,
 ) -> Result<Entry, Stop>
-    ensures { Reads (entry_by (held_in format (N.named names.now))) front.old.rest.now result
-        front.new.rest.now }
+    ensures { Reads (entry_by format (held_in format (N.named names.now))) front.old.rest.now
+        result front.new.rest.now }
 {
     let tag = front.read_byte()?;
     match tag {
@@ -140,6 +185,7 @@ pub(crate) fn read_tagged<N: Names>(
         11 => read_heard(format, names, tag, front),
         13 => read_heard(format, names, tag, front),
         14 => read_heard(format, names, tag, front),
+        16..=19 => read_account(alloc, format, names, tag, front),
         _ => read_moved(alloc, format, names, tag, front),
     }
 }
@@ -163,7 +209,8 @@ fn read_found<N: Names>(
 }
 
 /// Reads the entry at the front of these bytes, in format 1. `BadEntry` comes exactly where no
-/// front of them is the spelling of an entry within its limits. It fails only for want of memory.
+/// front of them is the spelling of an entry within its limits; the kinds that stand in a brief
+/// account alone have none. It fails only for want of memory.
 pub fn read_entry(alloc: Global, bytes: &[u8]) -> Result<EntryFound, AllocError>
     ensures { IfOk result (λ found. IsRead bytes.now found) }
 {

@@ -2,9 +2,9 @@
 ghost use Rattle.std.specs.Prelude.{◌≡◌, ◌≤◌, length, IfOk};
 ghost use Rattle.std.specs.Str.{IsUtf8};
 ghost use Rattle.entry_codec.specs.Answers.{Reads, ReadsList, ReadsText};
-ghost use Rattle.entry_codec.specs.Reading.{def_in, held_in, ids_in, level_in, list_in};
-ghost use Rattle.entry_codec.specs.Reading.{message_in, mode_in, name_in, nonce_in, out_in};
-ghost use Rattle.entry_codec.specs.Reading.{session_in};
+ghost use Rattle.entry_codec.specs.Reading.{def_in, flags_in, held_in, ids_in, is_stated, level_in};
+ghost use Rattle.entry_codec.specs.Reading.{list_in, message_in, mode_in, name_in, nonce_in};
+ghost use Rattle.entry_codec.specs.Reading.{origin_in, out_in, session_in, tried_in};
 
 use crate::front::Front;
 use crate::naming::{Format, Names};
@@ -13,7 +13,7 @@ use std::alloc::Global;
 use sync_ids::{
     GroupDef, IdList, MAX_BODY, MAX_DESCRIPTOR, MAX_IDS, MAX_NAME, Message, MessageId, Nonce,
 };
-use sync_rules::{Level, Mode, Out, Session};
+use sync_rules::{Level, MAX_TRIES, Mode, Origin, Out, Session, Tried};
 
 #[tactic(auto, unfolding(crate::specs::Reading::name_in))]
 fn read_name<'a>(front: &mut Front<'a>) -> Result<&'a str, Stop>
@@ -162,5 +162,70 @@ pub(crate) fn read_out<N: Names>(
         2 => Ok(Out::Offers(read_ids(alloc, format, names, front)?)),
         3 => Ok(Out::Send(front.read_held(format, names)?)),
         _ => Err(Stop::BadEntry),
+    }
+}
+
+#[tactic(auto, unfolding(crate::specs::Reading::origin_in))]
+pub(crate) fn read_origin(front: &mut Front) -> Result<Origin, Stop>
+    ensures { Reads origin_in front.old.rest.now result front.new.rest.now }
+{
+    let flag = front.read_byte()?;
+    let contact = front.read_byte()?;
+    match flag {
+        0 if contact == 0 => Ok(Origin::Author),
+        1 => Ok(Origin::From(contact)),
+        _ => Err(Stop::BadEntry),
+    }
+}
+
+// The three flags of a row.
+#[tactic(auto, unfolding(crate::specs::Reading::flags_in))]
+fn read_flags(front: &mut Front) -> Result<(bool, bool, bool), Stop>
+    ensures { Reads flags_in front.old.rest.now result front.new.rest.now }
+{
+    let flags = front.read_byte()?;
+    if flags > 7 {
+        return Err(Stop::BadEntry);
+    }
+    Ok((flags % 2 == 1, flags / 2 % 2 == 1, flags / 4 == 1))
+}
+
+// Whether a row may be stated.
+fn is_stated(tried: &Tried) -> bool
+    ensures { result ≡ is_stated tried.now }
+{
+    let has_wait = tried.tries != 0 || tried.expiry == 0;
+    let is_empty = !tried.seen && !tried.owed && !tried.asked && tried.tries == 0;
+    tried.tries <= MAX_TRIES && has_wait && !is_empty
+}
+
+// What is kept of a message that is held.
+#[tactic(auto, unfolding(crate::specs::Reading::tried_in))]
+pub(crate) fn read_tried<N: Names>(
+    format: Format,
+    names: &N,
+    front: &mut Front,
+) -> Result<Tried, Stop>
+    ensures { Reads (tried_in (held_in format (N.named names.now))) front.old.rest.now result
+        front.new.rest.now }
+{
+    let contact = front.read_byte()?;
+    let id = front.read_held(format, names)?;
+    let (seen, owed, asked) = read_flags(front)?;
+    let tries = front.read_byte()?;
+    let expiry = front.read_u64()?;
+    let tried = Tried {
+        contact,
+        id,
+        seen,
+        owed,
+        asked,
+        tries,
+        expiry,
+    };
+    if is_stated(&tried) {
+        Ok(tried)
+    } else {
+        Err(Stop::BadEntry)
     }
 }

@@ -1,21 +1,25 @@
 //! Spelling an entry.
-ghost use Rattle.std.specs.Prelude.{◌≡◌, ◌+◌, ◌*◌, ◌++◌, ◌∷◌, ◌≤◌, [], length, true, OnOk, OnErr};
+ghost use Rattle.std.specs.Prelude.{◌≡◌, ◌+◌, ◌*◌, ◌++◌, ◌∷◌, ◌≤◌, [], List, ℕ, cond, length, true};
+ghost use Rattle.std.specs.Prelude.{OnOk, OnErr};
 ghost use Rattle.std.specs.Int.{w16, w32, w64, to_be_bytes};
 ghost use Rattle.std.specs.List.{AllByRecursion, flat_map};
 ghost use Rattle.entry_codec.specs.Naming.{IsNamed, held_bytes};
-ghost use Rattle.entry_codec.specs.Spelling.{AddsTo, EntryNames, HasLatency, IsDef, IsEntry};
-ghost use Rattle.entry_codec.specs.Spelling.{IsOut, IsSession, OutNames, Spells, SpellsIn};
-ghost use Rattle.entry_codec.specs.Spelling.{def_bytes, entry_bytes, ids_bytes, level_byte};
-ghost use Rattle.entry_codec.specs.Spelling.{message_bytes, mode_byte, out_bytes, session_bytes};
-ghost use Rattle.entry_codec.specs.Spelling.{spelling, spelling_in, whole};
+ghost use Rattle.entry_codec.specs.Spelling.{AddsTo, EntryNames, IsDef, IsEntry, IsOld};
+ghost use Rattle.entry_codec.specs.Spelling.{IsOrigin, IsOut, IsSession, IsStated, IsTried};
+ghost use Rattle.entry_codec.specs.Spelling.{MayBeWritten, OutNames, Spells, SpellsIn};
+ghost use Rattle.entry_codec.specs.Spelling.{def_bytes, entry_bytes, flags_byte, ids_bytes};
+ghost use Rattle.entry_codec.specs.Spelling.{level_byte, message_bytes, mode_byte, origin_bytes};
+ghost use Rattle.entry_codec.specs.Spelling.{out_bytes, session_bytes, spelling, spelling_in};
+ghost use Rattle.entry_codec.specs.Spelling.{tried_bytes, whole};
 ghost use Rattle.entry_codec.specs.declared.naming.Format.TheVariants as format_kind;
 ghost use Rattle.sync_ids.specs.Values.{AreIds, IsIdList, IsMessage};
 ghost use Rattle.sync_rules.specs.Lists.{is_among};
+ghost use Rattle.sync_rules.specs.declared.entries.Entry.TheVariants as entry_kind;
 
 use crate::naming::{Format, Names, NoNames, show_whole};
 use std::alloc::AllocError;
 use sync_ids::{GroupDef, GroupId, IdList, MAX_IDS, Message, MessageId};
-use sync_rules::{Entry, Level, Mode, Out, Session};
+use sync_rules::{Entry, Level, Mode, Origin, Out, Session, Tried};
 
 fn level_byte(level: Level) -> u8
     ensures { result ≡ level_byte level }
@@ -50,6 +54,15 @@ fn append_def(def: &GroupDef, to: &mut Vec<u8>) -> Result<(), AllocError>
     to.extend_from_slice(descriptor)
 }
 
+fn append_group(def: &GroupDef, to: &mut Vec<u8>) -> Result<(), AllocError>
+    ensures ok { OnOk result (to.new.items ≡ to.old.items ++ (2 ∷ def_bytes def.now)) }
+    ensures within { OnOk result (IsDef def.now) }
+    ensures err { OnErr result (AddsTo to.old.items to.new.items) }
+{
+    to.push(2)?;
+    append_def(def, to)
+}
+
 fn append_message(message: &Message, to: &mut Vec<u8>) -> Result<(), AllocError>
     ensures ok { OnOk result (to.new.items ≡ to.old.items ++ message_bytes message.now) }
     ensures within { IsMessage message.now }
@@ -78,6 +91,30 @@ fn append_session(session: &Session, to: &mut Vec<u8>) -> Result<(), AllocError>
             to.extend_from_slice(nonce.as_bytes())
         }
     }
+}
+
+fn append_origin(from: Origin, to: &mut Vec<u8>) -> Result<(), AllocError>
+    ensures ok { OnOk result (to.new.items ≡ to.old.items ++ origin_bytes from) }
+    ensures within { IsOrigin from }
+    ensures err { OnErr result (AddsTo to.old.items to.new.items) }
+{
+    match from {
+        Origin::Author => to.extend_from_slice(&[0, 0]),
+        Origin::From(contact) => to.extend_from_slice(&[1, contact]),
+    }
+}
+
+// What a flag adds.
+fn flag_weight(flag: bool, weight: u8) -> u8
+    ensures { result ≡ cond flag weight 0 }
+{
+    if flag { weight } else { 0 }
+}
+
+fn flags_byte(tried: &Tried) -> u8
+    ensures { result ≡ flags_byte tried.now.seen tried.now.owed tried.now.asked }
+{
+    flag_weight(tried.seen, 1) + (flag_weight(tried.owed, 2) + flag_weight(tried.asked, 4))
 }
 
 // The id of a message that is held, as the format names it.
@@ -285,6 +322,53 @@ fn append_offered(session: u32, id: &MessageId, to: &mut Vec<u8>) -> Result<(), 
     append_pair(Format::Whole, &NoNames, 12, session, id, to)
 }
 
+fn append_brief(number: u32, to: &mut Vec<u8>) -> Result<(), AllocError>
+    ensures ok { OnOk result (to.new.items ≡ to.old.items ++ (16 ∷ to_be_bytes w32 number)) }
+    ensures err { OnErr result (AddsTo to.old.items to.new.items) }
+{
+    append_number(16, number, to)
+}
+
+fn append_kept(from: Origin, message: &Message, to: &mut Vec<u8>) -> Result<(), AllocError>
+    ensures ok { OnOk result (to.new.items
+        ≡ to.old.items ++ (17 ∷ (origin_bytes from ++ message_bytes message.now))) }
+    ensures within { OnOk result (IsEntry (entry_kind.Kept from message.now)) }
+    ensures err { OnErr result (AddsTo to.old.items to.new.items) }
+{
+    to.push(17)?;
+    append_origin(from, to)?;
+    append_message(message, to)
+}
+
+fn append_tried<N: Names>(
+    format: Format,
+    names: &N,
+    tried: &Tried,
+    to: &mut Vec<u8>,
+) -> Result<(), AllocError>
+    requires stated { IsStated tried.now }
+    requires named { IsNamed format (N.named names.now) tried.now.id }
+    ensures ok { OnOk result (to.new.items ≡ to.old.items
+        ++ (18 ∷ tried_bytes (held_bytes format (N.named names.now)) tried.now)) }
+    ensures within { OnOk result (IsTried tried.now) }
+    ensures err { OnErr result (AddsTo to.old.items to.new.items) }
+{
+    to.extend_from_slice(&[18, tried.contact])?;
+    append_held(format, names, &tried.id, to)?;
+    to.extend_from_slice(&[flags_byte(tried), tried.tries])?;
+    to.extend_from_slice(&tried.expiry.to_be_bytes())
+}
+
+// A message that is wanted is not held.
+fn append_want(contact: u8, id: &MessageId, to: &mut Vec<u8>) -> Result<(), AllocError>
+    ensures ok { OnOk result (to.new.items ≡ to.old.items ++ (19 ∷ contact ∷ whole id.now)) }
+    ensures within { OnOk result (length id.now ≡ 32) }
+    ensures err { OnErr result (AddsTo to.old.items to.new.items) }
+{
+    to.extend_from_slice(&[19, contact])?;
+    to.extend_from_slice(id.as_bytes())
+}
+
 // After want of memory a part of the spelling may stand.
 fn append_tagged<N: Names>(
     format: Format,
@@ -292,7 +376,7 @@ fn append_tagged<N: Names>(
     entry: &Entry,
     to: &mut Vec<u8>,
 ) -> Result<(), AllocError>
-    requires latency { HasLatency entry.now }
+    requires written { MayBeWritten entry.now }
     requires named { EntryNames (IsNamed format (N.named names.now)) entry.now }
     ensures ok { OnOk result (to.new.items
         ≡ to.old.items ++ entry_bytes (held_bytes format (N.named names.now)) entry.now) }
@@ -301,10 +385,7 @@ fn append_tagged<N: Names>(
 {
     match entry {
         Entry::Contact(contact) => to.extend_from_slice(&[1, *contact]),
-        Entry::Group(def) => {
-            to.push(2)?;
-            append_def(def, to)
-        }
+        Entry::Group(def) => append_group(def, to),
         Entry::Level(contact, group, level) => append_level(*contact, group, *level, to),
         Entry::Session(session) => {
             to.push(4)?;
@@ -324,6 +405,10 @@ fn append_tagged<N: Names>(
         Entry::Seen(session, id) => append_pair(format, names, 13, *session, id, to),
         Entry::Asked(session, id) => append_pair(format, names, 14, *session, id, to),
         Entry::Out(session, now, what) => append_sent(format, names, *session, *now, what, to),
+        Entry::Brief(number) => append_brief(*number, to),
+        Entry::Kept(from, message) => append_kept(*from, message, to),
+        Entry::Tried(tried) => append_tried(format, names, tried, to),
+        Entry::Want(contact, id) => append_want(*contact, id, to),
     }
 }
 
@@ -336,7 +421,7 @@ pub(crate) fn append_entry<N: Names>(
     entry: &Entry,
     to: &mut Vec<u8>,
 ) -> Result<(), AllocError>
-    requires latency { HasLatency entry.now }
+    requires written { MayBeWritten entry.now }
     requires named { EntryNames (IsNamed format (N.named names.now)) entry.now }
     ensures ok { OnOk result
         (to.new.items ≡ to.old.items ++ spelling_in format (N.named names.now) entry.now) }
@@ -351,10 +436,12 @@ pub(crate) fn append_entry<N: Names>(
     appended
 }
 
-/// Appends the one spelling of an entry in format 1. A session's latency is at least 1. It fails
-/// only for want of memory, and then leaves the bytes as they were.
+/// Appends the one spelling of an entry in format 1, which spells all kinds but the four that stand
+/// in a brief account alone. A session's latency is at least 1. It fails only for want of memory,
+/// and then leaves the bytes as they were.
 pub fn write_entry(entry: &Entry, to: &mut Vec<u8>) -> Result<(), AllocError>
-    requires { HasLatency entry.now }
+    requires written { MayBeWritten entry.now }
+    requires old { IsOld entry.now }
     ensures ok { OnOk result (to.new.items ≡ to.old.items ++ spelling entry.now) }
     ensures spells { OnOk result (Spells entry.now (spelling entry.now)) }
     ensures err { OnErr result (to.new.items ≡ to.old.items) }
@@ -363,10 +450,11 @@ pub fn write_entry(entry: &Entry, to: &mut Vec<u8>) -> Result<(), AllocError>
 }
 
 /// Appends the one spelling of an entry in format 2, where these are the names of the messages
-/// held. A session's latency is at least 1, and each message that the entry names as held has a
-/// name. It fails only for want of memory, and then leaves the bytes as they were.
+/// held. A session's latency is at least 1; a row has at most `MAX_TRIES` tries, no expiry without
+/// a try, and is not empty; and each message that the entry names as held has a name. It fails only
+/// for want of memory, and then leaves the bytes as they were.
 pub fn write_short<N: Names>(entry: &Entry, names: &N, to: &mut Vec<u8>) -> Result<(), AllocError>
-    requires latency { HasLatency entry.now }
+    requires written { MayBeWritten entry.now }
     requires named { EntryNames (λ id. is_among (N.named names.now) id ≡ true) entry.now }
     ensures ok { OnOk result (to.new.items
         ≡ to.old.items ++ spelling_in format_kind.Short (N.named names.now) entry.now) }
@@ -375,4 +463,36 @@ pub fn write_short<N: Names>(entry: &Entry, names: &N, to: &mut Vec<u8>) -> Resu
     ensures err { OnErr result (to.new.items ≡ to.old.items) }
 {
     append_entry(Format::Short, names, entry, to)
+}
+
+/// Appends the spelling in format 2 of the entry that a group of this definition was added,
+/// whatever the names. It fails only for want of memory, and then leaves the bytes as they were.
+pub fn write_group(def: &GroupDef, to: &mut Vec<u8>) -> Result<(), AllocError>
+    ensures ok { (names : List (List ℕ)) → OnOk result (to.new.items
+        ≡ to.old.items ++ spelling_in format_kind.Short names (entry_kind.Group def.now)) }
+    ensures within { OnOk result (IsEntry (entry_kind.Group def.now)) }
+    ensures err { OnErr result (to.new.items ≡ to.old.items) }
+{
+    let len = to.len();
+    let appended = append_group(def, to);
+    if appended.is_err() {
+        to.truncate(len);
+    }
+    appended
+}
+
+/// Appends the spelling in format 2 of the entry that this message is held, from there, whatever
+/// the names. It fails only for want of memory, and then leaves the bytes as they were.
+pub fn write_kept(from: Origin, message: &Message, to: &mut Vec<u8>) -> Result<(), AllocError>
+    ensures ok { (names : List (List ℕ)) → OnOk result (to.new.items
+        ≡ to.old.items ++ spelling_in format_kind.Short names (entry_kind.Kept from message.now)) }
+    ensures within { OnOk result (IsEntry (entry_kind.Kept from message.now)) }
+    ensures err { OnErr result (to.new.items ≡ to.old.items) }
+{
+    let len = to.len();
+    let appended = append_kept(from, message, to);
+    if appended.is_err() {
+        to.truncate(len);
+    }
+    appended
 }
