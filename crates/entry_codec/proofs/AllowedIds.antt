@@ -26,7 +26,7 @@ use Rattle.sync_rules.specs.Facts.{Facts, Held, after, contact_of, held_at, is_i
 use Rattle.sync_rules.specs.Steps.{answer_of, first_or_next, first_step, is_ended, is_failing, is_served, step, step_accepted, step_by, step_open}
 use Rattle.sync_rules.specs.Sessions.{acks_due, due_by, first_id, ids_where, is_remembered, is_ripe, is_sendable, is_shown, is_shown_held, is_welcome, offers_due, offers_of, one_if, out_or, owed_to, requests_due, room_after, send_due, send_of, shared_ids, taken_acks, taken_from, taken_message, taken_message_of, taken_offers, taken_requests, wanted_of}
 use Rattle.sync_rules.proofs.Outputs.{out_or-cases}
-use Rattle.sync_rules.specs.Legal.{Allowed, IsDue, IsSettling}
+use Rattle.sync_rules.specs.Legal.{Allowed, AreRows, IsDue, IsSettling}
 use Rattle.entry_codec.specs.Spelling.{EntryNames, OutNames}
 use Rattle.entry_codec.proofs.OfBatches.{OfSteps, settling_all}
 
@@ -226,6 +226,14 @@ out_named : (clients : Meaning) (f : Facts) (o : Option Session) (now : ℕ) (wh
 out_named clients f None now what due = absurd due
 out_named clients f (Some x) now what due = due_named f (shared_ids clients f) x now what due
 
+-- ---- rows and wanted ids
+
+rows_named : (f : Facts) (es : List Entry) → AreRows f es → NameHeld f.held es
+rows_named f [] is = tt
+rows_named f (entry.Tried t ∷ es) is = (held_named f.held t.id is.0.held, rows_named (after f (entry.Tried t)) es is.1)
+rows_named f (entry.Want contact id ∷ es) is = (tt, rows_named (after f (entry.Want contact id)) es is.1)
+rows_named f (_ ∷ es) is = absurd is.0
+
 -- ---- batches
 
 alone : (f : Facts) (e : Entry) (rest : List Entry) → rest ≡ [] → EntryNames (IsOfHeld f.held) e → NameHeld f.held (e ∷ rest)
@@ -250,3 +258,7 @@ names_held clients f (entry.Seen s id ∷ rest) is = absurd is
 names_held clients f (entry.Asked s id ∷ rest) is = absurd is
 names_held clients f (entry.Out s now what ∷ rest) is =
     alone f (entry.Out s now what) rest is.0 (out_named clients f (session_at f.sessions s) now what is.2)
+names_held clients f (entry.Brief n ∷ rest) is = alone f (entry.Brief n) rest is.0 tt
+names_held clients f (entry.Kept from m ∷ rest) is = alone f (entry.Kept from m) rest is.0 tt
+names_held clients f (entry.Tried t ∷ rest) is = rows_named f (entry.Tried t ∷ rest) is.suits
+names_held clients f (entry.Want contact id ∷ rest) is = rows_named f (entry.Want contact id ∷ rest) is.suits

@@ -7,10 +7,11 @@ use Rattle.std.proofs.lemmas.List.{append-nil}
 use Rattle.sync_rules.specs.declared.entries.Entry.{Entry}
 use Rattle.entry_codec.specs.declared.naming.Format.{Format}
 use Rattle.entry_codec.specs.Naming.{AreNames, IsNamed}
-use Rattle.entry_codec.specs.Spelling.{EntryNames, IsEntry, spelling_in}
+use Rattle.entry_codec.specs.Spelling.{EntryNames, IsEntry, IsOfFormat, spelling_in}
 use Rattle.entry_codec.specs.Reading.{byte_in, entry_by, held_in}
 use Rattle.entry_codec.specs.Payloads.{batch_in, entries_in, followed, put_before, spellings}
 use Rattle.entry_codec.proofs.Bounds.{spelled_some}
+use Rattle.entry_codec.proofs.Kinds.{kind_read}
 use Rattle.entry_codec.proofs.LawProofs.{reads}
 use Rattle.entry_codec.proofs.Readers.{IsBytes, IsBytes-rest}
 
@@ -18,7 +19,7 @@ use Rattle.entry_codec.proofs.Readers.{IsBytes, IsBytes-rest}
 
 -- an entry that can be written in a format, where these are the ids held
 abbrev pub IsWritten : Format → List (List ℕ) → Entry → Type 0
-IsWritten f names e = IsEntry e × EntryNames (IsNamed f names) e
+IsWritten f names e = IsEntry e × EntryNames (IsNamed f names) e × IsOfFormat f e
 
 -- bytes that spell these entries
 pub record AreSpelled (f : Format) (names : List (List ℕ)) (bytes : List ℕ) (batch : List Entry) : Type 0 where
@@ -58,22 +59,44 @@ put_push es e (Some others) = ap (λ (l : List Entry). Some l) (sym (append_asso
 whole_some : (bytes front rest : List ℕ) → bytes ≡ front ++ rest → 1 ≤ length rest → 1 ≤ length bytes
 whole_some bytes front rest split some = omega (arith, ap length split, length-append front rest)
 
--- what holds of entries in two ways
-pub both_all : (P Q : Entry → Type 0) (batch : List Entry) → AllByRecursion P batch → AllByRecursion Q batch → AllByRecursion (λ e. P e × Q e) batch
-both_all P Q [] p q = tt
-both_all P Q (e ∷ es) p q = ((p.0, q.0), both_all P Q es p.1 q.1)
+-- what can be written, part by part
+pub written_by : (f : Format) (names : List (List ℕ)) (batch : List Entry) → AllByRecursion IsEntry batch → AllByRecursion (EntryNames (IsNamed f names)) batch
+    → AllByRecursion (IsOfFormat f) batch → AllByRecursion (IsWritten f names) batch
+written_by f names [] within named kinds = tt
+written_by f names (e ∷ es) within named kinds = ((within.0, named.0, kinds.0), written_by f names es within.1 named.1 kinds.1)
 
-pub first_all : (P Q : Entry → Type 0) (batch : List Entry) → AllByRecursion (λ e. P e × Q e) batch → AllByRecursion P batch
-first_all P Q [] all = tt
-first_all P Q (e ∷ es) all = (all.0.0, first_all P Q es all.1)
+pub written_within : (f : Format) (names : List (List ℕ)) (batch : List Entry) → AllByRecursion (IsWritten f names) batch → AllByRecursion IsEntry batch
+written_within f names [] all = tt
+written_within f names (e ∷ es) all = (all.0.0, written_within f names es all.1)
 
-pub second_all : (P Q : Entry → Type 0) (batch : List Entry) → AllByRecursion (λ e. P e × Q e) batch → AllByRecursion Q batch
-second_all P Q [] all = tt
-second_all P Q (e ∷ es) all = (all.0.1, second_all P Q es all.1)
+pub written_named : (f : Format) (names : List (List ℕ)) (batch : List Entry) → AllByRecursion (IsWritten f names) batch → AllByRecursion (EntryNames (IsNamed f names)) batch
+written_named f names [] all = tt
+written_named f names (e ∷ es) all = (all.0.1, written_named f names es all.1)
+
+pub written_kinds : (f : Format) (names : List (List ℕ)) (batch : List Entry) → AllByRecursion (IsWritten f names) batch → AllByRecursion (IsOfFormat f) batch
+written_kinds f names [] all = tt
+written_kinds f names (e ∷ es) all = (all.0.2, written_kinds f names es all.1)
+
+-- ---- the kinds of a batch that is read
+
+entries_kinds : (f : Format) (names : List (List ℕ)) (n : ℕ) (bytes : List ℕ) (batch : List Entry) → entries_in f names n bytes ≡ Some batch → AllByRecursion (IsOfFormat f) batch
+unfolding entries_in
+entries_kinds f names zero [] batch h = let none : [] ≡ batch = cc in subst (AllByRecursion (IsOfFormat f)) none tt
+entries_kinds f names (suc n) [] batch h = let none : [] ≡ batch = cc in subst (AllByRecursion (IsOfFormat f)) none tt
+entries_kinds f names zero (x ∷ bytes) batch h = absurd cc
+entries_kinds f names (suc n) (x ∷ bytes) batch h =
+    let p = followed_some (entries_in f names n) (entry_by f (held_in f names) (x ∷ bytes)) batch h in
+    subst (AllByRecursion (IsOfFormat f)) p.5 (kind_read f (held_in f names) (x ∷ bytes) p.1 p.0 p.3, entries_kinds f names n p.1 p.2 p.4)
+
+-- they are those that the format has
+pub batch_kinds : (f : Format) (names : List (List ℕ)) (bytes : List ℕ) (batch : List Entry) → batch_in f names bytes ≡ Some batch → AllByRecursion (IsOfFormat f) batch
+unfolding batch_in
+batch_kinds f names [] batch h = absurd cc
+batch_kinds f names (x ∷ bytes) batch h = entries_kinds f names (length (x ∷ bytes)) (x ∷ bytes) batch h
 
 module _ (f : Format) (names : List (List ℕ)) (are : AreNames names) where
   -- nothing begins with an entry
-  none_empty : (e : Entry) (rest : List ℕ) → entry_by (held_in f names) [] ≡ Some (e, rest) → ⊥
+  none_empty : (e : Entry) (rest : List ℕ) → entry_by f (held_in f names) [] ≡ Some (e, rest) → ⊥
   unfolding entry_by byte_in
   none_empty e rest h = cc
 
@@ -83,14 +106,14 @@ module _ (f : Format) (names : List (List ℕ)) (are : AreNames names) where
   entries_none (suc n) = refl
 
   -- an entry is read
-  entries_one : (n : ℕ) (bytes rest : List ℕ) (e : Entry) → entry_by (held_in f names) bytes ≡ Some (e, rest)
+  entries_one : (n : ℕ) (bytes rest : List ℕ) (e : Entry) → entry_by f (held_in f names) bytes ≡ Some (e, rest)
       → entries_in f names (suc n) bytes ≡ put_before e (entries_in f names n rest)
   unfolding entries_in
   entries_one n [] rest e read = absurd (none_empty e rest read)
   entries_one n (x ∷ bytes) rest e read = ap (followed (entries_in f names n)) read
 
   -- no entry is read
-  entries_bad : (n : ℕ) (bytes : List ℕ) → 1 ≤ length bytes → entry_by (held_in f names) bytes ≡ None → entries_in f names n bytes ≡ None
+  entries_bad : (n : ℕ) (bytes : List ℕ) → 1 ≤ length bytes → entry_by f (held_in f names) bytes ≡ None → entries_in f names n bytes ≡ None
   unfolding entries_in
   entries_bad n [] some read = absurd (omega arith)
   entries_bad zero (x ∷ bytes) some read = refl
@@ -98,7 +121,7 @@ module _ (f : Format) (names : List (List ℕ)) (are : AreNames names) where
 
   -- ---- what is written is read
 
-  entry_back : (e : Entry) (more : List ℕ) → IsWritten f names e → entry_by (held_in f names) (spelling_in f names e ++ more) ≡ Some (e, more)
+  entry_back : (e : Entry) (more : List ℕ) → IsWritten f names e → entry_by f (held_in f names) (spelling_in f names e ++ more) ≡ Some (e, more)
   unfolding spelling_in
   entry_back e more is = (reads f names are).back e more is
 
@@ -125,7 +148,7 @@ module _ (f : Format) (names : List (List ℕ)) (are : AreNames names) where
 
   -- ---- what is read was written
 
-  entry_found : (bytes rest : List ℕ) (e : Entry) → IsBytes bytes → entry_by (held_in f names) bytes ≡ Some (e, rest)
+  entry_found : (bytes rest : List ℕ) (e : Entry) → IsBytes bytes → entry_by f (held_in f names) bytes ≡ Some (e, rest)
       → IsWritten f names e × (bytes ≡ spelling_in f names e ++ rest)
   unfolding spelling_in
   entry_found bytes rest e fits h = (reads f names are).sound bytes rest e fits h
@@ -140,7 +163,7 @@ module _ (f : Format) (names : List (List ℕ)) (are : AreNames names) where
       subst (λ (b : List Entry). AreSpelled f names [] b) none (record { is = refl; written = tt })
   entries_spelled zero (x ∷ bytes) batch fits h = absurd cc
   entries_spelled (suc n) (x ∷ bytes) batch fits h =
-      let p = followed_some (entries_in f names n) (entry_by (held_in f names) (x ∷ bytes)) batch h in
+      let p = followed_some (entries_in f names n) (entry_by f (held_in f names) (x ∷ bytes)) batch h in
       let found = entry_found (x ∷ bytes) p.1 p.0 fits p.3 in
       let behind = entries_spelled n p.1 p.2 (IsBytes-rest (x ∷ bytes) (spelling_in f names p.0) p.1 found.1 fits) p.4 in
       let all : AreSpelled f names (x ∷ bytes) (p.0 ∷ p.2) = record {
@@ -161,7 +184,7 @@ module _ (f : Format) (names : List (List ℕ)) (are : AreNames names) where
 
   -- the rest is shorter
   pub rest_shorter : (bytes rest left : List ℕ) (entries : List Entry) (e : Entry) → IsBytes bytes → InBatch f names bytes rest entries
-      → entry_by (held_in f names) rest ≡ Some (e, left) → length left < length rest
+      → entry_by f (held_in f names) rest ≡ Some (e, left) → length left < length rest
   rest_shorter bytes rest left entries e fits read h =
       let found = entry_found rest left e (IsBytes-rest bytes read.front rest read.split fits) h in
       omega (arith, spelled_some f names e found.0.0, ap length found.1, length-append (spelling_in f names e) left)
@@ -169,7 +192,7 @@ module _ (f : Format) (names : List (List ℕ)) (are : AreNames names) where
   in_push : (bytes rest left : List ℕ) (entries : List Entry) (e : Entry) (more : ℕ) (front : List ℕ)
       → entries_in f names (length bytes) bytes ≡ put_all entries (entries_in f names more rest)
       → length left < length rest → length rest ≤ more → bytes ≡ front ++ rest → rest ≡ spelling_in f names e ++ left
-      → entry_by (held_in f names) rest ≡ Some (e, left) → InBatch f names bytes left (entries ++ e ∷ [])
+      → entry_by f (held_in f names) rest ≡ Some (e, left) → InBatch f names bytes left (entries ++ e ∷ [])
   in_push bytes rest left entries e zero front answer shorter enough split found h = absurd (omega arith)
   in_push bytes rest left entries e (suc more) front answer shorter enough split found h = record {
     more = more;
@@ -181,13 +204,13 @@ module _ (f : Format) (names : List (List ℕ)) (are : AreNames names) where
 
   -- one entry more
   pub in_more : (bytes rest left : List ℕ) (entries : List Entry) (e : Entry) → IsBytes bytes → InBatch f names bytes rest entries
-      → entry_by (held_in f names) rest ≡ Some (e, left) → InBatch f names bytes left (entries ++ e ∷ [])
+      → entry_by f (held_in f names) rest ≡ Some (e, left) → InBatch f names bytes left (entries ++ e ∷ [])
   in_more bytes rest left entries e fits read h =
       in_push bytes rest left entries e read.more read.front read.answer (rest_shorter bytes rest left entries e fits read h) read.enough read.split
       (entry_found rest left e (IsBytes-rest bytes read.front rest read.split fits) h).1 h
 
   -- no entry is there: the bytes are no batch
-  pub in_bad : (bytes rest : List ℕ) (entries : List Entry) → InBatch f names bytes rest entries → 1 ≤ length rest → entry_by (held_in f names) rest ≡ None
+  pub in_bad : (bytes rest : List ℕ) (entries : List Entry) → InBatch f names bytes rest entries → 1 ≤ length rest → entry_by f (held_in f names) rest ≡ None
       → batch_in f names bytes ≡ None
   in_bad bytes rest entries read some h =
       batch_is bytes (whole_some bytes read.front rest read.split some) ∙ read.answer ∙ ap (put_all entries) (entries_bad read.more rest some h)

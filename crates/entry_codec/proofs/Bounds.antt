@@ -9,17 +9,34 @@ use Rattle.sync_rules.specs.declared.entries.Entry.{Entry}
 use Rattle.sync_rules.specs.declared.entries.Entry.TheVariants as entry
 use Rattle.sync_rules.specs.declared.entries.Out.{Out}
 use Rattle.sync_rules.specs.declared.entries.Out.TheVariants as out
+use Rattle.sync_rules.specs.declared.entries.Tried.{Tried}
+use Rattle.sync_rules.specs.declared.states.Origin.{Origin}
+use Rattle.sync_rules.specs.declared.states.Origin.TheVariants as origin
 use Rattle.entry_codec.specs.declared.lengths.TheConstants.{MAX_SPELLING}
 use Rattle.entry_codec.specs.declared.naming.Format.{Format}
 use Rattle.entry_codec.specs.declared.naming.Format.TheVariants as format
 use Rattle.entry_codec.specs.Naming.{held_bytes, number_or, place_in}
-use Rattle.entry_codec.specs.Spelling.{EntryNames, IsEntry, IsId, IsNonce, IsOut, OutNames, counted, def_bytes, ids_bytes, message_bytes, named_count, nonce_bytes, out_bytes, out_count, spelling, spelling_in, whole}
+use Rattle.entry_codec.specs.Spelling.{EntryNames, IsEntry, IsId, IsNonce, IsOut, OutNames, counted, def_bytes, flags_byte, ids_bytes, message_bytes, named_count, nonce_bytes, origin_bytes, out_bytes, out_count, spelling, spelling_in, tried_bytes, whole}
 
 pub length_def : (d : GroupValue) → length (def_bytes d) ≡ 7 + length d.name + length d.descriptor
 length_def d = omega (arith, length-append d.name (to_be_bytes w32 d.major ++ counted d.descriptor))
 
 pub length_message : (m : MessageValue) → IsMessage m → length (message_bytes m) ≡ 42 + length m.body
 length_message m is = omega (arith, is.whole_group, length-append m.group (to_be_bytes w64 m.timestamp ++ counted m.body))
+
+length_origin : (from : Origin) → length (origin_bytes from) ≡ 2
+length_origin origin.Author = refl
+length_origin (origin.From contact) = refl
+
+pub length_kept : (from : Origin) (m : MessageValue) → IsMessage m → length (origin_bytes from ++ message_bytes m) ≡ 44 + length m.body
+length_kept from m is = omega (arith, length-append (origin_bytes from) (message_bytes m), length_origin from, length_message m is)
+
+-- what stands behind the id of a row
+abbrev row_bytes : Tried → List ℕ
+row_bytes t = flags_byte t.seen t.owed t.asked ∷ t.tries ∷ to_be_bytes w64 t.expiry
+
+pub length_tried : (t : Tried) → IsId t.id → length (tried_bytes whole t) ≡ 43
+length_tried t is = omega (arith, is, length-append t.id (row_bytes t))
 
 length_ids : (ids : List (List ℕ)) → AreIds ids → length (flat_map whole ids) ≡ 32 * length ids
 length_ids [] all = refl
@@ -55,6 +72,10 @@ most_of (entry.Offered s id) = 37
 most_of (entry.Seen s id) = 37
 most_of (entry.Asked s id) = 37
 most_of (entry.Out s now what) = MAX_SPELLING
+most_of (entry.Brief n) = 5
+most_of (entry.Kept from m) = 32813
+most_of (entry.Tried t) = 44
+most_of (entry.Want contact id) = 34
 
 pub length_within : (e : Entry) → IsEntry e → (2 ≤ length (spelling e)) × (length (spelling e) ≤ most_of e)
 unfolding spelling
@@ -73,6 +94,10 @@ length_within (entry.Offered s id) is = (omega (arith, is.1), omega (arith, is.1
 length_within (entry.Seen s id) is = (omega (arith, is.1), omega (arith, is.1))
 length_within (entry.Asked s id) is = (omega (arith, is.1), omega (arith, is.1))
 length_within (entry.Out s now what) is = (omega arith, omega (arith, out_short what is.2))
+length_within (entry.Brief n) is = (omega arith, omega arith)
+length_within (entry.Kept from m) is = let len = length_kept from m is.1 in (omega (arith, len), omega (arith, len, is.1.short_body))
+length_within (entry.Tried t) is = let len = length_tried t is.whole_id in (omega (arith, len), omega (arith, len))
+length_within (entry.Want contact id) is = (omega (arith, is.1), omega (arith, is.1))
 
 most_below : (e : Entry) → most_of e ≤ MAX_SPELLING
 most_below (entry.Contact c) = omega arith
@@ -90,6 +115,10 @@ most_below (entry.Offered s id) = omega arith
 most_below (entry.Seen s id) = omega arith
 most_below (entry.Asked s id) = omega arith
 most_below (entry.Out s now what) = omega arith
+most_below (entry.Brief n) = omega arith
+most_below (entry.Kept from m) = omega arith
+most_below (entry.Tried t) = omega arith
+most_below (entry.Want contact id) = omega arith
 
 pub short : (e : Entry) → IsEntry e → (2 ≤ length (spelling e)) × (length (spelling e) ≤ MAX_SPELLING)
 short e is = let within = length_within e is in (within.0, omega (arith, within.1, most_below e))
@@ -119,6 +148,10 @@ ids_whole (entry.Offered s id) is = tt
 ids_whole (entry.Seen s id) is = is.1
 ids_whole (entry.Asked s id) is = is.1
 ids_whole (entry.Out s now what) is = out_whole what is.2
+ids_whole (entry.Brief n) is = tt
+ids_whole (entry.Kept from m) is = tt
+ids_whole (entry.Tried t) is = is.whole_id
+ids_whole (entry.Want contact id) is = tt
 
 short_ids : (names ids : List (List ℕ)) → length (flat_map (held_bytes format.Short names) ids) ≡ 4 * length ids
 short_ids names [] = refl
@@ -149,6 +182,10 @@ saved names (entry.Offered s id) is = omega arith
 saved names (entry.Seen s id) is = omega (arith, is)
 saved names (entry.Asked s id) is = omega (arith, is)
 saved names (entry.Out s now what) is = omega (arith, saved_out names what is)
+saved names (entry.Brief n) is = omega arith
+saved names (entry.Kept from m) is = omega arith
+saved names (entry.Tried t) is = omega (arith, is, length-append t.id (row_bytes t))
+saved names (entry.Want contact id) is = omega arith
 
 pub short_some : (names : List (List ℕ)) (e : Entry) → 2 ≤ length (spelling_in format.Short names e)
 unfolding spelling_in
@@ -167,6 +204,10 @@ short_some names (entry.Offered s id) = omega arith
 short_some names (entry.Seen s id) = omega arith
 short_some names (entry.Asked s id) = omega arith
 short_some names (entry.Out s now what) = omega arith
+short_some names (entry.Brief n) = omega arith
+short_some names (entry.Kept from m) = omega (arith, length-append (origin_bytes from) (message_bytes m), length_origin from)
+short_some names (entry.Tried t) = omega arith
+short_some names (entry.Want contact id) = omega arith
 
 -- how long a spelling is does not depend on the names
 same_out : (names : List (List ℕ)) (o : Out) → length (out_bytes (held_bytes format.Short names) o) ≡ length (out_bytes (held_bytes format.Short []) o)
@@ -192,6 +233,10 @@ same_short names (entry.Offered s id) = refl
 same_short names (entry.Seen s id) = refl
 same_short names (entry.Asked s id) = refl
 same_short names (entry.Out s now what) = omega (arith, same_out names what)
+same_short names (entry.Brief n) = refl
+same_short names (entry.Kept from m) = refl
+same_short names (entry.Tried t) = refl
+same_short names (entry.Want contact id) = refl
 
 -- a spelling has two bytes or more
 pub spelled_some : (f : Format) (names : List (List ℕ)) (e : Entry) → IsEntry e → 2 ≤ length (spelling_in f names e)

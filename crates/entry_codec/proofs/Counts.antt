@@ -1,4 +1,4 @@
--- A batch that may follow a journal adds one message at most, and one session at most.
+-- A batch that may follow a journal adds one message at most, and one session at most to the list of those that began.
 use Rattle.std.proofs.Common.{◌≡◌, ℕ, ◌+◌, ◌≤◌, Bool, true, false, cond, List, [], ◌∷◌, length, sym, subst, refl, arith, length-append}
 use Rattle.std.specs.Prelude.{Option, Some, None, not}
 use Rattle.std.specs.List.{AllByRecursion}
@@ -10,23 +10,24 @@ use Rattle.sync_rules.specs.declared.entries.Entry.{Entry}
 use Rattle.sync_rules.specs.declared.entries.Entry.TheVariants as entry
 use Rattle.sync_rules.specs.Clients.{Meaning}
 use Rattle.sync_rules.specs.Lists.{firsts}
-use Rattle.sync_rules.specs.Facts.{Facts, Held, after, after_all, arrived, authored, contact_of, held_at, is_invisible, level_at}
+use Rattle.sync_rules.specs.Facts.{Facts, Held, after, after_all, arrived, authored, contact_of, held_at, is_invisible, kept_as, level_at}
 use Rattle.sync_rules.specs.Sessions.{is_welcome, one_if, taken_from, taken_message, taken_message_of}
-use Rattle.sync_rules.specs.Legal.{Allowed}
-use Rattle.entry_codec.proofs.OfBatches.{OfSteps, acks_all, offers_all, requests_all, settling_all}
+use Rattle.sync_rules.specs.Legal.{Allowed, AreRows}
+use Rattle.entry_codec.proofs.OfBatches.{OfSteps, acks_all, offers_all, requests_all, rows_all, settling_all}
 
 -- how many messages and sessions an entry adds
 abbrev adds : Entry → ℕ
 adds (entry.Session s) = 1
 adds (entry.Author m) = 1
 adds (entry.Arrive s m) = 1
+adds (entry.Kept from m) = 1
 adds _ = 0
 
 abbrev adds_all : List Entry → ℕ
 adds_all [] = 0
 adds_all (e ∷ es) = adds e + adds_all es
 
--- the counts of messages and of sessions after an entry
+-- the counts of messages and of listed sessions after an entry
 held_after : (f : Facts) (e : Entry) → length (after f e).held ≤ length f.held + adds e
 held_after f (entry.Contact c) = omega arith
 held_after f (entry.Group def) = omega arith
@@ -43,31 +44,39 @@ held_after f (entry.Offered s id) = omega arith
 held_after f (entry.Seen s id) = omega arith
 held_after f (entry.Asked s id) = omega arith
 held_after f (entry.Out s now what) = omega arith
+held_after f (entry.Brief n) = omega arith
+held_after f (entry.Kept from m) = omega (arith, length-append f.held (kept_as from m ∷ []))
+held_after f (entry.Tried t) = omega arith
+held_after f (entry.Want contact id) = omega arith
 
-begun_after : (f : Facts) (e : Entry) → (after f e).begun ≤ f.begun + adds e
-begun_after f (entry.Contact c) = omega arith
-begun_after f (entry.Group def) = omega arith
-begun_after f (entry.Level c g l) = omega arith
-begun_after f (entry.Session s) = omega arith
-begun_after f (entry.Take s k) = omega arith
-begun_after f (entry.Author m) = omega arith
-begun_after f (entry.Arrive s m) = omega arith
-begun_after f (entry.Judged id) = omega arith
-begun_after f (entry.Deliver id) = omega arith
-begun_after f (entry.Invalid id) = omega arith
-begun_after f (entry.Again s id) = omega arith
-begun_after f (entry.Offered s id) = omega arith
-begun_after f (entry.Seen s id) = omega arith
-begun_after f (entry.Asked s id) = omega arith
-begun_after f (entry.Out s now what) = omega arith
+listed_after : (f : Facts) (e : Entry) → length (after f e).sessions ≤ length f.sessions + adds e
+listed_after f (entry.Contact c) = omega arith
+listed_after f (entry.Group def) = omega arith
+listed_after f (entry.Level c g l) = omega arith
+listed_after f (entry.Session s) = omega (arith, length-append f.sessions (s ∷ []))
+listed_after f (entry.Take s k) = omega arith
+listed_after f (entry.Author m) = omega arith
+listed_after f (entry.Arrive s m) = omega arith
+listed_after f (entry.Judged id) = omega arith
+listed_after f (entry.Deliver id) = omega arith
+listed_after f (entry.Invalid id) = omega arith
+listed_after f (entry.Again s id) = omega arith
+listed_after f (entry.Offered s id) = omega arith
+listed_after f (entry.Seen s id) = omega arith
+listed_after f (entry.Asked s id) = omega arith
+listed_after f (entry.Out s now what) = omega arith
+listed_after f (entry.Brief n) = omega arith
+listed_after f (entry.Kept from m) = omega arith
+listed_after f (entry.Tried t) = omega arith
+listed_after f (entry.Want contact id) = omega arith
 
 held_after_all : (f : Facts) (es : List Entry) → length (after_all f es).held ≤ length f.held + adds_all es
 held_after_all f [] = omega arith
 held_after_all f (e ∷ es) = omega (arith, held_after_all (after f e) es, held_after f e)
 
-begun_after_all : (f : Facts) (es : List Entry) → (after_all f es).begun ≤ f.begun + adds_all es
-begun_after_all f [] = omega arith
-begun_after_all f (e ∷ es) = omega (arith, begun_after_all (after f e) es, begun_after f e)
+listed_after_all : (f : Facts) (es : List Entry) → length (after_all f es).sessions ≤ length f.sessions + adds_all es
+listed_after_all f [] = omega arith
+listed_after_all f (e ∷ es) = omega (arith, listed_after_all (after f e) es, listed_after f e)
 
 -- an entry that adds nothing
 abbrev AddsNone : Entry → Type 0
@@ -122,9 +131,16 @@ few (entry.Offered s id) = omega arith
 few (entry.Seen s id) = omega arith
 few (entry.Asked s id) = omega arith
 few (entry.Out s now what) = omega arith
+few (entry.Brief n) = omega arith
+few (entry.Kept from m) = omega arith
+few (entry.Tried t) = omega arith
+few (entry.Want contact id) = omega arith
 
 alone : (e : Entry) (rest : List Entry) → rest ≡ [] → adds_all (e ∷ rest) ≤ 1
 alone e rest none = subst (λ (es : List Entry). adds_all (e ∷ es) ≤ 1) (sym none) (omega (arith, few e))
+
+rows_add : (f : Facts) (es : List Entry) → AreRows f es → adds_all es ≤ 1
+rows_add f es is = none_added es (rows_all AddsNone (λ g t may. refl) (λ g contact id may. refl) f es is)
 
 batch_adds : (clients : Meaning) (f : Facts) (batch : List Entry) → Allowed clients f batch → adds_all batch ≤ 1
 batch_adds clients f [] is = absurd is
@@ -145,9 +161,13 @@ batch_adds clients f (entry.Offered s id ∷ rest) is = absurd is
 batch_adds clients f (entry.Seen s id ∷ rest) is = absurd is
 batch_adds clients f (entry.Asked s id ∷ rest) is = absurd is
 batch_adds clients f (entry.Out s now what ∷ rest) is = alone (entry.Out s now what) rest is.0
+batch_adds clients f (entry.Brief n ∷ rest) is = alone (entry.Brief n) rest is.0
+batch_adds clients f (entry.Kept from m ∷ rest) is = alone (entry.Kept from m) rest is.0
+batch_adds clients f (entry.Tried t ∷ rest) is = rows_add f (entry.Tried t ∷ rest) is.suits
+batch_adds clients f (entry.Want contact id ∷ rest) is = rows_add f (entry.Want contact id ∷ rest) is.suits
 
 pub one_more : (clients : Meaning) (f : Facts) (batch : List Entry) → Allowed clients f batch
-    → (length (after_all f batch).held ≤ length f.held + 1) × ((after_all f batch).begun ≤ f.begun + 1)
+    → (length (after_all f batch).held ≤ length f.held + 1) × (length (after_all f batch).sessions ≤ length f.sessions + 1)
 one_more clients f batch is =
     let adds = batch_adds clients f batch is in
-    (omega (arith, held_after_all f batch, adds), omega (arith, begun_after_all f batch, adds))
+    (omega (arith, held_after_all f batch, adds), omega (arith, listed_after_all f batch, adds))

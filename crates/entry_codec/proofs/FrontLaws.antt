@@ -15,9 +15,10 @@ use Rattle.outside.specs.Files.{Two, file_of}
 use Rattle.outside.specs.Frames.{Frame, HasFrames, IsPayload, broken, closed, format_in, frame_at, frame_of, framed, is_broken, is_open, journal_file, size_at}
 use Rattle.entry_codec.specs.declared.naming.Format.{Format}
 use Rattle.entry_codec.specs.Naming.{format_of}
-use Rattle.entry_codec.specs.Spelling.{IsEntry}
-use Rattle.entry_codec.specs.Payloads.{batch_of, payload, payloads}
+use Rattle.entry_codec.specs.Spelling.{IsEntry, IsOfFormat}
+use Rattle.entry_codec.specs.Payloads.{batch_of, names_of, payload, payloads}
 use Rattle.sync_rules.proofs.Continuing.{legal-push}
+use Rattle.entry_codec.proofs.BatchLaws.{batch_kinds}
 use Rattle.entry_codec.proofs.Growing.{all_push, frames_push, length_frame, payloads_push}
 use Rattle.entry_codec.specs.Standing.{Standing, damaged, frames_from, journal, no_store, read_in, read_on, rest_from, room_of, stands, stands_in, taken_on}
 use Rattle.entry_codec.specs.Fronts.{FitsFile, Front}
@@ -125,6 +126,7 @@ front_start clients files file format e known =
       format_is = known;
       going = ap (stands_in clients files) e ∙ ap (read_in clients file bytes) known;
       legal = tt;
+      kinds = tt;
       within = tt;
       long = length-take-le 14 bytes (open_long bytes (found_open files file e));
       whole = sym (take-append-drop 14 bytes) ∙ ap (λ (l : List ℕ). l ++ drop 14 bytes) (sym header);
@@ -241,6 +243,7 @@ front_more clients files file format done end to behind batch front e spelled so
           ∙ cond-true (allows clients (facts done) batch) _ _ granted
           ∙ ap (λ (n : ℕ). rest_from clients format file bytes n (done ++ batch ∷ [])) (omega arith);
       legal = legal-push clients done batch front.legal allowed;
+      kinds = all_push (AllByRecursion (IsOfFormat format)) done batch front.kinds (batch_kinds format (names_of (facts done)) to batch some);
       within = all_push (AllByRecursion IsEntry) done batch front.within within;
       long = front.long;
       whole =

@@ -16,8 +16,8 @@ use Rattle.outside.specs.declared.limits.TheConstants.{MAX_FRAME, MAX_JOURNAL}
 use Rattle.outside.specs.Files.{Two, file_of}
 use Rattle.outside.specs.Frames.{Frame, IsPayload, broken, closed, format_in, frame_at, frame_of, journal_file, framed, is_broken, size_at}
 use Rattle.entry_codec.specs.declared.naming.Format.{Format}
-use Rattle.entry_codec.specs.Naming.{IsNamed, format_of}
-use Rattle.entry_codec.specs.Spelling.{EntryNames, IsEntry}
+use Rattle.entry_codec.specs.Naming.{format_of}
+use Rattle.entry_codec.specs.Spelling.{IsEntry, IsOfFormat}
 use Rattle.entry_codec.specs.Payloads.{batch_of, names_of, payload, payloads}
 use Rattle.entry_codec.specs.StandingLaws.{HoldsJournal}
 use Rattle.entry_codec.specs.Standing.{Standing, damaged, frames_from, journal, read_in, read_on, rest_from, room_of, stands, stands_in, taken_on}
@@ -25,7 +25,7 @@ use Rattle.sync_rules.proofs.Continuing.{legal-push}
 use Rattle.entry_codec.proofs.Growing.{facts_push, length_frame}
 use Rattle.entry_codec.proofs.FrontLaws.{rest_once}
 use Rattle.entry_codec.proofs.AllowedIds.{names_held}
-use Rattle.entry_codec.proofs.BatchLaws.{IsWritten, batch_back, both_all}
+use Rattle.entry_codec.proofs.BatchLaws.{IsWritten, batch_back, written_by}
 use Rattle.entry_codec.proofs.Counts.{one_more}
 use Rattle.entry_codec.proofs.Named.{named_in}
 use Rattle.entry_codec.proofs.HeldNames.{WholeIds, legal_names}
@@ -89,6 +89,7 @@ record Follows (clients : Meaning) (format : Format) (bytes : List ℕ) (place :
   pub shut : gate ≢ 1
   pub payloads_fit : All IsPayload (payloads format f more)
   pub legal : GoesOn clients f more
+  pub kinds : AllByRecursion (AllByRecursion (IsOfFormat format)) more
   pub within : AllByRecursion (AllByRecursion IsEntry) more
   pub bounded : place + 1 + length (flat_map frame_of (payloads format f more)) + room_of format (facts (done ++ more)) ≤ MAX_JOURNAL
 
@@ -134,15 +135,16 @@ goes_on clients format bytes place f done more b h =
       shut = h.shut;
       payloads_fit = All-tail IsPayload p (payloads format (after_all f b) more) h.payloads_fit;
       legal = h.legal.1;
+      kinds = h.kinds.1;
       within = h.within.1;
       bounded = omega (arith, h.bounded, room, length-append (frame_of p) others, length_frame p);
     }
 
 -- a batch of a legal journal can be written
-written : (clients : Meaning) (format : Format) (f : Facts) (b : List Entry) → Allowed clients f b → AllByRecursion IsEntry b
+written : (clients : Meaning) (format : Format) (f : Facts) (b : List Entry) → Allowed clients f b → AllByRecursion (IsOfFormat format) b → AllByRecursion IsEntry b
     → AllByRecursion (IsWritten format (names_of f)) b
-written clients format f b allowed within =
-    both_all IsEntry (EntryNames (IsNamed format (names_of f))) b within (named_in format (names_of f) b (names_held clients f b allowed))
+written clients format f b allowed kinds within =
+    written_by format (names_of f) b within (named_in format (names_of f) b (names_held clients f b allowed)) kinds
 
 all_read : (clients : Meaning) → Decided clients → WholeIds → (format : Format) (file : ℕ) (bytes : List ℕ) (place : ℕ) (f : Facts) (done more : List (List Entry)) → Follows clients format bytes place f done more
     → rest_from clients format file bytes place done ≡ journal (done ++ more)
@@ -153,7 +155,7 @@ all_read clients decided whole format file bytes place f done (b ∷ more) h =
     let spelled : payload format f b ≡ payload format (facts done) b = ap (λ (g : Facts). payload format g b) (sym h.same) in
     let read : batch_of format (facts done) (payload format f b) ≡ Some b =
     ap (batch_of format (facts done)) spelled
-    ∙ batch_back format (names_of (facts done)) names b (written clients format (facts done) b allowed h.within.0) (some_batch clients (facts done) b allowed) in
+    ∙ batch_back format (names_of (facts done)) names b (written clients format (facts done) b allowed h.kinds.0 h.within.0) (some_batch clients (facts done) b allowed) in
     rest_once clients format file bytes place done h.some
     ∙ ap (read_on clients format file (rest_from clients format file bytes) place done) (first_read clients format bytes place f done more b h)
     ∙ ap (taken_on clients file (rest_from clients format file bytes (place + 5 + length (payload format f b))) place done) read
@@ -181,6 +183,7 @@ stands_has clients decided whole files file format j h =
       shut = h.frames.closed;
       payloads_fit = h.frames.payloads_fit;
       legal = h.legal;
+      kinds = h.kinds;
       within = h.within;
       bounded = omega (arith, h.bounded);
     } in

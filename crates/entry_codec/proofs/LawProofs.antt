@@ -9,7 +9,7 @@ use Rattle.entry_codec.specs.declared.naming.Format.{Format}
 use Rattle.entry_codec.specs.declared.naming.Format.TheVariants as format
 use Rattle.entry_codec.specs.Naming.{AreNames, IsNamed, held_bytes}
 use Rattle.entry_codec.specs.Payloads.{payload_len, spellings}
-use Rattle.entry_codec.specs.Spelling.{EntryNames, IsEntry, Spells, SpellsIn, entry_bytes, spelling, spelling_in}
+use Rattle.entry_codec.specs.Spelling.{EntryNames, IsEntry, IsOfFormat, Spells, SpellsIn, entry_bytes, spelling, spelling_in}
 use Rattle.entry_codec.specs.Reading.{entry_by, held_in}
 use Rattle.entry_codec.specs.Laws.{IsReadIn}
 use Rattle.entry_codec.specs.declared.reading.EntryFound.{EntryFound}
@@ -26,17 +26,17 @@ empty (x ∷ xs) none = absurd (omega arith)
 -- ---- in a format, where these are the ids held
 
 module _ (f : Format) (names : List (List ℕ)) (are : AreNames names) where
-  pub reads : IsReader (entry_bytes (held_bytes f names)) (λ e. IsEntry e × EntryNames (IsNamed f names) e) (entry_by (held_in f names))
-  reads = entry_reads (held_bytes f names) (IsNamed f names) (held_in f names) (held_reads f names are)
+  pub reads : IsReader (entry_bytes (held_bytes f names)) (λ e. IsEntry e × EntryNames (IsNamed f names) e × IsOfFormat f e) (entry_by f (held_in f names))
+  reads = entry_reads (held_bytes f names) (IsNamed f names) (held_in f names) (held_reads f names are) f
 
-  spelled_read : (e : Entry) (bytes more : List ℕ) → SpellsIn f names e bytes → entry_by (held_in f names) (bytes ++ more) ≡ Some (e, more)
+  spelled_read : (e : Entry) (bytes more : List ℕ) → SpellsIn f names e bytes → entry_by f (held_in f names) (bytes ++ more) ≡ Some (e, more)
   unfolding spelling_in
-  spelled_read e bytes more s = ap (λ (b : List ℕ). entry_by (held_in f names) (b ++ more)) s.is ∙ reads.back e more (s.within, s.named)
+  spelled_read e bytes more s = ap (λ (b : List ℕ). entry_by f (held_in f names) (b ++ more)) s.is ∙ reads.back e more (s.within, s.named, s.kind)
 
   -- two entries at the front of the same bytes are one
   one_front : (e d : Entry) (a b x y : List ℕ) → SpellsIn f names e a → SpellsIn f names d b → a ++ x ≡ b ++ y → (e ≡ d) × (x ≡ y)
   one_front e d a b x y s t same =
-      part_is e d x y (sym (spelled_read e a x s) ∙ ap (entry_by (held_in f names)) same ∙ spelled_read d b y t)
+      part_is e d x y (sym (spelled_read e a x s) ∙ ap (entry_by f (held_in f names)) same ∙ spelled_read d b y t)
 
   pub none_begins : (e d : Entry) (bytes more : List ℕ) → SpellsIn f names e bytes → SpellsIn f names d (bytes ++ more) → (e ≡ d) × (more ≡ [])
   none_begins e d bytes more s t = one_front e d bytes (bytes ++ more) more [] s t (sym (append-nil (bytes ++ more)))
@@ -54,14 +54,14 @@ module _ (f : Format) (names : List (List ℕ)) (are : AreNames names) where
       absurd (is e (length bytes) (let front : take (length bytes) (bytes ++ more) ≡ bytes = take_at bytes more (length bytes) refl in rw front s))
 
   -- what is left is no longer than the bytes
-  pub found_short : (bytes rest : List ℕ) (e : Entry) → IsBytes bytes → entry_by (held_in f names) bytes ≡ Some (e, rest) → length rest ≤ length bytes
+  pub found_short : (bytes rest : List ℕ) (e : Entry) → IsBytes bytes → entry_by f (held_in f names) bytes ≡ Some (e, rest) → length rest ≤ length bytes
   found_short bytes rest e fits h =
       let s = reads.sound bytes rest e fits h in
       let len : length bytes ≡ length (entry_bytes (held_bytes f names) e) + length rest = ap length s.1 ∙ length-append (entry_bytes (held_bytes f names) e) rest in
       omega arith
 
   -- what the reader of an entry answers
-  pub found_is : (bytes rest : List ℕ) (e : Entry) (used : ℕ) → IsBytes bytes → entry_by (held_in f names) bytes ≡ Some (e, rest) → used + length rest ≡ length bytes
+  pub found_is : (bytes rest : List ℕ) (e : Entry) (used : ℕ) → IsBytes bytes → entry_by f (held_in f names) bytes ≡ Some (e, rest) → used + length rest ≡ length bytes
       → IsReadIn f names bytes (found.One e used)
   unfolding spelling_in
   found_is bytes rest e used fits h left =
@@ -70,12 +70,12 @@ module _ (f : Format) (names : List (List ℕ)) (are : AreNames names) where
       let len : length bytes ≡ length spelled + length rest = ap length s.1 ∙ length-append spelled rest in
       let width : length spelled ≡ used = omega arith in
       let front : take used bytes ≡ spelled = ap (take used) s.1 ∙ take_at spelled rest used width in
-      (omega (arith, len), record { within = s.0.0; named = s.0.1; is = front })
+      (omega (arith, len), record { kind = s.0.2; within = s.0.0; named = s.0.1; is = front })
 
-  pub bad_is : (bytes : List ℕ) → entry_by (held_in f names) bytes ≡ None → IsReadIn f names bytes found.BadEntry
+  pub bad_is : (bytes : List ℕ) → entry_by f (held_in f names) bytes ≡ None → IsReadIn f names bytes found.BadEntry
   bad_is bytes none e used s =
-      let read : entry_by (held_in f names) bytes ≡ Some (e, drop used bytes) =
-      ap (entry_by (held_in f names)) (sym (take-append-drop used bytes)) ∙ spelled_read e (take used bytes) (drop used bytes) s in
+      let read : entry_by f (held_in f names) bytes ≡ Some (e, drop used bytes) =
+      ap (entry_by f (held_in f names)) (sym (take-append-drop used bytes)) ∙ spelled_read e (take used bytes) (drop used bytes) s in
       let clash : None ≡ part e (drop used bytes) = sym none ∙ read in
       absurd cc
 

@@ -1,6 +1,6 @@
 pub mod BatchLaws
 pub mod Journals
-mod Latencies
+mod Writable
 mod AllowedIds
 mod Places
 mod HeldNames
@@ -8,7 +8,9 @@ pub mod Named
 mod OfBatches
 mod Counts
 mod TakeCounts
+mod AccountParts
 mod Entries
+pub mod Kinds
 pub mod LawProofs
 mod Bounds
 mod Parts

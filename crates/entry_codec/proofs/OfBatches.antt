@@ -6,11 +6,12 @@ use Rattle.sync_rules.specs.declared.answers.Judgement.{Judgement}
 use Rattle.sync_rules.specs.declared.answers.Judgement.TheVariants as judgement
 use Rattle.sync_rules.specs.declared.entries.Entry.{Entry}
 use Rattle.sync_rules.specs.declared.entries.Entry.TheVariants as entry
+use Rattle.sync_rules.specs.declared.entries.Tried.{Tried}
 use Rattle.sync_rules.specs.Clients.{Meaning}
 use Rattle.sync_rules.specs.Facts.{Facts, Held, after, row_at}
 use Rattle.sync_rules.specs.Steps.{answer_of, first_or_next, first_step, is_ended, is_failing, is_served, step, step_accepted, step_by, step_open}
 use Rattle.sync_rules.specs.Sessions.{is_remembered, is_shown, one_if, room_after, taken_acks, taken_offers, taken_requests}
-use Rattle.sync_rules.specs.Legal.{IsSettling}
+use Rattle.sync_rules.specs.Legal.{AreRows, IsSettling, MayRestore, MayWant}
 
 -- ---- what is taken of a record of ids
 
@@ -82,3 +83,12 @@ pub settling_all : (P : Entry → Type 0) → OfSteps P → (clients : Meaning) 
 settling_all P of clients f [] is = tt
 settling_all P of clients f (e ∷ es) is =
     (subst (λ (o : Option Entry). StepHas P o) is.0 (first_all P of clients f f.held), settling_all P of clients (after f e) es is.1)
+
+-- ---- rows and wanted ids of a brief account
+
+pub rows_all : (P : Entry → Type 0) → ((f : Facts) (t : Tried) → MayRestore f t → P (entry.Tried t)) → ((f : Facts) (contact : ℕ) (id : List ℕ) → MayWant f contact id → P (entry.Want contact id))
+    → (f : Facts) (es : List Entry) → AreRows f es → AllByRecursion P es
+rows_all P tried want f [] is = tt
+rows_all P tried want f (entry.Tried t ∷ es) is = (tried f t is.0, rows_all P tried want (after f (entry.Tried t)) es is.1)
+rows_all P tried want f (entry.Want contact id ∷ es) is = (want f contact id is.0, rows_all P tried want (after f (entry.Want contact id)) es is.1)
+rows_all P tried want f (_ ∷ es) is = absurd is.0

@@ -128,7 +128,7 @@ level_again level.Invisible = refl
 level_again level.Visible = refl
 level_again level.Shared = refl
 
-some_same : {A : Type 0} → (a b : A) → Some a ≡ Some b → a ≡ b
+pub some_same : {A : Type 0} → (a b : A) → Some a ≡ Some b → a ≡ b
 some_same a b e = cc
 
 level_told : (b : ℕ) (l : Level) → level_of b ≡ Some l → b ≡ level_byte l

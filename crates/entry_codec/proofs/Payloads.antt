@@ -17,7 +17,7 @@ use Rattle.sync_rules.specs.Facts.{Facts, Held, after, contact_of, held_at, is_i
 use Rattle.sync_rules.specs.Steps.{answer_of, first_or_next, first_step, is_ended, is_failing, is_served, step, step_accepted, step_by, step_open}
 use Rattle.sync_rules.specs.declared.limits.TheConstants.{MAX_WANTED}
 use Rattle.sync_rules.specs.Sessions.{is_remembered, is_shown, is_shown_held, is_welcome, one_if, room_after, taken_acks, taken_from, taken_message, taken_message_of, taken_offers, taken_requests}
-use Rattle.sync_rules.specs.Legal.{Allowed, IsSettling}
+use Rattle.sync_rules.specs.Legal.{Allowed, AreRows, IsSettling}
 use Rattle.entry_codec.specs.declared.lengths.TheConstants.{MAX_BATCH_LEN}
 use Rattle.entry_codec.specs.Spelling.{IsEntry, spelling, spelling_in}
 use Rattle.entry_codec.specs.declared.naming.Format.{Format}
@@ -25,6 +25,7 @@ use Rattle.entry_codec.specs.declared.naming.Format.TheVariants as format
 use Rattle.entry_codec.specs.Payloads.{payload_len}
 use Rattle.entry_codec.proofs.LawProofs.{batch_not_longer}
 use Rattle.entry_codec.proofs.Bounds.{length_within, most_of, spelled_some}
+use Rattle.entry_codec.proofs.OfBatches.{rows_all}
 
 abbrev AreEntries : List Entry → Type 0
 AreEntries es = AllByRecursion IsEntry es
@@ -138,6 +139,19 @@ settling_short clients f (e ∷ es) is all =
     let most : most_of e ≤ 33 = subst (λ (o : Option Entry). IsShort o) is.0 (first_short clients f f.held) in
     omega (arith, payload_cons e es, (length_within e all.0).1, settling_short clients (after f e) es is.1 all.1)
 
+-- ---- rows and wanted ids
+
+-- an entry of at most 44 bytes
+abbrev IsRow : Entry → Type 0
+IsRow e = most_of e ≤ 44
+
+few_each : (es : List Entry) → AllByRecursion IsRow es → AreEntries es → length (spellings es) ≤ 44 * length es
+few_each [] few all = omega arith
+few_each (e ∷ es) few all = omega (arith, payload_cons e es, few.0, (length_within e all.0).1, few_each es few.1 all.1)
+
+rows_short : (f : Facts) (es : List Entry) → AreRows f es → AreEntries es → length (spellings es) ≤ 44 * length es
+rows_short f es is all = few_each es (rows_all IsRow (λ g t may. omega arith) (λ g contact id may. omega arith) f es is) all
+
 -- ---- batches
 
 alone : (e : Entry) (rest : List Entry) → rest ≡ [] → AreEntries (e ∷ rest) → length (spellings (e ∷ rest)) ≤ most_of e
@@ -163,6 +177,10 @@ batch_short clients f (entry.Offered s id ∷ rest) is all = absurd is
 batch_short clients f (entry.Seen s id ∷ rest) is all = absurd is
 batch_short clients f (entry.Asked s id ∷ rest) is all = absurd is
 batch_short clients f (entry.Out s now what ∷ rest) is all = omega (arith, alone (entry.Out s now what) rest is.0 all)
+batch_short clients f (entry.Brief n ∷ rest) is all = omega (arith, alone (entry.Brief n) rest is.0 all)
+batch_short clients f (entry.Kept from m ∷ rest) is all = omega (arith, alone (entry.Kept from m) rest is.0 all)
+batch_short clients f (entry.Tried t ∷ rest) is all = omega (arith, is.few, rows_short f (entry.Tried t ∷ rest) is.suits all)
+batch_short clients f (entry.Want contact id ∷ rest) is all = omega (arith, is.few, rows_short f (entry.Want contact id ∷ rest) is.suits all)
 
 first_len : (batch : List Entry) → payload_len format.Whole batch ≡ length (spellings batch)
 unfolding spelling spelling_in

@@ -6,6 +6,7 @@ use Rattle.std.specs.Str.{is_utf8}
 use Rattle.std.proofs.lemmas.List.{append_assoc, append-nil}
 use Rattle.entry_codec.specs.declared.stop.Stop.{Stop}
 use Rattle.entry_codec.specs.declared.stop.Stop.TheVariants as stop
+use Rattle.entry_codec.specs.declared.naming.Format.{Format}
 use Rattle.entry_codec.specs.Answers.{Reads, ReadsList}
 use Rattle.entry_codec.specs.Reading.{IdReader, be_number_in, byte_in, chained, entry_by, entry_of, front_in, heard_of, ids_in, is_between, list_in, made, meant, moved_of, name_in, out_in, out_of, pair_in, passed}
 use Rattle.sync_ids.specs.declared.lists.TheConstants.{MAX_IDS}
@@ -75,17 +76,17 @@ moved_stop p b first_left left new tag session now stop.BadEntry same first seco
 moved_stop p b first_left left new tag session now stop.Memory same first second none = tt
 
 -- what follows the tag of an entry
-tag_read : (p : IdReader) (b rest : List ℕ) (tag : ℕ) → byte_in b ≡ Some (tag, rest) → entry_by p b ≡ entry_of p tag rest
+tag_read : (f : Format) (p : IdReader) (b rest : List ℕ) (tag : ℕ) → byte_in b ≡ Some (tag, rest) → entry_by f p b ≡ entry_of f p tag rest
 unfolding entry_by
-tag_read p b rest tag first = ap (chained (entry_of p)) first
+tag_read f p b rest tag first = ap (chained (entry_of f p)) first
 
-heard_read : (p : IdReader) (b rest : List ℕ) (tag k : ℕ) → byte_in b ≡ Some (tag, rest) → tag ≡ k
-    → ((x : List ℕ) → entry_of p k x ≡ meant (heard_of k) (pair_in p x)) → entry_by p b ≡ meant (heard_of tag) (pair_in p rest)
-heard_read p b rest tag k first same is =
-    tag_read p b rest tag first ∙ ap (λ (n : ℕ). entry_of p n rest) same ∙ is rest ∙ ap (λ (n : ℕ). meant (heard_of n) (pair_in p rest)) (sym same)
+heard_read : (f : Format) (p : IdReader) (b rest : List ℕ) (tag k : ℕ) → byte_in b ≡ Some (tag, rest) → tag ≡ k
+    → ((x : List ℕ) → entry_of f p k x ≡ meant (heard_of k) (pair_in p x)) → entry_by f p b ≡ meant (heard_of tag) (pair_in p rest)
+heard_read f p b rest tag k first same is =
+    tag_read f p b rest tag first ∙ ap (λ (n : ℕ). entry_of f p n rest) same ∙ is rest ∙ ap (λ (n : ℕ). meant (heard_of n) (pair_in p rest)) (sym same)
 
-pub heard_by : (p : IdReader) (b rest new : List ℕ) (tag k : ℕ) (r : Result Entry Stop) → byte_in b ≡ Some (tag, rest) → tag ≡ k
-    → ((x : List ℕ) → entry_of p k x ≡ meant (heard_of k) (pair_in p x)) → Reads (λ x. meant (heard_of tag) (pair_in p x)) rest r new → Reads (entry_by p) b r new
-heard_by p b rest new tag k (Ok e) first same is read = heard_read p b rest tag k first same is ∙ read
-heard_by p b rest new tag k (Err stop.BadEntry) first same is read = heard_read p b rest tag k first same is ∙ read
-heard_by p b rest new tag k (Err stop.Memory) first same is read = tt
+pub heard_by : (f : Format) (p : IdReader) (b rest new : List ℕ) (tag k : ℕ) (r : Result Entry Stop) → byte_in b ≡ Some (tag, rest) → tag ≡ k
+    → ((x : List ℕ) → entry_of f p k x ≡ meant (heard_of k) (pair_in p x)) → Reads (λ x. meant (heard_of tag) (pair_in p x)) rest r new → Reads (entry_by f p) b r new
+heard_by f p b rest new tag k (Ok e) first same is read = heard_read f p b rest tag k first same is ∙ read
+heard_by f p b rest new tag k (Err stop.BadEntry) first same is read = heard_read f p b rest tag k first same is ∙ read
+heard_by f p b rest new tag k (Err stop.Memory) first same is read = tt

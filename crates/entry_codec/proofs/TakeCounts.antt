@@ -16,8 +16,8 @@ use Rattle.sync_rules.specs.Clients.{Meaning}
 use Rattle.sync_rules.specs.Lists.{firsts}
 use Rattle.sync_rules.specs.Facts.{Facts, Held, after, after_all, contact_of, count_or, held_at, is_invisible, level_at, takes_of}
 use Rattle.sync_rules.specs.Sessions.{is_welcome, one_if, taken_from, taken_message, taken_message_of}
-use Rattle.sync_rules.specs.Legal.{Allowed}
-use Rattle.entry_codec.proofs.OfBatches.{OfSteps, acks_all, offers_all, requests_all, settling_all}
+use Rattle.sync_rules.specs.Legal.{Allowed, AreRows}
+use Rattle.entry_codec.proofs.OfBatches.{OfSteps, acks_all, offers_all, requests_all, rows_all, settling_all}
 
 -- how many records an entry takes
 abbrev takes_in : Entry → ℕ
@@ -62,6 +62,10 @@ takes_one f (entry.Offered s id) session = omega arith
 takes_one f (entry.Seen s id) session = omega arith
 takes_one f (entry.Asked s id) session = omega arith
 takes_one f (entry.Out s now what) session = omega arith
+takes_one f (entry.Brief n) session = omega arith
+takes_one f (entry.Kept from m) session = omega arith
+takes_one f (entry.Tried t) session = omega arith
+takes_one f (entry.Want contact id) session = omega arith
 
 takes_more : (f : Facts) (es : List Entry) (session : ℕ) → takes_of (after_all f es).takes session ≤ takes_of f.takes session + takes_all es
 takes_more f [] session = omega arith
@@ -107,6 +111,9 @@ alone e rest none few = subst (λ (es : List Entry). takes_all (e ∷ es) ≤ 1)
 settles : (clients : Meaning) (f : Facts) (e : Entry) (rest : List Entry) → AllByRecursion TakesNone (e ∷ rest) → takes_all (e ∷ rest) ≤ 1
 settles clients f e rest all = omega (arith, none_taken (e ∷ rest) all)
 
+rows_take : (f : Facts) (es : List Entry) → AreRows f es → takes_all es ≤ 1
+rows_take f es is = omega (arith, none_taken es (rows_all TakesNone (λ g t may. refl) (λ g contact id may. refl) f es is))
+
 batch_takes : (clients : Meaning) (f : Facts) (batch : List Entry) → Allowed clients f batch → takes_all batch ≤ 1
 batch_takes clients f [] is = absurd is
 batch_takes clients f (entry.Contact c ∷ rest) is = alone (entry.Contact c) rest is.0 (omega arith)
@@ -126,6 +133,10 @@ batch_takes clients f (entry.Offered s id ∷ rest) is = absurd is
 batch_takes clients f (entry.Seen s id ∷ rest) is = absurd is
 batch_takes clients f (entry.Asked s id ∷ rest) is = absurd is
 batch_takes clients f (entry.Out s now what ∷ rest) is = alone (entry.Out s now what) rest is.0 (omega arith)
+batch_takes clients f (entry.Brief n ∷ rest) is = alone (entry.Brief n) rest is.0 (omega arith)
+batch_takes clients f (entry.Kept from m ∷ rest) is = alone (entry.Kept from m) rest is.0 (omega arith)
+batch_takes clients f (entry.Tried t ∷ rest) is = rows_take f (entry.Tried t ∷ rest) is.suits
+batch_takes clients f (entry.Want contact id ∷ rest) is = rows_take f (entry.Want contact id ∷ rest) is.suits
 
 pub one_take : (clients : Meaning) (f : Facts) (batch : List Entry) (session : ℕ) → Allowed clients f batch
     → takes_of (after_all f batch).takes session ≤ takes_of f.takes session + 1

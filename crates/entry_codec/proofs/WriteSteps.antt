@@ -2,7 +2,7 @@
 use Rattle.std.proofs.Common.{◌≡◌, ℕ, List, ◌++◌, ap, ◌∙◌, append_assoc, refl}
 use Rattle.std.specs.Prelude.{Result, Ok, Err, OnOk}
 use Rattle.sync_rules.specs.declared.entries.Entry.{Entry}
-use Rattle.entry_codec.specs.Spelling.{AddsTo, IsEntry, Spells, spelling, spelling_in}
+use Rattle.entry_codec.specs.Spelling.{AddsTo, IsEntry, IsOld, Spells, spelling, spelling_in}
 use Rattle.entry_codec.proofs.Entries.{entry_free}
 
 -- three pieces, one behind the other
@@ -13,10 +13,10 @@ three (Ok t) old first second new a b o e f g =
 three (Err t) old first second new a b o e f g = tt
 
 -- a spelling of the first format
-pub spells_whole : {T E : Type 0} (r : Result T E) (e : Entry) → OnOk r (IsEntry e) → OnOk r (Spells e (spelling e))
+pub spells_whole : {T E : Type 0} (r : Result T E) (e : Entry) → IsOld e → OnOk r (IsEntry e) → OnOk r (Spells e (spelling e))
 unfolding spelling spelling_in
-spells_whole (Ok t) e is = record { within = is; named = entry_free e; is = refl }
-spells_whole (Err t) e is = tt
+spells_whole (Ok t) e old is = record { kind = old; within = is; named = entry_free e; is = refl }
+spells_whole (Err t) e old is = tt
 
 -- bytes that were added, and further ones behind them
 pub adds_more : (old front mid new : List ℕ) → mid ≡ old ++ front → AddsTo mid new → AddsTo old new

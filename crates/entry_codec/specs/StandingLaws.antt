@@ -1,9 +1,8 @@
 -- What holds of batches as payloads, and of what files stand for.
-use Rattle.std.specs.Prelude.{◌≡◌, ℕ, ◌+◌, ◌^◌, ◌<◌, ◌≤◌, true, List, length, slice_index, Some}
-use Rattle.std.specs.List.{AllByRecursion, list_all}
+use Rattle.std.specs.Prelude.{◌≡◌, ℕ, ◌+◌, ◌^◌, ◌<◌, ◌≤◌, List, length, slice_index, Some}
+use Rattle.std.specs.List.{AllByRecursion}
 use Rattle.sync_rules.specs.declared.entries.Entry.{Entry}
 use Rattle.sync_rules.specs.Clients.{Meaning}
-use Rattle.sync_rules.specs.CountLaws.{is_no_brief}
 use Rattle.sync_rules.specs.Facts.{Facts, after_all, facts, nothing, takes_of}
 use Rattle.sync_rules.specs.Legal.{Allowed, Legal}
 use Rattle.outside.specs.Files.{Two, file_of}
@@ -41,14 +40,10 @@ LegalHasNames = (clients : Meaning) (j : List (List Entry)) → Legal clients j 
 abbrev pub AllowedMayBeWritten : Type 0
 AllowedMayBeWritten = (clients : Meaning) (f : Facts) (batch : List Entry) → Allowed clients f batch → AllByRecursion MayBeWritten batch
 
--- a batch that may follow a journal adds one message at most
+-- a batch that may follow a journal adds one message at most, and one session to the list of those that began
 abbrev pub AllowedAddOne : Type 0
-AllowedAddOne = (clients : Meaning) (f : Facts) (batch : List Entry) → Allowed clients f batch → length (after_all f batch).held ≤ length f.held + 1
-
--- and one session at most, where it does not begin a brief account
-abbrev pub AllowedBeginOne : Type 0
-AllowedBeginOne = (clients : Meaning) (f : Facts) (batch : List Entry) → Allowed clients f batch → list_all is_no_brief batch ≡ true
-    → (after_all f batch).begun ≤ f.begun + 1
+AllowedAddOne = (clients : Meaning) (f : Facts) (batch : List Entry) → Allowed clients f batch
+    → (length (after_all f batch).held ≤ length f.held + 1) × (length (after_all f batch).sessions ≤ length f.sessions + 1)
 
 -- and takes one record at most on a session
 abbrev pub AllowedTakeOne : Type 0

@@ -2,10 +2,9 @@
 ghost use Rattle.entry_codec.specs.Laws.{AllowedNames, NoneBeginsAnother, PayloadsFitFrames};
 ghost use Rattle.entry_codec.specs.Laws.{ShortBatchesAreNotLonger, ShortIsNotLonger};
 ghost use Rattle.entry_codec.specs.Laws.{SpellingsAreShort, SpellingsReadBack};
-ghost use Rattle.entry_codec.specs.StandingLaws.{AllowedAddOne, AllowedBeginOne, AllowedTakeOne};
-ghost use Rattle.entry_codec.specs.StandingLaws.{AllowedMayBeWritten, BatchesReadBack};
-ghost use Rattle.entry_codec.specs.StandingLaws.{JournalsStand, LegalHasNames, PayloadsSpellOnce};
-ghost use Rattle.entry_codec.specs.StandingLaws.{StandingIsLegal};
+ghost use Rattle.entry_codec.specs.StandingLaws.{AllowedAddOne, AllowedMayBeWritten, AllowedTakeOne};
+ghost use Rattle.entry_codec.specs.StandingLaws.{BatchesReadBack, JournalsStand, PayloadsSpellOnce};
+ghost use Rattle.entry_codec.specs.StandingLaws.{LegalHasNames, StandingIsLegal};
 
 use sync_ids::message_ids_are_whole;
 use sync_rules::laws::allows_is_allowed;
@@ -64,15 +63,10 @@ pub fn allowed_may_be_written()
     ensures { AllowedMayBeWritten }
 {}
 
-/// A batch that may follow a journal adds one message at most.
+/// A batch that may follow a journal adds one message at most, and one session at most to the list
+/// of those that began.
 pub fn allowed_add_one()
     ensures { AllowedAddOne }
-{}
-
-/// A batch that may follow a journal, and does not begin a brief account, begins one session at
-/// most.
-pub fn allowed_begin_one()
-    ensures { AllowedBeginOne }
 {}
 
 /// A batch that may follow a journal takes one record at most on a session.

@@ -1,10 +1,8 @@
 use Rattle.std.proofs.Common.{◌≡◌, arith, List, ap, sym, refl, ◌∙◌}
 use Rattle.std.specs.Prelude.{Some}
 use Rattle.sync_rules.specs.declared.entries.Entry.{Entry}
-use Rattle.entry_codec.specs.Naming.{IsNamed}
 use Rattle.entry_codec.specs.Payloads.{batch_in}
-use Rattle.entry_codec.specs.Spelling.{EntryNames, IsEntry}
-use Rattle.entry_codec.proofs.BatchLaws.{batch_spelled, first_all, in_bad, in_done, in_empty, in_more, none_left, rest_shorter, some_entries, some_left}
+use Rattle.entry_codec.proofs.BatchLaws.{batch_spelled, in_bad, in_done, in_empty, in_more, none_left, rest_shorter, some_entries, some_left, written_within}
 use Rattle.entry_codec.proofs.Readers.{IsBytes}
 use Rattle.entry_codec.proofs.batches.read_batch.Goals as goal
 
@@ -53,7 +51,7 @@ returns-in-Ok-new-clause-within g c =
     (none_left c.entries.front.rest.now c.is_empty.result c.is_empty.ensures c.entries-test.false)
     (some_entries c.entries.entries.items (λ none. absurd (let clash = c.in-Ok-new.ensures.empty.1 none in cc)))
     ∙ ap (λ (l : List Entry). Some l) (sym c.in-Ok-new.ensures.made) in
-    first_all IsEntry (EntryNames (IsNamed c.args.format (g.N.Names.named c.args.names.now))) c.in-Ok-new.batch
+    written_within c.args.format (g.N.Names.named c.args.names.now) c.in-Ok-new.batch
     (batch_spelled c.args.format (g.N.Names.named c.args.names.now) c.show_names.ensures c.args.bytes.now c.in-Ok-new.batch fits whole).written
 
 pub returns-in-Err-clause-exact : goal.returns-in-Err-clause-exact

@@ -1,7 +1,5 @@
-use Rattle.entry_codec.specs.Naming.{IsNamed}
 use Rattle.entry_codec.specs.Payloads.{names_of}
-use Rattle.entry_codec.specs.Spelling.{EntryNames, IsEntry}
-use Rattle.entry_codec.proofs.BatchLaws.{batch_spelled, first_all, second_all}
+use Rattle.entry_codec.proofs.BatchLaws.{batch_spelled, written_kinds, written_named, written_within}
 use Rattle.entry_codec.proofs.laws.payloads_spell_once.Goals as goal
 
 pub returns : goal.returns
@@ -9,7 +7,8 @@ returns c format f are bytes batch fits read =
     let spelled = batch_spelled format (names_of f) are bytes batch fits read in (
       spelled.is,
       record {
-        within = first_all IsEntry (EntryNames (IsNamed format (names_of f))) batch spelled.written;
-        named = second_all IsEntry (EntryNames (IsNamed format (names_of f))) batch spelled.written;
+        kinds = written_kinds format (names_of f) batch spelled.written;
+        within = written_within format (names_of f) batch spelled.written;
+        named = written_named format (names_of f) batch spelled.written;
       },
     )

@@ -7,4 +7,4 @@ unfolding spelling spelling_in
 returns-clause-ok c = c.append_entry.ensures.ok
 
 pub returns-clause-spells : goal.returns-clause-spells
-returns-clause-spells c = spells_whole c.append_entry.result c.args.entry.now c.append_entry.ensures.within
+returns-clause-spells c = spells_whole c.append_entry.result c.args.entry.now c.requires.old c.append_entry.ensures.within
