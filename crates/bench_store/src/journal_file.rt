@@ -1,7 +1,7 @@
 //! The file of a settled journal in either format, as the commits of a store write it.
 ghost use Rattle.std.specs.Prelude.{◌≡◌, ◌∷◌, [], IfOk};
 ghost use Rattle.std.specs.List.{AllByRecursion};
-ghost use Rattle.entry_codec.specs.Spelling.{HasLatency};
+ghost use Rattle.entry_codec.specs.Spelling.{MayBeWritten};
 ghost use Rattle.sync_rules.specs.declared.entries.Entry.TheVariants as kind;
 
 use crate::messages::{Entries, Plan};
@@ -35,7 +35,7 @@ fn add_header(file: &mut Vec<u8>, format: Format) -> Result<(), AllocError> {
 
 /// Appends a frame behind its open gate. No entry of its batch names a held message by its number.
 fn add_frame(file: &mut Vec<u8>, batch: &Batch) -> Result<(), AllocError>
-    requires { AllByRecursion HasLatency batch.now }
+    requires { AllByRecursion MayBeWritten batch.now }
 {
     let len = batch_len(Format::Whole, batch).min(u32::MAX as usize) as u32;
     file.push(1)?;
@@ -58,7 +58,7 @@ fn settling_of(alloc: Global, id: MessageId) -> Result<Batch, AllocError>
 
 /// Appends the frame of an entry.
 fn add_entry(alloc: Global, file: &mut Vec<u8>, entry: Entry) -> Result<(), AllocError>
-    requires { HasLatency entry }
+    requires { MayBeWritten entry }
 {
     let batch = Batch::single(alloc, entry)?;
     add_frame(file, &batch)
@@ -99,7 +99,7 @@ fn add_settled(
     entry: Entry,
     held: u32,
 ) -> Result<u32, AllocError>
-    requires { HasLatency entry }
+    requires { MayBeWritten entry }
 {
     let posted = match &entry {
         Entry::Author(message) => Some(id_of(message)),

@@ -1,6 +1,6 @@
 //! The entries of a journal that brings messages, and the ids of these.
 ghost use Rattle.std.specs.Prelude.{IfOk};
-ghost use Rattle.entry_codec.specs.Spelling.{HasLatency};
+ghost use Rattle.entry_codec.specs.Spelling.{MayBeWritten};
 
 use crate::stop::Stop;
 use std::alloc::Global;
@@ -56,7 +56,7 @@ impl Entries {
 
     /// The entry of this number.
     pub(crate) fn get(&self, k: u64) -> Result<Entry, Stop>
-        ensures { IfOk result (λ entry. HasLatency entry) }
+        ensures { IfOk result (λ entry. MayBeWritten entry) }
     {
         if k == 0 {
             let def = make_group(self.alloc)?;
@@ -70,7 +70,7 @@ impl Entries {
 
     /// Two entries a contact: it is added, and the group is shared with it.
     fn share(&self, k: u64) -> Result<Entry, Stop>
-        ensures { IfOk result (λ entry. HasLatency entry) }
+        ensures { IfOk result (λ entry. MayBeWritten entry) }
     {
         let Ok(contact) = u8::try_from(k / 2) else {
             return Err(Stop::NoValue);

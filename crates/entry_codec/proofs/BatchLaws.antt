@@ -11,7 +11,7 @@ use Rattle.entry_codec.specs.Spelling.{EntryNames, IsEntry, IsOfFormat, spelling
 use Rattle.entry_codec.specs.Reading.{byte_in, entry_by, held_in}
 use Rattle.entry_codec.specs.Payloads.{batch_in, entries_in, followed, put_before, spellings}
 use Rattle.entry_codec.proofs.Bounds.{spelled_some}
-use Rattle.entry_codec.proofs.Kinds.{kind_read}
+use Rattle.entry_codec.proofs.FormatKinds.{kind_read}
 use Rattle.entry_codec.proofs.LawProofs.{reads}
 use Rattle.entry_codec.proofs.Readers.{IsBytes, IsBytes-rest}
 

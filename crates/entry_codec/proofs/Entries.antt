@@ -1,6 +1,6 @@
 -- The reader of an entry.
-use Rattle.std.proofs.Common.{◌≡◌, ℕ, ◌^◌, ◌<◌, Bool, true, false, List, [], ◌∷◌, ◌++◌, length, refl, sym, ap, subst, ◌∙◌}
-use Rattle.std.specs.Prelude.{Option, Some, None, if◌then◌else◌}
+use Rattle.std.proofs.Common.{◌≡◌, ℕ, ◌^◌, ◌<◌, List, [], ◌∷◌, ◌++◌, length, refl, sym, ap, subst, ◌∙◌}
+use Rattle.std.specs.Prelude.{Option, Some, None}
 use Rattle.std.specs.Int.{w32, w64, to_be_bytes}
 use Rattle.std.specs.List.{AllByRecursion}
 use Rattle.sync_ids.specs.Values.{IsMessage, MessageValue}
@@ -16,7 +16,7 @@ use Rattle.entry_codec.specs.declared.naming.Format.TheVariants as format
 use Rattle.entry_codec.specs.Spelling.{EntryNames, IsDef, IsEntry, IsId, IsOfFormat, IsOld, IsOrigin, IsOut, IsSession, IsTried, OutNames, def_bytes, entry_bytes, level_byte, message_bytes, origin_bytes, out_bytes, session_bytes, tried_bytes}
 use Rattle.entry_codec.specs.Reading.{IdReader, account_of, beside, both, byte_in, def_in, entry_by, entry_of, heard_of, id_in, is_between, known_of, level_in, made, meant, message_in, moved_of, be_number_in, origin_in, out_in, pair_in, session_in, step_of, tried_in}
 use Rattle.entry_codec.proofs.AccountParts.{kept_reads, tried_reads, want_reads}
-use Rattle.entry_codec.proofs.Kinds.{either, of_old}
+use Rattle.entry_codec.proofs.FormatKinds.{either, of_old}
 use Rattle.entry_codec.proofs.Readers.{IsBytes, IsReader, both_reads, byte_reads, part, part_is}
 use Rattle.entry_codec.proofs.Parts.{behind_byte, def_reads, id_reads, level_reads, message_reads, number32, number64, out_reads, session_reads, tested, told}
 

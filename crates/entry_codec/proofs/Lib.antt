@@ -10,7 +10,7 @@ mod Counts
 mod TakeCounts
 mod AccountParts
 mod Entries
-pub mod Kinds
+pub mod FormatKinds
 pub mod LawProofs
 mod Bounds
 mod Parts

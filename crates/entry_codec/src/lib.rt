@@ -14,8 +14,9 @@ mod values;
 mod writing;
 
 pub use batches::{batch_len, read_batch, write_batch};
-pub use lengths::{MAX_BATCH_LEN, MAX_SPELLING, entry_len, group_len, kept_len, short_len};
-pub use lengths::{spelled_len, step_bytes};
+pub use lengths::{
+    MAX_BATCH_LEN, MAX_SPELLING, entry_len, group_len, kept_len, short_len, spelled_len, step_bytes,
+};
 pub use naming::{Format, Names, NoNames, format_of};
 pub use reading::{EntryFound, read_entry, read_short};
 pub use writing::{write_entry, write_group, write_kept, write_short};

@@ -10,8 +10,9 @@ ghost use Rattle.entry_codec.specs.declared.naming.Format.TheVariants as format_
 use crate::front::Front;
 use crate::naming::{Format, Names, NoNames};
 use crate::stop::Stop;
-use crate::values::{read_def, read_level, read_message, read_origin, read_out, read_session};
-use crate::values::{read_tried};
+use crate::values::{
+    read_def, read_level, read_message, read_origin, read_out, read_session, read_tried,
+};
 use std::alloc::{AllocError, Global};
 use sync_ids::MessageId;
 use sync_rules::Entry;

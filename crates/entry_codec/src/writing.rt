@@ -340,6 +340,16 @@ fn append_kept(from: Origin, message: &Message, to: &mut Vec<u8>) -> Result<(), 
     append_message(message, to)
 }
 
+// Shows the prover that a row that may be stated is within its limits. It does nothing.
+fn show_tried(tried: &Tried)
+    requires { IsStated tried.now }
+    ensures { IsTried tried.now }
+{
+    let _contact = tried.contact;
+    let _expiry = tried.expiry;
+    show_whole(&tried.id);
+}
+
 fn append_tried<N: Names>(
     format: Format,
     names: &N,
@@ -350,9 +360,10 @@ fn append_tried<N: Names>(
     requires named { IsNamed format (N.named names.now) tried.now.id }
     ensures ok { OnOk result (to.new.items ≡ to.old.items
         ++ (18 ∷ tried_bytes (held_bytes format (N.named names.now)) tried.now)) }
-    ensures within { OnOk result (IsTried tried.now) }
+    ensures within { IsTried tried.now }
     ensures err { OnErr result (AddsTo to.old.items to.new.items) }
 {
+    show_tried(tried);
     to.extend_from_slice(&[18, tried.contact])?;
     append_held(format, names, &tried.id, to)?;
     to.extend_from_slice(&[flags_byte(tried), tried.tries])?;

@@ -4,10 +4,10 @@ use Rattle.std.specs.List.{AllByRecursion}
 use Rattle.std.proofs.lemmas.Bool.Decides.{nat_tests}
 use Rattle.sync_rules.specs.declared.entries.Entry.{Entry}
 use Rattle.sync_rules.specs.declared.entries.Entry.TheVariants as entry
-use Rattle.sync_rules.specs.Facts.{Facts, after, after_all, arrived, authored, contact_of}
+use Rattle.sync_rules.specs.Facts.{Facts, after, after_all, arrived, authored, contact_of, kept_as}
 use Rattle.entry_codec.specs.declared.naming.Format.TheVariants as kind
 use Rattle.entry_codec.specs.Payloads.{spellings}
-use Rattle.entry_codec.specs.Spelling.{HasLatency, IsEntry, spelling_in}
+use Rattle.entry_codec.specs.Spelling.{IsEntry, MayBeWritten, spelling_in}
 use Rattle.entry_codec.proofs.LawProofs.{not_longer}
 use Rattle.journal_migration.specs.Copying.{brought_by, counted_to, one_brought}
 
@@ -27,6 +27,10 @@ one_held f (entry.Offered s id) = omega arith
 one_held f (entry.Seen s id) = omega arith
 one_held f (entry.Asked s id) = omega arith
 one_held f (entry.Out s now what) = omega arith
+one_held f (entry.Brief n) = omega arith
+one_held f (entry.Kept from m) = omega (arith, length-append f.held (kept_as from m ∷ []))
+one_held f (entry.Tried t) = omega arith
+one_held f (entry.Want contact id) = omega arith
 
 pub all_held : (f : Facts) (es : List Entry) → length (after_all f es).held ≡ length f.held + brought_by es
 all_held f [] = omega arith
@@ -37,27 +41,31 @@ pub brought_push : (es : List Entry) (e : Entry) → brought_by (es ++ e ∷ [])
 brought_push [] e = omega arith
 brought_push (x ∷ es) e = omega (arith, brought_push es e)
 
--- an entry within its limits has a latency where it wants one
-latency_of : (e : Entry) → IsEntry e → HasLatency e
-latency_of (entry.Session s) is = is.some_latency
-latency_of (entry.Contact c) is = tt
-latency_of (entry.Group def) is = tt
-latency_of (entry.Level c g l) is = tt
-latency_of (entry.Take s k) is = tt
-latency_of (entry.Author m) is = tt
-latency_of (entry.Arrive s m) is = tt
-latency_of (entry.Judged id) is = tt
-latency_of (entry.Deliver id) is = tt
-latency_of (entry.Invalid id) is = tt
-latency_of (entry.Again s id) is = tt
-latency_of (entry.Offered s id) is = tt
-latency_of (entry.Seen s id) is = tt
-latency_of (entry.Asked s id) is = tt
-latency_of (entry.Out s now what) is = tt
+-- an entry within its limits may be written
+written_of : (e : Entry) → IsEntry e → MayBeWritten e
+written_of (entry.Session s) is = is.some_latency
+written_of (entry.Contact c) is = tt
+written_of (entry.Group def) is = tt
+written_of (entry.Level c g l) is = tt
+written_of (entry.Take s k) is = tt
+written_of (entry.Author m) is = tt
+written_of (entry.Arrive s m) is = tt
+written_of (entry.Judged id) is = tt
+written_of (entry.Deliver id) is = tt
+written_of (entry.Invalid id) is = tt
+written_of (entry.Again s id) is = tt
+written_of (entry.Offered s id) is = tt
+written_of (entry.Seen s id) is = tt
+written_of (entry.Asked s id) is = tt
+written_of (entry.Out s now what) is = tt
+written_of (entry.Brief n) is = tt
+written_of (entry.Kept from m) is = tt
+written_of (entry.Tried t) is = is.stated
+written_of (entry.Want contact id) is = tt
 
-pub latencies : (es : List Entry) → AllByRecursion IsEntry es → AllByRecursion HasLatency es
-latencies [] all = tt
-latencies (e ∷ es) all = (latency_of e all.0, latencies es all.1)
+pub all_written : (es : List Entry) → AllByRecursion IsEntry es → AllByRecursion MayBeWritten es
+all_written [] all = tt
+all_written (e ∷ es) all = (written_of e all.0, all_written es all.1)
 
 -- counts that stand still
 pub counted_more : (old new few many one : ℕ) → old ≡ counted_to few → many ≡ few + one → new ≡ min (old + one) (2 ^ 32 - 1) → new ≡ counted_to many

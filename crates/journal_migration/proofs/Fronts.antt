@@ -98,6 +98,7 @@ front_moves clients m n file format done end front found same =
           stands_own clients n m file found front.found same ∙ front.going
           ∙ ap (λ (bytes : List ℕ). rest_from clients format file bytes (end - 1) done) back;
       legal = front.legal;
+      kinds = front.kinds;
       within = front.within;
       long = ap (λ (bytes : List ℕ). length (take 14 bytes)) same ∙ front.long;
       whole = subst (λ (bytes : List ℕ). bytes ≡ take 14 bytes ++ flat_map frame_of (payloads format nothing done) ++ drop (end - 1) bytes) back front.whole;

@@ -1,13 +1,13 @@
-mod Sides
-mod Keeping
-mod FirstIds
+pub mod Sides
+pub mod Keeping
+pub mod FirstIds
 mod Brought
 pub mod Fronts
-mod Copied
-mod Errors
+pub mod Copied
+pub mod Errors
 mod All
-mod Shut
+pub mod Shut
 mod Begun
-mod Published
+pub mod Published
 mod Migrated
 mod Own

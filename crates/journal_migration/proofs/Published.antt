@@ -24,6 +24,7 @@ use Rattle.entry_codec.specs.Payloads.{journal_end, payloads}
 use Rattle.entry_codec.specs.Standing.{room_of}
 use Rattle.entry_codec.specs.StandingLaws.{HoldsJournal}
 use Rattle.entry_codec.specs.Spelling.{IsEntry}
+use Rattle.entry_codec.proofs.FormatKinds.{short_journal}
 use Rattle.entry_codec.proofs.FrontLaws.{found_open}
 use Rattle.journal_migration.specs.Cited.{CitedLaws}
 use Rattle.journal_migration.specs.Copying.{CopiesWhole, IsPair, marked}
@@ -109,6 +110,7 @@ module _ (laws : CitedLaws) (clients : Meaning) (generation : ℕ) (j : List (Li
             (subst (λ (d : List (List Entry)). HasFrames (opened bytes) (1 ∷ marked (generation + 1)) (payloads kind.Short nothing d)) all.0
             (opened_frames bytes whole.copies.gate (generation + 1) _ frames));
         legal = subst (Legal clients) all.0 whole.copies.front.legal;
+        kinds = short_journal j;
         within = subst (λ (d : List (List Entry)). AllByRecursion (AllByRecursion IsEntry) d) all.0 whole.copies.front.within;
         bounded = second_bounded;
       }

@@ -26,6 +26,7 @@ use Rattle.journal_migration.specs.declared.fault.MigrationFault.TheVariants as 
 abbrev pub one_brought : Entry → ℕ
 one_brought (entry.Author m) = 1
 one_brought (entry.Arrive s m) = 1
+one_brought (entry.Kept from m) = 1
 one_brought _ = 0
 
 abbrev pub brought_by : List Entry → ℕ

@@ -4,11 +4,13 @@ use journal_state::State;
 use sync_ids::{MessageId, message_ids_are_whole};
 use sync_rules::View;
 
-// The first so many messages that a state holds, each named by its arrival number.
+/// The first so many messages that a state holds, each named by its arrival number.
 #[derive(Drop)]
-pub(crate) struct FirstNames<'a> {
-    pub(crate) state: &'a State,
-    pub(crate) count: u32,
+pub struct FirstNames<'a> {
+    /// The state.
+    pub state: &'a State,
+    /// How many of its messages have names; the others have none.
+    pub count: u32,
 }
 
 impl<'a> Names for FirstNames<'a> {

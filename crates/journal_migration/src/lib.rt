@@ -12,4 +12,5 @@ mod naming;
 mod spelling;
 
 pub use fault::MigrationFault;
-pub use migrating::migrate;
+pub use first_names::FirstNames;
+pub use migrating::{begin, migrate};

@@ -66,8 +66,10 @@ pub fn migrate<D: Disk>(
     Ok(writer)
 }
 
-// Begins a journal of format 2 in this file, all but the gate of its header.
-fn begin<D: Disk>(disk: &mut D, file: u8, generation: u64) -> Result<Journal, DiskFault>
+/// Begins a journal of format 2 with this generation in this file, all but the gate of its header:
+/// the file is cleared and prepared. At each moment until then it is as it was or has no open
+/// header. It takes no memory.
+pub fn begin<D: Disk>(disk: &mut D, file: u8, generation: u64) -> Result<Journal, DiskFault>
     requires file { file < 2 }
     requires settled { ForSome (D.tells disk.old).files IsSettledBoth }
     ensures value { IfOk result (λ n. n ≡ fresh file 2 generation) }

@@ -35,8 +35,10 @@ fn is_named<N: Names>(names: &N, entry: &Entry) -> bool
         Entry::Seen(_, id) => names.number(id).is_some(),
         Entry::Asked(_, id) => names.number(id).is_some(),
         Entry::Out(_, _, what) => is_output_named(names, what),
+        Entry::Tried(tried) => names.number(&tried.id).is_some(),
         Entry::Contact(_) | Entry::Group(_) | Entry::Level(_, _, _) | Entry::Session(_) => true,
         Entry::Take(_, _) | Entry::Author(_) | Entry::Arrive(_, _) | Entry::Offered(_, _) => true,
+        Entry::Brief(_) | Entry::Kept(_, _) | Entry::Want(_, _) => true,
     }
 }
 
@@ -80,6 +82,7 @@ fn one_brought(entry: &Entry) -> u32
     match entry {
         Entry::Author(_) => 1,
         Entry::Arrive(_, _) => 1,
+        Entry::Kept(_, _) => 1,
         _ => 0,
     }
 }

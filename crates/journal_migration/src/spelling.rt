@@ -5,7 +5,7 @@ ghost use Rattle.outside.specs.declared.limits.TheConstants.{MAX_FRAME};
 ghost use Rattle.frame_journal.specs.Append.{framed_of};
 ghost use Rattle.entry_codec.specs.Naming.{IsNamed};
 ghost use Rattle.entry_codec.specs.Payloads.{names_of, payload_len, spellings};
-ghost use Rattle.entry_codec.specs.Spelling.{EntryNames, HasLatency};
+ghost use Rattle.entry_codec.specs.Spelling.{EntryNames, MayBeWritten};
 ghost use Rattle.entry_codec.specs.declared.naming.Format.TheVariants as kind;
 ghost use Rattle.journal_migration.specs.Copying.{IsRespelled};
 
@@ -52,7 +52,7 @@ pub(crate) fn respell(
 
 // A batch's payload in format 2 behind its length, and a closed gate.
 fn frame<N: Names>(alloc: Global, names: &N, batch: &Batch) -> Result<Vec<u8>, AllocError>
-    requires latency { AllByRecursion HasLatency batch.now }
+    requires written { AllByRecursion MayBeWritten batch.now }
     requires named { AllByRecursion (EntryNames (IsNamed kind.Short (N.named names.now)))
         batch.now }
     requires few { payload_len kind.Short batch.now ≤ MAX_FRAME }

@@ -1,7 +1,7 @@
 // Each kind of entry against bytes that were written by hand, whole and cut at each byte, and the
 // borders of every limit.
 
-ghost use Rattle.entry_codec.specs.Spelling.{HasLatency};
+ghost use Rattle.entry_codec.specs.Spelling.{IsOld, MayBeWritten};
 
 use crate::checks::{made, same};
 use crate::fixtures::{definition, list, message};
@@ -45,7 +45,8 @@ fn check_fronts(rt: &impl Abort, alloc: Global, bytes: &[u8]) {
 
 // The entry is written so, read again whatever follows, and no front of the bytes is read.
 fn check(rt: &impl Abort, alloc: Global, entry: Entry, bytes: &[u8])
-    requires { HasLatency entry }
+    requires written { MayBeWritten entry }
+    requires old { IsOld entry }
 {
     let len = entry_len(&entry);
     let mut written = Vec::new(alloc);
@@ -57,7 +58,8 @@ fn check(rt: &impl Abort, alloc: Global, entry: Entry, bytes: &[u8])
 }
 
 fn session(mode: Mode, nonce: Option<Nonce>) -> Entry
-    ensures { HasLatency result }
+    ensures written { MayBeWritten result }
+    ensures old { IsOld result }
 {
     Entry::Session(Session {
         number: 0x01020304,

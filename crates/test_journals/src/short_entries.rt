@@ -3,7 +3,7 @@
 
 ghost use Rattle.std.specs.Prelude.{◌≡◌, true};
 ghost use Rattle.sync_rules.specs.Lists.{is_among};
-ghost use Rattle.entry_codec.specs.Spelling.{EntryNames, HasLatency};
+ghost use Rattle.entry_codec.specs.Spelling.{EntryNames, MayBeWritten};
 
 use crate::checks::{made, same};
 use crate::fixtures::list;
@@ -140,7 +140,7 @@ fn numbers_of_none(rt: HostRuntime) {
 }
 
 fn check_written(rt: &impl Abort, alloc: Global, names: &TwoNames, entry: &Entry, bytes: &[u8])
-    requires latency { HasLatency entry.now }
+    requires written { MayBeWritten entry.now }
     requires named { EntryNames (λ id. is_among names.now id ≡ true) entry.now }
 {
     let mut written = Vec::new(alloc);
