@@ -1,0 +1,4 @@
+pub mod Tests
+pub mod Standing
+pub mod Reading
+pub mod Ends
