@@ -3,22 +3,25 @@
 
 ghost use Rattle.std.specs.Prelude.{◌≡◌, true};
 ghost use Rattle.sync_rules.specs.Lists.{is_among};
+ghost use Rattle.entry_codec.specs.Spelling.{IsOld};
 ghost use Rattle.entry_codec.specs.Spelling.{EntryNames, MayBeWritten};
 
 use crate::checks::{made, same};
-use crate::fixtures::list;
+use crate::fixtures::{list, message};
 use crate::two_names::TwoNames;
-use entry_codec::{EntryFound, entry_len, read_short, short_len, write_short};
+use entry_codec::{EntryFound, entry_len, read_entry, read_short, short_len, write_short};
 use std::alloc::Global;
 use std::process::Abort;
-use sync_ids::{Fixed, MessageId};
-use sync_rules::{Entry, Out};
+use sync_ids::{Fixed, GroupId, MessageId};
+use sync_rules::{Entry, Origin, Out, Tried};
 
 const FIRST: MessageId = Fixed(*b"AAAAAAAAAAAAAAAAAAAAAAAAAAAAAAAA");
 
 const SECOND: MessageId = Fixed(*b"BBBBBBBBBBBBBBBBBBBBBBBBBBBBBBBB");
 
 const OTHER: MessageId = Fixed(*b"0123456789abcdef0123456789ABCDEF");
+
+const GROUP: GroupId = Fixed(*b"GGGGGGGGGGGGGGGGGGGGGGGGGGGGGGGG");
 
 // How many bytes the entry takes that the bytes begin with; none where there is no such entry.
 fn used_in(rt: &impl Abort, alloc: Global, names: &TwoNames, bytes: &[u8]) -> Option<usize> {
@@ -34,13 +37,17 @@ fn text_of(rt: &impl Abort, alloc: Global, entry: &Entry) -> String {
 
 // The entry is read of these bytes, of which it takes all, and of no front of them; in format 1 it
 // has so many bytes.
-fn check(rt: &impl Abort, alloc: Global, entry: Entry, bytes: &[u8], whole: usize) {
+fn check(rt: &impl Abort, alloc: Global, entry: Entry, bytes: &[u8], whole: usize)
+    requires { IsOld entry }
+{
+    same(rt, &entry_len(&entry), &whole);
+    check_short(rt, alloc, entry, bytes);
+}
+
+// The same of an entry of any kind, in format 2 alone.
+fn check_short(rt: &impl Abort, alloc: Global, entry: Entry, bytes: &[u8]) {
     let names = made(rt, TwoNames::new(FIRST, SECOND));
-    same(
-        rt,
-        &(short_len(&entry), entry_len(&entry)),
-        &(bytes.len(), whole),
-    );
+    same(rt, &short_len(&entry), &bytes.len());
     match made(rt, read_short(alloc, bytes, &names)) {
         EntryFound::One(again, used) => {
             same(rt, &used, &bytes.len());
@@ -169,4 +176,119 @@ fn written(rt: HostRuntime) {
     let send = Entry::Out(2, 1000, Out::Send(second));
     let bytes = b"\x0f\x00\x00\x00\x02\x00\x00\x00\x00\x00\x00\x03\xe8\x03\x00\x00\x00\x01";
     check_written(&rt, alloc, &names, &send, bytes);
+}
+
+const KEPT: &[u8] =
+    b"\x11\x00\x00GGGGGGGGGGGGGGGGGGGGGGGGGGGGGGGG\x00\x00\x00\x00\x00\x00\x00\x05\x00\x01x";
+
+const KEPT_FROM: &[u8] =
+    b"\x11\x01\x07GGGGGGGGGGGGGGGGGGGGGGGGGGGGGGGG\x7f\xff\xff\xff\xff\xff\xff\xfe\x00\x02hi";
+
+// A row of the second message for contact 7: seen and asked, tried three times.
+const ROW: Tried = Tried {
+    contact: 7,
+    id: SECOND,
+    seen: true,
+    owed: false,
+    asked: true,
+    tries: 3,
+    expiry: 0x0102_0304_0506_0708,
+};
+
+const TRIED: &[u8] = b"\x12\x07\x00\x00\x00\x01\x05\x03\x01\x02\x03\x04\x05\x06\x07\x08";
+
+const WANT: &[u8] = b"\x13\x070123456789abcdef0123456789ABCDEF";
+
+#[test]
+fn of_a_brief_account(rt: HostRuntime) {
+    let alloc = rt.alloc();
+    check_short(
+        &rt,
+        alloc,
+        Entry::Brief(0x0102_0304),
+        b"\x10\x01\x02\x03\x04",
+    );
+    let first = message(&rt, alloc, &GROUP, 5, b"x");
+    check_short(&rt, alloc, Entry::Kept(Origin::Author, first), KEPT);
+    let second = message(&rt, alloc, &GROUP, 0x7fff_ffff_ffff_fffe, b"hi");
+    check_short(&rt, alloc, Entry::Kept(Origin::From(7), second), KEPT_FROM);
+    check_short(&rt, alloc, Entry::Tried(ROW), TRIED);
+    check_short(&rt, alloc, Entry::Want(7, OTHER), WANT);
+    for bytes in &[b"\x10\x01\x02\x03\x04", KEPT, KEPT_FROM, TRIED, WANT] {
+        match made(&rt, read_entry(alloc, bytes)) {
+            EntryFound::BadEntry => {}
+            EntryFound::One(_, _) => panic!(&rt; "read in format 1"),
+        }
+    }
+}
+
+// A message written here that names a contact, another flag, and rows that are empty, of no held
+// message, with a further flag, too many tries, or a wait without a try.
+#[test]
+fn of_no_brief_account(rt: HostRuntime) {
+    let names = made(&rt, TwoNames::new(FIRST, SECOND));
+    let cases: &[(&[u8], Option<usize>)] = &[
+        (
+            b"\x11\x00\x01GGGGGGGGGGGGGGGGGGGGGGGGGGGGGGGG\x00\x00\x00\x00\x00\x00\x00\x05\x00\x01x",
+            None,
+        ),
+        (
+            b"\x11\x02\x00GGGGGGGGGGGGGGGGGGGGGGGGGGGGGGGG\x00\x00\x00\x00\x00\x00\x00\x05\x00\x01x",
+            None,
+        ),
+        (
+            b"\x12\x07\x00\x00\x00\x01\x00\x40\xff\xff\xff\xff\xff\xff\xff\xff",
+            Some(16),
+        ),
+        (
+            b"\x12\x07\x00\x00\x00\x01\x02\x01\x00\x00\x00\x00\x00\x00\x00\x00",
+            Some(16),
+        ),
+        (
+            b"\x12\x07\x00\x00\x00\x01\x07\x00\x00\x00\x00\x00\x00\x00\x00\x00",
+            Some(16),
+        ),
+        (
+            b"\x12\x07\x00\x00\x00\x01\x00\x00\x00\x00\x00\x00\x00\x00\x00\x00",
+            None,
+        ),
+        (
+            b"\x12\x07\x00\x00\x00\x02\x01\x00\x00\x00\x00\x00\x00\x00\x00\x00",
+            None,
+        ),
+        (
+            b"\x12\x07\x00\x00\x00\x01\x08\x01\x00\x00\x00\x00\x00\x00\x00\x00",
+            None,
+        ),
+        (
+            b"\x12\x07\x00\x00\x00\x01\x01\x41\x00\x00\x00\x00\x00\x00\x00\x00",
+            None,
+        ),
+        (
+            b"\x12\x07\x00\x00\x00\x01\x01\x00\x00\x00\x00\x00\x00\x00\x00\x01",
+            None,
+        ),
+        (b"\x14\x00", None),
+    ];
+    for (bytes, want) in cases {
+        let used = used_in(&rt, rt.alloc(), &names, bytes);
+        same(&rt, &(*bytes, used), &(*bytes, *want));
+    }
+}
+
+#[test]
+fn an_account_is_written(rt: HostRuntime) {
+    let alloc = rt.alloc();
+    let names = made(&rt, TwoNames::new(FIRST, SECOND));
+    let kept = Entry::Kept(
+        Origin::From(7),
+        message(&rt, alloc, &GROUP, 0x7fff_ffff_ffff_fffe, b"hi"),
+    );
+    check_written(&rt, alloc, &names, &kept, KEPT_FROM);
+    let row = Tried {
+        id: names.second(),
+        ..ROW
+    };
+    check_written(&rt, alloc, &names, &Entry::Tried(row), TRIED);
+    check_written(&rt, alloc, &names, &Entry::Want(7, OTHER), WANT);
 }
