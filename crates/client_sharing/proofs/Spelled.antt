@@ -140,7 +140,7 @@ found_def bytes f back is = go (def_of bytes) refl where
       let told = def_told bytes d e in
       let whole : ℕ = length (2 ∷ bytes) in
       let spelled : Spells (entry.Group d) (2 ∷ bytes) =
-      record { within = told.0; named = tt; is = ap (λ (l : List ℕ). 2 ∷ l) told.1 } in
+      record { kind = tt; within = told.0; named = tt; is = ap (λ (l : List ℕ). 2 ∷ l) told.1 } in
       let same : f ≡ found.One (entry.Group d) whole =
       back format.Whole [] no_names (entry.Group d) (2 ∷ bytes) [] f spelled (subst (λ (l : List ℕ). IsRead l f) (sym (append-nil (2 ∷ bytes))) is) in
       ap (whole_def whole) same ∙ ap (λ (b : Bool). cond b (Some d) None) (eq-eqb whole whole refl) ∙ sym e
