@@ -199,7 +199,7 @@ device_ran laws w devices links d old new s is runs =
     let within : d < length w.journals = omega (arith, s.up.same_number, get_within devices d old is) in
     record {
       journal = journal_at w d ++ comes.more;
-      reached = run_reached bundle_meaning d w.journals w.links w.links (journal_at w d ++ comes.more) comes.more (records_for old) within refl comes.allowed comes.all_heard
+      reached = run_reached bundle_meaning d w.journals w.links w.links (journal_at w d ++ comes.more) comes.more (records_for old) within refl comes.allowed comes.plain comes.all_heard
           (λ session r inside. node_heard laws w devices links d old old.node s is refl session r inside) (links_same d (journal_at w d ++ comes.more) w.links);
       reads = comes.reads;
       holds = comes.holds;

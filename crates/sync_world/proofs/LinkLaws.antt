@@ -172,7 +172,7 @@ begun_shown d a session contact far j l x side.Far s own fresh is known =
 pub ran_links : (d : ℕ) (js : List Journal) (xs ys : List RecordLink) → LinksRun d (journal_in js d) xs ys → Reaches bundle_meaning (world_of js xs) (world_of js ys)
 ran_links d js xs ys runs =
     reaches_one bundle_meaning (world_of js xs) (world_of js ys)
-    (inl (d, device_runs bundle_meaning d (world_of js xs) (world_of js ys) [] (λ session. []) (sym (append-nil (journal_in js d))) tt (λ e apart. refl) tt (λ session r inside. absurd inside) runs))
+    (inl (d, device_runs bundle_meaning d (world_of js xs) (world_of js ys) [] (λ session. []) (sym (append-nil (journal_in js d))) tt refl (λ e apart. refl) tt (λ session r inside. absurd inside) runs))
 
 drop_none : (xs : List ℕ) (n : ℕ) → n ≡ 0 → drop n xs ≡ xs
 drop_none xs n is = ap (λ (k : ℕ). drop k xs) is

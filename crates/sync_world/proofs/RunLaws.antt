@@ -11,7 +11,7 @@ use Rattle.sync_rules.proofs.Elements.{In-append_cases, In-append_left, In-appen
 use Rattle.sync_rules.specs.Facts.{Facts, after_all, facts}
 use Rattle.sync_rules.specs.Legal.{GoesOn}
 use Rattle.sync_rules.specs.Output.{sent}
-use Rattle.world_laws.specs.Worlds.{AllHeard, End, HasSession, IsHeard, Journal, Link as RecordLink, Runs, WasGiven, WayRuns, WaysRun, World, contact_for, journal_at, journal_in, link_in, way_in, way_of}
+use Rattle.world_laws.specs.Worlds.{AllHeard, End, HasNoBrief, HasSession, IsHeard, Journal, Link as RecordLink, Runs, WasGiven, WayRuns, WaysRun, World, contact_for, journal_at, journal_in, link_in, way_in, way_of}
 use Rattle.sync_world.specs.Shown.{BeginsAt, EndRuns, IsGivenAt, LinkRuns, LinksRun, MovesTo, Reaches, emptied, emptied_end, given_on, heard_by, is_session, left_link, world_of}
 use Rattle.sync_world.proofs.ReachLaws.{reaches_one}
 
@@ -287,13 +287,14 @@ journal_set_other (k ∷ js) (suc d) j (suc e) other = journal_set_other js d j 
 -- ---- the step
 
 pub device_runs : (clients : Meaning) (d : ℕ) (old new : World) (more : Journal) (heard : ℕ → List Record) → journal_at new d ≡ journal_at old d ++ more
-    → GoesOn clients (facts (journal_at old d)) more → ((e : ℕ) → (e ≡ d → ⊥) → journal_at new e ≡ journal_at old e)
+    → GoesOn clients (facts (journal_at old d)) more → HasNoBrief more → ((e : ℕ) → (e ≡ d → ⊥) → journal_at new e ≡ journal_at old e)
     → AllHeard heard (facts (journal_at old d)) more → ((session : ℕ) (r : Record) → In r (heard session) → In r (heard_by d new.links session))
     → LinksRun d (journal_at new d) old.links new.links → Runs clients d old new
-device_runs clients d old new more heard goes_on allowed others all_heard given links = record {
+device_runs clients d old new more heard goes_on allowed plain others all_heard given links = record {
   more = more;
   goes_on = goes_on;
   allowed = allowed;
+  plain = plain;
   others = others;
   heard = heard;
   all_heard = all_heard;
@@ -303,15 +304,15 @@ device_runs clients d old new more heard goes_on allowed others all_heard given 
 
 -- the journal of a device is set, and its links go on
 pub run_reached : (clients : Meaning) (d : ℕ) (js : List Journal) (xs ys : List RecordLink) (j more : Journal) (heard : ℕ → List Record) → d < length js
-    → j ≡ journal_in js d ++ more → GoesOn clients (facts (journal_in js d)) more → AllHeard heard (facts (journal_in js d)) more
+    → j ≡ journal_in js d ++ more → GoesOn clients (facts (journal_in js d)) more → HasNoBrief more → AllHeard heard (facts (journal_in js d)) more
     → ((session : ℕ) (r : Record) → In r (heard session) → In r (heard_by d ys session)) → LinksRun d j xs ys
     → Reaches clients (world_of js xs) (world_of (slice_set js d j) ys)
-run_reached clients d js xs ys j more heard within goes_on allowed all_heard given links =
+run_reached clients d js xs ys j more heard within goes_on allowed plain all_heard given links =
     let own : journal_in (slice_set js d j) d ≡ j = journal_set_own js d j within in
     reaches_one clients (world_of js xs) (world_of (slice_set js d j) ys)
     (inl (
       d,
-      device_runs clients d (world_of js xs) (world_of (slice_set js d j) ys) more heard (own ∙ goes_on) allowed (journal_set_other js d j) all_heard given
+      device_runs clients d (world_of js xs) (world_of (slice_set js d j) ys) more heard (own ∙ goes_on) allowed plain (journal_set_other js d j) all_heard given
           (subst (λ (k : Journal). LinksRun d k xs ys) (sym own) links),
     ))
 
@@ -321,7 +322,7 @@ left_reached clients d js xs = record {
   reached = reaches_one clients (world_of js xs) (world_of js (map (left_link d) xs))
       (inl (
         d,
-        device_runs clients d (world_of js xs) (world_of js (map (left_link d) xs)) [] (λ session. []) (sym (append-nil (journal_in js d))) tt (λ e other. refl) tt
+        device_runs clients d (world_of js xs) (world_of js (map (left_link d) xs)) [] (λ session. []) (sym (append-nil (journal_in js d))) tt refl (λ e other. refl) tt
             (λ session r inside. absurd inside) (links_left d (journal_in js d) xs),
       ));
   journals = refl;

@@ -116,7 +116,7 @@ sound_runs laws clients d js ls ls' j heard within adds given runs s =
       links = made.after;
       shown = made.shown;
       sound = reaches_sound laws clients (world_of js s.links) (world_of (slice_set js d j) made.after)
-          (run_reached clients d js s.links made.after j adds.more heard within adds.goes_on adds.allowed adds.all_heard
+          (run_reached clients d js s.links made.after j adds.more heard within adds.goes_on adds.allowed adds.plain adds.all_heard
           (λ session r inside. heard_stays d j session s.links made.after r made.runs (given s.links s.shown session r inside)) made.runs) s.sound;
     }
 

@@ -9,7 +9,7 @@ use Rattle.sync_rules.specs.Facts.{facts}
 use Rattle.world_laws.specs.Worlds.{AreSteps, Journal, World, journal_at, journal_in, last_of}
 use Rattle.world_devices.specs.Devices.{DeviceValue}
 use Rattle.world_devices.specs.Linking.{IsNewDevice, IsUnlinked, new_journal}
-use Rattle.world_devices.proofs.NewJournals.{new_holds, new_knows}
+use Rattle.world_devices.proofs.NewJournals.{new_holds, new_knows, new_plain}
 use Rattle.world_links.specs.declared.link.Link.{Link}
 use Rattle.world_devices.specs.declared.stop.StepFault.{StepFault}
 use Rattle.world_devices.specs.declared.stop.StepFault.TheVariants as fault
@@ -121,7 +121,7 @@ begun contacts clock (x ∷ xs) all =
     record { runs = one.runs; holds = one.holds; legal = one.legal; numbered = one.unlinked.unlinked ∙ ap (λ (n : ℕ). Some n) (sym one.unlinked.none) } in
     record {
       journals = whole ∷ rest.journals;
-      new = (record { legal = one.legal; empty = new_holds contacts }, rest.new);
+      new = (record { legal = one.legal; plain = new_plain contacts; empty = new_holds contacts }, rest.new);
       up = record { same_number = ap suc rest.up.same_number; each = up_more whole rest.journals x xs up rest.up };
       unlinked = unlinked_more x xs one.unlinked rest.unlinked;
       known = known_more contacts whole rest.journals x xs (new_knows contacts) rest.known;

@@ -20,7 +20,7 @@ use Rattle.world_links.specs.Ends.{EndValue, flight_behind}
 use Rattle.world_links.specs.Links.{all_carried, end_of}
 use Rattle.world_laws.specs.Moves.{Move as WorldMove, Carry, Lose, Repeat, Swap}
 use Rattle.world_laws.specs.Theorem.{IsSoundWorld}
-use Rattle.world_laws.specs.Worlds.{AllHeard, AreSteps, End, HasSession, IsSent, Journal, Link as RecordLink, World, contact_for, last_of, link_in, way_of}
+use Rattle.world_laws.specs.Worlds.{AllHeard, AreSteps, End, HasNoBrief, HasSession, IsSent, Journal, Link as RecordLink, World, contact_for, last_of, link_in, way_of}
 
 -- ---- what is shown
 
@@ -154,9 +154,10 @@ heard_by d (x ∷ xs) session = given_on d session x.near ++ (given_on d session
 
 -- ---- the beginning
 
--- a legal journal that holds no message
+-- a legal journal that begins no brief account and holds no message
 pub record IsNewJournal (clients : Meaning) (j : Journal) : Type 0 where
   pub legal : Legal clients j
+  pub plain : HasNoBrief j
   pub empty : (facts j).held ≡ []
 
 -- a journal that is legal and within the limits of its entries
@@ -250,9 +251,11 @@ pub record ShowsSound (clients : Meaning) (js : List Journal) (ls : List Link) :
   pub shown : ShowsLinks ls links
   pub sound : IsSoundWorld clients (world_of js links)
 
--- what a device adds to its journal while it runs: it may follow, and each record that is taken was heard
+-- what a device adds to its journal while it runs: it may follow, it begins no brief account, and each record that is taken was
+-- heard
 pub record AddsHeard (clients : Meaning) (before j : Journal) (heard : ℕ → List Record) : Type 0 where
   pub more : Journal
   pub goes_on : j ≡ before ++ more
   pub allowed : GoesOn clients (facts before) more
+  pub plain : HasNoBrief more
   pub all_heard : AllHeard heard (facts before) more

@@ -77,7 +77,7 @@ pub runs_files : (old new : DeviceValue) → (host_told new.host).files ≡ (hos
 runs_files old new same = record {
   comes = λ j holds.
       let whole : Holds (j ++ []) new.host = subst (λ (k : Journal). Holds k new.host) (sym (append-nil j)) (holds_files j old.host new.host same holds) in
-      record { more = []; allowed = tt; all_heard = tt; reads = holds_reads (j ++ []) new.host whole; holds = λ _. whole };
+      record { more = []; allowed = tt; plain = refl; all_heard = tt; reads = holds_reads (j ++ []) new.host whole; holds = λ _. whole };
 }
 
 pub runs_none : (d : DeviceValue) → DeviceRuns d d

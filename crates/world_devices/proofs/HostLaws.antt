@@ -120,8 +120,8 @@ begins_images (Some old) None begins two is left image = absurd begins
 begins_images (Some old) (Some new) begins two is left image =
     let same : two ≡ new = (let both : Some new ≡ Some two = is in cc) in
     record {
-      whole = [];
-      front = record { rest = []; whole = refl };
+      more = [];
+      plain = refl;
       stands_for = begins.each_image bundle_meaning left (subst (λ (t : Two File). IsImage t left) same image);
     }
 

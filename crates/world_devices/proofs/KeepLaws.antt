@@ -7,7 +7,7 @@ use Rattle.outside.specs.Files.{Two, File, IsFileImage, read_files, settled}
 use Rattle.outside.specs.Links.{Link, HeardOn, sent_of}
 use Rattle.outside.specs.Outside.{Outside, Moment}
 use Rattle.outside.specs.Runs.{IsFront, Told, answers_at, heard_bytes, sent_at}
-use Rattle.outside.proofs.RunLaws.{front_then, front_same}
+use Rattle.outside.proofs.RunLaws.{front_same}
 use Rattle.frame_journal.specs.Gates.{AnyImage}
 use Rattle.client_basic.specs.Bodies.{bundle_meaning}
 use Rattle.record_grammar.specs.Spelling.{spelling}
@@ -15,19 +15,20 @@ use Rattle.sync_ids.specs.declared.records.Record.{Record}
 use Rattle.entry_codec.specs.Standing.{stands, journal}
 use Rattle.sync_rules.specs.declared.entries.Entry.{Entry}
 use Rattle.sync_rules.specs.declared.entries.Session.{Session}
-use Rattle.sync_rules.specs.Facts.{takes_of}
-use Rattle.sync_rules.specs.Legal.{Legal}
+use Rattle.sync_rules.specs.Facts.{Facts, facts, takes_of}
+use Rattle.sync_rules.specs.Legal.{AllSettling, Legal}
 use Rattle.sync_rules.specs.Output.{sent}
 use Rattle.sync_store.specs.Store.{StoreValue}
 use Rattle.sync_store.specs.Fitting.{Fits}
 use Rattle.sync_store.specs.Moments.{IsBetween, Leads}
-use Rattle.sync_node.specs.Adding.{AddsAtMost}
+use Rattle.sync_node.specs.Adding.{AddsAtMost, IsPlain}
 use Rattle.sync_node.specs.declared.link.Link.{Link as NodeLink}
 use Rattle.sync_node.specs.Joined.{HasTaken, IsJoined, IsUnused, Joined}
 use Rattle.sync_node.specs.Node.{Attaches, KeepsJoined, KeepsSafe, NodeValue, PlansSafe}
 use Rattle.sync_node.specs.Output.{AreOutput, heard_on, output, sent_on}
 use Rattle.sync_node.specs.Safe.{Begin, IsCovered, IsCoveredNow, Safe, read_now}
 use Rattle.world_devices.specs.Cited.{SentGrows}
+use Rattle.world_devices.proofs.PlainLaws.{WentOn, went_adding, went_between, went_running, went_then}
 use Rattle.world_devices.specs.Keeping.{GoOnFrom, IsQuiet, IsSafeRun, Journal, Keeps, KeepsOn, TellsSame}
 
 -- ---- files
@@ -54,39 +55,41 @@ keeps_looks o o' two is any j k =
     let run = any two is in
     keeps_by j o o' run.later (λ m w. k.each two is m.files (run.each m w).image)
 
--- the journal that a store has goes on from it
 same_journal : (a b : Journal) (files : Two (List ℕ)) → stands bundle_meaning files ≡ journal a → stands bundle_meaning files ≡ journal b → a ≡ b
 same_journal a b files first second = let both : journal a ≡ journal b = sym first ∙ second in cc
 
-fits_front : (j j0 : Journal) (o : Outside) (s : StoreValue) (two : Two File) → o.files ≡ Some two → Keeps j o → Fits bundle_meaning s j0 two → IsFront j j0
-fits_front j j0 o s two is k fits =
+-- the journal that a store has went on from it
+pub went_fits : (j j0 : Journal) (o : Outside) (s : StoreValue) (two : Two File) → o.files ≡ Some two → Keeps j o → Fits bundle_meaning s j0 two → WentOn j j0
+went_fits j j0 o s two is k fits =
     let reads = k.each two is (read_files two) (o.reads two is) in
-    subst (λ (w : Journal). IsFront j w) (same_journal reads.whole j0 (read_files two) reads.stands_for fits.stands_for) reads.front
+    record { more = reads.more; plain = reads.plain; is = same_journal j0 (j ++ reads.more) (read_files two) fits.stands_for reads.stands_for }
+
+-- files that stand for a journal which went on from it
+goes_on : (j whole : Journal) (files : Two (List ℕ)) → WentOn j whole → stands bundle_meaning files ≡ journal whole → GoOnFrom j files
+goes_on j whole files went stood = record { more = went.more; plain = went.plain; stands_for = stood ∙ ap journal went.is }
 
 module _ (P Q : Journal → Type 0) where
   keeps_leads : (j j0 : Journal) (s s' : StoreValue) (o o' : Outside) (two : Two File) → o.files ≡ Some two → Keeps j o → Fits bundle_meaning s j0 two
-      → ((whole : Journal) → P whole → IsFront j0 whole) → Leads bundle_meaning P Q s' o o' → Keeps j o'
-  keeps_leads j j0 s s' o o' two is k fits front leads =
+      → ((whole : Journal) → P whole → WentOn j0 whole) → Leads bundle_meaning P Q s' o o' → Keeps j o'
+  keeps_leads j j0 s s' o o' two is k fits went leads =
       keeps_by j o o' leads.moments.later (λ m w.
       let at = leads.moments.each m w in
-      record { whole = at.whole; front = front_then j j0 at.whole (fits_front j j0 o s two is k fits) (front at.whole at.has); stands_for = at.stands_for })
-
-between_front : (j0 more whole : Journal) → IsBetween j0 more whole → IsFront j0 whole
-between_front j0 more whole b = record { rest = b.front; whole = b.is }
+      goes_on j at.whole m.files (went_then j j0 at.whole (went_fits j j0 o s two is k fits) (went at.whole at.has)) at.stands_for)
 
 adds_front : (j0 whole : Journal) (batch : List Entry) → AddsAtMost bundle_meaning j0 batch whole → IsFront j0 whole
 adds_front j0 whole batch (inl same) = front_same j0 whole same
 adds_front j0 whole batch (inr adds) = record { rest = batch ∷ adds.more; whole = adds.is }
 
 pub keeps_settling : (more j0 : Journal) (s s' : StoreValue) (o o' : Outside) (two : Two File) → o.files ≡ Some two → Fits bundle_meaning s j0 two
-    → Leads bundle_meaning (IsBetween j0 more) (λ whole. whole ≡ j0 ++ more) s' o o' → KeepsOn o o'
-keeps_settling more j0 s s' o o' two is fits leads j k =
-    keeps_leads (IsBetween j0 more) (λ whole. whole ≡ j0 ++ more) j j0 s s' o o' two is k fits (between_front j0 more) leads
+    → AllSettling bundle_meaning s.state.facts more → Leads bundle_meaning (IsBetween j0 more) (λ whole. whole ≡ j0 ++ more) s' o o' → KeepsOn o o'
+keeps_settling more j0 s s' o o' two is fits settling leads j k =
+    let all : AllSettling bundle_meaning (facts j0) more = subst (λ (f : Facts). AllSettling bundle_meaning f more) (sym fits.facts_are) settling in
+    keeps_leads (IsBetween j0 more) (λ whole. whole ≡ j0 ++ more) j j0 s s' o o' two is k fits (λ whole at. went_between j0 more whole all at) leads
 
-pub keeps_adding : (batch : List Entry) (j0 : Journal) (s s' : StoreValue) (o o' : Outside) (two : Two File) → o.files ≡ Some two → Fits bundle_meaning s j0 two
+pub keeps_adding : (batch : List Entry) (j0 : Journal) (s s' : StoreValue) (o o' : Outside) (two : Two File) → IsPlain batch → o.files ≡ Some two → Fits bundle_meaning s j0 two
     → Leads bundle_meaning (AddsAtMost bundle_meaning j0 batch) (AddsAtMost bundle_meaning j0 batch) s' o o' → KeepsOn o o'
-keeps_adding batch j0 s s' o o' two is fits leads j k =
-    keeps_leads (AddsAtMost bundle_meaning j0 batch) (AddsAtMost bundle_meaning j0 batch) j j0 s s' o o' two is k fits (λ whole adds. adds_front j0 whole batch adds) leads
+keeps_adding batch j0 s s' o o' two plain is fits leads j k =
+    keeps_leads (AddsAtMost bundle_meaning j0 batch) (AddsAtMost bundle_meaning j0 batch) j j0 s s' o o' two is k fits (λ whole adds. went_adding j0 whole batch plain adds) leads
 
 -- ---- runs
 
@@ -136,11 +139,10 @@ keeps_safe j j0 first plans s s' o o' told told' fits k safe =
     keeps_by j o o' (safe.later told') (λ m w.
     elim (safe.moments told' m w) [
       | inl early ↦ k.each told.two told.files_are m.files early.image
-      | inr covered ↦ record {
-        whole = covered.whole;
-        front = front_then j j0 covered.whole (fits_front j j0 o s told.two told.files_are k fits) (record { rest = covered.suits.more; whole = covered.suits.extends });
-        stands_for = covered.stands_for;
-      }
+      | inr covered ↦
+          goes_on j covered.whole m.files
+          (went_then j j0 covered.whole (went_fits j j0 o s told.two told.files_are k fits) (went_running j0 covered.whole first plans (heard_on o'.links) covered.suits))
+          covered.stands_for
     ])
 
 pub keeps_turning : (n n' : NodeValue) (o o' : Outside) (told : Told o) → Told o' → (j0 : Journal) → Fits bundle_meaning n.store j0 told.two → IsSafeRun n o → KeepsSafe bundle_meaning n n' o o' → KeepsOn o o'

@@ -27,11 +27,13 @@ use Rattle.sync_node.specs.Adding.{AddsAtMost, IsPlain}
 use Rattle.sync_node.specs.Output.{heard_on}
 use Rattle.sync_node.specs.Safe.{Safe}
 use Rattle.sync_node.specs.Suits.{AllSuit, IsOfRun, Suits}
-use Rattle.world_laws.specs.Worlds.{AllHeard, IsHeard}
+use Rattle.world_laws.specs.Worlds.{AllHeard, HasNoBrief, IsHeard}
+use Rattle.world_laws.proofs.PlainLaws.{plain_append}
 use Rattle.world_devices.specs.Devices.{DeviceValue}
 use Rattle.world_devices.specs.Keeping.{Journal}
 use Rattle.world_devices.specs.Running.{ComesFrom, GoOnHearing, Holds, IsStill, LeavesOn, MayLeave}
 use Rattle.world_devices.proofs.KeepLaws.{begin_now, settled_only}
+use Rattle.world_devices.proofs.PlainLaws.{added_plain, some_settling_plain, suits_plain}
 
 -- ---- what batches take
 
@@ -84,7 +86,7 @@ module _ (heard : ℕ → List Record) where
 -- ---- what may be left
 
 leave_none : (heard : ℕ → List Record) (j : Journal) (files : Two (List ℕ)) → stands bundle_meaning files ≡ journal j → GoOnHearing heard j files
-leave_none heard j files is = record { more = []; all_heard = tt; stands_for = is ∙ ap journal (sym (append-nil j)) }
+leave_none heard j files is = record { more = []; plain = refl; all_heard = tt; stands_for = is ∙ ap journal (sym (append-nil j)) }
 
 pub leave_held : (heard : ℕ → List Record) (j : Journal) (h : MemHostValue) → Holds j h → MayLeave heard j (host_told h)
 leave_held heard j h holds = record { each = λ two is left image. leave_none heard j left (holds.each two is left image) }
@@ -108,6 +110,7 @@ leave_looks o o' two is any heard j k =
 -- of a store that its files fit the journal went on from j, by some batches
 pub record Went (heard : ℕ → List Record) (j j0 : Journal) : Type 0 where
   pub more : Journal
+  pub plain : HasNoBrief more
   pub all_heard : AllHeard heard (facts j) more
   pub is : j0 ≡ j ++ more
 
@@ -115,12 +118,14 @@ pub went : (heard : ℕ → List Record) (j j0 : Journal) (o : Outside) (s : Sto
 went heard j j0 o s two is k fits =
     let reads = k.each two is (read_files two) (o.reads two is) in
     let both : journal j0 ≡ journal (j ++ reads.more) = sym fits.stands_for ∙ reads.stands_for in
-    record { more = reads.more; all_heard = reads.all_heard; is = cc }
+    record { more = reads.more; plain = reads.plain; all_heard = reads.all_heard; is = cc }
 
 -- behind it, batches that take what is heard
-went_on : (heard : ℕ → List Record) (j j0 more : Journal) (files : Two (List ℕ)) → Went heard j j0 → AllHeard heard (facts j0) more → stands bundle_meaning files ≡ journal (j0 ++ more) → GoOnHearing heard j files
-went_on heard j j0 more files w all stood = record {
+went_on : (heard : ℕ → List Record) (j j0 more : Journal) (files : Two (List ℕ)) → Went heard j j0 → HasNoBrief more → AllHeard heard (facts j0) more
+    → stands bundle_meaning files ≡ journal (j0 ++ more) → GoOnHearing heard j files
+went_on heard j j0 more files w plain all stood = record {
   more = w.more ++ more;
+  plain = plain_append w.more more w.plain plain;
   all_heard = heard_both heard (facts j) w.more more w.all_heard
       (subst (λ (f : Facts). AllHeard heard f more) (ap facts w.is ∙ facts-append j w.more) all);
   stands_for = stood ∙ ap (λ (k : Journal). journal (k ++ more)) w.is ∙ ap journal (append_assoc j w.more more);
@@ -134,13 +139,14 @@ leave_settling more j0 s s' o o' two is fits settling leads heard j k =
     let at = leads.moments.each m since in
     let all : AllSettling bundle_meaning (facts j0) (at.has.front ++ at.has.rest) =
     subst (λ (bs : Journal). AllSettling bundle_meaning (facts j0) bs) at.has.parts (subst (λ (f : Facts). AllSettling bundle_meaning f more) (sym fits.facts_are) settling) in
-    went_on heard j j0 at.has.front m.files w (some_settling heard (facts j0) at.has.front at.has.rest all) (at.stands_for ∙ ap journal at.has.is))
+    went_on heard j j0 at.has.front m.files w (some_settling_plain (facts j0) at.has.front at.has.rest all)
+    (some_settling heard (facts j0) at.has.front at.has.rest all) (at.stands_for ∙ ap journal at.has.is))
 
 added_at : (heard : ℕ → List Record) (j j0 whole : Journal) (batch : List Entry) (files : Two (List ℕ)) → IsPlain batch → Went heard j j0 → AddsAtMost bundle_meaning j0 batch whole
     → stands bundle_meaning files ≡ journal whole → GoOnHearing heard j files
-added_at heard j j0 whole batch files plain w (inl same) stood = went_on heard j j0 [] files w tt (stood ∙ ap journal (same ∙ sym (append-nil j0)))
+added_at heard j j0 whole batch files plain w (inl same) stood = went_on heard j j0 [] files w refl tt (stood ∙ ap journal (same ∙ sym (append-nil j0)))
 added_at heard j j0 whole batch files plain w (inr adds) stood =
-    went_on heard j j0 (batch ∷ adds.more) files w
+    went_on heard j j0 (batch ∷ adds.more) files w (added_plain (facts j0) batch adds.more plain adds.settling)
     (plain_heard heard (facts j0) batch plain, all_settling heard (after_all (facts j0) batch) adds.more adds.settling) (stood ∙ ap journal adds.is)
 
 pub leave_adding : (batch : List Entry) (j0 : Journal) (s s' : StoreValue) (o o' : Outside) (two : Two File) → IsPlain batch → o.files ≡ Some two → Fits bundle_meaning s j0 two
@@ -162,6 +168,7 @@ leave_safe heard j j0 first plans s s' o o' told told' fits k safe takes =
       | inl early ↦ k.each told.two told.files_are m.files early.image
       | inr covered ↦
           went_on heard j j0 covered.suits.more m.files w
+          (suits_plain first plans (heard_on o'.links) (facts j0) covered.suits.more covered.suits.suits)
           (all_suit heard first plans (heard_on o'.links) takes (facts j0) covered.suits.more covered.suits.suits)
           (covered.stands_for ∙ ap journal covered.suits.extends)
     ])
@@ -191,6 +198,7 @@ comes_still legal heard j new two is k still =
     record {
       more = reads.more;
       allowed = legal-back bundle_meaning j reads.more (legal bundle_meaning (read_files two) (j ++ reads.more) reads.stands_for);
+      plain = reads.plain;
       all_heard = reads.all_heard;
       reads = record { each = λ two' is'. subst (λ (t : Two File). stands bundle_meaning (read_files t) ≡ journal (j ++ reads.more)) (same_two is is') reads.stands_for };
       holds = λ runs. record {

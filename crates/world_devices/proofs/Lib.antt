@@ -1,5 +1,6 @@
 pub mod BroughtLaws
 pub mod AllowedLaws
+pub mod PlainLaws
 pub mod KeepLaws
 pub mod LeaveLaws
 pub mod HostLaws

@@ -1,5 +1,5 @@
 -- What keeps a device running.
-use Rattle.std.proofs.Common.{◌≡◌, ℕ, ◌+◌, ◌≤◌, false, List, [], ◌∷◌, refl, sym, ap, ◌∙◌, subst, arith, Option, Some, None, Result, Ok, Err, OnOk, OnErr}
+use Rattle.std.proofs.Common.{◌≡◌, ℕ, ◌+◌, ◌<◌, ◌≤◌, false, List, [], ◌∷◌, refl, sym, ap, ◌∙◌, subst, arith, Option, Some, None, Result, Ok, Err, OnOk, OnErr}
 use Rattle.outside.specs.Files.{Two, File}
 use Rattle.outside.specs.Links.{Link, HeardOn}
 use Rattle.outside.specs.Outside.{Outside}
@@ -17,7 +17,8 @@ use Rattle.sync_rules.specs.declared.entries.Level.{Level}
 use Rattle.sync_rules.specs.Facts.{Id}
 use Rattle.sync_rules.specs.Legal.{Allowed}
 use Rattle.sync_rules.specs.Steps.{IsSettled}
-use Rattle.sync_store.specs.Store.{StoreValue}
+use Rattle.sync_rules.specs.declared.limits.TheConstants.{MAX_SESSIONS}
+use Rattle.sync_store.specs.Store.{IsStore, StoreValue}
 use Rattle.sync_store.specs.Ready.{IsReady}
 use Rattle.sync_store.specs.Refusals.{contact_answer, group_answer, level_answer, post_answer}
 use Rattle.sync_node.specs.Adding.{IsPlain}
@@ -33,7 +34,9 @@ use Rattle.sync_node.specs.Adding.{AddsAtMost}
 use Rattle.world_devices.specs.Cited.{SentGrows}
 use Rattle.world_devices.specs.Devices.{IsDevice, IsReadyStore, IsRunning, IsStarted, MayAdd, MayBeRunning, links_made}
 use Rattle.world_devices.specs.Keeping.{IsQuiet, Journal, Keeps, KeepsOn, TellsSame}
-use Rattle.world_devices.proofs.KeepLaws.{keeps_adding, keeps_attaching, keeps_looks, keeps_same, keeps_settling, keeps_turning, run_added, run_attached, run_begun, run_on, run_turned}
+use Rattle.world_devices.proofs.KeepLaws.{keeps_adding, keeps_attaching, keeps_looks, keeps_same, keeps_settling, keeps_turning, run_added, run_attached, run_begun, run_on, run_turned, went_fits}
+use Rattle.world_devices.proofs.PlainLaws.{few_begun}
+use Rattle.world_laws.specs.Worlds.{HasNoBrief}
 use Rattle.world_devices.proofs.HostLaws.{brings_linked, brings_none, keeps_anew, keeps_crash, told_host}
 use Rattle.world_devices.proofs.AllowedLaws.{contact_allowed, group_allowed, level_allowed, author_allowed}
 
@@ -88,6 +91,13 @@ journal_of s h ready = let fit = ready.fits (told_host h).two (told_host h).file
 
 pub open_of : (n : NodeValue) (h : MemHostValue) (links : ℕ) → IsRunning n h links → IsReady bundle_meaning n.store (host_told h).files
 open_of n h links running = (running.may running.unclosed).ready
+
+-- fewer sessions of a device that runs have begun than one may have
+pub begun_few : (n : NodeValue) (h : MemHostValue) (links : ℕ) → IsStore n.store → Keeps [] (host_told h) → IsRunning n h links → n.store.state.facts.begun < MAX_SESSIONS
+begun_few n h links store keeps running =
+    let has = journal_of n.store h (open_of n h links running) in
+    let went = went_fits [] has.whole (host_told h) n.store (told_host h).two (told_host h).files_are keeps has.fits in
+    few_begun n.store has.whole store has.fits.facts_are has.fits.legal (subst HasNoBrief (sym went.is) went.plain)
 
 -- on every link the same is brought
 abbrev pub BringsAll : MemHostValue → MemHostValue → Type 0
@@ -171,10 +181,10 @@ added_running grows batch n n' h h' links limit may unclosed joined leads is_nod
       unused = λ link past. brings_linked h h' link same ∙ running.unused link past;
     }
 
-pub add_keeps : (batch : List Entry) (n n' : NodeValue) (h h' : MemHostValue) (links : ℕ) → LeadsAdding batch n n' h h' → IsRunning n h links → KeepsOn (host_told h) (host_told h')
-add_keeps batch n n' h h' links leads running =
+pub add_keeps : (batch : List Entry) (n n' : NodeValue) (h h' : MemHostValue) (links : ℕ) → IsPlain batch → LeadsAdding batch n n' h h' → IsRunning n h links → KeepsOn (host_told h) (host_told h')
+add_keeps batch n n' h h' links plain leads running =
     let has = journal_of n.store h (open_of n h links running) in
-    keeps_adding batch has.whole n.store n'.store (host_told h) (host_told h') (told_host h).two (told_host h).files_are has.fits (leads (told_host h).two (told_host h).files_are has.whole has.fits)
+    keeps_adding batch has.whole n.store n'.store (host_told h) (host_told h') (told_host h).two plain (told_host h).files_are has.fits (leads (told_host h).two (told_host h).files_are has.whole has.fits)
 
 -- ---- a store that is loaded and settled
 
@@ -182,7 +192,7 @@ pub settle_keeps : (s s' : StoreValue) (result : Result (Unit {0}) StoreFault) (
     → HasSettled bundle_meaning s s' result (host_told h) (host_told h') → KeepsOn (host_told h) (host_told h')
 settle_keeps s s' result h h' ready settled =
     let has = journal_of s h ready in
-    keeps_settling settled.more has.whole s s' (host_told h) (host_told h') (told_host h).two (told_host h).files_are has.fits (settled.comes.leads (told_host h).two (told_host h).files_are has.whole has.fits)
+    keeps_settling settled.more has.whole s s' (host_told h) (host_told h') (told_host h).two (told_host h).files_are has.fits settled.comes.settling (settled.comes.leads (told_host h).two (told_host h).files_are has.whole has.fits)
 
 pub load_keeps : (h h' : MemHostValue) → AnyImage (host_told h) (host_told h') → KeepsOn (host_told h) (host_told h')
 load_keeps h h' any = keeps_looks (host_told h) (host_told h') (told_host h).two (told_host h).files_are any

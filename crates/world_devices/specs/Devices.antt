@@ -74,7 +74,8 @@ abbrev pub MayBeRunning : Option NodeValue → MemHostValue → ℕ → Type 0
 MayBeRunning None host links = Unit {0}
 MayBeRunning (Some n) host links = IsRunning n host links
 
--- what a device always keeps: whatever a crash leaves of its files stands for a journal; and it has had no more links than it may get
+-- What a device always keeps: whatever a crash leaves of its files stands for a journal, of which no batch begins a brief account;
+-- and it has had no more links than it may get.
 abbrev pub IsDevice : Option NodeValue → MemHostValue → ℕ → Type 0
 IsDevice node host links = MayBeRunning node host links × Keeps [] (host_told host) × (links ≤ LINKS)
 

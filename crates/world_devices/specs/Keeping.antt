@@ -1,8 +1,8 @@
 -- What a device keeps: whatever a crash leaves of its files stands for a journal that goes on from each earlier one.
-use Rattle.std.specs.Prelude.{◌≡◌, ℕ, List, [], length, Some}
+use Rattle.std.specs.Prelude.{◌≡◌, ℕ, List, [], ◌++◌, length, Some}
 use Rattle.outside.specs.Files.{Two, File, IsImage}
 use Rattle.outside.specs.Outside.{Outside, Moment}
-use Rattle.outside.specs.Runs.{IsFront, answers_at}
+use Rattle.outside.specs.Runs.{answers_at}
 use Rattle.client_basic.specs.Bodies.{bundle_meaning}
 use Rattle.entry_codec.specs.Standing.{stands, journal}
 use Rattle.sync_rules.specs.declared.entries.Entry.{Entry}
@@ -12,15 +12,16 @@ use Rattle.sync_node.specs.Joined.{Joined}
 use Rattle.sync_node.specs.Node.{NodeValue}
 use Rattle.sync_node.specs.Output.{sent_on}
 use Rattle.sync_node.specs.Safe.{Begin, Safe}
+use Rattle.world_laws.specs.Worlds.{HasNoBrief}
 
 abbrev pub Journal : Type 0
 Journal = List (List Entry)
 
--- files that stand for a journal which goes on from this one
+-- files that stand for a journal which goes on from this one, by batches of which none begins a brief account
 pub record GoOnFrom (j : Journal) (files : Two (List ℕ)) : Type 0 where
-  pub whole : Journal
-  pub front : IsFront j whole
-  pub stands_for : stands bundle_meaning files ≡ journal whole
+  pub more : Journal
+  pub plain : HasNoBrief more
+  pub stands_for : stands bundle_meaning files ≡ journal (j ++ more)
 
 -- whatever a crash leaves now stands for a journal that goes on from this one
 pub record Keeps (j : Journal) (o : Outside) : Type 0 where

@@ -11,7 +11,7 @@ use Rattle.entry_codec.specs.Standing.{stands, journal}
 use Rattle.sync_rules.specs.Facts.{facts}
 use Rattle.sync_rules.specs.Legal.{GoesOn}
 use Rattle.sync_node.specs.Node.{NodeValue}
-use Rattle.world_laws.specs.Worlds.{AllHeard}
+use Rattle.world_laws.specs.Worlds.{AllHeard, HasNoBrief}
 use Rattle.world_devices.specs.Brought.{brought_on}
 use Rattle.world_devices.specs.Devices.{DeviceValue}
 use Rattle.world_devices.specs.Keeping.{Journal}
@@ -42,9 +42,11 @@ records_for d session = records_of d.node d.host session
 
 -- ---- what a crash may leave
 
--- files that stand for a journal which went on from this one, each record that it took being one of these
+-- files that stand for a journal which went on from this one, by batches of which none begins a brief account, each record that it
+-- took being one of these
 pub record GoOnHearing (heard : ℕ → List Record) (j : Journal) (files : Two (List ℕ)) : Type 0 where
   pub more : Journal
+  pub plain : HasNoBrief more
   pub all_heard : AllHeard heard (facts j) more
   pub stands_for : stands bundle_meaning files ≡ journal (j ++ more)
 
@@ -62,11 +64,13 @@ pub record IsStill (host : MemHostValue) : Type 0 where
 
 -- ---- a call
 
--- The journal of a device went on, behind j: by batches that may follow, each record that they take being one of `heard`. The
--- files as they read stand for it, and where the device runs whatever a crash leaves of them does.
+-- The journal of a device went on, behind j: by batches that may follow, none of which begins a brief account, each record that
+-- they take being one of `heard`. The files as they read stand for it, and where the device runs whatever a crash leaves of them
+-- does.
 pub record ComesFrom (heard : ℕ → List Record) (j : Journal) (new : DeviceValue) : Type 0 where
   pub more : Journal
   pub allowed : GoesOn bundle_meaning (facts j) more
+  pub plain : HasNoBrief more
   pub all_heard : AllHeard heard (facts j) more
   pub reads : Reads (j ++ more) new.host
   pub holds : is_some new.node ≡ true → Holds (j ++ more) new.host

@@ -490,6 +490,8 @@ impl Device {
         }
         cite_laws();
         let session = store.sessions();
+        // Its end bounds how many sessions have begun.
+        let _end = store.end();
         let Some(node) = &mut self.node else {
             return Err(StepFault::Memory);
         };

@@ -13,12 +13,12 @@ use Rattle.world_devices.proofs.device.Device.add.Goals as goal
 pub invariant_of-self-in-Ok : goal.invariant_of-self-in-Ok
 invariant_of-self-in-Ok c = (
   added_running c.cite_laws.ensures.grows c.in_ok-batch.batch c.in-Some.node c.add.new.self c.self.inside.host c.add.new.host c.self.inside.links c.add.ensures.limit c.add.ensures.may (c.in-Ok.ensures.answer (running_of c.self.inside.node c.in-Some.node c.self.inside.host c.self.inside.links c.in-Some.is c.self.invariant.0).unclosed) c.in-Ok.ensures.joined (c.add.ensures.leads (running_of c.self.inside.node c.in-Some.node c.self.inside.host c.self.inside.links c.in-Some.is c.self.invariant.0).unclosed) c.add.ensures.node c.in-Ok.ensures.added.commits.same_links (running_of c.self.inside.node c.in-Some.node c.self.inside.host c.self.inside.links c.in-Some.is c.self.invariant.0),
-  add_keeps c.in_ok-batch.batch c.in-Some.node c.add.new.self c.self.inside.host c.add.new.host c.self.inside.links (c.add.ensures.leads (running_of c.self.inside.node c.in-Some.node c.self.inside.host c.self.inside.links c.in-Some.is c.self.invariant.0).unclosed) (running_of c.self.inside.node c.in-Some.node c.self.inside.host c.self.inside.links c.in-Some.is c.self.invariant.0) [] c.self.invariant.1,
+  add_keeps c.in_ok-batch.batch c.in-Some.node c.add.new.self c.self.inside.host c.add.new.host c.self.inside.links (plain_batch c.in_ok-batch.batch c.args.entry c.in_ok-batch.ensures (plain_of c.args.self.now.node c.in-Some.node c.args.entry (sym (ap (λ (d : DeviceValue). d.node) c.self.view_is) ∙ c.in-Some.is) c.requires)) (c.add.ensures.leads (running_of c.self.inside.node c.in-Some.node c.self.inside.host c.self.inside.links c.in-Some.is c.self.invariant.0).unclosed) (running_of c.self.inside.node c.in-Some.node c.self.inside.host c.self.inside.links c.in-Some.is c.self.invariant.0) [] c.self.invariant.1,
   c.self.invariant.2,
 )
 
 pub invariant_of-self-in-Err : goal.invariant_of-self-in-Err
-invariant_of-self-in-Err c = (tt, add_keeps c.in_ok-batch.batch c.in-Some.node c.add.new.self c.self.inside.host c.add.new.host c.self.inside.links (c.add.ensures.leads (running_of c.self.inside.node c.in-Some.node c.self.inside.host c.self.inside.links c.in-Some.is c.self.invariant.0).unclosed) (running_of c.self.inside.node c.in-Some.node c.self.inside.host c.self.inside.links c.in-Some.is c.self.invariant.0) [] c.self.invariant.1, c.self.invariant.2)
+invariant_of-self-in-Err c = (tt, add_keeps c.in_ok-batch.batch c.in-Some.node c.add.new.self c.self.inside.host c.add.new.host c.self.inside.links (plain_batch c.in_ok-batch.batch c.args.entry c.in_ok-batch.ensures (plain_of c.args.self.now.node c.in-Some.node c.args.entry (sym (ap (λ (d : DeviceValue). d.node) c.self.view_is) ∙ c.in-Some.is) c.requires)) (c.add.ensures.leads (running_of c.self.inside.node c.in-Some.node c.self.inside.host c.self.inside.links c.in-Some.is c.self.invariant.0).unclosed) (running_of c.self.inside.node c.in-Some.node c.self.inside.host c.self.inside.links c.in-Some.is c.self.invariant.0) [] c.self.invariant.1, c.self.invariant.2)
 
 pub returns-in_err-batch-clause-runs : goal.returns-in_err-batch-clause-runs
 returns-in_err-batch-clause-runs c = runs_none c.args.self.now
@@ -32,28 +32,28 @@ returns-in_ok-test_done-in-Ok-clause-links c =
     (keeps_links c.in-Some.node c.add.new.self _ _ c.in-Some.is refl c.in-Ok.ensures.joined.same_first c.in-Ok.ensures.joined.same_number refl (λ link. brings_linked c.self.inside.host c.add.new.host link c.in-Ok.ensures.added.commits.same_links))
 
 pub returns-in_err-test_done-in-Ok-clause-keeps : goal.returns-in_err-test_done-in-Ok-clause-keeps
-returns-in_err-test_done-in-Ok-clause-keeps c = keeps_seen c.self.inside.host c.args.self.now.host (host_told c.add.new.host) (ap (λ (d : DeviceValue). d.host) c.self.view_is) (add_keeps c.in_ok-batch.batch c.in-Some.node c.add.new.self c.self.inside.host c.add.new.host c.self.inside.links (c.add.ensures.leads (running_of c.self.inside.node c.in-Some.node c.self.inside.host c.self.inside.links c.in-Some.is c.self.invariant.0).unclosed) (running_of c.self.inside.node c.in-Some.node c.self.inside.host c.self.inside.links c.in-Some.is c.self.invariant.0))
+returns-in_err-test_done-in-Ok-clause-keeps c = keeps_seen c.self.inside.host c.args.self.now.host (host_told c.add.new.host) (ap (λ (d : DeviceValue). d.host) c.self.view_is) (add_keeps c.in_ok-batch.batch c.in-Some.node c.add.new.self c.self.inside.host c.add.new.host c.self.inside.links (plain_batch c.in_ok-batch.batch c.args.entry c.in_ok-batch.ensures (plain_of c.args.self.now.node c.in-Some.node c.args.entry (sym (ap (λ (d : DeviceValue). d.node) c.self.view_is) ∙ c.in-Some.is) c.requires)) (c.add.ensures.leads (running_of c.self.inside.node c.in-Some.node c.self.inside.host c.self.inside.links c.in-Some.is c.self.invariant.0).unclosed) (running_of c.self.inside.node c.in-Some.node c.self.inside.host c.self.inside.links c.in-Some.is c.self.invariant.0))
 
 pub returns-in_err-test_done-in-Ok-clause-runs : goal.returns-in_err-test_done-in-Ok-clause-runs
 returns-in_err-test_done-in-Ok-clause-runs c =
     runs_by c.cite_laws.ensures _ c.args.self.now _ c.self.view_is (λ j holds. add_leaves c.in_ok-batch.batch c.in-Some.node c.add.new.self c.self.inside.host c.add.new.host c.self.inside.links (plain_batch c.in_ok-batch.batch c.args.entry c.in_ok-batch.ensures (plain_of c.args.self.now.node c.in-Some.node c.args.entry (sym (ap (λ (d : DeviceValue). d.node) c.self.view_is) ∙ c.in-Some.is) c.requires)) (c.add.ensures.leads (running_of c.self.inside.node c.in-Some.node c.self.inside.host c.self.inside.links c.in-Some.is c.self.invariant.0).unclosed) (running_of c.self.inside.node c.in-Some.node c.self.inside.host c.self.inside.links c.in-Some.is c.self.invariant.0) _ j (leave_held _ j c.self.inside.host holds)) (λ _. ready_still c.add.new.self.store c.add.new.host (c.add.ensures.may (c.in-Ok.ensures.answer (running_of c.self.inside.node c.in-Some.node c.self.inside.host c.self.inside.links c.in-Some.is c.self.invariant.0).unclosed)).ready)
 
 pub returns-in_err-fail-in-Err-clause-keeps : goal.returns-in_err-fail-in-Err-clause-keeps
-returns-in_err-fail-in-Err-clause-keeps c = keeps_seen c.self.inside.host c.args.self.now.host (host_told c.fail.new.self.host) (ap (λ (d : DeviceValue). d.host) c.self.view_is) (λ j k. c.fail.ensures.keeps j (add_keeps c.in_ok-batch.batch c.in-Some.node c.add.new.self c.self.inside.host c.add.new.host c.self.inside.links (c.add.ensures.leads (running_of c.self.inside.node c.in-Some.node c.self.inside.host c.self.inside.links c.in-Some.is c.self.invariant.0).unclosed) (running_of c.self.inside.node c.in-Some.node c.self.inside.host c.self.inside.links c.in-Some.is c.self.invariant.0) j k))
+returns-in_err-fail-in-Err-clause-keeps c = keeps_seen c.self.inside.host c.args.self.now.host (host_told c.fail.new.self.host) (ap (λ (d : DeviceValue). d.host) c.self.view_is) (λ j k. c.fail.ensures.keeps j (add_keeps c.in_ok-batch.batch c.in-Some.node c.add.new.self c.self.inside.host c.add.new.host c.self.inside.links (plain_batch c.in_ok-batch.batch c.args.entry c.in_ok-batch.ensures (plain_of c.args.self.now.node c.in-Some.node c.args.entry (sym (ap (λ (d : DeviceValue). d.node) c.self.view_is) ∙ c.in-Some.is) c.requires)) (c.add.ensures.leads (running_of c.self.inside.node c.in-Some.node c.self.inside.host c.self.inside.links c.in-Some.is c.self.invariant.0).unclosed) (running_of c.self.inside.node c.in-Some.node c.self.inside.host c.self.inside.links c.in-Some.is c.self.invariant.0) j k))
 
 pub returns-in_err-fail-in-Err-clause-runs : goal.returns-in_err-fail-in-Err-clause-runs
 returns-in_err-fail-in-Err-clause-runs c =
     runs_by c.cite_laws.ensures _ c.args.self.now _ c.self.view_is (λ j holds. c.fail.ensures.leaves _ j (add_leaves c.in_ok-batch.batch c.in-Some.node c.add.new.self c.self.inside.host c.add.new.host c.self.inside.links (plain_batch c.in_ok-batch.batch c.args.entry c.in_ok-batch.ensures (plain_of c.args.self.now.node c.in-Some.node c.args.entry (sym (ap (λ (d : DeviceValue). d.node) c.self.view_is) ∙ c.in-Some.is) c.requires)) (c.add.ensures.leads (running_of c.self.inside.node c.in-Some.node c.self.inside.host c.self.inside.links c.in-Some.is c.self.invariant.0).unclosed) (running_of c.self.inside.node c.in-Some.node c.self.inside.host c.self.inside.links c.in-Some.is c.self.invariant.0) _ j (leave_held _ j c.self.inside.host holds))) c.fail.ensures.still
 
 pub returns-in_ok-test_done-in-Ok-clause-keeps : goal.returns-in_ok-test_done-in-Ok-clause-keeps
-returns-in_ok-test_done-in-Ok-clause-keeps c = keeps_seen c.self.inside.host c.args.self.now.host (host_told c.add.new.host) (ap (λ (d : DeviceValue). d.host) c.self.view_is) (add_keeps c.in_ok-batch.batch c.in-Some.node c.add.new.self c.self.inside.host c.add.new.host c.self.inside.links (c.add.ensures.leads (running_of c.self.inside.node c.in-Some.node c.self.inside.host c.self.inside.links c.in-Some.is c.self.invariant.0).unclosed) (running_of c.self.inside.node c.in-Some.node c.self.inside.host c.self.inside.links c.in-Some.is c.self.invariant.0))
+returns-in_ok-test_done-in-Ok-clause-keeps c = keeps_seen c.self.inside.host c.args.self.now.host (host_told c.add.new.host) (ap (λ (d : DeviceValue). d.host) c.self.view_is) (add_keeps c.in_ok-batch.batch c.in-Some.node c.add.new.self c.self.inside.host c.add.new.host c.self.inside.links (plain_batch c.in_ok-batch.batch c.args.entry c.in_ok-batch.ensures (plain_of c.args.self.now.node c.in-Some.node c.args.entry (sym (ap (λ (d : DeviceValue). d.node) c.self.view_is) ∙ c.in-Some.is) c.requires)) (c.add.ensures.leads (running_of c.self.inside.node c.in-Some.node c.self.inside.host c.self.inside.links c.in-Some.is c.self.invariant.0).unclosed) (running_of c.self.inside.node c.in-Some.node c.self.inside.host c.self.inside.links c.in-Some.is c.self.invariant.0))
 
 pub returns-in_ok-test_done-in-Ok-clause-runs : goal.returns-in_ok-test_done-in-Ok-clause-runs
 returns-in_ok-test_done-in-Ok-clause-runs c =
     runs_by c.cite_laws.ensures _ c.args.self.now _ c.self.view_is (λ j holds. add_leaves c.in_ok-batch.batch c.in-Some.node c.add.new.self c.self.inside.host c.add.new.host c.self.inside.links (plain_batch c.in_ok-batch.batch c.args.entry c.in_ok-batch.ensures (plain_of c.args.self.now.node c.in-Some.node c.args.entry (sym (ap (λ (d : DeviceValue). d.node) c.self.view_is) ∙ c.in-Some.is) c.requires)) (c.add.ensures.leads (running_of c.self.inside.node c.in-Some.node c.self.inside.host c.self.inside.links c.in-Some.is c.self.invariant.0).unclosed) (running_of c.self.inside.node c.in-Some.node c.self.inside.host c.self.inside.links c.in-Some.is c.self.invariant.0) _ j (leave_held _ j c.self.inside.host holds)) (λ _. ready_still c.add.new.self.store c.add.new.host (c.add.ensures.may (c.in-Ok.ensures.answer (running_of c.self.inside.node c.in-Some.node c.self.inside.host c.self.inside.links c.in-Some.is c.self.invariant.0).unclosed)).ready)
 
 pub returns-in_ok-fail-in-Err-clause-keeps : goal.returns-in_ok-fail-in-Err-clause-keeps
-returns-in_ok-fail-in-Err-clause-keeps c = keeps_seen c.self.inside.host c.args.self.now.host (host_told c.fail.new.self.host) (ap (λ (d : DeviceValue). d.host) c.self.view_is) (λ j k. c.fail.ensures.keeps j (add_keeps c.in_ok-batch.batch c.in-Some.node c.add.new.self c.self.inside.host c.add.new.host c.self.inside.links (c.add.ensures.leads (running_of c.self.inside.node c.in-Some.node c.self.inside.host c.self.inside.links c.in-Some.is c.self.invariant.0).unclosed) (running_of c.self.inside.node c.in-Some.node c.self.inside.host c.self.inside.links c.in-Some.is c.self.invariant.0) j k))
+returns-in_ok-fail-in-Err-clause-keeps c = keeps_seen c.self.inside.host c.args.self.now.host (host_told c.fail.new.self.host) (ap (λ (d : DeviceValue). d.host) c.self.view_is) (λ j k. c.fail.ensures.keeps j (add_keeps c.in_ok-batch.batch c.in-Some.node c.add.new.self c.self.inside.host c.add.new.host c.self.inside.links (plain_batch c.in_ok-batch.batch c.args.entry c.in_ok-batch.ensures (plain_of c.args.self.now.node c.in-Some.node c.args.entry (sym (ap (λ (d : DeviceValue). d.node) c.self.view_is) ∙ c.in-Some.is) c.requires)) (c.add.ensures.leads (running_of c.self.inside.node c.in-Some.node c.self.inside.host c.self.inside.links c.in-Some.is c.self.invariant.0).unclosed) (running_of c.self.inside.node c.in-Some.node c.self.inside.host c.self.inside.links c.in-Some.is c.self.invariant.0) j k))
 
 pub returns-in_ok-fail-in-Err-clause-runs : goal.returns-in_ok-fail-in-Err-clause-runs
 returns-in_ok-fail-in-Err-clause-runs c =

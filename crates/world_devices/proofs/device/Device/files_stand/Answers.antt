@@ -11,6 +11,6 @@ returns c =
     let legal : StandsLegal (host_told c.self.inside.host) = record {
       each = λ two is left image.
           let goes = c.self.invariant.1.each two is left image in
-          record { whole = goes.whole; stands_for = goes.stands_for; legal = c.standing_is_legal.ensures bundle_meaning left goes.whole goes.stands_for };
+          record { whole = goes.more; stands_for = goes.stands_for; legal = c.standing_is_legal.ensures bundle_meaning left goes.more goes.stands_for };
     } in
     subst (λ (h : MemHostValue). StandsLegal (host_told h)) (ap (λ (d : DeviceValue). d.host) c.self.view_is) legal
