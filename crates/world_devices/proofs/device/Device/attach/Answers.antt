@@ -1,11 +1,11 @@
 use Rattle.sync_node.proofs.Halts.{beginning_breaks}
-use Rattle.std.proofs.Common.{◌<◌, [], ap, refl, sym, ◌∙◌, arith, Some, None, Ok, Err}
+use Rattle.std.proofs.Common.{◌<◌, [], ap, refl, sym, ◌∙◌, subst, arith, Some, None, Ok, Err}
 use Rattle.outside.specs.HostTold.{host_told}
 use Rattle.outside.specs.declared.limits.TheConstants.{LINKS}
 use Rattle.world_devices.specs.Devices.{DeviceValue}
-use Rattle.sync_store.specs.Store.{StoreValue}
+use Rattle.sync_store.specs.Store.{IsStore, StoreValue}
 use Rattle.world_devices.proofs.CallLaws.{adds_link, adds_seen, attach_leaves, brings_begun, brings_unbegun, of_node, ready_store, ready_still, runs_by, runs_none}
-use Rattle.world_devices.proofs.RunningLaws.{attach_keeps, attached_running, keeps_seen, running_of}
+use Rattle.world_devices.proofs.RunningLaws.{attach_keeps, attached_running, begun_few, keeps_seen, running_of}
 use Rattle.sync_node.specs.declared.fault.NodeFault.{NodeFault}
 use Rattle.world_devices.proofs.TurnLaws.{attaches_seen, beginning_broken, beginning_failed, beginning_starved, link_unrefused, session_begun}
 use Rattle.world_devices.proofs.device.Device.attach.Goals as goal
@@ -19,6 +19,13 @@ invariant_of-self-in-Ok c = (
 
 pub invariant_of-self-in-Err : goal.invariant_of-self-in-Err
 invariant_of-self-in-Err c = (tt, attach_keeps _ c.in-Some-node.node c.attach.new.self c.self.inside.host c.attach.new.host c.self.inside.links c.attach.ensures.safe (running_of c.self.inside.node c.in-Some-node.node c.self.inside.host c.self.inside.links c.in-Some-node.is c.self.invariant.0) [] c.self.invariant.1, c.self.invariant.2)
+
+pub attach-requires-clause-begun : goal.attach-requires-clause-begun
+attach-requires-clause-begun c =
+    let was = sym (ap (λ (d : DeviceValue). d.node) c.self.view_is) ∙ c.in-Some-node.is in
+    let own = ready_store c.args.self.now.node c.in-Some-node.node c.in-Some.store.now was c.in-Some.ensures in
+    begun_few c.in-Some-node.node c.self.inside.host c.self.inside.links (subst IsStore own c.end-_end.ensures.numbers) c.self.invariant.1
+    (running_of c.self.inside.node c.in-Some-node.node c.self.inside.host c.self.inside.links c.in-Some-node.is c.self.invariant.0)
 
 pub returns-in_default-clause-runs : goal.returns-in_default-clause-runs
 returns-in_default-clause-runs c = runs_none c.args.self.now
