@@ -49,6 +49,7 @@ begun_stands stand clients m first second =
       header = header_of 2 1;
       frames = subst (λ (bytes : List ℕ). HasFrames bytes (header_of 2 1) (payloads kind.Short nothing [])) (sym first) begun_frames;
       legal = tt;
+      kinds = tt;
       within = tt;
       bounded = lit≤ tt;
     })

@@ -18,6 +18,7 @@ use Rattle.entry_codec.specs.Naming.{format_of}
 use Rattle.entry_codec.specs.Payloads.{journal_end, payloads}
 use Rattle.entry_codec.specs.Spelling.{IsOfFormat}
 use Rattle.entry_codec.specs.Standing.{room_of}
+use Rattle.entry_codec.proofs.FormatKinds.{short_journal}
 use Rattle.entry_codec.specs.StandingLaws.{JournalsStand}
 use Rattle.journal_state.specs.Whole.{StateValue}
 use Rattle.journal_migration.specs.Migrating.{HoldsFirst, HoldsSecond, IsNext, KeepsFile, Keeps, Migrates, MigratesSo, ReadsOnly, StandsStill}
@@ -34,7 +35,6 @@ use Rattle.sync_store.specs.Runs.{LeadsBy}
 use Rattle.sync_store.specs.Store.{HasNumbers, IsStore, StoreValue, counts_to, format_meant, written_in}
 use Rattle.sync_store.proofs.FitSteps.{IsSame, leads_none, true≢false}
 use Rattle.sync_store.proofs.FormatLaws.{short_room, whole_is_one}
-use Rattle.sync_store.proofs.OldKinds.{all_short}
 use Rattle.sync_store.proofs.Limits.{numbers_wider}
 
 -- ---- no call of the disk
@@ -117,7 +117,7 @@ fits_at clients s state n j two facts_are short holds = record {
   header = holds.header;
   frames = subst (λ k. HasFrames (file_of two n.file).now holds.header (payloads (format_meant k) nothing j)) (sym short) holds.frames;
   end_is = holds.end_is ∙ ap (λ k. journal_end (format_meant k) j) (sym short);
-  kinds = subst (λ k. AllByRecursion (AllByRecursion (IsOfFormat (format_meant k))) j) (sym short) (all_short j);
+  kinds = subst (λ k. AllByRecursion (AllByRecursion (IsOfFormat (format_meant k))) j) (sym short) (short_journal j);
   within = holds.within;
 }
 

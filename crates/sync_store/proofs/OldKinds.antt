@@ -15,30 +15,18 @@ use Rattle.sync_rules.specs.Legal.{Allowed, IsSettling}
 use Rattle.sync_rules.specs.Lists.{firsts}
 use Rattle.sync_rules.specs.Sessions.{is_remembered, is_shown, is_welcome, one_if, room_after, taken_acks, taken_from, taken_message, taken_message_of, taken_offers, taken_requests}
 use Rattle.entry_codec.specs.declared.naming.Format.{Format}
-use Rattle.entry_codec.specs.declared.naming.Format.TheVariants as kind
 use Rattle.entry_codec.specs.Spelling.{IsOfFormat, IsOld}
+use Rattle.entry_codec.proofs.FormatKinds.{of_old}
 use Rattle.sync_store.specs.Settling.{IsStep}
 use Rattle.sync_store.proofs.Steps.{all_steps}
-
--- ---- formats
-
--- format 2 has each kind
-short_batch : (batch : List Entry) → AllByRecursion (IsOfFormat kind.Short) batch
-short_batch [] = tt
-short_batch (e ∷ es) = (tt, short_batch es)
-
-pub all_short : (j : List (List Entry)) → AllByRecursion (AllByRecursion (IsOfFormat kind.Short)) j
-all_short [] = tt
-all_short (b ∷ bs) = (short_batch b, all_short bs)
 
 abbrev AreOld : List Entry → Type 0
 AreOld es = AllByRecursion IsOld es
 
 -- each format has the older kinds
 pub kinds_of : (format : Format) (batch : List Entry) → AllByRecursion IsOld batch → AllByRecursion (IsOfFormat format) batch
-kinds_of kind.Whole [] old = tt
-kinds_of kind.Whole (e ∷ es) old = (old.0, kinds_of kind.Whole es old.1)
-kinds_of kind.Short batch old = short_batch batch
+kinds_of format [] old = tt
+kinds_of format (e ∷ es) old = (of_old format e old.0, kinds_of format es old.1)
 
 -- ---- steps
 
