@@ -7,7 +7,7 @@ use Rattle.sync_rules.specs.declared.entries.Entry.TheVariants as entry
 use Rattle.sync_rules.specs.Facts.{Facts, after, after_all, arrived, authored, contact_of, kept_as}
 use Rattle.entry_codec.specs.declared.naming.Format.TheVariants as kind
 use Rattle.entry_codec.specs.Payloads.{spellings}
-use Rattle.entry_codec.specs.Spelling.{IsEntry, MayBeWritten, spelling_in}
+use Rattle.entry_codec.specs.Spelling.{IsEntry, spelling_in}
 use Rattle.entry_codec.proofs.LawProofs.{not_longer}
 use Rattle.journal_migration.specs.Copying.{brought_by, counted_to, one_brought}
 
@@ -40,32 +40,6 @@ all_held f (e ∷ es) = omega (arith, one_held f e, all_held (after f e) es)
 pub brought_push : (es : List Entry) (e : Entry) → brought_by (es ++ e ∷ []) ≡ brought_by es + one_brought e
 brought_push [] e = omega arith
 brought_push (x ∷ es) e = omega (arith, brought_push es e)
-
--- an entry within its limits may be written
-written_of : (e : Entry) → IsEntry e → MayBeWritten e
-written_of (entry.Session s) is = is.some_latency
-written_of (entry.Contact c) is = tt
-written_of (entry.Group def) is = tt
-written_of (entry.Level c g l) is = tt
-written_of (entry.Take s k) is = tt
-written_of (entry.Author m) is = tt
-written_of (entry.Arrive s m) is = tt
-written_of (entry.Judged id) is = tt
-written_of (entry.Deliver id) is = tt
-written_of (entry.Invalid id) is = tt
-written_of (entry.Again s id) is = tt
-written_of (entry.Offered s id) is = tt
-written_of (entry.Seen s id) is = tt
-written_of (entry.Asked s id) is = tt
-written_of (entry.Out s now what) is = tt
-written_of (entry.Brief n) is = tt
-written_of (entry.Kept from m) is = tt
-written_of (entry.Tried t) is = is.stated
-written_of (entry.Want contact id) is = tt
-
-pub all_written : (es : List Entry) → AllByRecursion IsEntry es → AllByRecursion MayBeWritten es
-all_written [] all = tt
-all_written (e ∷ es) all = (written_of e all.0, all_written es all.1)
 
 -- counts that stand still
 pub counted_more : (old new few many one : ℕ) → old ≡ counted_to few → many ≡ few + one → new ≡ min (old + one) (2 ^ 32 - 1) → new ≡ counted_to many
