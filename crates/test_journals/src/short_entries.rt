@@ -7,9 +7,12 @@ ghost use Rattle.entry_codec.specs.Spelling.{IsOld};
 ghost use Rattle.entry_codec.specs.Spelling.{EntryNames, MayBeWritten};
 
 use crate::checks::{made, same};
-use crate::fixtures::{list, message};
+use crate::fixtures::{definition, list, message};
 use crate::two_names::TwoNames;
-use entry_codec::{EntryFound, entry_len, read_entry, read_short, short_len, write_short};
+use entry_codec::{
+    EntryFound, entry_len, group_len, kept_len, read_entry, read_short, short_len, write_group,
+    write_kept, write_short,
+};
 use std::alloc::Global;
 use std::process::Abort;
 use sync_ids::{Fixed, GroupId, MessageId};
@@ -291,4 +294,27 @@ fn an_account_is_written(rt: HostRuntime) {
     };
     check_written(&rt, alloc, &names, &Entry::Tried(row), TRIED);
     check_written(&rt, alloc, &names, &Entry::Want(7, OTHER), WANT);
+}
+
+// Two kinds that are written of what they hold.
+#[test]
+fn parts_are_written(rt: HostRuntime) {
+    let alloc = rt.alloc();
+    let held = message(&rt, alloc, &GROUP, 0x7fff_ffff_ffff_fffe, b"hi");
+    let mut written = Vec::new(alloc);
+    made(&rt, write_kept(Origin::From(7), &held, &mut written));
+    same(
+        &rt,
+        &(kept_len(&held), written.as_slice()),
+        &(KEPT_FROM.len(), KEPT_FROM),
+    );
+    let def = definition(&rt, alloc, "note", 2, b"d");
+    let group: &[u8] = b"\x02\x04note\x00\x00\x00\x02\x00\x01d";
+    let mut written = Vec::new(alloc);
+    made(&rt, write_group(&def, &mut written));
+    same(
+        &rt,
+        &(group_len(&def), written.as_slice()),
+        &(group.len(), group),
+    );
 }
