@@ -1,6 +1,6 @@
 //! The ids wanted from one contact.
 ghost use Rattle.std.specs.Prelude.{◌≡◌, ◌+◌, ◌-◌, ◌^◌, ◌<◌, ◌≤◌, ◌++◌, ◌∷◌, [], false, IfOk, OnOk};
-ghost use Rattle.std.specs.Prelude.{OnErr, Some, length, slice_get};
+ghost use Rattle.std.specs.Prelude.{OnErr, length};
 ghost use Rattle.sync_rules.specs.Lists.{is_among, without};
 ghost use Rattle.retry_table.specs.Table.{no_wants, with_room};
 ghost use Rattle.retry_table.specs.Due.{requests_in};
@@ -95,12 +95,11 @@ impl Wanted {
         self.ids.contains(id)
     }
 
-    /// The id of this place, from 0.
-    pub(crate) fn at(&self, place: u32) -> MessageId
-        requires { place < length self.now.ids }
-        ensures { slice_get self.now.ids place ≡ Some result }
+    /// All ids.
+    pub(crate) fn all(&self) -> Result<Vec<MessageId>, AllocError>
+        ensures { IfOk result (λ v. v.items ≡ self.now.ids) }
     {
-        *self.ids.get_index(place as usize).unwrap()
+        Vec::from_slice(*self.ids.allocator(), self.ids.as_slice())
     }
 
     /// The number of ids.

@@ -1,3 +1,4 @@
 pub mod Pairs
 pub mod Groups
 mod Distinct
+mod Fronts

@@ -62,6 +62,32 @@ impl Levels {
         })
     }
 
+    /// A table that has copies of the groups and nothing else. Answers an error only where there is
+    /// no memory.
+    pub fn groups_alone(&self, alloc: Global) -> Result<Levels, AllocError>
+        ensures { IfOk result (λ t. t ≡ record empty_table { groups = self.now.groups }) }
+    {
+        self.show_distinct();
+        let mut table = Levels::new(alloc)?;
+        for n in 0..self.groups() {
+            table.put_group(self.id(n), self.def(n).copy(alloc)?)?;
+        }
+        Ok(table)
+    }
+
+    /// Adds a group under an id that is new, where there is no room for entries.
+    fn put_group(&mut self, id: GroupId, def: GroupDef) -> Result<(), AllocError>
+        requires new { group_at self.old.groups id ≡ None }
+        requires bare { self.old.spare ≡ 0 }
+        requires few { length self.old.groups < 2 ^ 32 - 1 }
+        ensures { OnOk result (self.new ≡ record self.old {
+          groups = self.old.groups ++ record { def = def; id = id } ∷ [];
+        }) }
+    {
+        self.groups.insert(id, def)?;
+        Ok(())
+    }
+
     /// Makes room for that many more groups and levels; it never takes room away. After an error
     /// all is as before.
     pub fn reserve(&mut self, entries: usize) -> Result<(), AllocError>
