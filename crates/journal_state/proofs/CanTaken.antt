@@ -9,16 +9,20 @@ use Rattle.sync_ids.specs.declared.records.Record.TheVariants as record_kind
 use Rattle.sync_rules.specs.declared.entries.Entry.{Entry}
 use Rattle.sync_rules.specs.declared.entries.Entry.TheVariants as entry
 use Rattle.sync_rules.specs.declared.entries.Out.{Out}
+use Rattle.sync_rules.specs.declared.entries.Out.TheVariants as out
 use Rattle.sync_rules.specs.declared.entries.Session.{Session}
 use Rattle.sync_rules.specs.Clients.{Meaning}
 use Rattle.sync_rules.specs.Lists.{firsts, is_among}
-use Rattle.sync_rules.specs.Facts.{Facts, Held, Id, Known, after, contact_in, contact_of, group_at, held_at, is_held, is_invisible, level_at, row_at, session_at, wanted_from, with_want}
+use Rattle.sync_rules.specs.Facts.{Facts, Held, Id, Known, after, contact_in, contact_of, group_at, held_at, is_held, is_invisible, level_at, row_at, session_at, start_after, wanted_from, with_want}
 use Rattle.sync_rules.specs.Legal.{Allowed, IsDue}
 use Rattle.sync_rules.specs.declared.limits.TheConstants.{MAX_WANTED}
 use Rattle.sync_rules.specs.Sessions.{is_remembered, is_shown, is_shown_held, is_welcome, one_if, room_after, taken, taken_acks, taken_message, taken_message_of, taken_offers, taken_requests}
 use Rattle.sync_rules.specs.Allows.{is_settling_kind}
+use Rattle.sync_rules.specs.declared.states.Start.{Start}
+use Rattle.sync_rules.specs.declared.states.Start.TheVariants as start
+use Rattle.batch_tests.specs.Alone.{is_rows_kind}
 use Rattle.journal_state.specs.Room.{rows_room, wants_room}
-use Rattle.journal_state.specs.Taking.{CanMark, CanSend, CanTakeAll, CanTakeKind, HasContactRoom, HasNextNumbers, HasRoom, HasRows, Takes}
+use Rattle.journal_state.specs.Taking.{CanHold, CanMark, CanSend, CanTake, CanTakeAll, CanTakeKind, HasContactRoom, HasNextNumbers, HasRoom, HasRows, Takes, noted}
 use Rattle.journal_state.specs.Whole.{StateValue}
 use Rattle.journal_state.specs.Sound.{AreApart}
 use Rattle.journal_state.proofs.Sending.{due_can}
@@ -283,20 +287,25 @@ no_held : (o : Option Held) → is_some o ≡ false → o ≡ None
 no_held None e = refl
 no_held (Some x) e = absurd (false≢true (sym e))
 
--- an allowed batch that is not a settling one can be taken where there is room for it
-pub can_batch : (clients : Meaning) (s : StateValue) (b : List Entry) → Allowed clients s.facts b → is_settling_kind b ≡ false → HasRoom s b → HasNextNumbers s.facts
-    → AreApart (map (λ (h : Held). h.id) s.facts.held) → CanTakeAll s b
-can_batch clients s [] a kind r few apart = tt
-can_batch clients s (entry.Contact c ∷ rest) a kind r few apart = alone s (entry.Contact c) rest a.0 (room_first s (entry.Contact c) rest r) (a.2, a.3)
-can_batch clients s (entry.Group def ∷ rest) a kind r few apart =
+-- an allowed batch that is neither a settling one nor one of rows can be taken where there is room for it
+pub can_batch : (clients : Meaning) (s : StateValue) (b : List Entry) → Allowed clients s.facts b → is_settling_kind b ≡ false → is_rows_kind b ≡ false
+    → HasRoom s b → HasNextNumbers s.facts → AreApart (map (λ (h : Held). h.id) s.facts.held) → (s.facts.start ≡ start.Empty → s.facts.begun ≡ 0)
+    → CanTakeAll s b
+can_batch clients s [] a kind plain r few apart fresh = tt
+can_batch clients s (entry.Contact c ∷ rest) a kind plain r few apart fresh = alone s (entry.Contact c) rest a.0 (room_first s (entry.Contact c) rest r) (a.2, a.3)
+can_batch clients s (entry.Group def ∷ rest) a kind plain r few apart fresh =
     let small = a.2.few in
     alone s (entry.Group def) rest a.0 (room_first s (entry.Group def) rest r) (no_group (group_at s.facts.groups (group_id_of def)) a.2.new, omega (arith, small))
-can_batch clients s (entry.Level c g l ∷ rest) a kind r few apart =
+can_batch clients s (entry.Level c g l ∷ rest) a kind plain r few apart fresh =
     let rows = rows_enough (length s.facts.held) (rows_room s.room c) few.held r.contact.rows in
     alone s (entry.Level c g l) rest a.0 (room_first s (entry.Level c g l) rest r) (a.3, omega (arith, rows), a.2)
-can_batch clients s (entry.Session x ∷ rest) a kind r few apart =
-    alone s (entry.Session x) rest a.0 (room_first s (entry.Session x) rest r) (a.2.numbered, a.2.known_contact, few.begun)
-can_batch clients s (entry.Take n k ∷ rest) a kind r few apart =
+can_batch clients s (entry.Session x ∷ rest) a kind plain r few apart fresh =
+    alone s (entry.Session x) rest a.0 (room_first s (entry.Session x) rest r) (
+      a.2.numbered,
+      a.2.known_contact,
+      (let small = a.2.few in let same = a.2.numbered in omega (arith, small, same)),
+    )
+can_batch clients s (entry.Take n k ∷ rest) a kind plain r few apart fresh =
     let room : HasContactRoom s (length (entry.Take n k ∷ rest)) (contact_of s.facts.sessions n) = some_contact s (session_at s.facts.sessions n) (length (entry.Take n k ∷ rest)) a.1.known_session r.contact in
     let rows = rows_enough (length s.facts.held) (rows_room s.room (contact_of s.facts.sessions n)) few.held room.rows in
     let count = r.entries in
@@ -314,20 +323,72 @@ can_batch clients s (entry.Take n k ∷ rest) a kind r few apart =
             wanted = let q = ap (λ (f : Facts). length (wanted_from f.wanted (contact_of s.facts.sessions n))) t.facts in omega (arith, q);
           }))),
     )
-can_batch clients s (entry.Author m ∷ rest) a kind r few apart =
+can_batch clients s (entry.Author m ∷ rest) a kind plain r few apart fresh =
     alone s (entry.Author m) rest a.0 (room_first s (entry.Author m) rest r)
     (record { known = a.2.known_group; new = no_held (held_at s.facts.held (message_id_of m)) a.2.new; few = few.held })
-can_batch clients s (entry.Arrive n m ∷ rest) a kind r few apart = absurd a
-can_batch clients s (entry.Judged id ∷ rest) a kind r few apart = absurd (false≢true (sym kind))
-can_batch clients s (entry.Deliver id ∷ rest) a kind r few apart = absurd (false≢true (sym kind))
-can_batch clients s (entry.Invalid id ∷ rest) a kind r few apart = absurd (false≢true (sym kind))
-can_batch clients s (entry.Again n id ∷ rest) a kind r few apart = absurd a
-can_batch clients s (entry.Offered n id ∷ rest) a kind r few apart = absurd a
-can_batch clients s (entry.Seen n id ∷ rest) a kind r few apart = absurd a
-can_batch clients s (entry.Asked n id ∷ rest) a kind r few apart = absurd a
-can_batch clients s (entry.Out n now what ∷ rest) a kind r few apart =
+can_batch clients s (entry.Arrive n m ∷ rest) a kind plain r few apart fresh = absurd a
+can_batch clients s (entry.Judged id ∷ rest) a kind plain r few apart fresh = absurd (false≢true (sym kind))
+can_batch clients s (entry.Deliver id ∷ rest) a kind plain r few apart fresh = absurd (false≢true (sym kind))
+can_batch clients s (entry.Invalid id ∷ rest) a kind plain r few apart fresh = absurd (false≢true (sym kind))
+can_batch clients s (entry.Again n id ∷ rest) a kind plain r few apart fresh = absurd a
+can_batch clients s (entry.Offered n id ∷ rest) a kind plain r few apart fresh = absurd a
+can_batch clients s (entry.Seen n id ∷ rest) a kind plain r few apart fresh = absurd a
+can_batch clients s (entry.Asked n id ∷ rest) a kind plain r few apart fresh = absurd a
+can_batch clients s (entry.Out n now what ∷ rest) a kind plain r few apart fresh =
     let known = is_there (session_at s.facts.sessions n) clients s.facts now what a.2 in
     let room : HasContactRoom s (length (entry.Out n now what ∷ rest)) (contact_of s.facts.sessions n) = some_contact s (session_at s.facts.sessions n) (length (entry.Out n now what ∷ rest)) known r.contact in
     let rows = rows_enough (length s.facts.held) (rows_room s.room (contact_of s.facts.sessions n)) few.held room.rows in
     alone s (entry.Out n now what) rest a.0 (room_first s (entry.Out n now what) rest r)
     (record { known = known; rows = omega (arith, rows) }, sent_can (session_at s.facts.sessions n) clients s.facts now what apart a.2)
+can_batch clients s (entry.Brief n ∷ rest) a kind plain r few apart fresh =
+    alone s (entry.Brief n) rest a.0 (room_first s (entry.Brief n) rest r) (fresh a.1)
+can_batch clients s (entry.Kept from m ∷ rest) a kind plain r few apart fresh =
+    alone s (entry.Kept from m) rest a.0 (room_first s (entry.Kept from m) rest r)
+    (record { known = a.3.known_group; new = no_held (held_at s.facts.held (message_id_of m)) a.3.new; few = few.held })
+can_batch clients s (entry.Tried t ∷ rest) a kind plain r few apart fresh = absurd (false≢true (sym plain))
+can_batch clients s (entry.Want contact id ∷ rest) a kind plain r few apart fresh = absurd (false≢true (sym plain))
+
+-- ---- it is noted how the journal began
+
+abbrev begun_so : StateValue → Start → StateValue
+begun_so s x = record s { facts = record s.facts { start = x } }
+
+rows_noted : (s : StateValue) (x : Start) (n : ℕ) → HasRows s n → HasRows (begun_so s x) n
+rows_noted s x n h = record { known = h.known; rows = h.rows }
+
+mark_noted : (s : StateValue) (x : Start) (n : ℕ) (id : Id) → CanMark s n id → CanMark (begun_so s x) n id
+mark_noted s x n id h = record { on = rows_noted s x n h.on; held = h.held }
+
+hold_noted : (f : Facts) (x : Start) (m : MessageValue) → CanHold f m → CanHold (record f { start = x }) m
+hold_noted f x m h = record { known = h.known; new = h.new; few = h.few }
+
+send_noted : (f : Facts) (x : Start) (what : Out) → CanSend f what → CanSend (record f { start = x }) what
+send_noted f x (out.Acks ids) h = h
+send_noted f x (out.Requests ids) h = tt
+send_noted f x (out.Offers ids) h = h
+send_noted f x (out.Send id) h = h
+
+kind_noted : (s : StateValue) (x : Start) (e : Entry) → CanTakeKind s e → CanTakeKind (begun_so s x) e
+kind_noted s x (entry.Contact c) k = k
+kind_noted s x (entry.Group def) k = k
+kind_noted s x (entry.Level c g l) k = k
+kind_noted s x (entry.Session y) k = k
+kind_noted s x (entry.Take n j) k = k
+kind_noted s x (entry.Author m) k = hold_noted s.facts x m k
+kind_noted s x (entry.Arrive n m) k = (hold_noted s.facts x m k.0, k.1, k.2)
+kind_noted s x (entry.Judged id) k = k
+kind_noted s x (entry.Deliver id) k = k
+kind_noted s x (entry.Invalid id) k = k
+kind_noted s x (entry.Again n id) k = mark_noted s x n id k
+kind_noted s x (entry.Offered n id) k = k
+kind_noted s x (entry.Seen n id) k = mark_noted s x n id k
+kind_noted s x (entry.Asked n id) k = mark_noted s x n id k
+kind_noted s x (entry.Out n now what) k = (rows_noted s x n k.0, send_noted s.facts x what k.1)
+kind_noted s x (entry.Brief n) k = k
+kind_noted s x (entry.Kept from m) k = hold_noted s.facts x m k
+kind_noted s x (entry.Tried t) k = k
+kind_noted s x (entry.Want contact id) k = k
+
+-- what an entry needs is there as before
+pub can_noted : (s : StateValue) (e : Entry) → CanTake s e → CanTake (noted s e) e
+can_noted s e can = record { room = can.room; kind = kind_noted s (start_after s.facts.start e) e can.kind }

@@ -7,7 +7,7 @@ use Rattle.std.proofs.lemmas.List.{map-append, length-append}
 use Rattle.sync_rules.specs.declared.answers.Judgement.{Judgement}
 use Rattle.sync_rules.specs.declared.entries.Entry.TheVariants as entry
 use Rattle.sync_rules.specs.Lists.{same_id, is_among}
-use Rattle.sync_rules.specs.Facts.{Held, Id, after, level_at, is_level_shared}
+use Rattle.sync_rules.specs.Facts.{Held, Id, level_at, is_level_shared}
 use Rattle.sync_rules.specs.Sessions.{is_author, may_share}
 use Rattle.sync_rules.specs.Views.{place_of}
 use Rattle.message_graph.specs.declared.nodes.Judged.TheVariants as judged
@@ -20,6 +20,7 @@ use Rattle.journal_state.specs.Parts.{Parts, answer_of_node, answers_of, facts_o
 use Rattle.journal_state.specs.Whole.{IsState, is_delivered_in, may_go}
 use Rattle.journal_state.specs.Changes.{delivered_parts}
 use Rattle.journal_state.specs.Delivery.{goes_to, Readies}
+use Rattle.journal_state.specs.Taking.{moved}
 use Rattle.journal_state.proofs.Places.{id_swap, id_is, id_itself}
 use Rattle.journal_state.proofs.Listed.{id_there}
 use Rattle.journal_state.specs.Sound.{AreApart}
@@ -28,6 +29,7 @@ use Rattle.journal_state.proofs.Changed.{names_of, own_found, names_kept, named_
 use Rattle.journal_state.proofs.Answered.{ids_of}
 use Rattle.journal_state.proofs.Stepped.{answers_kept, kept_at, length_kept, name_there, ordered_end, within_list}
 use Rattle.journal_state.proofs.Grown.{rows_same, wants_same}
+use Rattle.journal_state.proofs.Limited.{readied_row}
 use Rattle.journal_state.proofs.Sums.{sum_changed}
 
 -- ---- lists with one more
@@ -260,28 +262,14 @@ module _ (p : Parts) (s : IsState p) (n : ℕ) (y : Node) (h : Held) (at : slice
       ready = λ contact k x known here. ready_now contact k x known here (nat_eq k n) refl;
     }
 
-    row_here : (contact k : ℕ) (b : Bool) → nat_eq k n ≡ b → (c : Bool) → nat_lt contact p.table.contacts ≡ c → (retry.kept_at t contact k).row ≡ (retry.kept_at p.retry contact k).row
-    row_here contact k false e c f = ap (λ (w : retry.KeptRow). w.row) (r.apart contact k (let ne : k ≢ n = (λ q. grind (arith, e, q)) in ne))
-    row_here contact k true e true f =
-        let number : k ≡ n = eqb-true k n e in
-        ap (λ j. (retry.kept_at t contact j).row) number
-        ∙ (ap (λ (w : retry.KeptRow). w.row) (r.here contact (grind (arith, f)))
-        ∙ (row_readied (goes_to p.table.levels h.message.group outgoing contact) (retry.kept_at p.retry contact n)
-        ∙ ap (λ j. (retry.kept_at p.retry contact j).row) (sym number)))
-      where
-        row_readied : (goes : Bool) (w : retry.KeptRow) → (cond goes (retry.with_ready true w) w).row ≡ w.row
-        row_readied true w = refl
-        row_readied false w = refl
-    row_here contact k true e false f = ap (λ (ks : List retry.KeptRow). (retry.kept_in ks k).row) (r.beyond contact (grind (arith, f)))
-
     -- the facts are those after the entry
-    pub delivered_facts : facts_of (delivered_parts p n t) ≡ after (facts_of p) (entry.Deliver h.id)
+    pub delivered_facts : facts_of (delivered_parts p n t) ≡ moved (facts_of p) (entry.Deliver h.id)
     delivered_facts =
         let judged_same : ids_where is_judged (nodes.with_ending n ending.Delivered p.nodes) ≡ ids_where is_judged p.nodes =
         ap fin_set.from_list (names_same end_delivered (λ x. refl) is_judged p.nodes n y at refl) in
         let invalid_same : ids_where is_invalid (nodes.with_ending n ending.Delivered p.nodes) ≡ ids_where is_invalid p.nodes =
         ap fin_set.from_list (names_same end_delivered (λ x. refl) is_invalid p.nodes n y at (sym (ap nodes.is_invalid open_now))) in
-        let rows : rows_in t p.held ≡ rows_in p.retry p.held = rows_same p.retry t p.held (λ contact k. row_here contact k (nat_eq k n) refl (nat_lt contact p.table.contacts) refl) in
+        let rows : rows_in t p.held ≡ rows_in p.retry p.held = rows_same p.retry t p.held (readied_row p.retry t (goes_to p.table.levels h.message.group outgoing) p.table.contacts n r) in
         let wants : wants_in t p.table.contacts ≡ wants_in p.retry p.table.contacts =
         wants_same p.retry t (λ contact. ap (λ (ws : List retry.Wants). (slice_index_or ws contact retry.no_wants).ids) r.wants) p.table.contacts in
         λ i. record (facts_of p) { judged = judged_same i; invalid = invalid_same i; delivered = ids_more i; rows = rows i; wanted = wants i }

@@ -1,16 +1,19 @@
--- The parts of a journal that has no entries.
+-- The parts of a journal that has no entries, and of one that has groups alone.
 use Rattle.std.proofs.Common.{◌≡◌, ℕ, ◌+◌, List, [], ◌∷◌, Some, None, slice_get, refl, sym, ◌∙◌, ap}
 use Rattle.std.specs.FinMap as fin_map
 use Rattle.std.proofs.lemmas.Bool.{false≢true}
-use Rattle.sync_rules.specs.Facts.{Rows, pair_cmp, level_or, is_invisible, nothing}
+use Rattle.sync_rules.specs.declared.states.Start.TheVariants as start
+use Rattle.sync_rules.specs.Facts.{Known, Rows, pair_cmp, level_or, is_invisible}
+use Rattle.brief_account.specs.Account.{with_groups}
 use Rattle.retry_table.specs.Table as retry
 use Rattle.visibility_table.specs.Table as levels
 use Rattle.journal_state.specs.Parts.{Parts, put_rows, rows_from}
 use Rattle.journal_state.specs.Whole.{IsState, value_of}
 
-abbrev pub empty_parts : ℕ → retry.Table → Parts
-empty_parts room table = record {
-  table = levels.empty_table;
+abbrev pub empty_parts : List Known → ℕ → retry.Table → Parts
+empty_parts groups room table = record {
+  start = start.Empty;
+  table = record levels.empty_table { groups = groups };
   held = [];
   begun = record { begun = 0; sessions = []; takes = fin_map.empty; room = room };
   nodes = [];
@@ -31,8 +34,8 @@ none_from contact (ks ∷ each) = no_rows contact ks (rows_from (contact + 1) ea
 pub not_there : {A : Type 0} (n : ℕ) (x : A) → slice_get [] n ≡ Some x → ⊥
 not_there n x e = let none : None ≡ Some x = e in cc
 
-pub empty_is_state : (room : ℕ) (table : retry.Table) → retry.IsEmpty table → IsState (empty_parts room table)
-empty_is_state room table none = record {
+pub empty_is_state : (groups : List Known) (room : ℕ) (table : retry.Table) → retry.IsEmpty table → IsState (empty_parts groups room table)
+empty_is_state groups room table none = record {
   named = refl;
   grouped = λ n h node at there. absurd (not_there n h at);
   distinct = λ n h at. absurd (not_there n h at);
@@ -48,5 +51,5 @@ empty_is_state room table none = record {
   ready = λ contact n h known at. absurd (not_there n h at);
 }
 
-pub empty_facts : (room : ℕ) (table : retry.Table) → (value_of (empty_parts room table)).facts ≡ nothing
-empty_facts room table = λ i. record nothing { rows = none_from 0 table.rows i }
+pub empty_facts : (groups : List Known) (room : ℕ) (table : retry.Table) → (value_of (empty_parts groups room table)).facts ≡ with_groups groups
+empty_facts groups room table = λ i. record (with_groups groups) { rows = none_from 0 table.rows i }

@@ -10,11 +10,12 @@ use Rattle.sync_rules.specs.declared.entries.Entry.TheVariants as entry
 use Rattle.sync_rules.specs.declared.entries.Session.{Session}
 use Rattle.sync_rules.specs.Clients.{Meaning}
 use Rattle.sync_rules.specs.Lists.{same_id}
-use Rattle.sync_rules.specs.Facts.{Facts, Held, Id, Known, after, group_at, known_of, session_at}
+use Rattle.sync_rules.specs.Facts.{Facts, Held, Id, Known, group_at, known_of, session_at}
 use Rattle.sync_rules.specs.Steps.{answer_of, verdict_for}
 use Rattle.visibility_table.specs.Table as levels
 use Rattle.journal_state.specs.Begun.{Begun}
 use Rattle.journal_state.specs.Parts.{Parts, facts_of, wants_in}
+use Rattle.journal_state.specs.Taking.{moved}
 use Rattle.journal_state.specs.Whole.{IsState, Knows, value_of}
 use Rattle.journal_state.proofs.Seen.{there}
 use Rattle.journal_state.proofs.Next.{many_nodes}
@@ -47,15 +48,15 @@ module _ (p : Parts) (s : IsState p) (c : ℕ) (t : levels.Table) (made : t ≡ 
   contact_state = subst (λ (x : levels.Table). IsState (record p { table = x; space = space })) (sym made) contact_then
 
   contact_wants : c ≡ p.table.contacts
-      → wants_in p.retry (p.table.contacts + 1) ≡ (after (facts_of p) (entry.Contact c)).wanted
+      → wants_in p.retry (p.table.contacts + 1) ≡ (moved (facts_of p) (entry.Contact c)).wanted
   contact_wants is =
       ap (wants_in p.retry) (add_one p.table.contacts)
       ∙ (λ i. fin_map.insert (wants_in p.retry p.table.contacts) (sym is i) ((sym (wants_found p.retry p.table.contacts (sym is i) s.free_wants)) i))
 
-  pub contact_facts : c ≡ p.table.contacts → facts_of (record p { table = t; space = space }) ≡ after (facts_of p) (entry.Contact c)
+  pub contact_facts : c ≡ p.table.contacts → facts_of (record p { table = t; space = space }) ≡ moved (facts_of p) (entry.Contact c)
   contact_facts is =
       ap (λ (x : levels.Table). facts_of (record p { table = x; space = space })) made
-      ∙ (λ i. record (after (facts_of p) (entry.Contact c)) { wanted = contact_wants is i })
+      ∙ (λ i. record (moved (facts_of p) (entry.Contact c)) { wanted = contact_wants is i })
 
 -- ---- a group
 
@@ -137,11 +138,11 @@ module _ (p : Parts) (s : IsState p) (def : GroupValue) (t : levels.Table)
   pub group_state : IsState (record p { table = t; space = space })
   group_state = subst (λ (x : levels.Table). IsState (record p { table = x; space = space })) (sym made) group_then
 
-  pub group_facts : facts_of (record p { table = t; space = space }) ≡ after (facts_of p) (entry.Group def)
+  pub group_facts : facts_of (record p { table = t; space = space }) ≡ moved (facts_of p) (entry.Group def)
   group_facts = ap (λ (x : levels.Table). facts_of (record p { table = x; space = space })) made
 
   -- what is judged of a held message is as before
-  pub group_answers : (clients : Meaning) → map (answer_of clients (facts_of p)) p.held ≡ map (answer_of clients (after (facts_of p) (entry.Group def))) p.held
+  pub group_answers : (clients : Meaning) → map (answer_of clients (facts_of p)) p.held ≡ map (answer_of clients (moved (facts_of p) (entry.Group def))) p.held
   group_answers clients = map_same _ _ p.held (λ n h at.
       ap (λ (o : Option Known). cond (fin_set.contains (facts_of p).judged h.id) (Some (verdict_for clients o h.message)) None)
       (sym (known_more p.table.groups (known_of def ∷ []) h.message.group (group_known p s n h at))))

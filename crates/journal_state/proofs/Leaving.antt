@@ -14,7 +14,7 @@ use Rattle.sync_rules.specs.Facts.{Facts, Held, Id, Ids, after, after_all, arriv
 use Rattle.sync_rules.specs.Legal.{Allowed}
 use Rattle.sync_rules.specs.declared.limits.TheConstants.{MAX_WANTED}
 use Rattle.sync_rules.specs.Sessions.{is_shown, is_welcome, one_if, is_remembered, room_after, taken, taken_acks, taken_message_of, taken_offers, taken_requests}
-use Rattle.sync_rules.specs.Allows.{is_settling_kind}
+use Rattle.sync_rules.specs.Allows.{is_account_kind, is_settling_kind}
 use Rattle.sync_rules.specs.Left.{left_among, left_of}
 use Rattle.message_graph.specs.declared.nodes.Node.{Node}
 use Rattle.message_graph.specs.Nodes as nodes
@@ -59,6 +59,7 @@ left_push judged invalid delivered (x ∷ hs) h new =
 abbrev is_quiet : Entry → Bool
 is_quiet (entry.Author m) = false
 is_quiet (entry.Arrive s m) = false
+is_quiet (entry.Kept from m) = false
 is_quiet (entry.Judged id) = false
 is_quiet (entry.Deliver id) = false
 is_quiet (entry.Invalid id) = false
@@ -67,6 +68,7 @@ is_quiet _ = true
 quiet_left : (f : Facts) (e : Entry) → is_quiet e ≡ true → left_of (after f e) ≡ left_of f
 quiet_left f (entry.Author m) q = absurd (false≢true q)
 quiet_left f (entry.Arrive s m) q = absurd (false≢true q)
+quiet_left f (entry.Kept from m) q = absurd (false≢true q)
 quiet_left f (entry.Judged id) q = absurd (false≢true q)
 quiet_left f (entry.Deliver id) q = absurd (false≢true q)
 quiet_left f (entry.Invalid id) q = absurd (false≢true q)
@@ -80,10 +82,14 @@ quiet_left f (entry.Offered s id) q = left_is (after f (entry.Offered s id)) ∙
 quiet_left f (entry.Seen s id) q = left_is (after f (entry.Seen s id)) ∙ sym (left_is f)
 quiet_left f (entry.Asked s id) q = left_is (after f (entry.Asked s id)) ∙ sym (left_is f)
 quiet_left f (entry.Out s now what) q = left_is (after f (entry.Out s now what)) ∙ sym (left_is f)
+quiet_left f (entry.Brief n) q = left_is (after f (entry.Brief n)) ∙ sym (left_is f)
+quiet_left f (entry.Tried t) q = left_is (after f (entry.Tried t)) ∙ sym (left_is f)
+quiet_left f (entry.Want contact id) q = left_is (after f (entry.Want contact id)) ∙ sym (left_is f)
 
 brings_not : (e : Entry) → is_quiet e ≡ true → brings_one e ≡ false
 brings_not (entry.Author m) q = absurd (false≢true q)
 brings_not (entry.Arrive s m) q = absurd (false≢true q)
+brings_not (entry.Kept from m) q = absurd (false≢true q)
 brings_not _ q = refl
 
 -- the steps left after some entries
@@ -182,28 +188,32 @@ not_held : (o : Option Held) → is_some o ≡ false → o ≡ None
 not_held None e = refl
 not_held (Some h) e = absurd (false≢true (sym e))
 
-pub left_after_batch : (clients : Meaning) (f : Facts) (b : List Entry) → Allowed clients f b → is_settling_kind b ≡ false → JudgesHeld f
+pub left_after_batch : (clients : Meaning) (f : Facts) (b : List Entry) → Allowed clients f b → is_settling_kind b ≡ false → is_account_kind b ≡ false → JudgesHeld f
     → left_of (after_all f b) ≡ left_of f + cond (list_any brings_one b) 2 0
-left_after_batch clients f [] a kind j = absurd a
-left_after_batch clients f (entry.Contact c ∷ rest) a kind j = alone_left f (entry.Contact c) rest a.0 refl
-left_after_batch clients f (entry.Group def ∷ rest) a kind j = alone_left f (entry.Group def) rest a.0 refl
-left_after_batch clients f (entry.Level c g l ∷ rest) a kind j = alone_left f (entry.Level c g l) rest a.0 refl
-left_after_batch clients f (entry.Session s ∷ rest) a kind j = alone_left f (entry.Session s) rest a.0 refl
-left_after_batch clients f (entry.Take s k ∷ rest) a kind j =
+left_after_batch clients f [] a kind plain j = absurd a
+left_after_batch clients f (entry.Contact c ∷ rest) a kind plain j = alone_left f (entry.Contact c) rest a.0 refl
+left_after_batch clients f (entry.Group def ∷ rest) a kind plain j = alone_left f (entry.Group def) rest a.0 refl
+left_after_batch clients f (entry.Level c g l ∷ rest) a kind plain j = alone_left f (entry.Level c g l) rest a.0 refl
+left_after_batch clients f (entry.Session s ∷ rest) a kind plain j = alone_left f (entry.Session s) rest a.0 refl
+left_after_batch clients f (entry.Take s k ∷ rest) a kind plain j =
     subst (λ (es : List Entry). IsLeftAfter f (entry.Take s k ∷ es)) (sym a.1.taken_so) (taken_left f s k a.1.read j)
-left_after_batch clients f (entry.Author m ∷ rest) a kind j =
+left_after_batch clients f (entry.Author m ∷ rest) a kind plain j =
     subst (λ (es : List Entry). IsLeftAfter f (entry.Author m ∷ es)) (sym a.0)
     (brought_left f (after f (entry.Author m)) (authored m) refl refl refl refl
     (j (message_id_of m) (not_held (held_at f.held (message_id_of m)) a.2.new)))
-left_after_batch clients f (entry.Out s now what ∷ rest) a kind j = alone_left f (entry.Out s now what) rest a.0 refl
-left_after_batch clients f (entry.Arrive s m ∷ rest) a kind j = absurd a
-left_after_batch clients f (entry.Again s id ∷ rest) a kind j = absurd a
-left_after_batch clients f (entry.Offered s id ∷ rest) a kind j = absurd a
-left_after_batch clients f (entry.Seen s id ∷ rest) a kind j = absurd a
-left_after_batch clients f (entry.Asked s id ∷ rest) a kind j = absurd a
-left_after_batch clients f (entry.Judged id ∷ rest) a kind j = absurd (false≢true (sym kind))
-left_after_batch clients f (entry.Deliver id ∷ rest) a kind j = absurd (false≢true (sym kind))
-left_after_batch clients f (entry.Invalid id ∷ rest) a kind j = absurd (false≢true (sym kind))
+left_after_batch clients f (entry.Out s now what ∷ rest) a kind plain j = alone_left f (entry.Out s now what) rest a.0 refl
+left_after_batch clients f (entry.Arrive s m ∷ rest) a kind plain j = absurd a
+left_after_batch clients f (entry.Again s id ∷ rest) a kind plain j = absurd a
+left_after_batch clients f (entry.Offered s id ∷ rest) a kind plain j = absurd a
+left_after_batch clients f (entry.Seen s id ∷ rest) a kind plain j = absurd a
+left_after_batch clients f (entry.Asked s id ∷ rest) a kind plain j = absurd a
+left_after_batch clients f (entry.Judged id ∷ rest) a kind plain j = absurd (false≢true (sym kind))
+left_after_batch clients f (entry.Deliver id ∷ rest) a kind plain j = absurd (false≢true (sym kind))
+left_after_batch clients f (entry.Invalid id ∷ rest) a kind plain j = absurd (false≢true (sym kind))
+left_after_batch clients f (entry.Brief n ∷ rest) a kind plain j = absurd (false≢true (sym plain))
+left_after_batch clients f (entry.Kept from m ∷ rest) a kind plain j = absurd (false≢true (sym plain))
+left_after_batch clients f (entry.Tried t ∷ rest) a kind plain j = absurd (false≢true (sym plain))
+left_after_batch clients f (entry.Want contact id ∷ rest) a kind plain j = absurd (false≢true (sym plain))
 
 -- ---- of a state, only held messages are judged
 
@@ -227,7 +237,7 @@ judges_held p s id none =
     set_named is_judged p.nodes whole id ∙ ap (passes is_judged) (none_named p.nodes p.held s.named id none)
 
 -- the steps left after a batch, as they are counted
-pub left_told : (f : Facts) → JudgesHeld f → (b : List Entry) → (clients : Meaning) → Allowed clients f b → is_settling_kind b ≡ false
+pub left_told : (f : Facts) → JudgesHeld f → (b : List Entry) → (clients : Meaning) → Allowed clients f b → is_settling_kind b ≡ false → is_account_kind b ≡ false
     → (n : ℕ) → n ≡ left_of f → (t : Bool) → t ≡ list_any brings_one b → n + cond t 2 0 ≡ left_of (after_all f b)
-left_told f held b clients a kind n is t brought =
-    (λ i. is i + cond (brought i) 2 0) ∙ sym (left_after_batch clients f b a kind held)
+left_told f held b clients a kind plain n is t brought =
+    (λ i. is i + cond (brought i) 2 0) ∙ sym (left_after_batch clients f b a kind plain held)

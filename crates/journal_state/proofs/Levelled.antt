@@ -11,7 +11,7 @@ use Rattle.sync_rules.specs.Lists.{same_id}
 use Rattle.sync_rules.specs.Facts.{Held, Id, group_at, level_at, level_or, put_level, pair_cmp, is_invisible}
 use Rattle.sync_rules.specs.declared.answers.Judgement.{Judgement}
 use Rattle.sync_rules.specs.declared.entries.Entry.TheVariants as entry
-use Rattle.sync_rules.specs.Facts.{after, is_level_shared}
+use Rattle.sync_rules.specs.Facts.{is_level_shared}
 use Rattle.sync_rules.specs.Lists.{is_among}
 use Rattle.sync_rules.specs.Sessions.{is_author, may_share}
 use Rattle.sync_rules.specs.Views.{place_of}
@@ -34,7 +34,7 @@ use Rattle.journal_state.specs.Levelling.{levelled, levelled_at, SetsLevels}
 use Rattle.journal_state.proofs.Places.{id_is, id_itself, id_swap}
 use Rattle.journal_state.proofs.Pairs.{hits, hits_is, pair_total}
 use Rattle.journal_state.specs.Room.{room_in}
-use Rattle.journal_state.specs.Taking.{Spends}
+use Rattle.journal_state.specs.Taking.{Spends, moved}
 use Rattle.journal_state.proofs.Tables.{either, kept_here, kept_there, kept_length, room_spent, one_less}
 
 -- ---- rows
@@ -318,6 +318,11 @@ module _ (p : Parts) (s : IsState p) (honest : Honest p.nodes p.shares) (c : ℕ
       by true (Some h) share k = two (same_id h.message.group g) (is_level_shared l && (is_author h.origin || share)) k
       by false o share k = refl
 
+  pub level_row : (contact n : ℕ) → (retry.kept_at new contact n).row ≡ (retry.kept_at p.retry contact n).row
+  level_row contact n = either contact c
+      (λ e. subst (λ x. (retry.kept_at new x n).row ≡ (retry.kept_at p.retry x n).row) (sym e) (row_here n))
+      (λ apart. ap (λ (ks : List retry.KeptRow). (retry.kept_in ks n).row) (r.others contact apart))
+
   level_shown : is_some (group_at p.table.groups g) ≡ true → (contact : ℕ) (group : Id) → is_invisible (level_at (put_level p.table.levels (c, g) l) contact group) ≡ false
       → is_some (group_at p.table.groups group) ≡ true
   level_shown known contact group e = by (same_id g group) refl
@@ -361,12 +366,10 @@ module _ (p : Parts) (s : IsState p) (honest : Honest p.nodes p.shares) (c : ℕ
   pub level_state : c < p.table.contacts → is_some (group_at p.table.groups g) ≡ true → IsState (record p { table = t; retry = new; space = space })
   level_state met known = subst (λ (x : levels.Table). IsState (record p { table = x; retry = new; space = space })) (sym made) (level_then met known)
 
-  pub level_facts : facts_of (record p { table = t; retry = new; space = space }) ≡ after (facts_of p) (entry.Level c g l)
+  pub level_facts : facts_of (record p { table = t; retry = new; space = space }) ≡ moved (facts_of p) (entry.Level c g l)
   level_facts =
       ap (λ (x : levels.Table). facts_of (record p { table = x; retry = new; space = space })) made
-      ∙ (λ i. record (after (facts_of p) (entry.Level c g l)) {
-        rows = rows_same new p.retry p.held (λ contact n. either contact c
-            (λ e. subst (λ x. (retry.kept_at new x n).row ≡ (retry.kept_at p.retry x n).row) (sym e) (row_here n))
-            (λ apart. ap (λ (ks : List retry.KeptRow). (retry.kept_in ks n).row) (r.others contact apart))) i;
+      ∙ (λ i. record (moved (facts_of p) (entry.Level c g l)) {
+        rows = rows_same new p.retry p.held level_row i;
         wanted = wants_same new p.retry p.table.contacts (λ contact. ap (λ (ws : List retry.Wants). (retry.wants_of (record p.retry { wants = ws }) contact).ids) r.wants) i;
       })

@@ -18,6 +18,7 @@ pub mod Stepped
 pub mod Found
 pub mod Lesser
 pub mod Grown
+pub mod Limited
 pub mod Delivered
 pub mod Made
 pub mod Honest
@@ -28,6 +29,8 @@ pub mod Kept
 pub mod Took
 pub mod TakenAll
 pub mod Sending
+pub mod Started
+pub mod Plain
 pub mod CanTaken
 pub mod Entries
 pub mod WantedIds

@@ -7,7 +7,7 @@ use Rattle.sync_rules.specs.declared.entries.Entry.{Entry}
 use Rattle.sync_rules.specs.declared.entries.Entry.TheVariants as entry
 use Rattle.sync_rules.specs.declared.states.Origin.{Origin}
 use Rattle.sync_rules.specs.Clients.{Meaning}
-use Rattle.sync_rules.specs.Facts.{Facts, Held, Id, after}
+use Rattle.sync_rules.specs.Facts.{Facts, Held, Id}
 use Rattle.sync_rules.specs.Sessions.{is_author}
 use Rattle.sync_rules.specs.Steps.{answer_of, next, verdict_in}
 use Rattle.message_graph.specs.declared.nodes.Judged.{Judged}
@@ -20,6 +20,7 @@ use Rattle.journal_state.specs.Parts.{Parts, answer_of_node, answers_of, facts_o
 use Rattle.journal_state.specs.Whole.{StateValue, IsState, Knows, id_at, value_of}
 use Rattle.journal_state.specs.Changes.{delivered_parts}
 use Rattle.journal_state.specs.Delivery.{goes_to, Grows, Readies}
+use Rattle.journal_state.specs.Taking.{moved}
 use Rattle.journal_state.proofs.Listed.{id_there}
 use Rattle.journal_state.proofs.Found.{IsNext, next_found, judge_next, invalid_next, deliver_next}
 use Rattle.journal_state.proofs.Stepped.{answers_kept, invalid_state, invalid_facts, judged_state, judged_facts, judged_knows, within_list}
@@ -59,12 +60,12 @@ module _ (p : Parts) (s : IsState p) (n : ℕ) (e : nodes.next p.nodes ≡ Some 
       let f : IsNext p (step.Judge n) = next_found p s (step.Judge n) e in
       subst (λ (xs : List Node). IsState (record p { nodes = xs; shares = slice_set p.shares n share })) (sym is) (judged_state p s n f.node f.message f.at f.there f.tells.1 j share a shows)
 
-  pub judged_so : facts_of (record p { nodes = ns; shares = slice_set p.shares n share }) ≡ after (facts_of p) (entry.Judged (id_at p.held n))
+  pub judged_so : facts_of (record p { nodes = ns; shares = slice_set p.shares n share }) ≡ moved (facts_of p) (entry.Judged (id_at p.held n))
   judged_so =
       let f : IsNext p (step.Judge n) = next_found p s (step.Judge n) e in
       ap (λ (xs : List Node). facts_of (record p { nodes = xs; shares = slice_set p.shares n share })) is
       ∙ (judged_facts p s n f.node f.message f.at f.there f.tells.1 j share a shows
-      ∙ ap (λ (d : Id). after (facts_of p) (entry.Judged d)) (sym (id_there p.held n f.message f.there)))
+      ∙ ap (λ (d : Id). moved (facts_of p) (entry.Judged d)) (sym (id_there p.held n f.message f.there)))
 
   pub judged_known : (clients : Meaning) → Knows clients (value_of p) → (m : MessageValue) → option_map (λ (h : Held). h.message) (slice_get p.held n) ≡ Some m
       → a ≡ verdict_in clients p.table.groups m → Knows clients (value_of (record p { nodes = ns; shares = slice_set p.shares n share }))
@@ -82,12 +83,12 @@ module _ (p : Parts) (s : IsState p) (n : ℕ) (e : nodes.next p.nodes ≡ Some 
       let f : IsNext p (step.Invalid n) = next_found p s (step.Invalid n) e in
       subst (λ (xs : List Node). IsState (record p { nodes = xs })) (sym is) (invalid_state p s n f.node f.message f.at f.there f.tells.1.0 f.tells.1.1 f.tells.2)
 
-  pub refused_so : facts_of (record p { nodes = ns }) ≡ after (facts_of p) (entry.Invalid (id_at p.held n))
+  pub refused_so : facts_of (record p { nodes = ns }) ≡ moved (facts_of p) (entry.Invalid (id_at p.held n))
   refused_so =
       let f : IsNext p (step.Invalid n) = next_found p s (step.Invalid n) e in
       ap (λ (xs : List Node). facts_of (record p { nodes = xs })) is
       ∙ (invalid_facts p s n f.node f.message f.at f.there f.tells.1.0 f.tells.1.1 f.tells.2
-      ∙ ap (λ (d : Id). after (facts_of p) (entry.Invalid d)) (sym (id_there p.held n f.message f.there)))
+      ∙ ap (λ (d : Id). moved (facts_of p) (entry.Invalid d)) (sym (id_there p.held n f.message f.there)))
 
   pub refused_known : (clients : Meaning) → Knows clients (value_of p) → Knows clients (value_of (record p { nodes = ns }))
   refused_known clients k =
@@ -133,14 +134,14 @@ module _ (p : Parts) (s : IsState p) (n : ℕ) (e : nodes.next p.nodes ≡ Some 
       subst (λ (xs : List Node). IsState (record p { nodes = xs; delivered = ds; retry = u })) (sym ns_is)
       (subst (λ (ks : List ℕ). IsState (record p { nodes = nodes.with_ending n ending.Delivered p.nodes; delivered = ks; retry = u })) (sym ds_is) made)
 
-  pub delivered_so : facts_of (record p { nodes = ns; delivered = ds; retry = u }) ≡ after (facts_of p) (entry.Deliver (id_at p.held n))
+  pub delivered_so : facts_of (record p { nodes = ns; delivered = ds; retry = u }) ≡ moved (facts_of p) (entry.Deliver (id_at p.held n))
   delivered_so =
       let f : IsNext p (step.Deliver n) = next_found p s (step.Deliver n) e in
       (λ i. facts_of (record p { nodes = ns_is i; delivered = ds_is i; retry = u }))
       ∙ (delivered_facts (record p { retry = t }) (grown_state p s t g) n f.node f.message f.at f.there f.tells.1.0 f.tells.1.1 f.tells.2
       share outgoing lets_now (opens_now f.message f.there) u (readies_now f.message f.there)
-      ∙ ((λ i. after (grown_facts p t g i) (entry.Deliver f.message.id))
-      ∙ ap (λ (d : Id). after (facts_of p) (entry.Deliver d)) (sym (id_there p.held n f.message f.there))))
+      ∙ ((λ i. moved (grown_facts p t g i) (entry.Deliver f.message.id))
+      ∙ ap (λ (d : Id). moved (facts_of p) (entry.Deliver d)) (sym (id_there p.held n f.message f.there))))
 
   pub delivered_same : answers_of ns p.shares ≡ answers_of p.nodes p.shares
   delivered_same = ap (λ (xs : List Node). answers_of xs p.shares) ns_is ∙ answers_kept p.nodes p.shares n ending.Delivered

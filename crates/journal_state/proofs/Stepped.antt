@@ -8,7 +8,7 @@ use Rattle.sync_rules.specs.declared.answers.Judgement.{Judgement}
 use Rattle.sync_rules.specs.declared.entries.Entry.TheVariants as entry
 use Rattle.sync_rules.specs.Clients.{Meaning}
 use Rattle.sync_rules.specs.Lists.{same_id, is_among}
-use Rattle.sync_rules.specs.Facts.{Facts, Held, Id, after, level_at, is_level_shared}
+use Rattle.sync_rules.specs.Facts.{Facts, Held, Id, level_at, is_level_shared}
 use Rattle.sync_rules.specs.Sessions.{is_author}
 use Rattle.sync_rules.specs.Steps.{answer_of, verdict_in}
 use Rattle.message_graph.specs.declared.nodes.Judged.{Judged}
@@ -20,6 +20,7 @@ use Rattle.journal_state.specs.Left.{one_if_delivered}
 use Rattle.journal_state.specs.Parts.{Parts, answer_of_node, answers_of, facts_of, is_invalid, is_judged, name_at, ids_where, shared_among}
 use Rattle.journal_state.specs.Whole.{IsState, Knows, is_delivered_in, may_go, value_of}
 use Rattle.journal_state.specs.Changes.{judged_parts, invalid_parts}
+use Rattle.journal_state.specs.Taking.{moved}
 use Rattle.journal_state.proofs.Places.{id_is}
 use Rattle.journal_state.specs.Sound.{AreApart}
 use Rattle.journal_state.proofs.Apart.{first_apart}
@@ -159,7 +160,7 @@ module _ (p : Parts) (s : IsState p) (n : ℕ) (y : Node) (h : Held) (at : slice
   }
 
   -- the facts are those after the entry
-  pub judged_facts : facts_of (judged_parts p n j share) ≡ after (facts_of p) (entry.Judged h.id)
+  pub judged_facts : facts_of (judged_parts p n j share) ≡ moved (facts_of p) (entry.Judged h.id)
   judged_facts =
       let whole : AreApart (names_of p.nodes) = subst AreApart (sym s.named) (first_apart p.held s.distinct) in
       let grown : ids_where is_judged (nodes.with_answer n j p.nodes) ≡ fin_set.insert (ids_where is_judged p.nodes) h.id =
@@ -238,7 +239,7 @@ module _ (p : Parts) (s : IsState p) (n : ℕ) (y : Node) (h : Held) (at : slice
         (shared_among p.held (sym (answers_kept p.nodes p.shares n ending.Invalid) i)) contact x);
   }
 
-  pub invalid_facts : facts_of (invalid_parts p n) ≡ after (facts_of p) (entry.Invalid h.id)
+  pub invalid_facts : facts_of (invalid_parts p n) ≡ moved (facts_of p) (entry.Invalid h.id)
   invalid_facts =
       let whole : AreApart (names_of p.nodes) = subst AreApart (sym s.named) (first_apart p.held s.distinct) in
       let grown : ids_where is_invalid (nodes.with_ending n ending.Invalid p.nodes) ≡ fin_set.insert (ids_where is_invalid p.nodes) h.id =

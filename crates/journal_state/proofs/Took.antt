@@ -1,29 +1,42 @@
 -- What a state knows of judgements, and the room that is left, once it took an entry.
-use Rattle.std.proofs.Common.{◌≡◌, true, false, cond, List, [], ◌∷◌, ◌++◌, map, None, Some, is_some, refl, sym, ◌∙◌, ap, arith}
+use Rattle.std.proofs.Common.{◌≡◌, true, false, cond, List, [], ◌∷◌, ◌++◌, map, None, Some, is_some, refl, sym, subst, ◌∙◌, ap, arith}
 use Rattle.sync_rules.specs.declared.entries.Entry.{Entry}
 use Rattle.sync_rules.specs.Clients.{Meaning}
-use Rattle.sync_rules.specs.Facts.{Facts, Held, after, held_at, is_held}
+use Rattle.sync_rules.specs.Facts.{Facts, Held, after, held_at, is_held, start_after}
 use Rattle.sync_rules.specs.Lists.{same_id}
 use Rattle.sync_rules.specs.Steps.{answer_of}
 use Rattle.journal_state.specs.Room.{Room, KeepsRoom}
-use Rattle.journal_state.specs.Taking.{Spends, Takes}
+use Rattle.journal_state.specs.Taking.{Moves, Spends, Takes, moved, noted}
 use Rattle.journal_state.specs.Whole.{Knows, StateValue}
 use Rattle.journal_state.proofs.Places.{id_itself}
 
 -- the answers for facts that are those after an entry
-pub took : (clients : Meaning) (old new : Facts) (e : Entry) → new ≡ after old e
-    → map (answer_of clients (after old e)) (after old e).held ≡ map (answer_of clients new) new.held
+pub took : (clients : Meaning) (old new : Facts) (e : Entry) → new ≡ moved old e
+    → map (answer_of clients (moved old e)) (moved old e).held ≡ map (answer_of clients new) new.held
 took clients old new e same = ap (λ (f : Facts). map (answer_of clients f) f.held) (sym same)
 
 -- an entry after which the answers are those before
-pub takes_same : (old new : StateValue) (e : Entry) → new.facts ≡ after old.facts e → new.answers ≡ old.answers
-    → ((clients : Meaning) → map (answer_of clients old.facts) old.facts.held ≡ map (answer_of clients (after old.facts e)) (after old.facts e).held)
-    → Spends old.room new.room → Takes old new e
-takes_same old new e facts answers same room = record {
+pub moves_same : (old new : StateValue) (e : Entry) → new.facts ≡ moved old.facts e → new.answers ≡ old.answers
+    → ((clients : Meaning) → map (answer_of clients old.facts) old.facts.held ≡ map (answer_of clients (moved old.facts e)) (moved old.facts e).held)
+    → Spends old.room new.room → Moves old new e
+moves_same old new e facts answers same room = record {
   facts = facts;
   knows = λ clients k. answers ∙ (k ∙ (same clients ∙ took clients old.facts new.facts e facts));
   room = room;
 }
+
+-- a state that took an entry after it was noted how the journal began
+pub noted_takes : (old mid new : StateValue) (e : Entry) → mid ≡ noted old e → Moves mid new e → Takes old new e
+noted_takes old mid new e is m =
+    let n : Moves (noted old e) new e = subst (λ (s : StateValue). Moves s new e) is m in
+    record { facts = n.facts; knows = n.knows; room = n.room }
+
+-- what is noted behind an entry makes the facts those after it, and leaves what is known of judgements
+pub noted_facts : (old mid new : StateValue) (e : Entry) → mid.facts ≡ moved old.facts e → new ≡ noted mid e → new.facts ≡ after old.facts e
+noted_facts old mid new e is n = ap (λ (s : StateValue). s.facts) n ∙ ap (λ (f : Facts). record f { start = start_after f.start e }) is
+
+pub noted_knows : (clients : Meaning) (mid new : StateValue) (e : Entry) → new ≡ noted mid e → Knows clients mid → Knows clients new
+noted_knows clients mid new e n k = let same : Knows clients (noted mid e) = k in subst (Knows clients) (sym n) same
 
 -- facts that are these, after which the answers are those before
 pub knows_after : (clients : Meaning) (old new : StateValue) (f : Facts) → new.facts ≡ f → new.answers ≡ old.answers

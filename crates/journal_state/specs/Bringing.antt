@@ -7,4 +7,5 @@ use Rattle.sync_rules.specs.declared.entries.Entry.TheVariants as entry
 abbrev pub brings_one : Entry → Bool
 brings_one (entry.Author m) = true
 brings_one (entry.Arrive s m) = true
+brings_one (entry.Kept from m) = true
 brings_one _ = false

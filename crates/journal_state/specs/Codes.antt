@@ -8,9 +8,11 @@ use Rattle.sync_ids.specs.Values.{MessageValue}
 use Rattle.sync_rules.specs.contracts.answers.Judgement as judgement
 use Rattle.sync_rules.specs.contracts.entries.Session as session
 use Rattle.sync_rules.specs.contracts.states.Origin as origin
+use Rattle.sync_rules.specs.contracts.states.Start as start
 use Rattle.sync_rules.specs.declared.answers.Judgement.{Judgement}
 use Rattle.sync_rules.specs.declared.entries.Session.{Session}
 use Rattle.sync_rules.specs.declared.states.Origin.{Origin}
+use Rattle.sync_rules.specs.declared.states.Start.{Start}
 use Rattle.sync_rules.specs.Codes.{id_code, known_code, levels_code}
 use Rattle.sync_rules.specs.Facts.{Facts, Held, Id, Ids, Known, LevelMap, Row, Rows, Wants}
 
@@ -45,16 +47,17 @@ rows_code = fin_map.code (coded× coded_ℕ id_code) row_code
 abbrev pub wants_code : Coded Wants
 wants_code = fin_map.code coded_ℕ (coded_list id_code)
 
--- the contacts, groups, levels and sessions; the messages; what is owed and wanted
+-- how the journal began, the contacts, groups, levels and sessions; the messages; what is owed and wanted
 abbrev Before : Type 0
-Before = ℕ × (List Known × (LevelMap × (ℕ × (List Session × fin_map.FinMap nat_cmp ℕ))))
+Before = Start × (ℕ × (List Known × (LevelMap × (ℕ × (List Session × fin_map.FinMap nat_cmp ℕ)))))
 
 abbrev Messages : Type 0
 Messages = List Held × (Ids × (Ids × List Id))
 
 abbrev before_code : Coded Before
 before_code =
-    coded× coded_ℕ (coded× (coded_list known_code) (coded× levels_code (coded× coded_ℕ (coded× sessions_code takes_code))))
+    coded× start.the_row.coded
+    (coded× coded_ℕ (coded× (coded_list known_code) (coded× levels_code (coded× coded_ℕ (coded× sessions_code takes_code)))))
 
 abbrev messages_code : Coded Messages
 messages_code = coded× (coded_list held_code) (coded× ids_code (coded× ids_code (coded_list id_code)))
@@ -62,14 +65,18 @@ messages_code = coded× (coded_list held_code) (coded× ids_code (coded× ids_co
 abbrev pub facts_code : Coded Facts
 facts_code =
     code_by (Before × (Messages × (Rows × Wants))) (coded× before_code (coded× messages_code (coded× rows_code wants_code)))
-    (λ f. ((f.contacts, (f.groups, (f.levels, (f.begun, (f.sessions, f.takes))))), ((f.held, (f.judged, (f.invalid, f.delivered))), (f.rows, f.wanted))))
+    (λ f. (
+      (f.start, (f.contacts, (f.groups, (f.levels, (f.begun, (f.sessions, f.takes)))))),
+      ((f.held, (f.judged, (f.invalid, f.delivered))), (f.rows, f.wanted)),
+    ))
     (λ p. record {
-      contacts = p.0.0;
-      groups = p.0.1.0;
-      levels = p.0.1.1.0;
-      begun = p.0.1.1.1.0;
-      sessions = p.0.1.1.1.1.0;
-      takes = p.0.1.1.1.1.1;
+      start = p.0.0;
+      contacts = p.0.1.0;
+      groups = p.0.1.1.0;
+      levels = p.0.1.1.1.0;
+      begun = p.0.1.1.1.1.0;
+      sessions = p.0.1.1.1.1.1.0;
+      takes = p.0.1.1.1.1.1.1;
       held = p.1.0.0;
       judged = p.1.0.1.0;
       invalid = p.1.0.1.1.0;

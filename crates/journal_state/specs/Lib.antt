@@ -19,3 +19,4 @@ pub mod Changes
 pub mod Delivery
 pub mod Allowing
 pub mod Bringing
+pub mod Telling

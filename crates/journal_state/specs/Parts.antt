@@ -4,6 +4,7 @@ use Rattle.std.specs.FinMap as fin_map
 use Rattle.std.specs.FinSet as fin_set
 use Rattle.sync_rules.specs.declared.answers.Judgement.{Judgement}
 use Rattle.sync_rules.specs.declared.answers.Judgement.TheVariants as judgement
+use Rattle.sync_rules.specs.declared.states.Start.{Start}
 use Rattle.sync_rules.specs.Facts.{Facts, Held, Id, Ids, Rows, Wants, put_row}
 use Rattle.sync_rules.specs.Sessions.{may_share}
 use Rattle.message_graph.specs.declared.nodes.Judged.{Judged}
@@ -14,9 +15,11 @@ use Rattle.retry_table.specs.Table as retry
 use Rattle.visibility_table.specs.Table as levels
 use Rattle.journal_state.specs.Begun.{Begun}
 
--- contacts, groups and levels; the held messages in order of arrival; the sessions; a node of the waiting graph for each held
--- message, and whether it may be sent on; the numbers of the delivered messages in the order of their delivery; rows and wanted ids
+-- how the journal began; contacts, groups and levels; the held messages in order of arrival; the sessions; a node of the waiting
+-- graph for each held message, and whether it may be sent on; the numbers of the delivered messages in the order of their delivery;
+-- rows and wanted ids
 pub record Parts : Type 0 where
+  pub start : Start
   pub table : levels.Table
   pub held : List Held
   pub begun : Begun
@@ -92,6 +95,7 @@ wants_in table (suc contact) = fin_map.insert (wants_in table contact) contact (
 
 abbrev pub facts_of : Parts → Facts
 facts_of p = record {
+  start = p.start;
   contacts = p.table.contacts;
   groups = p.table.groups;
   levels = p.table.levels;

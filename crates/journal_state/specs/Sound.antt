@@ -2,6 +2,7 @@
 use Rattle.std.specs.Prelude.{◌≡◌, ◌<◌, ◌≤◌, ◌^◌, false, List, [], ◌∷◌, length, map, None}
 use Rattle.std.specs.FinSet as fin_set
 use Rattle.std.specs.List.{AllByRecursion}
+use Rattle.sync_rules.specs.declared.states.Start.TheVariants as start
 use Rattle.sync_rules.specs.Consistency.{ids_of_groups}
 use Rattle.sync_rules.specs.Knowing.{KnowsGroups}
 use Rattle.sync_rules.specs.Lists.{has_repeat, is_among}
@@ -23,7 +24,8 @@ abbrev pub DeliversJudged : Facts → Type 0
 DeliversJudged f = (id : Id) → fin_set.contains f.judged id ≡ false → is_among f.delivered id ≡ false
 
 -- each held message stands under its own id; the ids are distinct, the messages fewer than 2^32 and of known groups, and the groups
--- have distinct ids; only held messages are judged, only judged ones are delivered, and no more are delivered than are held
+-- have distinct ids; only held messages are judged, only judged ones are delivered, and no more are delivered than are held; no
+-- session has begun in a journal that has no entry
 pub record IsSound (s : StateValue) : Type 0 where
   pub named : AllByRecursion IsOwnId s.facts.held
   pub distinct : AreApart (map (λ h. h.id) s.facts.held)
@@ -33,3 +35,4 @@ pub record IsSound (s : StateValue) : Type 0 where
   pub judged : JudgesHeld s.facts
   pub ended : DeliversJudged s.facts
   pub delivered : length s.facts.delivered ≤ length s.facts.held
+  pub fresh : s.facts.start ≡ start.Empty → s.facts.begun ≡ 0

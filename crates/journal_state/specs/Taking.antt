@@ -12,7 +12,7 @@ use Rattle.sync_rules.specs.declared.entries.Session.{Session}
 use Rattle.sync_rules.specs.declared.limits.TheConstants.{MAX_CONTACTS}
 use Rattle.sync_rules.specs.Clients.{Meaning}
 use Rattle.sync_rules.specs.Lists.{firsts}
-use Rattle.sync_rules.specs.Facts.{Facts, Id, after, after_all, contact_of, group_at, held_at, is_held, session_at, takes_of, wanted_from}
+use Rattle.sync_rules.specs.Facts.{Facts, Id, after, after_all, contact_of, group_at, held_at, is_held, session_at, start_after, takes_of, wanted_from}
 use Rattle.journal_state.specs.Room.{Room, rows_room, wants_room}
 use Rattle.journal_state.specs.Whole.{StateValue, Knows}
 
@@ -39,10 +39,9 @@ pub record HasRoom (s : StateValue) (es : List Entry) : Type 0 where
   pub entries : length es ≤ s.room.entries
   pub contact : IfSome (contact_for s.facts.sessions es) (HasContactRoom s (length es))
 
--- there is a number for one more message, session and record
+-- there is a number for one more message and record
 pub record HasNextNumbers (f : Facts) : Type 0 where
   pub held : length f.held < 2 ^ 32 - 1
-  pub begun : f.begun < 2 ^ 32 - 1
   pub records : (session : ℕ) → takes_of f.takes session < 2 ^ 64 - 1
 
 -- ---- one entry
@@ -90,6 +89,10 @@ CanTakeKind s (entry.Offered n id) =
 CanTakeKind s (entry.Seen n id) = CanMark s n id
 CanTakeKind s (entry.Asked n id) = CanMark s n id
 CanTakeKind s (entry.Out n now what) = HasRows s n × CanSend s.facts what
+CanTakeKind s (entry.Brief n) = s.facts.begun ≡ 0
+CanTakeKind s (entry.Kept from m) = CanHold s.facts m
+CanTakeKind s (entry.Tried t) = ⊥
+CanTakeKind s (entry.Want contact id) = ⊥
 
 pub record CanTake (s : StateValue) (e : Entry) : Type 0 where
   pub room : 1 ≤ s.room.entries
@@ -106,6 +109,20 @@ pub record Takes (old new : StateValue) (e : Entry) : Type 0 where
   pub facts : new.facts ≡ after old.facts e
   pub knows : (clients : Meaning) → Knows clients old → Knows clients new
   pub room : Spends old.room new.room
+
+-- the facts after an entry, but that the journal began as before
+abbrev pub moved : Facts → Entry → Facts
+moved f e = record (after f e) { start = f.start }
+
+-- a state took an entry but for how the journal began: it knows the judgements as before, and room for one is gone
+pub record Moves (old new : StateValue) (e : Entry) : Type 0 where
+  pub facts : new.facts ≡ moved old.facts e
+  pub knows : (clients : Meaning) → Knows clients old → Knows clients new
+  pub room : Spends old.room new.room
+
+-- a state that noted of an entry how the journal began
+abbrev pub noted : StateValue → Entry → StateValue
+noted s e = record s { facts = record s.facts { start = start_after s.facts.start e } }
 
 -- ---- a batch
 

@@ -1,5 +1,6 @@
 //! A batch that was read from a file is tested and taken.
 ghost use Rattle.std.specs.Prelude.{◌≡◌, true, false, IfOk, OnErr};
+ghost use Rattle.batch_tests.specs.Alone.{is_rows_kind};
 ghost use Rattle.sync_rules.specs.Facts.{after, after_all};
 ghost use Rattle.sync_rules.specs.Steps.{next};
 ghost use Rattle.sync_rules.specs.Allows.{allows, is_settling_kind, is_some_of};
@@ -20,6 +21,16 @@ fn begins_settling(entries: &[Entry]) -> bool
 {
     match entries.first() {
         Some(Entry::Judged(_) | Entry::Deliver(_) | Entry::Invalid(_)) => true,
+        _ => false,
+    }
+}
+
+/// Whether a batch begins with a row or a wanted id.
+fn begins_rows(entries: &[Entry]) -> bool
+    ensures { result ≡ is_rows_kind entries.now }
+{
+    match entries.first() {
+        Some(Entry::Tried(_) | Entry::Want(_, _)) => true,
         _ => false,
     }
 }
@@ -80,7 +91,8 @@ impl State {
         Ok(true)
     }
 
-    /// Tests a batch that is no settling batch, and takes it where it may follow.
+    /// Tests a batch that is neither a settling batch nor one of rows and wanted ids, and takes it
+    /// where it may follow.
     fn admit_other<C: Clients>(
         &mut self,
         alloc: Global,
@@ -89,6 +101,7 @@ impl State {
     ) -> Result<bool, AllocError>
         requires knows { Knows (C.meaning clients.now) self.old }
         requires kind { is_settling_kind batch ≡ false }
+        requires plain { is_rows_kind batch ≡ false }
         requires numbers { HasNextNumbers self.old.facts }
         ensures answer { IfOk result (λ yes. yes ≡ allows (C.meaning clients.now) self.old.facts
             batch) }
@@ -99,19 +112,20 @@ impl State {
         ensures knows { Knows (C.meaning clients.now) self.new }
     {
         let id = id_brought(batch.entries());
-        if !self.allows_known(alloc, clients, &batch, id)? {
+        if !self.allows_batch(alloc, clients, &batch, id)? {
             return Ok(false);
         }
         self.reserve(&batch)?;
         allows_is_allowed();
-        self.take_known(batch, id);
+        self.take_batch(batch, id);
         Ok(true)
     }
 
     /// Tests whether a batch that was read from a file may follow the journal, and takes it where
     /// it may. After another answer, and where memory was wanting, the state stands for the journal
-    /// as before with a front of the batch, each entry of it the journal's next step; none for a
-    /// batch that is no settling batch. It fails only for want of memory.
+    /// as before with a front of the batch, each entry of it the journal's next step, or a row or
+    /// wanted id that suits; with none for a batch that is neither a settling batch nor one of rows
+    /// and wanted ids. It fails only for want of memory.
     pub fn admit<C: Clients>(
         &mut self,
         alloc: Global,
@@ -131,6 +145,9 @@ impl State {
         ensures knows { Knows (C.meaning clients.now) self.new }
     {
         let entries = batch.entries();
+        if begins_rows(entries) {
+            return self.admit_rows(entries);
+        }
         if !begins_settling(entries) {
             return self.admit_other(alloc, clients, batch);
         }

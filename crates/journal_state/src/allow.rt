@@ -2,7 +2,8 @@
 ghost use Rattle.std.specs.Prelude.{◌≡◌, ◌∷◌, [], false, IfOk, IfSome};
 ghost use Rattle.sync_rules.specs.Facts.{session_at};
 ghost use Rattle.sync_rules.specs.Clients.{Meaning};
-ghost use Rattle.sync_rules.specs.Allows.{allows, is_settling_kind};
+ghost use Rattle.sync_rules.specs.Allows.{allows, is_account_kind, is_settling_kind};
+ghost use Rattle.batch_tests.specs.Alone.{is_rows_kind};
 ghost use Rattle.sync_rules.specs.Legal.{Allowed};
 ghost use Rattle.sync_rules.specs.Steps.{IsSettled};
 ghost use Rattle.sync_rules.specs.declared.entries.Entry.TheVariants as entry;
@@ -15,9 +16,13 @@ use batch_tests::{JournalView, allows};
 use session_core::due;
 use std::alloc::{AllocError, Global};
 use sync_ids::{GroupDef, GroupId, MessageId};
-use sync_rules::{Batch, Clients, Out, Session};
+use sync_rules::{Batch, Clients, Out, Session, Start};
 
 impl JournalView for State {
+    fn start(&self) -> Start {
+        self.start
+    }
+
     fn contacts(&self) -> u32 {
         self.table.contacts()
     }
@@ -80,8 +85,8 @@ impl State {
         }
     }
 
-    /// Whether a batch that does not begin with a step may follow the journal. It fails only for
-    /// want of memory.
+    /// Whether a batch may follow the journal that neither begins with a step nor is of a brief
+    /// account's own kinds. It fails only for want of memory.
     #[tactic(auto, using(session_core::proofs::Unknown::unknown))]
     pub fn allows<C: Clients>(
         &self,
@@ -91,6 +96,7 @@ impl State {
     ) -> Result<bool, AllocError>
         requires knows { Knows (C.meaning clients.now) self.now }
         requires kind { is_settling_kind batch.now ≡ false }
+        requires plain { is_account_kind batch.now ≡ false }
         ensures { IfOk result (λ yes. yes ≡ allows (C.meaning clients.now) self.now.facts
             batch.now) }
     {
@@ -99,6 +105,7 @@ impl State {
 
     /// The same of a batch with the id of the one message that it brings, where the caller has it:
     /// it is not computed anew.
+    #[tactic(auto, using(crate::proofs::Plain::no_rows))]
     pub fn allows_known<C: Clients>(
         &self,
         alloc: Global,
@@ -108,6 +115,25 @@ impl State {
     ) -> Result<bool, AllocError>
         requires knows { Knows (C.meaning clients.now) self.now }
         requires kind { is_settling_kind batch.now ≡ false }
+        requires plain { is_account_kind batch.now ≡ false }
+        requires named { IsOfAll id batch.now }
+        ensures { IfOk result (λ yes. yes ≡ allows (C.meaning clients.now) self.now.facts
+            batch.now) }
+    {
+        self.allows_batch(alloc, clients, batch, id)
+    }
+
+    /// The same also of a batch that begins a brief account or keeps a message.
+    pub(crate) fn allows_batch<C: Clients>(
+        &self,
+        alloc: Global,
+        clients: &C,
+        batch: &Batch,
+        id: Option<MessageId>,
+    ) -> Result<bool, AllocError>
+        requires knows { Knows (C.meaning clients.now) self.now }
+        requires kind { is_settling_kind batch.now ≡ false }
+        requires plain { is_rows_kind batch.now ≡ false }
         requires named { IsOfAll id batch.now }
         ensures { IfOk result (λ yes. yes ≡ allows (C.meaning clients.now) self.now.facts
             batch.now) }

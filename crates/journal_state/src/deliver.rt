@@ -2,11 +2,11 @@
 ghost use Rattle.std.specs.Prelude.{◌≡◌, ◌+◌, ◌<◌, ◌≤◌, ◌||◌, true, Some, length, OnOk, OnErr};
 ghost use Rattle.sync_rules.specs.declared.limits.TheConstants.{MAX_CONTACTS};
 ghost use Rattle.sync_rules.specs.Clients.{Meaning};
-ghost use Rattle.sync_rules.specs.Facts.{after};
 ghost use Rattle.sync_rules.specs.Sessions.{is_author};
 ghost use Rattle.sync_rules.specs.Steps.{next};
 ghost use Rattle.retry_table.specs.Table.{rows_of};
 ghost use Rattle.journal_state.specs.Delivery.{goes_to, Grows, HasRows, ReadiesOne, Readies};
+ghost use Rattle.journal_state.specs.Taking.{moved};
 ghost use Rattle.journal_state.specs.Whole.{id_at, Knows};
 
 use crate::state::State;
@@ -98,15 +98,15 @@ fn make_ready(retry: &mut Retry, table: &Levels, group: &GroupId, outgoing: bool
 }
 
 impl State {
-    /// Delivers the message of this number, which is the next step. After an error all is as
-    /// before.
+    /// Delivers the message of this number, which is the next step; how the journal began is not
+    /// noted. After an error all is as before.
     pub(crate) fn deliver(&mut self, n: u32) -> Result<(), AllocError>
         requires held { n < length self.old.facts.held }
         requires next { (clients : Meaning)
             × (Knows clients self.old
             × (next clients self.old.facts ≡ Some (Entry.Deliver (id_at self.old.facts.held n)))) }
         ensures facts { OnOk result
-            (self.new.facts ≡ after self.old.facts (Entry.Deliver (id_at self.old.facts.held n))) }
+            (self.new.facts ≡ moved self.old.facts (Entry.Deliver (id_at self.old.facts.held n))) }
         ensures answers { self.new.answers ≡ self.old.answers }
         ensures err { OnErr result (self.new.facts ≡ self.old.facts) }
     {

@@ -1,10 +1,10 @@
 //! A held message is judged, or is invalid.
 ghost use Rattle.std.specs.Prelude.{◌≡◌, ◌<◌, Some, length, IfOk, OnOk, OnErr};
 ghost use Rattle.sync_rules.specs.Clients.{Meaning};
-ghost use Rattle.sync_rules.specs.Facts.{after};
 ghost use Rattle.sync_rules.specs.Sessions.{may_share};
 ghost use Rattle.sync_rules.specs.Steps.{next, verdict_in};
 ghost use Rattle.journal_state.specs.Parts.{answer_of_node};
+ghost use Rattle.journal_state.specs.Taking.{moved};
 ghost use Rattle.journal_state.specs.Whole.{id_at, Knows};
 
 use crate::state::State;
@@ -62,7 +62,8 @@ fn graph_answer(alloc: Global, judgement: &Judgement) -> Result<(Judged, bool), 
 }
 
 impl State {
-    /// Judges the message of this number, which is the next step. After an error all is as before.
+    /// Judges the message of this number, which is the next step; how the journal began is not noted.
+    /// After an error all is as before.
     pub(crate) fn judge<C: Clients>(
         &mut self,
         alloc: Global,
@@ -74,7 +75,7 @@ impl State {
         requires next { next (C.meaning clients.now) self.old.facts ≡ Some
             (Entry.Judged (id_at self.old.facts.held n)) }
         ensures facts { OnOk result
-            (self.new.facts ≡ after self.old.facts (Entry.Judged (id_at self.old.facts.held n))) }
+            (self.new.facts ≡ moved self.old.facts (Entry.Judged (id_at self.old.facts.held n))) }
         ensures knows { Knows (C.meaning clients.now) self.new }
         ensures err { OnErr result ((self.new.facts ≡ self.old.facts)
             × (self.new.answers ≡ self.old.answers)) }
@@ -86,13 +87,14 @@ impl State {
         Ok(())
     }
 
-    /// Ends the message of this number as invalid, which is the next step. It takes no memory.
+    /// Ends the message of this number as invalid, which is the next step; how the journal began is not
+    /// noted. It takes no memory.
     pub(crate) fn refuse(&mut self, n: u32)
         requires held { n < length self.old.facts.held }
         requires next { (clients : Meaning)
             × (Knows clients self.old
             × (next clients self.old.facts ≡ Some (Entry.Invalid (id_at self.old.facts.held n)))) }
-        ensures facts { self.new.facts ≡ after self.old.facts
+        ensures facts { self.new.facts ≡ moved self.old.facts
             (Entry.Invalid (id_at self.old.facts.held n)) }
         ensures knows { (clients : Meaning) → Knows clients self.old → Knows clients self.new }
     {

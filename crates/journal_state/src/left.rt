@@ -4,7 +4,7 @@ ghost use Rattle.std.specs.List.{list_any};
 ghost use Rattle.sync_rules.specs.Clients.{Meaning};
 ghost use Rattle.sync_rules.specs.Facts.{after_all};
 ghost use Rattle.sync_rules.specs.Legal.{Allowed};
-ghost use Rattle.sync_rules.specs.Allows.{is_settling_kind};
+ghost use Rattle.sync_rules.specs.Allows.{is_account_kind, is_settling_kind};
 ghost use Rattle.sync_rules.specs.Left.{left_of};
 ghost use Rattle.journal_state.specs.Bringing.{brings_one};
 
@@ -19,7 +19,7 @@ fn brings_one(entry: &Entry) -> bool
     ensures { result ≡ brings_one entry.now }
 {
     match entry {
-        Entry::Author(_) | Entry::Arrive(_, _) => true,
+        Entry::Author(_) | Entry::Arrive(_, _) | Entry::Kept(_, _) => true,
         _ => false,
     }
 }
@@ -38,10 +38,11 @@ fn brings_message(entries: &[Entry]) -> bool
 
 impl State {
     /// The steps that settling may yet make after a batch that may follow the journal, and that is
-    /// no settling batch.
+    /// neither a settling batch nor of a brief account's own kinds.
     pub fn left_with(&self, batch: &Batch) -> u64
         requires allowed { (clients : Meaning) × Allowed clients self.now.facts batch.now }
         requires kind { is_settling_kind batch.now ≡ false }
+        requires plain { is_account_kind batch.now ≡ false }
         ensures { result ≡ left_of (after_all self.now.facts batch.now) }
     {
         self.show_sound();

@@ -4,7 +4,7 @@ ghost use Rattle.std.specs.List.{list_all};
 ghost use Rattle.sync_rules.specs.Facts.{is_level_shared};
 ghost use Rattle.retry_table.specs.Table.{rows_of, kept_at, with_ready, Keeps};
 ghost use Rattle.journal_state.specs.Levelling.{levelled_at, SetsLevels};
-ghost use Rattle.journal_state.specs.Taking.{CanTake, Takes};
+ghost use Rattle.journal_state.specs.Taking.{CanTake, Moves};
 
 use crate::messages::Messages;
 use crate::state::State;
@@ -88,7 +88,7 @@ impl State {
     /// A group's level for a contact that has room for the rows of all held messages.
     pub(crate) fn take_level(&mut self, contact: u8, group: GroupId, level: Level)
         requires { CanTake self.old (Entry.Level contact group level) }
-        ensures { Takes self.old self.new (Entry.Level contact group level) }
+        ensures { Moves self.old self.new (Entry.Level contact group level) }
     {
         self.space -= 1;
         self.table.apply(&Entry::Level(contact, group, level));

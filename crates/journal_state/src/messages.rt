@@ -89,6 +89,11 @@ impl Messages {
         let _held = self.kept.len();
     }
 
+    /// What hashes ids.
+    pub(crate) fn hasher(&self) -> RandomState {
+        *self.kept.hasher()
+    }
+
     /// The number of held messages.
     pub(crate) fn len(&self) -> u32
         ensures { result ≡ length self.now.held }

@@ -39,7 +39,7 @@ impl State {
 
     /// Makes room for the contact's rows of all held messages and one more, and for so many wanted
     /// ids.
-    fn reserve_rows(&mut self, contact: u8, wants: usize) -> Result<(), AllocError>
+    pub(crate) fn reserve_rows(&mut self, contact: u8, wants: usize) -> Result<(), AllocError>
         ensures ok { OnOk result (HasContactRoom self.new wants contact) }
         ensures facts { self.new.facts ≡ self.old.facts }
         ensures answers { self.new.answers ≡ self.old.answers }
@@ -50,7 +50,7 @@ impl State {
     }
 
     /// Makes room for so many entries.
-    fn reserve_entries(&mut self, entries: usize) -> Result<(), AllocError>
+    pub(crate) fn reserve_entries(&mut self, entries: usize) -> Result<(), AllocError>
         ensures ok { OnOk result (entries ≤ self.new.room.entries) }
         ensures facts { self.new.facts ≡ self.old.facts }
         ensures answers { self.new.answers ≡ self.old.answers }

@@ -83,6 +83,30 @@ impl Sessions {
         self.sessions.push(Session { nonce, ..*session }).unwrap();
     }
 
+    /// So many sessions have begun that are not listed, where none has begun before.
+    pub(crate) fn skip(&mut self, sessions: u32)
+        requires { self.old.begun ≡ 0 }
+        ensures begun { self.new.begun ≡ self.old.begun + sessions }
+        ensures sessions { self.new.sessions ≡ self.old.sessions }
+        ensures takes { self.new.takes ≡ self.old.takes }
+        ensures room { self.new.room ≡ self.old.room }
+    {
+        self.first = sessions;
+    }
+
+    /// Forgets all sessions but how many have begun, and the records taken on them. It takes no
+    /// memory.
+    pub(crate) fn forget(&mut self)
+        ensures begun { self.new.begun ≡ self.old.begun }
+        ensures sessions { self.new.sessions ≡ [] }
+        ensures takes { self.new.takes ≡ fin_map.empty }
+        ensures room { self.old.room ≤ self.new.room }
+    {
+        self.first = self.begun();
+        self.sessions.clear();
+        self.counts.clear();
+    }
+
     /// Counts a record taken on a session.
     pub(crate) fn take(&mut self, number: u32)
         requires room { 0 < self.old.room }

@@ -3,6 +3,8 @@ ghost use Rattle.std.specs.Prelude.{◌≡◌, ◌<◌, ◌≤◌, [], length, I
 ghost use Rattle.std.specs.Option.{option_map};
 ghost use Rattle.sync_rules.specs.declared.limits.TheConstants.{MAX_CONTACTS};
 ghost use Rattle.sync_rules.specs.Facts.{nothing, takes_of};
+ghost use Rattle.brief_account.specs.Account.{with_groups};
+ghost use Rattle.visibility_table.specs.Table.{empty_table};
 ghost use Rattle.journal_state.specs.Lent.{StandsForRows};
 ghost use Rattle.journal_state.specs.Sound.{IsSound};
 
@@ -14,13 +16,14 @@ use std::alloc::{AllocError, Global};
 use std::hash::RandomState;
 use std::marker::Model;
 use sync_ids::{GroupDef, GroupId, Message, MessageId};
-use sync_rules::Origin;
+use sync_rules::{Origin, Start};
 use visibility_table::Levels;
 
 /// The state of a journal without a disk: all that is asked of a journal, kept so that no answer
 /// needs a walk over its entries. Contracts see the facts of the journal, the judgements of its
 /// messages, and for how much more there is room.
 pub struct State {
+    pub(crate) start: Start,
     pub(crate) table: Levels,
     pub(crate) messages: Messages,
     pub(crate) sessions: Sessions,
@@ -36,6 +39,7 @@ pub struct State {
 impl Drop for State {
     fn drop(self) {
         let State {
+            start: _,
             table: _,
             messages: _,
             sessions: _,
@@ -70,9 +74,24 @@ impl State {
         ensures answers { IfOk result (λ s. s.answers ≡ []) }
     {
         let table = Levels::new(alloc)?;
+        State::over(alloc, hasher, table)
+    }
+
+    /// The state that has these groups and nothing else; ids are hashed by `hasher`. Answers an
+    /// error where there is no memory.
+    pub(crate) fn over(
+        alloc: Global,
+        hasher: RandomState,
+        table: Levels,
+    ) -> Result<State, AllocError>
+        requires { table ≡ record empty_table { groups = table.groups } }
+        ensures facts { IfOk result (λ s. s.facts ≡ with_groups table.groups) }
+        ensures answers { IfOk result (λ s. s.answers ≡ []) }
+    {
         let graph = CountedGraph::new(alloc, hasher)?;
         let retry = Retry::new(alloc, hasher)?;
         Ok(State {
+            start: Start::Empty,
             table,
             messages: Messages::new(alloc, hasher),
             sessions: Sessions::new(alloc),
@@ -86,7 +105,7 @@ impl State {
 
     /// Shows the prover what holds of every state: its held messages stand under their own ids,
     /// which are distinct, are fewer than 2^32 and of known groups, its groups have distinct ids,
-    /// and only what is judged is delivered. It does nothing.
+    /// only what is judged is delivered, and no session has begun before an entry. It does nothing.
     pub fn show_sound(&self)
         ensures { IsSound self.now }
     {

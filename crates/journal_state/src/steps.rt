@@ -49,6 +49,7 @@ impl State {
             Step::Invalid(n) => self.refuse(n),
             Step::Deliver(n) => self.deliver(n)?,
         }
+        self.note(&entry);
         Ok(Some(entry))
     }
 

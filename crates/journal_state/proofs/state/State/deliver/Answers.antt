@@ -1,15 +1,18 @@
 use Rattle.std.proofs.Common.{◌≡◌, ℕ, List, [], ◌∷◌, ◌++◌, Some, ap, subst, sym, ◌∙◌, arith}
 use Rattle.sync_rules.specs.declared.entries.Entry.TheVariants as entry
-use Rattle.sync_rules.specs.Facts.{after}
 use Rattle.message_graph.specs.declared.nodes.Node.{Node}
 use Rattle.message_graph.specs.declared.nodes.Step.TheVariants as step
 use Rattle.message_graph.specs.declared.nodes.Ending.TheVariants as ending
 use Rattle.message_graph.specs.Nodes as nodes
 use Rattle.journal_state.specs.Parts.{facts_of}
 use Rattle.journal_state.specs.Whole.{StateValue, IsState, id_at}
+use Rattle.journal_state.specs.Taking.{moved}
 use Rattle.journal_state.specs.Inside.{IsHonest, parts}
 use Rattle.journal_state.proofs.Grown.{grown_facts, grown_state, on_err}
 use Rattle.journal_state.proofs.Honest.{honest_ended}
+use Rattle.retry_table.specs.Table as retry
+use Rattle.journal_state.specs.Delivery.{goes_to}
+use Rattle.journal_state.proofs.Limited.{limits_same, readied_row}
 use Rattle.journal_state.proofs.Made.{deliver_node, delivered_then, delivered_so, delivered_same}
 use Rattle.journal_state.proofs.state.State.deliver.Goals as goal
 
@@ -57,6 +60,11 @@ invariant_of-self-2 c =
       honest =
           subst (λ (ns : List Node). IsHonest ns c.self.inside.shares.items) (sym (ended c))
           (honest_ended c.self.inside.graph.nodes c.self.inside.shares.items c.args.n ending.Delivered c.self.invariant.honest);
+      limited =
+          limits_same c.self.inside.retry c.make_ready.new.retry
+          (λ contact n. readied_row c.reserve_rows.new.retry c.make_ready.new.retry (goes_to c.self.inside.table.levels c.group-group.result c.is_open-outgoing.result) c.self.inside.table.contacts c.args.n
+          c.make_ready.ensures contact n ∙ ap (λ (x : retry.KeptRow). x.row) (c.reserve_rows.ensures.same.kept contact n)) c.self.invariant.limited;
+      fresh = c.self.invariant.fresh;
     }
 
 pub returns-clause-facts : goal.returns-clause-facts
@@ -64,7 +72,7 @@ returns-clause-facts c =
     delivered_so (parts c.self.inside) c.self.invariant.state c.args.n (node c) c.message.result.now c.message.ensures c.group-group.result c.group-group.ensures c.origin.result c.origin.ensures
     c.index.result.now c.index.ensures c.is_open-outgoing.result c.is_open-outgoing.ensures c.reserve_rows.new.retry c.reserve_rows.ensures.same c.make_ready.new.retry c.make_ready.ensures
     c.apply.new.self.nodes (ended c) c.push.new.self.items (pushed c)
-    ∙ ap (λ (v : StateValue). after v.facts (entry.Deliver (id_at v.facts.held c.args.n))) c.self.view_is
+    ∙ ap (λ (v : StateValue). moved v.facts (entry.Deliver (id_at v.facts.held c.args.n))) c.self.view_is
 
 pub returns-clause-answers : goal.returns-clause-answers
 returns-clause-answers c =
@@ -87,6 +95,8 @@ invariant_of-self c =
       few = c.self.invariant.few;
       met = c.self.invariant.met;
       honest = c.self.invariant.honest;
+      limited = limits_same c.self.inside.retry c.reserve_rows.new.retry (λ contact n. ap (λ (x : retry.KeptRow). x.row) (c.reserve_rows.ensures.same.kept contact n)) c.self.invariant.limited;
+      fresh = c.self.invariant.fresh;
     }
 
 pub invariant_of-self-in_err-reserve : goal.invariant_of-self-in_err-reserve
@@ -105,4 +115,6 @@ invariant_of-self-in_err-reserve c =
       few = c.self.invariant.few;
       met = c.self.invariant.met;
       honest = c.self.invariant.honest;
+      limited = limits_same c.self.inside.retry c.reserve_rows.new.retry (λ contact n. ap (λ (x : retry.KeptRow). x.row) (c.reserve_rows.ensures.same.kept contact n)) c.self.invariant.limited;
+      fresh = c.self.invariant.fresh;
     }

@@ -11,6 +11,7 @@ use Rattle.journal_state.specs.Taking.{Spends}
 use Rattle.journal_state.specs.Unwanted.{UnwantsBelow}
 use Rattle.journal_state.specs.Whole.{IsState, Knows, StateValue, value_of}
 use Rattle.journal_state.specs.Inside.{parts}
+use Rattle.journal_state.proofs.Limited.{limits_same}
 use Rattle.journal_state.proofs.MoreHeld.{no_number, honest_more, held_parts, held_state, held_facts, held_knows}
 use Rattle.journal_state.proofs.Tables.{room_spent, one_less}
 use Rattle.journal_state.proofs.state.State.hold.Goals as goal
@@ -77,6 +78,10 @@ invariant_of-self c =
         graph = let m = c.self.invariant.roomy.graph in omega (arith, m, spare);
         shares = let m = c.self.invariant.roomy.shares in omega (arith, m, long, some, c.push.ensures.capacity);
       };
+      limited =
+          limits_same c.self.inside.retry c.unwant_from_all.new.retry
+          (λ contact n. ap (λ (rows : List (List retry.KeptRow)). (retry.kept_in (slice_index_or rows contact []) n).row) c.unwant_from_all.ensures.rows) c.self.invariant.limited;
+      fresh = c.self.invariant.fresh;
       few = c.self.invariant.few;
       met = c.self.invariant.met;
       honest = λ n node at share.

@@ -1,10 +1,10 @@
 use Rattle.std.proofs.Common.{◌≡◌, List, length, set, ap, subst, sym, ◌∙◌, arith}
 use Rattle.std.proofs.lemmas.List.{length-set}
 use Rattle.sync_rules.specs.declared.entries.Entry.TheVariants as entry
-use Rattle.sync_rules.specs.Facts.{after}
 use Rattle.message_graph.specs.declared.nodes.Node.{Node}
 use Rattle.message_graph.specs.Nodes as nodes
 use Rattle.journal_state.specs.Whole.{StateValue, IsState, Knows, id_at}
+use Rattle.journal_state.specs.Taking.{moved}
 use Rattle.journal_state.specs.Inside.{IsHonest, parts}
 use Rattle.journal_state.proofs.Honest.{honest_judged}
 use Rattle.journal_state.proofs.Made.{judge_node, judged_then, judged_so, judged_known}
@@ -30,6 +30,8 @@ invariant_of-self-2 g c =
         graph = let m = c.self.invariant.roomy.graph in omega (arith, m, spare);
         shares = let m = c.self.invariant.roomy.shares in omega (arith, m, long);
       };
+      limited = c.self.invariant.limited;
+      fresh = c.self.invariant.fresh;
       few = c.self.invariant.few;
       met = c.self.invariant.met;
       honest =
@@ -43,7 +45,7 @@ returns-clause-facts g c =
     judged_so (parts c.self.inside) c.self.invariant.state c.args.n
     (judge_node (parts c.self.inside) c.self.invariant.state c.args.self.now c.self.view_is c.args.n (c.requires.held, (g.C.Clients.meaning c.args.clients.now, (c.requires.knows, c.requires.next))))
     c.in_ok-answer.answer c.in_ok-answer.share c.in_ok-judgement.judgement c.in_ok-answer.ensures.answer c.judged.new.self.nodes (ap (λ (s : nodes.Shown). s.nodes) c.in_ok-judged.ensures.ok)
-    ∙ ap (λ (v : StateValue). after v.facts (entry.Judged (id_at v.facts.held c.args.n))) c.self.view_is
+    ∙ ap (λ (v : StateValue). moved v.facts (entry.Judged (id_at v.facts.held c.args.n))) c.self.view_is
 
 pub returns-clause-knows : goal.returns-clause-knows
 returns-clause-knows g c =
@@ -65,6 +67,8 @@ invariant_of-self g c =
         graph = let m = c.self.invariant.roomy.graph in omega (arith, m, spare);
         shares = c.self.invariant.roomy.shares;
       };
+      limited = c.self.invariant.limited;
+      fresh = c.self.invariant.fresh;
       few = c.self.invariant.few;
       met = c.self.invariant.met;
       honest = subst (λ (ns : List Node). IsHonest ns c.self.inside.shares.items) (sym (ap (λ (s : nodes.Shown). s.nodes) same)) c.self.invariant.honest;

@@ -7,6 +7,7 @@ use Rattle.journal_state.specs.Room.{KeepsRoom, rows_room, room_in}
 use Rattle.journal_state.specs.Whole.{StateValue, value_of}
 use Rattle.journal_state.specs.Inside.{parts}
 use Rattle.journal_state.proofs.Kept.{marked_state, marked_facts}
+use Rattle.journal_state.proofs.Limited.{limited_mark, limits_kept}
 use Rattle.journal_state.proofs.Tables.{kept_length, room_kept, rows_room_is}
 use Rattle.journal_state.proofs.state.State.mark.Goals as goal
 
@@ -34,6 +35,12 @@ invariant_of-self c = record {
   few = c.self.invariant.few;
   met = c.self.invariant.met;
   honest = c.self.invariant.honest;
+  limited =
+      limits_kept c.self.inside.retry c.mark_row.new.retry c.args.contact c.unwrap-number.result
+      (retry.with_row (marked c.args.mark) (retry.kept_at c.self.inside.retry c.args.contact c.unwrap-number.result)) c.mark_row.ensures (within c)
+      (limited_mark c.args.mark (retry.kept_at c.self.inside.retry c.args.contact c.unwrap-number.result).row
+      (c.self.invariant.limited c.args.contact c.unwrap-number.result)) c.self.invariant.limited;
+  fresh = c.self.invariant.fresh;
 }
 
 pub returns-clause-facts : goal.returns-clause-facts

@@ -1,4 +1,4 @@
-use Rattle.std.proofs.Common.{sym, subst, take, ◌∙◌}
+use Rattle.std.proofs.Common.{sym, subst, take, ◌∙◌, inl}
 use Rattle.sync_rules.specs.Clients.{Meaning}
 use Rattle.sync_rules.specs.Facts.{Facts}
 use Rattle.journal_state.proofs.Fronts.{HasPlayed, leads_next, played_more, played_front, settles_next}
@@ -19,7 +19,7 @@ loop-entry-preserved g c =
           ∙ c.loop-entry.invariant.leads;
       played =
           played_more clients c.args.self.now.facts c.loop-entry.self.facts c.play_one.new.self.facts c.args.entries.now c.loop-entry.entry-index c.entry-item.result c.loop-entry-test.true c.entry-item.is
-          c.loop-entry.invariant.played (c.in_ok-play_one.ensures.step c.if-not-branch.false) (c.in_ok-play_one.ensures.taken c.if-not-branch.false);
+          c.loop-entry.invariant.played (inl (c.in_ok-play_one.ensures.step c.if-not-branch.false)) (c.in_ok-play_one.ensures.taken c.if-not-branch.false);
     }
 
 pub returns-in_err-play_one-clause-front : goal.returns-in_err-play_one-clause-front

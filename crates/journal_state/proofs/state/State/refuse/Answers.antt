@@ -1,11 +1,11 @@
 use Rattle.std.proofs.Common.{◌≡◌, List, Some, ap, subst, sym, ◌∙◌, arith}
 use Rattle.sync_rules.specs.declared.entries.Entry.TheVariants as entry
-use Rattle.sync_rules.specs.Facts.{after}
 use Rattle.message_graph.specs.declared.nodes.Node.{Node}
 use Rattle.message_graph.specs.declared.nodes.Step.TheVariants as step
 use Rattle.message_graph.specs.declared.nodes.Ending.TheVariants as ending
 use Rattle.message_graph.specs.Nodes as nodes
 use Rattle.journal_state.specs.Whole.{StateValue, Knows, id_at}
+use Rattle.journal_state.specs.Taking.{moved}
 use Rattle.journal_state.specs.Inside.{IsHonest, parts}
 use Rattle.journal_state.proofs.Honest.{honest_ended}
 use Rattle.journal_state.proofs.Made.{refuse_node, refused_then, refused_so, refused_known}
@@ -32,6 +32,8 @@ invariant_of-self c =
         graph = let m = c.self.invariant.roomy.graph in omega (arith, m, spare);
         shares = c.self.invariant.roomy.shares;
       };
+      limited = c.self.invariant.limited;
+      fresh = c.self.invariant.fresh;
       few = c.self.invariant.few;
       met = c.self.invariant.met;
       honest =
@@ -42,7 +44,7 @@ invariant_of-self c =
 pub returns-clause-facts : goal.returns-clause-facts
 returns-clause-facts c =
     refused_so (parts c.self.inside) c.self.invariant.state c.args.n (node c) c.apply.new.self.nodes (made c)
-    ∙ ap (λ (v : StateValue). after v.facts (entry.Invalid (id_at v.facts.held c.args.n))) c.self.view_is
+    ∙ ap (λ (v : StateValue). moved v.facts (entry.Invalid (id_at v.facts.held c.args.n))) c.self.view_is
 
 pub returns-clause-knows : goal.returns-clause-knows
 returns-clause-knows c clients k =

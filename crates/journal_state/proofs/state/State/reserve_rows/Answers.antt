@@ -3,6 +3,8 @@ use Rattle.journal_state.specs.Room.{KeepsRoom, room_in}
 use Rattle.journal_state.specs.Whole.{StateValue}
 use Rattle.journal_state.specs.Inside.{parts}
 use Rattle.journal_state.proofs.Kept.{same_state, same_facts}
+use Rattle.retry_table.specs.Table as retry
+use Rattle.journal_state.proofs.Limited.{limits_same}
 use Rattle.journal_state.proofs.Tables.{NoLess, no_less, room_kept}
 use Rattle.journal_state.proofs.state.State.reserve_rows.Goals as goal
 
@@ -22,6 +24,9 @@ invariant_of-self c = record {
   few = c.self.invariant.few;
   met = c.self.invariant.met;
   honest = c.self.invariant.honest;
+  limited =
+      limits_same c.self.inside.retry c.reserve.new.self (λ contact n. ap (λ (x : retry.KeptRow). x.row) ((kept c).same.rows contact n)) c.self.invariant.limited;
+  fresh = c.self.invariant.fresh;
 }
 
 pub returns-clause-facts : goal.returns-clause-facts

@@ -27,4 +27,5 @@ returns c =
           let few : length s.delivered.items ≤ length s.messages.held = few_ended p c.self.invariant.state in
           let many = length-map s.delivered.items (name_at s.graph.nodes) in
           omega (arith, few, many);
+      fresh = c.self.invariant.fresh;
     })

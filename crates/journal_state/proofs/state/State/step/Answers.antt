@@ -1,5 +1,6 @@
 use Rattle.std.proofs.Common.{◌≡◌, ◌<◌, ◌+◌, ◌≤◌, Option, None, Some, length, refl, sym, ap, subst, ◌∙◌, arith}
 use Rattle.std.specs.Option.{option_map}
+use Rattle.sync_rules.specs.declared.entries.Entry.TheVariants as entry
 use Rattle.sync_rules.specs.Clients.{Meaning}
 use Rattle.sync_rules.specs.Facts.{Facts, after}
 use Rattle.sync_rules.specs.Left.{left_of}
@@ -9,8 +10,10 @@ use Rattle.message_graph.specs.Nodes as nodes
 use Rattle.journal_state.specs.Parts.{Parts}
 use Rattle.message_graph.specs.Nodes.{step_number}
 use Rattle.journal_state.specs.Stepping.{entry_of}
+use Rattle.journal_state.specs.Taking.{moved}
 use Rattle.journal_state.specs.Whole.{StateValue, IsState, Knows, id_at, value_of}
 use Rattle.journal_state.specs.Inside.{parts}
+use Rattle.journal_state.proofs.Took.{knows_after, noted_facts, noted_knows}
 use Rattle.journal_state.proofs.Next.{found_next, many_nodes, next_within}
 use Rattle.journal_state.proofs.state.State.step.Goals as goal
 use Rattle.journal_state.proofs.state.State.step.Goals.{in-Judge+in_ok-judge-in-Judge, in-Invalid, in-Deliver+in_ok-deliver-in-Deliver}
@@ -66,17 +69,37 @@ returns-clause-step g c =
     ap Some c.entry_of-entry.ensures
     ∙ told (g.C.Clients.meaning c.args.clients.now) (parts c.self.inside) c.self.invariant.state c.args.self.now c.self.view_is c.requires.knows (Some c.in-Some.step) c.in-Some.ensures
 
-pub returns-clause-left : goal.returns-clause-left
-returns-clause-left g c =
+pub returns-clause-facts : goal.returns-clause-facts
+returns-clause-facts g c =
     let clients : Meaning = g.C.Clients.meaning c.args.clients.now in
     let f = c.args.self.now.facts in
-    let as_entry = λ (s : Step). after f (entry_of (id_at f.held) s) in
+    let as_entry = λ (s : Step). moved f (entry_of (id_at f.held) s) in
     let facts_are : c.match-step.self.facts ≡ as_entry c.in-Some.step =
     (elim c.match-step.branch [
       | in-Judge+in_ok-judge-in-Judge w ↦ ap (λ (v : StateValue). v.facts) w.self-is ∙ (w.in_ok-judge-in-Judge.ensures.facts ∙ ap as_entry (sym w.in-Judge.is))
       | in-Invalid w ↦ ap (λ (v : StateValue). v.facts) w.self-is ∙ (w.refuse.ensures.facts ∙ ap as_entry (sym w.in-Invalid.is))
       | in-Deliver+in_ok-deliver-in-Deliver w ↦ ap (λ (v : StateValue). v.facts) w.self-is ∙ (w.in_ok-deliver-in-Deliver.ensures.facts ∙ ap as_entry (sym w.in-Deliver.is))
     ]) in
-    let is_next : next clients f ≡ Some (entry_of (id_at f.held) c.in-Some.step) =
-    sym (told clients (parts c.self.inside) c.self.invariant.state c.args.self.now c.self.view_is c.requires.knows (Some c.in-Some.step) c.in-Some.ensures) in
-    subst (λ (h : Facts). left_of h + 1 ≤ left_of f) (sym facts_are) (c.left.ensures.step clients f (entry_of (id_at f.held) c.in-Some.step) is_next)
+    noted_facts c.args.self.now c.match-step.self c.note.new.self c.entry_of-entry.result (facts_are ∙ ap (moved f) (sym c.entry_of-entry.ensures)) c.note.ensures
+
+pub returns-clause-left : goal.returns-clause-left
+returns-clause-left g c =
+    let clients : Meaning = g.C.Clients.meaning c.args.clients.now in
+    let f = c.args.self.now.facts in
+    let facts_are : c.note.new.self.facts ≡ after f c.entry_of-entry.result = returns-clause-facts g c in
+    let is_next : next clients f ≡ Some c.entry_of-entry.result = sym (returns-clause-step g c) in
+    subst (λ (h : Facts). left_of h + 1 ≤ left_of f) (sym facts_are) (c.left.ensures.step clients f c.entry_of-entry.result is_next)
+
+pub returns-clause-knows : goal.returns-clause-knows
+returns-clause-knows g c =
+    let clients : Meaning = g.C.Clients.meaning c.args.clients.now in
+    let k : Knows clients c.match-step.self =
+    (elim c.match-step.branch [
+      | in-Judge+in_ok-judge-in-Judge w ↦ subst (Knows clients) (sym w.self-is) w.judge.ensures.knows
+      | in-Invalid w ↦ subst (Knows clients) (sym w.self-is) (w.refuse.ensures.knows clients c.requires.knows)
+      | in-Deliver+in_ok-deliver-in-Deliver w ↦
+          subst (Knows clients) (sym w.self-is)
+          (knows_after clients c.args.self.now w.deliver.new.self (moved c.args.self.now.facts (entry.Deliver (id_at c.args.self.now.facts.held w.in-Deliver.n)))
+          w.in_ok-deliver-in-Deliver.ensures.facts w.deliver.ensures.answers refl c.requires.knows)
+    ]) in
+    noted_knows clients c.match-step.self c.note.new.self c.entry_of-entry.result c.note.ensures k

@@ -2,7 +2,7 @@ use Rattle.std.proofs.Common.{◌≡◌, ◌≤◌, length, refl, sym, ap, subst
 use Rattle.sync_rules.specs.declared.entries.Entry.TheVariants as entry
 use Rattle.sync_rules.specs.Facts.{change_row, contact_in, contact_of, row_asked}
 use Rattle.journal_state.specs.Room.{rows_room}
-use Rattle.journal_state.proofs.Took.{takes_same, kept_spends}
+use Rattle.journal_state.proofs.Took.{moves_same, kept_spends}
 use Rattle.journal_state.proofs.state.State.take_asked.Goals as goal
 
 pub mark-requires-clause-room : goal.mark-requires-clause-room
@@ -12,6 +12,6 @@ mark-requires-clause-room c =
 pub returns : goal.returns
 returns c =
     let contact : c.known_session-contact.result.contact ≡ contact_of c.args.self.now.facts.sessions c.args.session = sym (ap contact_in c.known_session-contact.ensures.found) in
-    takes_same c.args.self.now c.mark.new.self (entry.Asked c.args.session c.args.id)
+    moves_same c.args.self.now c.mark.new.self (entry.Asked c.args.session c.args.id)
     (c.mark.ensures.facts ∙ (λ i. record c.args.self.now.facts { rows = change_row c.args.self.now.facts.rows (contact i) c.args.id row_asked }))
     c.mark.ensures.answers (λ clients. refl) (kept_spends c.args.self.now.room c.mark.new.self.room c.mark.ensures.room)

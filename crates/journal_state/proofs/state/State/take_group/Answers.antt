@@ -4,7 +4,7 @@ use Rattle.sync_rules.specs.declared.entries.Entry.TheVariants as entry
 use Rattle.sync_rules.specs.declared.entries.Session.{Session}
 use Rattle.visibility_table.specs.Table as levels
 use Rattle.journal_state.specs.Parts.{Parts}
-use Rattle.journal_state.specs.Taking.{Takes}
+use Rattle.journal_state.specs.Taking.{Moves}
 use Rattle.journal_state.specs.Whole.{StateValue, value_of}
 use Rattle.journal_state.specs.Inside.{parts}
 use Rattle.journal_state.proofs.Entries.{group_state, group_facts, group_knows}
@@ -24,6 +24,8 @@ invariant_of-self c =
         graph = let m = c.self.invariant.roomy.graph in omega (arith, m);
         shares = let m = c.self.invariant.roomy.shares in omega (arith, m);
       };
+      limited = c.self.invariant.limited;
+      fresh = c.self.invariant.fresh;
       few = let m = c.self.invariant.few in omega (arith, contacts, m);
       met = subst (λ n. list_all (λ (x : Session). nat_lt x.contact n) c.self.inside.sessions.sessions ≡ true) contacts c.self.invariant.met;
       honest = c.self.invariant.honest;
@@ -32,7 +34,7 @@ invariant_of-self c =
 pub returns : goal.returns
 returns c =
     let after_it : Parts = record (parts c.self.inside) { table = c.add_group.new.self; space = c.self.inside.space - 1 } in
-    subst (λ (v : StateValue). Takes v (value_of after_it) (entry.Group c.args.def)) c.self.view_is
+    subst (λ (v : StateValue). Moves v (value_of after_it) (entry.Group c.args.def)) c.self.view_is
     (record {
       facts = group_facts (parts c.self.inside) c.self.invariant.state c.args.def c.add_group.new.self c.add_group.ensures (c.self.inside.space - 1);
       knows = group_knows (parts c.self.inside) c.self.invariant.state c.args.def c.add_group.new.self c.add_group.ensures (c.self.inside.space - 1);

@@ -6,10 +6,11 @@ use Rattle.sync_rules.specs.Facts.{group_at, is_level_shared}
 use Rattle.visibility_table.specs.Table as levels
 use Rattle.journal_state.specs.Levelling.{SetsLevels, levelled_at}
 use Rattle.journal_state.specs.Parts.{Parts}
-use Rattle.journal_state.specs.Taking.{Takes}
+use Rattle.journal_state.specs.Taking.{Moves}
 use Rattle.journal_state.specs.Whole.{StateValue, value_of}
 use Rattle.journal_state.specs.Inside.{parts}
-use Rattle.journal_state.proofs.Levelled.{level_state, level_facts, levels_room}
+use Rattle.journal_state.proofs.Levelled.{level_row, level_state, level_facts, levels_room}
+use Rattle.journal_state.proofs.Limited.{limits_same}
 use Rattle.journal_state.proofs.Took.{took}
 use Rattle.journal_state.proofs.state.State.take_level.Goals as goal
 
@@ -42,12 +43,17 @@ invariant_of-self c =
       few = let m = c.self.invariant.few in omega (arith, contacts, m);
       met = subst (λ n. list_all (λ (x : Session). nat_lt x.contact n) c.self.inside.sessions.sessions ≡ true) contacts c.self.invariant.met;
       honest = c.self.invariant.honest;
+      limited =
+          limits_same c.self.inside.retry c.level_all.new.retry
+          (level_row (parts c.self.inside) c.self.invariant.state c.self.invariant.honest c.args.contact c.args.group c.args.level c.apply.new.self c.apply.ensures
+          c.level_all.new.retry (done c) (c.self.inside.space - 1)) c.self.invariant.limited;
+      fresh = c.self.invariant.fresh;
     }
 
 pub returns : goal.returns
 returns c =
     let after_it : Parts = record (parts c.self.inside) { table = c.apply.new.self; retry = c.level_all.new.retry; space = c.self.inside.space - 1 } in
-    subst (λ (v : StateValue). Takes v (value_of after_it) (entry.Level c.args.contact c.args.group c.args.level)) c.self.view_is
+    subst (λ (v : StateValue). Moves v (value_of after_it) (entry.Level c.args.contact c.args.group c.args.level)) c.self.view_is
     (record {
       facts = level_facts (parts c.self.inside) c.self.invariant.state c.self.invariant.honest c.args.contact c.args.group c.args.level c.apply.new.self c.apply.ensures
           c.level_all.new.retry (done c) (c.self.inside.space - 1);

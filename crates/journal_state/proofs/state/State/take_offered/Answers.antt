@@ -3,7 +3,7 @@ use Rattle.std.specs.FinMap as fin_map
 use Rattle.sync_rules.specs.declared.entries.Entry.TheVariants as entry
 use Rattle.sync_rules.specs.Facts.{contact_in, contact_of, is_held, wanted_from, with_want}
 use Rattle.journal_state.specs.Room.{wants_room}
-use Rattle.journal_state.proofs.Took.{takes_same}
+use Rattle.journal_state.proofs.Took.{moves_same}
 use Rattle.journal_state.proofs.state.State.take_offered.Goals as goal
 
 pub want-requires : goal.want-requires
@@ -16,7 +16,7 @@ want-requires c = record {
 pub returns : goal.returns
 returns c =
     let contact : c.known_session-contact.result.contact ≡ contact_of c.args.self.now.facts.sessions c.args.session = sym (ap contact_in c.known_session-contact.ensures.found) in
-    takes_same c.args.self.now c.want.new.self (entry.Offered c.args.session c.args.id)
+    moves_same c.args.self.now c.want.new.self (entry.Offered c.args.session c.args.id)
     (c.want.ensures.facts
     ∙ (λ i. record c.args.self.now.facts {
       wanted = fin_map.insert c.args.self.now.facts.wanted (contact i)
