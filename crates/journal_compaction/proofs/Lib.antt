@@ -1,0 +1,5 @@
+mod Filling
+mod Weighing
+mod Spelled
+mod Sections
+pub mod Counted

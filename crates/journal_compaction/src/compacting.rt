@@ -7,7 +7,6 @@ ghost use Rattle.outside.specs.Outside.{DiskRun};
 ghost use Rattle.sync_rules.specs.declared.entries.Entry.{Entry};
 ghost use Rattle.sync_rules.specs.Facts.{facts};
 ghost use Rattle.sync_rules.specs.Steps.{IsSettled};
-ghost use Rattle.journal_state.specs.Whole.{Knows};
 ghost use Rattle.journal_migration.specs.Migrating.{HoldsSecond};
 ghost use Rattle.journal_migration.specs.Starting.{IsSettledBoth};
 ghost use Rattle.journal_compaction.specs.Compacting.{Compacts, IsCompacted, Weighs};
@@ -45,7 +44,6 @@ pub fn compact<D: Disk, C: Clients>(
     requires generation { journal.now.generation < 2 ^ 64 - 1 }
     requires limit { limit ≤ MAX_JOURNAL }
     requires settled { ForSome (D.tells disk.old).files IsSettledBoth }
-    requires knows { Knows (C.meaning clients.now) state.now }
     requires still { IsSettled (C.meaning clients.now) state.now.facts }
     ensures next { IfOk result
         (IsCompacted (C.meaning clients.now) state.now.facts journal.now) }
