@@ -3,3 +3,4 @@ mod Weighing
 mod Spelled
 mod Sections
 pub mod Counted
+mod Working

@@ -1,6 +1,5 @@
 -- A writer of frames into a prepared file.
 use Rattle.std.specs.Prelude.{◌≡◌, ℕ, ◌+◌, ◌≤◌, ◌*◌, false, List, [], ◌++◌, length, Option, Some, Result, Ok, Err}
-use Rattle.std.specs.Option.{ForSome}
 use Rattle.outside.specs.declared.limits.TheConstants.{MAX_FRAME}
 use Rattle.outside.specs.Disk.{Becomes}
 use Rattle.outside.specs.Files.{Two, File, NothingPending, file_of}
@@ -47,11 +46,16 @@ pub record IsIdle (file : ℕ) (two : Two File) : Type 0 where
   pub settled : NothingPending two file
   pub shut : is_open (file_of two file).now ≡ false
 
--- where no memory was found the file is left so
-abbrev pub LeavesIdle : {A : Type 0} → (file : ℕ) → Option (Two File) → Result A MigrationFault → Type 0
-LeavesIdle file files (Ok a) = Unit {0}
-LeavesIdle file files (Err fault.Memory) = ForSome files (IsIdle file)
-LeavesIdle file files (Err fault.DiskFault) = Unit {0}
+-- the file is left so, and the other is as before
+pub record StaysIdle (file : ℕ) (old new : Two File) : Type 0 where
+  pub other : other_of new file ≡ other_of old file
+  pub idle : IsIdle file new
+
+-- that is so where no memory was found
+abbrev pub LeavesIdle : {A : Type 0} → (file : ℕ) → (old new : Option (Two File)) → Result A MigrationFault → Type 0
+LeavesIdle file old new (Ok a) = Unit {0}
+LeavesIdle file old new (Err fault.Memory) = Becomes (StaysIdle file) old new
+LeavesIdle file old new (Err fault.DiskFault) = Unit {0}
 
 -- ---- the payload that is being filled
 

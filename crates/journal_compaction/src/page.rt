@@ -4,7 +4,6 @@ ghost use Rattle.std.specs.Option.{ForSome};
 ghost use Rattle.outside.specs.Faults.{Rose};
 ghost use Rattle.outside.specs.Outside.{DiskRun};
 ghost use Rattle.frame_journal.specs.Append.{framed_of};
-ghost use Rattle.journal_migration.specs.Migrating.{ReadsOnly};
 ghost use Rattle.journal_compaction.specs.Paging.{closed_page, frames_len};
 ghost use Rattle.journal_compaction.specs.Writing.{Adding, LeavesIdle, StaysShut, Works};
 
@@ -66,9 +65,8 @@ impl Page {
             (D.tells disk.new).files) }
         ensures works { OnOk result (ForSome (D.tells disk.new).files (Works writer.new)) }
         ensures shut { StaysShut writer.old.file (D.tells disk.old) (D.tells disk.new) }
-        ensures own { ReadsOnly (1 - writer.old.file) (D.tells disk.old).files
+        ensures idle { LeavesIdle writer.old.file (D.tells disk.old).files
             (D.tells disk.new).files result }
-        ensures idle { LeavesIdle writer.old.file (D.tells disk.new).files result }
         ensures run { DiskRun (D.tells disk.old) (D.tells disk.new) }
         ensures fault { IsErrOf result MigrationFault.DiskFault
             → Rose (D.tells disk.old).disk_faults (D.tells disk.new).disk_faults }

@@ -5,7 +5,6 @@ ghost use Rattle.std.specs.Option.{ForSome};
 ghost use Rattle.outside.specs.Faults.{Rose};
 ghost use Rattle.outside.specs.Outside.{DiskRun};
 ghost use Rattle.entry_codec.specs.Spelling.{IsEntry};
-ghost use Rattle.journal_migration.specs.Migrating.{ReadsOnly};
 ghost use Rattle.journal_compaction.specs.Items.{IsItem, bytes_of, entry_of};
 ghost use Rattle.journal_compaction.specs.Paging.{frames_len, left_after, page_for, pages};
 ghost use Rattle.journal_compaction.specs.Paging.{written_for};
@@ -51,9 +50,8 @@ fn write_item<D: Disk>(
         (D.tells disk.new).files) }
     ensures works { OnOk result (ForSome (D.tells disk.new).files (Works writer.new)) }
     ensures shut { StaysShut writer.old.file (D.tells disk.old) (D.tells disk.new) }
-    ensures own { ReadsOnly (1 - writer.old.file) (D.tells disk.old).files
-        (D.tells disk.new).files result }
-    ensures idle { LeavesIdle writer.old.file (D.tells disk.new).files result }
+    ensures idle { LeavesIdle writer.old.file (D.tells disk.old).files (D.tells disk.new).files
+        result }
     ensures run { DiskRun (D.tells disk.old) (D.tells disk.new) }
     ensures fault { IsErrOf result MigrationFault.DiskFault
         → Rose (D.tells disk.old).disk_faults (D.tells disk.new).disk_faults }
@@ -87,9 +85,8 @@ pub(crate) fn write_items<D: Disk>(
         (D.tells disk.new).files) }
     ensures works { OnOk result (ForSome (D.tells disk.new).files (Works writer.new)) }
     ensures shut { StaysShut writer.old.file (D.tells disk.old) (D.tells disk.new) }
-    ensures own { ReadsOnly (1 - writer.old.file) (D.tells disk.old).files
-        (D.tells disk.new).files result }
-    ensures idle { LeavesIdle writer.old.file (D.tells disk.new).files result }
+    ensures idle { LeavesIdle writer.old.file (D.tells disk.old).files (D.tells disk.new).files
+        result }
     ensures run { DiskRun (D.tells disk.old) (D.tells disk.new) }
     ensures fault { IsErrOf result MigrationFault.DiskFault
         → Rose (D.tells disk.old).disk_faults (D.tells disk.new).disk_faults }
@@ -119,9 +116,8 @@ pub(crate) fn write_plan<D: Disk>(
         (plan_pages state.now.facts plan.now) (D.tells disk.old).files (D.tells disk.new).files) }
     ensures works { OnOk result (ForSome (D.tells disk.new).files (Works writer.new)) }
     ensures shut { StaysShut writer.old.file (D.tells disk.old) (D.tells disk.new) }
-    ensures own { ReadsOnly (1 - writer.old.file) (D.tells disk.old).files
-        (D.tells disk.new).files result }
-    ensures idle { LeavesIdle writer.old.file (D.tells disk.new).files result }
+    ensures idle { LeavesIdle writer.old.file (D.tells disk.old).files (D.tells disk.new).files
+        result }
     ensures run { DiskRun (D.tells disk.old) (D.tells disk.new) }
     ensures fault { IsErrOf result MigrationFault.DiskFault
         → Rose (D.tells disk.old).disk_faults (D.tells disk.new).disk_faults }
