@@ -11,9 +11,8 @@ use Rattle.brief_account.proofs.Filled.{entries-append, filled_entries}
 use Rattle.entry_codec.specs.declared.naming.Format.TheVariants as kind
 use Rattle.entry_codec.specs.Payloads.{journal_end, spellings}
 use Rattle.entry_codec.specs.Spelling.{spelling_in}
-use Rattle.entry_codec.proofs.Bounds.{short_some}
 use Rattle.journal_compaction.specs.Paging.{frames_len}
-use Rattle.journal_compaction.proofs.Filling.{written}
+use Rattle.journal_compaction.proofs.Filling.{some_spelled, written}
 use Rattle.journal_compaction.proofs.Spelled.{end_written}
 use Rattle.journal_compaction.proofs.Weighing.{frames-append, one_frame}
 
@@ -21,7 +20,7 @@ use Rattle.journal_compaction.proofs.Weighing.{frames-append, one_frame}
 spelled_many : (names : List (List ℕ)) (es : List Entry) → length es ≤ length (spellings kind.Short names es)
 spelled_many names [] = omega arith
 spelled_many names (e ∷ es) =
-    omega (arith, short_some names e, length-append (spelling_in kind.Short names e) (spellings kind.Short names es), spelled_many names es)
+    omega (arith, some_spelled names e, length-append (spelling_in kind.Short names e) (spellings kind.Short names es), spelled_many names es)
 
 written_many : (names : List (List ℕ)) (bs : List (List Entry)) → length (entries_of bs) ≤ frames_len (written names bs)
 written_many names [] = omega arith

@@ -5,12 +5,12 @@ use Rattle.std.specs.List.{AllByRecursion}
 use Rattle.std.proofs.lemmas.List.{length_push}
 use Rattle.std.proofs.lemmas.List.Concat.{flat_map-append}
 use Rattle.sync_rules.specs.declared.entries.Entry.{Entry}
+use Rattle.sync_rules.specs.declared.entries.Entry.TheVariants as entry
 use Rattle.sync_rules.specs.Facts.{Facts}
 use Rattle.brief_account.specs.Brief.{closed, each_alone, filled}
 use Rattle.entry_codec.specs.declared.naming.Format.TheVariants as kind
 use Rattle.entry_codec.specs.Payloads.{names_of, spellings}
 use Rattle.entry_codec.specs.Spelling.{spelling_in}
-use Rattle.entry_codec.proofs.Bounds.{short_some}
 use Rattle.journal_compaction.specs.declared.items.Item.{Item}
 use Rattle.journal_compaction.specs.Items.{bytes_of, entry_of, is_alone}
 use Rattle.journal_compaction.specs.Paging.{closed_page, left_behind, pages}
@@ -22,6 +22,29 @@ written names bs = map (spellings kind.Short names) bs
 pub written-append : (names : List (List ℕ)) (bs cs : List (List Entry)) → written names (bs ++ cs) ≡ written names bs ++ written names cs
 written-append names [] cs = refl
 written-append names (b ∷ bs) cs = ap (λ (ps : List (List ℕ)). spellings kind.Short names b ∷ ps) (written-append names bs cs)
+
+-- each entry has a tag
+pub some_spelled : (names : List (List ℕ)) (e : Entry) → 1 ≤ length (spelling_in kind.Short names e)
+unfolding spelling_in
+some_spelled names (entry.Contact c) = omega arith
+some_spelled names (entry.Group def) = omega arith
+some_spelled names (entry.Level c g l) = omega arith
+some_spelled names (entry.Session s) = omega arith
+some_spelled names (entry.Take s k) = omega arith
+some_spelled names (entry.Author m) = omega arith
+some_spelled names (entry.Arrive s m) = omega arith
+some_spelled names (entry.Judged id) = omega arith
+some_spelled names (entry.Deliver id) = omega arith
+some_spelled names (entry.Invalid id) = omega arith
+some_spelled names (entry.Again s id) = omega arith
+some_spelled names (entry.Offered s id) = omega arith
+some_spelled names (entry.Seen s id) = omega arith
+some_spelled names (entry.Asked s id) = omega arith
+some_spelled names (entry.Out s now what) = omega arith
+some_spelled names (entry.Brief n) = omega arith
+some_spelled names (entry.Kept from m) = omega arith
+some_spelled names (entry.Tried t) = omega arith
+some_spelled names (entry.Want c id) = omega arith
 
 pub closed_some : (page : List ℕ) → 1 ≤ length page → closed_page page ≡ page ∷ []
 closed_some [] some = absurd (omega (arith, some))
@@ -44,7 +67,7 @@ module _ (f : Facts) where
   spelled es = spellings kind.Short (names_of f) es
 
   pub bytes_some : (i : Item) → 1 ≤ length (bytes_of f i)
-  bytes_some i = omega (arith, short_some (names_of f) (entry_of f i))
+  bytes_some i = some_spelled (names_of f) (entry_of f i)
 
   one_spelled : (i : Item) → spelled (entry_of f i ∷ []) ≡ bytes_of f i
   one_spelled i = append-nil (bytes_of f i)
@@ -56,7 +79,7 @@ module _ (f : Facts) where
   spelled_some : (front : List Entry) → 1 ≤ length front → 1 ≤ length (spelled front)
   spelled_some [] some = absurd (omega (arith, some))
   spelled_some (e ∷ es) some =
-      omega (arith, short_some (names_of f) e, length-append (spelling_in kind.Short (names_of f) e) (spelled es))
+      omega (arith, some_spelled (names_of f) e, length-append (spelling_in kind.Short (names_of f) e) (spelled es))
 
   closed_written : (front : List Entry) → closed_page (spelled front) ≡ written (names_of f) (closed front)
   closed_written [] = refl

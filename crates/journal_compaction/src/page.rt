@@ -71,7 +71,7 @@ impl Page {
         ensures fault { IsErrOf result MigrationFault.DiskFault
             → Rose (D.tells disk.old).disk_faults (D.tells disk.new).disk_faults }
     {
-        if stays || self.payload.is_empty() {
+        if stays || self.payload.as_slice().is_empty() {
             return Ok(());
         }
         self.frame()?;

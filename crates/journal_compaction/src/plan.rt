@@ -1,13 +1,12 @@
 //! The plan of a brief account: its items.
 ghost use Rattle.std.specs.Prelude.{◌≡◌, ◌^◌, ◌-◌, ◌<◌, IfOk, OnOk, length, min, not, slice_get};
-ghost use Rattle.std.specs.List.{AllByRecursion};
 ghost use Rattle.sync_rules.specs.Clients.{Meaning};
 ghost use Rattle.sync_rules.specs.Facts.{Facts, is_no_row, row_at, wanted_from};
 ghost use Rattle.brief_account.specs.Account.{told_of};
 ghost use Rattle.brief_account.specs.Brief.{contact_entries, group_entries, head_entries};
 ghost use Rattle.brief_account.specs.Brief.{level_entries, levels_of, peer_entries, row_entries};
 ghost use Rattle.brief_account.specs.Brief.{want_entries};
-ghost use Rattle.journal_state.specs.Telling.{told_entries, told_number};
+ghost use Rattle.journal_state.specs.Telling.{TellsWithin, told_entries};
 ghost use Rattle.journal_compaction.specs.Items.{AddsItems, AreItems, id_at, is_alone, is_peer};
 ghost use Rattle.journal_compaction.specs.Items.{is_told, is_visible, item_told};
 ghost use Rattle.journal_compaction.specs.Planning.{ArePlanned, IsPlan, plan_len};
@@ -30,7 +29,7 @@ pub(crate) struct Plan {
 impl Plan {
     /// The plan of a state, where this is told of its messages. It fails only for want of memory.
     pub(crate) fn of(alloc: Global, state: &State, told: &[Told]) -> Result<Plan, AllocError>
-        requires { AllByRecursion (λ t. told_number t < length state.now.facts.held) told.now }
+        requires { TellsWithin (length state.now.facts.held) told.now }
         ensures { (clients : Meaning)
             → told_entries state.now.facts.held told.now ≡ told_of clients state.now.facts
             → IfOk result (IsPlan clients state.now.facts) }
@@ -125,7 +124,7 @@ fn is_visible(state: &State, contact: u8, n: u32) -> bool
 }
 
 fn plan_told(alloc: Global, told: &[Told]) -> Result<Vec<Item>, AllocError>
-    ensures { (f : Facts) → AllByRecursion (λ t. told_number t < length f.held) told.now
+    ensures { (f : Facts) → TellsWithin (length f.held) told.now
         → IfOk result (λ v. AreItems f is_told v.items (told_entries f.held told.now)) }
 {
     let mut items = Vec::new(alloc);
