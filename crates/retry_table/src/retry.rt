@@ -1,6 +1,6 @@
 //! `Retry`.
 ghost use Rattle.std.specs.Prelude.{◌≡◌, ◌+◌, ◌-◌, ◌^◌, ◌<◌, ◌≤◌, ◌++◌, ◌∷◌, [], ℕ, true, false, IfOk};
-ghost use Rattle.std.specs.Prelude.{OnOk, OnErr, length, slice_index_or};
+ghost use Rattle.std.specs.Prelude.{OnOk, OnErr, Some, length, slice_get, slice_index_or};
 ghost use Rattle.sync_rules.specs.Lists.{is_among, without};
 ghost use Rattle.sync_rules.specs.Facts.{row_seen, row_acked, row_asked, row_sent, row_offered};
 ghost use Rattle.retry_table.specs.Table.{no_wants, rows_of, wants_of, kept_at, with_row};
@@ -293,6 +293,14 @@ impl Retry {
         ensures { IfOk result (λ v. v.items ≡ (wants_of self.now contact).ids) }
     {
         self.wants[contact as usize].all()
+    }
+
+    /// The id of this place, from 0, among those wanted from the contact, in their order.
+    pub fn wanted_at(&self, contact: u8, place: u32) -> MessageId
+        requires { place < length (wants_of self.now contact).ids }
+        ensures { slice_get (wants_of self.now contact).ids place ≡ Some result }
+    {
+        self.wants[contact as usize].at(place)
     }
 
     /// The number of ids wanted from the contact.

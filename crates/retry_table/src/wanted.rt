@@ -1,6 +1,6 @@
 //! The ids wanted from one contact.
 ghost use Rattle.std.specs.Prelude.{◌≡◌, ◌+◌, ◌-◌, ◌^◌, ◌<◌, ◌≤◌, ◌++◌, ◌∷◌, [], false, IfOk, OnOk};
-ghost use Rattle.std.specs.Prelude.{OnErr, length};
+ghost use Rattle.std.specs.Prelude.{OnErr, Some, length, slice_get};
 ghost use Rattle.sync_rules.specs.Lists.{is_among, without};
 ghost use Rattle.retry_table.specs.Table.{no_wants, with_room};
 ghost use Rattle.retry_table.specs.Due.{requests_in};
@@ -100,6 +100,14 @@ impl Wanted {
         ensures { IfOk result (λ v. v.items ≡ self.now.ids) }
     {
         Vec::from_slice(*self.ids.allocator(), self.ids.as_slice())
+    }
+
+    /// The id of this place, from 0.
+    pub(crate) fn at(&self, place: u32) -> MessageId
+        requires { place < length self.now.ids }
+        ensures { slice_get self.now.ids place ≡ Some result }
+    {
+        *self.ids.get_index(place as usize).unwrap()
     }
 
     /// The number of ids.
