@@ -167,11 +167,10 @@ impl Retry {
     }
 
     /// This is stated of the message for its contact, whatever was kept before; whether the message
-    /// is ready stays. At most 64 tries are counted, and there is no wait without a try.
+    /// is ready stays. At most 64 tries are counted.
     pub fn restore(&mut self, tried: &Tried, n: u32)
         requires room { n < length (rows_of self.old tried.now.contact) }
         requires few { tried.now.tries ≤ 64 }
-        requires wait { tried.now.tries ≡ 0 → tried.now.expiry ≡ 0 }
         ensures { Keeps self.old self.new tried.now.contact n
             (with_row (row_restored tried.now) (kept_at self.old tried.now.contact n)) }
     {
@@ -181,9 +180,7 @@ impl Retry {
     /// What is kept of the message for the contact, as it may be stated with this id: all false and
     /// zero where there is no row. It takes no memory.
     pub fn tried(&self, contact: u8, n: u32, id: MessageId) -> Tried
-        ensures value { result ≡ tried_of contact id (kept_at self.now contact n).row }
-        ensures few { result.tries ≤ 64 }
-        ensures wait { result.tries ≡ 0 → result.expiry ≡ 0 }
+        ensures { result ≡ tried_of contact id (kept_at self.now contact n).row }
     {
         self.row(contact, n).tried(contact, id)
     }

@@ -14,8 +14,8 @@ use sync_rules::Tried;
 /// The most tries that are counted.
 const MOST_TRIES: u8 = 64;
 
-/// What is kept of one message for one contact: at most 64 tries are counted, and there is no wait
-/// without a try. Contracts see the row, and whether the message is ready.
+/// What is kept of one message for one contact. Contracts see the row, and whether the message is
+/// ready.
 #[derive(Clone, Copy)]
 pub(crate) struct KeptRow {
     seen: bool,
@@ -27,7 +27,6 @@ pub(crate) struct KeptRow {
 }
 
 impl Model for KeptRow {
-    ghost use Rattle.std.specs.Prelude.{◌≡◌, ◌≤◌};
     ghost use Rattle.retry_table.specs.Table.{KeptRow};
 
     ghost Value = { KeptRow };
@@ -53,8 +52,6 @@ impl Model for KeptRow {
       tries = k.row.tries;
       expiry = k.row.expiry;
     } };
-
-    ghost invariant = { λ r. (r.tries ≤ 64) × (r.tries ≡ 0 → r.expiry ≡ 0) };
 }
 
 /// The time in milliseconds from which a message may be sent or offered again after so many tries,
@@ -164,8 +161,6 @@ impl KeptRow {
 
     /// This is stated of the message.
     pub(crate) fn restore(mut self, tried: &Tried) -> KeptRow
-        requires few { tried.now.tries ≤ 64 }
-        requires wait { tried.now.tries ≡ 0 → tried.now.expiry ≡ 0 }
         ensures { result ≡ with_row (row_restored tried.now) self }
     {
         self.seen = tried.seen;
@@ -178,9 +173,7 @@ impl KeptRow {
 
     /// What is kept, as it may be stated of a message of this id for this contact.
     pub(crate) fn tried(self, contact: u8, id: MessageId) -> Tried
-        ensures value { result ≡ tried_of contact id self.row }
-        ensures few { result.tries ≤ 64 }
-        ensures wait { result.tries ≡ 0 → result.expiry ≡ 0 }
+        ensures { result ≡ tried_of contact id self.row }
     {
         Tried {
             contact,
