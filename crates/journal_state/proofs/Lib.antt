@@ -19,6 +19,8 @@ pub mod Found
 pub mod Lesser
 pub mod Grown
 pub mod Limited
+pub mod Restored
+pub mod Telling
 pub mod Delivered
 pub mod Made
 pub mod Honest

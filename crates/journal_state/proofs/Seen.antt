@@ -1,5 +1,5 @@
 -- What the look-ups of the parts tell of the facts.
-use Rattle.std.proofs.Common.{◌≡◌, ℕ, zero, suc, ◌+◌, ◌<◌, ◌≤◌, Bool, true, false, not, ◌&&◌, ◌||◌, nat_le, nat_lt, List, [], ◌∷◌, length, map, take, Some, slice_get, refl, sym, ◌∙◌, ap, arith}
+use Rattle.std.proofs.Common.{◌≡◌, ℕ, zero, suc, ◌+◌, ◌<◌, ◌≤◌, Bool, true, false, not, ◌&&◌, ◌||◌, nat_le, nat_lt, List, [], ◌∷◌, length, map, take, Option, None, Some, slice_get, refl, sym, ◌∙◌, ap, arith}
 use Rattle.std.specs.List.{list_all}
 use Rattle.std.specs.Option.{option_map}
 use Rattle.std.proofs.lemmas.List.{take-map}
@@ -10,6 +10,7 @@ use Rattle.sync_ids.specs.declared.lists.TheConstants.{MAX_IDS}
 use Rattle.sync_rules.specs.Sessions.{is_author, is_sendable, is_ripe, owed_to, send_of, offers_of}
 use Rattle.sync_rules.specs.Views.{is_seen_in}
 use Rattle.retry_table.specs.Table as retry
+use Rattle.retry_table.specs.Table.{tried_of}
 use Rattle.retry_table.specs.Due.{numbers_where, is_open, is_sent_at, is_offered_at, owed_in, message_in, offers_in}
 use Rattle.journal_state.specs.Parts.{Parts, answers_of, facts_of, shared_among}
 use Rattle.journal_state.specs.Whole.{IsState, id_at}
@@ -39,6 +40,20 @@ module _ (p : Parts) (s : IsState p) where
 
   pub seen_found : (contact n : ℕ) → n < length p.held → (retry.kept_at p.retry contact n).row.seen ≡ is_seen_in (facts_of p) contact (slice_get p.held n)
   seen_found contact n within = let at = there p.held n within in seen_there contact n at.0 at.1
+
+  -- what is kept of it, as it is stated
+  pub tried_found : (contact n : ℕ) (id : Id) → option_map (λ (h : Held). h.id) (slice_get p.held n) ≡ Some id
+      → option_map (λ (h : Held). tried_of contact h.id (row_at (facts_of p).rows contact h.id)) (slice_get p.held n)
+      ≡ Some (tried_of contact id (retry.kept_at p.retry contact n).row)
+  tried_found contact n id named = by (slice_get p.held n) refl named
+    where
+      by : (o : Option Held) → slice_get p.held n ≡ o → option_map (λ (h : Held). h.id) o ≡ Some id
+          → option_map (λ (h : Held). tried_of contact h.id (row_at (facts_of p).rows contact h.id)) o
+          ≡ Some (tried_of contact id (retry.kept_at p.retry contact n).row)
+      by None at named = absurd (let none : None ≡ Some id = named in cc)
+      by (Some h) at named =
+          let same : h.id ≡ id = cc in
+          λ i. Some (tried_of contact (same i) (row_there contact n h at i))
 
   id_named : (n : ℕ) (h : Held) → slice_get p.held n ≡ Some h → id_at p.held (0 + n) ≡ h.id
   id_named n h at = let e : 0 + n ≡ n = omega arith in ap (id_at p.held) e ∙ id_there p.held n h at

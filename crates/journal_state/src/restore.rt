@@ -15,7 +15,7 @@ use crate::start::is_opening;
 use crate::state::State;
 use std::alloc::AllocError;
 use sync_ids::MessageId;
-use sync_rules::{Entry, MAX_ROWS, MAX_TRIES, MAX_WANTED, Start, Tried};
+use sync_rules::{Entry, MAX_ROWS, MAX_TRIES, MAX_WANTED, Start, Tried, View};
 
 /// Whether nothing is kept of a message for a contact.
 fn is_empty_row(tried: &Tried) -> bool
@@ -77,6 +77,7 @@ impl State {
         ensures err { OnErr result (self.new.facts ≡ self.old.facts) }
         ensures answers { self.new.answers ≡ self.old.answers }
     {
+        self.show_sound();
         let Some(number) = self.messages.find(&tried.id) else {
             return Ok(false);
         };
@@ -92,10 +93,10 @@ impl State {
     fn may_want(&self, contact: u8, id: &MessageId) -> bool
         ensures { result ≡ may_want self.now.facts contact id.now }
     {
-        if u32::from(contact) >= self.table.contacts() || self.messages.find(id).is_some() {
+        if u32::from(contact) >= self.contacts() || self.find(id).is_some() {
             return false;
         }
-        !self.retry.is_wanted(contact, id) && self.retry.wanted_count(contact) < MAX_WANTED
+        !self.is_wanted(contact, id) && self.wanted_count(contact) < MAX_WANTED
     }
 
     /// States an id as wanted from a contact where it suits, and answers whether it does. It fails
