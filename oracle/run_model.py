@@ -820,8 +820,9 @@ class Cases:
         assert came[0] == came[1], (words, came)
 
     def stops_of_compact(self):
-        """Of each call the four images; the journal takes over where its header's gate may be open: from the last write on."""
-        before, behind = 4 * self.store.calls_of_compact() - 4, 4
+        """Of each call the four images. A call that is stopped leaves no trace, so the account is there in two of those at the last
+        call, the sync of its header's gate: in what was written, and where what is not synced is ones."""
+        before, behind = 4 * self.store.calls_of_compact() - 2, 2
         print('stopped: %d before, %d behind, 0 apart' % (before, behind), file=self.out)
 
     def stops(self, words):
