@@ -1,7 +1,6 @@
 -- Rows keep their limits: at most MAX_TRIES tries, and a time only behind a try.
-use Rattle.std.proofs.Common.{◌≡◌, ℕ, ◌+◌, ◌<◌, ◌≤◌, min, Bool, true, false, cond, nat_lt, nat_eq, List, [], length, refl, sym, ◌∙◌, ap, subst, arith, eqb-true}
+use Rattle.std.proofs.Common.{◌≡◌, ℕ, ◌<◌, ◌≤◌, Bool, true, false, cond, nat_lt, List, length, refl, sym, ◌∙◌, ap, subst, arith}
 use Rattle.sync_rules.specs.declared.entries.Tried.{Tried}
-use Rattle.sync_rules.specs.declared.limits.TheConstants.{MAX_TRIES}
 use Rattle.sync_rules.specs.Facts.{Row, one_more_try}
 use Rattle.retry_table.specs.Table as retry
 use Rattle.journal_state.specs.declared.marks.Mark.{Mark}

@@ -1,5 +1,5 @@
 -- What is told of the held messages: one more step, and one more message with its steps.
-use Rattle.std.proofs.Common.{◌≡◌, ℕ, zero, suc, ◌+◌, ◌-◌, ◌^◌, ◌<◌, ◌≤◌, Bool, true, false, cond, ◌||◌, List, [], ◌∷◌, ◌++◌, length, map, take, drop, Option, None, Some, is_some, refl, sym, ◌∙◌, ap, subst, arith, append_assoc, length-append}
+use Rattle.std.proofs.Common.{◌≡◌, ℕ, zero, suc, ◌+◌, ◌<◌, ◌≤◌, Bool, true, false, cond, List, [], ◌∷◌, ◌++◌, length, map, take, drop, None, Some, is_some, refl, sym, ◌∙◌, ap, subst, arith, append_assoc, length-append}
 use Rattle.std.specs.Prelude.{slice_get, slice_index_or}
 use Rattle.std.specs.List.{AllByRecursion, list_all}
 use Rattle.std.specs.Option.{option_map}
@@ -11,7 +11,6 @@ use Rattle.sync_rules.specs.declared.entries.Entry.TheVariants as entry
 use Rattle.sync_rules.specs.Clients.{Meaning}
 use Rattle.sync_rules.specs.Facts.{Facts, Held, Id, Known, after, after_all, group_at, held_at, kept_as}
 use Rattle.sync_rules.specs.Growth.{OnlySettles}
-use Rattle.sync_rules.specs.Knowing.{KnowsGroups}
 use Rattle.sync_rules.specs.Lists.{is_among, same_id}
 use Rattle.sync_rules.specs.Steps.{IsSettled, next}
 use Rattle.sync_rules.proofs.StepKinds.{settling_only}

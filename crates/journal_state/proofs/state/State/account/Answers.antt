@@ -1,9 +1,8 @@
-use Rattle.std.proofs.Common.{List, length, sym, ap, subst, arith}
+use Rattle.std.proofs.Common.{sym, ap, subst, arith}
 use Rattle.std.proofs.lemmas.List.{drop_all}
 use Rattle.sync_rules.specs.Clients.{Meaning}
-use Rattle.sync_rules.specs.Facts.{Facts, Held}
+use Rattle.sync_rules.specs.Facts.{Facts}
 use Rattle.brief_account.specs.Account.{account}
-use Rattle.journal_state.specs.declared.account.Told.{Told}
 use Rattle.journal_state.specs.Telling.{TellsTo}
 use Rattle.journal_state.proofs.Telling.{tells_all, tells_none}
 use Rattle.journal_state.proofs.state.State.account.Goals as goal

@@ -1,10 +1,9 @@
-use Rattle.std.proofs.Common.{◌≡◌, ◌<◌, Option, None, Some, length, sym, ap, subst, ◌∙◌, arith}
+use Rattle.std.proofs.Common.{◌≡◌, ◌<◌, None, Some, length, sym, ap, subst, ◌∙◌, arith}
 use Rattle.std.specs.Option.{option_map}
 use Rattle.sync_rules.specs.Clients.{Meaning}
 use Rattle.sync_rules.specs.Steps.{next}
 use Rattle.message_graph.specs.Nodes.{step_number}
-use Rattle.journal_state.specs.declared.account.Told.{Told}
-use Rattle.journal_state.specs.Telling.{told_entry, told_number, told_step}
+use Rattle.journal_state.specs.Telling.{told_entry, told_number}
 use Rattle.journal_state.specs.Whole.{StateValue, Knows}
 use Rattle.journal_state.specs.Inside.{parts}
 use Rattle.journal_state.proofs.Next.{found_next, many_nodes, next_within}

@@ -1,4 +1,4 @@
-use Rattle.std.proofs.Common.{◌<◌, ◌≤◌, List, length, ap, sym, subst, ◌∙◌, arith}
+use Rattle.std.proofs.Common.{◌<◌, ◌≤◌, length, ap, sym, subst, ◌∙◌, arith}
 use Rattle.sync_rules.specs.Facts.{change_row}
 use Rattle.sync_rules.specs.Views.{IsPlace}
 use Rattle.retry_table.specs.Table as retry

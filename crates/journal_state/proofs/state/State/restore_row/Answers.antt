@@ -1,4 +1,4 @@
-use Rattle.std.proofs.Common.{◌<◌, ◌≤◌, ◌^◌, length, sym, subst}
+use Rattle.std.proofs.Common.{◌<◌, ◌^◌, length, sym, subst}
 use Rattle.sync_rules.specs.Facts.{Facts}
 use Rattle.journal_state.specs.Room.{rows_room}
 use Rattle.journal_state.proofs.Restored.{rows_enough}

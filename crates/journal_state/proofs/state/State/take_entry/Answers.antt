@@ -1,5 +1,4 @@
-use Rattle.std.proofs.Common.{◌≡◌, sym, ap, subst, ◌∙◌}
-use Rattle.sync_rules.specs.declared.states.Start.{Start}
+use Rattle.std.proofs.Common.{sym, ap, subst, ◌∙◌}
 use Rattle.journal_state.specs.Taking.{CanTake}
 use Rattle.journal_state.specs.Whole.{StateValue}
 use Rattle.journal_state.proofs.CanTaken.{can_noted}

@@ -1,9 +1,8 @@
-use Rattle.std.proofs.Common.{◌≡◌, Result, Ok, Err, OnOk, Some, slice_get, sym, ap, subst, ◌∙◌}
+use Rattle.std.proofs.Common.{◌≡◌, Result, Ok, Err, OnOk, sym, ap, subst, ◌∙◌}
 use Rattle.sync_ids.specs.Ids.{message_id_of}
 use Rattle.sync_ids.specs.Values.{MessageValue}
 use Rattle.sync_rules.specs.declared.entries.Entry.TheVariants as entry
-use Rattle.sync_rules.specs.declared.states.Origin.{Origin}
-use Rattle.sync_rules.specs.Facts.{Facts, Held, Id, after}
+use Rattle.sync_rules.specs.Facts.{Held, after}
 use Rattle.journal_state.specs.Taking.{CanHold}
 use Rattle.journal_state.specs.Telling.{kept_entry}
 use Rattle.journal_state.proofs.Telling.{can_keep, held_there, own_id, shown_there, tells_more}
