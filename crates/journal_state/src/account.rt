@@ -5,7 +5,7 @@ ghost use Rattle.std.specs.Prelude.{◌≡◌, ◌+◌, ◌<◌, ◌≤◌, leng
 ghost use Rattle.std.specs.Option.{option_map};
 ghost use Rattle.sync_ids.specs.Ids.{message_id_of};
 ghost use Rattle.sync_rules.specs.Clients.{Meaning};
-ghost use Rattle.sync_rules.specs.Facts.{after, row_at, wanted_from};
+ghost use Rattle.sync_rules.specs.Facts.{after, row_at};
 ghost use Rattle.sync_rules.specs.Steps.{next};
 ghost use Rattle.brief_account.specs.Account.{told_of, with_groups};
 ghost use Rattle.brief_account.specs.Brief.{without_sessions};
@@ -158,13 +158,6 @@ impl State {
         ensures wait { result.tries ≡ 0 → result.expiry ≡ 0 }
     {
         self.retry.tried(contact, n, self.messages.id(n))
-    }
-
-    /// All ids wanted from a contact, in the order of their offers. It fails only for want of memory.
-    pub fn all_wanted(&self, contact: u8) -> Result<Vec<MessageId>, AllocError>
-        ensures { IfOk result (λ ids. ids.items ≡ wanted_from self.now.facts.wanted contact) }
-    {
-        self.retry.all_wanted(contact)
     }
 
     /// Forgets the sessions, but how many have begun: the state is then that of a brief account of

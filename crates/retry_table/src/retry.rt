@@ -285,13 +285,6 @@ impl Retry {
         self.wants[contact as usize].contains(id)
     }
 
-    /// All ids wanted from the contact, in order. Answers an error where there is no memory.
-    pub fn all_wanted(&self, contact: u8) -> Result<Vec<MessageId>, AllocError>
-        ensures { IfOk result (λ v. v.items ≡ (wants_of self.now contact).ids) }
-    {
-        self.wants[contact as usize].all()
-    }
-
     /// The id of this place, from 0, among those wanted from the contact, in their order.
     pub fn wanted_at(&self, contact: u8, place: u32) -> MessageId
         requires { place < length (wants_of self.now contact).ids }

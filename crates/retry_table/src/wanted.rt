@@ -95,13 +95,6 @@ impl Wanted {
         self.ids.contains(id)
     }
 
-    /// All ids.
-    pub(crate) fn all(&self) -> Result<Vec<MessageId>, AllocError>
-        ensures { IfOk result (λ v. v.items ≡ self.now.ids) }
-    {
-        Vec::from_slice(*self.ids.allocator(), self.ids.as_slice())
-    }
-
     /// The id of this place, from 0.
     pub(crate) fn at(&self, place: u32) -> MessageId
         requires { place < length self.now.ids }
