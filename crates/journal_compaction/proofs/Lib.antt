@@ -2,6 +2,9 @@ mod Filling
 mod Weighing
 mod Spelled
 mod Sections
+mod Lengths
+mod Named
 mod Adding
 pub mod Counted
 mod Working
+mod Pages

@@ -1,6 +1,6 @@
 //! What is told in a brief account, item by item.
 ghost use Rattle.std.specs.Prelude.{◌≡◌, ◌++◌, false, length, OnErr, OnOk};
-ghost use Rattle.entry_codec.specs.Spelling.{IsEntry};
+ghost use Rattle.entry_codec.specs.Spelling.{IsEntry, MayBeWritten};
 ghost use Rattle.journal_compaction.specs.Items.{IsItem, bytes_of, entry_of, is_alone, is_lent};
 
 use entry_codec::{group_len, kept_len, short_len, write_group, write_kept, write_short};
@@ -53,7 +53,8 @@ impl Item {
 fn entry_of(state: &State, item: Item) -> Entry
     requires there { IsItem state.now.facts item }
     requires owned { is_lent item ≡ false }
-    ensures { result ≡ entry_of state.now.facts item }
+    ensures value { result ≡ entry_of state.now.facts item }
+    ensures written { MayBeWritten result }
 {
     match item {
         Item::Brief => Entry::Brief(state.sessions()),
