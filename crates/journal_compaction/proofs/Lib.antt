@@ -8,3 +8,6 @@ mod Adding
 pub mod Counted
 mod Working
 mod Pages
+mod Holding
+mod Publishing
+mod Limits

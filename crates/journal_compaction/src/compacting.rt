@@ -59,13 +59,15 @@ pub fn compact<D: Disk, C: Clients>(
         → Rose (D.tells disk.old).disk_faults (D.tells disk.new).disk_faults }
 {
     cite_laws();
+    let file = journal.file();
+    let generation = journal.generation();
     let told = state.account(alloc, clients)?;
     let plan = Plan::of(alloc, state, told.as_slice())?;
     if plan.len(state) > limit {
         return Err(CompactionFault::Full);
     }
     let mut page = Page::new(alloc)?;
-    let mut writer = begin(disk, 1 - journal.file(), journal.generation() + 1)?;
+    let mut writer = begin(disk, 1 - file, generation + 1)?;
     write_plan(disk, state, &plan, &mut writer, &mut page)?;
     publish(disk, writer.file())?;
     Ok(writer)

@@ -1,10 +1,71 @@
+use Rattle.std.proofs.Common.{◌≡◌, ◌+◌, ◌<◌, ℕ, List, [], ◌∷◌, ◌++◌, length, take, drop, get_or, Option, sym, ap, subst, ◌∙◌, arith}
+use Rattle.std.proofs.lemmas.List.{drop_all, drop_more, take_more}
+use Rattle.outside.specs.Files.{Two, File}
+use Rattle.outside.proofs.CallSteps.{run_none, run_then}
+use Rattle.frame_journal.proofs.ClearSteps.{on_ok_map}
+use Rattle.entry_codec.specs.Spelling.{IsEntry}
+use Rattle.journal_compaction.specs.declared.items.Item.{Item}
+use Rattle.journal_compaction.specs.declared.items.Item.TheVariants as item
+use Rattle.journal_compaction.specs.Items.{entry_of}
+use Rattle.journal_compaction.specs.Paging.{closed_page, pages}
+use Rattle.journal_compaction.specs.Writing.{Adding, Written}
+use Rattle.journal_compaction.proofs.Pages.{all_more, written_all, written_more, written_none}
+use Rattle.journal_compaction.proofs.Working.{idle_works, shut_none, shut_then}
 use Rattle.journal_compaction.proofs.writing.write_items.Goals as goal
 
 pub items-init : goal.items-init
-items-init g c = ?
+items-init g c =
+    let o = g.D.Disk.tells c.args.disk.now in
+    record {
+      space = omega (arith, ap length c.requires.empty);
+      within = tt;
+      written = written_none c.args.state.now.facts c.args.most c.args.items.now c.args.page.now.payload.items c.args.writer.now o.files c.requires.empty;
+      works = c.requires.works;
+      shut = shut_none c.args.writer.now.file o (idle_works c.args.writer.now o.files c.requires.works);
+      run = run_none o;
+    }
 
 pub items-preserved : goal.items-preserved
-items-preserved g c = ?
+items-preserved g c =
+    let f = c.args.state.now.facts in
+    let most = c.args.most in
+    let items = c.args.items.now in
+    let n = c.items.item-index in
+    let i : Item = get_or items n item.Brief in
+    let rest = drop (n + 1) items in
+    let page = c.items.page.payload.items in
+    let n0 = c.args.writer.now in
+    let n1 = c.items.writer in
+    let o0 = g.D.Disk.tells c.args.disk.now in
+    let o1 = g.D.Disk.tells c.items.disk in
+    let o2 = g.D.Disk.tells c.write_item.new.disk in
+    let so_far : Written f most items (i ∷ rest) c.items.left page n0 n1 o0.files o1.files =
+    subst (λ (l : List Item). Written f most items l c.items.left page n0 n1 o0.files o1.files) (drop_more items n item.Brief c.items-test.true) c.items.invariant.written in
+    record {
+      space = c.in_ok-left.ensures.space;
+      within = all_more (λ k. IsEntry (entry_of f k)) items n i (take_more items n item.Brief c.items-test.true) c.items.invariant.within c.in_ok-left.ensures.within;
+      written =
+          written_more f most items rest i c.items.left page n0 n1 o0.files o1.files so_far c.in_ok-left.left c.write_item.new.page.payload.items c.write_item.new.writer o2.files
+          c.in_ok-left.ensures.left c.in_ok-left.ensures.page c.in_ok-left.ensures.adding;
+      works = c.in_ok-left.ensures.works;
+      shut =
+          shut_then n0 n1 c.items.invariant.written.added o0 o1 o2 c.items.invariant.shut c.items.invariant.run c.items.invariant.written.adding c.in_ok-left.ensures.shut;
+      run = run_then o0 o1 o2 c.items.invariant.run c.in_ok-left.ensures.run;
+    }
 
 pub returns-clause-adding : goal.returns-clause-adding
-returns-clause-adding g c = ?
+returns-clause-adding g c =
+    let f = c.args.state.now.facts in
+    let most = c.args.most in
+    let items = c.args.items.now in
+    let page = c.items.page.payload.items in
+    let n0 = c.args.writer.now in
+    let n1 = c.items.writer in
+    let n2 = c.flush.new.writer in
+    let o0 = (g.D.Disk.tells c.args.disk.now).files in
+    let o1 = (g.D.Disk.tells c.items.disk).files in
+    let o2 = (g.D.Disk.tells c.flush.new.disk).files in
+    let none : drop c.items.item-index items ≡ [] = drop_all c.items.item-index items c.items-test.false in
+    on_ok_map c.flush.result (Adding n1 n2 (closed_page page) o1 o2) (Adding n0 n2 (pages f most 0 [] items) o0 o2)
+    (λ adding. written_all f most items (drop c.items.item-index items) c.items.left page n0 n1 o0 o1 none c.items.invariant.written n2 o2 adding)
+    c.flush.ensures.adding

@@ -1,4 +1,34 @@
+use Rattle.std.proofs.Common.{◌≡◌, ℕ, List, [], ◌++◌, Option, sym, ap, subst, ◌∙◌}
+use Rattle.outside.specs.Files.{Two, File}
+use Rattle.sync_rules.specs.declared.limits.TheConstants.{MAX_ROWS, MAX_STEPS}
+use Rattle.frame_journal.proofs.ClearSteps.{on_ok_map}
+use Rattle.journal_compaction.specs.declared.items.Item.{Item}
+use Rattle.journal_compaction.specs.Paging.{pages}
+use Rattle.journal_compaction.specs.Planning.{plan_pages}
+use Rattle.journal_compaction.specs.Writing.{Adding}
+use Rattle.journal_compaction.proofs.Working.{adding_then}
 use Rattle.journal_compaction.proofs.writing.write_plan.Goals as goal
 
 pub returns-clause-adding : goal.returns-clause-adding
-returns-clause-adding g c = ?
+returns-clause-adding g c =
+    let f = c.args.state.now.facts in
+    let p = c.args.plan.now in
+    let n0 = c.args.writer.now in
+    let n1 = c.write_items.new.writer in
+    let n2 = c.write_items-2.new.writer in
+    let n3 = c.write_items-3.new.writer in
+    let o0 = (g.D.Disk.tells c.args.disk.now).files in
+    let o1 = (g.D.Disk.tells c.write_items.new.disk).files in
+    let o2 = (g.D.Disk.tells c.write_items-2.new.disk).files in
+    let o3 = (g.D.Disk.tells c.write_items-3.new.disk).files in
+    let head : Adding n0 n1 (pages f MAX_STEPS 0 [] p.head.items) o0 o1 =
+    subst (λ (l : List Item). Adding n0 n1 (pages f MAX_STEPS 0 [] l) o0 o1) c.as_slice.ensures.value c.in_ok-write_items.ensures.adding in
+    let told : Adding n1 n2 (pages f MAX_STEPS 0 [] p.told.items) o1 o2 =
+    subst (λ (l : List Item). Adding n1 n2 (pages f MAX_STEPS 0 [] l) o1 o2) c.as_slice-2.ensures.value c.in_ok-write_items-2.ensures.adding in
+    on_ok_map c.write_items-3.result (Adding n2 n3 (pages f MAX_ROWS 0 [] c.as_slice-3.result.now) o2 o3) (Adding n0 n3 (plan_pages f p) o0 o3)
+    (λ adding.
+    let peers : Adding n2 n3 (pages f MAX_ROWS 0 [] p.peers.items) o2 o3 =
+    subst (λ (l : List Item). Adding n2 n3 (pages f MAX_ROWS 0 [] l) o2 o3) c.as_slice-3.ensures.value adding in
+    adding_then n0 n1 n3 (pages f MAX_STEPS 0 [] p.head.items) (pages f MAX_STEPS 0 [] p.told.items ++ pages f MAX_ROWS 0 [] p.peers.items) o0 o1 o3 head
+    (adding_then n1 n2 n3 (pages f MAX_STEPS 0 [] p.told.items) (pages f MAX_ROWS 0 [] p.peers.items) o1 o2 o3 told peers))
+    c.write_items-3.ensures.adding
