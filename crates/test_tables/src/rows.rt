@@ -1,10 +1,12 @@
+ghost use Rattle.std.specs.Prelude.{◌≡◌, ◌<◌};
+
 use crate::checks::{made, must, same};
 use retry_table::Retry;
 use std::alloc::Global;
 use std::hash::RandomState;
 use std::process::Abort;
 use sync_ids::{Fixed, MessageId};
-use sync_rules::Mode;
+use sync_rules::{Mode, Tried};
 
 /// What a plain table keeps of one message.
 #[derive(Clone, Copy)]
@@ -45,6 +47,15 @@ impl PlainPeer {
     }
 }
 
+/// What is stated of a row: whether it is seen, owed and asked by the bits 1, 2 and 4, the tries and
+/// the expiry.
+#[derive(Clone, Copy)]
+struct Stated {
+    flags: u8,
+    tries: u8,
+    expiry: u64,
+}
+
 /// A change of a row; a try has its time and the latency.
 #[derive(Clone, Copy)]
 enum RowChange {
@@ -56,6 +67,7 @@ enum RowChange {
     Offer(u64, u32),
     Ready,
     Unready,
+    Restore(Stated),
 }
 
 /// A step of a row of chance.
@@ -67,7 +79,7 @@ fn next(seed: u64) -> u64 {
 /// A change by chance.
 fn drawn(what: u64, now: u64) -> RowChange {
     let latency = ((now >> 3) % 4000) as u32;
-    match what % 10 {
+    match what % 12 {
         0 => RowChange::Owe,
         1 => RowChange::Pay,
         2 => RowChange::See,
@@ -75,6 +87,11 @@ fn drawn(what: u64, now: u64) -> RowChange {
         5 => RowChange::Send(now, latency),
         6 => RowChange::Offer(now, latency),
         7 => RowChange::Unready,
+        8 => RowChange::Restore(Stated {
+            flags: (now % 8) as u8,
+            tries: ((now >> 5) % 65) as u8,
+            expiry: now,
+        }),
         _ => RowChange::Ready,
     }
 }
@@ -111,12 +128,51 @@ fn change_plain(row: &mut Plain, change: RowChange) {
         RowChange::Offer(now, latency) => try_again(row, now, latency),
         RowChange::Ready => row.ready = true,
         RowChange::Unready => row.ready = false,
+        RowChange::Restore(stated) => {
+            row.seen = stated.flags & 1 != 0;
+            row.owed = stated.flags & 2 != 0;
+            row.asked = stated.flags & 4 != 0;
+            row.tries = u32::from(stated.tries);
+            row.expiry = stated.expiry;
+        }
     }
+}
+
+/// The id under which a row is stated and told.
+const ROW_ID: MessageId = Fixed([7; 32]);
+
+/// What is stated of a row of a contact.
+fn tried_of(contact: u8, stated: Stated) -> Tried
+    ensures contact { result.contact ≡ contact }
+    ensures tries { result.tries ≡ stated.tries }
+{
+    Tried {
+        contact,
+        id: ROW_ID,
+        seen: stated.flags & 1 != 0,
+        owed: stated.flags & 2 != 0,
+        asked: stated.flags & 4 != 0,
+        tries: stated.tries,
+        expiry: stated.expiry,
+    }
+}
+
+/// States a row.
+fn restore(rt: &impl Abort, retry: &mut Retry, contact: u8, n: u32, stated: Stated)
+    requires { n < 12 }
+{
+    must(rt, u64::from(stated.tries), stated.tries <= 64);
+    made(rt, retry.reserve(contact, n + 1, 0));
+    retry.restore(&tried_of(contact, stated), n);
 }
 
 /// Changes a row of the table.
 fn change(rt: &impl Abort, retry: &mut Retry, contact: u8, n: u32, change: RowChange) {
     must(rt, u64::from(n), n < 12);
+    if let RowChange::Restore(stated) = change {
+        restore(rt, retry, contact, n, stated);
+        return;
+    }
     made(rt, retry.reserve(contact, n + 1, 0));
     match change {
         RowChange::Owe => retry.owe(contact, n),
@@ -127,6 +183,7 @@ fn change(rt: &impl Abort, retry: &mut Retry, contact: u8, n: u32, change: RowCh
         RowChange::Offer(now, latency) => retry.offered(contact, n, now, latency),
         RowChange::Ready => retry.ready(contact, n),
         RowChange::Unready => retry.unready(contact, n),
+        RowChange::Restore(_) => {}
     }
 }
 
@@ -214,6 +271,19 @@ fn compare(rt: &impl Abort, alloc: Global, retry: &Retry, peer: &PlainPeer, now:
     same(rt, now, &owed, &listed(rt, alloc, &peer.rows, true, now));
 }
 
+/// What the plain table keeps of a message, as it may be stated.
+fn told(contact: u8, row: &Plain) -> Tried {
+    Tried {
+        contact,
+        id: ROW_ID,
+        seen: row.seen,
+        owed: row.owed,
+        asked: row.asked,
+        tries: row.tries.min(64) as u8,
+        expiry: row.expiry,
+    }
+}
+
 /// Compares what both tables keep.
 fn compare_kept(rt: &impl Abort, retry: &Retry, peer: &PlainPeer) {
     let contact = peer.contact;
@@ -221,11 +291,18 @@ fn compare_kept(rt: &impl Abort, retry: &Retry, peer: &PlainPeer) {
     for row in &peer.rows {
         same(rt, u64::from(n), &retry.expiry(contact, n), &row.expiry);
         same(rt, u64::from(n), &retry.is_seen(contact, n), &row.seen);
+        same(
+            rt,
+            u64::from(n),
+            &retry.tried(contact, n, ROW_ID),
+            &told(contact, row),
+        );
         n = n.wrapping_add(1);
     }
     same(rt, 100, &retry.expiry(contact, n), &0);
     same(rt, 101, &retry.is_seen(contact, n), &false);
     same(rt, 102, &made(rt, retry.wanted(contact)), &peer.wanted);
+    same(rt, 104, &made(rt, retry.all_wanted(contact)), &peer.wanted);
     let count = retry.wanted_count(contact) as usize;
     same(rt, 103, &count, &peer.wanted.len());
 }
