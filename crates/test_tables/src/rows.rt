@@ -302,9 +302,14 @@ fn compare_kept(rt: &impl Abort, retry: &Retry, peer: &PlainPeer) {
     same(rt, 100, &retry.expiry(contact, n), &0);
     same(rt, 101, &retry.is_seen(contact, n), &false);
     same(rt, 102, &made(rt, retry.wanted(contact)), &peer.wanted);
-    same(rt, 104, &made(rt, retry.all_wanted(contact)), &peer.wanted);
     let count = retry.wanted_count(contact) as usize;
     same(rt, 103, &count, &peer.wanted.len());
+    let mut place = 0u32;
+    for id in &peer.wanted {
+        must(rt, 104, place < retry.wanted_count(contact));
+        same(rt, 105, &retry.wanted_at(contact, place), id);
+        place = place.wrapping_add(1);
+    }
 }
 
 fn table_of(rt: &impl Abort, alloc: Global, hasher: RandomState) -> Retry {
