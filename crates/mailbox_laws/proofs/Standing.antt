@@ -88,8 +88,6 @@ is_new_or_in : (o : Option Held) → (o ≡ None) ⊎ ((h : Held) × (o ≡ Some
 is_new_or_in None = inl refl
 is_new_or_in (Some h) = inr (h, refl)
 
-not_none : (o : Option Held) (h : Held) → o ≡ Some h → is_none o ≡ false
-not_none o h e = ap is_none e
 
 -- ---- one record more
 

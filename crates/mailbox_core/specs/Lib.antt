@@ -1,0 +1,7 @@
+pub mod Rooms
+pub mod Taking
+pub mod Files
+pub mod Reading
+pub mod Sending
+pub mod Steps
+pub mod Laws
