@@ -1,8 +1,9 @@
 pub mod Rooms
 pub mod Committed
 pub mod Taken
+pub mod Versions
 pub mod Lefts
-pub mod Reads
-pub mod Begins
-pub mod Sends
+pub mod ReadSteps
+pub mod BeginSteps
+pub mod SendSteps
 pub mod Journals

@@ -57,7 +57,7 @@ pub record SendsSome (clients : Meaning) (f : Facts) (session now most : ℕ) (m
 -- so many of them were made as was asked for, or nothing is due by the facts behind them
 pub record SendsAll (clients : Meaning) (f later : Facts) (session now most made : ℕ) (more : List (List Entry)) : Type 0 where
   pub sends : SendsSome clients f session now most more
-  pub made : made ≡ length sends.outs
+  pub counted : made ≡ length sends.outs
   pub ends : (made ≡ most) ⊎ IsQuiet clients later session now
 
 -- fewer were made, and for the next one, which is due, there is no room in this store

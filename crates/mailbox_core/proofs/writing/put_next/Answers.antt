@@ -1,0 +1,71 @@
+use Rattle.std.proofs.Common.{◌≡◌, [], ◌∷◌, Some, None, ◌∙◌, ap, sym, subst}
+use Rattle.journal_state.specs.Allowing.{due_of}
+use Rattle.journal_state.specs.Whole.{Knows, StateValue}
+use Rattle.sync_rules.specs.Facts.{session_at}
+use Rattle.sync_store.specs.declared.fault.StoreFault.TheVariants as fault
+use Rattle.mailbox_core.specs.Steps.{HasPut}
+use Rattle.mailbox_core.proofs.Committed.{on_error}
+use Rattle.mailbox_core.proofs.SendSteps.{put_none, put_starved}
+use Rattle.mailbox_core.proofs.writing.put_next.Goals as goal
+
+pub returns-in_err-out-clause-put : goal.returns-in_err-out-clause-put
+returns-in_err-out-clause-put g c =
+    let clients = g.C.Clients.meaning c.args.clients.now in
+    let s = c.args.store.now in
+    let o = g.D.Disk.tells c.args.disk.now in
+    let to = c.args.to.now.items in
+    on_error c.from_residual.result fault.Memory
+    (λ r. HasPut clients c.args.session.now.number c.args.now s s to to r o o)
+    c.from_residual.ensures.1
+    (put_starved c.images_stand.ensures clients c.args.session.now c.args.now s o c.requires.able
+    to to)
+
+pub returns-in_default-clause-put : goal.returns-in_default-clause-put
+returns-in_default-clause-put g c =
+    let clients = g.C.Clients.meaning c.args.clients.now in
+    let n = c.args.session.now.number in
+    put_none c.images_stand.ensures clients c.args.session.now c.args.now c.args.store.now
+    (g.D.Disk.tells c.args.disk.now) c.requires.able c.args.to.now.items
+    (sym c.in_default.is
+    ∙ (c.in_ok-out.ensures.due clients
+    (subst (Knows clients) (sym c.state.ensures) c.requires.able.ready.knows)
+    ∙ ap (λ (t : StateValue). due_of clients t.facts (session_at t.facts.sessions n) c.args.now)
+    c.state.ensures))
+
+pub returns-in_err-bytes-clause-put : goal.returns-in_err-bytes-clause-put
+returns-in_err-bytes-clause-put g c =
+    let clients = g.C.Clients.meaning c.args.clients.now in
+    let s = c.args.store.now in
+    let o = g.D.Disk.tells c.args.disk.now in
+    let to = c.args.to.now.items in
+    on_error c.from_residual-in_err-bytes.result fault.Memory
+    (λ r. HasPut clients c.args.session.now.number c.args.now s s to to r o o)
+    c.from_residual-in_err-bytes.ensures.1
+    (put_starved c.images_stand.ensures clients c.args.session.now c.args.now s o c.requires.able
+    to to)
+
+pub returns-in_err-extend_from_slice-clause-put : goal.returns-in_err-extend_from_slice-clause-put
+returns-in_err-extend_from_slice-clause-put g c =
+    let clients = g.C.Clients.meaning c.args.clients.now in
+    let s = c.args.store.now in
+    let o = g.D.Disk.tells c.args.disk.now in
+    let to = c.args.to.now.items in
+    let to' = c.extend_from_slice.new.self.items in
+    on_error c.from_residual-in_err-extend_from_slice.result fault.Memory
+    (λ r. HasPut clients c.args.session.now.number c.args.now s s to to' r o o)
+    c.from_residual-in_err-extend_from_slice.ensures.1
+    (put_starved c.images_stand.ensures clients c.args.session.now c.args.now s o c.requires.able
+    to to')
+
+pub returns-in_err-batch-clause-put : goal.returns-in_err-batch-clause-put
+returns-in_err-batch-clause-put g c =
+    let clients = g.C.Clients.meaning c.args.clients.now in
+    let s = c.args.store.now in
+    let o = g.D.Disk.tells c.args.disk.now in
+    let to = c.args.to.now.items in
+    let to' = c.extend_from_slice.new.self.items in
+    on_error c.from_residual-in_err-batch.result fault.Memory
+    (λ r. HasPut clients c.args.session.now.number c.args.now s s to to' r o o)
+    c.from_residual-in_err-batch.ensures.1
+    (put_starved c.images_stand.ensures clients c.args.session.now c.args.now s o c.requires.able
+    to to')
