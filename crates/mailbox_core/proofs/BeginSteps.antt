@@ -36,7 +36,8 @@ Batches = List (List Entry)
 
 -- ---- a session begins
 
-pub begin_allowed : (clients : Meaning) (f : Facts) (contact latency : ℕ) → IsSettled clients f → contact < f.contacts → f.begun < MAX_SESSIONS → 1 ≤ latency
+pub begin_allowed : (clients : Meaning) (f : Facts) (contact latency : ℕ) → IsSettled clients f → contact < f.contacts
+    → f.begun < MAX_SESSIONS → 1 ≤ latency
     → Allowed clients f (first_batch (batch_session f.begun contact latency))
 begin_allowed clients f contact latency settled known few some = (
   refl,
@@ -57,7 +58,8 @@ found_pushed (s ∷ ss) x n is =
 pub numbered_so : (ss : List Session) (n : ℕ) (x : Session) → session_at ss n ≡ Some x → x.number ≡ n
 numbered_so [] n x e = cc
 numbered_so (s ∷ ss) n x e =
-    elim (nat_eq s.number n) as (λ b. nat_eq s.number n ≡ b → cond b (Some s) (session_at ss n) ≡ Some x → x.number ≡ n) [
+    elim (nat_eq s.number n) as (λ b. nat_eq s.number n ≡ b → cond b (Some s) (session_at ss n) ≡ Some x → x.number ≡ n)
+    [
       | true ↦ λ is e. let same : s ≡ x = cc in ap (λ (y : Session). y.number) (sym same) ∙ eqb-true s.number n is
       | false ↦ λ is e. numbered_so ss n x e
     ] refl e
@@ -66,37 +68,46 @@ module _ (clients : Meaning) (contact latency : ℕ) (s s' : StoreValue) (o o' :
   abbrev its : List Entry
   its = first_batch (batch_session s.state.facts.begun contact latency)
 
-  begun_facts : (u : Unit {0}) → HasCommitted clients s s' its (Ok u) o o' → s'.state.facts ≡ after_all s.state.facts its
+  begun_facts : (u : Unit {0}) → HasCommitted clients s s' its (Ok u) o o' → s'.state.facts
+      ≡ after_all s.state.facts its
   begun_facts u has = has.answer.2.facts
 
   -- it is found then
-  pub begun_found : (u : Unit {0}) → HasCommitted clients s s' its (Ok u) o o' → is_some (session_at s'.state.facts.sessions s.state.facts.begun) ≡ true
+  pub begun_found : (u : Unit {0}) → HasCommitted clients s s' its (Ok u) o o' → is_some
+      (session_at s'.state.facts.sessions s.state.facts.begun) ≡ true
   begun_found u has =
       ap (λ (f : Facts). is_some (session_at f.sessions s.state.facts.begun)) (begun_facts u has)
       ∙ found_pushed s.state.facts.sessions (batch_session s.state.facts.begun contact latency) s.state.facts.begun refl
 
   pub has_begun : (u : Unit {0}) (session : Session) → HasCommitted clients s s' its (Ok u) o o'
-      → session_at s'.state.facts.sessions s.state.facts.begun ≡ Some session → HasBegun clients contact latency s s' (Ok session) o o'
+      → session_at s'.state.facts.sessions s.state.facts.begun ≡ Some session → HasBegun clients contact latency s s'
+      (Ok session) o o'
   has_begun u session has found = record {
     more = its ∷ [];
     comes = has.comes;
     answer = (has.answer.2.closed, refl, numbered_so s'.state.facts.sessions s.state.facts.begun session found);
   }
 
-  pub begun_able : (u : Unit {0}) (session : Session) → IsSettled clients s.state.facts → HasCommitted clients s s' its (Ok u) o o'
-      → session_at s'.state.facts.sessions s.state.facts.begun ≡ Some session → (s'.closed ≡ false → IsReady clients s' o'.files) → IsStore s'
+  pub begun_able : (u : Unit {0}) (session : Session) → IsSettled clients s.state.facts → HasCommitted clients s s' its
+      (Ok u) o o'
+      → session_at s'.state.facts.sessions s.state.facts.begun ≡ Some session →
+      (s'.closed ≡ false → IsReady clients s' o'.files) → IsStore s'
       → IsOpenFor clients session s' o'
   begun_able u session settled has found ready store =
-      let number : session.number ≡ s.state.facts.begun = numbered_so s'.state.facts.sessions s.state.facts.begun session found in
+      let number : session.number
+      ≡ s.state.facts.begun = numbered_so s'.state.facts.sessions s.state.facts.begun session found in
       record {
         ready = ready has.answer.2.closed;
         is_store = store;
-        settled = subst (IsSettled clients) (sym (begun_facts u has)) (settled_stays clients s.state.facts its refl settled);
+        settled =
+            subst (IsSettled clients) (sym (begun_facts u has)) (settled_stays clients s.state.facts its refl settled);
         found = ap (session_at s'.state.facts.sessions) number ∙ found;
       }
 
-  pub not_begun : (e : StoreFault) → s.closed ≡ false → HasCommitted clients s s' its (Err e) o o' → HasBegun clients contact latency s s' (Err e) o o'
-  not_begun fault.Closed opened has = let closed : s.closed ≡ true = has.answer.0 in absurd (let e : true ≡ false = sym closed ∙ opened in cc)
+  pub not_begun : (e : StoreFault) → s.closed ≡ false → HasCommitted clients s s' its (Err e) o o'
+      → HasBegun clients contact latency s s' (Err e) o o'
+  not_begun fault.Closed opened has =
+      let closed : s.closed ≡ true = has.answer.0 in absurd (let e : true ≡ false = sym closed ∙ opened in cc)
   not_begun fault.Full opened has =
       let sum : needed s' its ≡ needed s its = needed_stays s s' its has.answer.2 in
       let limit : s'.limit ≡ s.limit = has.answer.2.limit in
@@ -106,16 +117,21 @@ module _ (clients : Meaning) (contact latency : ℕ) (s s' : StoreValue) (o o' :
         comes = has.comes;
         answer = (has.answer.2.closed ∙ has.answer.0, refl, omega (arith, sum, limit, over));
       }
-  not_begun fault.Memory opened has = record { more = []; comes = has.comes; answer = (has.answer.2.closed ∙ has.answer.0, refl) }
-  not_begun fault.DiskFault opened has = record { more = its ∷ []; comes = has.comes; answer = (has.answer.2.closed, refl) }
+  not_begun fault.Memory opened has =
+      record { more = []; comes = has.comes; answer = (has.answer.2.closed ∙ has.answer.0, refl) }
+  not_begun fault.DiskFault opened has =
+      record { more = its ∷ []; comes = has.comes; answer = (has.answer.2.closed, refl) }
 
 -- the batch that was committed is that of the session
-pub of_its_batch : (clients : Meaning) (s s' : StoreValue) (batch first : List Entry) (result : Result (Unit {0}) StoreFault) (o o' : Outside) → batch ≡ first
+pub of_its_batch : (clients : Meaning) (s s' : StoreValue) (batch first : List Entry)
+    (result : Result (Unit {0}) StoreFault) (o o' : Outside) → batch ≡ first
     → HasCommitted clients s s' batch result o o' → HasCommitted clients s s' first result o o'
-of_its_batch clients s s' batch first result o o' is has = subst (λ (b : List Entry). HasCommitted clients s s' b result o o') is has
+of_its_batch clients s s' batch first result o o' is has =
+    subst (λ (b : List Entry). HasCommitted clients s s' b result o o') is has
 
 -- no memory was found for it
-pub begun_starved : ImagesStand → (clients : Meaning) (contact latency : ℕ) (s : StoreValue) (o : Outside) → IsStore s → s.closed ≡ false
+pub begun_starved : ImagesStand → (clients : Meaning) (contact latency : ℕ) (s : StoreValue) (o : Outside) → IsStore s
+    → s.closed ≡ false
     → HasBegun clients contact latency s s (Err fault.Memory) o o
 begun_starved images clients contact latency s o store opened = record {
   more = [];
@@ -127,14 +143,16 @@ begun_starved images clients contact latency s o store opened = record {
 
 module _ (clients : Meaning) (contact : ℕ) (bytes : List ℕ) (s : StoreValue) (o : Outside) where
   -- no memory was found for it
-  pub box_starved : ImagesStand → IsStore s → s.closed ≡ false → HasReadBox clients contact bytes s s (Err fault.Memory) o o
+  pub box_starved : ImagesStand → IsStore s → s.closed ≡ false → HasReadBox clients contact bytes s s (Err fault.Memory)
+      o o
   box_starved images store opened = record {
     more = [];
     comes = comes_none images clients s o store;
     answer = (opened, inl refl);
   }
 
-  not_begun_so : (s' : StoreValue) (more : Batches) (e : StoreFault) → IsSettled clients s.state.facts → (s'.closed ≡ false → s'.state.facts ≡ after_batches s.state.facts more)
+  not_begun_so : (s' : StoreValue) (more : Batches) (e : StoreFault) → IsSettled clients s.state.facts →
+      (s'.closed ≡ false → s'.state.facts ≡ after_batches s.state.facts more)
       → BeginsSo contact 1 s.state.facts s' more (Err e) → ReadsSo clients contact bytes s.state.facts s' more (Err e)
   not_begun_so s' more fault.Closed settled facts so = so
   not_begun_so s' more fault.Full settled facts so =
@@ -146,12 +164,15 @@ module _ (clients : Meaning) (contact : ℕ) (bytes : List ℕ) (s : StoreValue)
     inr (record {
       rest = [];
       is = so.1;
-      later = none_some clients s.state.facts.begun (after s.state.facts (entry.Session (batch_session s.state.facts.begun contact 1)))
+      later =
+          none_some clients s.state.facts.begun
+          (after s.state.facts (entry.Session (batch_session s.state.facts.begun contact 1)))
           (takes_of s.state.facts.takes s.state.facts.begun) (box_records bytes);
     }),
   )
 
-  pub box_not_begun : (s' : StoreValue) (e : StoreFault) (o' : Outside) → IsSettled clients s.state.facts → HasBegun clients contact 1 s s' (Err e) o o'
+  pub box_not_begun : (s' : StoreValue) (e : StoreFault) (o' : Outside) → IsSettled clients s.state.facts
+      → HasBegun clients contact 1 s s' (Err e) o o'
       → HasReadBox clients contact bytes s s' (Err e) o o'
   box_not_begun s' e o' settled has = record {
     more = has.more;
@@ -159,46 +180,57 @@ module _ (clients : Meaning) (contact : ℕ) (bytes : List ℕ) (s : StoreValue)
     answer = not_begun_so s' has.more e settled has.comes.runs.facts has.answer;
   }
 
-  module _ (s1 s2 : StoreValue) (session : Session) (o1 o2 : Outside) (begun : HasBegun clients contact 1 s s1 (Ok session) o o1) where
+  module _ (s1 s2 : StoreValue) (session : Session) (o1 o2 : Outside)
+      (begun : HasBegun clients contact 1 s s1 (Ok session) o o1) where
     facts_there : s1.state.facts ≡ after s.state.facts (entry.Session (batch_session s.state.facts.begun contact 1))
     facts_there = begun.comes.runs.facts begun.answer.0 ∙ ap (after_batches s.state.facts) begun.answer.1
 
     -- what is taken from there on is taken behind the session
-    behind : (P : Facts → ℕ → List Record → Batches → Type 0) (left : Left) (rest : Batches) → left.records ≡ box_records bytes
+    behind : (P : Facts → ℕ → List Record → Batches → Type 0) (left : Left) (rest : Batches) → left.records
+        ≡ box_records bytes
         → TakesTo clients session.number P s1.state.facts (next_on s1 session.number) left.records rest
         → ReadsTo clients contact P s.state.facts (box_records bytes) (begun.more ++ rest)
     behind P left rest same t =
         let number : session.number ≡ s.state.facts.begun = begun.answer.2 in
-        let by_number : TakesTo clients s.state.facts.begun P s1.state.facts (next_on s1 s.state.facts.begun) left.records rest =
+        let by_number : TakesTo clients s.state.facts.begun P s1.state.facts (next_on s1 s.state.facts.begun)
+        left.records rest =
         subst (λ (n : ℕ). TakesTo clients n P s1.state.facts (next_on s1 n) left.records rest) number t in
         let begins : Facts = after s.state.facts (entry.Session (batch_session s.state.facts.begun contact 1)) in
-        let by_facts : TakesTo clients s.state.facts.begun P begins (takes_of s.state.facts.takes s.state.facts.begun) left.records rest =
-        subst (λ (f : Facts). TakesTo clients s.state.facts.begun P f (takes_of f.takes s.state.facts.begun) left.records rest) facts_there by_number in
+        let by_facts : TakesTo clients s.state.facts.begun P begins (takes_of s.state.facts.takes s.state.facts.begun)
+        left.records rest =
+        subst (λ (f : Facts). TakesTo clients s.state.facts.begun P f (takes_of f.takes s.state.facts.begun)
+            left.records rest) facts_there by_number in
         record {
           rest = rest;
           is = ap (λ (bs : Batches). bs ++ rest) begun.answer.1;
-          later = subst (λ (rs : List Record). TakesTo clients s.state.facts.begun P begins (takes_of s.state.facts.takes s.state.facts.begun) rs rest) same by_facts;
+          later =
+              subst (λ (rs : List Record). TakesTo clients s.state.facts.begun P begins
+                  (takes_of s.state.facts.takes s.state.facts.begun) rs rest) same by_facts;
         }
 
     whole : left_of fresh bytes ≡ record { records = box_records bytes; ending = box_ending bytes }
     whole = left_first bytes
 
     abbrev From : (Facts → ℕ → List Record → Batches → Type 0) → Batches → Type 0
-    From P more = TakesTo clients session.number P s1.state.facts (next_on s1 session.number) (left_of fresh bytes).records more
+    From P more =
+        TakesTo clients session.number P s1.state.facts (next_on s1 session.number) (left_of fresh bytes).records more
 
     some_behind : (more : Batches) → From (SomeTaken clients session.number) more
-        → ReadsTo clients contact (SomeTaken clients s.state.facts.begun) s.state.facts (box_records bytes) (begun.more ++ more)
+        → ReadsTo clients contact (SomeTaken clients s.state.facts.begun) s.state.facts (box_records bytes)
+        (begun.more ++ more)
     some_behind more t =
         behind (SomeTaken clients s.state.facts.begun) (left_of fresh bytes) more (ap (λ (l : Left). l.records) whole)
         (subst (λ (n : ℕ). From (SomeTaken clients n) more) begun.answer.2 t)
 
     full_behind : (more : Batches) → From (NoRoomFor session.number s2) more
-        → ReadsTo clients contact (NoRoomFor s.state.facts.begun s2) s.state.facts (box_records bytes) (begun.more ++ more)
+        → ReadsTo clients contact (NoRoomFor s.state.facts.begun s2) s.state.facts (box_records bytes)
+        (begun.more ++ more)
     full_behind more t =
         behind (NoRoomFor s.state.facts.begun s2) (left_of fresh bytes) more (ap (λ (l : Left). l.records) whole)
         (subst (λ (n : ℕ). From (NoRoomFor n s2) more) begun.answer.2 t)
 
-    reads_so : (more : Batches) (result : Result BoxEnd StoreFault) → RestSo clients session.number s1 s2 (left_of fresh bytes) more result
+    reads_so : (more : Batches) (result : Result BoxEnd StoreFault) → RestSo clients session.number s1 s2
+        (left_of fresh bytes) more result
         → ReadsSo clients contact bytes s.state.facts s2 (begun.more ++ more) result
     reads_so more (Ok end) so = (
       so.0,
@@ -212,7 +244,8 @@ module _ (clients : Meaning) (contact : ℕ) (bytes : List ℕ) (s : StoreValue)
     reads_so more (Err fault.Memory) so = (so.0, inr (some_behind more so.1))
     reads_so more (Err fault.DiskFault) so = (so.0, inr (some_behind more so.1))
 
-    pub box_read : (result : Result BoxEnd StoreFault) → HasReadAll clients session.number s1 s2 (left_of fresh bytes) result o1 o2
+    pub box_read : (result : Result BoxEnd StoreFault) → HasReadAll clients session.number s1 s2 (left_of fresh bytes)
+        result o1 o2
         → HasReadBox clients contact bytes s s2 result o o2
     box_read result has = record {
       more = begun.more ++ has.more;
@@ -220,6 +253,8 @@ module _ (clients : Meaning) (contact : ℕ) (bytes : List ℕ) (s : StoreValue)
       answer = reads_so has.more result has.answer;
     }
 
-    pub box_read_at : (left : Left) (result : Result BoxEnd StoreFault) → left ≡ left_of fresh bytes → HasReadAll clients session.number s1 s2 left result o1 o2
+    pub box_read_at : (left : Left) (result : Result BoxEnd StoreFault) → left ≡ left_of fresh bytes
+        → HasReadAll clients session.number s1 s2 left result o1 o2
         → HasReadBox clients contact bytes s s2 result o o2
-    box_read_at left result is has = box_read result (subst (λ (l : Left). HasReadAll clients session.number s1 s2 l result o1 o2) is has)
+    box_read_at left result is has =
+        box_read result (subst (λ (l : Left). HasReadAll clients session.number s1 s2 l result o1 o2) is has)

@@ -30,7 +30,8 @@ none_above : (n : ℕ) (ss : List Session) → AllByRecursion (λ (s : Session).
 none_above n [] below = refl
 none_above n (s ∷ ss) below =
     elim (nat_eq s.number n) as (λ b. nat_eq s.number n ≡ b → cond b (Some s) (session_at ss n) ≡ None) [
-      | true ↦ λ e. let same : s.number ≡ n = eqb-true s.number n e in let less : s.number < n = below.0 in absurd (omega (arith, same, less))
+      | true ↦ λ e. let same : s.number ≡ n = eqb-true s.number n e in let less : s.number < n = below.0 in absurd
+      (omega (arith, same, less))
       | false ↦ λ e. none_above n ss below.1
     ] refl
 
@@ -39,7 +40,8 @@ next_free clients j legal = none_above (facts j).begun (facts j).sessions (legal
 
 -- ---- a file that is read
 
-record_heard : (clients : Meaning) (session k : ℕ) (j : Batches) (r : Record) (more : Batches) → TakesRecord clients (facts j) session k r more
+record_heard : (clients : Meaning) (session k : ℕ) (j : Batches) (r : Record) (more : Batches) → TakesRecord clients
+    (facts j) session k r more
     → IsSettled clients (after_batches (facts j) more) → Hears clients j session k r (j ++ more)
 record_heard clients session k j r more takes settled =
     let its : List Entry = next_take (facts j) session k r in
@@ -52,14 +54,17 @@ record_heard clients session k j r more takes settled =
       settled = subst (IsSettled clients) (sym (facts-append j more)) settled;
     }
 
-hears_all : (clients : Meaning) (session k : ℕ) (j : Batches) (rs : List Record) (more : Batches) → TakesTo clients session AllTaken (facts j) k rs more
+hears_all : (clients : Meaning) (session k : ℕ) (j : Batches) (rs : List Record) (more : Batches)
+    → TakesTo clients session AllTaken (facts j) k rs more
     → HearsAll clients session k j rs (j ++ more)
 hears_all clients session k j [] more at = ap (λ (bs : Batches). j ++ bs) at.1 ∙ append-nil j
 hears_all clients session k j (r ∷ rs) more (inl at) = let none : r ∷ rs ≡ [] = at.0 in cc
 hears_all clients session k j (r ∷ rs) more (inr then) =
     let later : TakesTo clients session AllTaken (facts (j ++ then.first)) (k + 1) rs then.rest =
-    subst (λ (f : Facts). TakesTo clients session AllTaken f (k + 1) rs then.rest) (sym (facts-append j then.first)) then.later in
-    let whole : (j ++ then.first) ++ then.rest ≡ j ++ more = append_assoc j then.first then.rest ∙ ap (λ (bs : Batches). j ++ bs) (sym then.is) in
+    subst (λ (f : Facts). TakesTo clients session AllTaken f (k + 1) rs then.rest) (sym (facts-append j then.first))
+        then.later in
+    let whole : (j ++ then.first) ++ then.rest ≡ j ++ more = append_assoc j then.first then.rest ∙ ap
+    (λ (bs : Batches). j ++ bs) (sym then.is) in
     (
       j ++ then.first,
       record_heard clients session k j r then.first then.takes then.settled,
@@ -71,17 +76,23 @@ pub reads_are_boxes : ReadsAreBoxes
 reads_are_boxes clients contact j more records legal settled reads =
     let n : ℕ = (facts j).begun in
     let start : List Entry = entry.Session (box_session n contact) ∷ [] in
-    let none : takes_of (facts j).takes n ≡ 0 = (legal_sessions clients j legal).untaken n (next_free clients j legal) in
-    let there : after (facts j) (entry.Session (box_session n contact)) ≡ facts (with_box contact j) = sym (facts-push j start) in
+    let none : takes_of (facts j).takes n ≡ 0 = (legal_sessions clients j legal).untaken n (next_free clients j legal)
+    in
+    let there : after (facts j) (entry.Session (box_session n contact)) ≡ facts (with_box contact j) = sym
+    (facts-push j start) in
     let taken : TakesTo clients n AllTaken (facts (with_box contact j)) 0 records reads.rest =
     subst (λ (f : Facts). TakesTo clients n AllTaken f 0 records reads.rest) there
-    (subst (λ (k : ℕ). TakesTo clients n AllTaken (after (facts j) (entry.Session (box_session n contact))) k records reads.rest) none reads.later) in
-    let whole : with_box contact j ++ reads.rest ≡ j ++ more = append_assoc j (start ∷ []) reads.rest ∙ ap (λ (bs : Batches). j ++ bs) (sym reads.is) in
+    (subst (λ (k : ℕ). TakesTo clients n AllTaken (after (facts j) (entry.Session (box_session n contact)))
+    k records reads.rest) none reads.later) in
+    let whole : with_box contact j ++ reads.rest ≡ j ++ more = append_assoc j (start ∷ []) reads.rest ∙ ap
+    (λ (bs : Batches). j ++ bs) (sym reads.is) in
     record {
       before = j;
       settles = settles_itself clients j;
       settled = settled;
-      hears = subst (HearsAll clients n 0 (with_box contact j) records) whole (hears_all clients n 0 (with_box contact j) records reads.rest taken);
+      hears =
+          subst (HearsAll clients n 0 (with_box contact j) records) whole
+          (hears_all clients n 0 (with_box contact j) records reads.rest taken);
     }
 
 -- ---- a file that is written

@@ -38,17 +38,21 @@ module _ (clients : Meaning) (session : ℕ) (s s' : StoreValue) (left left' : L
   read_one place r u behind own has =
       let records : left.records ≡ r ∷ left'.records = behind.records ∙ ap (λ b. r ∷ cond b [] left'.records) own in
       let facts : s'.state.facts ≡ after_batches s.state.facts has.more = has.comes.runs.facts has.answer.0 in
-      let here : TakesTo clients session (IsAt s'.state.facts (next_on s' session) left'.records) s'.state.facts (next_on s session + 1) left'.records [] =
-      subst (λ (n : ℕ). TakesTo clients session (IsAt s'.state.facts (next_on s' session) left'.records) s'.state.facts n left'.records []) has.answer.3
+      let here : TakesTo clients session (IsAt s'.state.facts (next_on s' session) left'.records) s'.state.facts
+      (next_on s session + 1) left'.records [] =
+      subst (λ (n : ℕ). TakesTo clients session (IsAt s'.state.facts (next_on s' session) left'.records)
+          s'.state.facts n left'.records []) has.answer.3
       (at_here clients session s'.state.facts (next_on s' session) left'.records) in
       record {
         more = has.more;
         comes = has.comes;
         answer = (
           has.answer.0,
-          subst (λ (rs : List Record). TakesTo clients session (IsAt s'.state.facts (next_on s' session) left'.records) s.state.facts (next_on s session) rs has.more)
+          subst (λ (rs : List Record). TakesTo clients session (IsAt s'.state.facts (next_on s' session) left'.records)
+              s.state.facts (next_on s session) rs has.more)
           (sym records)
-          (one_then clients session (IsAt s'.state.facts (next_on s' session) left'.records) s.state.facts s'.state.facts (next_on s session) r left'.records has.more
+          (one_then clients session (IsAt s'.state.facts (next_on s' session) left'.records)
+          s.state.facts s'.state.facts (next_on s session) r left'.records has.more
           has.answer.2 facts has.answer.1 here),
           behind.ending ∙ ap (λ b. cond b (box.NoVersion place) left'.ending) own,
         );
@@ -56,7 +60,8 @@ module _ (clients : Meaning) (session : ℕ) (s s' : StoreValue) (left left' : L
 
   -- one that ends it was taken
   pub read_last : (place : ℕ) (r : Record) (u : Unit {0}) → BehindOne place r left left' → is_foreign r ≡ true
-      → HasTaken clients session r s s' (Ok u) o o' → HasRead clients session s s' left left' (Ok (Some (box.NoVersion place))) o o'
+      → HasTaken clients session r s s' (Ok u) o o' → HasRead clients session s s' left left'
+      (Ok (Some (box.NoVersion place))) o o'
   read_last place r u behind foreign has =
       let records : left.records ≡ r ∷ [] = behind.records ∙ ap (λ b. r ∷ cond b [] left'.records) foreign in
       let facts : s'.state.facts ≡ after_batches s.state.facts has.more = has.comes.runs.facts has.answer.0 in
@@ -67,26 +72,32 @@ module _ (clients : Meaning) (session : ℕ) (s s' : StoreValue) (left left' : L
         comes = has.comes;
         answer = (
           has.answer.0,
-          subst (λ (rs : List Record). TakesTo clients session AllTaken s.state.facts (next_on s session) rs has.more) (sym records)
-          (one_then clients session AllTaken s.state.facts s'.state.facts (next_on s session) r [] has.more has.answer.2 facts has.answer.1 (refl, refl)),
+          subst (λ (rs : List Record). TakesTo clients session AllTaken s.state.facts (next_on s session) rs has.more)
+              (sym records)
+          (one_then clients session AllTaken s.state.facts s'.state.facts (next_on s session)
+          r [] has.more has.answer.2 facts has.answer.1 (refl, refl)),
           omega (arith, count, many),
           sym (behind.ending ∙ ap (λ b. cond b (box.NoVersion place) left'.ending) foreign),
         );
       }
 
   -- one was not taken
-  pub read_stopped : (place : ℕ) (r : Record) (e : StoreFault) → BehindOne place r left left' → HasTaken clients session r s s' (Err e) o o'
+  pub read_stopped : (place : ℕ) (r : Record) (e : StoreFault) → BehindOne place r left left'
+      → HasTaken clients session r s s' (Err e) o o'
       → HasRead clients session s s' left left' (Err e) o o'
   read_stopped place r e behind has = record {
     more = has.more;
     comes = has.comes;
-    answer = subst (λ (rs : List Record). StopsSo clients session s s' rs has.more e) (sym behind.records) (stops e has.answer);
+    answer =
+        subst (λ (rs : List Record). StopsSo clients session s s' rs has.more e) (sym behind.records)
+            (stops e has.answer);
   }
     where
       rest : List Record
       rest = cond (is_foreign r) [] left'.records
 
-      stops : (x : StoreFault) → TakesSo clients session r s s' has.more (Err x) → StopsSo clients session s s' (r ∷ rest) has.more x
+      stops : (x : StoreFault) → TakesSo clients session r s s' has.more (Err x) → StopsSo clients session s s'
+          (r ∷ rest) has.more x
       stops fault.Closed so = so
       stops fault.Full so = (so.0, so.1, inl (so.2, so.3))
       stops fault.Memory so = (so.0, inl so.1)
@@ -94,7 +105,8 @@ module _ (clients : Meaning) (session : ℕ) (s s' : StoreValue) (left left' : L
 
 -- ---- items that take nothing
 
-module _ (images : ImagesStand) (clients : Meaning) (session : Session) (s : StoreValue) (left left' : Left) (o : Outside)
+module _ (images : ImagesStand) (clients : Meaning) (session : Session) (s : StoreValue) (left left' : Left)
+    (o : Outside)
     (able : IsOpenFor clients session s o) where
   -- a skipped one
   pub read_past : left ≡ left' → HasRead clients session.number s s left left' (Ok None) o o
@@ -103,14 +115,16 @@ module _ (images : ImagesStand) (clients : Meaning) (session : Session) (s : Sto
     comes = comes_none images clients s o able.is_store;
     answer = (
       able.ready.still_open,
-      subst (λ (l : Left). TakesTo clients session.number (IsAt s.state.facts (next_on s session.number) l.records) s.state.facts (next_on s session.number) left.records [])
+      subst (λ (l : Left). TakesTo clients session.number (IsAt s.state.facts (next_on s session.number) l.records)
+          s.state.facts (next_on s session.number) left.records [])
       same (at_here clients session.number s.state.facts (next_on s session.number) left.records),
       ap (λ (l : Left). l.ending) same,
     );
   }
 
   -- none is left
-  pub read_end : (e : BoxEnding) → left ≡ record { records = []; ending = e } → HasRead clients session.number s s left left' (Ok (Some e)) o o
+  pub read_end : (e : BoxEnding) → left ≡ record { records = []; ending = e }
+      → HasRead clients session.number s s left left' (Ok (Some e)) o o
   read_end e none =
       let many : length left.records ≡ 0 = ap (λ (l : Left). length l.records) none in
       record {
@@ -118,7 +132,8 @@ module _ (images : ImagesStand) (clients : Meaning) (session : Session) (s : Sto
         comes = comes_none images clients s o able.is_store;
         answer = (
           able.ready.still_open,
-          subst (λ (rs : List Record). TakesTo clients session.number AllTaken s.state.facts (next_on s session.number) rs [])
+          subst (λ (rs : List Record). TakesTo clients session.number AllTaken s.state.facts (next_on s session.number)
+              rs [])
           (sym (ap (λ (l : Left). l.records) none)) (refl, refl),
           omega (arith, many),
           sym (ap (λ (l : Left). l.ending) none),
@@ -130,20 +145,24 @@ module _ (images : ImagesStand) (clients : Meaning) (session : Session) (s : Sto
   read_starved = record {
     more = [];
     comes = comes_none images clients s o able.is_store;
-    answer = (able.ready.still_open, none_some clients session.number s.state.facts (next_on s session.number) left.records);
+    answer =
+        (able.ready.still_open, none_some clients session.number s.state.facts (next_on s session.number) left.records);
   }
 
 -- ---- one item after the other
 
 -- some items were read, and the reading goes on
-pub record Underway (clients : Meaning) (session : ℕ) (s s' : StoreValue) (left left' : Left) (o o' : Outside) : Type 0 where
+pub record Underway (clients : Meaning) (session : ℕ) (s s' : StoreValue) (left left' : Left) (o o' : Outside)
+    : Type 0 where
   pub more : Batches
   pub comes : ComesTo clients s s' o o' more
   pub still_open : s'.closed ≡ false
-  pub came : TakesTo clients session (IsAt s'.state.facts (next_on s' session) left'.records) s.state.facts (next_on s session) left.records more
+  pub came : TakesTo clients session (IsAt s'.state.facts (next_on s' session) left'.records) s.state.facts
+      (next_on s session) left.records more
   pub same_ending : left.ending ≡ left'.ending
 
-pub way_begins : ImagesStand → (clients : Meaning) (session : Session) (s : StoreValue) (left : Left) (o : Outside) → IsOpenFor clients session s o
+pub way_begins : ImagesStand → (clients : Meaning) (session : Session) (s : StoreValue) (left : Left) (o : Outside)
+    → IsOpenFor clients session s o
     → Underway clients session.number s s left left o o
 way_begins images clients session s left o able = record {
   more = [];
@@ -155,12 +174,15 @@ way_begins images clients session s left o able = record {
 
 module _ (clients : Meaning) (session : ℕ) (s0 s s' : StoreValue) (left0 left left' : Left) (o0 o o' : Outside)
     (way : Underway clients session s0 s left0 left o0 o) where
-  onward : (P : Facts → ℕ → List Record → Batches → Type 0) (more : Batches) → TakesTo clients session P s.state.facts (next_on s session) left.records more
+  onward : (P : Facts → ℕ → List Record → Batches → Type 0) (more : Batches) → TakesTo clients session P s.state.facts
+      (next_on s session) left.records more
       → TakesTo clients session P s0.state.facts (next_on s0 session) left0.records (way.more ++ more)
   onward P more t =
-      then_on clients session P s0.state.facts s.state.facts (next_on s0 session) (next_on s session) left0.records left.records way.more more way.came t
+      then_on clients session P s0.state.facts s.state.facts (next_on s0 session) (next_on s session)
+      left0.records left.records way.more more way.came t
 
-  pub way_goes_on : HasRead clients session s s' left left' (Ok None) o o' → Underway clients session s0 s' left0 left' o0 o'
+  pub way_goes_on : HasRead clients session s s' left left' (Ok None) o o'
+      → Underway clients session s0 s' left0 left' o0 o'
   way_goes_on has = record {
     more = way.more ++ has.more;
     comes = comes_then clients s0 s s' o0 o o' way.more has.more way.still_open way.comes has.comes;
@@ -169,12 +191,14 @@ module _ (clients : Meaning) (session : ℕ) (s0 s s' : StoreValue) (left0 left 
     same_ending = way.same_ending ∙ has.answer.2;
   }
 
-  pub way_ends : (e : BoxEnding) → HasRead clients session s s' left left' (Ok (Some e)) o o' → IsSettled clients s'.state.facts → (taken : ℕ)
+  pub way_ends : (e : BoxEnding) → HasRead clients session s s' left left' (Ok (Some e)) o o'
+      → IsSettled clients s'.state.facts → (taken : ℕ)
       → taken ≡ next_on s' session - next_on s0 session
       → HasReadAll clients session s0 s' left0 (Ok (record { taken = taken; ending = e })) o0 o'
   way_ends e has settled taken is =
       let here : next_on s session + length left.records ≡ next_on s0 session + length left0.records =
-      counted clients session s0.state.facts s.state.facts (next_on s0 session) (next_on s session) left0.records left.records way.more way.came in
+      counted clients session s0.state.facts s.state.facts (next_on s0 session) (next_on s session)
+      left0.records left.records way.more way.came in
       let last : next_on s' session ≡ next_on s session + length left.records = has.answer.2 in
       record {
         more = way.more ++ has.more;
@@ -188,10 +212,12 @@ module _ (clients : Meaning) (session : ℕ) (s0 s s' : StoreValue) (left0 left 
         );
       }
 
-  pub way_within : (e : BoxEnding) → HasRead clients session s s' left left' (Ok (Some e)) o o' → next_on s0 session ≤ next_on s' session
+  pub way_within : (e : BoxEnding) → HasRead clients session s s' left left' (Ok (Some e)) o o' → next_on s0 session
+      ≤ next_on s' session
   way_within e has =
       let here : next_on s session + length left.records ≡ next_on s0 session + length left0.records =
-      counted clients session s0.state.facts s.state.facts (next_on s0 session) (next_on s session) left0.records left.records way.more way.came in
+      counted clients session s0.state.facts s.state.facts (next_on s0 session) (next_on s session)
+      left0.records left.records way.more way.came in
       let last : next_on s' session ≡ next_on s session + length left.records = has.answer.2 in
       omega (arith, here, last)
 
@@ -202,7 +228,8 @@ module _ (clients : Meaning) (session : ℕ) (s0 s s' : StoreValue) (left0 left 
   way_stops_so fault.Memory more so = (so.0, onward (SomeTaken clients session) more so.1)
   way_stops_so fault.DiskFault more so = (so.0, onward (SomeTaken clients session) more so.1)
 
-  pub way_stops : (e : StoreFault) → HasRead clients session s s' left left' (Err e) o o' → HasReadAll clients session s0 s' left0 (Err e) o0 o'
+  pub way_stops : (e : StoreFault) → HasRead clients session s s' left left' (Err e) o o'
+      → HasReadAll clients session s0 s' left0 (Err e) o0 o'
   way_stops e has = record {
     more = way.more ++ has.more;
     comes = comes_then clients s0 s s' o0 o o' way.more has.more way.still_open way.comes has.comes;

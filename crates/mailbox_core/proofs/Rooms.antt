@@ -23,10 +23,12 @@ use Rattle.mailbox_core.specs.Rooms.{AreRoomy, ComesTo, needed_in}
 -- ---- the sum
 
 -- by a store's fields it is that by the journal that its disk fits
-pub needed_is : (clients : Meaning) (s : StoreValue) (j : List (List Entry)) (two : Two File) (batch : List Entry) → Fits clients s j two
+pub needed_is : (clients : Meaning) (s : StoreValue) (j : List (List Entry)) (two : Two File) (batch : List Entry)
+    → Fits clients s j two
     → needed s batch ≡ needed_in (written_in s) j batch
 needed_is clients s j two batch fits = λ i.
-    fits.end_is i + 5 + payload_len (written_in s) batch + room_of (written_in s) (after_all (sym fits.facts_are i) batch)
+    fits.end_is i + 5 + payload_len (written_in s) batch + room_of (written_in s)
+    (after_all (sym fits.facts_are i) batch)
 
 -- ---- settling finds its room
 
@@ -40,22 +42,26 @@ batch_kind : (clients : Meaning) (f : Facts) (b : List Entry) → IsSettlingBatc
 batch_kind clients f [] s = absurd (omega arith)
 batch_kind clients f (e ∷ es) s = settling_kind e es (next_is_settling clients f e s.2.0)
 
-pub settling_roomy : (clients : Meaning) (f : Facts) (format : Format) (limit : ℕ) (j bs : List (List Entry)) → AllSettling clients f bs
+pub settling_roomy : (clients : Meaning) (f : Facts) (format : Format) (limit : ℕ) (j bs : List (List Entry))
+    → AllSettling clients f bs
     → AreRoomy format limit j bs
 settling_roomy clients f format limit j [] s = tt
 settling_roomy clients f format limit j (b ∷ bs) s =
-    (λ kind. absurd (false≢true (sym kind ∙ batch_kind clients f b s.0)), settling_roomy clients (after_all f b) format limit (j ++ b ∷ []) bs s.1)
+    (λ kind. absurd (false≢true (sym kind ∙ batch_kind clients f b s.0)), settling_roomy clients (after_all f b)
+    format limit (j ++ b ∷ []) bs s.1)
 
 -- ---- some behind others
 
-pub roomy_both : (format : Format) (limit : ℕ) (j xs ys : List (List Entry)) → AreRoomy format limit j xs → AreRoomy format limit (j ++ xs) ys
+pub roomy_both : (format : Format) (limit : ℕ) (j xs ys : List (List Entry)) → AreRoomy format limit j xs
+    → AreRoomy format limit (j ++ xs) ys
     → AreRoomy format limit j (xs ++ ys)
 roomy_both format limit j [] ys a b = subst (λ (k : List (List Entry)). AreRoomy format limit k ys) (append-nil j) b
 roomy_both format limit j (x ∷ xs) ys a b =
     (a.0, roomy_both format limit (j ++ x ∷ []) xs ys a.1
     (subst (λ (k : List (List Entry)). AreRoomy format limit k ys) (sym (append_assoc j (x ∷ []) xs)) b))
 
-pub comes_then : (clients : Meaning) (s0 s1 s2 : StoreValue) (o0 o1 o2 : Outside) (xs ys : List (List Entry)) → s1.closed ≡ false
+pub comes_then : (clients : Meaning) (s0 s1 s2 : StoreValue) (o0 o1 o2 : Outside) (xs ys : List (List Entry))
+    → s1.closed ≡ false
     → ComesTo clients s0 s1 o0 o1 xs → ComesTo clients s1 s2 o1 o2 ys → ComesTo clients s0 s2 o0 o2 (xs ++ ys)
 comes_then clients s0 s1 s2 o0 o1 o2 xs ys still first second = record {
   runs = runs_then clients s0 s1 s2 o0 o1 o2 xs ys still first.runs second.runs;
@@ -63,7 +69,8 @@ comes_then clients s0 s1 s2 o0 o1 o2 xs ys still first second = record {
       let there = told_on o0 o1 two first.runs.run.same_told told in
       let mid = (first.runs.leads two told j fits).ends still there.0 there.1 in
       let later : AreRoomy (written_in s1) s1.limit (j ++ xs) ys =
-      second.roomy there.0 there.1 (j ++ xs) (subst (λ (k : List (List Entry)). Fits clients s1 k there.0) mid.1 mid.2) in
+      second.roomy there.0 there.1 (j ++ xs) (subst (λ (k : List (List Entry)). Fits clients s1 k there.0) mid.1 mid.2)
+          in
       let by_format : AreRoomy (written_in s0) s1.limit (j ++ xs) ys =
       subst (λ (k : Format). AreRoomy k s1.limit (j ++ xs) ys) (ap format_meant first.runs.format) later in
       roomy_both (written_in s0) s0.limit j xs ys (first.roomy two told j fits)
@@ -84,7 +91,8 @@ stays_itself s = record {
   closed = refl;
 }
 
-pub comes_none : ImagesStand → (clients : Meaning) (s : StoreValue) (o : Outside) → IsStore s → ComesTo clients s s o o []
+pub comes_none : ImagesStand → (clients : Meaning) (s : StoreValue) (o : Outside) → IsStore s
+    → ComesTo clients s s o o []
 comes_none images clients s o store = record {
   runs = runs_none images clients s s o store (stays_itself s);
   roomy = λ two told j fits. tt;

@@ -37,11 +37,13 @@ Batches = List (List Entry)
 
 -- ---- what is due
 
-pub due_is : (clients : Meaning) (f : Facts) (o : Option Session) (now : ℕ) (what : Out) → Some what ≡ due_of clients f o now → IsDue clients f o now what
+pub due_is : (clients : Meaning) (f : Facts) (o : Option Session) (now : ℕ) (what : Out) → Some what
+    ≡ due_of clients f o now → IsDue clients f o now what
 due_is clients f None now what e = cc
 due_is clients f (Some s) now what e = sym e
 
-pub quiet_is : (clients : Meaning) (f : Facts) (session : Session) (now : ℕ) → session_at f.sessions session.number ≡ Some session
+pub quiet_is : (clients : Meaning) (f : Facts) (session : Session) (now : ℕ) → session_at f.sessions session.number
+    ≡ Some session
     → None ≡ due_of clients f (session_at f.sessions session.number) now → IsQuiet clients f session.number now
 quiet_is clients f session now found none = record {
   begun = session;
@@ -51,25 +53,32 @@ quiet_is clients f session now found none = record {
 
 -- ---- lists of outputs
 
-batches-append : (session now : ℕ) (xs ys : List Out) → out_batches session now (xs ++ ys) ≡ out_batches session now xs ++ out_batches session now ys
+batches-append : (session now : ℕ) (xs ys : List Out) → out_batches session now (xs ++ ys)
+    ≡ out_batches session now xs ++ out_batches session now ys
 batches-append session now [] ys = refl
-batches-append session now (x ∷ xs) ys = ap (λ (bs : Batches). out_batch session now x ∷ bs) (batches-append session now xs ys)
+batches-append session now (x ∷ xs) ys =
+    ap (λ (bs : Batches). out_batch session now x ∷ bs) (batches-append session now xs ys)
 
-due_push : (clients : Meaning) (f : Facts) (session now : ℕ) (outs : List Out) (what : Out) → AreDue clients f session now outs
-    → IsDue clients (after_batches f (out_batches session now outs)) (session_at (after_batches f (out_batches session now outs)).sessions session) now what
+due_push : (clients : Meaning) (f : Facts) (session now : ℕ) (outs : List Out) (what : Out)
+    → AreDue clients f session now outs
+    → IsDue clients (after_batches f (out_batches session now outs))
+    (session_at (after_batches f (out_batches session now outs)).sessions session) now what
     → AreDue clients f session now (outs ++ what ∷ [])
 due_push clients f session now [] what all one = (one, tt)
 due_push clients f session now (x ∷ outs) what all one =
     (all.0, due_push clients (after f (entry.Out session now x)) session now outs what all.1 one)
 
-output-append : (f : Facts) (session : ℕ) (xs ys : Batches) → output_of f session (xs ++ ys) ≡ output_of f session xs ++ output_of (after_batches f xs) session ys
+output-append : (f : Facts) (session : ℕ) (xs ys : Batches) → output_of f session (xs ++ ys)
+    ≡ output_of f session xs ++ output_of (after_batches f xs) session ys
 output-append f session [] ys = refl
 output-append f session (x ∷ xs) ys =
     ap (λ (rs : List Record). output_in f session x ++ rs) (output-append (after_all f x) session xs ys)
-    ∙ sym (append_assoc (output_in f session x) (output_of (after_all f x) session xs) (output_of (after_batches (after_all f x) xs) session ys))
+    ∙ sym (append_assoc (output_in f session x) (output_of (after_all f x) session xs)
+    (output_of (after_batches (after_all f x) xs) session ys))
 
 -- the record of one output
-out_adds : (f : Facts) (session now : ℕ) (what : Out) → output_of f session (out_batch session now what ∷ []) ≡ records_of f.held what
+out_adds : (f : Facts) (session now : ℕ) (what : Out) → output_of f session (out_batch session now what ∷ [])
+    ≡ records_of f.held what
 out_adds f session now what =
     append-nil (output_in f session (out_batch session now what))
     ∙ (append-nil (cond (nat_eq session session) (records_of f.held what) [])
@@ -78,8 +87,10 @@ out_adds f session now what =
 -- ---- one output
 
 module _ (clients : Meaning) (session now : ℕ) (s s' : StoreValue) (to to' : List ℕ) (o o' : Outside) where
-  pub put_made : (u : Unit {0}) (what : Out) → IsDue clients s.state.facts (session_at s.state.facts.sessions session) now what
-      → to' ≡ to ++ spelled (records_of s.state.facts.held what) → HasCommitted clients s s' (out_batch session now what) (Ok u) o o'
+  pub put_made : (u : Unit {0}) (what : Out) → IsDue clients s.state.facts (session_at s.state.facts.sessions session)
+      now what
+      → to' ≡ to ++ spelled (records_of s.state.facts.held what) → HasCommitted clients s s'
+      (out_batch session now what) (Ok u) o o'
       → HasPut clients session now s s' to to' (Ok true) o o'
   put_made u what due bytes has = record {
     more = out_batch session now what ∷ [];
@@ -93,7 +104,8 @@ module _ (clients : Meaning) (session now : ℕ) (s s' : StoreValue) (to to' : L
 
   pub put_failed : (e : StoreFault) (what : Out) → s.closed ≡ false → IsSettled clients s.state.facts
       → IsDue clients s.state.facts (session_at s.state.facts.sessions session) now what
-      → HasCommitted clients s s' (out_batch session now what) (Err e) o o' → HasPut clients session now s s' to to' (Err e) o o'
+      → HasCommitted clients s s' (out_batch session now what) (Err e) o o' → HasPut clients session now s s' to to'
+      (Err e) o o'
   put_failed fault.Closed what opened settled due has =
       let closed : s.closed ≡ true = has.answer.0 in absurd (let e : true ≡ false = sym closed ∙ opened in cc)
   put_failed fault.Full what opened settled due has =
@@ -110,21 +122,26 @@ module _ (clients : Meaning) (session now : ℕ) (s s' : StoreValue) (to to' : L
           refl,
           record {
             next = what;
-            due = subst (λ (f : Facts). IsDue clients f (session_at f.sessions session) now what) (sym has.answer.2.facts) due;
+            due =
+                subst (λ (f : Facts). IsDue clients f (session_at f.sessions session) now what) (sym has.answer.2.facts)
+                    due;
             over = omega (arith, sum, limit, over);
           },
         );
       }
-  put_failed fault.Memory what opened settled due has = record { more = []; comes = has.comes; answer = (has.answer.2.closed ∙ has.answer.0, refl) }
+  put_failed fault.Memory what opened settled due has =
+      record { more = []; comes = has.comes; answer = (has.answer.2.closed ∙ has.answer.0, refl) }
   put_failed fault.DiskFault what opened settled due has = record {
     more = out_batch session now what ∷ [];
     comes = has.comes;
     answer = (has.answer.2.closed, record { what = what; due = due; is = refl });
   }
 
-module _ (images : ImagesStand) (clients : Meaning) (session : Session) (now : ℕ) (s : StoreValue) (o : Outside) (able : IsOpenFor clients session s o) where
+module _ (images : ImagesStand) (clients : Meaning) (session : Session) (now : ℕ) (s : StoreValue) (o : Outside)
+    (able : IsOpenFor clients session s o) where
   -- nothing is due
-  pub put_none : (to : List ℕ) → None ≡ due_of clients s.state.facts (session_at s.state.facts.sessions session.number) now
+  pub put_none : (to : List ℕ) → None ≡ due_of clients s.state.facts (session_at s.state.facts.sessions session.number)
+      now
       → HasPut clients session.number now s s to to (Ok false) o o
   put_none to none = record {
     more = [];
@@ -141,17 +158,22 @@ module _ (images : ImagesStand) (clients : Meaning) (session : Session) (now : �
   }
 
 -- the session goes on behind an output
-pub able_put : (clients : Meaning) (session : Session) (now : ℕ) (s s' : StoreValue) (o o' : Outside) (what : Out) (u : Unit {0}) → IsOpenFor clients session s o
-    → HasCommitted clients s s' (out_batch session.number now what) (Ok u) o o' → (s'.closed ≡ false → IsReady clients s' o'.files) → IsStore s'
+pub able_put : (clients : Meaning) (session : Session) (now : ℕ) (s s' : StoreValue) (o o' : Outside) (what : Out)
+    (u : Unit {0}) → IsOpenFor clients session s o
+    → HasCommitted clients s s' (out_batch session.number now what) (Ok u) o o' →
+    (s'.closed ≡ false → IsReady clients s' o'.files) → IsStore s'
     → IsOpenFor clients session s' o'
 able_put clients session now s s' o o' what u able has ready store =
-    still_able clients session s s' o o' (out_batch session.number now what ∷ []) able has.comes has.answer.2.closed ready store
-    (subst (IsSettled clients) (sym has.answer.2.facts) (settled_stays clients s.state.facts (out_batch session.number now what) refl able.settled))
+    still_able clients session s s' o o' (out_batch session.number now what ∷ [])
+    able has.comes has.answer.2.closed ready store
+    (subst (IsSettled clients) (sym has.answer.2.facts)
+    (settled_stays clients s.state.facts (out_batch session.number now what) refl able.settled))
 
 -- ---- one output after the other
 
 -- so many outputs were made, and more may follow
-pub record Underway (clients : Meaning) (session now : ℕ) (s s' : StoreValue) (to to' : List ℕ) (made : ℕ) (o o' : Outside) : Type 0 where
+pub record Underway (clients : Meaning) (session now : ℕ) (s s' : StoreValue) (to to' : List ℕ) (made : ℕ)
+    (o o' : Outside) : Type 0 where
   pub outs : List Out
   pub comes : ComesTo clients s s' o o' (out_batches session now outs)
   pub still_open : s'.closed ≡ false
@@ -159,7 +181,8 @@ pub record Underway (clients : Meaning) (session now : ℕ) (s s' : StoreValue) 
   pub counted : made ≡ length outs
   pub bytes : to' ≡ to ++ spelled (output_of s.state.facts session (out_batches session now outs))
 
-pub way_begins : ImagesStand → (clients : Meaning) (session : Session) (now : ℕ) (s : StoreValue) (to : List ℕ) (o : Outside) → IsOpenFor clients session s o
+pub way_begins : ImagesStand → (clients : Meaning) (session : Session) (now : ℕ) (s : StoreValue) (to : List ℕ)
+    (o : Outside) → IsOpenFor clients session s o
     → Underway clients session.number now s s to to 0 o o
 way_begins images clients session now s to o able = record {
   outs = [];
@@ -170,7 +193,8 @@ way_begins images clients session now s to o able = record {
   bytes = sym (append-nil to);
 }
 
-module _ (clients : Meaning) (session now : ℕ) (s0 s s' : StoreValue) (to0 to to' : List ℕ) (made : ℕ) (o0 o o' : Outside)
+module _ (clients : Meaning) (session now : ℕ) (s0 s s' : StoreValue) (to0 to to' : List ℕ) (made : ℕ)
+    (o0 o o' : Outside)
     (way : Underway clients session now s0 s to0 to made o0 o) where
   there : s.state.facts ≡ after_batches s0.state.facts (out_batches session now way.outs)
   there = way.comes.runs.facts way.still_open
@@ -183,11 +207,13 @@ module _ (clients : Meaning) (session now : ℕ) (s0 s s' : StoreValue) (to0 to 
 
   made_more : (what : Out) → made + 1 ≡ length (way.outs ++ what ∷ [])
   made_more what =
-      let all : length (way.outs ++ what ∷ []) ≡ length way.outs + length (what ∷ []) = length-append way.outs (what ∷ []) in
+      let all : length (way.outs ++ what ∷ []) ≡ length way.outs + length (what ∷ []) = length-append way.outs
+      (what ∷ []) in
       let so : made ≡ length way.outs = way.counted in
       omega (arith, all, so)
 
-  pub way_goes_on : HasPut clients session now s s' to to' (Ok true) o o' → Underway clients session now s0 s' to0 to' (made + 1) o0 o'
+  pub way_goes_on : HasPut clients session now s s' to to' (Ok true) o o' → Underway clients session now s0 s' to0 to'
+      (made + 1) o0 o'
   way_goes_on has =
       let puts : PutsOut clients s.state.facts session now has.more = has.answer.1 in
       let before : Batches = out_batches session now way.outs in
@@ -203,15 +229,19 @@ module _ (clients : Meaning) (session now : ℕ) (s0 s s' : StoreValue) (to0 to 
         bytes =
             has.answer.2
             ∙ (ap (λ (bs : List ℕ). bs ++ spelled (output_of s.state.facts session has.more)) way.bytes
-            ∙ (append_assoc to0 (spelled (output_of s0.state.facts session before)) (spelled (output_of s.state.facts session has.more))
+            ∙ (append_assoc to0 (spelled (output_of s0.state.facts session before))
+            (spelled (output_of s.state.facts session has.more))
             ∙ ap (λ (bs : List ℕ). to0 ++ bs)
-            (sym (flat_map-append spelling (output_of s0.state.facts session before) (output_of s.state.facts session has.more))
+            (sym (flat_map-append spelling (output_of s0.state.facts session before)
+            (output_of s.state.facts session has.more))
             ∙ ap spelled
             (ap (λ (f : Facts). output_of s0.state.facts session before ++ output_of f session has.more) there
-            ∙ (sym (output-append s0.state.facts session before has.more) ∙ ap (output_of s0.state.facts session) all)))));
+            ∙ (sym (output-append s0.state.facts session before has.more) ∙ ap (output_of s0.state.facts session)
+            all)))));
       }
 
-  sends : (most : ℕ) → made ≤ most → SendsSome clients s0.state.facts session now most (out_batches session now way.outs)
+  sends : (most : ℕ) → made ≤ most → SendsSome clients s0.state.facts session now most
+      (out_batches session now way.outs)
   sends most few = record {
     outs = way.outs;
     is = refl;
@@ -220,7 +250,8 @@ module _ (clients : Meaning) (session now : ℕ) (s0 s s' : StoreValue) (to0 to 
   }
 
   -- as many were made as was asked for
-  pub way_full : (most : ℕ) → made ≡ most → IsSettled clients s.state.facts → HasPutAll clients session now most s0 s to0 to (Ok made) o0 o
+  pub way_full : (most : ℕ) → made ≡ most → IsSettled clients s.state.facts
+      → HasPutAll clients session now most s0 s to0 to (Ok made) o0 o
   unfolding sends
   way_full most is settled = record {
     more = out_batches session now way.outs;
@@ -234,16 +265,19 @@ module _ (clients : Meaning) (session now : ℕ) (s0 s s' : StoreValue) (to0 to 
   }
 
   no_more : (more : Batches) → more ≡ [] → out_batches session now way.outs ++ more ≡ out_batches session now way.outs
-  no_more more none = ap (λ (bs : Batches). out_batches session now way.outs ++ bs) none ∙ append-nil (out_batches session now way.outs)
+  no_more more none =
+      ap (λ (bs : Batches). out_batches session now way.outs ++ bs) none ∙ append-nil (out_batches session now way.outs)
 
   -- nothing is due any more
-  pub way_ends : (most : ℕ) → made ≤ most → HasPut clients session now s s' to to' (Ok false) o o' → IsSettled clients s'.state.facts
+  pub way_ends : (most : ℕ) → made ≤ most → HasPut clients session now s s' to to' (Ok false) o o'
+      → IsSettled clients s'.state.facts
       → HasPutAll clients session now most s0 s' to0 to' (Ok made) o0 o'
   unfolding sends
   way_ends most few has settled = record {
     more = out_batches session now way.outs;
     comes = subst (λ (bs : Batches). ComesTo clients s0 s' o0 o' bs) (no_more has.more has.answer.2)
-        (comes_then clients s0 s s' o0 o o' (out_batches session now way.outs) has.more way.still_open way.comes has.comes);
+        (comes_then clients s0 s s' o0 o o' (out_batches session now way.outs)
+        has.more way.still_open way.comes has.comes);
     answer = (
       has.answer.0,
       settled,
@@ -256,12 +290,15 @@ module _ (clients : Meaning) (session now : ℕ) (s0 s s' : StoreValue) (to0 to 
       → SendsSome clients s0.state.facts session now most (out_batches session now way.outs ++ more)
   sends_more most more few puts = record {
     outs = way.outs ++ puts.what ∷ [];
-    is = ap (λ (bs : Batches). out_batches session now way.outs ++ bs) puts.is ∙ sym (batches-append session now way.outs (puts.what ∷ []));
+    is =
+        ap (λ (bs : Batches). out_batches session now way.outs ++ bs) puts.is ∙ sym
+        (batches-append session now way.outs (puts.what ∷ []));
     due = due_more puts.what puts.due;
     few = let so : made + 1 ≡ length (way.outs ++ puts.what ∷ []) = made_more puts.what in omega (arith, so, few);
   }
 
-  sends_none : (most : ℕ) (more : Batches) → made < most → more ≡ [] → SendsSome clients s0.state.facts session now most (out_batches session now way.outs ++ more)
+  sends_none : (most : ℕ) (more : Batches) → made < most → more ≡ [] → SendsSome clients s0.state.facts session now most
+      (out_batches session now way.outs ++ more)
   sends_none most more few none = record {
     outs = way.outs;
     is = no_more more none;
@@ -269,7 +306,8 @@ module _ (clients : Meaning) (session now : ℕ) (s0 s s' : StoreValue) (to0 to 
     few = let so : made ≡ length way.outs = way.counted in omega (arith, so, few);
   }
 
-  stops_so : (most : ℕ) (e : StoreFault) (more : Batches) → made < most → PutsSo clients session now s s' more to to' (Err e)
+  stops_so : (most : ℕ) (e : StoreFault) (more : Batches) → made < most → PutsSo clients session now s s' more to to'
+      (Err e)
       → PutsAllSo clients session now most s0 s' (out_batches session now way.outs ++ more) to0 to' (Err e)
   unfolding sends_none
   stops_so most fault.Closed more few so = so
@@ -291,7 +329,9 @@ module _ (clients : Meaning) (session now : ℕ) (s0 s s' : StoreValue) (to0 to 
       → HasPutAll clients session now most s0 s' to0 to' (Err e) o0 o'
   way_stops most e few has = record {
     more = out_batches session now way.outs ++ has.more;
-    comes = comes_then clients s0 s s' o0 o o' (out_batches session now way.outs) has.more way.still_open way.comes has.comes;
+    comes =
+        comes_then clients s0 s s' o0 o o' (out_batches session now way.outs)
+        has.more way.still_open way.comes has.comes;
     answer = stops_so most e has.more few has.answer;
   }
 
@@ -305,7 +345,8 @@ module _ (clients : Meaning) (contact latency now count : ℕ) (s : StoreValue) 
   begins = after s.state.facts (entry.Session its)
 
   -- no memory was found for it
-  pub box_starved : ImagesStand → IsStore s → s.closed ≡ false → HasWrittenBox clients contact latency now count s s to to (Err fault.Memory) o o
+  pub box_starved : ImagesStand → IsStore s → s.closed ≡ false
+      → HasWrittenBox clients contact latency now count s s to to (Err fault.Memory) o o
   box_starved images store opened = record {
     more = [];
     comes = comes_none images clients s o store;
@@ -315,16 +356,20 @@ module _ (clients : Meaning) (contact latency now count : ℕ) (s : StoreValue) 
   nothing_sent : SendsSome clients begins s.state.facts.begun now count []
   nothing_sent = record { outs = []; is = refl; due = tt; few = omega arith }
 
-  not_begun_so : (s' : StoreValue) (more : Batches) (e : StoreFault) → IsSettled clients s.state.facts → (s'.closed ≡ false → s'.state.facts ≡ after_batches s.state.facts more)
-      → BeginsSo contact latency s.state.facts s' more (Err e) → WritesSo clients contact latency now count s.state.facts s' more to to (Err e)
+  not_begun_so : (s' : StoreValue) (more : Batches) (e : StoreFault) → IsSettled clients s.state.facts →
+      (s'.closed ≡ false → s'.state.facts ≡ after_batches s.state.facts more)
+      → BeginsSo contact latency s.state.facts s' more (Err e)
+      → WritesSo clients contact latency now count s.state.facts s' more to to (Err e)
   not_begun_so s' more fault.Closed settled facts so = so
   not_begun_so s' more fault.Full settled facts so =
       let same : s'.state.facts ≡ s.state.facts = facts so.0 ∙ ap (after_batches s.state.facts) so.1 in
       (so.0, subst (IsSettled clients) (sym same) settled, inl (so.1, so.2), refl)
   not_begun_so s' more fault.Memory settled facts so = (so.0, inl so.1, refl)
-  not_begun_so s' more fault.DiskFault settled facts so = (so.0, inr (record { rest = []; is = so.1; later = nothing_sent }), refl)
+  not_begun_so s' more fault.DiskFault settled facts so =
+      (so.0, inr (record { rest = []; is = so.1; later = nothing_sent }), refl)
 
-  pub box_not_begun : (s' : StoreValue) (e : StoreFault) (o' : Outside) → IsSettled clients s.state.facts → HasBegun clients contact latency s s' (Err e) o o'
+  pub box_not_begun : (s' : StoreValue) (e : StoreFault) (o' : Outside) → IsSettled clients s.state.facts
+      → HasBegun clients contact latency s s' (Err e) o o'
       → HasWrittenBox clients contact latency now count s s' to to (Err e) o o'
   box_not_begun s' e o' settled has = record {
     more = has.more;
@@ -332,7 +377,8 @@ module _ (clients : Meaning) (contact latency now count : ℕ) (s : StoreValue) 
     answer = not_begun_so s' has.more e settled has.comes.runs.facts has.answer;
   }
 
-  module _ (s1 s2 : StoreValue) (session : Session) (o1 o2 : Outside) (first bytes : List ℕ) (begun : HasBegun clients contact latency s s1 (Ok session) o o1) where
+  module _ (s1 s2 : StoreValue) (session : Session) (o1 o2 : Outside) (first bytes : List ℕ)
+      (begun : HasBegun clients contact latency s s1 (Ok session) o o1) where
     facts_there : s1.state.facts ≡ begins
     facts_there = begun.comes.runs.facts begun.answer.0 ∙ ap (after_batches s.state.facts) begun.answer.1
 
@@ -342,7 +388,9 @@ module _ (clients : Meaning) (contact latency now count : ℕ) (s : StoreValue) 
     behind Q rest q = record {
       rest = rest;
       is = ap (λ (bs : Batches). bs ++ rest) begun.answer.1;
-      later = subst (λ (f : Facts). Q f s.state.facts.begun rest) facts_there (subst (λ (n : ℕ). Q s1.state.facts n rest) begun.answer.2 q);
+      later =
+          subst (λ (f : Facts). Q f s.state.facts.begun rest) facts_there
+              (subst (λ (n : ℕ). Q s1.state.facts n rest) begun.answer.2 q);
     }
 
     some_behind : (rest : Batches) → SendsSome clients s1.state.facts session.number now count rest
@@ -360,7 +408,8 @@ module _ (clients : Meaning) (contact latency now count : ℕ) (s : StoreValue) 
         so : (x : StoreFault) → PutsAllSo clients session.number now count s1 s2 has.more first bytes (Err x)
             → WritesSo clients contact latency now count s.state.facts s2 (begun.more ++ has.more) to to (Err x)
         so fault.Closed a = a
-        so fault.Full a = (a.0, a.1, inr (behind (λ f n later. SendsUntilFull clients f s2 n now count later) has.more a.2), refl)
+        so fault.Full a =
+            (a.0, a.1, inr (behind (λ f n later. SendsUntilFull clients f s2 n now count later) has.more a.2), refl)
         so fault.Memory a = (a.0, some_behind has.more a.1, refl)
         so fault.DiskFault a = (a.0, some_behind has.more a.1, refl)
 
@@ -375,16 +424,19 @@ module _ (clients : Meaning) (contact latency now count : ℕ) (s : StoreValue) 
 
     -- all that the session sends
     all_sent : (more : Batches) → first ≡ spelling (record_kind.Versions (0 ∷ []))
-        → first ++ spelled (output_of s1.state.facts session.number more) ≡ spelled (output_of s.state.facts s.state.facts.begun (begun.more ++ more))
+        → first ++ spelled (output_of s1.state.facts session.number more) ≡ spelled
+        (output_of s.state.facts s.state.facts.begun (begun.more ++ more))
     all_sent more versions =
         let n : ℕ = s.state.facts.begun in
         let later : List Record = output_of begins n more in
         let rest : output_of s1.state.facts session.number more ≡ later =
         (λ i. output_of (facts_there i) (begun.answer.2 i) more) in
         let beginning : output_in s.state.facts n (first_batch its) ≡ first_records its =
-        append-nil (cond (nat_eq n n) (first_records its) []) ∙ ap (λ b. cond b (first_records its) []) (eq-eqb n n refl) in
+        append-nil (cond (nat_eq n n) (first_records its) []) ∙ ap (λ b. cond b (first_records its) [])
+        (eq-eqb n n refl) in
         let whole : output_of s.state.facts n (begun.more ++ more) ≡ first_records its ++ later =
-        ap (λ (bs : Batches). output_of s.state.facts n (bs ++ more)) begun.answer.1 ∙ ap (λ (rs : List Record). rs ++ later) beginning in
+        ap (λ (bs : Batches). output_of s.state.facts n (bs ++ more)) begun.answer.1 ∙ ap
+        (λ (rs : List Record). rs ++ later) beginning in
         (λ i. versions i ++ spelled (rest i)) ∙ ap spelled (sym whole)
 
     pub box_written : (made : ℕ) (to' : List ℕ) → first ≡ spelling (record_kind.Versions (0 ∷ []))

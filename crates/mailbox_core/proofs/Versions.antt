@@ -23,7 +23,8 @@ zero_contained (v ∷ versions) is =
     ]
 
 -- a list is foreign where it lacks that version
-pub foreign_is : (versions : List ℕ) (b : Bool) → (IsTrue b ↔ Contains versions 0) → not b ≡ cond (has_zero versions) false true
+pub foreign_is : (versions : List ℕ) (b : Bool) → (IsTrue b ↔ Contains versions 0) → not b ≡ cond (has_zero versions)
+    false true
 foreign_is versions true has = ap (λ z. cond z false true) (sym (contains_zero versions (has.0 refl)))
 foreign_is versions false has = by (has_zero versions) refl
   where

@@ -16,7 +16,8 @@ use Rattle.mailbox_core.specs.Files.{box_ending, box_records}
 use Rattle.mailbox_core.specs.Rooms.{ComesTo}
 use Rattle.mailbox_core.specs.Taking.{AllTaken, BeginsThen, NoRoomFor, SomeTaken, TakesTo, first_batch}
 
--- Behind a journal of these facts the session of a file begins, and its records are taken up to a place that has P. A session that
+-- Behind a journal of these facts the session of a file begins, and its records are taken up to a place that has P. A
+-- session that
 -- has not begun has taken nothing, in every legal journal.
 abbrev pub ReadsTo : Meaning → ℕ → (Facts → ℕ → List Record → List (List Entry) → Type 0) → Facts → List Record
     → List (List Entry) → Type 0
@@ -26,7 +27,8 @@ ReadsTo clients contact P f records more =
 
 -- nothing is done, or the session begins and some records are taken, the last of them with some of its settling
 abbrev pub ReadsSome : Meaning → ℕ → Facts → List Record → List (List Entry) → Type 0
-ReadsSome clients contact f records more = (more ≡ []) ⊎ ReadsTo clients contact (SomeTaken clients f.begun) f records more
+ReadsSome clients contact f records more =
+    (more ≡ []) ⊎ ReadsTo clients contact (SomeTaken clients f.begun) f records more
 
 -- there is no room for the session, or it begins, and there is none for some record behind those that are taken
 abbrev pub ReadsUntilFull : Meaning → ℕ → Facts → StoreValue → List Record → List (List Entry) → Type 0
@@ -34,7 +36,8 @@ ReadsUntilFull clients contact f s records more =
     ((more ≡ []) × (s.limit < needed s (first_batch (box_session f.begun contact))))
     ⊎ ReadsTo clients contact (NoRoomFor f.begun s) f records more
 
--- By the answer: the batches behind a journal of facts `f`, and the store then. It is not closed but after DiskFault; then the
+-- By the answer: the batches behind a journal of facts `f`, and the store then. It is not closed but after DiskFault;
+-- then the
 -- last batch may stand in the files or not.
 abbrev pub ReadsSo : Meaning → ℕ → List ℕ → Facts → StoreValue → List (List Entry) → Result BoxEnd StoreFault → Type 0
 ReadsSo clients contact bytes f s more (Ok end) =
@@ -49,7 +52,8 @@ ReadsSo clients contact bytes f s more (Err fault.DiskFault) =
     (s.closed ≡ true) × ReadsSome clients contact f (box_records bytes) more
 
 -- a file of these bytes was read into a store that is not closed
-pub record HasReadBox (clients : Meaning) (contact : ℕ) (bytes : List ℕ) (s s' : StoreValue) (result : Result BoxEnd StoreFault)
+pub record HasReadBox (clients : Meaning) (contact : ℕ) (bytes : List ℕ) (s s' : StoreValue)
+    (result : Result BoxEnd StoreFault)
     (o o' : Outside) : Type 0 where
   pub more : List (List Entry)
   pub comes : ComesTo clients s s' o o' more

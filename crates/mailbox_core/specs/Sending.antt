@@ -39,7 +39,8 @@ out_batches session now (what ∷ outs) = out_batch session now what ∷ out_bat
 abbrev pub AreDue : Meaning → Facts → ℕ → ℕ → List Out → Type 0
 AreDue clients f session now [] = Unit {0}
 AreDue clients f session now (what ∷ outs) =
-    IsDue clients f (session_at f.sessions session) now what × AreDue clients (after f (entry.Out session now what)) session now outs
+    IsDue clients f (session_at f.sessions session) now what × AreDue clients (after f (entry.Out session now what))
+    session now outs
 
 -- nothing is due on a session, which there is
 pub record IsQuiet (clients : Meaning) (f : Facts) (session now : ℕ) : Type 0 where
@@ -55,13 +56,15 @@ pub record SendsSome (clients : Meaning) (f : Facts) (session now most : ℕ) (m
   pub few : length outs ≤ most
 
 -- so many of them were made as was asked for, or nothing is due by the facts behind them
-pub record SendsAll (clients : Meaning) (f later : Facts) (session now most made : ℕ) (more : List (List Entry)) : Type 0 where
+pub record SendsAll (clients : Meaning) (f later : Facts) (session now most made : ℕ) (more : List (List Entry))
+    : Type 0 where
   pub sends : SendsSome clients f session now most more
   pub counted : made ≡ length sends.outs
   pub ends : (made ≡ most) ⊎ IsQuiet clients later session now
 
 -- fewer were made, and for the next one, which is due, there is no room in this store
-pub record SendsUntilFull (clients : Meaning) (f : Facts) (s : StoreValue) (session now most : ℕ) (more : List (List Entry)) : Type 0 where
+pub record SendsUntilFull (clients : Meaning) (f : Facts) (s : StoreValue) (session now most : ℕ)
+    (more : List (List Entry)) : Type 0 where
   pub sends : SendsSome clients f session now most more
   pub fewer : length sends.outs < most
   pub next : Out
@@ -73,25 +76,32 @@ pub record SendsUntilFull (clients : Meaning) (f : Facts) (s : StoreValue) (sess
 -- nothing is done, or the session begins and some outputs follow
 abbrev pub WritesSome : Meaning → ℕ → ℕ → ℕ → ℕ → Facts → List (List Entry) → Type 0
 WritesSome clients contact latency now count f more =
-    (more ≡ []) ⊎ BeginsThen f (batch_session f.begun contact latency) more (λ g rest. SendsSome clients g f.begun now count rest)
+    (more ≡ []) ⊎ BeginsThen f (batch_session f.begun contact latency) more
+    (λ g rest. SendsSome clients g f.begun now count rest)
 
 -- there is no room for the session, or it begins, and there is none for the output behind those that were made
 abbrev pub WritesUntilFull : Meaning → ℕ → ℕ → ℕ → ℕ → Facts → StoreValue → List (List Entry) → Type 0
 WritesUntilFull clients contact latency now count f s more =
     ((more ≡ []) × (s.limit < needed s (first_batch (batch_session f.begun contact latency))))
-    ⊎ BeginsThen f (batch_session f.begun contact latency) more (λ g rest. SendsUntilFull clients g s f.begun now count rest)
+    ⊎ BeginsThen f (batch_session f.begun contact latency) more
+    (λ g rest. SendsUntilFull clients g s f.begun now count rest)
 
--- By the answer: the batches behind a journal of facts `f`, the store then, and the bytes. After a fault these are as before; else
--- all that the session sends is appended. The store is not closed but after DiskFault; then the last batch may stand in the files
+-- By the answer: the batches behind a journal of facts `f`, the store then, and the bytes. After a fault these are as
+-- before; else
+-- all that the session sends is appended. The store is not closed but after DiskFault; then the last batch may stand in
+-- the files
 -- or not.
-abbrev pub WritesSo : Meaning → ℕ → ℕ → ℕ → ℕ → Facts → StoreValue → List (List Entry) → List ℕ → List ℕ → Result ℕ StoreFault → Type 0
+abbrev pub WritesSo : Meaning → ℕ → ℕ → ℕ → ℕ → Facts → StoreValue → List (List Entry) → List ℕ → List ℕ
+    → Result ℕ StoreFault → Type 0
 WritesSo clients contact latency now count f s more to to' (Ok made) =
     (s.closed ≡ false) × IsSettled clients s.state.facts
-    × BeginsThen f (batch_session f.begun contact latency) more (λ g rest. SendsAll clients g s.state.facts f.begun now count made rest)
+    × BeginsThen f (batch_session f.begun contact latency) more
+    (λ g rest. SendsAll clients g s.state.facts f.begun now count made rest)
     × (to' ≡ to ++ spelled (output_of f f.begun more))
 WritesSo clients contact latency now count f s more to to' (Err fault.Closed) = ⊥
 WritesSo clients contact latency now count f s more to to' (Err fault.Full) =
-    (s.closed ≡ false) × IsSettled clients s.state.facts × WritesUntilFull clients contact latency now count f s more × (to' ≡ to)
+    (s.closed ≡ false) × IsSettled clients s.state.facts × WritesUntilFull clients contact latency now count f s more ×
+    (to' ≡ to)
 WritesSo clients contact latency now count f s more to to' (Err fault.Memory) =
     (s.closed ≡ false) × WritesSome clients contact latency now count f more × (to' ≡ to)
 WritesSo clients contact latency now count f s more to to' (Err fault.DiskFault) =

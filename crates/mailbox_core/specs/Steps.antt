@@ -1,4 +1,5 @@
--- What the steps of reading and of writing a file do; they are put together into what `Reading` and `Sending` say of the whole.
+-- What the steps of reading and of writing a file do; they are put together into what `Reading` and `Sending` say of
+-- the whole.
 use Rattle.std.specs.Prelude.{◌≡◌, ◌⊎◌, ℕ, ◌+◌, ◌<◌, true, false, Bool, List, [], ◌∷◌, ◌++◌, length, Option, Some, None, Result, Ok, Err}
 use Rattle.outside.specs.Outside.{Outside}
 use Rattle.record_grammar.specs.Spelling.{spelled}
@@ -37,7 +38,8 @@ pub record IsOpenFor (clients : Meaning) (session : Session) (s : StoreValue) (o
 -- ---- one batch
 
 -- a batch was committed, as far as the answer says
-pub record HasCommitted (clients : Meaning) (s s' : StoreValue) (batch : List Entry) (result : Result (Unit {0}) StoreFault)
+pub record HasCommitted (clients : Meaning) (s s' : StoreValue) (batch : List Entry)
+    (result : Result (Unit {0}) StoreFault)
     (o o' : Outside) : Type 0 where
   pub comes : ComesTo clients s s' o o' (committed_by batch result)
   pub answer : Commits s s' batch result
@@ -67,7 +69,8 @@ pub record HasBegun (clients : Meaning) (contact latency : ℕ) (s s' : StoreVal
 abbrev pub next_on : StoreValue → ℕ → ℕ
 next_on s session = takes_of s.state.facts.takes session
 
-abbrev pub TakesSo : Meaning → ℕ → Record → StoreValue → StoreValue → List (List Entry) → Result (Unit {0}) StoreFault → Type 0
+abbrev pub TakesSo : Meaning → ℕ → Record → StoreValue → StoreValue → List (List Entry) → Result (Unit {0}) StoreFault
+    → Type 0
 TakesSo clients session r s s' more (Ok _) =
     (s'.closed ≡ false) × IsSettled clients s'.state.facts
     × TakesRecord clients s.state.facts session (next_on s session) r more
@@ -82,7 +85,8 @@ TakesSo clients session r s s' more (Err fault.DiskFault) =
     (s'.closed ≡ true) × ((more ≡ []) ⊎ TakesRecord clients s.state.facts session (next_on s session) r more)
 
 -- a record was taken on a session, and the journal settled behind it, as far as the answer says
-pub record HasTaken (clients : Meaning) (session : ℕ) (r : Record) (s s' : StoreValue) (result : Result (Unit {0}) StoreFault)
+pub record HasTaken (clients : Meaning) (session : ℕ) (r : Record) (s s' : StoreValue)
+    (result : Result (Unit {0}) StoreFault)
     (o o' : Outside) : Type 0 where
   pub more : List (List Entry)
   pub comes : ComesTo clients s s' o o' more
@@ -117,11 +121,14 @@ StopsSo clients session s s' rs more fault.DiskFault =
 abbrev pub IsAt : Facts → ℕ → List Record → Facts → ℕ → List Record → List (List Entry) → Type 0
 IsAt g l qs f k rs more = (f ≡ g) × (k ≡ l) × (rs ≡ qs) × (more ≡ [])
 
--- Where there is no answer yet, an item was read, and taken where it is a record; else how the reading ends, with all records taken.
-abbrev pub NextSo : Meaning → ℕ → StoreValue → StoreValue → Left → Left → List (List Entry) → Result (Option BoxEnding) StoreFault → Type 0
+-- Where there is no answer yet, an item was read, and taken where it is a record; else how the reading ends, with all
+-- records taken.
+abbrev pub NextSo : Meaning → ℕ → StoreValue → StoreValue → Left → Left → List (List Entry) → Result (Option BoxEnding)
+    StoreFault → Type 0
 NextSo clients session s s' left left' more (Ok None) =
     (s'.closed ≡ false)
-    × TakesTo clients session (IsAt s'.state.facts (next_on s' session) left'.records) s.state.facts (next_on s session) left.records more
+    × TakesTo clients session (IsAt s'.state.facts (next_on s' session) left'.records) s.state.facts (next_on s session)
+    left.records more
     × (left.ending ≡ left'.ending)
 NextSo clients session s s' left left' more (Ok (Some e)) =
     (s'.closed ≡ false)
@@ -144,7 +151,8 @@ RestSo clients session s s' left more (Ok end) =
 RestSo clients session s s' left more (Err e) = StopsSo clients session s s' left.records more e
 
 -- what was left of a file was read
-pub record HasReadAll (clients : Meaning) (session : ℕ) (s s' : StoreValue) (left : Left) (result : Result BoxEnd StoreFault)
+pub record HasReadAll (clients : Meaning) (session : ℕ) (s s' : StoreValue) (left : Left)
+    (result : Result BoxEnd StoreFault)
     (o o' : Outside) : Type 0 where
   pub more : List (List Entry)
   pub comes : ComesTo clients s s' o o' more
@@ -164,39 +172,46 @@ pub record LacksRoomForOut (clients : Meaning) (session now : ℕ) (s : StoreVal
   pub due : IsDue clients s.state.facts (session_at s.state.facts.sessions session) now next
   pub over : s.limit < needed s (out_batch session now next)
 
-abbrev pub PutsSo : Meaning → ℕ → ℕ → StoreValue → StoreValue → List (List Entry) → List ℕ → List ℕ → Result Bool StoreFault → Type 0
+abbrev pub PutsSo : Meaning → ℕ → ℕ → StoreValue → StoreValue → List (List Entry) → List ℕ → List ℕ
+    → Result Bool StoreFault → Type 0
 PutsSo clients session now s s' more to to' (Ok true) =
-    (s'.closed ≡ false) × PutsOut clients s.state.facts session now more × (to' ≡ to ++ spelled (output_of s.state.facts session more))
+    (s'.closed ≡ false) × PutsOut clients s.state.facts session now more ×
+    (to' ≡ to ++ spelled (output_of s.state.facts session more))
 PutsSo clients session now s s' more to to' (Ok false) =
     (s'.closed ≡ false) × IsQuiet clients s'.state.facts session now × (more ≡ []) × (to' ≡ to)
 PutsSo clients session now s s' more to to' (Err fault.Closed) = ⊥
 PutsSo clients session now s s' more to to' (Err fault.Full) =
     (s'.closed ≡ false) × IsSettled clients s'.state.facts × (more ≡ []) × LacksRoomForOut clients session now s'
 PutsSo clients session now s s' more to to' (Err fault.Memory) = (s'.closed ≡ false) × (more ≡ [])
-PutsSo clients session now s s' more to to' (Err fault.DiskFault) = (s'.closed ≡ true) × PutsOut clients s.state.facts session now more
+PutsSo clients session now s s' more to to' (Err fault.DiskFault) =
+    (s'.closed ≡ true) × PutsOut clients s.state.facts session now more
 
 -- what is due was committed, as far as the answer says, and its bytes appended
-pub record HasPut (clients : Meaning) (session now : ℕ) (s s' : StoreValue) (to to' : List ℕ) (result : Result Bool StoreFault)
+pub record HasPut (clients : Meaning) (session now : ℕ) (s s' : StoreValue) (to to' : List ℕ)
+    (result : Result Bool StoreFault)
     (o o' : Outside) : Type 0 where
   pub more : List (List Entry)
   pub comes : ComesTo clients s s' o o' more
   pub answer : PutsSo clients session now s s' more to to' result
 
-abbrev pub PutsAllSo : Meaning → ℕ → ℕ → ℕ → StoreValue → StoreValue → List (List Entry) → List ℕ → List ℕ → Result ℕ StoreFault → Type 0
+abbrev pub PutsAllSo : Meaning → ℕ → ℕ → ℕ → StoreValue → StoreValue → List (List Entry) → List ℕ → List ℕ
+    → Result ℕ StoreFault → Type 0
 PutsAllSo clients session now most s s' more to to' (Ok made) =
     (s'.closed ≡ false) × IsSettled clients s'.state.facts
     × SendsAll clients s.state.facts s'.state.facts session now most made more
     × (to' ≡ to ++ spelled (output_of s.state.facts session more))
 PutsAllSo clients session now most s s' more to to' (Err fault.Closed) = ⊥
 PutsAllSo clients session now most s s' more to to' (Err fault.Full) =
-    (s'.closed ≡ false) × IsSettled clients s'.state.facts × SendsUntilFull clients s.state.facts s' session now most more
+    (s'.closed ≡ false) × IsSettled clients s'.state.facts
+    × SendsUntilFull clients s.state.facts s' session now most more
 PutsAllSo clients session now most s s' more to to' (Err fault.Memory) =
     (s'.closed ≡ false) × SendsSome clients s.state.facts session now most more
 PutsAllSo clients session now most s s' more to to' (Err fault.DiskFault) =
     (s'.closed ≡ true) × SendsSome clients s.state.facts session now most more
 
 -- all that is due was committed, at most so many outputs, as far as the answer says
-pub record HasPutAll (clients : Meaning) (session now most : ℕ) (s s' : StoreValue) (to to' : List ℕ) (result : Result ℕ StoreFault)
+pub record HasPutAll (clients : Meaning) (session now most : ℕ) (s s' : StoreValue) (to to' : List ℕ)
+    (result : Result ℕ StoreFault)
     (o o' : Outside) : Type 0 where
   pub more : List (List Entry)
   pub comes : ComesTo clients s s' o o' more

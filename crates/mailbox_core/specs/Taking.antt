@@ -19,7 +19,8 @@ abbrev pub first_batch : Session → List Entry
 first_batch s = entry.Session s ∷ []
 
 -- the session begins, and the batches behind it have this, behind a journal of those facts
-pub record BeginsThen (f : Facts) (s : Session) (more : List (List Entry)) (Later : Facts → List (List Entry) → Type 0) : Type 0 where
+pub record BeginsThen (f : Facts) (s : Session) (more : List (List Entry)) (Later : Facts → List (List Entry) → Type 0)
+    : Type 0 where
   pub rest : List (List Entry)
   pub is : more ≡ first_batch s ∷ rest
   pub later : Later (after f (entry.Session s)) rest
@@ -31,7 +32,8 @@ abbrev pub next_take : Facts → ℕ → ℕ → Record → List Entry
 next_take f session k r = entry.Take session k ∷ taken f session r
 
 -- the record is taken, and settling follows
-pub record TakesRecord (clients : Meaning) (f : Facts) (session k : ℕ) (r : Record) (more : List (List Entry)) : Type 0 where
+pub record TakesRecord (clients : Meaning) (f : Facts) (session k : ℕ) (r : Record) (more : List (List Entry))
+    : Type 0 where
   pub settling : List (List Entry)
   pub is : more ≡ next_take f session k r ∷ settling
   pub settles : AllSettling clients (after_all f (next_take f session k r)) settling
@@ -48,7 +50,8 @@ pub record TakesThen (clients : Meaning) (f : Facts) (session k : ℕ) (r : Reco
 
 -- ---- many records
 
--- Behind a journal of these facts records are taken, the first of them as the session's k-th, up to a place that has P: of the
+-- Behind a journal of these facts records are taken, the first of them as the session's k-th, up to a place that has P:
+-- of the
 -- facts there, the number of the next record, the records that are left, and the batches that are left.
 abbrev pub TakesTo : Meaning → ℕ → (Facts → ℕ → List Record → List (List Entry) → Type 0) → Facts → ℕ → List Record
     → List (List Entry) → Type 0
