@@ -51,7 +51,7 @@ behind_head p =
     let head = to_be_bytes w32 (length p) in
     ap (drop 4) (append_assoc head p (0 ∷ [])) ∙ ap (λ n. drop n (head ++ (p ++ 0 ∷ []))) (sym (be_long (length p))) ∙ drop-append_seam head (p ++ 0 ∷ [])
 
-payload_framed : (p : List ℕ) → payload_of (framed_of p) ≡ p
+pub payload_framed : (p : List ℕ) → payload_of (framed_of p) ≡ p
 payload_framed p =
     let n : length (framed_of p) - 5 ≡ length p = omega (arith, framed_length p) in
     ap (λ k. take k (drop 4 (framed_of p))) n ∙ ap (take (length p)) (behind_head p) ∙ take-append_seam p (0 ∷ [])
