@@ -1,5 +1,5 @@
 -- Items put behind others, and the entries that they stand for.
-use Rattle.std.proofs.Common.{◌≡◌, ℕ, zero, suc, ◌+◌, ◌<◌, Bool, true, false, cond, List, [], ◌∷◌, ◌++◌, length, map, take, refl, sym, ◌∙◌, ap, subst, arith, append_assoc, append-nil, Option, Some}
+use Rattle.std.proofs.Common.{◌≡◌, ℕ, zero, suc, ◌+◌, ◌<◌, Bool, true, false, cond, List, [], ◌∷◌, ◌++◌, length, map, take, refl, sym, ◌∙◌, ap, subst, append_assoc, append-nil, Some}
 use Rattle.std.specs.Prelude.{not, slice_get}
 use Rattle.std.specs.List.{AllByRecursion}
 use Rattle.std.specs.Option.{option_map}
@@ -12,7 +12,6 @@ use Rattle.sync_rules.specs.declared.entries.Level.TheVariants as level
 use Rattle.sync_rules.specs.Facts.{Facts, Held, Id, Known, LevelMap, Rows, is_invisible, is_no_row, level_at, row_at, wanted_from}
 use Rattle.brief_account.specs.Brief.{group_entries, level_entry, levels_of, row_entries, row_entry, want_entries}
 use Rattle.entry_codec.proofs.Growing.{all_push}
-use Rattle.retry_table.specs.Table.{tried_of}
 use Rattle.journal_state.specs.declared.account.Told.{Told}
 use Rattle.journal_state.specs.declared.account.Told.TheVariants as told
 use Rattle.journal_state.specs.Whole as state

@@ -1,5 +1,5 @@
 -- The payloads that items fill are those of the batches that their entries fill.
-use Rattle.std.proofs.Common.{◌≡◌, ℕ, zero, suc, ◌+◌, ◌-◌, ◌≤◌, Bool, true, false, cond, List, [], ◌∷◌, ◌++◌, length, map, length-append, refl, sym, ◌∙◌, ap, subst, arith, append_assoc, append-nil, lt-ltb, le-ltb, ltb-true}
+use Rattle.std.proofs.Common.{◌≡◌, ℕ, zero, suc, ◌+◌, ◌-◌, ◌≤◌, Bool, true, false, cond, List, [], ◌∷◌, ◌++◌, length, map, length-append, refl, sym, ◌∙◌, ap, subst, arith, append-nil, lt-ltb, le-ltb, ltb-true}
 use Rattle.std.specs.Prelude.{not, ◌&&◌, nat_lt}
 use Rattle.std.specs.List.{AllByRecursion}
 use Rattle.std.proofs.lemmas.List.{length_push}
@@ -146,7 +146,7 @@ module _ (f : Facts) where
           let open_one : nat_lt 0 most ≡ true = lt-ltb 0 most (omega (arith, some)) in
           let At : Bool → Bool → Type 0 =
           λ b t. pages f most (cond b 0 (most - 1)) (bytes_of f i) items
-              ≡ written (names_of f) (cond b ((e ∷ []) ∷ filled most alone [] es) (cond t (filled most alone (e ∷ []) es) ([] ∷ filled most alone (e ∷ []) es))) in
+          ≡ written (names_of f) (cond b ((e ∷ []) ∷ filled most alone [] es) (cond t (filled most alone (e ∷ []) es) ([] ∷ filled most alone (e ∷ []) es))) in
           let by_kind : At (is_alone i) true =
           elim (is_alone i) as (λ b. At b true) [
             | true ↦ rest.behind i ∙ ap (λ (p : List ℕ). p ∷ filling [] items) (sym (one_spelled i))
@@ -169,7 +169,7 @@ module _ (f : Facts) where
           let page = spelled front in
           let At : Bool → Bool → Bool → Type 0 =
           λ b j t. stepped page left i items b j
-              ≡ written (names_of f) (cond b (closed front ++ (e ∷ []) ∷ filled most alone [] es) (cond t (filled most alone (front ++ e ∷ []) es) (front ∷ filled most alone (e ∷ []) es))) in
+          ≡ written (names_of f) (cond b (closed front ++ (e ∷ []) ∷ filled most alone [] es) (cond t (filled most alone (front ++ e ∷ []) es) (front ∷ filled most alone (e ∷ []) es))) in
           -- it joins, or begins another batch
           let plain : At false (nat_lt 0 left) (nat_lt 0 left) =
           elim (nat_lt 0 left) as (λ j. nat_lt 0 left ≡ j → At false j j) [

@@ -1,14 +1,14 @@
 -- The files stand for the journal, as long as the other file has no open header.
-use Rattle.std.proofs.Common.{◌≡◌, ℕ, ◌+◌, ◌-◌, ◌<◌, ◌≤◌, true, false, List, Some, Option, None, Result, Ok, Err, inl, inr, refl, sym, ap, subst, ◌∙◌, arith}
+use Rattle.std.proofs.Common.{◌≡◌, ℕ, ◌-◌, ◌<◌, true, false, List, Some, Result, Err, inl, inr, refl, sym, ap, subst, ◌∙◌, arith}
 use Rattle.outside.specs.Disk.{Becomes}
-use Rattle.outside.specs.Files.{Two, File, IsFileImage, NothingPending, file_of, read_files, settled}
+use Rattle.outside.specs.Files.{Two, File, IsFileImage, NothingPending, file_of, read_files}
 use Rattle.outside.specs.Frames.{HasFrames, format_in, generation_in, is_open, journal_file}
-use Rattle.outside.specs.Links.{Links, sent_of}
-use Rattle.outside.specs.Outside.{DiskRun, IsNow, Moment, MomentsAre, Outside}
+use Rattle.outside.specs.Links.{sent_of}
+use Rattle.outside.specs.Outside.{DiskRun, Moment, MomentsAre, Outside}
 use Rattle.outside.specs.Steps.{FileMoment, Passed, other_of}
-use Rattle.outside.proofs.CallSteps.{becomes_then, becomes_told, moments_map, moments_none, moments_then, now_images, told_back}
+use Rattle.outside.proofs.CallSteps.{becomes_then, becomes_told, moments_map, moments_none, moments_then, now_images}
 use Rattle.frame_journal.specs.Create.{BeforeOrShut, Prepares}
-use Rattle.frame_journal.specs.Journal.{JournalValue, fresh}
+use Rattle.frame_journal.specs.Journal.{JournalValue}
 use Rattle.sync_rules.specs.declared.entries.Entry.{Entry}
 use Rattle.sync_rules.specs.Clients.{Meaning}
 use Rattle.entry_codec.specs.declared.naming.Format.TheVariants as kind

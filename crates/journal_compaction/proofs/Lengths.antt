@@ -1,5 +1,5 @@
 -- How long the spellings are that a brief account has.
-use Rattle.std.proofs.Common.{◌≡◌, ℕ, ◌+◌, ◌*◌, ◌-◌, ◌≤◌, Bool, true, false, cond, List, [], ◌∷◌, ◌++◌, length, length-append, refl, arith, Option, Some, None}
+use Rattle.std.proofs.Common.{◌≡◌, ℕ, ◌-◌, ◌≤◌, Bool, true, false, cond, List, [], ◌∷◌, ◌++◌, length, length-append, refl, arith, Option, Some, None}
 use Rattle.std.specs.Prelude.{not, ◌&&◌, nat_lt, slice_get}
 use Rattle.std.specs.Int.{w32, w64, to_be_bytes}
 use Rattle.std.proofs.lemmas.Bool.{ltb-true}
@@ -13,12 +13,12 @@ use Rattle.sync_rules.specs.declared.states.Origin.TheVariants as origin
 use Rattle.sync_rules.specs.Facts.{Facts, Held, Id, Known, level_at, row_at, wanted_from}
 use Rattle.entry_codec.specs.declared.naming.Format.TheVariants as kind
 use Rattle.entry_codec.specs.Naming.{held_bytes}
-use Rattle.entry_codec.specs.Spelling.{IsDef, IsEntry, IsId, IsOrigin, counted, flags_byte, level_byte, message_bytes, origin_bytes, spelling_in}
+use Rattle.entry_codec.specs.Spelling.{IsDef, IsEntry, IsId, counted, flags_byte, level_byte, message_bytes, origin_bytes, spelling_in}
 use Rattle.retry_table.specs.Table.{tried_of}
 use Rattle.journal_compaction.specs.declared.items.Item.{Item}
 use Rattle.journal_compaction.specs.declared.items.Item.TheVariants as item
 use Rattle.journal_compaction.specs.Items.{bytes_of, entry_of, group_entry, id_at, is_alone, kept_entry, level_entry, want_entry}
-use Rattle.journal_compaction.specs.Paging.{joins, left_after, page_for}
+use Rattle.journal_compaction.specs.Paging.{left_after, page_for}
 use Rattle.journal_compaction.specs.Writing.{HasSpace}
 use Rattle.entry_codec.specs.Payloads.{names_of}
 

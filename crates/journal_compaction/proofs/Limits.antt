@@ -1,17 +1,12 @@
 -- Whether the brief account and its room are within a limit.
-use Rattle.std.proofs.Common.{◌≡◌, ℕ, ◌+◌, ◌-◌, ◌^◌, ◌<◌, ◌≤◌, min, Result, Ok, Err, sym, subst, arith}
+use Rattle.std.proofs.Common.{◌≡◌, ℕ, ◌+◌, ◌-◌, ◌^◌, ◌<◌, ◌≤◌, min, Result, Err, sym, subst, arith}
 use Rattle.outside.specs.declared.limits.TheConstants.{MAX_JOURNAL}
 use Rattle.frame_journal.specs.Journal.{JournalValue}
 use Rattle.sync_rules.specs.Clients.{Meaning}
 use Rattle.sync_rules.specs.Facts.{Facts}
-use Rattle.brief_account.specs.Account.{brief_of}
-use Rattle.entry_codec.specs.declared.naming.Format.TheVariants as kind
-use Rattle.entry_codec.specs.Payloads.{journal_end}
-use Rattle.entry_codec.specs.Standing.{room_of}
 use Rattle.journal_migration.specs.declared.fault.MigrationFault.{MigrationFault}
 use Rattle.journal_migration.specs.declared.fault.MigrationFault.TheVariants as migration
 use Rattle.journal_compaction.specs.declared.fault.CompactionFault.{CompactionFault}
-use Rattle.journal_compaction.specs.declared.fault.CompactionFault.TheVariants as fault
 use Rattle.journal_compaction.specs.declared.plan.Plan.{Plan}
 use Rattle.journal_compaction.specs.Compacting.{Weighs, compacted_len}
 use Rattle.journal_compaction.specs.Faults.{fault_of}

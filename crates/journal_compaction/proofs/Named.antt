@@ -1,10 +1,9 @@
 -- What items name is held, and what they say may be written.
-use Rattle.std.proofs.Common.{◌≡◌, ℕ, ◌+◌, ◌<◌, ◌≤◌, Bool, true, false, cond, List, [], ◌∷◌, length, take, refl, sym, ◌∙◌, ap, subst, arith, zero, suc, Some, nat_eq, ne_eqb}
+use Rattle.std.proofs.Common.{◌≡◌, ℕ, ◌<◌, ◌≤◌, Bool, true, false, List, [], ◌∷◌, length, take, refl, sym, ap, subst, arith, zero, suc, nat_eq, ne_eqb}
 use Rattle.std.specs.Prelude.{not, ◌&&◌, ◌||◌, slice_get}
 use Rattle.std.proofs.lemmas.List.{take_all}
 use Rattle.sync_rules.specs.Consistency.{ids_of_held}
-use Rattle.sync_rules.specs.Facts.{Facts, Held, Id, Row, is_no_row, row_at, wanted_from}
-use Rattle.sync_rules.specs.Legal.{is_empty_row}
+use Rattle.sync_rules.specs.Facts.{Facts, Held, Id, Row, is_no_row, wanted_from}
 use Rattle.sync_rules.specs.Lists.{is_among, same_id}
 use Rattle.sync_rules.proofs.Elements.{same_id_itself}
 use Rattle.entry_codec.specs.Payloads.{names_of}
@@ -12,7 +11,7 @@ use Rattle.entry_codec.specs.Spelling.{EntryNames, IsStated}
 use Rattle.retry_table.specs.Table.{tried_of}
 use Rattle.journal_compaction.specs.declared.items.Item.{Item}
 use Rattle.journal_compaction.specs.declared.items.Item.TheVariants as item
-use Rattle.journal_compaction.specs.Items.{IsItem, entry_of, group_entry, id_at, id_of, kept_entry, level_entry, want_entry}
+use Rattle.journal_compaction.specs.Items.{IsItem, entry_of, group_entry, id_of, kept_entry, level_entry, want_entry}
 use Rattle.journal_compaction.proofs.Sections.{there}
 
 among : (hs : List Held) (n : ℕ) → n < length hs → is_among (ids_of_held hs) (id_of (slice_get hs n)) ≡ true

@@ -1,5 +1,5 @@
 -- The brief account is published: the header's gate of the other file is opened, and that file is the journal's.
-use Rattle.std.proofs.Common.{◌≡◌, ◌≢◌, ℕ, ◌+◌, ◌-◌, ◌^◌, ◌<◌, ◌≤◌, true, List, [], ◌∷◌, ◌++◌, Some, Option, Result, Ok, Err, inl, inr, refl, sym, ap, subst, ◌∙◌, arith}
+use Rattle.std.proofs.Common.{◌≡◌, ◌≢◌, ℕ, ◌+◌, ◌-◌, ◌^◌, ◌<◌, ◌≤◌, true, List, [], ◌∷◌, Some, Option, Result, Ok, Err, inl, inr, refl, sym, ap, subst, ◌∙◌, arith}
 use Rattle.std.specs.List.{AllByRecursion}
 use Rattle.std.specs.Option.{ForSome}
 use Rattle.outside.specs.declared.limits.TheConstants.{MAX_JOURNAL}
@@ -10,13 +10,12 @@ use Rattle.outside.specs.Links.{sent_of}
 use Rattle.outside.specs.Outside.{DiskRun, MomentsAre, Outside}
 use Rattle.outside.specs.Steps.{FileMoment, Passed, other_of}
 use Rattle.outside.proofs.CallSteps.{becomes_told, moments_map, moments_then, told_back}
-use Rattle.frame_journal.specs.Create.{BeforeOrShut, Prepares, Publishes, ShutOrOpened, opened}
+use Rattle.frame_journal.specs.Create.{Prepares, Publishes, ShutOrOpened, opened}
 use Rattle.frame_journal.specs.Journal.{JournalValue, fresh}
 use Rattle.sync_rules.specs.declared.entries.Entry.{Entry}
 use Rattle.sync_rules.specs.Clients.{Meaning}
 use Rattle.sync_rules.specs.Facts.{Facts, Held, facts, nothing}
 use Rattle.sync_rules.specs.Left.{left_among, left_of}
-use Rattle.sync_rules.specs.Legal.{Legal}
 use Rattle.sync_rules.specs.Steps.{IsSettled}
 use Rattle.brief_account.specs.Account.{brief_of}
 use Rattle.brief_account.specs.Brief.{brief, without_sessions}
@@ -39,7 +38,7 @@ use Rattle.journal_compaction.specs.declared.fault.CompactionFault.{CompactionFa
 use Rattle.journal_compaction.specs.declared.fault.CompactionFault.TheVariants as fault
 use Rattle.journal_compaction.specs.declared.plan.Plan.{Plan}
 use Rattle.journal_compaction.specs.Cited.{CitedLaws}
-use Rattle.journal_compaction.specs.Compacting.{Compacts, CompactsSo, IsCompacted, StandsForEither}
+use Rattle.journal_compaction.specs.Compacting.{Compacts, IsCompacted, StandsForEither}
 use Rattle.journal_compaction.specs.Faults.{fault_of}
 use Rattle.journal_compaction.specs.Planning.{AreWritten, IsPlan, plan_pages}
 use Rattle.journal_compaction.specs.Writing.{Adding, Adds, LeavesIdle, StaysShut, Works}
@@ -261,9 +260,11 @@ module _ (laws : CitedLaws) (clients : Meaning) (f : Facts) (p : Plan) (m n0 n :
   now_written =
       let mid = becomes_told (Prepares (1 - m.file) 2 (m.generation + 1)) o0.files o1.files two told begun.prepared in
       let new = becomes_told (Adds n0.file n0.end (plan_pages f p)) o1.files o2.files mid.0 mid.1 adding.adds in
-      let prepares : Prepares n0.file 2 (m.generation + 1) two mid.0 = subst (λ (k : ℕ). Prepares k 2 (m.generation + 1) two mid.0) (sym file_begun) mid.2 in
-      (new.0, new.1,
-      written_now clients f p m n0 n two mid.0 new.0 plan prepares (ap (λ (v : JournalValue). v.end) begun.value) adding.grows.file_is new.2 (works new.0 new.1))
+      let prepares : Prepares n0.file 2 (m.generation + 1) two mid.0 = subst (λ (k : ℕ). Prepares k 2 (m.generation + 1) two mid.0) (sym file_begun) mid.2 in (
+        new.0,
+        new.1,
+        written_now clients f p m n0 n two mid.0 new.0 plan prepares (ap (λ (v : JournalValue). v.end) begun.value) adding.grows.file_is new.2 (works new.0 new.1),
+      )
 
   brief_limits : AllByRecursion (AllByRecursion IsEntry) (brief_of clients f)
   brief_limits = brief_within clients f p plan within

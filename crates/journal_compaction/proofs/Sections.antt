@@ -1,12 +1,12 @@
 -- What is written of a plan is the brief account.
-use Rattle.std.proofs.Common.{◌≡◌, ℕ, zero, suc, ◌+◌, ◌<◌, ◌≤◌, Bool, true, false, cond, List, [], ◌∷◌, ◌++◌, length, map, refl, sym, ◌∙◌, ap, subst, arith, append_assoc, Some}
+use Rattle.std.proofs.Common.{◌≡◌, ℕ, zero, suc, ◌+◌, ◌<◌, Bool, true, false, cond, List, [], ◌∷◌, ◌++◌, length, map, refl, sym, ◌∙◌, ap, subst, arith, append_assoc, Some}
 use Rattle.std.specs.Prelude.{nat_lt, slice_get}
 use Rattle.std.specs.List.{AllByRecursion}
 use Rattle.outside.specs.Frames.{end_of}
 use Rattle.sync_rules.specs.declared.limits.TheConstants.{MAX_ROWS, MAX_STEPS}
 use Rattle.sync_rules.specs.declared.entries.Entry.{Entry}
 use Rattle.sync_rules.specs.Clients.{Meaning}
-use Rattle.sync_rules.specs.Facts.{Facts, Held}
+use Rattle.sync_rules.specs.Facts.{Facts}
 use Rattle.brief_account.specs.Account.{brief_of, told_of}
 use Rattle.brief_account.specs.Brief.{closed, each_alone, filled, head_entries, is_kept, never_alone, peer_entries}
 use Rattle.entry_codec.specs.declared.naming.Format.TheVariants as kind
@@ -17,8 +17,8 @@ use Rattle.entry_codec.proofs.Growing.{all_push}
 use Rattle.journal_compaction.specs.declared.items.Item.{Item}
 use Rattle.journal_compaction.specs.declared.items.Item.TheVariants as item
 use Rattle.journal_compaction.specs.declared.plan.Plan.{Plan}
-use Rattle.journal_compaction.specs.Items.{AreItems, IsItem, entry_of, is_alone, is_peer, is_told, kept_entry}
-use Rattle.journal_compaction.specs.Paging.{frames_len, items_len, pages}
+use Rattle.journal_compaction.specs.Items.{IsItem, entry_of, is_alone, is_peer, is_told, kept_entry}
+use Rattle.journal_compaction.specs.Paging.{frames_len, pages}
 use Rattle.journal_compaction.specs.Planning.{ArePlanned, AreWritten, IsPlan, plan_len, plan_pages}
 use Rattle.journal_compaction.proofs.Filling.{alone_written, filled_written, written, written-append}
 use Rattle.journal_compaction.proofs.Spelled.{end_written}

@@ -1,10 +1,10 @@
 -- What the batches of a legal journal are written as, where the messages that are held in the end have names.
-use Rattle.std.proofs.Common.{◌≡◌, ℕ, zero, suc, ◌+◌, ◌≤◌, Bool, true, false, cond, List, [], ◌∷◌, ◌++◌, length, map, length-append, refl, sym, ◌∙◌, ap, subst, arith, Option, Some, None}
+use Rattle.std.proofs.Common.{◌≡◌, ℕ, suc, true, false, cond, List, [], ◌∷◌, ◌++◌, length, refl, sym, ◌∙◌, ap, arith, Option, Some}
 use Rattle.std.specs.Prelude.{◌||◌}
 use Rattle.std.specs.Int.{w16, w32, w64, to_be_bytes}
 use Rattle.std.specs.List.{AllByRecursion, flat_map}
 use Rattle.std.specs.Option.{option_map}
-use Rattle.outside.specs.Frames.{end_of, frame_of}
+use Rattle.outside.specs.Frames.{end_of}
 use Rattle.sync_rules.specs.declared.entries.Entry.{Entry}
 use Rattle.sync_rules.specs.declared.entries.Entry.TheVariants as entry
 use Rattle.sync_rules.specs.declared.entries.Out.{Out}
@@ -18,7 +18,7 @@ use Rattle.sync_rules.proofs.Continuing.{continues_batches}
 use Rattle.entry_codec.specs.declared.naming.Format.TheVariants as kind
 use Rattle.entry_codec.specs.Laws.{AllowedNames}
 use Rattle.entry_codec.specs.Naming.{held_bytes, number_or, place_in}
-use Rattle.entry_codec.specs.Payloads.{journal_end, names_of, payload, payload_len, payloads, spellings}
+use Rattle.entry_codec.specs.Payloads.{journal_end, names_of, payload, payloads, spellings}
 use Rattle.entry_codec.specs.Spelling.{EntryNames, OutNames, flags_byte, on_session, out_bytes, spelling_in}
 use Rattle.entry_codec.proofs.LawProofs.{batch_len_same}
 use Rattle.journal_compaction.specs.Paging.{frames_len}

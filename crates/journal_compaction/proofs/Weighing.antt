@@ -1,5 +1,5 @@
 -- How long the frames are that items fill.
-use Rattle.std.proofs.Common.{◌≡◌, ◌⊎◌, ℕ, zero, suc, ◌+◌, ◌-◌, ◌≤◌, ◌<◌, Bool, true, false, cond, List, [], ◌∷◌, ◌++◌, length, drop, min, length-append, refl, sym, ◌∙◌, ap, subst, inl, inr, arith}
+use Rattle.std.proofs.Common.{◌≡◌, ◌⊎◌, ℕ, ◌+◌, ◌-◌, ◌≤◌, Bool, true, false, cond, List, [], ◌∷◌, ◌++◌, length, min, length-append, refl, ◌∙◌, ap, inl, inr, arith}
 use Rattle.std.specs.Prelude.{not, ◌&&◌, nat_lt}
 use Rattle.std.specs.Int.{w32, to_be_bytes}
 use Rattle.std.specs.List.{flat_map}
@@ -10,7 +10,7 @@ use Rattle.outside.specs.Frames.{end_of, frame_of}
 use Rattle.sync_rules.specs.Facts.{Facts}
 use Rattle.journal_compaction.specs.declared.items.Item.{Item}
 use Rattle.journal_compaction.specs.Items.{bytes_of, is_alone}
-use Rattle.journal_compaction.specs.Paging.{added_len, closed_page, frames_len, items_len, joins, left_after, left_behind, page_for, pages, written_for}
+use Rattle.journal_compaction.specs.Paging.{closed_page, frames_len, items_len, joins, left_behind, pages}
 use Rattle.journal_compaction.proofs.Filling.{bytes_some, closed_some}
 
 pub frames-append : (ps qs : List (List ℕ)) → frames_len (ps ++ qs) ≡ frames_len ps + frames_len qs
@@ -43,7 +43,7 @@ module _ (f : Facts) (most : ℕ) where
   pages_len left page (i ∷ items) begun =
       let At : Bool → Type 0 =
       λ j. frames_len (cond j [] (closed_page page) ++ pages f most (cond j (left - 1) (left_behind most i)) (cond j page [] ++ bytes_of f i) items)
-          ≡ frames_len (closed_page page) + (cond j 0 5 + length (bytes_of f i) + items_len f most (cond j (left - 1) (left_behind most i)) items) in
+      ≡ frames_len (closed_page page) + (cond j 0 5 + length (bytes_of f i) + items_len f most (cond j (left - 1) (left_behind most i)) items) in
       elim (joins left i) as (λ j. joins left i ≡ j → At j) [
         | true ↦ λ more.
             let some = begun_some (is_alone i) left page more begun in

@@ -1,23 +1,22 @@
 -- A writer of frames: what it adds, and that its file has no open header at any moment.
-use Rattle.std.proofs.Common.{◌≡◌, ◌≢◌, ℕ, ◌+◌, ◌≤◌, Bool, true, false, cond, List, [], ◌∷◌, ◌++◌, length, Option, None, Some, Result, Ok, Err, inl, inr, refl, sym, ap, subst, ◌∙◌, arith, append_assoc, append-nil}
+use Rattle.std.proofs.Common.{◌≡◌, ℕ, ◌+◌, ◌≤◌, Bool, false, List, [], ◌∷◌, ◌++◌, length, Option, None, Some, inl, inr, refl, sym, ap, subst, ◌∙◌, arith, append_assoc, append-nil}
 use Rattle.std.specs.Prelude.{◌==◌}
 use Rattle.std.specs.Option.{ForSome}
 use Rattle.std.proofs.lemmas.Bool.{eqb-false}
 use Rattle.outside.specs.Disk.{Becomes}
-use Rattle.outside.specs.Files.{Two, File, IsFileImage, NothingPending, file_of, read_files}
-use Rattle.outside.specs.Frames.{HasFrames, IsAtRest, IsPayload, end_of, is_open}
+use Rattle.outside.specs.Files.{Two, File, IsFileImage, file_of}
+use Rattle.outside.specs.Frames.{HasFrames, IsAtRest, is_open}
 use Rattle.outside.specs.Links.{Links, sent_of}
-use Rattle.outside.specs.Outside.{DiskRun, IsNow, Moment, MomentsAre, Outside}
+use Rattle.outside.specs.Outside.{DiskRun, Moment, MomentsAre, Outside}
 use Rattle.outside.specs.Steps.{FileMoment, Passed, other_of}
-use Rattle.outside.proofs.CallSteps.{becomes_map, becomes_none, becomes_then, becomes_told, image_file, image_other, moments_map, moments_none, moments_then, now_images, told_back, told_on}
+use Rattle.outside.proofs.CallSteps.{becomes_map, becomes_none, becomes_then, becomes_told, image_file, image_other, moments_map, moments_none, moments_then, now_images, told_back}
 use Rattle.frame_journal.specs.Append.{Appends, BeforeOrWith, IsFramed, framed_of, payload_of}
 use Rattle.frame_journal.specs.Journal.{JournalValue}
 use Rattle.frame_journal.proofs.AppendSteps.{end_more}
-use Rattle.journal_migration.specs.Copying.{IsShut}
 use Rattle.journal_migration.proofs.Copied.{framed_length, framed_so, payload_framed, shut_header}
 use Rattle.journal_migration.proofs.Sides.{image_only}
-use Rattle.journal_compaction.specs.Paging.{closed_page, frames_len}
-use Rattle.journal_compaction.specs.Writing.{Adding, Adds, Grows, IsIdle, StaysIdle, StaysShut, Works}
+use Rattle.journal_compaction.specs.Paging.{frames_len}
+use Rattle.journal_compaction.specs.Writing.{Adding, Adds, IsIdle, StaysIdle, StaysShut, Works}
 use Rattle.journal_compaction.proofs.Weighing.{one_frame}
 use Rattle.journal_compaction.proofs.Weighing as weighing
 

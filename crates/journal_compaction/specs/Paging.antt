@@ -1,5 +1,5 @@
 -- How items are cut into payloads, and how long these are.
-use Rattle.std.specs.Prelude.{ℕ, ◌+◌, ◌-◌, Bool, false, true, cond, not, ◌&&◌, nat_lt, List, [], ◌∷◌, ◌++◌, length}
+use Rattle.std.specs.Prelude.{ℕ, ◌+◌, ◌-◌, Bool, cond, not, ◌&&◌, nat_lt, List, [], ◌∷◌, ◌++◌, length}
 use Rattle.std.specs.List.{flat_map}
 use Rattle.sync_rules.specs.Facts.{Facts}
 use Rattle.outside.specs.Frames.{frame_of}

@@ -9,7 +9,6 @@ use Rattle.brief_account.specs.Brief.{head_entries, peer_entries}
 use Rattle.entry_codec.specs.declared.naming.Format.TheVariants as kind
 use Rattle.entry_codec.specs.Spelling.{IsEntry}
 use Rattle.entry_codec.specs.Standing.{room_of}
-use Rattle.journal_compaction.specs.declared.items.Item.{Item}
 use Rattle.journal_compaction.specs.declared.plan.Plan.{Plan}
 use Rattle.journal_compaction.specs.Items.{AreItems, IsItem, entry_of, is_alone, is_peer, is_told}
 use Rattle.journal_compaction.specs.Paging.{items_len, pages}

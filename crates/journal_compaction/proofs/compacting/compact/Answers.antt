@@ -1,12 +1,9 @@
-use Rattle.std.proofs.Common.{◌≡◌, ℕ, ◌+◌, ◌-◌, ◌^◌, ◌<◌, ◌≤◌, List, Result, Ok, Err, sym, ap, subst, ◌∙◌, arith}
+use Rattle.std.proofs.Common.{ℕ, ◌+◌, ◌-◌, ◌^◌, ◌<◌, ◌≤◌, ap, subst, ◌∙◌, arith}
 use Rattle.outside.specs.Disk.{Becomes}
 use Rattle.outside.specs.Files.{file_of}
 use Rattle.outside.specs.Steps.{Passed}
-use Rattle.outside.proofs.CallSteps.{run_none}
 use Rattle.frame_journal.specs.Create.{Publishes, ShutOrOpened}
 use Rattle.frame_journal.specs.Journal.{JournalValue}
-use Rattle.brief_account.specs.Account.{told_of}
-use Rattle.journal_state.specs.declared.account.Told.{Told}
 use Rattle.journal_state.specs.Telling.{told_entries}
 use Rattle.journal_migration.specs.declared.fault.MigrationFault.TheVariants as migration
 use Rattle.journal_migration.specs.Starting.{EndsOrStays}

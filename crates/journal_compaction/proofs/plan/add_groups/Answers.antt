@@ -1,4 +1,4 @@
-use Rattle.std.proofs.Common.{◌<◌, length, subst, arith}
+use Rattle.std.proofs.Common.{◌<◌, length, arith}
 use Rattle.journal_compaction.proofs.Adding.{group_more}
 use Rattle.journal_compaction.proofs.plan.add_groups.Goals as goal
 

@@ -1,5 +1,4 @@
-use Rattle.std.proofs.Common.{◌≡◌, ◌<◌, List, length, ap, sym, ◌∙◌, arith}
-use Rattle.journal_compaction.specs.declared.items.Item.{Item}
+use Rattle.std.proofs.Common.{◌<◌, length, ap, sym, ◌∙◌, arith}
 use Rattle.journal_compaction.proofs.Adding.{level_more, level_none}
 use Rattle.journal_compaction.proofs.plan.add_levels_of.Goals as goal
 use Rattle.journal_compaction.proofs.plan.add_levels_of.Goals.{then-is_visible+in_ok-push, else-is_visible}

@@ -1,4 +1,4 @@
-use Rattle.std.proofs.Common.{◌≡◌, ◌<◌, List, length, ap, sym, ◌∙◌, arith}
+use Rattle.std.proofs.Common.{◌<◌, length, ap, sym, ◌∙◌, arith}
 use Rattle.journal_compaction.proofs.Adding.{row_more, row_none}
 use Rattle.journal_compaction.proofs.plan.add_rows.Goals as goal
 use Rattle.journal_compaction.proofs.plan.add_rows.Goals.{then-has_row+in_ok-push, else-has_row}

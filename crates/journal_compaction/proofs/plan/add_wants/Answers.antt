@@ -1,4 +1,4 @@
-use Rattle.std.proofs.Common.{◌<◌, length, subst, arith}
+use Rattle.std.proofs.Common.{◌<◌, length, arith}
 use Rattle.sync_rules.specs.Facts.{wanted_from}
 use Rattle.journal_compaction.proofs.Adding.{want_more}
 use Rattle.journal_compaction.proofs.plan.add_wants.Goals as goal

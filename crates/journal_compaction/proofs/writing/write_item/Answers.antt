@@ -1,6 +1,6 @@
 use Rattle.std.proofs.Common.{◌≡◌, ◌++◌, ℕ, List, [], cond, sym, ap, subst, ◌∙◌}
 use Rattle.journal_compaction.specs.Items.{bytes_of}
-use Rattle.journal_compaction.specs.Paging.{left_after, page_for}
+use Rattle.journal_compaction.specs.Paging.{page_for}
 use Rattle.journal_compaction.specs.Writing.{HasSpace}
 use Rattle.journal_compaction.proofs.Lengths.{space_after}
 use Rattle.journal_compaction.proofs.writing.write_item.Goals as goal

@@ -1,6 +1,5 @@
-use Rattle.std.proofs.Common.{◌≡◌, ◌+◌, ◌<◌, ℕ, List, [], ◌∷◌, ◌++◌, length, take, drop, get_or, Option, sym, ap, subst, ◌∙◌, arith}
+use Rattle.std.proofs.Common.{◌≡◌, ◌+◌, List, [], ◌∷◌, length, drop, get_or, ap, subst, arith}
 use Rattle.std.proofs.lemmas.List.{drop_all, drop_more, take_more}
-use Rattle.outside.specs.Files.{Two, File}
 use Rattle.outside.proofs.CallSteps.{run_none, run_then}
 use Rattle.frame_journal.proofs.ClearSteps.{on_ok_map}
 use Rattle.entry_codec.specs.Spelling.{IsEntry}

@@ -1,5 +1,4 @@
-use Rattle.std.proofs.Common.{◌≡◌, ℕ, List, [], ◌++◌, Option, sym, ap, subst, ◌∙◌}
-use Rattle.outside.specs.Files.{Two, File}
+use Rattle.std.proofs.Common.{List, [], ◌++◌, subst}
 use Rattle.sync_rules.specs.declared.limits.TheConstants.{MAX_ROWS, MAX_STEPS}
 use Rattle.frame_journal.proofs.ClearSteps.{on_ok_map}
 use Rattle.journal_compaction.specs.declared.items.Item.{Item}
