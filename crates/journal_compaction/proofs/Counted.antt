@@ -20,7 +20,13 @@ use Rattle.journal_compaction.proofs.Weighing.{frames-append, one_frame}
 spelled_many : (names : List (List ℕ)) (es : List Entry) → length es ≤ length (spellings kind.Short names es)
 spelled_many names [] = omega arith
 spelled_many names (e ∷ es) =
-    omega (arith, some_spelled names e, length-append (spelling_in kind.Short names e) (spellings kind.Short names es), spelled_many names es)
+    omega (
+      arith,
+      some_spelled names e,
+      length-append (spelling_in kind.Short names e)
+          (spellings kind.Short names es),
+      spelled_many names es,
+    )
 
 written_many : (names : List (List ℕ)) (bs : List (List Entry)) → length (entries_of bs) ≤ frames_len (written names bs)
 written_many names [] = omega arith
@@ -41,7 +47,12 @@ account_many clients g [] = omega arith
 account_many clients g (h ∷ hs) =
     let kept = after g (entry.Kept h.origin h.message) in
     let steps = settling_of clients kept in
-    omega (arith, length-append steps (account clients (after_all kept steps) hs), account_many clients (after_all kept steps) hs)
+    omega (
+      arith,
+      length-append steps (account clients (after_all kept steps) hs),
+      account_many clients
+          (after_all kept steps) hs,
+    )
 
 pub held_within : (clients : Meaning) (f : Facts) → length f.held ≤ journal_end kind.Short (brief_of clients f)
 held_within clients f =

@@ -1,5 +1,7 @@
 -- The payloads that items fill are those of the batches that their entries fill.
-use Rattle.std.proofs.Common.{◌≡◌, ℕ, zero, suc, ◌+◌, ◌-◌, ◌≤◌, Bool, true, false, cond, List, [], ◌∷◌, ◌++◌, length, map, length-append, refl, sym, ◌∙◌, ap, subst, arith, append-nil, lt-ltb, le-ltb, ltb-true}
+use Rattle.std.proofs.Common.{◌≡◌, ℕ, zero, suc, ◌+◌, ◌-◌, ◌≤◌, Bool, true, false, cond, List, [], ◌∷◌, ◌++◌, length}
+use Rattle.std.proofs.Common.{map, length-append, refl, sym, ◌∙◌, ap, subst, arith, append-nil, lt-ltb, le-ltb}
+use Rattle.std.proofs.Common.{ltb-true}
 use Rattle.std.specs.Prelude.{not, ◌&&◌, nat_lt}
 use Rattle.std.specs.List.{AllByRecursion}
 use Rattle.std.proofs.lemmas.List.{length_push}
@@ -19,9 +21,11 @@ use Rattle.journal_compaction.specs.Paging.{closed_page, left_behind, pages}
 abbrev pub written : List (List ℕ) → List (List Entry) → List (List ℕ)
 written names bs = map (spellings kind.Short names) bs
 
-pub written-append : (names : List (List ℕ)) (bs cs : List (List Entry)) → written names (bs ++ cs) ≡ written names bs ++ written names cs
+pub written-append : (names : List (List ℕ)) (bs cs : List (List Entry))
+    → written names (bs ++ cs) ≡ written names bs ++ written names cs
 written-append names [] cs = refl
-written-append names (b ∷ bs) cs = ap (λ (ps : List (List ℕ)). spellings kind.Short names b ∷ ps) (written-append names bs cs)
+written-append names (b ∷ bs) cs =
+    ap (λ (ps : List (List ℕ)). spellings kind.Short names b ∷ ps) (written-append names bs cs)
 
 -- each entry has a tag
 pub some_spelled : (names : List (List ℕ)) (e : Entry) → 1 ≤ length (spelling_in kind.Short names e)
@@ -74,7 +78,8 @@ module _ (f : Facts) where
 
   more_spelled : (front : List Entry) (i : Item) → spelled (front ++ entry_of f i ∷ []) ≡ spelled front ++ bytes_of f i
   more_spelled front i =
-      flat_map-append (spelling_in kind.Short (names_of f)) front (entry_of f i ∷ []) ∙ ap (λ (t : List ℕ). spelled front ++ t) (one_spelled i)
+      flat_map-append (spelling_in kind.Short (names_of f)) front (entry_of f i ∷ [])
+      ∙ ap (λ (t : List ℕ). spelled front ++ t) (one_spelled i)
 
   spelled_some : (front : List Entry) → 1 ≤ length front → 1 ≤ length (spelled front)
   spelled_some [] some = absurd (omega (arith, some))
@@ -90,14 +95,16 @@ module _ (f : Facts) where
     abbrev pub begun_at : Item → List Item → List (List ℕ)
     begun_at i items = pages f most (left_behind most i) (bytes_of f i) items
 
-    -- what is written of an item and those behind it, where a test says whether it stands alone and one whether it joins
+    -- what is written of an item and those behind it, where a test says whether it stands alone and one whether it
+    -- joins
     abbrev stepped : List ℕ → (left : ℕ) → Item → List Item → Bool → Bool → List (List ℕ)
     stepped page left i items alone joins =
         cond joins [] (closed_page page)
         ++ pages f most (cond joins (left - 1) (cond alone 0 (most - 1))) (cond joins page [] ++ bytes_of f i) items
 
     -- a payload that takes no more is closed, and the next item begins another
-    pub next_begins : (page : List ℕ) (i : Item) (items : List Item) → pages f most 0 page (i ∷ items) ≡ closed_page page ++ begun_at i items
+    pub next_begins : (page : List ℕ) (i : Item) (items : List Item)
+        → pages f most 0 page (i ∷ items) ≡ closed_page page ++ begun_at i items
     next_begins page i items = ap (stepped page 0 i items (is_alone i)) (none_joins (is_alone i))
 
     -- ---- items that each stand alone
@@ -113,7 +120,8 @@ module _ (f : Facts) where
         closed_some (bytes_of f i) (bytes_some i) ∙ ap (λ (p : List ℕ). p ∷ []) (sym (one_spelled i)) in
         next_begins page i items
         ∙ ap (λ (ps : List (List ℕ)). closed_page page ++ ps)
-        (here ∙ (rest ∙ ap (λ (ps : List (List ℕ)). ps ++ written (names_of f) (each_alone (map (entry_of f) items))) one))
+        (here ∙ (rest
+        ∙ ap (λ (ps : List (List ℕ)). ps ++ written (names_of f) (each_alone (map (entry_of f) items))) one))
 
     -- ---- items of which some stand alone
 
@@ -139,14 +147,17 @@ module _ (f : Facts) where
       }
 
       -- the batch that an item's entry begins
-      begun_filling : (i : Item) (items : List Item) → Cuts items → alone (entry_of f i) ≡ is_alone i → begun_at i items ≡ filling [] (i ∷ items)
+      begun_filling : (i : Item) (items : List Item) → Cuts items → alone (entry_of f i) ≡ is_alone i
+          → begun_at i items ≡ filling [] (i ∷ items)
       begun_filling i items rest same =
           let e = entry_of f i in
           let es = map (entry_of f) items in
           let open_one : nat_lt 0 most ≡ true = lt-ltb 0 most (omega (arith, some)) in
           let At : Bool → Bool → Type 0 =
           λ b t. pages f most (cond b 0 (most - 1)) (bytes_of f i) items
-          ≡ written (names_of f) (cond b ((e ∷ []) ∷ filled most alone [] es) (cond t (filled most alone (e ∷ []) es) ([] ∷ filled most alone (e ∷ []) es))) in
+          ≡ written (names_of f)
+          (cond b ((e ∷ []) ∷ filled most alone [] es)
+          (cond t (filled most alone (e ∷ []) es) ([] ∷ filled most alone (e ∷ []) es))) in
           let by_kind : At (is_alone i) true =
           elim (is_alone i) as (λ b. At b true) [
             | true ↦ rest.behind i ∙ ap (λ (p : List ℕ). p ∷ filling [] items) (sym (one_spelled i))
@@ -157,32 +168,41 @@ module _ (f : Facts) where
           let there : At (is_alone i) (nat_lt 0 most) = subst (λ t. At (is_alone i) t) (sym open_one) by_kind in
           subst
           (λ b. begun_at i items
-          ≡ written (names_of f) (cond b ((e ∷ []) ∷ filled most alone [] es) (cond (nat_lt 0 most) (filled most alone (e ∷ []) es) ([] ∷ filled most alone (e ∷ []) es))))
+          ≡ written (names_of f)
+          (cond b ((e ∷ []) ∷ filled most alone [] es)
+          (cond (nat_lt 0 most) (filled most alone (e ∷ []) es) ([] ∷ filled most alone (e ∷ []) es))))
           (sym same) there
 
       -- an item within a batch
-      more_filling : (i : Item) (items : List Item) → Cuts items → alone (entry_of f i) ≡ is_alone i → (left : ℕ) (front : List Entry)
-          → 1 ≤ length front → length front + left ≡ most → pages f most left (spelled front) (i ∷ items) ≡ filling front (i ∷ items)
+      more_filling : (i : Item) (items : List Item) → Cuts items → alone (entry_of f i) ≡ is_alone i
+          → (left : ℕ) (front : List Entry)
+          → 1 ≤ length front → length front + left ≡ most
+          → pages f most left (spelled front) (i ∷ items) ≡ filling front (i ∷ items)
       more_filling i items rest same left front some_front is =
           let e = entry_of f i in
           let es = map (entry_of f) items in
           let page = spelled front in
           let At : Bool → Bool → Bool → Type 0 =
           λ b j t. stepped page left i items b j
-          ≡ written (names_of f) (cond b (closed front ++ (e ∷ []) ∷ filled most alone [] es) (cond t (filled most alone (front ++ e ∷ []) es) (front ∷ filled most alone (e ∷ []) es))) in
+          ≡ written (names_of f)
+          (cond b (closed front ++ (e ∷ []) ∷ filled most alone [] es)
+          (cond t (filled most alone (front ++ e ∷ []) es) (front ∷ filled most alone (e ∷ []) es))) in
           -- it joins, or begins another batch
           let plain : At false (nat_lt 0 left) (nat_lt 0 left) =
           elim (nat_lt 0 left) as (λ j. nat_lt 0 left ≡ j → At false j j) [
             | true ↦ λ more.
                 ap (λ (p : List ℕ). pages f most (left - 1) p items) (sym (more_spelled front i))
-                ∙ rest.within (left - 1) (front ++ e ∷ []) (omega (arith, length_push front e)) (one_less left (length front) (length (front ++ e ∷ [])) most more (length_push front e) is)
+                ∙ rest.within (left - 1) (front ++ e ∷ []) (omega (arith, length_push front e))
+                (one_less left (length front) (length (front ++ e ∷ [])) most more (length_push front e) is)
             | false ↦ λ full.
-                ap (λ (ps : List (List ℕ)). ps ++ pages f most (most - 1) (bytes_of f i) items) (closed_some page (spelled_some front some_front))
+                ap (λ (ps : List (List ℕ)). ps ++ pages f most (most - 1) (bytes_of f i) items)
+                (closed_some page (spelled_some front some_front))
                 ∙ ap (λ (ps : List (List ℕ)). page ∷ ps)
                 (ap (λ (p : List ℕ). pages f most (most - 1) p items) (sym (one_spelled i))
                 ∙ rest.within (most - 1) (e ∷ []) (omega arith) (omega (arith, some)))
           ] refl in
-          let both : At false (nat_lt 0 left) (nat_lt (length front) most) = subst (λ t. At false (nat_lt 0 left) t) (test_same (length front) left most is) plain in
+          let both : At false (nat_lt 0 left) (nat_lt (length front) most) =
+          subst (λ t. At false (nat_lt 0 left) t) (test_same (length front) left most is) plain in
           let single : At true false (nat_lt (length front) most) =
           (λ n. closed_written front n ++ rest.behind i n)
           ∙ ap (λ (p : List ℕ). written (names_of f) (closed front) ++ p ∷ filling [] items) (sym (one_spelled i))
@@ -194,7 +214,10 @@ module _ (f : Facts) where
           ] in
           subst
           (λ b. pages f most left page (i ∷ items)
-          ≡ written (names_of f) (cond b (closed front ++ (e ∷ []) ∷ filled most alone [] es) (cond (nat_lt (length front) most) (filled most alone (front ++ e ∷ []) es) (front ∷ filled most alone (e ∷ []) es))))
+          ≡ written (names_of f)
+          (cond b (closed front ++ (e ∷ []) ∷ filled most alone [] es)
+          (cond (nat_lt (length front) most) (filled most alone (front ++ e ∷ []) es)
+          (front ∷ filled most alone (e ∷ []) es))))
           (sym same) by_kind
 
       cuts : (items : List Item) → Suits items → Cuts items
@@ -205,10 +228,12 @@ module _ (f : Facts) where
           record {
             fresh = next_begins [] i items ∙ begun;
             behind = λ k.
-                next_begins (bytes_of f k) i items ∙ ap (λ (ps : List (List ℕ)). ps ++ begun_at i items) (closed_some (bytes_of f k) (bytes_some k))
+                next_begins (bytes_of f k) i items
+                ∙ ap (λ (ps : List (List ℕ)). ps ++ begun_at i items) (closed_some (bytes_of f k) (bytes_some k))
                 ∙ ap (λ (ps : List (List ℕ)). bytes_of f k ∷ ps) begun;
             within = λ left front some_front is. more_filling i items rest suits.0 left front some_front is;
           }
 
-      pub filled_written : (items : List Item) → Suits items → pages f most 0 [] items ≡ written (names_of f) (filled most alone [] (map (entry_of f) items))
+      pub filled_written : (items : List Item) → Suits items
+          → pages f most 0 [] items ≡ written (names_of f) (filled most alone [] (map (entry_of f) items))
       filled_written items suits = (cuts items suits).fresh

@@ -1,5 +1,6 @@
 -- How long the spellings are that a brief account has.
-use Rattle.std.proofs.Common.{◌≡◌, ℕ, ◌-◌, ◌≤◌, Bool, true, false, cond, List, [], ◌∷◌, ◌++◌, length, length-append, refl, arith, Option, Some, None}
+use Rattle.std.proofs.Common.{◌≡◌, ℕ, ◌-◌, ◌≤◌, Bool, true, false, cond, List, [], ◌∷◌, ◌++◌, length, length-append}
+use Rattle.std.proofs.Common.{refl, arith, Option, Some, None}
 use Rattle.std.specs.Prelude.{not, ◌&&◌, nat_lt, slice_get}
 use Rattle.std.specs.Int.{w32, w64, to_be_bytes}
 use Rattle.std.proofs.lemmas.Bool.{ltb-true}
@@ -13,11 +14,13 @@ use Rattle.sync_rules.specs.declared.states.Origin.TheVariants as origin
 use Rattle.sync_rules.specs.Facts.{Facts, Held, Id, Known, level_at, row_at, wanted_from}
 use Rattle.entry_codec.specs.declared.naming.Format.TheVariants as kind
 use Rattle.entry_codec.specs.Naming.{held_bytes}
-use Rattle.entry_codec.specs.Spelling.{IsDef, IsEntry, IsId, counted, flags_byte, level_byte, message_bytes, origin_bytes, spelling_in}
+use Rattle.entry_codec.specs.Spelling.{IsDef, IsEntry, IsId, counted, flags_byte, level_byte, message_bytes}
+use Rattle.entry_codec.specs.Spelling.{origin_bytes, spelling_in}
 use Rattle.retry_table.specs.Table.{tried_of}
 use Rattle.journal_compaction.specs.declared.items.Item.{Item}
 use Rattle.journal_compaction.specs.declared.items.Item.TheVariants as item
-use Rattle.journal_compaction.specs.Items.{bytes_of, entry_of, group_entry, id_at, is_alone, kept_entry, level_entry, want_entry}
+use Rattle.journal_compaction.specs.Items.{bytes_of, entry_of, group_entry, id_at, is_alone, kept_entry, level_entry}
+use Rattle.journal_compaction.specs.Items.{want_entry}
 use Rattle.journal_compaction.specs.Paging.{left_after, page_for}
 use Rattle.journal_compaction.specs.Writing.{HasSpace}
 use Rattle.entry_codec.specs.Payloads.{names_of}
@@ -63,7 +66,11 @@ module _ (names : List (List ℕ)) where
   tried_short : (t : Tried) → Short (entry.Tried t) 34
   unfolding spelling_in
   tried_short t =
-      omega (arith, length-append (held_bytes kind.Short names t.id) (flags_byte t.seen t.owed t.asked ∷ t.tries ∷ to_be_bytes w64 t.expiry))
+      omega (
+        arith,
+        length-append (held_bytes kind.Short names t.id)
+            (flags_byte t.seen t.owed t.asked ∷ t.tries ∷ to_be_bytes w64 t.expiry),
+      )
 
   want_short : (c : ℕ) (id : Id) → IsId id → Short (entry.Want c id) 34
   unfolding spelling_in
@@ -103,7 +110,8 @@ long_item f (item.Kept n) is = kept_item (names_of f) (slice_get f.held n) is
 long_item f (item.Judged n) is = omega (arith, (step_short (names_of f) (id_at f n)).0)
 long_item f (item.Deliver n) is = omega (arith, (step_short (names_of f) (id_at f n)).1)
 long_item f (item.Invalid n) is = omega (arith, (step_short (names_of f) (id_at f n)).2)
-long_item f (item.Row c n) is = omega (arith, tried_short (names_of f) (tried_of c (id_at f n) (row_at f.rows c (id_at f n))))
+long_item f (item.Row c n) is =
+    omega (arith, tried_short (names_of f) (tried_of c (id_at f n) (row_at f.rows c (id_at f n))))
 long_item f (item.Want c n) is = omega (arith, want_item (names_of f) c (slice_get (wanted_from f.wanted c) n) is)
 
 pub short_item : (f : Facts) (i : Item) → is_alone i ≡ false → IsEntry (entry_of f i) → length (bytes_of f i) ≤ 34
@@ -120,11 +128,13 @@ short_item f (item.Want c n) joined is = want_item (names_of f) c (slice_get (wa
 
 -- ---- the space of a payload
 
-space_joined : (left : ℕ) (page bytes : List ℕ) → nat_lt 0 left ≡ true → HasSpace left page → length bytes ≤ 34 → HasSpace (left - 1) (page ++ bytes)
+space_joined : (left : ℕ) (page bytes : List ℕ) → nat_lt 0 left ≡ true → HasSpace left page → length bytes ≤ 34
+    → HasSpace (left - 1) (page ++ bytes)
 space_joined left page bytes more space few = omega (arith, ltb-true 0 left more, space, few, length-append page bytes)
 
 -- there is space behind an item
-pub space_after : (f : Facts) (most left : ℕ) (page : List ℕ) (i : Item) → 1 ≤ most → most ≤ 1000 → HasSpace left page → IsEntry (entry_of f i)
+pub space_after : (f : Facts) (most left : ℕ) (page : List ℕ) (i : Item) → 1 ≤ most → most ≤ 1000 → HasSpace left page
+    → IsEntry (entry_of f i)
     → HasSpace (left_after most left i) (page_for left page i ++ bytes_of f i)
 space_after f most left page i some few space is =
     let bytes = bytes_of f i in

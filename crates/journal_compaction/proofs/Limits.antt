@@ -14,7 +14,8 @@ use Rattle.journal_compaction.specs.Paging.{frames_len}
 use Rattle.journal_compaction.specs.Planning.{IsPlan, plan_len, plan_pages}
 use Rattle.journal_compaction.proofs.Sections.{plan_end, plan_weighs}
 
-module _ (clients : Meaning) (f : Facts) (p : Plan) (limit len : ℕ) (few : limit ≤ MAX_JOURNAL) (plan : IsPlan clients f p) (is : len ≡ min (plan_len f p) (2 ^ 64 - 1)) where
+module _ (clients : Meaning) (f : Facts) (p : Plan) (limit len : ℕ) (few : limit ≤ MAX_JOURNAL)
+    (plan : IsPlan clients f p) (is : len ≡ min (plan_len f p) (2 ^ 64 - 1)) where
   pub too_long : limit < len → limit < compacted_len clients f
   too_long past = omega (arith, past, is, plan_weighs clients f p plan)
 
@@ -26,11 +27,14 @@ module _ (clients : Meaning) (f : Facts) (p : Plan) (limit len : ℕ) (few : lim
   frames_fit end begun within = omega (arith, begun, within_limit within, few, plan_end clients f p plan)
 
 -- a fault while it was written
-weighs_fault : (clients : Meaning) (f : Facts) (limit : ℕ) (e : MigrationFault) → compacted_len clients f ≤ limit → Weighs clients f limit (Err (fault_of e))
+weighs_fault : (clients : Meaning) (f : Facts) (limit : ℕ) (e : MigrationFault) → compacted_len clients f ≤ limit
+    → Weighs clients f limit (Err (fault_of e))
 weighs_fault clients f limit migration.Memory within = tt
 weighs_fault clients f limit migration.DiskFault within = within
 
-pub fault_weighs : (clients : Meaning) (f : Facts) (limit : ℕ) (e : MigrationFault) (result : Result JournalValue CompactionFault) → compacted_len clients f ≤ limit → result ≡ Err (fault_of e)
+pub fault_weighs : (clients : Meaning) (f : Facts) (limit : ℕ) (e : MigrationFault)
+    (result : Result JournalValue CompactionFault) → compacted_len clients f ≤ limit → result ≡ Err (fault_of e)
     → Weighs clients f limit result
 fault_weighs clients f limit e result within is =
-    subst (λ (r : Result JournalValue CompactionFault). Weighs clients f limit r) (sym is) (weighs_fault clients f limit e within)
+    subst (λ (r : Result JournalValue CompactionFault). Weighs clients f limit r) (sym is)
+    (weighs_fault clients f limit e within)

@@ -1,5 +1,6 @@
 -- What items name is held, and what they say may be written.
-use Rattle.std.proofs.Common.{◌≡◌, ℕ, ◌<◌, ◌≤◌, Bool, true, false, List, [], ◌∷◌, length, take, refl, sym, ap, subst, arith, zero, suc, nat_eq, ne_eqb}
+use Rattle.std.proofs.Common.{◌≡◌, ℕ, ◌<◌, ◌≤◌, Bool, true, false, List, [], ◌∷◌, length, take, refl, sym, ap, subst}
+use Rattle.std.proofs.Common.{arith, zero, suc, nat_eq, ne_eqb}
 use Rattle.std.specs.Prelude.{not, ◌&&◌, ◌||◌, slice_get}
 use Rattle.std.proofs.lemmas.List.{take_all}
 use Rattle.sync_rules.specs.Consistency.{ids_of_held}
@@ -19,7 +20,8 @@ among [] n few = absurd (omega (arith, few))
 among (h ∷ hs) zero few = ap (λ b. b || is_among (ids_of_held hs) h.id) (same_id_itself h.id)
 among (h ∷ hs) (suc n) few =
     let rest = among hs n (omega (arith, few)) in
-    elim (same_id h.id (id_of (slice_get hs n))) as (λ b. (b || is_among (ids_of_held hs) (id_of (slice_get hs n))) ≡ true) [
+    elim (same_id h.id (id_of (slice_get hs n))) as (λ b. (b || is_among (ids_of_held hs) (id_of (slice_get hs n)))
+    ≡ true) [
       | true ↦ refl
       | false ↦ rest
     ]
@@ -31,14 +33,17 @@ module _ (f : Facts) where
   pub item_named : (i : Item) → IsItem f i → EntryNames Named (entry_of f i)
   item_named item.Brief is = tt
   item_named (item.Contact c) is = tt
-  item_named (item.Group n) is = let g = there f.groups n is in subst (λ o. EntryNames Named (group_entry o)) (sym g.1) tt
-  item_named (item.Level c n) is = let g = there f.groups n is in subst (λ o. EntryNames Named (level_entry f c o)) (sym g.1) tt
+  item_named (item.Group n) is = let g = there f.groups n is in
+      subst (λ o. EntryNames Named (group_entry o)) (sym g.1) tt
+  item_named (item.Level c n) is = let g = there f.groups n is in
+      subst (λ o. EntryNames Named (level_entry f c o)) (sym g.1) tt
   item_named (item.Kept n) is = let h = there f.held n is in subst (λ o. EntryNames Named (kept_entry o)) (sym h.1) tt
   item_named (item.Judged n) is = among f.held n is
   item_named (item.Deliver n) is = among f.held n is
   item_named (item.Invalid n) is = among f.held n is
   item_named (item.Row c n) is = among f.held n is.0
-  item_named (item.Want c n) is = let id = there (wanted_from f.wanted c) n is in subst (λ o. EntryNames Named (want_entry c o)) (sym id.1) tt
+  item_named (item.Want c n) is = let id = there (wanted_from f.wanted c) n is in
+      subst (λ o. EntryNames Named (want_entry c o)) (sym id.1) tt
 
   -- the first so many are all
   pub all_names : (count : ℕ) → count ≡ length f.held → take count (names_of f) ≡ names_of f
@@ -50,15 +55,18 @@ module _ (f : Facts) where
 
 -- ---- rows
 
-some_kept : (seen owed asked : Bool) (tries expiry : ℕ) → (tries ≡ 0 → expiry ≡ 0) → (not seen && (not owed && (not asked && (nat_eq tries 0 && nat_eq expiry 0)))) ≡ false
+some_kept : (seen owed asked : Bool) (tries expiry : ℕ) → (tries ≡ 0 → expiry ≡ 0)
+    → (not seen && (not owed && (not asked && (nat_eq tries 0 && nat_eq expiry 0)))) ≡ false
     → (not seen && (not owed && (not asked && nat_eq tries 0))) ≡ false
 some_kept true owed asked tries expiry wait some = refl
 some_kept false true asked tries expiry wait some = refl
 some_kept false false true tries expiry wait some = refl
-some_kept false false false zero expiry wait some = let none : expiry ≡ 0 = wait refl in absurd (let clash : nat_eq expiry 0 ≡ true = ap (λ n. nat_eq n 0) none in cc)
+some_kept false false false zero expiry wait some = let none : expiry ≡ 0 = wait refl in
+    absurd (let clash : nat_eq expiry 0 ≡ true = ap (λ n. nat_eq n 0) none in cc)
 some_kept false false false (suc tries) expiry wait some = ne_eqb (suc tries) 0 (λ e. omega (arith, e))
 
-pub row_stated : (contact : ℕ) (id : Id) (r : Row) → r.tries ≤ 64 → (r.tries ≡ 0 → r.expiry ≡ 0) → is_no_row r ≡ false → IsStated (tried_of contact id r)
+pub row_stated : (contact : ℕ) (id : Id) (r : Row) → r.tries ≤ 64 → (r.tries ≡ 0 → r.expiry ≡ 0) → is_no_row r ≡ false
+    → IsStated (tried_of contact id r)
 row_stated contact id r few wait some = record {
   few_tries = few;
   no_wait = wait;

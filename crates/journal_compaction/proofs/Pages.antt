@@ -1,5 +1,6 @@
 -- Items written one behind the other.
-use Rattle.std.proofs.Common.{◌≡◌, ℕ, ◌+◌, ◌≤◌, List, [], ◌∷◌, ◌++◌, take, Option, sym, ap, subst, ◌∙◌, arith, append_assoc}
+use Rattle.std.proofs.Common.{◌≡◌, ℕ, ◌+◌, ◌≤◌, List, [], ◌∷◌, ◌++◌, take, Option, sym, ap, subst, ◌∙◌, arith}
+use Rattle.std.proofs.Common.{append_assoc}
 use Rattle.std.specs.List.{AllByRecursion}
 use Rattle.outside.specs.declared.limits.TheConstants.{MAX_JOURNAL}
 use Rattle.outside.specs.Files.{Two, File}
@@ -13,17 +14,20 @@ use Rattle.journal_compaction.specs.Writing.{Adding, Written}
 use Rattle.journal_compaction.proofs.Weighing.{frames-append}
 use Rattle.journal_compaction.proofs.Working.{adding_none, adding_then}
 
-pub written_none : (f : Facts) (most : ℕ) (items : List Item) (page : List ℕ) (n : JournalValue) (o : Option (Two File)) → page ≡ [] → Written f most items items 0 page n n o o
+pub written_none : (f : Facts) (most : ℕ) (items : List Item) (page : List ℕ) (n : JournalValue)
+    (o : Option (Two File)) → page ≡ [] → Written f most items items 0 page n n o o
 written_none f most items page n o empty = record {
   added = [];
   goes_on = ap (λ (p : List ℕ). pages f most 0 p items) empty;
   adding = adding_none n o;
 }
 
-module _ (f : Facts) (most : ℕ) (items rest : List Item) (i : Item) (left : ℕ) (page : List ℕ) (n0 n1 : JournalValue) (o0 o1 : Option (Two File))
+module _ (f : Facts) (most : ℕ) (items rest : List Item) (i : Item) (left : ℕ) (page : List ℕ) (n0 n1 : JournalValue)
+    (o0 o1 : Option (Two File))
     (so_far : Written f most items (i ∷ rest) left page n0 n1 o0 o1) where
   -- an item more
-  pub written_more : (left' : ℕ) (page' : List ℕ) (n2 : JournalValue) (o2 : Option (Two File)) → left' ≡ left_after most left i → page' ≡ page_for left page i ++ bytes_of f i
+  pub written_more : (left' : ℕ) (page' : List ℕ) (n2 : JournalValue) (o2 : Option (Two File))
+      → left' ≡ left_after most left i → page' ≡ page_for left page i ++ bytes_of f i
       → Adding n1 n2 (written_for left page i) o1 o2 → Written f most items rest left' page' n0 n2 o0 o2
   written_more left' page' n2 o2 same alike adding =
       let next = pages f most (left_after most left i) (page_for left page i ++ bytes_of f i) rest in
@@ -37,7 +41,8 @@ module _ (f : Facts) (most : ℕ) (items rest : List Item) (i : Item) (left : �
       }
 
   -- there is room for what is written before it
-  pub more_room : n0.end + frames_len (pages f most 0 [] items) ≤ MAX_JOURNAL → n1.end + frames_len (written_for left page i) ≤ MAX_JOURNAL
+  pub more_room : n0.end + frames_len (pages f most 0 [] items) ≤ MAX_JOURNAL
+      → n1.end + frames_len (written_for left page i) ≤ MAX_JOURNAL
   more_room room =
       let next = pages f most (left_after most left i) (page_for left page i ++ bytes_of f i) rest in
       omega (
@@ -50,18 +55,31 @@ module _ (f : Facts) (most : ℕ) (items rest : List Item) (i : Item) (left : �
       )
 
 -- no item is left
-module _ (f : Facts) (most : ℕ) (items rest : List Item) (left : ℕ) (page : List ℕ) (n0 n1 : JournalValue) (o0 o1 : Option (Two File)) (none : rest ≡ [])
+module _ (f : Facts) (most : ℕ) (items rest : List Item) (left : ℕ) (page : List ℕ) (n0 n1 : JournalValue)
+    (o0 o1 : Option (Two File)) (none : rest ≡ [])
     (so_far : Written f most items rest left page n0 n1 o0 o1) where
   last : so_far.added ++ closed_page page ≡ pages f most 0 [] items
   last = sym (ap (λ (l : List Item). so_far.added ++ pages f most left page l) none) ∙ so_far.goes_on
 
-  pub last_room : n0.end + frames_len (pages f most 0 [] items) ≤ MAX_JOURNAL → n1.end + frames_len (closed_page page) ≤ MAX_JOURNAL
-  last_room room = omega (arith, room, so_far.adding.grows.end_is, ap frames_len last, frames-append so_far.added (closed_page page))
+  pub last_room : n0.end + frames_len (pages f most 0 [] items) ≤ MAX_JOURNAL
+      → n1.end + frames_len (closed_page page) ≤ MAX_JOURNAL
+  last_room room =
+      omega (
+        arith,
+        room,
+        so_far.adding.grows.end_is,
+        ap frames_len last,
+        frames-append so_far.added
+            (closed_page page),
+      )
 
-  pub written_all : (n2 : JournalValue) (o2 : Option (Two File)) → Adding n1 n2 (closed_page page) o1 o2 → Adding n0 n2 (pages f most 0 [] items) o0 o2
+  pub written_all : (n2 : JournalValue) (o2 : Option (Two File)) → Adding n1 n2 (closed_page page) o1 o2
+      → Adding n0 n2 (pages f most 0 [] items) o0 o2
   written_all n2 o2 adding =
-      subst (λ (ps : List (List ℕ)). Adding n0 n2 ps o0 o2) last (adding_then n0 n1 n2 so_far.added (closed_page page) o0 o1 o2 so_far.adding adding)
+      subst (λ (ps : List (List ℕ)). Adding n0 n2 ps o0 o2) last
+      (adding_then n0 n1 n2 so_far.added (closed_page page) o0 o1 o2 so_far.adding adding)
 
 -- what holds of the items so far holds of one more
-pub all_more : {A : Type 0} (P : A → Type 0) (xs : List A) (i : ℕ) (x : A) → take (i + 1) xs ≡ take i xs ++ x ∷ [] → AllByRecursion P (take i xs) → P x → AllByRecursion P (take (i + 1) xs)
+pub all_more : {A : Type 0} (P : A → Type 0) (xs : List A) (i : ℕ) (x : A) → take (i + 1) xs ≡ take i xs ++ x ∷ []
+    → AllByRecursion P (take i xs) → P x → AllByRecursion P (take (i + 1) xs)
 all_more P xs i x is all here = subst (AllByRecursion P) (sym is) (all_push P (take i xs) x all here)

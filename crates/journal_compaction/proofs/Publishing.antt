@@ -1,5 +1,6 @@
 -- The brief account is published: the header's gate of the other file is opened, and that file is the journal's.
-use Rattle.std.proofs.Common.{◌≡◌, ◌≢◌, ℕ, ◌+◌, ◌-◌, ◌^◌, ◌<◌, ◌≤◌, true, List, [], ◌∷◌, Some, Option, Result, Ok, Err, inl, inr, refl, sym, ap, subst, ◌∙◌, arith}
+use Rattle.std.proofs.Common.{◌≡◌, ◌≢◌, ℕ, ◌+◌, ◌-◌, ◌^◌, ◌<◌, ◌≤◌, true, List, [], ◌∷◌, Some, Option, Result, Ok}
+use Rattle.std.proofs.Common.{Err, inl, inr, refl, sym, ap, subst, ◌∙◌, arith}
 use Rattle.std.specs.List.{AllByRecursion}
 use Rattle.std.specs.Option.{ForSome}
 use Rattle.outside.specs.declared.limits.TheConstants.{MAX_JOURNAL}
@@ -31,7 +32,8 @@ use Rattle.journal_migration.specs.Copying.{marked}
 use Rattle.journal_migration.specs.Migrating.{HoldsSecond}
 use Rattle.journal_migration.specs.Starting.{EndsOrStays}
 use Rattle.journal_migration.specs.declared.fault.MigrationFault.{MigrationFault}
-use Rattle.journal_migration.proofs.Published.{greater_found, opened_format, opened_frames, opened_generation, opened_open}
+use Rattle.journal_migration.proofs.Published.{greater_found, opened_format, opened_frames, opened_generation}
+use Rattle.journal_migration.proofs.Published.{opened_open}
 use Rattle.journal_migration.proofs.Shut.{begun_frames, own_still, pending_still}
 use Rattle.journal_migration.proofs.Sides.{read_file, settled_first, settled_one, settled_second}
 use Rattle.journal_compaction.specs.declared.fault.CompactionFault.{CompactionFault}
@@ -61,14 +63,18 @@ pub record IsWritten (clients : Meaning) (f : Facts) (m n : JournalValue) (two n
   pub settled : NothingPending now n.file
   pub gate : ℕ
   pub closed : gate ≢ 1
-  pub frames : HasFrames (file_of now n.file).now (gate ∷ marked (m.generation + 1)) (written (names_of f) (brief_of clients f))
+  pub frames : HasFrames (file_of now n.file).now (gate ∷ marked (m.generation + 1))
+      (written (names_of f) (brief_of clients f))
 
-pub written_now : (clients : Meaning) (f : Facts) (p : Plan) (m n0 n : JournalValue) (two mid now : Two File) → IsPlan clients f p → Prepares n0.file 2 (m.generation + 1) two mid
-    → n0.end ≡ 15 → n.file ≡ n0.file → Adds n0.file n0.end (plan_pages f p) mid now → Works n now → IsWritten clients f m n two now
+pub written_now : (clients : Meaning) (f : Facts) (p : Plan) (m n0 n : JournalValue) (two mid now : Two File)
+    → IsPlan clients f p → Prepares n0.file 2 (m.generation + 1) two mid
+    → n0.end ≡ 15 → n.file ≡ n0.file → Adds n0.file n0.end (plan_pages f p) mid now → Works n now
+    → IsWritten clients f m n two now
 written_now clients f p m n0 n two mid now plan prepares begun file adds works =
     let header = prepares.gate ∷ marked (m.generation + 1) in
     let first : HasFrames (file_of mid n0.file).now header [] =
-    subst (λ (b : List ℕ). HasFrames b header []) (sym (ap (λ (x : File). x.now) prepares.bytes)) (begun_frames prepares.gate (m.generation + 1)) in
+    subst (λ (b : List ℕ). HasFrames b header []) (sym (ap (λ (x : File). x.now) prepares.bytes))
+    (begun_frames prepares.gate (m.generation + 1)) in
     let all : HasFrames (file_of now n0.file).now header (plan_pages f p) = adds.frames header [] first begun in
     record {
       other = subst (λ (k : ℕ). other_of now k ≡ other_of two k) (sym file) (adds.other ∙ prepares.other);
@@ -82,9 +88,12 @@ written_now clients f p m n0 n two mid now plan prepares begun file adds works =
 
 -- ---- the opened header
 
-module _ (laws : CitedLaws) (clients : Meaning) (f : Facts) (m n : JournalValue) (j : List (List Entry)) (two now : Two File) (few : m.file < 2) (many : m.generation + 1 < 2 ^ 64)
-    (holds : HoldsSecond clients m j two) (same : facts j ≡ f) (still : IsSettled clients f) (made : IsCompacted clients f m n)
-    (within : AllByRecursion (AllByRecursion IsEntry) (brief_of clients f)) (room : journal_end kind.Short (brief_of clients f) + room_of kind.Short f ≤ MAX_JOURNAL)
+module _ (laws : CitedLaws) (clients : Meaning) (f : Facts) (m n : JournalValue) (j : List (List Entry))
+    (two now : Two File) (few : m.file < 2) (many : m.generation + 1 < 2 ^ 64)
+    (holds : HoldsSecond clients m j two) (same : facts j ≡ f) (still : IsSettled clients f)
+    (made : IsCompacted clients f m n)
+    (within : AllByRecursion (AllByRecursion IsEntry) (brief_of clients f))
+    (room : journal_end kind.Short (brief_of clients f) + room_of kind.Short f ≤ MAX_JOURNAL)
     (so : IsWritten clients f m n two now) where
   abbrev own : ℕ
   own = m.file
@@ -117,21 +126,27 @@ module _ (laws : CitedLaws) (clients : Meaning) (f : Facts) (m n : JournalValue)
   there = made.file_is
 
   -- files of which the one is as it was and the other's gate is open hold the brief account in the other
-  pub second_holds : (x : Two (List ℕ)) → file_of x own ≡ (file_of two own).now → file_of x (1 - own) ≡ opened (file_of now n.file).now → HoldsJournal clients x (1 - own) kind.Short (brief j)
+  pub second_holds : (x : Two (List ℕ)) → file_of x own ≡ (file_of two own).now
+      → file_of x (1 - own) ≡ opened (file_of now n.file).now → HoldsJournal clients x (1 - own) kind.Short (brief j)
   second_holds x this other =
       let frames = so.frames in
       let g = m.generation + 1 in
-      let own_open : is_open (file_of x own) ≡ true = ap is_open (this ∙ sym (read_file two own)) ∙ found_open (read_files two) own holds.found in
+      let own_open : is_open (file_of x own) ≡ true = ap is_open (this ∙ sym (read_file two own))
+      ∙ found_open (read_files two) own holds.found in
       let own_generation : generation_in (file_of x own) ≡ m.generation = ap generation_in this ∙ holds.generation_is in
-      let other_open : is_open (file_of x (1 - own)) ≡ true = ap is_open other ∙ opened_open (file_of now n.file).now so.gate g _ frames in
-      let other_generation : generation_in (file_of x (1 - own)) ≡ g = ap generation_in other ∙ opened_generation (file_of now n.file).now so.gate g _ frames many in
+      let other_open : is_open (file_of x (1 - own)) ≡ true = ap is_open other
+      ∙ opened_open (file_of now n.file).now so.gate g _ frames in
+      let other_generation : generation_in (file_of x (1 - own)) ≡ g = ap generation_in other
+      ∙ opened_generation (file_of now n.file).now so.gate g _ frames many in
       record {
         found = greater_found x own m.generation few own_open other_open own_generation other_generation;
-        format_is = ap (λ (b : List ℕ). format_of (format_in b)) other ∙ ap format_of (opened_format (file_of now n.file).now so.gate g _ frames);
+        format_is = ap (λ (b : List ℕ). format_of (format_in b)) other
+            ∙ ap format_of (opened_format (file_of now n.file).now so.gate g _ frames);
         header = 1 ∷ marked g;
         frames =
             subst (λ (b : List ℕ). HasFrames b (1 ∷ marked g) (payloads kind.Short nothing (brief j))) (sym other)
-            (subst (HasFrames (opened (file_of now n.file).now) (1 ∷ marked g)) payloads_are (opened_frames (file_of now n.file).now so.gate g _ frames));
+            (subst (HasFrames (opened (file_of now n.file).now) (1 ∷ marked g)) payloads_are
+            (opened_frames (file_of now n.file).now so.gate g _ frames));
         legal = (laws.keeps clients j holds.legal settled_so).legal;
         kinds = short_journal (brief j);
         within = subst (AllByRecursion (AllByRecursion IsEntry)) (sym brief_is) within;
@@ -139,22 +154,27 @@ module _ (laws : CitedLaws) (clients : Meaning) (f : Facts) (m n : JournalValue)
       }
 
   -- at each moment of the opening the files stand for the journal or for its brief account
-  pub opening_either : (o0 o o' : Outside) → o.links ≡ o0.links → Passed now o o' n.file (ShutOrOpened (file_of now n.file).now)
+  pub opening_either : (o0 o o' : Outside) → o.links ≡ o0.links
+      → Passed now o o' n.file (ShutOrOpened (file_of now n.file).now)
       → MomentsAre o o' (StandsForEither clients j (sent_of o0.links.told))
   opening_either o0 o o' links passed =
       let Q : List ℕ → Type 0 = ShutOrOpened (file_of now n.file).now in
       let sent = sent_of o0.links.told in
       let at : MomentsAre o o' (FileMoment Q two sent (1 - own)) =
-      subst (λ (k : ℕ). MomentsAre o o' (FileMoment Q two sent k)) there (passed_before Q two now n.file o0 o o' so.other links passed) in
+      subst (λ (k : ℕ). MomentsAre o o' (FileMoment Q two sent k)) there
+      (passed_before Q two now n.file o0 o o' so.other links passed) in
       moments_map o o' (FileMoment Q two sent (1 - own)) (StandsForEither clients j sent)
       (λ x moment. elim moment.this [
         | inl shut ↦ record {
-          stands_for = inl (shut_stands clients m j two few holds x.files (own_kept clients m j two few holds Q sent x moment) shut).1;
+          stands_for =
+              inl (shut_stands clients m j two few holds x.files (own_kept clients m j two few holds Q sent x moment)
+              shut).1;
           nothing_sent = moment.nothing_sent;
         }
         | inr there_open ↦ record {
           stands_for =
-              inr (laws.stand clients x.files (1 - own) kind.Short (brief j) (second_holds x.files (own_kept clients m j two few holds Q sent x moment) there_open));
+              inr (laws.stand clients x.files (1 - own) kind.Short (brief j)
+              (second_holds x.files (own_kept clients m j two few holds Q sent x moment) there_open));
           nothing_sent = moment.nothing_sent;
         }
       ]) at
@@ -167,21 +187,28 @@ module _ (laws : CitedLaws) (clients : Meaning) (f : Facts) (m n : JournalValue)
       let other : other_of two' (1 - own) ≡ other_of two (1 - own) =
       subst (λ (k : ℕ). other_of two' k ≡ other_of two k) there (publishes.other ∙ so.other) in
       let this = own_still two two' own few other in
-      let file : file_of two' (1 - own) ≡ settled (opened before) = subst (λ (k : ℕ). file_of two' k ≡ settled (opened before)) there publishes.bytes in
+      let file : file_of two' (1 - own) ≡ settled (opened before) =
+      subst (λ (k : ℕ). file_of two' k ≡ settled (opened before)) there publishes.bytes in
       let now_is : (file_of two' (1 - own)).now ≡ opened before = ap (λ (x : File). x.now) file in
       let pending : NothingPending two' (1 - own) = file ∙ ap settled (sym now_is) in
-      let own_pending = pending_still two two' own this (settled_one two own few holds.first_settled holds.second_settled) in
-      let second = second_holds (read_files two') (read_file two' own ∙ ap (λ (x : File). x.now) this) (read_file two' (1 - own) ∙ now_is) in
-      let here : (file_of two' n.file).now ≡ (file_of two' (1 - own)).now = ap (λ (k : ℕ). (file_of two' k).now) there in
+      let own_pending =
+      pending_still two two' own this (settled_one two own few holds.first_settled holds.second_settled) in
+      let second =
+      second_holds (read_files two') (read_file two' own
+      ∙ ap (λ (x : File). x.now) this) (read_file two' (1 - own) ∙ now_is) in
+      let here : (file_of two' n.file).now ≡ (file_of two' (1 - own)).now =
+      ap (λ (k : ℕ). (file_of two' k).now) there in
       let end : n.end ≡ journal_end kind.Short (brief j) = made.end_is ∙ ap (journal_end kind.Short) (sym brief_is) in
       record {
         first_settled = settled_first two' own few own_pending pending;
         second_settled = settled_second two' own few own_pending pending;
         found = second.found ∙ ap (λ (k : ℕ). Some k) (sym there);
         format_is = ap format_in (here ∙ now_is) ∙ opened_format before so.gate g _ so.frames;
-        generation_is = ap generation_in (here ∙ now_is) ∙ opened_generation before so.gate g _ so.frames many ∙ sym made.generation_is;
+        generation_is = ap generation_in (here ∙ now_is) ∙ opened_generation before so.gate g _ so.frames many
+            ∙ sym made.generation_is;
         header = second.header;
-        frames = subst (λ (b : List ℕ). HasFrames b second.header (payloads kind.Short nothing (brief j))) (sym (here ∙ sym (read_file two' (1 - own)))) second.frames;
+        frames = subst (λ (b : List ℕ). HasFrames b second.header (payloads kind.Short nothing (brief j)))
+            (sym (here ∙ sym (read_file two' (1 - own)))) second.frames;
         end_is = end;
         legal = second.legal;
         within = second.within;
@@ -198,8 +225,10 @@ pub record Begun (m n0 : JournalValue) (o0 o1 : Outside) : Type 0 where
   pub stays : EndsOrStays (1 - m.file) o0 o1
   pub run : DiskRun o0 o1
 
-pub begun_so : (m n0 : JournalValue) (file generation : ℕ) (o0 o1 : Outside) → file ≡ m.file → generation ≡ m.generation → n0 ≡ fresh (1 - file) 2 (generation + 1)
-    → Becomes (Prepares (1 - file) 2 (generation + 1)) o0.files o1.files → EndsOrStays (1 - file) o0 o1 → DiskRun o0 o1 → Begun m n0 o0 o1
+pub begun_so : (m n0 : JournalValue) (file generation : ℕ) (o0 o1 : Outside) → file ≡ m.file
+    → generation ≡ m.generation → n0 ≡ fresh (1 - file) 2 (generation + 1)
+    → Becomes (Prepares (1 - file) 2 (generation + 1)) o0.files o1.files → EndsOrStays (1 - file) o0 o1
+    → DiskRun o0 o1 → Begun m n0 o0 o1
 begun_so m n0 file generation o0 o1 one other value prepared stays run = record {
   value = value ∙ (λ i. fresh (1 - one i) 2 (other i + 1));
   prepared =
@@ -213,29 +242,44 @@ begun_so m n0 file generation o0 o1 one other value prepared stays run = record 
 pub works_begun : (m n0 : JournalValue) (o0 o1 : Outside) → Begun m n0 o0 o1 → ForSome o1.files (Works n0)
 works_begun m n0 o0 o1 begun x told =
     let before = told_back o0 o1 x begun.run.same_told told in
-    let new = becomes_told (Prepares (1 - m.file) 2 (m.generation + 1)) o0.files o1.files before.0 before.1 begun.prepared in
+    let new = becomes_told (Prepares (1 - m.file) 2 (m.generation + 1)) o0.files o1.files before.0 before.1
+    begun.prepared in
     let both : Some new.0 ≡ Some x = sym new.1 ∙ told in
     let one : new.0 ≡ x = cc in
     let prepares = new.2 in
     let frames : HasFrames (file_of new.0 (1 - m.file)).now (prepares.gate ∷ marked (m.generation + 1)) [] =
-    subst (λ (b : List ℕ). HasFrames b (prepares.gate ∷ marked (m.generation + 1)) []) (sym (ap (λ (f : File). f.now) prepares.bytes)) (begun_frames prepares.gate (m.generation + 1)) in
+    subst (λ (b : List ℕ). HasFrames b (prepares.gate ∷ marked (m.generation + 1)) [])
+    (sym (ap (λ (f : File). f.now) prepares.bytes)) (begun_frames prepares.gate (m.generation + 1)) in
     let there : Works (fresh (1 - m.file) 2 (m.generation + 1)) new.0 = record {
       at_rest = prepares.at_rest;
-      shut = record { gate = prepares.gate; behind = marked (m.generation + 1); payloads = []; closed = prepares.closed; header = refl; frames = frames; end_is = refl };
+      shut = record {
+        gate = prepares.gate;
+        behind = marked (m.generation + 1);
+        payloads = [];
+        closed = prepares.closed;
+        header = refl;
+        frames = frames;
+        end_is = refl;
+      };
     } in
     subst (Works n0) one (subst (λ (v : JournalValue). Works v new.0) (sym begun.value) there)
 
 -- no memory was found while it was written, or a call on the disk failed
-pub write_failed : (clients : Meaning) (m n0 : JournalValue) (j : List (List Entry)) (two : Two File) (o0 o1 o2 : Outside) (e : MigrationFault) (result : Result JournalValue CompactionFault)
-    → m.file < 2 → HoldsSecond clients m j two → o0.files ≡ Some two → Begun m n0 o0 o1 → StaysShut n0.file o1 o2 → LeavesIdle {A = Unit {0}} n0.file o1.files o2.files (Err e)
+pub write_failed : (clients : Meaning) (m n0 : JournalValue) (j : List (List Entry)) (two : Two File)
+    (o0 o1 o2 : Outside) (e : MigrationFault) (result : Result JournalValue CompactionFault)
+    → m.file < 2 → HoldsSecond clients m j two → o0.files ≡ Some two → Begun m n0 o0 o1 → StaysShut n0.file o1 o2
+    → LeavesIdle {A = Unit {0}} n0.file o1.files o2.files (Err e)
     → result ≡ Err (fault_of e) → Compacts clients m j o0 o2 result
 write_failed clients m n0 j two o0 o1 o2 e result few holds told begun shut idle is =
     let file : n0.file ≡ 1 - m.file = ap (λ (v : JournalValue). v.file) begun.value in
-    written_failed clients m j two few holds (1 - m.file) (m.generation + 1) o0 o1 o2 e result refl told begun.stays begun.run begun.prepared
-    (subst (λ (k : ℕ). StaysShut k o1 o2) file shut) (subst (λ (k : ℕ). LeavesIdle {A = Unit {0}} k o1.files o2.files (Err e)) file idle) is
+    written_failed clients m j two few holds (1 - m.file) (m.generation + 1) o0 o1 o2 e result refl told begun.stays
+    begun.run begun.prepared
+    (subst (λ (k : ℕ). StaysShut k o1 o2) file shut)
+    (subst (λ (k : ℕ). LeavesIdle {A = Unit {0}} k o1.files o2.files (Err e)) file idle) is
 
 -- what the writer is then
-pub compacted_so : (clients : Meaning) (f : Facts) (p : Plan) (m n0 n : JournalValue) (o0 o1 : Outside) (o o' : Option (Two File)) → IsPlan clients f p → Begun m n0 o0 o1
+pub compacted_so : (clients : Meaning) (f : Facts) (p : Plan) (m n0 n : JournalValue) (o0 o1 : Outside)
+    (o o' : Option (Two File)) → IsPlan clients f p → Begun m n0 o0 o1
     → Adding n0 n (plan_pages f p) o o' → IsCompacted clients f m n
 compacted_so clients f p m n0 n o0 o1 o o' plan begun adding = record {
   file_is = adding.grows.file_is ∙ ap (λ (v : JournalValue). v.file) begun.value;
@@ -244,10 +288,14 @@ compacted_so clients f p m n0 n o0 o1 o o' plan begun adding = record {
   end_is = omega (arith, adding.grows.end_is, ap (λ (v : JournalValue). v.end) begun.value, plan_end clients f p plan);
 }
 
-module _ (laws : CitedLaws) (clients : Meaning) (f : Facts) (p : Plan) (m n0 n : JournalValue) (j : List (List Entry)) (two : Two File) (o0 o1 o2 o3 : Outside) (told : o0.files ≡ Some two)
-    (few : m.file < 2) (many : m.generation + 1 < 2 ^ 64) (holds : HoldsSecond clients m j two) (same : facts j ≡ f) (still : IsSettled clients f)
-    (plan : IsPlan clients f p) (within : AreWritten f p) (room : journal_end kind.Short (brief_of clients f) + room_of kind.Short f ≤ MAX_JOURNAL)
-    (begun : Begun m n0 o0 o1) (adding : Adding n0 n (plan_pages f p) o1.files o2.files) (works : ForSome o2.files (Works n)) (shut : StaysShut n0.file o1 o2) (run : DiskRun o1 o2)
+module _ (laws : CitedLaws) (clients : Meaning) (f : Facts) (p : Plan) (m n0 n : JournalValue) (j : List (List Entry))
+    (two : Two File) (o0 o1 o2 o3 : Outside) (told : o0.files ≡ Some two)
+    (few : m.file < 2) (many : m.generation + 1 < 2 ^ 64) (holds : HoldsSecond clients m j two) (same : facts j ≡ f)
+    (still : IsSettled clients f)
+    (plan : IsPlan clients f p) (within : AreWritten f p)
+    (room : journal_end kind.Short (brief_of clients f) + room_of kind.Short f ≤ MAX_JOURNAL)
+    (begun : Begun m n0 o0 o1) (adding : Adding n0 n (plan_pages f p) o1.files o2.files)
+    (works : ForSome o2.files (Works n)) (shut : StaysShut n0.file o1 o2) (run : DiskRun o1 o2)
     (passed : (t : Two File) → o2.files ≡ Some t → Passed t o2 o3 n.file (ShutOrOpened (file_of t n.file).now)) where
   file_begun : n0.file ≡ 1 - m.file
   file_begun = ap (λ (v : JournalValue). v.file) begun.value
@@ -260,10 +308,12 @@ module _ (laws : CitedLaws) (clients : Meaning) (f : Facts) (p : Plan) (m n0 n :
   now_written =
       let mid = becomes_told (Prepares (1 - m.file) 2 (m.generation + 1)) o0.files o1.files two told begun.prepared in
       let new = becomes_told (Adds n0.file n0.end (plan_pages f p)) o1.files o2.files mid.0 mid.1 adding.adds in
-      let prepares : Prepares n0.file 2 (m.generation + 1) two mid.0 = subst (λ (k : ℕ). Prepares k 2 (m.generation + 1) two mid.0) (sym file_begun) mid.2 in (
+      let prepares : Prepares n0.file 2 (m.generation + 1) two mid.0 =
+      subst (λ (k : ℕ). Prepares k 2 (m.generation + 1) two mid.0) (sym file_begun) mid.2 in (
         new.0,
         new.1,
-        written_now clients f p m n0 n two mid.0 new.0 plan prepares (ap (λ (v : JournalValue). v.end) begun.value) adding.grows.file_is new.2 (works new.0 new.1),
+        written_now clients f p m n0 n two mid.0 new.0 plan prepares (ap (λ (v : JournalValue). v.end) begun.value)
+            adding.grows.file_is new.2 (works new.0 new.1),
       )
 
   brief_limits : AllByRecursion (AllByRecursion IsEntry) (brief_of clients f)
@@ -274,13 +324,17 @@ module _ (laws : CitedLaws) (clients : Meaning) (f : Facts) (p : Plan) (m n0 n :
       let now = now_written in
       let there : StaysShut (1 - m.file) o1 o2 = subst (λ (k : ℕ). StaysShut k o1 o2) file_begun shut in
       let stays = stays_then (1 - m.file) (m.generation + 1) o0 o1 o2 begun.stays begun.run begun.prepared there in
-      moments_then o0 o2 o3 (StandsForEither clients j (sent_of o0.links.told)) (stays_either clients m j two few holds o0 o2 (stays two told))
-      (opening_either laws clients f m n j two now.0 few many holds same still made brief_limits room now.2 o0 o2 o3 (run.same_links ∙ begun.run.same_links) (passed now.0 now.1))
+      moments_then o0 o2 o3 (StandsForEither clients j (sent_of o0.links.told))
+      (stays_either clients m j two few holds o0 o2 (stays two told))
+      (opening_either laws clients f m n j two now.0 few many holds same still made brief_limits room now.2 o0 o2 o3
+      (run.same_links ∙ begun.run.same_links) (passed now.0 now.1))
 
   -- the gate was not opened, or was and that is not known
-  pub open_failed : (result : Result JournalValue CompactionFault) → result ≡ Err fault.DiskFault → Compacts clients m j o0 o3 result
+  pub open_failed : (result : Result JournalValue CompactionFault) → result ≡ Err fault.DiskFault
+      → Compacts clients m j o0 o3 result
   open_failed result is =
-      subst (λ (r : Result JournalValue CompactionFault). Compacts clients m j o0 o3 r) (sym is) (record { moments = all_moments; ends = λ two' told'. tt })
+      subst (λ (r : Result JournalValue CompactionFault). Compacts clients m j o0 o3 r) (sym is)
+      (record { moments = all_moments; ends = λ two' told'. tt })
 
   -- the other file has the journal
   pub opened_so : Becomes (Publishes n.file) o2.files o3.files → Compacts clients m j o0 o3 (Ok n)

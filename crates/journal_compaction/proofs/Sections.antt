@@ -1,5 +1,6 @@
 -- What is written of a plan is the brief account.
-use Rattle.std.proofs.Common.{◌≡◌, ℕ, zero, suc, ◌+◌, ◌<◌, Bool, true, false, cond, List, [], ◌∷◌, ◌++◌, length, map, refl, sym, ◌∙◌, ap, subst, arith, append_assoc, Some}
+use Rattle.std.proofs.Common.{◌≡◌, ℕ, zero, suc, ◌+◌, ◌<◌, Bool, true, false, cond, List, [], ◌∷◌, ◌++◌, length, map}
+use Rattle.std.proofs.Common.{refl, sym, ◌∙◌, ap, subst, arith, append_assoc, Some}
 use Rattle.std.specs.Prelude.{nat_lt, slice_get}
 use Rattle.std.specs.List.{AllByRecursion}
 use Rattle.outside.specs.Frames.{end_of}
@@ -55,7 +56,8 @@ peer_alone f (item.Judged n) peer = cc
 peer_alone f (item.Deliver n) peer = cc
 peer_alone f (item.Invalid n) peer = cc
 
-told_suit : (f : Facts) (items : List Item) → AllByRecursion (IsItem f) items → AllByRecursion (λ i. is_told i ≡ true) items
+told_suit : (f : Facts) (items : List Item) → AllByRecursion (IsItem f) items
+    → AllByRecursion (λ i. is_told i ≡ true) items
     → AllByRecursion (λ i. is_kept (entry_of f i) ≡ is_alone i) items
 told_suit f [] are told = tt
 told_suit f (i ∷ items) are told = (told_alone f i are.0 told.0, told_suit f items are.1 told.1)
@@ -76,12 +78,15 @@ module _ (clients : Meaning) (f : Facts) (p : Plan) (plan : IsPlan clients f p) 
       alone_written f MAX_STEPS [] p.head.items plan.head.kinds
       ∙ ap (λ (es : List Entry). written (names_of f) (each_alone es)) plan.head.means
 
-  told_written : pages f MAX_STEPS 0 [] p.told.items ≡ written (names_of f) (filled MAX_STEPS is_kept [] (told_of clients f))
+  told_written : pages f MAX_STEPS 0 [] p.told.items
+      ≡ written (names_of f) (filled MAX_STEPS is_kept [] (told_of clients f))
   told_written =
-      filled_written f MAX_STEPS is_kept (omega arith) p.told.items (told_suit f p.told.items plan.told.there plan.told.kinds)
+      filled_written f MAX_STEPS is_kept (omega arith) p.told.items
+      (told_suit f p.told.items plan.told.there plan.told.kinds)
       ∙ ap (λ (es : List Entry). written (names_of f) (filled MAX_STEPS is_kept [] es)) plan.told.means
 
-  peers_written : pages f MAX_ROWS 0 [] p.peers.items ≡ written (names_of f) (filled MAX_ROWS never_alone [] (peer_entries f f.contacts))
+  peers_written : pages f MAX_ROWS 0 [] p.peers.items
+      ≡ written (names_of f) (filled MAX_ROWS never_alone [] (peer_entries f f.contacts))
   peers_written =
       filled_written f MAX_ROWS never_alone (omega arith) p.peers.items (peers_suit f p.peers.items plan.peers.kinds)
       ∙ ap (λ (es : List Entry). written (names_of f) (filled MAX_ROWS never_alone [] es)) plan.peers.means
@@ -122,7 +127,8 @@ module _ (clients : Meaning) (f : Facts) (p : Plan) (plan : IsPlan clients f p) 
 -- ---- entries within their limits
 
 module _ (P : Entry → Type 0) where
-  all_map : (f : Facts) (items : List Item) → AllByRecursion (λ i. P (entry_of f i)) items → AllByRecursion P (map (entry_of f) items)
+  all_map : (f : Facts) (items : List Item) → AllByRecursion (λ i. P (entry_of f i)) items
+      → AllByRecursion P (map (entry_of f) items)
   all_map f [] all = tt
   all_map f (i ∷ items) all = (all.0, all_map f items all.1)
 
@@ -141,13 +147,16 @@ module _ (P : Entry → Type 0) where
   all_closed [] all = tt
   all_closed (e ∷ es) all = (all, tt)
 
-  all_filled : (most : ℕ) (alone : Entry → Bool) (front es : List Entry) → AllByRecursion P front → AllByRecursion P es → Batches (filled most alone front es)
+  all_filled : (most : ℕ) (alone : Entry → Bool) (front es : List Entry) → AllByRecursion P front
+      → AllByRecursion P es → Batches (filled most alone front es)
   all_filled most alone front [] first all = all_closed front first
   all_filled most alone front (e ∷ es) first all =
       let single : AllByRecursion P (e ∷ []) = (all.0, tt) in
       elim (alone e) as (λ b. Batches (cond b (closed front ++ (e ∷ []) ∷ filled most alone [] es)
-      (cond (nat_lt (length front) most) (filled most alone (front ++ e ∷ []) es) (front ∷ filled most alone (e ∷ []) es)))) [
-        | true ↦ all-append (closed front) ((e ∷ []) ∷ filled most alone [] es) (all_closed front first) (single, all_filled most alone [] es tt all.1)
+      (cond (nat_lt (length front) most) (filled most alone (front ++ e ∷ []) es)
+      (front ∷ filled most alone (e ∷ []) es)))) [
+        | true ↦ all-append (closed front) ((e ∷ []) ∷ filled most alone [] es) (all_closed front first)
+            (single, all_filled most alone [] es tt all.1)
         | false ↦
             elim (nat_lt (length front) most) as
             (λ b. Batches (cond b (filled most alone (front ++ e ∷ []) es) (front ∷ filled most alone (e ∷ []) es))) [
@@ -156,9 +165,11 @@ module _ (P : Entry → Type 0) where
             ]
       ]
 
-pub brief_within : (clients : Meaning) (f : Facts) (p : Plan) → IsPlan clients f p → AreWritten f p → AllByRecursion (AllByRecursion IsEntry) (brief_of clients f)
+pub brief_within : (clients : Meaning) (f : Facts) (p : Plan) → IsPlan clients f p → AreWritten f p
+    → AllByRecursion (AllByRecursion IsEntry) (brief_of clients f)
 brief_within clients f p plan within =
-    let of : (items : List Item) (es : List Entry) → map (entry_of f) items ≡ es → AllByRecursion (λ i. IsEntry (entry_of f i)) items → AllByRecursion IsEntry es =
+    let of : (items : List Item) (es : List Entry) → map (entry_of f) items ≡ es
+    → AllByRecursion (λ i. IsEntry (entry_of f i)) items → AllByRecursion IsEntry es =
     λ items es is all. subst (λ (l : List Entry). AllByRecursion IsEntry l) is (all_map IsEntry f items all) in
     let a = each_alone (head_entries f) in
     let b = filled MAX_STEPS is_kept [] (told_of clients f) in
@@ -166,6 +177,7 @@ brief_within clients f p plan within =
     all-append IsEntry (a ++ b) c
     (all-append IsEntry a b
     (all_alone IsEntry (head_entries f) (of p.head.items (head_entries f) plan.head.means within.head))
-    (all_filled IsEntry MAX_STEPS is_kept [] (told_of clients f) tt (of p.told.items (told_of clients f) plan.told.means within.told)))
+    (all_filled IsEntry MAX_STEPS is_kept [] (told_of clients f) tt
+    (of p.told.items (told_of clients f) plan.told.means within.told)))
     (all_filled IsEntry MAX_ROWS never_alone [] (peer_entries f f.contacts) tt
     (of p.peers.items (peer_entries f f.contacts) plan.peers.means within.peers))

@@ -1,5 +1,6 @@
 -- What the batches of a legal journal are written as, where the messages that are held in the end have names.
-use Rattle.std.proofs.Common.{◌≡◌, ℕ, suc, true, false, cond, List, [], ◌∷◌, ◌++◌, length, refl, sym, ◌∙◌, ap, arith, Option, Some}
+use Rattle.std.proofs.Common.{◌≡◌, ℕ, suc, true, false, cond, List, [], ◌∷◌, ◌++◌, length, refl, sym, ◌∙◌, ap, arith}
+use Rattle.std.proofs.Common.{Option, Some}
 use Rattle.std.specs.Prelude.{◌||◌}
 use Rattle.std.specs.Int.{w16, w32, w64, to_be_bytes}
 use Rattle.std.specs.List.{AllByRecursion, flat_map}
@@ -41,7 +42,8 @@ place_front : (ids more : List Id) (id : Id) → is_among ids id ≡ true → pl
 place_front [] more id e = cc
 place_front (x ∷ ids) more id e =
     elim (same_id x id) as (λ b. (b || is_among ids id) ≡ true
-    → cond b (Some 0) (option_map suc (place_in (ids ++ more) id)) ≡ cond b (Some 0) (option_map suc (place_in ids id))) [
+    → cond b (Some 0) (option_map suc (place_in (ids ++ more) id))
+    ≡ cond b (Some 0) (option_map suc (place_in ids id))) [
       | true ↦ λ h. refl
       | false ↦ λ h. ap (option_map suc) (place_front ids more id h)
     ] e
@@ -50,7 +52,8 @@ module _ (ids more : List Id) where
   held_front : (id : Id) → Among ids more id → longer ids more id ≡ shorter ids more id
   held_front id among = ap (λ (o : Option ℕ). to_be_bytes w32 (number_or o)) (place_front ids more id among)
 
-  list_front : (xs : List Id) → AllByRecursion (Among ids more) xs → flat_map (longer ids more) xs ≡ flat_map (shorter ids more) xs
+  list_front : (xs : List Id) → AllByRecursion (Among ids more) xs
+      → flat_map (longer ids more) xs ≡ flat_map (shorter ids more) xs
   list_front [] all = refl
   list_front (x ∷ xs) all = λ i. held_front x all.0 i ++ list_front xs all.1 i
 
@@ -60,7 +63,8 @@ module _ (ids more : List Id) where
   out_front (out.Offers xs) all = ap (λ (b : List ℕ). 2 ∷ (to_be_bytes w16 (length xs) ++ b)) (list_front xs all)
   out_front (out.Send id) all = ap (λ (b : List ℕ). 3 ∷ b) (held_front id all)
 
-  spelled_front : (e : Entry) → EntryNames (Among ids more) e → spelling_in kind.Short (ids ++ more) e ≡ spelling_in kind.Short ids e
+  spelled_front : (e : Entry) → EntryNames (Among ids more) e
+      → spelling_in kind.Short (ids ++ more) e ≡ spelling_in kind.Short ids e
   unfolding spelling_in
   spelled_front (entry.Judged id) named = ap (λ (b : List ℕ). 8 ∷ b) (held_front id named)
   spelled_front (entry.Deliver id) named = ap (λ (b : List ℕ). 9 ∷ b) (held_front id named)
@@ -68,8 +72,12 @@ module _ (ids more : List Id) where
   spelled_front (entry.Again s id) named = ap (λ (b : List ℕ). 11 ∷ on_session s b) (held_front id named)
   spelled_front (entry.Seen s id) named = ap (λ (b : List ℕ). 13 ∷ on_session s b) (held_front id named)
   spelled_front (entry.Asked s id) named = ap (λ (b : List ℕ). 14 ∷ on_session s b) (held_front id named)
-  spelled_front (entry.Out s now what) named = ap (λ (b : List ℕ). 15 ∷ on_session s (to_be_bytes w64 now ++ b)) (out_front what named)
-  spelled_front (entry.Tried t) named = ap (λ (b : List ℕ). 18 ∷ t.contact ∷ (b ++ (flags_byte t.seen t.owed t.asked ∷ t.tries ∷ to_be_bytes w64 t.expiry))) (held_front t.id named)
+  spelled_front (entry.Out s now what) named =
+      ap (λ (b : List ℕ). 15 ∷ on_session s (to_be_bytes w64 now ++ b)) (out_front what named)
+  spelled_front (entry.Tried t) named =
+      ap (λ (b : List ℕ).
+      18 ∷ t.contact ∷ (b ++ (flags_byte t.seen t.owed t.asked ∷ t.tries ∷ to_be_bytes w64 t.expiry)))
+      (held_front t.id named)
   spelled_front (entry.Contact c) named = refl
   spelled_front (entry.Group def) named = refl
   spelled_front (entry.Level c g l) named = refl
@@ -82,7 +90,8 @@ module _ (ids more : List Id) where
   spelled_front (entry.Kept from m) named = refl
   spelled_front (entry.Want c id) named = refl
 
-  spellings_front : (es : List Entry) → AllByRecursion (EntryNames (Among ids more)) es → spellings kind.Short (ids ++ more) es ≡ spellings kind.Short ids es
+  spellings_front : (es : List Entry) → AllByRecursion (EntryNames (Among ids more)) es
+      → spellings kind.Short (ids ++ more) es ≡ spellings kind.Short ids es
   spellings_front [] all = refl
   spellings_front (e ∷ es) all = λ i. spelled_front e all.0 i ++ spellings_front es all.1 i
 
@@ -100,13 +109,16 @@ payloads_written laws clients f (b ∷ bs) legal =
     let on = continues_batches f (b ∷ bs) in
     let ids = names_of f in
     let more = ids_of_held on.held.more in
-    let all : names_of (after_batches f (b ∷ bs)) ≡ ids ++ more = ap ids_of_held on.held.goes_on ∙ ids-append f.held on.held.more in
+    let all : names_of (after_batches f (b ∷ bs)) ≡ ids ++ more = ap ids_of_held on.held.goes_on
+    ∙ ids-append f.held on.held.more in
     let here : payload kind.Short f b ≡ spellings kind.Short (names_of (after_batches f (b ∷ bs))) b =
-    sym (spellings_front ids more b (laws clients f b legal.0)) ∙ ap (λ (names : List Id). spellings kind.Short names b) (sym all) in
+    sym (spellings_front ids more b (laws clients f b legal.0))
+    ∙ ap (λ (names : List Id). spellings kind.Short names b) (sym all) in
     λ i. here i ∷ payloads_written laws clients (after_all f b) bs legal.1 i
 
 -- how long the frames are does not depend on the names
-pub written_len : (names : List (List ℕ)) (f : Facts) (bs : List (List Entry)) → frames_len (payloads kind.Short f bs) ≡ frames_len (written names bs)
+pub written_len : (names : List (List ℕ)) (f : Facts) (bs : List (List Entry))
+    → frames_len (payloads kind.Short f bs) ≡ frames_len (written names bs)
 written_len names f [] = refl
 written_len names f (b ∷ bs) =
     let p = payload kind.Short f b in
@@ -122,5 +134,6 @@ written_len names f (b ∷ bs) =
       written_len names (after_all f b) bs,
     )
 
-pub end_written : (names : List (List ℕ)) (bs : List (List Entry)) → journal_end kind.Short bs ≡ end_of (written names bs)
+pub end_written : (names : List (List ℕ)) (bs : List (List Entry))
+    → journal_end kind.Short bs ≡ end_of (written names bs)
 end_written names bs = omega (arith, written_len names nothing bs)

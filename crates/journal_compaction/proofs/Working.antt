@@ -1,5 +1,6 @@
 -- A writer of frames: what it adds, and that its file has no open header at any moment.
-use Rattle.std.proofs.Common.{◌≡◌, ℕ, ◌+◌, ◌≤◌, Bool, false, List, [], ◌∷◌, ◌++◌, length, Option, None, Some, inl, inr, refl, sym, ap, subst, ◌∙◌, arith, append_assoc, append-nil}
+use Rattle.std.proofs.Common.{◌≡◌, ℕ, ◌+◌, ◌≤◌, Bool, false, List, [], ◌∷◌, ◌++◌, length, Option, None, Some, inl}
+use Rattle.std.proofs.Common.{inr, refl, sym, ap, subst, ◌∙◌, arith, append_assoc, append-nil}
 use Rattle.std.specs.Prelude.{◌==◌}
 use Rattle.std.specs.Option.{ForSome}
 use Rattle.std.proofs.lemmas.Bool.{eqb-false}
@@ -9,7 +10,8 @@ use Rattle.outside.specs.Frames.{HasFrames, IsAtRest, is_open}
 use Rattle.outside.specs.Links.{Links, sent_of}
 use Rattle.outside.specs.Outside.{DiskRun, Moment, MomentsAre, Outside}
 use Rattle.outside.specs.Steps.{FileMoment, Passed, other_of}
-use Rattle.outside.proofs.CallSteps.{becomes_map, becomes_none, becomes_then, becomes_told, image_file, image_other, moments_map, moments_none, moments_then, now_images, told_back}
+use Rattle.outside.proofs.CallSteps.{becomes_map, becomes_none, becomes_then, becomes_told, image_file, image_other}
+use Rattle.outside.proofs.CallSteps.{moments_map, moments_none, moments_then, now_images, told_back}
 use Rattle.frame_journal.specs.Append.{Appends, BeforeOrWith, IsFramed, framed_of, payload_of}
 use Rattle.frame_journal.specs.Journal.{JournalValue}
 use Rattle.frame_journal.proofs.AppendSteps.{end_more}
@@ -25,16 +27,19 @@ use Rattle.journal_compaction.proofs.Weighing as weighing
 adds_none : (file end : ℕ) (two : Two File) → Adds file end [] two two
 adds_none file end two = record {
   other = refl;
-  frames = λ header payloads frames is. subst (HasFrames (file_of two file).now header) (sym (append-nil payloads)) frames;
+  frames = λ header payloads frames is. subst (HasFrames (file_of two file).now header) (sym (append-nil payloads))
+      frames;
 }
 
-adds_then : (file end : ℕ) (first second : List (List ℕ)) (a b c : Two File) → Adds file end first a b → Adds file (end + frames_len first) second b c
+adds_then : (file end : ℕ) (first second : List (List ℕ)) (a b c : Two File) → Adds file end first a b
+    → Adds file (end + frames_len first) second b c
     → Adds file end (first ++ second) a c
 adds_then file end first second a b c one two = record {
   other = two.other ∙ one.other;
   frames = λ header payloads frames is.
       subst (HasFrames (file_of c file).now header) (append_assoc payloads first second)
-      (two.frames header (payloads ++ first) (one.frames header payloads frames is) (omega (arith, weighing.end_more payloads first, is)));
+      (two.frames header (payloads ++ first) (one.frames header payloads frames is)
+      (omega (arith, weighing.end_more payloads first, is)));
 }
 
 pub adding_none : (n : JournalValue) (o : Option (Two File)) → Adding n n [] o o
@@ -43,7 +48,8 @@ adding_none n o = record {
   adds = becomes_none (Adds n.file n.end []) o (adds_none n.file n.end);
 }
 
-pub adding_then : (n0 n1 n2 : JournalValue) (first second : List (List ℕ)) (o0 o1 o2 : Option (Two File)) → Adding n0 n1 first o0 o1 → Adding n1 n2 second o1 o2
+pub adding_then : (n0 n1 n2 : JournalValue) (first second : List (List ℕ)) (o0 o1 o2 : Option (Two File))
+    → Adding n0 n1 first o0 o1 → Adding n1 n2 second o1 o2
     → Adding n0 n2 (first ++ second) o0 o2
 adding_then n0 n1 n2 first second o0 o1 o2 one two =
     let At : ℕ → ℕ → Type 0 = λ file end. Becomes (Adds file end second) o1 o2 in
@@ -57,13 +63,15 @@ adding_then n0 n1 n2 first second o0 o1 o2 one two =
         end_is = omega (arith, one.grows.end_is, two.grows.end_is, weighing.frames-append first second);
       };
       adds =
-          becomes_then (Adds n0.file n0.end first) (Adds n0.file (n0.end + frames_len first) second) (Adds n0.file n0.end (first ++ second)) o0 o1 o2
+          becomes_then (Adds n0.file n0.end first) (Adds n0.file (n0.end + frames_len first) second)
+          (Adds n0.file n0.end (first ++ second)) o0 o1 o2
           (λ a b c x y. adds_then n0.file n0.end first second a b c x y) one.adds there;
     }
 
 -- a frame more
 pub adding_one : (n n' : JournalValue) (p framed : List ℕ) (len : ℕ) (o o' : Option (Two File)) → framed ≡ framed_of p
-    → n' ≡ record n { end = n.end + length framed; len = len } → Becomes (Appends n.file n.end framed) o o' → Adding n n' (p ∷ []) o o'
+    → n' ≡ record n { end = n.end + length framed; len = len } → Becomes (Appends n.file n.end framed) o o'
+    → Adding n n' (p ∷ []) o o'
 adding_one n n' p framed len o o' is moved becomes =
     let same : payload_of framed ≡ p = ap payload_of is ∙ payload_framed p in
     let long : length framed ≡ 5 + length p = ap length is ∙ framed_length p in
@@ -80,7 +88,8 @@ adding_one n n' p framed len o o' is moved becomes =
           (λ a b appends. record {
             other = appends.other;
             frames = λ header payloads frames end_is.
-                subst (λ (q : List ℕ). HasFrames (file_of b n.file).now header (payloads ++ q ∷ [])) same (appends.frames header payloads frames end_is);
+                subst (λ (q : List ℕ). HasFrames (file_of b n.file).now header (payloads ++ q ∷ [])) same
+                (appends.frames header payloads frames end_is);
           }) becomes;
     }
 
@@ -89,13 +98,15 @@ adding_one n n' p framed len o o' is moved becomes =
 pub idle_so : (n : JournalValue) (two : Two File) → Works n two → IsIdle n.file two
 idle_so n two works = record {
   settled = works.at_rest.settled;
-  shut = shut_header (file_of two n.file).now works.shut.gate works.shut.behind works.shut.payloads works.shut.frames works.shut.closed;
+  shut = shut_header (file_of two n.file).now works.shut.gate works.shut.behind works.shut.payloads works.shut.frames
+      works.shut.closed;
 }
 
 pub idle_works : (n : JournalValue) (o : Option (Two File)) → ForSome o (Works n) → ForSome o (IsIdle n.file)
 idle_works n o works two told = idle_so n two (works two told)
 
-works_more : (n n' : JournalValue) (framed : List ℕ) (two two' : Two File) → IsFramed framed → Works n two → Appends n.file n.end framed two two'
+works_more : (n n' : JournalValue) (framed : List ℕ) (two two' : Two File) → IsFramed framed → Works n two
+    → Appends n.file n.end framed two two'
     → n'.file ≡ n.file → n'.end ≡ n.end + length framed → Works n' two'
 works_more n n' framed two two' is works appends file end =
     let Rests : ℕ → ℕ → Type 0 = λ t e. IsAtRest two' t e in
@@ -108,8 +119,10 @@ works_more n n' framed two two' is works appends file end =
         closed = works.shut.closed;
         header = works.shut.header;
         frames =
-            subst (λ (t : ℕ). HasFrames (file_of two' t).now (works.shut.gate ∷ works.shut.behind) (works.shut.payloads ++ payload_of framed ∷ [])) (sym file)
-            (appends.frames (works.shut.gate ∷ works.shut.behind) works.shut.payloads works.shut.frames works.shut.end_is);
+            subst (λ (t : ℕ). HasFrames (file_of two' t).now (works.shut.gate ∷ works.shut.behind)
+            (works.shut.payloads ++ payload_of framed ∷ [])) (sym file)
+            (appends.frames (works.shut.gate ∷ works.shut.behind) works.shut.payloads works.shut.frames
+            works.shut.end_is);
         end_is = end ∙ end_more works.shut.payloads n.end framed is works.shut.end_is;
       };
     }
@@ -121,17 +134,22 @@ pub framed_is : (p framed : List ℕ) → framed ≡ framed_of p → 1 ≤ lengt
 framed_is p framed is some few = framed_so p framed is (some, few)
 
 -- what was told of the files before the frame is told behind it
-pub works_one : (n n' : JournalValue) (p framed : List ℕ) (len : ℕ) (o o' : Outside) → framed ≡ framed_of p → 1 ≤ length p → length p ≤ 65536
-    → n' ≡ record n { end = n.end + length framed; len = len } → DiskRun o o' → Becomes (Appends n.file n.end framed) o.files o'.files → ForSome o.files (Works n) → ForSome o'.files (Works n')
+pub works_one : (n n' : JournalValue) (p framed : List ℕ) (len : ℕ) (o o' : Outside) → framed ≡ framed_of p
+    → 1 ≤ length p → length p ≤ 65536
+    → n' ≡ record n { end = n.end + length framed; len = len } → DiskRun o o'
+    → Becomes (Appends n.file n.end framed) o.files o'.files → ForSome o.files (Works n)
+    → ForSome o'.files (Works n')
 works_one n n' p framed len o o' is some few moved run becomes works x told =
     let before = told_back o o' x run.same_told told in
     let new = becomes_told (Appends n.file n.end framed) o.files o'.files before.0 before.1 becomes in
     let both : Some new.0 ≡ Some x = sym new.1 ∙ told in
     let one : new.0 ≡ x = cc in
     subst (Works n') one
-    (works_more n n' framed before.0 new.0 (framed_is p framed is some few) (works before.0 before.1) new.2 (ap (λ (v : JournalValue). v.file) moved) (ap (λ (v : JournalValue). v.end) moved))
+    (works_more n n' framed before.0 new.0 (framed_is p framed is some few) (works before.0 before.1) new.2
+    (ap (λ (v : JournalValue). v.file) moved) (ap (λ (v : JournalValue). v.end) moved))
 
-pub rest_so : (n : JournalValue) (o : Option (Two File)) → ForSome o (Works n) → ForSome o (λ two. IsAtRest two n.file n.end)
+pub rest_so : (n : JournalValue) (o : Option (Two File)) → ForSome o (Works n)
+    → ForSome o (λ two. IsAtRest two n.file n.end)
 rest_so n o works two told = (works two told).at_rest
 
 -- ---- moments
@@ -144,19 +162,23 @@ shut_none file o idle two told =
     (λ m now.
     let at = now_images o o two told refl m now in
     record {
-      this = ap is_open (image_only two file (file_of m.files file) (idle two told).settled (image_file two m.files file at.image)) ∙ (idle two told).shut;
+      this = ap is_open
+          (image_only two file (file_of m.files file) (idle two told).settled (image_file two m.files file at.image))
+          ∙ (idle two told).shut;
       other = image_other two m.files file at.image;
       nothing_sent = at.sent;
     })
 
 -- a frame was written, or was not
 pub shut_one : (n : JournalValue) (framed : List ℕ) (o o' : Outside) → ForSome o.files (Works n)
-    → ((two : Two File) → o.files ≡ Some two → Passed two o o' n.file (BeforeOrWith (file_of two n.file).now n.end framed)) → StaysShut n.file o o'
+    → ((two : Two File) → o.files ≡ Some two
+    → Passed two o o' n.file (BeforeOrWith (file_of two n.file).now n.end framed)) → StaysShut n.file o o'
 shut_one n framed o o' works passed two told =
     let w = works two told in
     let bytes = (file_of two n.file).now in
     let sent = sent_of o.links.told in
-    moments_map o o' (FileMoment (BeforeOrWith bytes n.end framed) two sent n.file) (FileMoment (λ left. is_open left ≡ false) two sent n.file)
+    moments_map o o' (FileMoment (BeforeOrWith bytes n.end framed) two sent n.file)
+    (FileMoment (λ left. is_open left ≡ false) two sent n.file)
     (λ m moment. record {
       this = elim (moment.this (w.shut.gate ∷ w.shut.behind) w.shut.payloads w.shut.frames w.shut.end_is) [
         | inl before ↦ shut_header (file_of m.files n.file) w.shut.gate w.shut.behind _ before w.shut.closed
@@ -167,7 +189,8 @@ shut_one n framed o o' works passed two told =
     }) (passed two told)
 
 -- a moment in words of the files before, where the other file is as it was
-moment_before : (Q : List ℕ → Type 0) (two mid : Two File) (sent : List (List ℕ)) (file : ℕ) (m : Moment) → other_of mid file ≡ other_of two file → FileMoment Q mid sent file m
+moment_before : (Q : List ℕ → Type 0) (two mid : Two File) (sent : List (List ℕ)) (file : ℕ) (m : Moment)
+    → other_of mid file ≡ other_of two file → FileMoment Q mid sent file m
     → FileMoment Q two sent file m
 moment_before Q two mid sent file m same moment = record {
   this = moment.this;
@@ -175,14 +198,17 @@ moment_before Q two mid sent file m same moment = record {
   nothing_sent = moment.nothing_sent;
 }
 
-pub passed_before : (Q : List ℕ → Type 0) (two mid : Two File) (file : ℕ) (o0 o1 o2 : Outside) → other_of mid file ≡ other_of two file → o1.links ≡ o0.links → Passed mid o1 o2 file Q
+pub passed_before : (Q : List ℕ → Type 0) (two mid : Two File) (file : ℕ) (o0 o1 o2 : Outside)
+    → other_of mid file ≡ other_of two file → o1.links ≡ o0.links → Passed mid o1 o2 file Q
     → MomentsAre o1 o2 (FileMoment Q two (sent_of o0.links.told) file)
 passed_before Q two mid file o0 o1 o2 same links passed =
     let there : MomentsAre o1 o2 (FileMoment Q two (sent_of o1.links.told) file) =
-    moments_map o1 o2 (FileMoment Q mid (sent_of o1.links.told) file) (FileMoment Q two (sent_of o1.links.told) file) (λ m x. moment_before Q two mid (sent_of o1.links.told) file m same x) passed in
+    moments_map o1 o2 (FileMoment Q mid (sent_of o1.links.told) file) (FileMoment Q two (sent_of o1.links.told) file)
+    (λ m x. moment_before Q two mid (sent_of o1.links.told) file m same x) passed in
     subst (λ (l : Links). MomentsAre o1 o2 (FileMoment Q two (sent_of l.told) file)) links there
 
-pub shut_then : (n n' : JournalValue) (added : List (List ℕ)) (o0 o1 o2 : Outside) → StaysShut n.file o0 o1 → DiskRun o0 o1 → Adding n n' added o0.files o1.files → StaysShut n'.file o1 o2
+pub shut_then : (n n' : JournalValue) (added : List (List ℕ)) (o0 o1 o2 : Outside) → StaysShut n.file o0 o1
+    → DiskRun o0 o1 → Adding n n' added o0.files o1.files → StaysShut n'.file o1 o2
     → StaysShut n.file o0 o2
 shut_then n n' added o0 o1 o2 first run adding second two told =
     let Q : List ℕ → Type 0 = λ left. is_open left ≡ false in
@@ -199,7 +225,8 @@ idle_none n None works = tt
 idle_none n (Some two) works = record { other = refl; idle = idle_so n two (works two refl) }
 
 -- frames were written before
-pub idle_later : (n n' : JournalValue) (added : List (List ℕ)) (o0 o1 o2 : Option (Two File)) → Adding n n' added o0 o1 → Becomes (StaysIdle n'.file) o1 o2 → Becomes (StaysIdle n.file) o0 o2
+pub idle_later : (n n' : JournalValue) (added : List (List ℕ)) (o0 o1 o2 : Option (Two File))
+    → Adding n n' added o0 o1 → Becomes (StaysIdle n'.file) o1 o2 → Becomes (StaysIdle n.file) o0 o2
 idle_later n n' added o0 o1 o2 adding idle =
     becomes_then (Adds n.file n.end added) (StaysIdle n.file) (StaysIdle n.file) o0 o1 o2
     (λ a b c x y. record { other = y.other ∙ x.other; idle = y.idle }) adding.adds

@@ -31,7 +31,8 @@ written_for left page i = cond (joins left i) [] (closed_page page)
 abbrev pub page_for : (left : ℕ) → List ℕ → Item → List ℕ
 page_for left page i = cond (joins left i) page []
 
--- The payloads of items, where one with these bytes is being filled and takes so many more: an item that is to stand alone
+-- The payloads of items, where one with these bytes is being filled and takes so many more: an item that is to stand
+-- alone
 -- is a payload of its own, the others fill payloads of so many.
 abbrev pub pages : Facts → (most left : ℕ) → List ℕ → List Item → List (List ℕ)
 pages f most left page [] = closed_page page

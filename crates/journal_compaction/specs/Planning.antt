@@ -39,5 +39,6 @@ plan_pages f p =
 -- where a journal with a plan's payloads ends, and the room behind it for the steps that are left
 abbrev pub plan_len : Facts → Plan → ℕ
 plan_len f p =
-    15 + items_len f MAX_STEPS 0 p.head.items + items_len f MAX_STEPS 0 p.told.items + items_len f MAX_ROWS 0 p.peers.items
+    15 + items_len f MAX_STEPS 0 p.head.items + items_len f MAX_STEPS 0 p.told.items + items_len f MAX_ROWS 0
+    p.peers.items
     + room_of kind.Short f

@@ -39,7 +39,8 @@ pub record Adding (n n' : JournalValue) (added : List (List ℕ)) (old new : Opt
 
 -- at each moment the file has no open header, and the other is as it was
 abbrev pub StaysShut : (file : ℕ) → Outside → Outside → Type 0
-StaysShut file old new = (two : Two File) → old.files ≡ Some two → Passed two old new file (λ left. is_open left ≡ false)
+StaysShut file old new = (two : Two File) → old.files ≡ Some two
+    → Passed two old new file (λ left. is_open left ≡ false)
 
 -- nothing is pending in the file, which has no open header
 pub record IsIdle (file : ℕ) (two : Two File) : Type 0 where

@@ -10,9 +10,11 @@ groups-preserved c =
     let so_far = c.groups.items.items in
     elim c.if-is_visible.branch [
       | then-is_visible+in_ok-push w ↦
-          level_more f c.args.contact c.args.items.now.items so_far c.if-is_visible.items.items c.groups.n few c.groups.invariant
+          level_more f c.args.contact c.args.items.now.items so_far c.if-is_visible.items.items c.groups.n few
+          c.groups.invariant
           (sym c.is_visible.ensures ∙ w.if-is_visible.true) (ap (λ v. v.items) w.items-is ∙ w.in_ok-push.ensures.items)
       | else-is_visible w ↦
-          level_none f c.args.contact c.args.items.now.items so_far c.if-is_visible.items.items c.groups.n few c.groups.invariant
+          level_none f c.args.contact c.args.items.now.items so_far c.if-is_visible.items.items c.groups.n few
+          c.groups.invariant
           (sym c.is_visible.ensures ∙ w.if-is_visible.false) (ap (λ v. v.items) w.items-is)
     ]

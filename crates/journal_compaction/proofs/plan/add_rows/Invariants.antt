@@ -6,4 +6,5 @@ use Rattle.journal_compaction.proofs.plan.add_rows.Given as goal
 -- the rows of the messages so far
 abbrev pub invariant-rows : goal.invariant-rows
 invariant-rows l =
-    AddsItems l.state.facts is_peer l.fn.items.items l.items.items (row_entries l.state.facts.rows l.contact (take l.n l.state.facts.held))
+    AddsItems l.state.facts is_peer l.fn.items.items l.items.items
+    (row_entries l.state.facts.rows l.contact (take l.n l.state.facts.held))

@@ -6,5 +6,7 @@ use Rattle.journal_compaction.proofs.plan.add_wants.Goals as goal
 pub wants-preserved : goal.wants-preserved
 wants-preserved c =
     let f = c.args.state.now.facts in
-    let few : c.wants.n < length (wanted_from f.wanted c.args.contact) = omega (arith, c.wants-test.true, c.wanted_count-n-end.ensures) in
-    want_more f c.args.contact c.args.items.now.items c.wants.items.items c.push.new.self.items c.wants.n few c.in_ok-push.ensures.items c.wants.invariant
+    let few : c.wants.n < length (wanted_from f.wanted c.args.contact) =
+    omega (arith, c.wants-test.true, c.wanted_count-n-end.ensures) in
+    want_more f c.args.contact c.args.items.now.items c.wants.items.items c.push.new.self.items c.wants.n few
+    c.in_ok-push.ensures.items c.wants.invariant

@@ -7,4 +7,5 @@ use Rattle.journal_compaction.proofs.plan.add_wants.Given as goal
 -- the wanted ids so far
 abbrev pub invariant-wants : goal.invariant-wants
 invariant-wants l =
-    AddsItems l.state.facts is_peer l.fn.items.items l.items.items (want_entries l.contact (take l.n (wanted_from l.state.facts.wanted l.contact)))
+    AddsItems l.state.facts is_peer l.fn.items.items l.items.items
+    (want_entries l.contact (take l.n (wanted_from l.state.facts.wanted l.contact)))

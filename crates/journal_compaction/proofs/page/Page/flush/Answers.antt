@@ -19,7 +19,8 @@ returns-in_err-frame-clause-shut g c =
 
 pub returns-in_err-append-clause-shut : goal.returns-in_err-append-clause-shut
 returns-in_err-append-clause-shut g c =
-    shut_one c.args.writer.now c.as_slice-2.result.now (g.D.Disk.tells c.args.disk.now) (g.D.Disk.tells c.append.new.disk) c.requires.works c.append.ensures.any_moment
+    shut_one c.args.writer.now c.as_slice-2.result.now (g.D.Disk.tells c.args.disk.now)
+    (g.D.Disk.tells c.append.new.disk) c.requires.works c.append.ensures.any_moment
 
 pub returns-clause-adding : goal.returns-clause-adding
 returns-clause-adding g c =
@@ -30,9 +31,13 @@ returns-clause-adding g c =
     let o = (g.D.Disk.tells c.args.disk.now).files in
     let o' = (g.D.Disk.tells c.append.new.disk).files in
     let is : framed ≡ framed_of p = c.as_slice-2.ensures.value ∙ c.in_ok-frame.ensures.framed in
-    let some : 1 ≤ length p = some_bytes (length p) c.is_empty.result (c.is_empty.ensures ∙ ap (λ (l : List ℕ). length l == 0) c.as_slice.ensures.value) c.if-is_empty.false in
-    let one = adding_one n n' p framed (max n.len (n.end + length framed)) o o' is c.in_ok-append.ensures.ok c.in_ok-append.ensures.appended in
-    let all : cond c.args.stays [] (closed_page p) ≡ p ∷ [] = ap (λ b. cond b [] (closed_page p)) c.if-stays.false ∙ closed_some p some in
+    let some : 1 ≤ length p =
+    some_bytes (length p) c.is_empty.result (c.is_empty.ensures
+    ∙ ap (λ (l : List ℕ). length l == 0) c.as_slice.ensures.value) c.if-is_empty.false in
+    let one = adding_one n n' p framed (max n.len (n.end + length framed)) o o' is c.in_ok-append.ensures.ok
+    c.in_ok-append.ensures.appended in
+    let all : cond c.args.stays [] (closed_page p) ≡ p ∷ [] = ap (λ b. cond b [] (closed_page p)) c.if-stays.false
+    ∙ closed_some p some in
     subst (λ (added : List (List ℕ)). Adding n n' added o o') (sym all) one
 
 pub returns-clause-works : goal.returns-clause-works
@@ -41,10 +46,14 @@ returns-clause-works g c =
     let p = c.args.self.now.payload.items in
     let framed = c.as_slice-2.result.now in
     let is : framed ≡ framed_of p = c.as_slice-2.ensures.value ∙ c.in_ok-frame.ensures.framed in
-    let some : 1 ≤ length p = some_bytes (length p) c.is_empty.result (c.is_empty.ensures ∙ ap (λ (l : List ℕ). length l == 0) c.as_slice.ensures.value) c.if-is_empty.false in
-    works_one n c.append.new.self p framed (max n.len (n.end + length framed)) (g.D.Disk.tells c.args.disk.now) (g.D.Disk.tells c.append.new.disk) is some c.requires.few
+    let some : 1 ≤ length p =
+    some_bytes (length p) c.is_empty.result (c.is_empty.ensures
+    ∙ ap (λ (l : List ℕ). length l == 0) c.as_slice.ensures.value) c.if-is_empty.false in
+    works_one n c.append.new.self p framed (max n.len (n.end + length framed)) (g.D.Disk.tells c.args.disk.now)
+    (g.D.Disk.tells c.append.new.disk) is some c.requires.few
     c.in_ok-append.ensures.ok c.append.ensures.run c.in_ok-append.ensures.appended c.requires.works
 
 pub returns-clause-shut : goal.returns-clause-shut
 returns-clause-shut g c =
-    shut_one c.args.writer.now c.as_slice-2.result.now (g.D.Disk.tells c.args.disk.now) (g.D.Disk.tells c.append.new.disk) c.requires.works c.append.ensures.any_moment
+    shut_one c.args.writer.now c.as_slice-2.result.now (g.D.Disk.tells c.args.disk.now)
+    (g.D.Disk.tells c.append.new.disk) c.requires.works c.append.ensures.any_moment

@@ -8,6 +8,7 @@ returns c clients same =
     let f = c.args.state.now.facts in
     record {
       head = c.in_ok-head.ensures;
-      told = subst (λ (es : List Entry). AreItems f is_told c.in_ok-told.told.items es) same (c.in_ok-told.ensures f c.requires);
+      told = subst (λ (es : List Entry). AreItems f is_told c.in_ok-told.told.items es) same
+          (c.in_ok-told.ensures f c.requires);
       peers = c.in_ok-peers.ensures;
     }
