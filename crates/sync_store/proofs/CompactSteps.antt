@@ -23,6 +23,7 @@ use Rattle.entry_codec.specs.StandingLaws.{JournalsStand}
 use Rattle.journal_state.specs.Whole.{StateValue}
 use Rattle.journal_migration.specs.Migrating.{HoldsSecond}
 use Rattle.journal_compaction.specs.Compacting.{Compacts, IsCompacted, StandsForEither, compacted_len}
+use Rattle.journal_compaction.proofs.Counted.{held_within}
 use Rattle.journal_compaction.specs.declared.fault.CompactionFault.{CompactionFault}
 use Rattle.journal_compaction.specs.declared.fault.CompactionFault.TheVariants as compaction
 use Rattle.sync_store.specs.declared.fault.StoreFault.{StoreFault}
@@ -31,7 +32,7 @@ use Rattle.sync_store.specs.Compactions.{IsOrBrief, LeadsToBrief, MayShorten, Sh
 use Rattle.sync_store.specs.Fitting.{Fits, FitsSome}
 use Rattle.sync_store.specs.Moments.{JournalMoment, Leads}
 use Rattle.sync_store.specs.Store.{HasNumbers, IsStore, StoreValue, counts_to, format_meant, written_in}
-use Rattle.sync_store.proofs.BriefCounts.{brief_long, left_without, none_taken, settled_without}
+use Rattle.sync_store.proofs.BriefFacts.{left_without, none_taken, settled_without}
 use Rattle.sync_store.proofs.FitSteps.{leads_none, true≢false}
 use Rattle.sync_store.proofs.MigrateSteps.{fits_at, moved_with, same_self}
 
@@ -99,7 +100,7 @@ shortened_store clients s state m n store roomy facts next =
     let room : room_of (format_meant n.format) state.facts ≡ room_of kind.Short state.facts = ap (λ k. room_of (format_meant k) state.facts) next.format_is in
     let same : room_of kind.Short state.facts ≡ room_of kind.Short (without_sessions f) = ap (room_of kind.Short) facts in
     let numbers : HasNumbers (without_sessions f) (counts_to kind.Short n.end) = record {
-      held = omega (arith, brief_long clients f kind.Short, next.end_is);
+      held = omega (arith, held_within clients f, next.end_is);
       sessions = omega arith;
       records = λ session. omega (arith, none_taken f session);
     } in

@@ -1,5 +1,5 @@
 -- A store that gains a batch.
-use Rattle.std.proofs.Common.{◌≡◌, ◌⊎◌, ℕ, ◌+◌, ◌*◌, ◌≤◌, ◌<◌, Bool, true, false, eqb, nat_lt, List, [], ◌∷◌, length, Some, Result, Ok, Err, IsErr, refl, sym, ap, ◌∙◌, subst, inl, inr, arith}
+use Rattle.std.proofs.Common.{◌≡◌, ◌⊎◌, ℕ, ◌+◌, ◌*◌, ◌≤◌, ◌<◌, Bool, true, false, eqb, nat_lt, List, [], ◌∷◌, length, map, Option, Some, Result, Ok, Err, IsErr, refl, sym, ap, ◌∙◌, subst, inl, inr, arith}
 use Rattle.std.specs.List.{AllByRecursion}
 use Rattle.std.proofs.lemmas.Bool.Decides.{nat_tests}
 use Rattle.outside.specs.Files.{Two, File, file_of}
@@ -17,7 +17,7 @@ use Rattle.sync_rules.specs.Facts.{Facts, after_all}
 use Rattle.sync_rules.specs.Left.{left_of}
 use Rattle.sync_rules.proofs.LeftLaws.{steps_lower}
 use Rattle.sync_rules.specs.Legal.{Allowed, IsSettling}
-use Rattle.sync_rules.specs.Steps.{IsSettled}
+use Rattle.sync_rules.specs.Steps.{IsSettled, answer_of}
 use Rattle.sync_rules.proofs.WorkLaws.{allowed_settling}
 use Rattle.entry_codec.specs.declared.naming.Format.{Format}
 use Rattle.entry_codec.specs.Payloads.{names_of, payload, payload_len, spellings}
@@ -32,8 +32,9 @@ use Rattle.sync_store.specs.Cited.{CitedLaws}
 use Rattle.sync_store.specs.Store.{HasNumbers, IsStore, StoreValue, counts_to, format_meant, written_in}
 use Rattle.sync_store.specs.Commits.{Gains, MayAdd, needed}
 use Rattle.sync_store.specs.Moments.{journal_with}
+use Rattle.sync_store.specs.Ready.{IsReady}
 use Rattle.sync_store.specs.Settling.{BatchSo, ComesBy, IsOneBatch, MakesBatch}
-use Rattle.sync_store.proofs.FitSteps.{adds_err, adds_ok, framed_len, true≢false}
+use Rattle.sync_store.proofs.FitSteps.{IsSame, adds_err, adds_ok, fits_some_same, framed_len, true≢false}
 use Rattle.sync_store.proofs.FormatLaws.{room_framed, room_less, steps_few, steps_some}
 use Rattle.sync_store.proofs.Framing.{framed_length, framed_so, payload_framed}
 use Rattle.sync_store.proofs.HeldIds.{names_stay}
@@ -85,6 +86,15 @@ stepped_store clients s new es store settling facts end limit format =
           (subst (λ (f : Facts). HasNumbers f (counts_to (written_in s) s.end)) (sym facts)
           (numbers_stay clients s.state.facts es (counts_to (written_in s) s.end) settling store.numbers)));
     }
+
+-- a store that is ready is so once there is room for a batch
+pub ready_same : (clients : Meaning) (s new : StoreValue) (files : Option (Two File)) → IsReady clients s files → IsSame s new → new.state.answers ≡ s.state.answers → new.closed ≡ false
+    → IsReady clients new files
+ready_same clients s new files ready same answers still = record {
+  still_open = still;
+  knows = answers ∙ ready.knows ∙ ap (λ (f : Facts). map (answer_of clients f) f.held) (sym same.facts);
+  fits = fits_some_same clients s new files ready.fits same;
+}
 
 -- ---- a batch in its frame
 

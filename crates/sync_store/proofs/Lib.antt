@@ -14,6 +14,6 @@ pub mod Limits
 mod Growth
 mod Errors
 mod MigrateSteps
-mod BriefCounts
+mod BriefFacts
 mod CompactSteps
 pub mod Runs

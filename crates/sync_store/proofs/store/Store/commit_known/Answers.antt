@@ -4,7 +4,7 @@ use Rattle.sync_store.specs.Commits.{needed}
 use Rattle.sync_store.specs.Moments.{WithAtMost, journal_with}
 use Rattle.sync_store.specs.Store.{StoreValue, IsStore}
 use Rattle.sync_store.proofs.FitSteps.{leads_none, fits_same}
-use Rattle.sync_store.proofs.Growth.{fits_by, may_add, no_calls, with_none}
+use Rattle.sync_store.proofs.Growth.{fits_by, may_add, no_calls, ready_same, with_none}
 use Rattle.sync_store.proofs.store.Store.commit_known.Goals as goal
 
 pub returns-then-is_full-clause-extends : goal.returns-then-is_full-clause-extends
@@ -44,6 +44,32 @@ add-requires-clause-may g c =
     may_add c.cite_laws.ensures clients s _ c.args.batch c.as_slice.result.now (subst IsStore c.self.view_is c.self.invariant)
     (c.reserve.ensures.facts ∙ ap (λ (v : StoreValue). v.state.facts) c.self.view_is) (ap (λ (v : StoreValue). v.end) c.self.view_is) (ap (λ (v : StoreValue). v.format) c.self.view_is) (c.requires.allowed still) c.requires.plain c.in_ok-framed.ensures.within
     (c.as_slice.ensures.value ∙ c.in_ok-framed.ensures.framed) (fits_by c.is_full.result s.limit (needed s c.args.batch) c.is_full.ensures c.if-is_full.false)
+
+pub returns-in_err-reserve-clause-ready : goal.returns-in_err-reserve-clause-ready
+returns-in_err-reserve-clause-ready g c still =
+    let s = c.args.self.now in
+    let before : s.closed ≡ false = ap (λ (v : StoreValue). v.closed) (sym c.self.view_is) ∙ c.if-self.false in
+    ready_same (g.C.Clients.meaning c.args.clients.now) s _ (g.D.Disk.tells c.args.disk.now).files (c.requires.ready before)
+    (record {
+      facts = c.reserve.ensures.facts ∙ ap (λ (v : StoreValue). v.state.facts) c.self.view_is;
+      file = ap (λ (v : StoreValue). v.file) c.self.view_is;
+      format = ap (λ (v : StoreValue). v.format) c.self.view_is;
+      generation = ap (λ (v : StoreValue). v.generation) c.self.view_is;
+      end = ap (λ (v : StoreValue). v.end) c.self.view_is;
+    }) (c.reserve.ensures.answers ∙ ap (λ (v : StoreValue). v.state.answers) c.self.view_is) still
+
+pub add-requires-clause-ready : goal.add-requires-clause-ready
+add-requires-clause-ready g c =
+    let s = c.args.self.now in
+    let before : s.closed ≡ false = ap (λ (v : StoreValue). v.closed) (sym c.self.view_is) ∙ c.if-self.false in
+    ready_same (g.C.Clients.meaning c.args.clients.now) s _ (g.D.Disk.tells c.args.disk.now).files (c.requires.ready before)
+    (record {
+      facts = c.reserve.ensures.facts ∙ ap (λ (v : StoreValue). v.state.facts) c.self.view_is;
+      file = ap (λ (v : StoreValue). v.file) c.self.view_is;
+      format = ap (λ (v : StoreValue). v.format) c.self.view_is;
+      generation = ap (λ (v : StoreValue). v.generation) c.self.view_is;
+      end = ap (λ (v : StoreValue). v.end) c.self.view_is;
+    }) (c.reserve.ensures.answers ∙ ap (λ (v : StoreValue). v.state.answers) c.self.view_is) c.if-self.false
 
 pub returns-clause-extends : goal.returns-clause-extends
 returns-clause-extends g c still two told j fits =
