@@ -1,5 +1,5 @@
 -- A journal replaced by its brief account, as the store sees it.
-use Rattle.std.proofs.Common.{◌≡◌, ◌⊎◌, ℕ, ◌+◌, ◌-◌, ◌^◌, ◌<◌, ◌≤◌, Bool, true, false, cond, List, Option, Some, Result, Ok, Err, refl, sym, ap, ◌∙◌, subst, inl, inr, arith}
+use Rattle.std.proofs.Common.{◌≡◌, ℕ, ◌+◌, ◌-◌, ◌^◌, ◌<◌, ◌≤◌, Bool, true, false, cond, List, Some, Result, Ok, Err, refl, sym, ap, ◌∙◌, subst, inl, inr, arith}
 use Rattle.std.specs.Prelude.{◌==◌}
 use Rattle.std.proofs.lemmas.Bool.{eqb-true}
 use Rattle.outside.specs.Files.{Two, File, file_of}
@@ -12,10 +12,8 @@ use Rattle.sync_rules.specs.declared.entries.Entry.{Entry}
 use Rattle.sync_rules.specs.Clients.{Meaning}
 use Rattle.sync_rules.specs.Facts.{Facts, facts, nothing}
 use Rattle.sync_rules.specs.Steps.{IsSettled}
-use Rattle.brief_account.specs.Account.{brief_of}
 use Rattle.brief_account.specs.Brief.{brief, without_sessions}
 use Rattle.brief_account.specs.Laws.{BriefKeepsFacts}
-use Rattle.entry_codec.specs.declared.naming.Format.{Format}
 use Rattle.entry_codec.specs.declared.naming.Format.TheVariants as kind
 use Rattle.entry_codec.specs.Payloads.{journal_end, payloads}
 use Rattle.entry_codec.specs.Standing.{room_of}
@@ -28,9 +26,9 @@ use Rattle.journal_compaction.specs.declared.fault.CompactionFault.{CompactionFa
 use Rattle.journal_compaction.specs.declared.fault.CompactionFault.TheVariants as compaction
 use Rattle.sync_store.specs.declared.fault.StoreFault.{StoreFault}
 use Rattle.sync_store.specs.declared.fault.StoreFault.TheVariants as fault
-use Rattle.sync_store.specs.Compactions.{IsOrBrief, LeadsToBrief, MayShorten, Shortens, compacted_by}
+use Rattle.sync_store.specs.Compactions.{IsOrBrief, LeadsToBrief, Shortens}
 use Rattle.sync_store.specs.Fitting.{Fits, FitsSome}
-use Rattle.sync_store.specs.Moments.{JournalMoment, Leads}
+use Rattle.sync_store.specs.Moments.{JournalMoment}
 use Rattle.sync_store.specs.Store.{HasNumbers, IsStore, StoreValue, counts_to, format_meant, written_in}
 use Rattle.sync_store.proofs.BriefFacts.{left_without, none_taken, settled_without}
 use Rattle.sync_store.proofs.FitSteps.{leads_none, true≢false}

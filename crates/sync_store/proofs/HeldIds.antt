@@ -1,5 +1,5 @@
 -- The ids of held messages as names.
-use Rattle.std.proofs.Common.{◌≡◌, ℕ, zero, suc, ◌^◌, ◌<◌, ◌≤◌, true, false, cond, ◌||◌, List, [], ◌∷◌, length, map, refl, sym, ap, ◌∙◌, arith}
+use Rattle.std.proofs.Common.{◌≡◌, ℕ, zero, suc, ◌≤◌, true, false, cond, ◌||◌, List, [], ◌∷◌, length, map, refl, sym, ap, ◌∙◌, arith}
 use Rattle.std.specs.Prelude.{Option, Some, None, is_some}
 use Rattle.std.specs.Option.{option_map}
 use Rattle.std.specs.List.{AllByRecursion, slice_get}
@@ -16,12 +16,8 @@ use Rattle.sync_rules.proofs.StepKinds.{settling_only}
 use Rattle.journal_state.specs.Holding.{IsOwnId}
 use Rattle.journal_state.specs.Sound.{AreApart, IsSound}
 use Rattle.journal_state.specs.Whole.{StateValue}
-use Rattle.entry_codec.specs.declared.naming.Format.{Format}
-use Rattle.entry_codec.specs.declared.naming.Format.TheVariants as kind
-use Rattle.entry_codec.specs.Naming.{AreNames, IsNamed, place_in}
+use Rattle.entry_codec.specs.Naming.{AreNames, place_in}
 use Rattle.entry_codec.specs.Payloads.{names_of}
-use Rattle.entry_codec.specs.Spelling.{EntryNames}
-use Rattle.entry_codec.proofs.Named.{named_in}
 
 -- ---- places
 

@@ -1,8 +1,8 @@
 -- How many calls of the disk a load makes.
-use Rattle.std.proofs.Common.{◌≡◌, ℕ, ◌+◌, ◌-◌, ◌*◌, ◌≤◌, Bool, true, false, List, [], ◌++◌, length, refl, sym, ap, subst, ◌∙◌, arith, length-append}
+use Rattle.std.proofs.Common.{◌≡◌, ℕ, ◌+◌, ◌-◌, ◌*◌, ◌≤◌, Bool, true, false, List, length, refl, sym, ap, subst, ◌∙◌, arith, length-append}
 use Rattle.std.specs.Prelude.{Option, Some, Result, Ok, Err}
 use Rattle.outside.specs.Files.{Two, File, file_of, read_files}
-use Rattle.outside.specs.Outside.{Looks, MakesAtMost, MakesCalls, MakesJust, Outside}
+use Rattle.outside.specs.Outside.{MakesAtMost, MakesJust, Outside}
 use Rattle.outside.proofs.CallCounts.{just_then, most_more, most_then, within}
 use Rattle.frame_journal.specs.Journal.{JournalValue}
 use Rattle.frame_journal.specs.Next.{FrameCalls, Moves, NextFrame}
@@ -13,7 +13,7 @@ use Rattle.journal_migration.proofs.Fronts.{gate_whole, rest_front}
 use Rattle.journal_state.specs.Whole.{StateValue}
 use Rattle.sync_store.specs.Cited.{CitedLaws}
 use Rattle.sync_store.specs.Store.{format_meant}
-use Rattle.sync_store.specs.Loading.{HasPlayed, HasReadSome, IsAtEnd, LoadsWithin, Plays, ReadsMore, ReadsWithin, TurnCalls}
+use Rattle.sync_store.specs.Loading.{HasReadSome, IsAtEnd, LoadsWithin, Plays, ReadsMore, ReadsWithin, TurnCalls}
 use Rattle.sync_store.specs.declared.fault.LoadFault.{LoadFault}
 use Rattle.sync_store.proofs.LoadSteps.{more_read}
 

@@ -1,17 +1,17 @@
 -- A journal written anew, as the store sees it.
-use Rattle.std.proofs.Common.{◌≡◌, ◌⊎◌, ℕ, ◌+◌, ◌*◌, ◌-◌, ◌<◌, ◌≤◌, true, false, List, [], ◌++◌, Option, Some, Result, Ok, Err, refl, sym, ap, ◌∙◌, subst, inl, inr, arith, append-nil}
+use Rattle.std.proofs.Common.{◌≡◌, ℕ, ◌+◌, true, false, List, [], ◌++◌, Option, Some, Result, Ok, Err, refl, sym, ap, ◌∙◌, subst, arith, append-nil}
 use Rattle.std.specs.List.{AllByRecursion}
 use Rattle.std.specs.Option.{ForSome}
 use Rattle.outside.specs.Disk.{Becomes}
 use Rattle.outside.specs.Files.{Two, File, file_of}
-use Rattle.outside.specs.Frames.{HasFrames, format_in, generation_in}
+use Rattle.outside.specs.Frames.{HasFrames, format_in}
 use Rattle.outside.specs.Links.{sent_of}
 use Rattle.outside.specs.Outside.{DiskRun, MomentsAre, Outside}
 use Rattle.outside.proofs.CallSteps.{becomes_told, moments_map, told_back}
 use Rattle.frame_journal.specs.Journal.{JournalValue}
 use Rattle.sync_rules.specs.declared.entries.Entry.{Entry}
 use Rattle.sync_rules.specs.Clients.{Meaning}
-use Rattle.sync_rules.specs.Facts.{Facts, facts, nothing}
+use Rattle.sync_rules.specs.Facts.{facts, nothing}
 use Rattle.entry_codec.specs.declared.naming.Format.{Format}
 use Rattle.entry_codec.specs.declared.naming.Format.TheVariants as kind
 use Rattle.entry_codec.specs.Naming.{format_of}
@@ -21,16 +21,14 @@ use Rattle.entry_codec.specs.Standing.{room_of}
 use Rattle.entry_codec.proofs.FormatKinds.{short_journal}
 use Rattle.entry_codec.specs.StandingLaws.{JournalsStand}
 use Rattle.journal_state.specs.Whole.{StateValue}
-use Rattle.journal_migration.specs.Migrating.{HoldsFirst, HoldsSecond, IsNext, KeepsFile, Keeps, Migrates, MigratesSo, ReadsOnly, StandsStill}
+use Rattle.journal_migration.specs.Migrating.{HoldsFirst, HoldsSecond, IsNext, KeepsFile, Migrates, StandsStill}
 use Rattle.journal_migration.specs.Starting.{IsSettledBoth}
 use Rattle.journal_migration.specs.declared.fault.MigrationFault.{MigrationFault}
 use Rattle.journal_migration.specs.declared.fault.MigrationFault.TheVariants as migration
 use Rattle.outside.specs.declared.limits.TheConstants.{MAX_JOURNAL}
-use Rattle.sync_store.specs.declared.fault.StoreFault.{StoreFault}
-use Rattle.sync_store.specs.declared.fault.StoreFault.TheVariants as fault
 use Rattle.sync_store.specs.Fitting.{Fits, FitsSome}
 use Rattle.sync_store.specs.Migrations.{IsOld, Moves}
-use Rattle.sync_store.specs.Moments.{IsBetween, JournalMoment, Leads}
+use Rattle.sync_store.specs.Moments.{IsBetween, JournalMoment}
 use Rattle.sync_store.specs.Runs.{LeadsBy}
 use Rattle.sync_store.specs.Store.{HasNumbers, IsStore, StoreValue, counts_to, format_meant, written_in}
 use Rattle.sync_store.proofs.FitSteps.{IsSame, leads_none, true≢false}

@@ -1,5 +1,4 @@
-use Rattle.std.proofs.Common.{◌≡◌, false, true, sym, subst, ◌∙◌}
-use Rattle.std.specs.Prelude.{Some}
+use Rattle.std.proofs.Common.{false, true, sym, subst, ◌∙◌}
 use Rattle.outside.proofs.CallCounts.{just_none}
 use Rattle.outside.proofs.CallSteps.{looks_none, looks_then}
 use Rattle.sync_store.specs.Loading.{IsAtEnd}

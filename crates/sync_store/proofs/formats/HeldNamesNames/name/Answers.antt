@@ -1,4 +1,4 @@
-use Rattle.std.proofs.Common.{◌≤◌, length, arith, sym, ◌∙◌}
+use Rattle.std.proofs.Common.{arith, sym, ◌∙◌}
 use Rattle.sync_store.proofs.HeldIds.{id_there, none_there}
 use Rattle.sync_store.proofs.formats.HeldNamesNames.name.Goals as goal
 

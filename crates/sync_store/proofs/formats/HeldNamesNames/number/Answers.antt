@@ -1,4 +1,4 @@
-use Rattle.std.proofs.Common.{sym, ap, ◌∙◌}
+use Rattle.std.proofs.Common.{ap, ◌∙◌}
 use Rattle.std.specs.Option.{is_some}
 use Rattle.entry_codec.specs.Payloads.{names_of}
 use Rattle.sync_store.proofs.HeldIds.{placed_among, same_place}

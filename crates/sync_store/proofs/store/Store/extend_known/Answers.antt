@@ -1,6 +1,5 @@
 use Rattle.std.proofs.Common.{Result, Err, ap, sym, subst, ◌∙◌}
 use Rattle.sync_store.specs.declared.fault.StoreFault.{StoreFault}
-use Rattle.sync_store.specs.declared.fault.StoreFault.TheVariants as fault
 use Rattle.sync_store.specs.Runs.{HasExtended}
 use Rattle.sync_store.proofs.Errors.{err_is}
 use Rattle.sync_store.proofs.FitSteps.{true≢false}
