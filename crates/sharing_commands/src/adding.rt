@@ -1,7 +1,7 @@
 // Entries that are added to a settled store, each a batch of its own.
 ghost use Rattle.std.specs.Prelude.{◌≡◌, ◌∷◌, [], false, true, is_ok, is_some, OnOk};
 ghost use Rattle.sync_ids.specs.Ids.{group_id_of};
-ghost use Rattle.sync_rules.specs.Allows.{is_settling_kind};
+ghost use Rattle.sync_rules.specs.Allows.{is_account_kind, is_settling_kind};
 ghost use Rattle.sync_rules.specs.Facts.{group_at};
 ghost use Rattle.sync_rules.specs.Legal.{Allowed};
 ghost use Rattle.sync_rules.specs.declared.entries.Entry.TheVariants as entry;
@@ -30,6 +30,7 @@ fn commit<D: Disk, C: Clients>(
     requires ready { IsReady (C.meaning clients.now) store.old (D.tells disk.old).files }
     requires allowed { Allowed (C.meaning clients.now) store.old.state.facts batch }
     requires kind { is_settling_kind batch ≡ false }
+    requires plain { is_account_kind batch ≡ false }
     ensures adds { AddsFront (C.meaning clients.now) store.old store.new (D.tells disk.old)
         (D.tells disk.new) (batch ∷ []) result }
     ensures by { ExtendsBy (D.tells disk.old) (D.tells disk.new) result }

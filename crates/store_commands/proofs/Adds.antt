@@ -40,7 +40,7 @@ front_settles : (clients : Meaning) (f : Facts) (front rest : List (List Entry))
 front_settles clients f [] rest s = tt
 front_settles clients f (b ∷ front) rest s = (s.0, front_settles clients (after_all f b) front rest s.1)
 
-front_of : (clients : Meaning) (f : Facts) (more front rest : List (List Entry)) → more ≡ front ++ rest → AllSettling clients f more → AllSettling clients f front
+pub front_of : (clients : Meaning) (f : Facts) (more front rest : List (List Entry)) → more ≡ front ++ rest → AllSettling clients f more → AllSettling clients f front
 front_of clients f more front rest parts s = front_settles clients f front rest (subst (AllSettling clients f) parts s)
 
 -- ---- moments
@@ -87,13 +87,13 @@ batch_moment clients j first more batch sent m settles adds w = record {
 }
 
 -- a run's moments in words of what had been sent before an earlier run
-sent_before : (clients : Meaning) (P : List (List Entry) → Type 0) (o o1 o2 : Outside) → o1.links ≡ o.links
+pub sent_before : (clients : Meaning) (P : List (List Entry) → Type 0) (o o1 o2 : Outside) → o1.links ≡ o.links
     → MomentsAre o1 o2 (JournalMoment clients P (sent_of o1.links.told)) → MomentsAre o1 o2 (JournalMoment clients P (sent_of o.links.told))
 sent_before clients P o o1 o2 same run = subst (λ (l : Links). MomentsAre o1 o2 (JournalMoment clients P (sent_of l.told))) same run
 
 -- ---- settling
 
-settles_from : (clients : Meaning) (s : StoreValue) (two : Two File) (j more : List (List Entry)) → Fits clients s j two → AllSettling clients s.state.facts more → AllSettling clients (facts j) more
+pub settles_from : (clients : Meaning) (s : StoreValue) (two : Two File) (j more : List (List Entry)) → Fits clients s j two → AllSettling clients s.state.facts more → AllSettling clients (facts j) more
 settles_from clients s two j more fits settling = subst (λ (g : Facts). AllSettling clients g more) (sym fits.facts_are) settling
 
 settling_moments : (clients : Meaning) (o o1 : Outside) (s s1 : StoreValue) (batch : List Entry) (result : Result (Unit {0}) Outcome) (two : Two File) (j : List (List Entry))
@@ -103,7 +103,7 @@ settling_moments clients o o1 s s1 batch result two j files fits settled =
     (settled.comes.leads two files j fits).moments
 
 -- the journal that the disk fits once it is settled
-settled_fits : (clients : Meaning) (o o1 : Outside) (s s1 : StoreValue) (u : Unit {0}) (two two1 : Two File) (j : List (List Entry)) → o.files ≡ Some two → o1.files ≡ Some two1
+pub settled_fits : (clients : Meaning) (o o1 : Outside) (s s1 : StoreValue) (u : Unit {0}) (two two1 : Two File) (j : List (List Entry)) → o.files ≡ Some two → o1.files ≡ Some two1
     → Fits clients s j two → (settled : SettlesAnew clients s s1 o o1 (Ok u)) → Fits clients s1 (j ++ settled.more) two1
 settled_fits clients o o1 s s1 u two two1 j files files1 fits settled =
     let at = (settled.comes.leads two files j fits).ends settled.answer.0 two1 files1 in
@@ -117,7 +117,7 @@ not_settled_ends clients asked j batch s s1 outcome.DiskFault two two' fits stil
 not_settled_ends clients asked j batch s s1 _ two two' fits still answer = absurd answer
 
 -- files that are told of one outside are one
-same_told : (o o1 : Outside) (two two' : Two File) → o1 ≡ o → o.files ≡ Some two → o1.files ≡ Some two' → read_files two' ≡ read_files two
+pub same_told : (o o1 : Outside) (two two' : Two File) → o1 ≡ o → o.files ≡ Some two → o1.files ≡ Some two' → read_files two' ≡ read_files two
 same_told o o1 two two' same files files' =
     let both : Some two' ≡ Some two = sym files' ∙ ap (λ (x : Outside). x.files) same ∙ files in
     let one : two' ≡ two = cc in

@@ -6,7 +6,7 @@ use Rattle.std.specs.List.{list_all, list_any}
 use Rattle.std.proofs.lemmas.List.Folds.{list_any-append}
 use Rattle.std.proofs.lemmas.Bool.{and_parts}
 use borrow.Author.Tests.{ltb-true}
-use Rattle.sync_rules.specs.Allows.{is_settling_kind}
+use Rattle.sync_rules.specs.Allows.{is_account_kind, is_settling_kind}
 use Rattle.sync_ids.specs.declared.message.TheConstants.{MAX_BODY}
 use Rattle.sync_ids.specs.Values.{GroupValue, MessageValue}
 use Rattle.sync_ids.specs.Ids.{group_id_of, message_id_of}
@@ -107,10 +107,11 @@ stays clients f (b ∷ bs) s =
 
 -- ---- what is planned may follow
 
--- a batch of one entry that may follow, and is none of settling
+-- a batch of one entry that may follow, and is none of settling or of a brief account
 pub record MayAdd (clients : Meaning) (f : Facts) (e : Entry) : Type 0 where
   pub follows : MayFollow clients f (e ∷ [])
   pub kind : is_settling_kind (e ∷ []) ≡ false
+  pub plain : is_account_kind (e ∷ []) ≡ false
 
 as_planned : (clients : Meaning) (f : Facts) (d e : Entry) → adds d ≡ adds e → MayAdd clients f d → MayAdd clients f e
 as_planned clients f d e is may = let same : d ≡ e = cc in subst (MayAdd clients f) same may
@@ -122,6 +123,7 @@ contact_follows clients f e is =
           as_planned clients f (entry.Contact f.contacts) e w (record {
             follows = record { follows = λ more settles settled. let s = stays clients f more settles in (refl, settled, sym s.contacts, ltb-true f.contacts 256 few) };
             kind = refl;
+            plain = refl;
           })
       | false ↦ λ few w. cc
     ] refl is
@@ -147,6 +149,7 @@ group_may clients f def known new few = record {
         );
   };
   kind = refl;
+  plain = refl;
 }
 
 pub group_follows : (clients : Meaning) (f : Facts) (def : GroupValue) (e : Entry) → group_plan clients f def ≡ adds e → MayAdd clients f e
@@ -183,6 +186,7 @@ level_may clients f c g l known there = record {
         );
   };
   kind = refl;
+  plain = refl;
 }
 
 pub level_follows : (clients : Meaning) (f : Facts) (c : ℕ) (g : Id) (l : Level) (e : Entry) → level_plan f c g l ≡ adds e → MayAdd clients f e
@@ -230,6 +234,7 @@ author_may clients f m deps share known new verdict served = record {
         );
   };
   kind = refl;
+  plain = refl;
 }
 
 judged_follows : (clients : Meaning) (f : Facts) (m : MessageValue) (answer : Judgement) (e : Entry) → is_some (group_at f.groups m.group) ≡ true → is_some (held_at f.held (message_id_of m)) ≡ false

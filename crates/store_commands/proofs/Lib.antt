@@ -10,3 +10,4 @@ pub mod Posts
 pub mod Begins
 pub mod Stood
 mod Migrates
+pub mod Compacts

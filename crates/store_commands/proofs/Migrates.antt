@@ -5,6 +5,7 @@ use Rattle.sync_rules.specs.declared.entries.Entry.{Entry}
 use Rattle.sync_rules.specs.Clients.{Meaning}
 use Rattle.sync_rules.specs.Facts.{Facts, after_batches}
 use Rattle.sync_rules.specs.Legal.{AllSettling}
+use Rattle.entry_codec.specs.declared.naming.Format.{Format}
 use Rattle.entry_codec.specs.declared.naming.Format.TheVariants as kind
 use Rattle.sync_store.specs.Migrations.{HasMigrated, IsSpent, MigratesSo}
 use Rattle.sync_store.specs.Store.{StoreValue, format_meant, written_in}
@@ -13,7 +14,7 @@ use Rattle.sync_store.specs.declared.fault.StoreFault.TheVariants as fault
 use Rattle.sync_store.proofs.Runs.{leads_both}
 use Rattle.sync_words.specs.declared.outcome.Outcome.{Outcome}
 use Rattle.sync_words.specs.declared.outcome.Outcome.TheVariants as outcome
-use Rattle.store_commands.specs.Commit.{ComesAnew, MigratedBy, MigratesAs, SettledAnew, SettledBy, SettlesAnew, SettlesAs}
+use Rattle.store_commands.specs.Commit.{ComesAnew, MigratedBy, MigratesAs, SettledAnew, SettledBy, SettlesAnew, SettlesAs, short_generation}
 
 -- ---- a migration
 
@@ -50,8 +51,14 @@ migrated_ok s s' u still (inl stays) = (
   ap (λ (v : StoreValue). v.closed) stays.1 ∙ still,
   ap (λ (v : StoreValue). written_in v) stays.1 ∙ stays.0,
   not_spent s stays.0,
+  ap (λ (v : StoreValue). v.generation) stays.1 ∙ ap (λ (f : Format). short_generation f s.generation) (sym stays.0),
 )
-migrated_ok s s' u still (inr moves) = (moves.closed, ap format_meant moves.format, λ spent. omega (arith, moves.was.generation, spent.last))
+migrated_ok s s' u still (inr moves) = (
+  moves.closed,
+  ap format_meant moves.format,
+  λ spent. omega (arith, moves.was.generation, spent.last),
+  moves.generation ∙ ap (λ (f : Format). short_generation f s.generation) (sym moves.was.whole),
+)
 
 -- ---- and settling behind it
 
@@ -64,11 +71,13 @@ comes_settled clients s s1 s2 o o1 o2 r1 r2 still run migrates settles = record 
   leads = leads_both clients s s1 s2 o o1 o2 [] settles.more still run migrates.comes.leads settles.comes.leads;
 }
 
-pub settled_anew : (clients : Meaning) (s s1 s2 : StoreValue) (u : Unit {0}) (r : Result (Unit {0}) Outcome) → MigratedBy s s1 (Ok u) → s2.format ≡ s1.format → SettledBy clients s2 r → SettledAnew clients s s2 r
-settled_anew clients s s1 s2 u (Ok v) migrated same settled = (settled.0, settled.1, ap format_meant same ∙ migrated.1, migrated.2)
-settled_anew clients s s1 s2 u (Err outcome.Memory) migrated same settled = tt
-settled_anew clients s s1 s2 u (Err outcome.DiskFault) migrated same settled = tt
-settled_anew clients s s1 s2 u (Err _) migrated same settled = absurd settled
+pub settled_anew : (clients : Meaning) (s s1 s2 : StoreValue) (u : Unit {0}) (r : Result (Unit {0}) Outcome) → MigratedBy s s1 (Ok u) → s2.format ≡ s1.format
+    → s2.generation ≡ s1.generation → SettledBy clients s2 r → SettledAnew clients s s2 r
+settled_anew clients s s1 s2 u (Ok v) migrated format generation settled =
+    (settled.0, settled.1, ap format_meant format ∙ migrated.1, migrated.2, generation ∙ migrated.3)
+settled_anew clients s s1 s2 u (Err outcome.Memory) migrated format generation settled = tt
+settled_anew clients s s1 s2 u (Err outcome.DiskFault) migrated format generation settled = tt
+settled_anew clients s s1 s2 u (Err _) migrated format generation settled = absurd settled
 
 -- settling is never full
 pub settled_unfull : (clients : Meaning) (s : StoreValue) (r : Result (Unit {0}) Outcome) → SettledBy clients s r → IsErrOf r outcome.Full → ⊥

@@ -127,9 +127,19 @@ SettledBy clients s (Err outcome.Memory) = Unit {0}
 SettledBy clients s (Err outcome.DiskFault) = Unit {0}
 SettledBy clients s (Err _) = ⊥
 
+-- the generation of a journal in this format once it is in format 2: a migration takes the next one
+abbrev pub short_generation : Format → ℕ → ℕ
+short_generation kind.Whole generation = generation + 1
+short_generation kind.Short generation = generation
+
+-- the same of a store
+abbrev pub next_generation : StoreValue → ℕ
+next_generation s = short_generation (written_in s) s.generation
+
 -- what a migration leaves of the store: at Ok its journal is in format 2
 abbrev pub MigratedBy : StoreValue → StoreValue → Result (Unit {0}) Outcome → Type 0
-MigratedBy s s' (Ok _) = (s'.closed ≡ false) × (written_in s' ≡ kind.Short) × (IsSpent s → ⊥)
+MigratedBy s s' (Ok _) =
+    (s'.closed ≡ false) × (written_in s' ≡ kind.Short) × (IsSpent s → ⊥) × (s'.generation ≡ next_generation s)
 MigratedBy s s' (Err outcome.Full) = IsSpent s × (s' ≡ s)
 MigratedBy s s' (Err outcome.Memory) = Unit {0}
 MigratedBy s s' (Err outcome.DiskFault) = Unit {0}
@@ -137,7 +147,9 @@ MigratedBy s s' (Err _) = ⊥
 
 -- what both leave of it
 abbrev pub SettledAnew : Meaning → StoreValue → StoreValue → Result (Unit {0}) Outcome → Type 0
-SettledAnew clients s s' (Ok _) = (s'.closed ≡ false) × IsSettled clients s'.state.facts × (written_in s' ≡ kind.Short) × (IsSpent s → ⊥)
+SettledAnew clients s s' (Ok _) =
+    (s'.closed ≡ false) × IsSettled clients s'.state.facts × (written_in s' ≡ kind.Short) × (IsSpent s → ⊥)
+    × (s'.generation ≡ next_generation s)
 SettledAnew clients s s' (Err outcome.Full) = IsSpent s × (s' ≡ s)
 SettledAnew clients s s' (Err outcome.Memory) = Unit {0}
 SettledAnew clients s s' (Err outcome.DiskFault) = Unit {0}

@@ -4,7 +4,7 @@ ghost use Rattle.std.specs.Prelude.{◌≡◌, List, Some, false, IsErrOf, OnOk}
 ghost use Rattle.outside.specs.Files.{Two, File};
 ghost use Rattle.outside.specs.Outside.{DiskRun};
 ghost use Rattle.sync_rules.specs.declared.entries.Entry.{Entry};
-ghost use Rattle.sync_rules.specs.Allows.{is_settling_kind};
+ghost use Rattle.sync_rules.specs.Allows.{is_account_kind, is_settling_kind};
 ghost use Rattle.sync_rules.specs.Legal.{Allowed};
 ghost use Rattle.session_core.specs.Known.{IsOfAll};
 ghost use Rattle.sync_store.specs.Fitting.{Fits};
@@ -42,6 +42,7 @@ pub fn extend<D: Disk, C: Clients>(
     requires ready { MayExtend (C.meaning clients.now) store.old (D.tells disk.old).files }
     requires follows { MayFollow (C.meaning clients.now) store.old.state.facts batch }
     requires kind { is_settling_kind batch ≡ false }
+    requires plain { is_account_kind batch ≡ false }
     requires named { IsOfAll id batch }
     ensures run { DiskRun (D.tells disk.old) (D.tells disk.new) }
     ensures by { ExtendsBy (D.tells disk.old) (D.tells disk.new) result }
@@ -130,6 +131,7 @@ fn commit<D: Disk, C: Clients>(
     requires ready { IsReady (C.meaning clients.now) store.old (D.tells disk.old).files }
     requires allowed { Allowed (C.meaning clients.now) store.old.state.facts batch }
     requires kind { is_settling_kind batch ≡ false }
+    requires plain { is_account_kind batch ≡ false }
     requires named { IsOfAll id batch }
     ensures run { DiskRun (D.tells disk.old) (D.tells disk.new) }
     ensures by { ExtendsBy (D.tells disk.old) (D.tells disk.new) result }
@@ -157,6 +159,7 @@ fn commit_settled<D: Disk, C: Clients>(
     requires ready { IsReady (C.meaning clients.now) store.old (D.tells disk.old).files }
     requires allowed { Allowed (C.meaning clients.now) store.old.state.facts batch }
     requires kind { is_settling_kind batch ≡ false }
+    requires plain { is_account_kind batch ≡ false }
     requires named { IsOfAll id batch }
     ensures run { DiskRun (D.tells disk.old) (D.tells disk.new) }
     ensures by { ExtendsBy (D.tells disk.old) (D.tells disk.new) result }

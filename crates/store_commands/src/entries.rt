@@ -3,7 +3,7 @@ ghost use Rattle.std.specs.Prelude.{◌≡◌, ◌∷◌, [], ◌++◌, false, I
 ghost use Rattle.std.specs.String.{string_bytes};
 ghost use Rattle.session_core.specs.Known.{IsIdOf, IsOfAll};
 ghost use Rattle.sync_ids.specs.Ids.{message_id_of};
-ghost use Rattle.sync_rules.specs.Allows.{is_settling_kind};
+ghost use Rattle.sync_rules.specs.Allows.{is_account_kind, is_settling_kind};
 ghost use Rattle.sync_words.specs.Outcomes.{came_to};
 ghost use Rattle.store_commands.specs.Commit.{MayFollow};
 ghost use Rattle.store_commands.specs.Entries.{EntryAdded, HasAdded};
@@ -119,6 +119,7 @@ pub fn add_entry<D: Disk, W: Sink, C: Clients>(
     requires ready { MayExtend (C.meaning clients.now) store (D.tells disk.old).files }
     requires follows { MayFollow (C.meaning clients.now) store.state.facts (entry ∷ []) }
     requires kind { is_settling_kind (entry ∷ []) ≡ false }
+    requires plain { is_account_kind (entry ∷ []) ≡ false }
     requires named { IsOfAll id (entry ∷ []) }
     ensures { EntryAdded (C.meaning clients.now) settling store entry (D.tells disk.old)
         (D.tells disk.new) (W.tells out.old) (W.tells out.new) (came_to result) }

@@ -1,6 +1,6 @@
 //! The commands of a store: what each does to its files, what it prints, and what it comes to.
 //!
-//! - `init`, `entries`, `post`, `show`: the commands, a file for each kind.
+//! - `init`, `entries`, `post`, `compacting`, `show`: the commands, a file for each kind.
 //! - `load`: a store that is loaded, or what the command comes to without one.
 //! - `plans`: the tests of a command over the loaded journal, and the entry that it plans.
 //! - `commit`: a migration, settling, a batch, and settling again, with the answers of a store as outcomes.
@@ -8,6 +8,7 @@
 #![tactic(auto)]
 
 mod commit;
+mod compacting;
 mod entries;
 mod init;
 mod listing;
@@ -18,6 +19,7 @@ mod print;
 mod show;
 
 pub use commit::{Settling, migrate_and_settle};
+pub use compacting::compact;
 pub use entries::{add_contact, add_entry, add_group, set_level};
 pub use init::make_store;
 pub use listing::{Listing, add_listing};

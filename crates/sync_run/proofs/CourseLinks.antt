@@ -1,6 +1,6 @@
--- What the command comes to, by its load, its test of the contacts, and the run on its links.
-use Rattle.std.proofs.Common.{◌≡◌, ◌+◌, ◌<◌, ◌≤◌, false, List, [], ◌++◌, append-nil, refl, sym, ◌∙◌, ap, subst, arith, inl, inr, Option, None, Some, Result, Ok, Err}
-use Rattle.std.specs.Prelude.{IsErrAnd}
+-- What the command comes to, by its load, its tests, and the run on its links.
+use Rattle.std.proofs.Common.{◌≡◌, ◌+◌, ◌<◌, ◌≤◌, Bool, true, false, List, [], ◌++◌, length, append-nil, le-ltb, lt-ltb, refl, sym, ◌∙◌, ap, subst, arith, inl, inr, Option, None, Some, Result, Ok, Err}
+use Rattle.std.specs.Prelude.{IsErrAnd, if◌then◌else◌}
 use Rattle.std.specs.Option.{option_map}
 use Rattle.outside.specs.Disk.{Becomes}
 use Rattle.outside.specs.Faults.{Rose, one_more}
@@ -11,6 +11,7 @@ use Rattle.outside.proofs.CallSteps.{becomes_told}
 use Rattle.outside.proofs.RunLaws.{grow_same}
 use Rattle.outside.specs.Runs.{Told}
 use Rattle.frame_journal.specs.Gates.{ReadsSame}
+use Rattle.sync_rules.specs.declared.limits.TheConstants.{MAX_SESSIONS}
 use Rattle.sync_rules.specs.declared.states.Refused.{Refused}
 use Rattle.sync_rules.specs.declared.states.Refused.TheVariants as refused
 use Rattle.sync_rules.specs.Clients.{Meaning}
@@ -29,7 +30,7 @@ use Rattle.sync_words.specs.declared.outcome.Outcome.{Outcome}
 use Rattle.sync_words.specs.declared.outcome.Outcome.TheVariants as outcome
 use Rattle.sync_run.specs.declared.run.Limits.{Limits}
 use Rattle.sync_run.specs.Causes.{IsCaused}
-use Rattle.sync_run.specs.Courses.{ComesTo, HearsRun, RanToEnd, RunComes, TestsContacts, WasBroken, WasFull, WasOver, WasSpent, is_unknown}
+use Rattle.sync_run.specs.Courses.{ComesTo, HearsRun, RanToEnd, RunComes, TestsContacts, TestsWords, WasBroken, WasFull, WasOver, WasSpent, are_too_many, is_unknown, run_test}
 use Rattle.sync_run.specs.Dialling.{MakesLinks, unheard}
 use Rattle.sync_run.proofs.CourseDials.{unbegun}
 
@@ -132,9 +133,29 @@ module _ (clients : Meaning) (limits : Limits) (words : List LinkWords) (j : Jou
   comes_as (Err outcome.DiskFault) comes = was_as comes
   comes_as (Err _) comes = absurd comes
 
+-- ---- the tests
+
+-- a contact is not known
+pub contacts_fail : (f : Facts) (words : List LinkWords) (r : Result (Unit {0}) Refused) (why : Refused) → IsErrAnd r (λ e. e ≡ why) → TestsContacts f words (Err why) → TestsWords f words r
+contacts_fail f words (Ok u) why is tests = absurd is
+contacts_fail f words (Err e) why is tests =
+    ap (λ (b : Bool). if b then Some refused.UnknownContact else (if are_too_many f words then Some refused.TooManySessions else None)) tests.1
+    ∙ ap (λ (w : Refused). Some w) (sym tests.0 ∙ sym is)
+
+-- all are known, and there would be too many sessions, or not
+pub too_many_fail : (f : Facts) (words : List LinkWords) → is_unknown f words ≡ false → MAX_SESSIONS < f.begun + length words → run_test f words ≡ Some refused.TooManySessions
+too_many_fail f words known many =
+    ap (λ (b : Bool). if b then Some refused.UnknownContact else (if are_too_many f words then Some refused.TooManySessions else None)) known
+    ∙ ap (λ (b : Bool). if b then Some refused.TooManySessions else None) (lt-ltb MAX_SESSIONS (f.begun + length words) many)
+
+pub tests_hold : (f : Facts) (words : List LinkWords) → is_unknown f words ≡ false → f.begun + length words ≤ MAX_SESSIONS → run_test f words ≡ None
+tests_hold f words known few =
+    ap (λ (b : Bool). if b then Some refused.UnknownContact else (if are_too_many f words then Some refused.TooManySessions else None)) known
+    ∙ ap (λ (b : Bool). if b then Some refused.TooManySessions else None) (le-ltb MAX_SESSIONS (f.begun + length words) few)
+
 -- ---- by what the files stood for
 
-run_comes_to : (clients : Meaning) (limits : Limits) (words : List LinkWords) (stood : Standing) (j : Journal) (o o' : Outside) → stood ≡ journal j → is_unknown (facts j) words ≡ false
+run_comes_to : (clients : Meaning) (limits : Limits) (words : List LinkWords) (stood : Standing) (j : Journal) (o o' : Outside) → stood ≡ journal j → run_test (facts j) words ≡ None
     → (r : Result Closing Outcome) → RunComes clients limits words j o o' r → ComesTo clients limits words stood o o' r
 run_comes_to clients limits words stood j o o' began known (Ok ends) comes = record { begin = j; began = began; tested = known; has = comes }
 run_comes_to clients limits words stood j o o' began known (Err (outcome.LinkFailed link)) comes = record { begin = j; began = began; tested = known; has = comes }
@@ -201,19 +222,16 @@ module _ (clients : Meaning) (limits : Limits) (words : List LinkWords) (two : T
   unheld_comes (Err e) is = subst (λ (x : Outcome). ComesTo clients limits words stood o o' (Err x)) (sym is) broken_early
 
   module _ (s : StoreValue) (loaded : HasFacts stood s) where
-    pub refused_comes : (r : Result Closing Outcome) (why : Refused) → IsErrAnd r (λ e. e ≡ outcome.Refused why) → TestsContacts s.state.facts words (Err why)
+    pub refused_comes : (r : Result Closing Outcome) (why : Refused) → IsErrAnd r (λ e. e ≡ outcome.Refused why) → TestsWords s.state.facts words (Err why)
         → ComesTo clients limits words stood o o' r
     refused_comes (Ok ends) why is tests = absurd is
     refused_comes (Err e) why is tests =
-        subst (λ (x : Outcome). ComesTo clients limits words stood o o' (Err x)) (sym is) (
-          tests.0,
-          record {
-            begin = loaded.of;
-            began = loaded.stood;
-            tested = ap (λ (f : Facts). is_unknown f words) loaded.are ∙ tests.1;
-            has = reads_still clients two o.files o'.files loaded.of told reads loaded.stood;
-          },
-        )
+        subst (λ (x : Outcome). ComesTo clients limits words stood o o' (Err x)) (sym is) (record {
+          begin = loaded.of;
+          began = loaded.stood;
+          tested = ap (λ (f : Facts). run_test f words) loaded.are ∙ tests;
+          has = reads_still clients two o.files o'.files loaded.of told reads loaded.stood;
+        })
 
     -- the store fits the journal
     fits_loaded : FitsSome clients s o'.files → FitsWith clients s o'.files loaded.of
@@ -224,10 +242,10 @@ module _ (clients : Meaning) (limits : Limits) (words : List LinkWords) (two : T
         let one : fit.0 ≡ loaded.of = cc in
         (there.0, there.1, subst (λ (k : Journal). Fits clients s k there.0) one fit.1)
 
-    pub links_come : (o2 o3 : Outside) (u : Unit {0}) (r : Result Closing Outcome) → FitsSome clients s o'.files → TestsContacts s.state.facts words (Ok u) → o3.links ≡ o2.links
+    pub links_come : (o2 o3 : Outside) (u : Unit {0}) (r : Result Closing Outcome) → FitsSome clients s o'.files → TestsWords s.state.facts words (Ok u) → o3.links ≡ o2.links
         → o3.files ≡ o2.files → ((j : Journal) → FitsWith clients s o'.files j → RunComes clients limits words j o' o2 r) → ComesTo clients limits words stood o o3 r
     links_come o2 o3 u r fits tests last files comes =
-        run_comes_to clients limits words stood loaded.of o o3 loaded.stood (ap (λ (f : Facts). is_unknown f words) loaded.are ∙ tests) r
+        run_comes_to clients limits words stood loaded.of o o3 loaded.stood (ap (λ (f : Facts). run_test f words) loaded.are ∙ tests) r
         (comes_as clients limits words loaded.of o o' o2 o3 same last files reads r (comes loaded.of (fits_loaded fits)))
 
 -- ---- causes
@@ -245,11 +263,21 @@ unloaded_caused words o o' (Ok ends) came is by = absurd is
 unloaded_caused words o o' (Err e) came is by = subst (λ (x : Outcome). IsCaused words o o' (Err x)) (sym is) (load_caused words o o' came by)
 
 pub refused_caused : (f : Facts) (words : List LinkWords) (o o' : Outside) (r : Result Closing Outcome) (why : Refused) → IsErrAnd r (λ e. e ≡ outcome.Refused why)
-    → TestsContacts f words (Err why) → IsCaused words o o' r
+    → TestsWords f words (Err why) → IsCaused words o o' r
 refused_caused f words o o' (Ok ends) why is tests = absurd is
 refused_caused f words o o' (Err e) why is tests =
-    subst (λ (x : Outcome). IsCaused words o o' (Err x)) (sym is ∙ refl)
-    (subst (λ (w : Refused). IsCaused words o o' (Err (outcome.Refused w))) (sym tests.0) tt)
+    subst (λ (x : Outcome). IsCaused words o o' (Err x)) (sym is) (test_caused (is_unknown f words) (are_too_many f words) why tests)
+  where
+    -- one of the two tests refused it
+    test_caused : (unknown many : Bool) (w : Refused)
+        → (if unknown then Some refused.UnknownContact else (if many then Some refused.TooManySessions else None)) ≡ Some w → IsCaused words o o' (Err (outcome.Refused w))
+    test_caused true many w is =
+        let same : refused.UnknownContact ≡ w = cc in
+        subst (λ (x : Refused). IsCaused words o o' (Err (outcome.Refused x))) same tt
+    test_caused false true w is =
+        let same : refused.TooManySessions ≡ w = cc in
+        subst (λ (x : Refused). IsCaused words o o' (Err (outcome.Refused x))) same tt
+    test_caused false false w is = cc
 
 pub unheld_caused : (words : List LinkWords) (o o' : Outside) (r : Result Closing Outcome) → IsErrAnd r (λ e. e ≡ outcome.Memory) → IsCaused words o o' r
 unheld_caused words o o' (Ok ends) is = absurd is
@@ -273,6 +301,7 @@ links_caused words o o1 o2 o3 run last faults (Err (outcome.LinkFailed link)) ca
 links_caused words o o1 o2 o3 run last faults (Err outcome.NoStore) caused = tt
 links_caused words o o1 o2 o3 run last faults (Err (outcome.Damaged place)) caused = tt
 links_caused words o o1 o2 o3 run last faults (Err (outcome.Refused refused.UnknownContact)) caused = tt
+links_caused words o o1 o2 o3 run last faults (Err (outcome.Refused refused.TooManySessions)) caused = tt
 links_caused words o o1 o2 o3 run last faults (Err outcome.Full) caused = tt
 links_caused words o o1 o2 o3 run last faults (Err outcome.Memory) caused = tt
 links_caused words o o1 o2 o3 run last faults (Err _) caused = absurd caused

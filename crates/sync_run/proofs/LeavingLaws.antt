@@ -1,11 +1,12 @@
 -- What a run leaves on the links that ends before its first session, by the calls that it made.
-use Rattle.std.proofs.Common.{◌≡◌, ℕ, Bool, true, false, List, [], sym, ap, ◌∙◌, subst, refl, Option, Some, Result, Ok, Err}
+use Rattle.std.proofs.Common.{◌≡◌, ℕ, Bool, true, false, List, [], sym, ap, ◌∙◌, subst, refl, Option, None, Some, is_some, Result, Ok, Err}
 use Rattle.outside.specs.declared.failed.Failed.{Failed}
 use Rattle.outside.specs.Disk.{Becomes}
 use Rattle.outside.specs.Files.{Two, File}
 use Rattle.outside.specs.Links.{Links}
 use Rattle.outside.specs.Outside.{DiskRun, IsNow, MomentsAre, Outside}
 use Rattle.frame_journal.specs.Gates.{ReadsSame}
+use Rattle.sync_rules.specs.declared.states.Refused.{Refused}
 use Rattle.sync_rules.specs.Facts.{Facts, facts}
 use Rattle.entry_codec.specs.Standing.{Standing, journal}
 use Rattle.sync_store.specs.Store.{StoreValue}
@@ -17,7 +18,7 @@ use Rattle.sync_words.specs.declared.outcome.Outcome.TheVariants as outcome
 use Rattle.sync_run.specs.declared.dialling.Dialled.{Dialled}
 use Rattle.sync_run.specs.Causes.{FailsAlone, RunCaused}
 use Rattle.sync_run.specs.Dialling.{DialsAll, MakesLinks}
-use Rattle.sync_run.specs.Courses.{is_unknown}
+use Rattle.sync_run.specs.Courses.{run_test}
 use Rattle.sync_run.specs.Leaving.{DoesNotBegin, LeavesLinks, MayNotBegin}
 use Rattle.sync_run.proofs.CourseLinks.{no_links_made}
 use Rattle.sync_run.proofs.SafeEnds.{reads_told}
@@ -76,9 +77,11 @@ unbegun_loaded two o o1 told run moments reads = record {
   rests = record { moments = moments; kept = λ two' told'. reads_told o.files o1.files two two' reads told told' };
 }
 
--- over a journal in which all contacts are known some session may
-pub known_begins : (words : List LinkWords) (standing : Standing) (s : StoreValue) → HasFacts standing s → is_unknown s.state.facts words ≡ false → MayNotBegin words standing → ⊥
-known_begins words standing s has known none =
-    let not_known : is_unknown (facts has.of) words ≡ true = subst (λ (st : Standing). MayNotBegin words st) has.stood none in
-    let same : is_unknown (facts has.of) words ≡ is_unknown s.state.facts words = ap (λ (f : Facts). is_unknown f words) has.are in
+-- over a journal for which the tests hold some session may
+pub tested_begins : (words : List LinkWords) (standing : Standing) (s : StoreValue) → HasFacts standing s → run_test s.state.facts words ≡ None → MayNotBegin words standing → ⊥
+tested_begins words standing s has tested none =
+    let fails : is_some (run_test (facts has.of) words) ≡ true = subst (λ (st : Standing). MayNotBegin words st) has.stood none in
+    let holds : is_some (run_test (facts has.of) words) ≡ false =
+    ap (λ (f : Facts). is_some (run_test f words)) has.are ∙ ap (λ (o : Option Refused). is_some o) tested in
+    let both : true ≡ false = sym fails ∙ holds in
     cc

@@ -296,6 +296,12 @@ node_begins clients s s1 n o o1 r links settles made all =
     let same : n.store.state.facts.contacts ≡ s.state.facts.contacts = ap (λ (m : NodeValue). m.store.state.facts.contacts) made ∙ (settles_only clients s s1 o o1 r settles).contacts in
     subst (λ (k : ℕ). AllMayBegin k links) (sym same) all
 
+-- settling begins no session
+pub node_begun : (clients : Meaning) (s s1 : StoreValue) (n : NodeValue) (o o1 : Outside) (r : Result (Unit {0}) Outcome) → SettlesAnew clients s s1 o o1 r → n ≡ new_node s1
+    → n.store.state.facts.begun ≡ s.state.facts.begun
+node_begun clients s s1 n o o1 r settles made =
+    ap (λ (m : NodeValue). m.store.state.facts.begun) made ∙ (settles_only clients s s1 o o1 r settles).begun
+
 pub node_sends : (clients : Meaning) (links : List Dialled) (s s1 : StoreValue) (n0 n : NodeValue) (o o1 o2 : Outside) (r : Result (Unit {0}) Outcome) (over : Bool) (ends : Closing) → AreUnused o → DiskRun o o1
     → SettlesAnew clients s s1 o o1 r → n0 ≡ new_node s1 → AttachesAll clients links n0 n o1 o2 → n.closed ≡ false → IsNode n → MayRun clients n o2 → ends ≡ closed_by over n.links
     → SendsWhole clients s.state.facts.begun o2 ends

@@ -41,6 +41,7 @@ IsCaused words old new (Err (outcome.LinkFailed link)) = DialFailed words old ne
 IsCaused words old new (Err outcome.NoStore) = Unit {0}
 IsCaused words old new (Err (outcome.Damaged place)) = Unit {0}
 IsCaused words old new (Err (outcome.Refused refused.UnknownContact)) = Unit {0}
+IsCaused words old new (Err (outcome.Refused refused.TooManySessions)) = Unit {0}
 IsCaused words old new (Err outcome.Full) = Unit {0}
 IsCaused words old new (Err outcome.Memory) = Unit {0}
 IsCaused words old new (Err _) = ⊥

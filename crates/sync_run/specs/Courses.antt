@@ -1,6 +1,6 @@
 -- What a run of sessions does, as a course: the journal, the answers heard and the readings of the clock are those of a path of
 -- events, and it closes as the links are said to have ended.
-use Rattle.std.specs.Prelude.{◌≡◌, ◌≢◌, ◌⊎◌, ℕ, ◌+◌, ◌<◌, Bool, true, false, nat_le, List, ◌++◌, length, map, Some, Result, Ok, Err, slice_get}
+use Rattle.std.specs.Prelude.{◌≡◌, ◌≢◌, ◌⊎◌, ℕ, ◌+◌, ◌<◌, Bool, true, false, if◌then◌else◌, nat_le, nat_lt, List, ◌++◌, length, map, Option, None, Some, Result, Ok, Err, slice_get}
 use Rattle.std.specs.List.{list_any}
 use Rattle.std.specs.Option.{option_map}
 use Rattle.outside.specs.declared.limits.TheConstants.{MAX_JOURNAL}
@@ -10,6 +10,7 @@ use Rattle.outside.specs.Outside.{Outside}
 use Rattle.outside.specs.Runs.{IsFront, Told}
 use Rattle.sync_rules.specs.declared.entries.Entry.{Entry}
 use Rattle.sync_rules.specs.declared.entries.Session.{Session}
+use Rattle.sync_rules.specs.declared.limits.TheConstants.{MAX_SESSIONS}
 use Rattle.sync_rules.specs.declared.states.Refused.{Refused}
 use Rattle.sync_rules.specs.declared.states.Refused.TheVariants as refused
 use Rattle.sync_rules.specs.Clients.{Meaning}
@@ -113,12 +114,28 @@ WasFull clients limits words begin old new = WasOver clients limits words begin 
 abbrev pub is_unknown : Facts → List LinkWords → Bool
 is_unknown f words = list_any (λ (w : LinkWords). nat_le f.contacts w.contact) words
 
+-- with a session for each of the words there would be more than there may be
+abbrev pub are_too_many : Facts → List LinkWords → Bool
+are_too_many f words = nat_lt MAX_SESSIONS (f.begun + length words)
+
+-- the first test of a run that fails: a contact of the words that is not known, or too many sessions
+abbrev pub run_test : Facts → List LinkWords → Option Refused
+run_test f words =
+    if is_unknown f words then Some refused.UnknownContact
+    else if are_too_many f words then Some refused.TooManySessions
+    else None
+
 -- the test of the contacts
 abbrev pub TestsContacts : Facts → List LinkWords → Result (Unit {0}) Refused → Type 0
 TestsContacts f words (Ok _) = is_unknown f words ≡ false
 TestsContacts f words (Err why) = (why ≡ refused.UnknownContact) × (is_unknown f words ≡ true)
 
--- What a run over a journal comes to whose contacts are known. A dial that failed leaves the files as they read.
+-- both tests
+abbrev pub TestsWords : Facts → List LinkWords → Result (Unit {0}) Refused → Type 0
+TestsWords f words (Ok _) = run_test f words ≡ None
+TestsWords f words (Err why) = run_test f words ≡ Some why
+
+-- What a run comes to over a journal for which the tests hold. A dial that failed leaves the files as they read.
 abbrev pub RunComes : Meaning → Limits → List LinkWords → Journal → (old new : Outside) → Result Closing Outcome → Type 0
 RunComes clients limits words begin old new (Ok ends) = RanToEnd clients limits words begin old new ends
 RunComes clients limits words begin old new (Err (outcome.LinkFailed link)) = ReadsAs clients new.files begin
@@ -127,24 +144,23 @@ RunComes clients limits words begin old new (Err outcome.Memory) = WasBroken cli
 RunComes clients limits words begin old new (Err outcome.DiskFault) = WasBroken clients limits words begin old new
 RunComes clients limits words begin old new (Err _) = ⊥
 
--- the files stood for a journal in which the contacts of the words are known, or some is not, and which has P
-pub record OfJournal (words : List LinkWords) (stood : Standing) (unknown : Bool) (P : Journal → Type 0) : Type 0 where
+-- the files stood for a journal for which the tests of the words hold, or this one fails first, and which has P
+pub record OfJournal (words : List LinkWords) (stood : Standing) (fails : Option Refused) (P : Journal → Type 0) : Type 0 where
   pub begin : Journal
   pub began : stood ≡ journal begin
-  pub tested : is_unknown (facts begin) words ≡ unknown
+  pub tested : run_test (facts begin) words ≡ fails
   pub has : P begin
 
 -- What the command comes to, by what the files stood for; what is said of journals, answers and readings is said where the files
 -- were told. A run that ends before its first session leaves the files as they read.
 abbrev pub ComesTo : Meaning → Limits → List LinkWords → Standing → (old new : Outside) → Result Closing Outcome → Type 0
-ComesTo clients limits words stood old new (Ok ends) = OfJournal words stood false (λ begin. RunComes clients limits words begin old new (Ok ends))
+ComesTo clients limits words stood old new (Ok ends) = OfJournal words stood None (λ begin. RunComes clients limits words begin old new (Ok ends))
 ComesTo clients limits words stood old new (Err outcome.NoStore) = stood ≡ no_store
 ComesTo clients limits words stood old new (Err (outcome.Damaged place)) = stood ≡ damaged place.file place.at
-ComesTo clients limits words stood old new (Err (outcome.Refused why)) =
-    (why ≡ refused.UnknownContact) × OfJournal words stood true (λ begin. ReadsAs clients new.files begin)
+ComesTo clients limits words stood old new (Err (outcome.Refused why)) = OfJournal words stood (Some why) (λ begin. ReadsAs clients new.files begin)
 ComesTo clients limits words stood old new (Err (outcome.LinkFailed link)) =
-    OfJournal words stood false (λ begin. RunComes clients limits words begin old new (Err (outcome.LinkFailed link)))
-ComesTo clients limits words stood old new (Err outcome.Full) = OfJournal words stood false (λ begin. RunComes clients limits words begin old new (Err outcome.Full))
+    OfJournal words stood None (λ begin. RunComes clients limits words begin old new (Err (outcome.LinkFailed link)))
+ComesTo clients limits words stood old new (Err outcome.Full) = OfJournal words stood None (λ begin. RunComes clients limits words begin old new (Err outcome.Full))
 ComesTo clients limits words stood old new (Err outcome.Memory) = (begin : Journal) → stood ≡ journal begin → WasBroken clients limits words begin old new
 ComesTo clients limits words stood old new (Err outcome.DiskFault) = (begin : Journal) → stood ≡ journal begin → WasBroken clients limits words begin old new
 ComesTo clients limits words stood old new (Err _) = ⊥

@@ -1,5 +1,5 @@
 -- What a run leaves that ends before its first session.
-use Rattle.std.specs.Prelude.{◌≡◌, true, List, Result, Err}
+use Rattle.std.specs.Prelude.{◌≡◌, true, List, is_some, Result, Err}
 use Rattle.outside.specs.Files.{Two, File}
 use Rattle.outside.specs.Links.{Links}
 use Rattle.outside.specs.Outside.{Outside}
@@ -11,7 +11,7 @@ use Rattle.sync_words.specs.declared.link_words.LinkWords.{LinkWords}
 use Rattle.sync_course.specs.Closing.{Closing}
 use Rattle.sync_words.specs.declared.outcome.Outcome.{Outcome}
 use Rattle.sync_words.specs.declared.outcome.Outcome.TheVariants as outcome
-use Rattle.sync_run.specs.Courses.{is_unknown}
+use Rattle.sync_run.specs.Courses.{run_test}
 use Rattle.sync_run.specs.Dialling.{MakesLinks}
 
 -- Links were made for the first of these words, in order; on none of them anything was sent or heard, and the clock was not read.
@@ -29,11 +29,11 @@ LeavesLinks words old new (Err (outcome.Refused why)) = new.links ≡ old.links
 LeavesLinks words old new (Err (outcome.LinkFailed link)) = MakesFront words old.links new.links
 LeavesLinks words old new result = Unit {0}
 
--- no session of these words may begin over files that stand so: for no journal, or for one in which some contact of the words is not known
+-- no session of these words may begin over files that stand so: for no journal, or for one for which a test of the words fails
 abbrev pub MayNotBegin : List LinkWords → Standing → Type 0
 MayNotBegin words no_store = Unit {0}
 MayNotBegin words (damaged file place) = Unit {0}
-MayNotBegin words (journal begin) = is_unknown (facts begin) words ≡ true
+MayNotBegin words (journal begin) = is_some (run_test (facts begin) words) ≡ true
 
 -- A run that did nothing: no link was made, nothing was sent or heard, and the clock was not read. Each moment is as a crash might have
 -- left the files before, and they read as before.

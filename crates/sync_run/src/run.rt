@@ -1,5 +1,5 @@
 // The command `sync`.
-ghost use Rattle.std.specs.Prelude.{◌≡◌, ◌≤◌, [], false, length, vec_capacity, ◌<◌, IfOk, IsErrOf};
+ghost use Rattle.std.specs.Prelude.{◌≡◌, ◌+◌, ◌≤◌, [], false, length, vec_capacity, ◌<◌, IfOk, IsErrOf};
 ghost use Rattle.std.specs.Prelude.{OnErr, OnOk, Some};
 ghost use Rattle.outside.specs.Faults.{Rose};
 ghost use Rattle.std.specs.List.{All};
@@ -7,6 +7,7 @@ ghost use Rattle.outside.specs.Files.{Two, File, read_files};
 ghost use Rattle.entry_codec.specs.Standing.{stands};
 ghost use Rattle.sync_rules.specs.Facts.{facts};
 ghost use Rattle.sync_rules.specs.Steps.{IsSettled};
+ghost use Rattle.sync_rules.specs.declared.limits.TheConstants.{MAX_SESSIONS};
 ghost use Rattle.sync_store.specs.Ready.{IsReady};
 ghost use Rattle.sync_node.specs.Causes.{FailByCause};
 ghost use Rattle.sync_node.specs.Courses.{FitsWith};
@@ -17,7 +18,7 @@ ghost use Rattle.sync_node.specs.Stays.{StaysReady};
 ghost use Rattle.outside.specs.declared.limits.TheConstants.{LINKS, MAX_JOURNAL};
 ghost use Rattle.sync_words.specs.Links.{AreLinks};
 ghost use Rattle.sync_run.specs.Causes.{FailsAlone, IsCaused, RunCaused};
-ghost use Rattle.sync_run.specs.Courses.{ComesTo, HaveSpecs, RunComes, TestsContacts};
+ghost use Rattle.sync_run.specs.Courses.{ComesTo, HaveSpecs, RunComes, TestsContacts, TestsWords};
 ghost use Rattle.sync_run.specs.Headline.{Headline, Rests, SentFull, SentWhole};
 ghost use Rattle.sync_run.specs.Leaving.{DoesNotBegin, LeavesLinks, MayNotBegin};
 ghost use Rattle.sync_run.specs.Parts.{BreaksRun, FullRun, RunsOver, RunsSessions, sessions_from};
@@ -34,7 +35,7 @@ use std::hash::RandomState;
 use store_commands::{load_store, migrate_and_settle};
 use sync_course::laws::runs_end_quiet;
 use sync_node::{Node, NodeFault};
-use sync_rules::{Clients, Refused};
+use sync_rules::{Clients, MAX_SESSIONS, Refused};
 use sync_store::Store;
 use sync_words::{LinkEnds, LinkWords, Outcome};
 
@@ -48,13 +49,15 @@ pub struct Limits {
 }
 
 /// Runs a session on each of these links, 1 to 8 of them, over a host on which no link was made,
-/// and answers how the links ended. It loads the store, tests the contacts, dials the links and
-/// draws their nonces, migrates the journal and settles it, begins the sessions in order, and makes
-/// turns until the run is over or all were made. At the end every link is hung up.
+/// and answers how the links ended. It loads the store, tests the contacts and the number of
+/// sessions, dials the links and draws their nonces, migrates the journal and settles it, begins
+/// the sessions in order, and makes turns until the run is over or all were made. At the end every
+/// link is hung up.
 ///
 /// # Errors
-/// `NoStore`, `Damaged` and `Refused(UnknownContact)` leave the files as they read, and no link is
-/// made; nor is one, nor a byte written, whatever it answers, where one of these is due.
+/// `NoStore`, `Damaged`, `Refused(UnknownContact)` and `Refused(TooManySessions)` leave the files
+/// as they read, and no link is made; nor is one, nor a byte written, whatever it answers, where
+/// one of these is due.
 /// `LinkFailed` names the one link whose dial or nonce failed, the journal is as it was,
 /// and nothing was sent or heard; `Full`, `Memory` and `DiskFault` break the run off. `Full` comes
 /// also where a journal of format 1 has the last generation: then the files read as before, and
@@ -86,21 +89,36 @@ pub fn sync_links<H: Host, C: Clients>(
     ensures caused { IsCaused links.now (H.tells host.old) (H.tells host.new) result }
     ensures leaves { LeavesLinks links.now (H.tells host.old) (H.tells host.new) result }
 
-    // Whatever it answers: over files that stand for no journal, or for one in which a contact of
-    // the words is not known, nothing is done.
+    // Whatever it answers: over files that stand for no journal, or for one for which a test of
+    // the words fails, nothing is done.
     ensures unbegun { (two : Two File) → (H.tells host.old).files ≡ Some two
         → MayNotBegin links.now (stands (C.meaning clients.now) (read_files two))
         → DoesNotBegin two (H.tells host.old) (H.tells host.new) }
 {
     let store = load_store(alloc, hasher, host, clients)?;
-    test_contacts(&store, links)?;
+    test_words(&store, links)?;
     let mut dialled = Vec::with_capacity(alloc, links.len())?;
     let ended = run_links(alloc, store, limits, links, &mut dialled, host, clients);
     hang_up_all(host, dialled.len());
     ended
 }
 
-// The first refusal: a contact that is not known.
+// The first refusal: a contact that is not known, or more sessions than there may be.
+fn test_words(store: &Store, links: &[LinkWords]) -> Result<(), Refused>
+    ensures known { OnOk result (All (IsKnown store.now.state.facts.contacts) links.now) }
+    ensures sessions { OnOk result
+        (store.now.state.facts.begun + length links.now ≤ MAX_SESSIONS) }
+    ensures tested { TestsWords store.now.state.facts links.now result }
+{
+    test_contacts(store, links)?;
+    let sessions = store.sessions() as usize + links.len();
+    if sessions > MAX_SESSIONS as usize {
+        return Err(Refused::TooManySessions);
+    }
+    Ok(())
+}
+
+// The first refusal of the contacts: one that is not known.
 fn test_contacts(store: &Store, links: &[LinkWords]) -> Result<(), Refused>
     ensures known { OnOk result (All (IsKnown store.now.state.facts.contacts) links.now) }
     ensures tested { TestsContacts store.now.state.facts links.now result }
@@ -129,6 +147,7 @@ fn run_links<H: Host, C: Clients>(
     requires ready { IsReady (C.meaning clients.now) store (H.tells host.old).files }
     requires limited { store.limit ≡ MAX_JOURNAL }
     requires known { All (IsKnown store.state.facts.contacts) words.now }
+    requires sessions { store.state.facts.begun + length words.now ≤ MAX_SESSIONS }
     requires empty { dialled.old.items ≡ [] }
     requires room { length words.now ≤ vec_capacity dialled.old }
     ensures few { length dialled.new.items ≤ LINKS }
@@ -173,6 +192,7 @@ fn run_dialled<H: Host, C: Clients>(
     requires ready { IsReady (C.meaning clients.now) store (H.tells host.old).files }
     requires limited { store.limit ≡ MAX_JOURNAL }
     requires each { AllMayBegin store.state.facts.contacts links.now }
+    requires sessions { store.state.facts.begun + length links.now ≤ MAX_SESSIONS }
     requires few { length links.now ≤ LINKS }
     requires dialled { length links.now ≤ (H.tells host.old).links.dialled }
     requires unused { AreUnused (H.tells host.old) }
@@ -217,6 +237,7 @@ fn run_node<H: Host, C: Clients>(
     requires none { node.old.links ≡ [] }
     requires first { node.old.store.state.facts.begun ≡ node.old.first }
     requires each { AllMayBegin node.old.store.state.facts.contacts links.now }
+    requires sessions { node.old.store.state.facts.begun + length links.now ≤ MAX_SESSIONS }
     requires few { length links.now ≤ LINKS }
     requires dialled { length links.now ≤ (H.tells host.old).links.dialled }
     ensures answer { Answers result node.new }

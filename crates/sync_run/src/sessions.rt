@@ -1,8 +1,9 @@
 // The sessions of a run: they begin, and the turns are made.
-ghost use Rattle.std.specs.Prelude.{◌≡◌, ◌≤◌, [], false, length, IfOk, IsErrOf, OnErr, OnOk};
+ghost use Rattle.std.specs.Prelude.{◌≡◌, ◌+◌, ◌≤◌, [], false, length, IfOk, IsErrOf, OnErr, OnOk};
 ghost use Rattle.outside.specs.Faults.{Rose};
 ghost use Rattle.outside.specs.declared.limits.TheConstants.{LINKS};
 ghost use Rattle.sync_rules.specs.Steps.{IsSettled};
+ghost use Rattle.sync_rules.specs.declared.limits.TheConstants.{MAX_SESSIONS};
 ghost use Rattle.sync_node.specs.Causes.{FailByCause};
 ghost use Rattle.sync_node.specs.Going.{Goes};
 ghost use Rattle.sync_node.specs.Node.{Answers, IsNode, KeepsJoined, KeepsSafe, MayRun};
@@ -32,6 +33,7 @@ pub fn attach_all<H: Host, C: Clients>(
     requires none { node.old.links ≡ [] }
     requires first { node.old.store.state.facts.begun ≡ node.old.first }
     requires each { AllMayBegin node.old.store.state.facts.contacts links.now }
+    requires sessions { node.old.store.state.facts.begun + length links.now ≤ MAX_SESSIONS }
     requires few { length links.now ≤ LINKS }
     requires dialled { length links.now ≤ (H.tells host.old).links.dialled }
     ensures answer { Answers result node.new }

@@ -31,6 +31,7 @@ use Rattle.store_commands.specs.declared.commit.Settling.{Settling}
 use Rattle.store_commands.specs.declared.commit.Settling.TheVariants as settling
 use Rattle.store_commands.specs.declared.listing.Listing.TheVariants as listing
 use Rattle.store_commands.specs.Commit.{IsFull, MayMigrate, WasSpent, needed_by}
+use Rattle.store_commands.specs.Compacting.{HasMadeBrief, IsBriefFull, MayRenew}
 use Rattle.store_commands.specs.Entries.{HasAdded}
 use Rattle.store_commands.specs.Init.{HasBegun}
 use Rattle.store_commands.specs.Plans.{Plan, adds, contact_plan, group_plan, level_plan, refuses}
@@ -43,8 +44,9 @@ use Rattle.sharing_commands.specs.Agreeing.{AreRoomy, HasAgreed, IsCut}
 use Rattle.sharing_commands.specs.Agreement.{agree_test}
 use Rattle.sharing_commands.specs.Sayings.{say_plan}
 use Rattle.sharing_commands.proofs.Fronts.{room_at}
+use Rattle.store_commands.proofs.Stood.{last_lacks}
 use Rattle.sync_top.specs.declared.input.TheConstants.{MAX_INPUT}
-use Rattle.sync_top.specs.Complete.{BytesDecide, ComesOut, Complete, HasRoom, HasRooms, MayAdd, MayAgreeOn, MayPost, MayShow, NothingFails, Serves, status_at, status_by}
+use Rattle.sync_top.specs.Complete.{BytesDecide, ComesOut, Complete, HasBriefRoom, HasRoom, HasRooms, MayAdd, MayAgreeOn, MayCompact, MayPost, MayShow, NothingFails, Serves, status_at, status_by}
 use Rattle.sync_top.specs.Run.{Comes, ComesOfStore, ReadsStream, ReadsWhole, Reports, Streams, TriesClient, outcome_of, speech_of}
 use Rattle.sync_top.proofs.CompleteRuns.{run_comes_out}
 
@@ -143,6 +145,15 @@ not_cut clients contact group files two two' j has next told (inl cut) =
     absurd (omega (arith, room, cut.over))
 not_cut clients contact group files two two' j has next told (inr spent) = not_spent files two two' next told spent
 
+-- there was room and a generation for the brief account
+not_brief_full : {P : Type 0} (clients : Meaning) (files : Option (Two File)) (two two' : Two File) (j : List (List Entry)) → HasBriefRoom clients j → MayRenew files → files ≡ Some two
+    → IsBriefFull clients j two two' → P
+not_brief_full clients files two two' j has next told (inl once) = absurd (elim once.has.over [
+  | inl past ↦ let room = has once.first once.settles once.settled in omega (arith, room, past)
+  | inr lacks ↦ next two told lacks
+])
+not_brief_full clients files two two' j has next told (inr spent) = absurd (next two told (last_lacks (read_files two) spent.0))
+
 module _ (clients : Meaning) (old new : Outside) (input input' out out' : Stream) (fails : NothingFails old new input input' out out') where
   abbrev Done : Outcome → Type 0
   Done came = (status_of came ≡ status.Done) ⊎ (status_of came ≡ status.Memory)
@@ -217,6 +228,28 @@ module _ (clients : Meaning) (old new : Outside) (input input' out out' : Stream
       subst (λ (j : List (List Entry)). HasRooms clients contact group j) (sym same) may.room in
       not_cut clients contact group old.files may.stood.0 now.0 full.before has may.next may.stood.1 full.leads
   agreed_done contact group _ did may = absurd did.by
+
+  made_done : (came : Outcome) → HasMadeBrief clients old new out out' came → MayCompact clients old.files → Done came
+  made_done outcome.Done did may = inl refl
+  made_done outcome.Memory did may = inr refl
+  made_done outcome.WriteFault did may = absurd (fails.sink did.by)
+  made_done outcome.DiskFault did may = absurd (fails.disk did.by.0)
+  made_done outcome.NoStore did may =
+      let now = told_on old new may.stood.0 did.run.same_told may.stood.1 in
+      let is : no_store ≡ journal may.before = sym (((did.told may.stood.0 may.stood.1).ends now.0 now.1).0) ∙ may.stood.2 in
+      cc
+  made_done (outcome.Damaged place) did may =
+      let now = told_on old new may.stood.0 did.run.same_told may.stood.1 in
+      let is : damaged place.file place.at ≡ journal may.before = sym (((did.told may.stood.0 may.stood.1).ends now.0 now.1).0) ∙ may.stood.2 in
+      cc
+  made_done outcome.Full did may =
+      let now = told_on old new may.stood.0 did.run.same_told may.stood.1 in
+      let full = (did.told may.stood.0 may.stood.1).ends now.0 now.1 in
+      let both : journal full.before ≡ journal may.before = sym full.stood ∙ may.stood.2 in
+      let same : full.before ≡ may.before = cc in
+      let has : HasBriefRoom clients full.before = subst (λ (j : List (List Entry)). HasBriefRoom clients j) (sym same) may.room in
+      not_brief_full clients old.files may.stood.0 now.0 full.before has may.next may.stood.1 full.leads
+  made_done _ did may = absurd did.by
 
   looked_done : (shown : Facts → Showing) (came : Outcome) → HasLooked clients shown old new out out' came → MayShow clients shown old.files → Done came
   looked_done shown outcome.Done did may = inl refl
@@ -308,6 +341,9 @@ command_comes_out clients (command.Say group timestamp join name major descripto
 command_comes_out clients (command.Agree contact group) old new input input' out out' came comes serves fails =
     store_done clients old new input input' out out' fails (λ (o : Outcome). HasAgreed clients contact group old new out out' o × IsIdle input input') came
     (λ did. agreed_done clients old new input input' out out' fails contact group came did.0 serves) comes
+command_comes_out clients command.Compact old new input input' out out' came comes serves fails =
+    store_done clients old new input input' out out' fails (λ (o : Outcome). HasMadeBrief clients old new out out' o × IsIdle input input') came
+    (λ did. made_done clients old new input input' out out' fails came did.0 serves) comes
 command_comes_out clients (command.Sync turns quiet links) old new input input' out out' came comes serves fails =
     elim comes [
       | inl did ↦ run_comes_out clients (record { turns = turns; quiet = quiet }) links old new fails.disk fails.links came did.0 serves

@@ -1,5 +1,5 @@
 -- A run of sessions comes to what its course decides: each other outcome has a cause.
-use Rattle.std.proofs.Common.{◌≡◌, ℕ, zero, suc, ◌≤◌, Bool, true, false, List, [], ◌∷◌, ◌++◌, refl, sym, ◌∙◌, ap, subst, inl, inr, arith, Some, Result, Ok, Err}
+use Rattle.std.proofs.Common.{◌≡◌, ℕ, zero, suc, ◌≤◌, Bool, true, false, List, [], ◌∷◌, ◌++◌, refl, sym, ◌∙◌, ap, subst, inl, inr, arith, None, Some, Result, Ok, Err}
 use Rattle.std.specs.Prelude.{◌⊎◌, slice_get, map, ◌||◌}
 use Rattle.std.specs.List.{list_any}
 use Rattle.outside.specs.declared.limits.TheConstants.{MAX_JOURNAL}
@@ -30,7 +30,7 @@ use Rattle.sync_words.specs.declared.status.Status.TheVariants as status
 use Rattle.sync_words.specs.Outcomes.{ends_status, first_bad, link_status, links_came_to, links_status, status_of}
 use Rattle.sync_run.specs.declared.run.Limits.{Limits}
 use Rattle.sync_run.specs.Causes.{FailuresRose, IsCaused}
-use Rattle.sync_run.specs.Courses.{ComesTo, RanToEnd, WasFull, is_unknown}
+use Rattle.sync_run.specs.Courses.{ComesTo, RanToEnd, WasFull, run_test}
 use Rattle.sync_run.specs.Ends.{LacksVersion, StandsByHeard}
 use Rattle.sync_run.specs.Ran.{HasRun}
 use Rattle.sync_top.specs.Complete.{AllHeardWell, CourseDecides, HeardWell, MaySync, is_unfailed}
@@ -166,9 +166,9 @@ module _ (clients : Meaning) (limits : Limits) (words : List LinkWords) (old new
     result_comes (Err (outcome.Damaged place)) came is caused comes =
         let both : damaged place.file place.at ≡ journal may.begin = sym comes ∙ may.stood.2 in cc
     result_comes (Err (outcome.Refused why)) came is caused comes =
-        let unknown : is_unknown (facts may.begin) words ≡ true =
-        subst (λ (j : List (List Entry)). is_unknown (facts j) words ≡ true) (same_begin comes.1.begin comes.1.began) comes.1.tested in
-        let both : true ≡ false = sym unknown ∙ may.known in
+        let fails : run_test (facts may.begin) words ≡ Some why =
+        subst (λ (j : List (List Entry)). run_test (facts j) words ≡ Some why) (same_begin comes.begin comes.began) comes.tested in
+        let both : Some why ≡ None = sym fails ∙ may.tested in
         cc
     result_comes (Err outcome.Full) came is caused comes =
         let full : WasFull clients limits words may.begin old new =

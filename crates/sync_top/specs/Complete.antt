@@ -34,11 +34,12 @@ use Rattle.commands.specs.Reading.{Asked}
 use Rattle.commands.specs.Reading.Asked.{Usage, Do}
 use Rattle.store_commands.specs.declared.listing.Listing.TheVariants as listing
 use Rattle.store_commands.specs.Commit.{MayMigrate, needed_by}
+use Rattle.store_commands.specs.Compacting.{MayRenew, brief_len}
 use Rattle.store_commands.specs.Plans.{Plan, adds, contact_plan, group_plan, level_plan, post_plan}
 use Rattle.store_commands.specs.Post.{IsBody, message_of}
 use Rattle.store_commands.specs.Shown.{Showing, body_shown, listing_shown, shows}
 use Rattle.sync_run.specs.declared.run.Limits.{Limits}
-use Rattle.sync_run.specs.Courses.{RanToEnd, WasBroken, is_unknown, terms_of}
+use Rattle.sync_run.specs.Courses.{RanToEnd, WasBroken, run_test, terms_of}
 use Rattle.tree_commands.specs.Trees.{tree_shown}
 use Rattle.sharing_commands.specs.Agreeing.{AreRoomy}
 use Rattle.sharing_commands.specs.Agreement.{agree_test, agreed_batches}
@@ -92,6 +93,18 @@ pub record MayAgreeOn (clients : Meaning) (contact : ℕ) (group : Id) (files : 
   pub room : HasRooms clients contact group before
   pub next : MayMigrate files
 
+-- for the brief account of a journal, however it is settled, there is room
+abbrev pub HasBriefRoom : Meaning → List (List Entry) → Type 0
+HasBriefRoom clients j =
+    (first : List (List Entry)) → AllSettling clients (facts j) first → IsSettled clients (after_batches (facts j) first) → brief_len (j ++ first) ≤ MAX_JOURNAL
+
+-- the files stand for a journal for whose brief account there is room, and a generation is left for it
+pub record MayCompact (clients : Meaning) (files : Option (Two File)) : Type 0 where
+  pub before : List (List Entry)
+  pub stood : ReadsAs clients files before
+  pub room : HasBriefRoom clients before
+  pub next : MayRenew files
+
 -- the files stand for a journal of which the command has a text to show
 pub record MayShow (clients : Meaning) (shown : Facts → Showing) (files : Option (Two File)) : Type 0 where
   pub of : List (List Entry)
@@ -99,12 +112,12 @@ pub record MayShow (clients : Meaning) (shown : Facts → Showing) (files : Opti
   pub stood : ReadsAs clients files of
   pub is : shown (facts of) ≡ shows text
 
--- The files stand for a journal in which each contact of the words is known, and there is room for each batch that comes next in a
--- course over what was heard; where they are in format 1, a generation is left.
+-- The files stand for a journal for which the tests of the words hold, and there is room for each batch that comes next in a course
+-- over what was heard; where they are in format 1, a generation is left.
 pub record MaySync (clients : Meaning) (limits : Limits) (words : List LinkWords) (old new : Outside) : Type 0 where
   pub begin : List (List Entry)
   pub stood : ReadsAs clients old.files begin
-  pub known : is_unknown (facts begin) words ≡ false
+  pub tested : run_test (facts begin) words ≡ None
   pub room : (was : WasBroken clients limits words begin old new) (batch : List Entry) (next : Place)
       → RunStep clients (terms_of limits begin) was.last (Commit batch) next → needed_by (begin ++ batches_of was.events) batch ≤ MAX_JOURNAL
   pub next : MayMigrate old.files
@@ -128,6 +141,7 @@ Serves clients (command.Tree group from count) old new input input' =
 Serves clients (command.Say group timestamp join name major descriptor) old new input input' =
     MayAdd clients (say_plan clients (speech_of group timestamp join name major descriptor)) old.files
 Serves clients (command.Agree contact group) old new input input' = MayAgreeOn clients contact group old.files
+Serves clients command.Compact old new input input' = MayCompact clients old.files
 Serves clients (command.Sync turns quiet links) old new input input' = MaySync clients (record { turns = turns; quiet = quiet }) links old new
 
 -- ---- what it then comes to

@@ -20,7 +20,7 @@ use sharing_commands::{Speech, agree, say};
 use std::alloc::Global;
 use std::hash::RandomState;
 use store_commands::{
-    Listing, add_contact, add_group, list, make_store, post_message, set_level, write_body,
+    Listing, add_contact, add_group, compact, list, make_store, post_message, set_level, write_body,
 };
 use sync_ids::{GroupDef, GroupId};
 use sync_rules::Clients;
@@ -174,6 +174,7 @@ fn obey<H: Host, S: Source, W: Sink, C: Clients>(
         Command::Agree(contact, group) => {
             agree(alloc, hasher, contact, &group, host, out, clients)
         }
+        Command::Compact => compact(alloc, hasher, host, out, clients),
         Command::Sync(_, _, _) => unreachable!(),
     }
 }

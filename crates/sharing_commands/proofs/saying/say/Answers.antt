@@ -37,6 +37,11 @@ add_entry-requires-clause-kind g c =
     (say_follows (g.C.Clients.meaning c.args.clients.now) c.in_ok-store.store.state.facts
     c.args.speech (entry.Author c.in_ok-post.post.message) c.in_ok-post.ensures.0).kind
 
+pub add_entry-requires-clause-plain : goal.add_entry-requires-clause-plain
+add_entry-requires-clause-plain g c =
+    (say_follows (g.C.Clients.meaning c.args.clients.now) c.in_ok-store.store.state.facts
+    c.args.speech (entry.Author c.in_ok-post.post.message) c.in_ok-post.ensures.0).plain
+
 pub add_entry-requires-clause-named : goal.add_entry-requires-clause-named
 add_entry-requires-clause-named g c = (c.in_ok-post.ensures.1, tt)
 

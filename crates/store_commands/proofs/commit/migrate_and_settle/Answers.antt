@@ -42,7 +42,7 @@ returns-clause-settled g c =
       comes =
           comes_settled clients s s1 s2 (g.D.Disk.tells c.args.disk.now) (g.D.Disk.tells c.migrate.new.disk) (g.D.Disk.tells c.settle.new.disk) _ c.settle.result migrated.answer.0
           c.in_ok-migrate.ensures.run migrated settled;
-      answer = settled_anew clients s s1 s2 _ c.settle.result migrated.answer settled.comes.format settled.answer;
+      answer = settled_anew clients s s1 s2 _ c.settle.result migrated.answer settled.comes.format settled.comes.generation settled.answer;
     }
 
 pub returns-clause-untouched : goal.returns-clause-untouched

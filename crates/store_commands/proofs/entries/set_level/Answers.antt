@@ -33,6 +33,11 @@ add_entry-requires-clause-kind g c =
     let clients = g.C.Clients.meaning c.args.clients.now in
     (level_follows clients c.in_ok-store.store.state.facts c.args.contact c.args.group.now c.args.level c.in_ok-entry.entry c.in_ok-entry.ensures).kind
 
+pub add_entry-requires-clause-plain : goal.add_entry-requires-clause-plain
+add_entry-requires-clause-plain g c =
+    let clients = g.C.Clients.meaning c.args.clients.now in
+    (level_follows clients c.in_ok-store.store.state.facts c.args.contact c.args.group.now c.args.level c.in_ok-entry.entry c.in_ok-entry.ensures).plain
+
 pub returns : goal.returns
 returns g c =
     let clients = g.C.Clients.meaning c.args.clients.now in

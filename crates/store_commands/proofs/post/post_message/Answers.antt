@@ -53,6 +53,11 @@ add_entry-requires-clause-kind g c =
     (post_follows (g.C.Clients.meaning c.args.clients.now) c.in_ok-store.store.state.facts (message_of c.args.group c.args.timestamp c.in_ok-body.body.items)
     (entry.Author c.in_ok-post.post.message) c.in_ok-post.ensures.0).kind
 
+pub add_entry-requires-clause-plain : goal.add_entry-requires-clause-plain
+add_entry-requires-clause-plain g c =
+    (post_follows (g.C.Clients.meaning c.args.clients.now) c.in_ok-store.store.state.facts (message_of c.args.group c.args.timestamp c.in_ok-body.body.items)
+    (entry.Author c.in_ok-post.post.message) c.in_ok-post.ensures.0).plain
+
 pub returns : goal.returns
 returns g c =
     posted_entry (g.C.Clients.meaning c.args.clients.now) c.args.group c.args.timestamp _ _ _ _ _ _ _ c.in_ok-store.store c.in_ok-body.body.items

@@ -6,7 +6,7 @@ use Rattle.sync_rules.specs.Facts.{facts}
 use Rattle.sync_run.proofs.CourseRun.{over_broken, over_closed, over_filled, over_settling, over_unclosed, over_unmade, passed}
 use Rattle.sync_run.proofs.SafeCalm.{err_is}
 use Rattle.sync_run.proofs.SafeBegin.{joined_none}
-use Rattle.sync_run.proofs.SafeRunning.{unused_disk, goes_settled, node_begins, node_may, node_sends, rests_at, rests_fault, rests_ready, rests_stays, runs_node, runs_settling}
+use Rattle.sync_run.proofs.SafeRunning.{unused_disk, goes_settled, node_begins, node_begun, node_may, node_sends, rests_at, rests_fault, rests_ready, rests_stays, runs_node, runs_settling}
 use Rattle.sync_run.proofs.CauseLaws.{ends_rose, goes_then}
 use Rattle.std.proofs.Common.{refl}
 use Rattle.sync_run.proofs.SafeFull.{dialled_full, err_was, unrun_full}
@@ -34,6 +34,10 @@ returns-in_err-node-clause-run g c = goes_settled _ _ _ _ _ _ c.requires.ready c
 
 pub run_node-requires-clause-may : goal.run_node-requires-clause-may
 run_node-requires-clause-may g c = node_may _ _ _ _ c.in_ok-migrate_and_settle.ensures.ready c.in_ok-node.ensures
+
+pub run_node-requires-clause-sessions : goal.run_node-requires-clause-sessions
+run_node-requires-clause-sessions g c =
+    omega (arith, node_begun _ _ _ _ _ _ _ c.migrate_and_settle.ensures.settled c.in_ok-node.ensures, c.requires.sessions)
 
 pub run_node-requires-clause-each : goal.run_node-requires-clause-each
 run_node-requires-clause-each g c = node_begins _ _ _ _ _ _ _ c.args.links.now c.migrate_and_settle.ensures.settled c.in_ok-node.ensures c.requires.each

@@ -17,6 +17,10 @@ run_dialled-requires-clause-each g c =
     subst (λ (l : List Dialled). AllMayBegin c.args.store.state.facts.contacts l) (sym c.as_slice.ensures.value)
     (words_may _ c.args.words.now _ c.in-Ok.ensures.dials.dialled c.requires.known c.requires.links.each)
 
+pub run_dialled-requires-clause-sessions : goal.run_dialled-requires-clause-sessions
+run_dialled-requires-clause-sessions g c =
+    omega (arith, ap (λ (l : List Dialled). length l) c.as_slice.ensures.value, c.in-Ok.ensures.dials.all.1, c.requires.sessions)
+
 pub run_dialled-requires-clause-few : goal.run_dialled-requires-clause-few
 run_dialled-requires-clause-few g c = omega (arith, ap (λ (l : List Dialled). length l) c.as_slice.ensures.value, c.in-Ok.ensures.dials.all.1, c.requires.links.few)
 

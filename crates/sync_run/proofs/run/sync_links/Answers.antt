@@ -2,7 +2,7 @@ use Rattle.std.proofs.Common.{ap, ◌∙◌}
 use Rattle.outside.specs.Links.{Links}
 use Rattle.sync_node.specs.Going.{specs_of}
 use Rattle.sync_run.proofs.CourseLinks.{links_caused, links_come, refused_caused, refused_comes, unheld_caused, unheld_comes, unloaded_caused, unloaded_comes}
-use Rattle.sync_run.proofs.LeavingLaws.{known_begins, leaves_as, leaves_same, unbegun_loaded}
+use Rattle.sync_run.proofs.LeavingLaws.{tested_begins, leaves_as, leaves_same, unbegun_loaded}
 use Rattle.sync_run.proofs.SafeCalm.{err_is}
 use Rattle.sync_run.proofs.SafeEnds.{headline_none}
 use Rattle.sync_run.proofs.SafeRunning.{at_rest_stills, headline_run, load_rests, rests_at, rests_fault, rests_ready, sent_run, specs_disk, specs_kept}
@@ -22,16 +22,16 @@ returns-in_err-store-clause-rests g c = λ two told.
 pub returns-in_err-store-clause-specs : goal.returns-in_err-store-clause-specs
 returns-in_err-store-clause-specs g c = specs_disk c.args.links.now (g.H.Disk.tells c.args.host.now) (g.H.Disk.tells c.load_store.new.disk) c.requires.unused c.load_store.ensures.run
 
-pub returns-in_err-test_contacts-clause-headline : goal.returns-in_err-test_contacts-clause-headline
-returns-in_err-test_contacts-clause-headline g c =
+pub returns-in_err-test_words-clause-headline : goal.returns-in_err-test_words-clause-headline
+returns-in_err-test_words-clause-headline g c =
     headline_none _ c.args.links.now (g.H.Disk.tells c.args.host.now) (g.H.Disk.tells c.load_store.new.disk) c.requires.unused c.load_store.ensures.run
     (λ two told. (c.load_store.ensures.rests two told).moments) c.load_store.ensures.reads
 
-pub returns-in_err-test_contacts-clause-rests : goal.returns-in_err-test_contacts-clause-rests
-returns-in_err-test_contacts-clause-rests g c = λ two told. rests_at _ _ (rests_ready _ _ _ c.in_ok-store.ensures.opened.ready)
+pub returns-in_err-test_words-clause-rests : goal.returns-in_err-test_words-clause-rests
+returns-in_err-test_words-clause-rests g c = λ two told. rests_at _ _ (rests_ready _ _ _ c.in_ok-store.ensures.opened.ready)
 
-pub returns-in_err-test_contacts-clause-specs : goal.returns-in_err-test_contacts-clause-specs
-returns-in_err-test_contacts-clause-specs g c = specs_disk c.args.links.now (g.H.Disk.tells c.args.host.now) (g.H.Disk.tells c.load_store.new.disk) c.requires.unused c.load_store.ensures.run
+pub returns-in_err-test_words-clause-specs : goal.returns-in_err-test_words-clause-specs
+returns-in_err-test_words-clause-specs g c = specs_disk c.args.links.now (g.H.Disk.tells c.args.host.now) (g.H.Disk.tells c.load_store.new.disk) c.requires.unused c.load_store.ensures.run
 
 pub returns-in_err-dialled-clause-headline : goal.returns-in_err-dialled-clause-headline
 returns-in_err-dialled-clause-headline g c =
@@ -77,16 +77,16 @@ returns-in_err-store-clause-caused g c =
     unloaded_caused c.args.links.now (g.H.Disk.tells c.args.host.now) (g.H.Disk.tells c.load_store.new.disk) c.from_residual.result c.in_err-store.field-0.0 c.from_residual.ensures.1
     c.in_err-store.ensures.by
 
-pub returns-in_err-test_contacts-clause-comes : goal.returns-in_err-test_contacts-clause-comes
-returns-in_err-test_contacts-clause-comes g c = λ two told.
+pub returns-in_err-test_words-clause-comes : goal.returns-in_err-test_words-clause-comes
+returns-in_err-test_words-clause-comes g c = λ two told.
     refused_comes _ c.args.limits c.args.links.now two (g.H.Disk.tells c.args.host.now) (g.H.Disk.tells c.load_store.new.disk) c.requires.unused told c.load_store.ensures.run.same_links
-    c.load_store.ensures.reads _ (c.in_ok-store.ensures.loaded two told) c.from_residual-in_err-test_contacts.result c.in_err-test_contacts.field-0.0
-    c.from_residual-in_err-test_contacts.ensures.1 c.in_err-test_contacts.ensures.tested
+    c.load_store.ensures.reads _ (c.in_ok-store.ensures.loaded two told) c.from_residual-in_err-test_words.result c.in_err-test_words.field-0.0
+    c.from_residual-in_err-test_words.ensures.1 c.in_err-test_words.ensures.tested
 
-pub returns-in_err-test_contacts-clause-caused : goal.returns-in_err-test_contacts-clause-caused
-returns-in_err-test_contacts-clause-caused g c =
-    refused_caused c.in_ok-store.store.state.facts c.args.links.now (g.H.Disk.tells c.args.host.now) (g.H.Disk.tells c.load_store.new.disk) c.from_residual-in_err-test_contacts.result
-    c.in_err-test_contacts.field-0.0 c.from_residual-in_err-test_contacts.ensures.1 c.in_err-test_contacts.ensures.tested
+pub returns-in_err-test_words-clause-caused : goal.returns-in_err-test_words-clause-caused
+returns-in_err-test_words-clause-caused g c =
+    refused_caused c.in_ok-store.store.state.facts c.args.links.now (g.H.Disk.tells c.args.host.now) (g.H.Disk.tells c.load_store.new.disk) c.from_residual-in_err-test_words.result
+    c.in_err-test_words.field-0.0 c.from_residual-in_err-test_words.ensures.1 c.in_err-test_words.ensures.tested
 
 pub returns-in_err-dialled-clause-comes : goal.returns-in_err-dialled-clause-comes
 returns-in_err-dialled-clause-comes g c = λ two told.
@@ -100,8 +100,8 @@ returns-in_err-dialled-clause-caused g c =
 pub returns-clause-comes : goal.returns-clause-comes
 returns-clause-comes g c = λ two told.
     links_come _ c.args.limits c.args.links.now two (g.H.Disk.tells c.args.host.now) (g.H.Disk.tells c.load_store.new.disk) c.requires.unused told c.load_store.ensures.run.same_links
-    c.load_store.ensures.reads _ (c.in_ok-store.ensures.loaded two told) (g.H.Disk.tells c.run_links-ended.new.host) (g.H.Disk.tells c.hang_up_all.new.host) c.in_ok-test_contacts.field-0
-    c.run_links-ended.result c.in_ok-store.ensures.opened.ready.fits c.in_ok-test_contacts.ensures.tested c.hang_up_all.ensures.same_links c.hang_up_all.ensures.same_files
+    c.load_store.ensures.reads _ (c.in_ok-store.ensures.loaded two told) (g.H.Disk.tells c.run_links-ended.new.host) (g.H.Disk.tells c.hang_up_all.new.host) c.in_ok-test_words.field-0
+    c.run_links-ended.result c.in_ok-store.ensures.opened.ready.fits c.in_ok-test_words.ensures.tested c.hang_up_all.ensures.same_links c.hang_up_all.ensures.same_files
     c.run_links-ended.ensures.comes
 
 pub returns-clause-caused : goal.returns-clause-caused
@@ -122,9 +122,9 @@ pub returns-in_err-store-clause-leaves : goal.returns-in_err-store-clause-leaves
 returns-in_err-store-clause-leaves g c =
     leaves_same c.args.links.now (g.H.Disk.tells c.args.host.now) (g.H.Disk.tells c.load_store.new.disk) c.from_residual.result c.load_store.ensures.run.same_links
 
-pub returns-in_err-test_contacts-clause-leaves : goal.returns-in_err-test_contacts-clause-leaves
-returns-in_err-test_contacts-clause-leaves g c =
-    leaves_same c.args.links.now (g.H.Disk.tells c.args.host.now) (g.H.Disk.tells c.load_store.new.disk) c.from_residual-in_err-test_contacts.result c.load_store.ensures.run.same_links
+pub returns-in_err-test_words-clause-leaves : goal.returns-in_err-test_words-clause-leaves
+returns-in_err-test_words-clause-leaves g c =
+    leaves_same c.args.links.now (g.H.Disk.tells c.args.host.now) (g.H.Disk.tells c.load_store.new.disk) c.from_residual-in_err-test_words.result c.load_store.ensures.run.same_links
 
 pub returns-in_err-dialled-clause-leaves : goal.returns-in_err-dialled-clause-leaves
 returns-in_err-dialled-clause-leaves g c =
@@ -139,8 +139,8 @@ pub returns-in_err-store-clause-unbegun : goal.returns-in_err-store-clause-unbeg
 returns-in_err-store-clause-unbegun g c = λ two told none.
     unbegun_loaded two (g.H.Disk.tells c.args.host.now) (g.H.Disk.tells c.load_store.new.disk) told c.load_store.ensures.run (c.load_store.ensures.rests two told).moments c.load_store.ensures.reads
 
-pub returns-in_err-test_contacts-clause-unbegun : goal.returns-in_err-test_contacts-clause-unbegun
-returns-in_err-test_contacts-clause-unbegun g c = λ two told none.
+pub returns-in_err-test_words-clause-unbegun : goal.returns-in_err-test_words-clause-unbegun
+returns-in_err-test_words-clause-unbegun g c = λ two told none.
     unbegun_loaded two (g.H.Disk.tells c.args.host.now) (g.H.Disk.tells c.load_store.new.disk) told c.load_store.ensures.run (c.load_store.ensures.rests two told).moments c.load_store.ensures.reads
 
 pub returns-in_err-dialled-clause-unbegun : goal.returns-in_err-dialled-clause-unbegun
@@ -149,4 +149,4 @@ returns-in_err-dialled-clause-unbegun g c = λ two told none.
 
 pub returns-clause-unbegun : goal.returns-clause-unbegun
 returns-clause-unbegun g c = λ two told none.
-    absurd (known_begins c.args.links.now _ c.in_ok-store.store (c.in_ok-store.ensures.loaded two told) c.in_ok-test_contacts.ensures.tested none)
+    absurd (tested_begins c.args.links.now _ c.in_ok-store.store (c.in_ok-store.ensures.loaded two told) c.in_ok-test_words.ensures.tested none)

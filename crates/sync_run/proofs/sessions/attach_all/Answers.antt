@@ -79,6 +79,10 @@ attach-requires-clause-may g c = c.links.invariant.may
 pub attach-requires-clause-settled : goal.attach-requires-clause-settled
 attach-requires-clause-settled g c = λ opened. c.links.invariant.settled
 
+pub attach-requires-clause-begun : goal.attach-requires-clause-begun
+attach-requires-clause-begun g c =
+    omega (arith, (c.links.invariant.node.attached c.links.invariant.still_open).begun, c.links.invariant.same_first, c.requires.first, c.links.invariant.numbered, c.links.invariant.count, c.links-test.true, c.requires.sessions)
+
 pub attach-requires-clause-contact : goal.attach-requires-clause-contact
 attach-requires-clause-contact g c =
     omega (arith, (item_may _ c.args.links.now c.links.link-index c.link-item.result c.requires.each c.links-test.true c.link-item.is).known, c.links.invariant.begun.same_contacts)

@@ -69,3 +69,8 @@ returns-in-Agree-clause-comes g c =
     as_command (g.C.Clients.meaning c.args.clients.now) c.args.asked
     (command.Agree c.in-Agree.contact c.in-Agree.group) _ _ _ _ _ _ _ c.in-Agree.is
     (inl (c.agree.ensures, (record { same = refl; same_faults = refl })))
+
+pub returns-in-Compact-clause-comes : goal.returns-in-Compact-clause-comes
+returns-in-Compact-clause-comes g c =
+    as_command (g.C.Clients.meaning c.args.clients.now) c.args.asked command.Compact _ _ _ _ _ _ _ c.in-Compact.is
+    (inl (c.compact.ensures, (record { same = refl; same_faults = refl })))
