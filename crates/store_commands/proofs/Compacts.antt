@@ -30,7 +30,7 @@ use Rattle.sync_words.specs.Outcomes.{came_to}
 use Rattle.sync_words.specs.declared.outcome.Outcome.{Outcome}
 use Rattle.sync_words.specs.declared.outcome.Outcome.TheVariants as outcome
 use Rattle.store_commands.specs.Commit.{ExtendsBy, HasLastGeneration, SettledAnew, SettlesAnew, next_generation}
-use Rattle.store_commands.specs.Compacting.{BriefEnds, CompactsAs, CompactsBy, CompactsEnds, CompactsMoment, GoesBrief, HasMadeBrief, IsBriefFull, IsCompacted, IsUncompacted, LacksGeneration, MakesBrief, OnceSettled, brief_len}
+use Rattle.store_commands.specs.Compact.{BriefEnds, CompactsAs, CompactsBy, CompactsEnds, CompactsMoment, GoesBrief, HasCompacted, IsBriefFull, IsCompacted, IsUncompacted, LacksGeneration, MakesBrief, OnceSettled, brief_len}
 use Rattle.store_commands.specs.Entries.{is_added, is_late}
 use Rattle.store_commands.specs.Load.{IsLoaded, LoadKeeps, LoadedBy, MayExtend}
 use Rattle.store_commands.specs.Show.{Keeps, PrintsText, Rests}
@@ -310,7 +310,7 @@ none_unadded old new _ by = absurd by
 
 pub brief_none : (clients : Meaning) (old new : Outside) (out out' : Stream) (came : Outcome) → DiskRun old new
     → ((two : Two File) → old.files ≡ Some two → Rests (LoadKeeps (Err came) two) two old new) → LoadedBy old new (Err came)
-    → ((two : Two File) → old.files ≡ Some two → IsLoaded (stands clients (read_files two)) (Err came)) → IsIdle out out' → HasMadeBrief clients old new out out' came
+    → ((two : Two File) → old.files ≡ Some two → IsLoaded (stands clients (read_files two)) (Err came)) → IsIdle out out' → HasCompacted clients old new out out' came
 brief_none clients old new out out' came run rests by loaded idle = record {
   run = run;
   by = none_by old new out out' came idle by;
@@ -360,7 +360,7 @@ by_later o o1 o2 out out' _ later by = absurd by
 
 pub brief_loaded : (clients : Meaning) (o o1 o2 : Outside) (out out' : Stream) (s : StoreValue) (came : Outcome) → DiskRun o o1
     → ((two : Two File) → o.files ≡ Some two → Rests (LoadKeeps (Ok s) two) two o o1) → MayExtend clients s o1.files → MakesBrief clients s o1 o2 out out' came
-    → HasMadeBrief clients o o2 out out' came
+    → HasCompacted clients o o2 out out' came
 brief_loaded clients o o1 o2 out out' s came run rests ready made = record {
   run = run_then o o1 o2 run made.run;
   by = by_later o o1 o2 out out' came run.later made.by;
@@ -397,5 +397,5 @@ module _ (r : Result (Unit {0}) Outcome) (x : Outcome) (is : IsErrAnd r (λ e. e
   pub makes_on : (s : StoreValue) (o o' : Outside) (out out' : Stream) → MakesBrief clients s o o' out out' x → MakesBrief clients s o o' out out' (came_to r)
   makes_on s o o' out out' = passed (λ (came : Outcome). MakesBrief clients s o o' out out' came) r x is
 
-  pub made_on : (o o' : Outside) (out out' : Stream) → HasMadeBrief clients o o' out out' x → HasMadeBrief clients o o' out out' (came_to r)
-  made_on o o' out out' = passed (λ (came : Outcome). HasMadeBrief clients o o' out out' came) r x is
+  pub made_on : (o o' : Outside) (out out' : Stream) → HasCompacted clients o o' out out' x → HasCompacted clients o o' out out' (came_to r)
+  made_on o o' out out' = passed (λ (came : Outcome). HasCompacted clients o o' out out' came) r x is

@@ -12,7 +12,7 @@ use Rattle.sync_store.specs.Fitting.{Fits}
 use Rattle.sync_store.specs.Migrations.{IsSpent}
 use Rattle.sync_store.specs.Store.{StoreValue, written_in}
 use Rattle.store_commands.specs.Commit.{HasLastGeneration, IsInFormat, next_generation, short_generation}
-use Rattle.store_commands.specs.Compacting.{LacksGeneration}
+use Rattle.store_commands.specs.Compact.{LacksGeneration}
 
 file_reads : (two : Two File) (file : ℕ) → file_of (read_files two) file ≡ (file_of two file).now
 file_reads two zero = refl

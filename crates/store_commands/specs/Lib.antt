@@ -6,4 +6,4 @@ pub mod Commit
 pub mod Entries
 pub mod Init
 pub mod Post
-pub mod Compacting
+pub mod Compact

@@ -8,7 +8,7 @@ ghost use Rattle.sync_store.specs.Store.{written_in};
 ghost use Rattle.sync_words.specs.EntryTexts.{compacted_text};
 ghost use Rattle.sync_words.specs.Outcomes.{came_to};
 ghost use Rattle.store_commands.specs.Commit.{ExtendsBy};
-ghost use Rattle.store_commands.specs.Compacting.{CompactsAs, HasMadeBrief, MakesBrief};
+ghost use Rattle.store_commands.specs.Compact.{CompactsAs, HasCompacted, MakesBrief};
 ghost use Rattle.store_commands.specs.Load.{MayExtend};
 ghost use Rattle.store_commands.specs.Show.{PrintsText};
 
@@ -33,7 +33,7 @@ pub fn compact<D: Disk, W: Sink, C: Clients>(
     out: &mut W,
     clients: &C,
 ) -> Result<(), Outcome>
-    ensures { HasMadeBrief (C.meaning clients.now) (D.tells disk.old) (D.tells disk.new)
+    ensures { HasCompacted (C.meaning clients.now) (D.tells disk.old) (D.tells disk.new)
         (W.tells out.old) (W.tells out.new) (came_to result) }
 {
     let store = load_store(alloc, hasher, disk, clients)?;

@@ -31,7 +31,7 @@ use Rattle.store_commands.specs.declared.commit.Settling.{Settling}
 use Rattle.store_commands.specs.declared.commit.Settling.TheVariants as settling
 use Rattle.store_commands.specs.declared.listing.Listing.TheVariants as listing
 use Rattle.store_commands.specs.Commit.{IsFull, MayMigrate, WasSpent, needed_by}
-use Rattle.store_commands.specs.Compacting.{HasMadeBrief, IsBriefFull, MayRenew}
+use Rattle.store_commands.specs.Compact.{HasCompacted, IsBriefFull, MayRenew}
 use Rattle.store_commands.specs.Entries.{HasAdded}
 use Rattle.store_commands.specs.Init.{HasBegun}
 use Rattle.store_commands.specs.Plans.{Plan, adds, contact_plan, group_plan, level_plan, refuses}
@@ -229,27 +229,27 @@ module _ (clients : Meaning) (old new : Outside) (input input' out out' : Stream
       not_cut clients contact group old.files may.stood.0 now.0 full.before has may.next may.stood.1 full.leads
   agreed_done contact group _ did may = absurd did.by
 
-  made_done : (came : Outcome) → HasMadeBrief clients old new out out' came → MayCompact clients old.files → Done came
-  made_done outcome.Done did may = inl refl
-  made_done outcome.Memory did may = inr refl
-  made_done outcome.WriteFault did may = absurd (fails.sink did.by)
-  made_done outcome.DiskFault did may = absurd (fails.disk did.by.0)
-  made_done outcome.NoStore did may =
+  compacted_done : (came : Outcome) → HasCompacted clients old new out out' came → MayCompact clients old.files → Done came
+  compacted_done outcome.Done did may = inl refl
+  compacted_done outcome.Memory did may = inr refl
+  compacted_done outcome.WriteFault did may = absurd (fails.sink did.by)
+  compacted_done outcome.DiskFault did may = absurd (fails.disk did.by.0)
+  compacted_done outcome.NoStore did may =
       let now = told_on old new may.stood.0 did.run.same_told may.stood.1 in
       let is : no_store ≡ journal may.before = sym (((did.told may.stood.0 may.stood.1).ends now.0 now.1).0) ∙ may.stood.2 in
       cc
-  made_done (outcome.Damaged place) did may =
+  compacted_done (outcome.Damaged place) did may =
       let now = told_on old new may.stood.0 did.run.same_told may.stood.1 in
       let is : damaged place.file place.at ≡ journal may.before = sym (((did.told may.stood.0 may.stood.1).ends now.0 now.1).0) ∙ may.stood.2 in
       cc
-  made_done outcome.Full did may =
+  compacted_done outcome.Full did may =
       let now = told_on old new may.stood.0 did.run.same_told may.stood.1 in
       let full = (did.told may.stood.0 may.stood.1).ends now.0 now.1 in
       let both : journal full.before ≡ journal may.before = sym full.stood ∙ may.stood.2 in
       let same : full.before ≡ may.before = cc in
       let has : HasBriefRoom clients full.before = subst (λ (j : List (List Entry)). HasBriefRoom clients j) (sym same) may.room in
       not_brief_full clients old.files may.stood.0 now.0 full.before has may.next may.stood.1 full.leads
-  made_done _ did may = absurd did.by
+  compacted_done _ did may = absurd did.by
 
   looked_done : (shown : Facts → Showing) (came : Outcome) → HasLooked clients shown old new out out' came → MayShow clients shown old.files → Done came
   looked_done shown outcome.Done did may = inl refl
@@ -342,8 +342,8 @@ command_comes_out clients (command.Agree contact group) old new input input' out
     store_done clients old new input input' out out' fails (λ (o : Outcome). HasAgreed clients contact group old new out out' o × IsIdle input input') came
     (λ did. agreed_done clients old new input input' out out' fails contact group came did.0 serves) comes
 command_comes_out clients command.Compact old new input input' out out' came comes serves fails =
-    store_done clients old new input input' out out' fails (λ (o : Outcome). HasMadeBrief clients old new out out' o × IsIdle input input') came
-    (λ did. made_done clients old new input input' out out' fails came did.0 serves) comes
+    store_done clients old new input input' out out' fails (λ (o : Outcome). HasCompacted clients old new out out' o × IsIdle input input') came
+    (λ did. compacted_done clients old new input input' out out' fails came did.0 serves) comes
 command_comes_out clients (command.Sync turns quiet links) old new input input' out out' came comes serves fails =
     elim comes [
       | inl did ↦ run_comes_out clients (record { turns = turns; quiet = quiet }) links old new fails.disk fails.links came did.0 serves

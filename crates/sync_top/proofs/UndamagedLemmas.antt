@@ -19,7 +19,7 @@ use Rattle.commands.specs.declared.command.Command.TheVariants as command
 use Rattle.store_commands.specs.declared.commit.Settling.{Settling}
 use Rattle.store_commands.specs.declared.commit.Settling.TheVariants as settling
 use Rattle.store_commands.specs.declared.listing.Listing.TheVariants as listing
-use Rattle.store_commands.specs.Compacting.{CompactsMoment, HasMadeBrief}
+use Rattle.store_commands.specs.Compact.{CompactsMoment, HasCompacted}
 use Rattle.store_commands.specs.Entries.{AddsMoment, HasAdded}
 use Rattle.store_commands.specs.Init.{HasBegun}
 use Rattle.store_commands.specs.Plans.{Plan, contact_plan, group_plan, level_plan}
@@ -91,13 +91,13 @@ module _ (clients : Meaning) (old new : Outside) where
   of_agreed contact group out out' came did two files each =
       moments_map old new _ _ (agreed_moment contact group _ came _ two each) (did.told two files).moments
 
-  made_moment : (standing : Standing) (came : Outcome) (sent : List (List ℕ)) (two : Two File) → ((left : Two (List ℕ)) → IsImage two left → StandsForSome clients left)
+  compacted_moment : (standing : Standing) (came : Outcome) (sent : List (List ℕ)) (two : Two File) → ((left : Two (List ℕ)) → IsImage two left → StandsForSome clients left)
       → (m : Moment) → IsNow two old.links m ⊎ CompactsMoment clients standing came sent m → StandsForSome clients m.files
-  made_moment standing came sent two each m (inl now) = each m.files now.image
-  made_moment standing came sent two each m (inr makes) = record { of = makes.1.leads.whole; stands_for = makes.1.leads.stands_for }
+  compacted_moment standing came sent two each m (inl now) = each m.files now.image
+  compacted_moment standing came sent two each m (inr makes) = record { of = makes.1.leads.whole; stands_for = makes.1.leads.stands_for }
 
-  of_made : (out out' : Stream) (came : Outcome) → HasMadeBrief clients old new out out' came → Undamaged clients old new
-  of_made out out' came did two files each = moments_map old new _ _ (made_moment _ came _ two each) (did.told two files).moments
+  of_compacted : (out out' : Stream) (came : Outcome) → HasCompacted clients old new out out' came → Undamaged clients old new
+  of_compacted out out' came did two files each = moments_map old new _ _ (compacted_moment _ came _ two each) (did.told two files).moments
 
   module _ (group : Id) (timestamp : ℕ) (input input' out out' : Stream) where
     of_stopped : (came : Outcome) → StopsShort clients group old new input input' out out' came → Undamaged clients old new
@@ -177,6 +177,6 @@ module _ {H : Type 0} (tells : H → Outside) (clients : Meaning) (h h' : H) (in
       (λ o. HasAgreed clients contact group (tells h) (tells h') out out' o × IsIdle input input')
       input input' out out' came (λ did. of_agreed clients (tells h) (tells h') contact group out out' came did.0) comes
   undamaged (Do command.Compact) comes keeps covered =
-      of_store clients (tells h) (tells h') (λ o. HasMadeBrief clients (tells h) (tells h') out out' o × IsIdle input input') input input' out out' came
-      (λ did. of_made clients (tells h) (tells h') out out' came did.0) comes
+      of_store clients (tells h) (tells h') (λ o. HasCompacted clients (tells h) (tells h') out out' o × IsIdle input input') input input' out out' came
+      (λ did. of_compacted clients (tells h) (tells h') out out' came did.0) comes
   undamaged (Do (command.Sync turns quiet links)) comes keeps covered = of_run clients (tells h) (tells h') links covered

@@ -34,7 +34,7 @@ use Rattle.commands.specs.Reading.{Asked}
 use Rattle.commands.specs.Reading.Asked.{Usage, Do}
 use Rattle.store_commands.specs.declared.listing.Listing.TheVariants as listing
 use Rattle.store_commands.specs.Commit.{MayMigrate, needed_by}
-use Rattle.store_commands.specs.Compacting.{MayRenew, brief_len}
+use Rattle.store_commands.specs.Compact.{MayRenew, brief_len}
 use Rattle.store_commands.specs.Plans.{Plan, adds, contact_plan, group_plan, level_plan, post_plan}
 use Rattle.store_commands.specs.Post.{IsBody, message_of}
 use Rattle.store_commands.specs.Shown.{Showing, body_shown, listing_shown, shows}

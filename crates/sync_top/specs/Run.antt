@@ -13,7 +13,7 @@ use Rattle.sync_ids.specs.Values.{GroupValue}
 use Rattle.sync_ids.specs.declared.records.Record.{Record}
 use Rattle.sync_rules.specs.declared.states.Refused.TheVariants as refused
 use Rattle.sync_rules.specs.Clients.{Meaning}
-use Rattle.store_commands.specs.Compacting.{HasMadeBrief}
+use Rattle.store_commands.specs.Compact.{HasCompacted}
 use Rattle.store_commands.specs.Entries.{HasAdded}
 use Rattle.store_commands.specs.Init.{HasBegun}
 use Rattle.store_commands.specs.Show.{HasLooked, Rests}
@@ -165,7 +165,7 @@ Comes clients (Do (command.Say group timestamp join name major descriptor)) old 
 Comes clients (Do (command.Agree contact group)) old new input input' out out' came =
     ComesOfStore (λ did. HasAgreed clients contact group old new out out' did × IsIdle input input') old new input input' out out' came
 Comes clients (Do command.Compact) old new input input' out out' came =
-    ComesOfStore (λ did. HasMadeBrief clients old new out out' did × IsIdle input input') old new input input' out out' came
+    ComesOfStore (λ did. HasCompacted clients old new out out' did × IsIdle input input') old new input input' out out' came
 Comes clients (Do (command.Sync turns quiet links)) old new input input' out out' came =
     ComesOfStore (λ did. HasRun clients (record { turns = turns; quiet = quiet }) links old new did × Untouched input input' out out') old new input input' out out' came
 

@@ -133,7 +133,7 @@ CompactsBy old new out out' outcome.Memory = IsIdle out out'
 CompactsBy old new out out' _ = ⊥
 
 -- a command that writes a journal anew as its brief account
-pub record HasMadeBrief (clients : Meaning) (old new : Outside) (out out' : Stream) (came : Outcome) : Type 0 where
+pub record HasCompacted (clients : Meaning) (old new : Outside) (out out' : Stream) (came : Outcome) : Type 0 where
   pub run : DiskRun old new
   pub by : CompactsBy old new out out' came
   pub told : (two : Two File) → old.files ≡ Some two → CompactsTold clients two old new out out' came
