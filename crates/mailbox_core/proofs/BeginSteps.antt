@@ -1,6 +1,5 @@
 -- A session that begins, and a file that is read on it.
-use Rattle.std.proofs.Common.{◌≡◌, ◌⊎◌, ℕ, ◌+◌, ◌<◌, ◌≤◌, true, false, cond, List, [], ◌∷◌, ◌++◌, length, refl, sym, ◌∙◌, ap, subst, inl, inr, arith, Option, Some, None, is_some, nat_eq, eq-eqb, eqb-true, Result, Ok, Err}
-use Rattle.std.proofs.lemmas.Bool.{false≢true}
+use Rattle.std.proofs.Common.{◌≡◌, ℕ, ◌<◌, ◌≤◌, true, false, cond, List, [], ◌∷◌, ◌++◌, length, refl, sym, ◌∙◌, ap, subst, inl, inr, arith, Some, None, is_some, nat_eq, eq-eqb, eqb-true, Result, Ok, Err}
 use Rattle.outside.specs.Outside.{Outside}
 use Rattle.record_stream.specs.Reading.{fresh}
 use Rattle.sync_ids.specs.declared.records.Record.{Record}
@@ -15,17 +14,16 @@ use Rattle.sync_rules.specs.Steps.{IsSettled}
 use Rattle.sync_rules.proofs.StepKinds.{settled_stays}
 use Rattle.sync_store.specs.declared.fault.StoreFault.{StoreFault}
 use Rattle.sync_store.specs.declared.fault.StoreFault.TheVariants as fault
-use Rattle.sync_store.specs.Commits.{Commits, needed}
+use Rattle.sync_store.specs.Commits.{needed}
 use Rattle.sync_store.specs.Fitting.{ImagesStand}
 use Rattle.sync_store.specs.Ready.{IsReady}
 use Rattle.sync_store.specs.Store.{IsStore, StoreValue}
 use Rattle.mailbox_core.specs.declared.ends.BoxEnd.{BoxEnd}
 use Rattle.mailbox_core.specs.Files.{box_ending, box_records}
 use Rattle.mailbox_core.specs.Reading.{HasReadBox, ReadsSo, ReadsTo}
-use Rattle.mailbox_core.specs.Rooms.{ComesTo}
 use Rattle.mailbox_core.specs.Sending.{batch_session}
-use Rattle.mailbox_core.specs.Steps.{BeginsSo, HasBegun, HasCommitted, HasReadAll, IsOpenFor, Left, RestSo, StopsSo, left_of, next_on}
-use Rattle.mailbox_core.specs.Taking.{AllTaken, BeginsThen, NoRoomFor, SomeTaken, TakesTo, first_batch}
+use Rattle.mailbox_core.specs.Steps.{BeginsSo, HasBegun, HasCommitted, HasReadAll, IsOpenFor, Left, RestSo, left_of, next_on}
+use Rattle.mailbox_core.specs.Taking.{AllTaken, NoRoomFor, SomeTaken, TakesTo, first_batch}
 use Rattle.mailbox_core.proofs.Committed.{needed_stays}
 use Rattle.mailbox_core.proofs.Lefts.{left_first}
 use Rattle.mailbox_core.proofs.Rooms.{comes_none, comes_then}
@@ -58,8 +56,7 @@ found_pushed (s ∷ ss) x n is =
 pub numbered_so : (ss : List Session) (n : ℕ) (x : Session) → session_at ss n ≡ Some x → x.number ≡ n
 numbered_so [] n x e = cc
 numbered_so (s ∷ ss) n x e =
-    elim (nat_eq s.number n) as (λ b. nat_eq s.number n ≡ b → cond b (Some s) (session_at ss n) ≡ Some x → x.number ≡ n)
-    [
+    elim (nat_eq s.number n) as (λ b. nat_eq s.number n ≡ b → cond b (Some s) (session_at ss n) ≡ Some x → x.number ≡ n) [
       | true ↦ λ is e. let same : s ≡ x = cc in ap (λ (y : Session). y.number) (sym same) ∙ eqb-true s.number n is
       | false ↦ λ is e. numbered_so ss n x e
     ] refl e
@@ -199,13 +196,13 @@ module _ (clients : Meaning) (contact : ℕ) (bytes : List ℕ) (s : StoreValue)
         let by_facts : TakesTo clients s.state.facts.begun P begins (takes_of s.state.facts.takes s.state.facts.begun)
         left.records rest =
         subst (λ (f : Facts). TakesTo clients s.state.facts.begun P f (takes_of f.takes s.state.facts.begun)
-            left.records rest) facts_there by_number in
+        left.records rest) facts_there by_number in
         record {
           rest = rest;
           is = ap (λ (bs : Batches). bs ++ rest) begun.answer.1;
           later =
               subst (λ (rs : List Record). TakesTo clients s.state.facts.begun P begins
-                  (takes_of s.state.facts.takes s.state.facts.begun) rs rest) same by_facts;
+              (takes_of s.state.facts.takes s.state.facts.begun) rs rest) same by_facts;
         }
 
     whole : left_of fresh bytes ≡ record { records = box_records bytes; ending = box_ending bytes }

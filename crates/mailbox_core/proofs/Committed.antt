@@ -1,14 +1,13 @@
 -- One batch that is committed, and one that is committed with its settling.
 use Rattle.std.specs.Prelude.{IsErrAnd}
-use Rattle.std.proofs.Common.{◌≡◌, ℕ, ◌+◌, ◌≤◌, Bool, true, false, List, [], ◌∷◌, ◌++◌, refl, sym, ◌∙◌, ap, subst, arith, Some, Result, Ok, Err}
+use Rattle.std.proofs.Common.{◌≡◌, ◌+◌, ◌≤◌, Bool, true, false, List, [], ◌∷◌, ◌++◌, sym, ◌∙◌, subst, arith, Some, Result, Ok, Err}
 use Rattle.outside.specs.Files.{Two, File}
 use Rattle.outside.specs.Outside.{DiskRun, MakesCalls, Outside}
 use Rattle.entry_codec.specs.Payloads.{payload_len}
 use Rattle.entry_codec.specs.Standing.{room_of}
 use Rattle.sync_rules.specs.declared.entries.Entry.{Entry}
-use Rattle.sync_rules.specs.Allows.{is_settling_kind}
 use Rattle.sync_rules.specs.Clients.{Meaning}
-use Rattle.sync_rules.specs.Facts.{Facts, after_all}
+use Rattle.sync_rules.specs.Facts.{after_all}
 use Rattle.sync_rules.specs.Legal.{Allowed}
 use Rattle.sync_store.specs.declared.fault.StoreFault.{StoreFault}
 use Rattle.sync_store.specs.declared.fault.StoreFault.TheVariants as fault
@@ -42,7 +41,7 @@ one_roomy clients s j two batch fits within = omega (arith, needed_is clients s 
 commit_roomy : (clients : Meaning) (s new : StoreValue) (batch : List Entry) (result : Result (Unit {0}) StoreFault)
     → Commits s new batch result
     → (two : Two File) (j : List (List Entry)) → Fits clients s j two → AreRoomy (written_in s) s.limit j
-        (committed_by batch result)
+    (committed_by batch result)
 commit_roomy clients s new batch (Ok u) commits two j fits =
     (λ kind. one_roomy clients s j two batch fits commits.1, tt)
 commit_roomy clients s new batch (Err fault.DiskFault) commits two j fits =
@@ -58,7 +57,7 @@ pub has_committed : ImagesStand → (clients : Meaning) (s new : StoreValue) (ba
     → Commits s new batch result → Unasked result d d' → DiskRun (tells d) (tells d') → MakesCalls 4 result (tells d)
     (tells d')
     → ((two : Two File) → (tells d).files ≡ Some two → (j : List (List Entry)) → Fits clients s j two
-        → Adds clients batch result new (tells d) (tells d') j)
+    → Adds clients batch result new (tells d) (tells d') j)
     → HasCommitted clients s new batch result (tells d) (tells d')
 has_committed images clients s new batch result D tells d d' store opened allowed commits unasked run made adds = record {
   comes = record {

@@ -1,23 +1,21 @@
 -- What reading and writing come to over journals.
-use Rattle.std.proofs.Common.{◌≡◌, ℕ, ◌+◌, ◌<◌, Bool, true, false, cond, List, [], ◌∷◌, ◌++◌, refl, sym, ◌∙◌, ap, subst, inl, inr, arith, append_assoc, append-nil, Option, Some, None, nat_eq, eqb-true}
+use Rattle.std.proofs.Common.{◌≡◌, ℕ, ◌+◌, ◌<◌, true, false, cond, List, [], ◌∷◌, ◌++◌, refl, sym, ◌∙◌, ap, subst, inl, inr, arith, append_assoc, append-nil, Some, None, nat_eq, eqb-true}
 use Rattle.std.specs.List.{AllByRecursion}
 use Rattle.sync_ids.specs.declared.records.Record.{Record}
 use Rattle.sync_rules.specs.declared.entries.Entry.{Entry}
 use Rattle.sync_rules.specs.declared.entries.Entry.TheVariants as entry
 use Rattle.sync_rules.specs.declared.entries.Session.{Session}
 use Rattle.sync_rules.specs.Clients.{Meaning}
-use Rattle.sync_rules.specs.Consistency.{HasSessions}
-use Rattle.sync_rules.specs.Facts.{Facts, after, after_all, after_batches, facts, session_at, takes_of}
+use Rattle.sync_rules.specs.Facts.{Facts, after, after_batches, facts, session_at, takes_of}
 use Rattle.sync_rules.specs.Growth.{output_of}
-use Rattle.sync_rules.specs.Hearing.{Hears, Settles}
-use Rattle.sync_rules.specs.Legal.{AllSettling, GoesOn, Legal}
-use Rattle.sync_rules.specs.Output.{sent}
+use Rattle.sync_rules.specs.Hearing.{Hears}
+use Rattle.sync_rules.specs.Legal.{AllSettling, Legal}
 use Rattle.sync_rules.specs.Steps.{IsSettled}
 use Rattle.sync_rules.proofs.Continuing.{facts-append, legal-append}
 use Rattle.sync_rules.proofs.OutputLaws.{not_begun_sent, sent_append}
 use Rattle.sync_rules.proofs.SessionLaws.{legal_sessions}
 use Rattle.sync_rules.proofs.WorkLaws.{facts-push, settles_itself}
-use Rattle.mailbox_laws.specs.Boxes.{HearsAll, ReadsBox, box_session, with_box}
+use Rattle.mailbox_laws.specs.Boxes.{HearsAll, box_session, with_box}
 use Rattle.mailbox_core.specs.Laws.{OutputsAreSent, ReadsAreBoxes}
 use Rattle.mailbox_core.specs.Taking.{AllTaken, TakesRecord, TakesTo, next_take}
 
@@ -31,7 +29,7 @@ none_above n [] below = refl
 none_above n (s ∷ ss) below =
     elim (nat_eq s.number n) as (λ b. nat_eq s.number n ≡ b → cond b (Some s) (session_at ss n) ≡ None) [
       | true ↦ λ e. let same : s.number ≡ n = eqb-true s.number n e in let less : s.number < n = below.0 in absurd
-      (omega (arith, same, less))
+          (omega (arith, same, less))
       | false ↦ λ e. none_above n ss below.1
     ] refl
 
@@ -62,14 +60,13 @@ hears_all clients session k j (r ∷ rs) more (inl at) = let none : r ∷ rs ≡
 hears_all clients session k j (r ∷ rs) more (inr then) =
     let later : TakesTo clients session AllTaken (facts (j ++ then.first)) (k + 1) rs then.rest =
     subst (λ (f : Facts). TakesTo clients session AllTaken f (k + 1) rs then.rest) (sym (facts-append j then.first))
-        then.later in
+    then.later in
     let whole : (j ++ then.first) ++ then.rest ≡ j ++ more = append_assoc j then.first then.rest ∙ ap
-    (λ (bs : Batches). j ++ bs) (sym then.is) in
-    (
+    (λ (bs : Batches). j ++ bs) (sym then.is) in (
       j ++ then.first,
       record_heard clients session k j r then.first then.takes then.settled,
       subst (λ (new : Batches). HearsAll clients session (k + 1) (j ++ then.first) rs new) whole
-      (hears_all clients session (k + 1) (j ++ then.first) rs then.rest later),
+          (hears_all clients session (k + 1) (j ++ then.first) rs then.rest later),
     )
 
 pub reads_are_boxes : ReadsAreBoxes

@@ -1,5 +1,5 @@
 -- What is left of a file behind an item of it, and where no item is left.
-use Rattle.std.proofs.Common.{◌≡◌, ◌⊎◌, ℕ, cond, List, [], ◌∷◌, ◌++◌, sym, ◌∙◌, ap, subst, append-nil, inl, inr}
+use Rattle.std.proofs.Common.{◌≡◌, ◌⊎◌, ℕ, cond, List, [], ◌∷◌, ◌++◌, ◌∙◌, ap, subst, append-nil, inl, inr}
 use Rattle.record_grammar.specs.Stream.{ending, items}
 use Rattle.record_grammar.specs.declared.stream.Ending.{Ending}
 use Rattle.record_grammar.specs.declared.stream.Item.{Item}
@@ -10,7 +10,6 @@ use Rattle.record_stream.specs.declared.reader.Next.{Next}
 use Rattle.record_stream.specs.declared.reader.Next.TheVariants as next_kind
 use Rattle.record_stream.specs.Reading.{AwaitsBytes, ReaderState, ReadsOn, fresh}
 use Rattle.sync_ids.specs.declared.records.Record.{Record}
-use Rattle.mailbox_core.specs.declared.ends.BoxEnding.{BoxEnding}
 use Rattle.mailbox_core.specs.declared.ends.BoxEnding.TheVariants as box
 use Rattle.mailbox_core.specs.Files.{box_ending, box_records, ending_behind, ends_as, is_foreign, records_to_take}
 use Rattle.mailbox_core.specs.Steps.{Left, left_of}
@@ -63,7 +62,7 @@ module _ (piece piece' : List ℕ) (r r' : ReaderState) where
   pub left_ended : (next : Next) → (next ≡ next_kind.More) ⊎
       ((place : ℕ) × (why : Reason) × (next ≡ next_kind.Bad place why)) → ReadsOn piece r (told_by next) piece' r'
       → LeavesOf next piece r piece' r' → left_of r piece
-          ≡ record { records = []; ending = ends_as (ending r'.place r'.bytes) }
+      ≡ record { records = []; ending = ends_as (ending r'.place r'.bytes) }
   left_ended next (inl more) reads leaves =
       let left : LeavesOf next_kind.More piece r piece' r' = subst (λ (n : Next). LeavesOf n piece r piece' r')
       more leaves in

@@ -1,9 +1,6 @@
 -- The items of a file that are read, one after the other.
-use Rattle.std.proofs.Common.{◌≡◌, ◌⊎◌, ℕ, ◌+◌, ◌-◌, ◌<◌, ◌≤◌, Bool, true, false, cond, List, [], ◌∷◌, ◌++◌, length, refl, sym, ◌∙◌, ap, subst, inl, inr, arith, append-nil, Option, Some, None, Result, Ok, Err}
-use Rattle.std.specs.Prelude.{OnOk}
+use Rattle.std.proofs.Common.{◌≡◌, ℕ, ◌+◌, ◌-◌, ◌≤◌, true, false, cond, List, [], ◌∷◌, ◌++◌, length, refl, sym, ◌∙◌, ap, subst, inl, arith, Some, None, Ok, Err}
 use Rattle.outside.specs.Outside.{Outside}
-use Rattle.record_grammar.specs.Stream.{ending}
-use Rattle.record_stream.specs.Reading.{ReaderState}
 use Rattle.sync_ids.specs.declared.records.Record.{Record}
 use Rattle.sync_rules.specs.declared.entries.Entry.{Entry}
 use Rattle.sync_rules.specs.declared.entries.Session.{Session}
@@ -12,16 +9,14 @@ use Rattle.sync_rules.specs.Facts.{Facts, after_batches}
 use Rattle.sync_rules.specs.Steps.{IsSettled}
 use Rattle.sync_store.specs.declared.fault.StoreFault.{StoreFault}
 use Rattle.sync_store.specs.declared.fault.StoreFault.TheVariants as fault
-use Rattle.sync_store.specs.Commits.{needed}
 use Rattle.sync_store.specs.Fitting.{ImagesStand}
-use Rattle.sync_store.specs.Store.{IsStore, StoreValue}
-use Rattle.mailbox_core.specs.declared.ends.BoxEnd.{BoxEnd}
+use Rattle.sync_store.specs.Store.{StoreValue}
 use Rattle.mailbox_core.specs.declared.ends.BoxEnding.{BoxEnding}
 use Rattle.mailbox_core.specs.declared.ends.BoxEnding.TheVariants as box
 use Rattle.mailbox_core.specs.Files.{is_foreign}
 use Rattle.mailbox_core.specs.Rooms.{ComesTo}
-use Rattle.mailbox_core.specs.Steps.{HasRead, HasReadAll, HasTaken, IsAt, IsOpenFor, Left, NextSo, RestSo, StopsSo, TakesSo, next_on}
-use Rattle.mailbox_core.specs.Taking.{AllTaken, NoRoomFor, SomeTaken, TakesRecord, TakesTo, next_take}
+use Rattle.mailbox_core.specs.Steps.{HasRead, HasReadAll, HasTaken, IsAt, IsOpenFor, Left, StopsSo, TakesSo, next_on}
+use Rattle.mailbox_core.specs.Taking.{AllTaken, NoRoomFor, SomeTaken, TakesTo}
 use Rattle.mailbox_core.proofs.Lefts.{BehindOne}
 use Rattle.mailbox_core.proofs.Rooms.{comes_none, comes_then}
 use Rattle.mailbox_core.proofs.Taken.{at_here, counted, none_some, one_then, then_on}
@@ -41,7 +36,7 @@ module _ (clients : Meaning) (session : ℕ) (s s' : StoreValue) (left left' : L
       let here : TakesTo clients session (IsAt s'.state.facts (next_on s' session) left'.records) s'.state.facts
       (next_on s session + 1) left'.records [] =
       subst (λ (n : ℕ). TakesTo clients session (IsAt s'.state.facts (next_on s' session) left'.records)
-          s'.state.facts n left'.records []) has.answer.3
+      s'.state.facts n left'.records []) has.answer.3
       (at_here clients session s'.state.facts (next_on s' session) left'.records) in
       record {
         more = has.more;
@@ -50,10 +45,10 @@ module _ (clients : Meaning) (session : ℕ) (s s' : StoreValue) (left left' : L
           has.answer.0,
           subst (λ (rs : List Record). TakesTo clients session (IsAt s'.state.facts (next_on s' session) left'.records)
               s.state.facts (next_on s session) rs has.more)
-          (sym records)
-          (one_then clients session (IsAt s'.state.facts (next_on s' session) left'.records)
-          s.state.facts s'.state.facts (next_on s session) r left'.records has.more
-          has.answer.2 facts has.answer.1 here),
+              (sym records)
+              (one_then clients session (IsAt s'.state.facts (next_on s' session) left'.records)
+              s.state.facts s'.state.facts (next_on s session) r left'.records has.more
+              has.answer.2 facts has.answer.1 here),
           behind.ending ∙ ap (λ b. cond b (box.NoVersion place) left'.ending) own,
         );
       }
@@ -74,8 +69,8 @@ module _ (clients : Meaning) (session : ℕ) (s s' : StoreValue) (left left' : L
           has.answer.0,
           subst (λ (rs : List Record). TakesTo clients session AllTaken s.state.facts (next_on s session) rs has.more)
               (sym records)
-          (one_then clients session AllTaken s.state.facts s'.state.facts (next_on s session)
-          r [] has.more has.answer.2 facts has.answer.1 (refl, refl)),
+              (one_then clients session AllTaken s.state.facts s'.state.facts (next_on s session)
+              r [] has.more has.answer.2 facts has.answer.1 (refl, refl)),
           omega (arith, count, many),
           sym (behind.ending ∙ ap (λ b. cond b (box.NoVersion place) left'.ending) foreign),
         );
@@ -90,7 +85,7 @@ module _ (clients : Meaning) (session : ℕ) (s s' : StoreValue) (left left' : L
     comes = has.comes;
     answer =
         subst (λ (rs : List Record). StopsSo clients session s s' rs has.more e) (sym behind.records)
-            (stops e has.answer);
+        (stops e has.answer);
   }
     where
       rest : List Record
@@ -117,7 +112,7 @@ module _ (images : ImagesStand) (clients : Meaning) (session : Session) (s : Sto
       able.ready.still_open,
       subst (λ (l : Left). TakesTo clients session.number (IsAt s.state.facts (next_on s session.number) l.records)
           s.state.facts (next_on s session.number) left.records [])
-      same (at_here clients session.number s.state.facts (next_on s session.number) left.records),
+          same (at_here clients session.number s.state.facts (next_on s session.number) left.records),
       ap (λ (l : Left). l.ending) same,
     );
   }
@@ -134,7 +129,7 @@ module _ (images : ImagesStand) (clients : Meaning) (session : Session) (s : Sto
           able.ready.still_open,
           subst (λ (rs : List Record). TakesTo clients session.number AllTaken s.state.facts (next_on s session.number)
               rs [])
-          (sym (ap (λ (l : Left). l.records) none)) (refl, refl),
+              (sym (ap (λ (l : Left). l.records) none)) (refl, refl),
           omega (arith, many),
           sym (ap (λ (l : Left). l.ending) none),
         );

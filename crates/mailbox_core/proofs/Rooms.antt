@@ -1,5 +1,5 @@
 -- Runs of batches, each of which found its room.
-use Rattle.std.proofs.Common.{◌≡◌, ℕ, ◌+◌, ◌≤◌, Bool, true, false, List, [], ◌∷◌, ◌++◌, refl, sym, ◌∙◌, ap, subst, arith, append_assoc, append-nil, Some, Result, Ok, Err}
+use Rattle.std.proofs.Common.{◌≡◌, ℕ, ◌+◌, true, false, List, [], ◌∷◌, ◌++◌, refl, sym, ◌∙◌, ap, subst, arith, append_assoc, append-nil}
 use Rattle.std.proofs.lemmas.Bool.{false≢true}
 use Rattle.outside.specs.Files.{Two, File}
 use Rattle.outside.specs.Outside.{Outside}
@@ -46,9 +46,11 @@ pub settling_roomy : (clients : Meaning) (f : Facts) (format : Format) (limit : 
     → AllSettling clients f bs
     → AreRoomy format limit j bs
 settling_roomy clients f format limit j [] s = tt
-settling_roomy clients f format limit j (b ∷ bs) s =
-    (λ kind. absurd (false≢true (sym kind ∙ batch_kind clients f b s.0)), settling_roomy clients (after_all f b)
-    format limit (j ++ b ∷ []) bs s.1)
+settling_roomy clients f format limit j (b ∷ bs) s = (
+  λ kind. absurd (false≢true (sym kind ∙ batch_kind clients f b s.0)),
+  settling_roomy clients (after_all f b)
+      format limit (j ++ b ∷ []) bs s.1,
+)
 
 -- ---- some behind others
 
@@ -56,9 +58,11 @@ pub roomy_both : (format : Format) (limit : ℕ) (j xs ys : List (List Entry)) �
     → AreRoomy format limit (j ++ xs) ys
     → AreRoomy format limit j (xs ++ ys)
 roomy_both format limit j [] ys a b = subst (λ (k : List (List Entry)). AreRoomy format limit k ys) (append-nil j) b
-roomy_both format limit j (x ∷ xs) ys a b =
-    (a.0, roomy_both format limit (j ++ x ∷ []) xs ys a.1
-    (subst (λ (k : List (List Entry)). AreRoomy format limit k ys) (sym (append_assoc j (x ∷ []) xs)) b))
+roomy_both format limit j (x ∷ xs) ys a b = (
+  a.0,
+  roomy_both format limit (j ++ x ∷ []) xs ys a.1
+      (subst (λ (k : List (List Entry)). AreRoomy format limit k ys) (sym (append_assoc j (x ∷ []) xs)) b),
+)
 
 pub comes_then : (clients : Meaning) (s0 s1 s2 : StoreValue) (o0 o1 o2 : Outside) (xs ys : List (List Entry))
     → s1.closed ≡ false
@@ -70,7 +74,7 @@ comes_then clients s0 s1 s2 o0 o1 o2 xs ys still first second = record {
       let mid = (first.runs.leads two told j fits).ends still there.0 there.1 in
       let later : AreRoomy (written_in s1) s1.limit (j ++ xs) ys =
       second.roomy there.0 there.1 (j ++ xs) (subst (λ (k : List (List Entry)). Fits clients s1 k there.0) mid.1 mid.2)
-          in
+      in
       let by_format : AreRoomy (written_in s0) s1.limit (j ++ xs) ys =
       subst (λ (k : Format). AreRoomy k s1.limit (j ++ xs) ys) (ap format_meant first.runs.format) later in
       roomy_both (written_in s0) s0.limit j xs ys (first.roomy two told j fits)

@@ -1,6 +1,5 @@
 -- Outputs that are committed one after the other, and a file that is made of them.
-use Rattle.std.proofs.Common.{◌≡◌, ◌⊎◌, ℕ, ◌+◌, ◌<◌, ◌≤◌, Bool, true, false, cond, List, [], ◌∷◌, ◌++◌, length, refl, sym, ◌∙◌, ap, subst, inl, inr, arith, append_assoc, append-nil, length-append, Option, Some, None, nat_eq, eq-eqb, Result, Ok, Err}
-use Rattle.std.specs.Prelude.{OnOk}
+use Rattle.std.proofs.Common.{◌≡◌, ℕ, ◌+◌, ◌<◌, ◌≤◌, true, false, cond, List, [], ◌∷◌, ◌++◌, length, refl, sym, ◌∙◌, ap, subst, inl, inr, arith, append_assoc, append-nil, length-append, Option, Some, None, nat_eq, eq-eqb, Ok, Err}
 use Rattle.std.proofs.lemmas.Grind.{flat_map-append}
 use Rattle.outside.specs.Outside.{Outside}
 use Rattle.record_grammar.specs.Spelling.{spelled, spelling}
@@ -20,13 +19,13 @@ use Rattle.sync_rules.specs.Steps.{IsSettled}
 use Rattle.sync_rules.proofs.StepKinds.{settled_stays}
 use Rattle.sync_store.specs.declared.fault.StoreFault.{StoreFault}
 use Rattle.sync_store.specs.declared.fault.StoreFault.TheVariants as fault
-use Rattle.sync_store.specs.Commits.{Commits, needed}
+use Rattle.sync_store.specs.Commits.{needed}
 use Rattle.sync_store.specs.Fitting.{ImagesStand}
 use Rattle.sync_store.specs.Ready.{IsReady}
 use Rattle.sync_store.specs.Store.{IsStore, StoreValue}
 use Rattle.mailbox_core.specs.Rooms.{ComesTo}
 use Rattle.mailbox_core.specs.Sending.{AreDue, HasWrittenBox, IsQuiet, SendsAll, SendsSome, SendsUntilFull, WritesSo, WritesSome, batch_session, out_batch, out_batches}
-use Rattle.mailbox_core.specs.Steps.{BeginsSo, HasBegun, HasCommitted, HasPut, HasPutAll, IsOpenFor, LacksRoomForOut, PutsAllSo, PutsOut, PutsSo}
+use Rattle.mailbox_core.specs.Steps.{BeginsSo, HasBegun, HasCommitted, HasPut, HasPutAll, IsOpenFor, PutsAllSo, PutsOut, PutsSo}
 use Rattle.mailbox_core.specs.Taking.{BeginsThen, first_batch}
 use Rattle.mailbox_core.proofs.Committed.{needed_stays}
 use Rattle.mailbox_core.proofs.Rooms.{comes_none, comes_then}
@@ -124,7 +123,7 @@ module _ (clients : Meaning) (session now : ℕ) (s s' : StoreValue) (to to' : L
             next = what;
             due =
                 subst (λ (f : Facts). IsDue clients f (session_at f.sessions session) now what) (sym has.answer.2.facts)
-                    due;
+                due;
             over = omega (arith, sum, limit, over);
           },
         );
@@ -390,7 +389,7 @@ module _ (clients : Meaning) (contact latency now count : ℕ) (s : StoreValue) 
       is = ap (λ (bs : Batches). bs ++ rest) begun.answer.1;
       later =
           subst (λ (f : Facts). Q f s.state.facts.begun rest) facts_there
-              (subst (λ (n : ℕ). Q s1.state.facts n rest) begun.answer.2 q);
+          (subst (λ (n : ℕ). Q s1.state.facts n rest) begun.answer.2 q);
     }
 
     some_behind : (rest : Batches) → SendsSome clients s1.state.facts session.number now count rest

@@ -1,5 +1,5 @@
 -- Records that are taken one after the other, put together.
-use Rattle.std.proofs.Common.{◌≡◌, ◌≢◌, ◌⊎◌, ℕ, suc, ◌+◌, ◌<◌, ◌≤◌, true, false, cond, List, [], ◌∷◌, ◌++◌, length, refl, sym, ◌∙◌, ap, subst, inl, inr, arith, append_assoc, append-nil, Option, Some, None, is_some, Result, Ok, Err, eq-eqb}
+use Rattle.std.proofs.Common.{◌≡◌, ◌≢◌, ◌⊎◌, ℕ, ◌+◌, true, false, cond, List, [], ◌∷◌, ◌++◌, length, refl, sym, ◌∙◌, ap, subst, inl, inr, arith, append_assoc, append-nil, Some, is_some, Result, Ok, Err, eq-eqb}
 use Rattle.std.specs.Prelude.{OnOk}
 use Rattle.outside.specs.Outside.{Outside}
 use Rattle.sync_ids.specs.Records.{IsRecord}
@@ -10,9 +10,8 @@ use Rattle.sync_rules.specs.declared.entries.Entry.TheVariants as entry
 use Rattle.sync_rules.specs.declared.entries.Session.{Session}
 use Rattle.sync_rules.specs.Allows.{is_account_kind, is_settling_kind}
 use Rattle.sync_rules.specs.Clients.{Meaning}
-use Rattle.sync_rules.specs.Facts.{Facts, after_all, after_batches, contact_in, contact_of, session_at, takes_of}
-use Rattle.sync_rules.specs.Growth.{Continues}
-use Rattle.sync_rules.specs.Legal.{Allowed, AllSettling, GoesOn}
+use Rattle.sync_rules.specs.Facts.{Facts, after_all, after_batches, contact_in, session_at, takes_of}
+use Rattle.sync_rules.specs.Legal.{Allowed, AllSettling}
 use Rattle.sync_rules.specs.Sessions.{taken, taken_from}
 use Rattle.sync_rules.specs.Steps.{IsSettled}
 use Rattle.sync_rules.proofs.Continuing.{continues_batches}
@@ -26,7 +25,7 @@ use Rattle.sync_store.specs.Runs.{AddsBatch, ExtendsSo, HasExtended}
 use Rattle.sync_store.specs.Store.{IsStore, StoreValue}
 use Rattle.mailbox_core.specs.Rooms.{ComesTo}
 use Rattle.mailbox_core.specs.Steps.{HasTaken, IsAt, IsOpenFor, TakesSo, next_on}
-use Rattle.mailbox_core.specs.Taking.{SomeTaken, TakesRecord, TakesThen, TakesTo, next_take}
+use Rattle.mailbox_core.specs.Taking.{SomeTaken, TakesRecord, TakesTo, next_take}
 use Rattle.mailbox_core.proofs.Committed.{comes_extended, needed_stays}
 use Rattle.mailbox_core.proofs.Rooms.{comes_none}
 
@@ -110,13 +109,12 @@ module _ (clients : Meaning) (session k : ℕ) (r : Record) (s s' : StoreValue) 
   taken_so allowed opened settled more (Ok u) facts adds so =
       let one : Record_taken more = all_added more adds so.2 in
       let may : Allowed clients s.state.facts its = subst (λ (b : List Entry). Allowed clients s.state.facts b)
-      is_its allowed in
-      (
+      is_its allowed in (
         so.0,
         so.3,
         one,
         ap (λ (f : Facts). takes_of f.takes session) (facts so.0) ∙ count_more clients s.state.facts session
-        (next_on s session) r more may one,
+            (next_on s session) r more may one,
       )
   taken_so allowed opened settled more (Err fault.Closed) facts adds so = absurd so
   taken_so allowed opened settled more (Err fault.Full) facts adds so =
@@ -124,8 +122,7 @@ module _ (clients : Meaning) (session k : ℕ) (r : Record) (s s' : StoreValue) 
       let same : its ≡ next_take s'.state.facts session (next_on s session) r =
       ap (λ (f : Facts). next_take f session (next_on s session) r) (sym stays.facts) in
       let sum : needed s' (next_take s'.state.facts session (next_on s session) r) ≡ needed s batch =
-      ap (needed s') (sym same ∙ sym is_its) ∙ needed_stays s s' batch stays in
-      (
+      ap (needed s') (sym same ∙ sym is_its) ∙ needed_stays s s' batch stays in (
         stays.closed ∙ opened,
         subst (IsSettled clients) (sym stays.facts) settled,
         so.1,
@@ -175,7 +172,7 @@ pub found_later : (f g : Facts) (more : List (List Entry)) (session : Session) �
     → session_at g.sessions session.number ≡ Some session
 found_later f g more session is found =
     subst (λ (h : Facts). session_at h.sessions session.number ≡ Some session) (sym is)
-        ((continues_batches f more).same_session session.number session found)
+    ((continues_batches f more).same_session session.number session found)
 
 pub still_able : (clients : Meaning) (session : Session) (s s' : StoreValue) (o o' : Outside) (more : List (List Entry))
     → IsOpenFor clients session s o

@@ -3,7 +3,7 @@ use Rattle.std.specs.Prelude.{◌≡◌, ℕ, List, ◌++◌}
 use Rattle.sync_ids.specs.declared.records.Record.{Record}
 use Rattle.sync_rules.specs.declared.entries.Entry.{Entry}
 use Rattle.sync_rules.specs.Clients.{Meaning}
-use Rattle.sync_rules.specs.Facts.{Facts, facts}
+use Rattle.sync_rules.specs.Facts.{facts}
 use Rattle.sync_rules.specs.Growth.{output_of}
 use Rattle.sync_rules.specs.Legal.{GoesOn, Legal}
 use Rattle.sync_rules.specs.Output.{sent}

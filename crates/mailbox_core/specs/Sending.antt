@@ -1,5 +1,5 @@
 -- Outputs that are committed one after the other, and what the writing of a file answers.
-use Rattle.std.specs.Prelude.{◌≡◌, ◌⊎◌, ℕ, ◌<◌, ◌≤◌, true, false, List, [], ◌∷◌, ◌++◌, length, Option, Some, None, Result, Ok, Err}
+use Rattle.std.specs.Prelude.{◌≡◌, ◌⊎◌, ℕ, ◌<◌, ◌≤◌, true, false, List, [], ◌∷◌, ◌++◌, length, Some, None, Result, Ok, Err}
 use Rattle.outside.specs.Outside.{Outside}
 use Rattle.record_grammar.specs.Spelling.{spelled}
 use Rattle.sync_rules.specs.declared.entries.Entry.{Entry}

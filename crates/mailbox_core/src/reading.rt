@@ -60,7 +60,15 @@ pub fn read_box<D: Disk, C: Clients>(
     let mut reader = Reader::new(alloc)?;
     let session = begin(alloc, store, disk, clients, contact, LATENCY)?;
     let mut piece = Piece::new(bytes);
-    take_all(alloc, store, disk, clients, &session, &mut reader, &mut piece)
+    take_all(
+        alloc,
+        store,
+        disk,
+        clients,
+        &session,
+        &mut reader,
+        &mut piece,
+    )
 }
 
 // Takes the records that are left, one after the other.

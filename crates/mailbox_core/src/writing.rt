@@ -60,7 +60,9 @@ pub fn write_box<D: Disk, C: Clients>(
     images_stand();
     let mut bytes = spell_versions(alloc)?;
     let session = begin(alloc, store, disk, clients, contact, latency)?;
-    let made = put_all(alloc, store, disk, clients, &session, now, count, &mut bytes)?;
+    let made = put_all(
+        alloc, store, disk, clients, &session, now, count, &mut bytes,
+    )?;
     to.extend_from_slice(bytes.as_slice())?;
     Ok(made)
 }

@@ -1,4 +1,4 @@
-use Rattle.std.proofs.Common.{◌≤◌, ◌∙◌, ap, sym, arith}
+use Rattle.std.proofs.Common.{◌≤◌, ◌∙◌, ap, arith}
 use Rattle.sync_rules.specs.Facts.{takes_of}
 use Rattle.mailbox_core.specs.Steps.{HasReadAll, left_of, next_on}
 use Rattle.mailbox_core.proofs.Committed.{on_error}
@@ -30,8 +30,13 @@ overflow_sub-taken g c =
     way_within (g.C.Clients.meaning c.args.clients.now) c.args.session.now.number c.args.store.now
     c.items.store c.take_next.new.store _ _ _ _ _ _ c.items.invariant.way c.in-Some.ending
     (rw c.in-Some.is at c.in_ok-ending.ensures.read) in
-    omega (arith, within, c.items.invariant.before, c.takes.ensures,
-    ap (λ s. takes_of s.facts.takes c.args.session.now.number) c.state-in-Some.ensures)
+    omega (
+      arith,
+      within,
+      c.items.invariant.before,
+      c.takes.ensures,
+      ap (λ s. takes_of s.facts.takes c.args.session.now.number) c.state-in-Some.ensures,
+    )
 
 pub returns-in-Some-clause-read : goal.returns-in-Some-clause-read
 returns-in-Some-clause-read g c =

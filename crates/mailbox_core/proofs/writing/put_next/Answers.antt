@@ -1,4 +1,4 @@
-use Rattle.std.proofs.Common.{◌≡◌, [], ◌∷◌, Some, None, ◌∙◌, ap, sym, subst}
+use Rattle.std.proofs.Common.{◌∙◌, ap, sym, subst}
 use Rattle.journal_state.specs.Allowing.{due_of}
 use Rattle.journal_state.specs.Whole.{Knows, StateValue}
 use Rattle.sync_rules.specs.Facts.{session_at}

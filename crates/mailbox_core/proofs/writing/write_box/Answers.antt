@@ -2,7 +2,7 @@ use Rattle.std.proofs.Common.{ℕ, List, ◌++◌, Err, subst, sym, ap, ◌∙�
 use Rattle.sync_store.specs.declared.fault.StoreFault.TheVariants as fault
 use Rattle.mailbox_core.specs.Sending.{HasWrittenBox}
 use Rattle.mailbox_core.proofs.Committed.{on_error}
-use Rattle.mailbox_core.proofs.SendSteps.{box_not_begun, box_starved, box_stopped, box_unwritten, box_written}
+use Rattle.mailbox_core.proofs.SendSteps.{box_starved, box_stopped, box_unwritten, box_written}
 use Rattle.mailbox_core.proofs.writing.write_box.Goals as goal
 
 pub returns-in_err-bytes-clause-written : goal.returns-in_err-bytes-clause-written
