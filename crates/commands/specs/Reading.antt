@@ -6,7 +6,7 @@ use Rattle.sync_ids.specs.declared.def.TheConstants.{MAX_NAME, MAX_DESCRIPTOR}
 use Rattle.sync_ids.specs.declared.message.TheConstants.{MAX_TIMESTAMP}
 use Rattle.outside.specs.declared.limits.TheConstants.{LINKS}
 use Rattle.commands.specs.declared.grammar.TheConstants.{MAX_CONTACT, MAX_MAJOR, MAX_TURNS}
-use Rattle.commands.specs.declared.grammar.TheConstants.{MAX_WALK}
+use Rattle.commands.specs.declared.grammar.TheConstants.{MAX_OUTS, MAX_WALK}
 use Rattle.commands.specs.declared.links.TheConstants.{FIRST_LINK, LINK_WORDS, MAX_LATENCY}
 use Rattle.sync_words.specs.declared.link_words.LinkWords.{LinkWords}
 use Rattle.commands.specs.declared.command.Command.{Command}
@@ -101,6 +101,32 @@ asks_say =
 abbrev pub asks_agree : Rest
 asks_agree = word_then (number_in MAX_CONTACT) (λ contact. word_then id_in (λ group. ends (command.Agree contact group)))
 
+-- whether a mailbox file comes in
+abbrev pub way_in : List ℕ → Option Bool
+way_in word =
+    if bytes_eq word (codes "in") then Some true
+    else if bytes_eq word (codes "out") then Some false
+    else None
+
+-- a contact
+abbrev pub asks_taking : Rest
+asks_taking = word_then (number_in MAX_CONTACT) (λ contact. ends (command.MailboxIn contact))
+
+-- a contact, a latency and a number of outputs
+abbrev pub asks_sending : Rest
+asks_sending =
+    word_then (number_in MAX_CONTACT) (λ contact.
+    word_then (positive_in MAX_LATENCY) (λ latency.
+    word_then (positive_in MAX_OUTS) (λ count. ends (command.MailboxOut contact latency count))))
+
+abbrev pub asks_way : Bool → Rest
+asks_way true = asks_taking
+asks_way false = asks_sending
+
+-- the way of a mailbox file, and what follows it
+abbrev pub asks_mailbox : Rest
+asks_mailbox = word_then way_in asks_way
+
 -- whether one of the links is over the standard input and output
 abbrev pub has_std : List LinkWords → Bool
 has_std links = list_any (λ (link : LinkWords). is_std link.spec) links
@@ -154,6 +180,7 @@ asks_of word =
     else if bytes_eq word (codes "tree") then asks_tree
     else if bytes_eq word (codes "say") then asks_say
     else if bytes_eq word (codes "agree") then asks_agree
+    else if bytes_eq word (codes "mailbox") then asks_mailbox
     else if bytes_eq word (codes "sync") then asks_sync
     else ends_or_usage (plain_in word)
 
@@ -191,6 +218,7 @@ IsWithin (command.Group name major descriptor) = IsName name × IsDescriptor des
 IsWithin (command.Post group timestamp) = timestamp ≤ MAX_TIMESTAMP
 IsWithin (command.Say group timestamp join name major descriptor) =
     (timestamp ≤ MAX_TIMESTAMP) × IsName name × IsDescriptor descriptor
+IsWithin (command.MailboxOut contact latency count) = 1 ≤ latency
 IsWithin (command.Sync turns quiet links) = IsCount turns × IsCount quiet × AreLinks links
 IsWithin _ = Unit {0}
 

@@ -19,6 +19,8 @@ may_write (command.Tree group from count) = false
 may_write (command.Say group timestamp join name major descriptor) = true
 may_write (command.Agree contact group) = true
 may_write command.Compact = true
+may_write (command.MailboxIn contact) = true
+may_write (command.MailboxOut contact latency count) = true
 may_write (command.Sync turns quiet links) = true
 
 -- those that write a message, whose body is their input

@@ -40,6 +40,11 @@ pub enum Command {
     Agree(u8, GroupId),
     /// `compact`: writes the journal anew as its brief account.
     Compact,
+    /// `mailbox in CONTACT`: takes the records of the input, a file from a contact.
+    MailboxIn(u8),
+    /// `mailbox out CONTACT LATENCY COUNT`: writes a file for a contact, with at most so many outputs,
+    /// on a session of this latency, in milliseconds.
+    MailboxOut(u8, u32, u32),
     /// `sync TURNS QUIET` and the words of each link: runs sessions over the links, at most so many
     /// turns, and until so many turns in a row were still.
     Sync(u32, u32, LinkList),
@@ -66,6 +71,8 @@ impl Command {
             | Command::Say(_, _, _, _, _, _)
             | Command::Agree(_, _)
             | Command::Compact
+            | Command::MailboxIn(_)
+            | Command::MailboxOut(_, _, _)
             | Command::Sync(_, _, _) => true,
             Command::Try(_, _)
             | Command::Records

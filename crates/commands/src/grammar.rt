@@ -1,7 +1,7 @@
 //! What the words of a command line ask for.
 ghost use Rattle.std.specs.Prelude.{◌≡◌, ◌≤◌, drop, IfOk, IfSome};
 ghost use Rattle.commands.specs.Reading.{asks, asks_agree, asks_of, asks_try, asks_group};
-ghost use Rattle.commands.specs.Reading.{asks_share};
+ghost use Rattle.commands.specs.Reading.{asks_mailbox, asks_share, asks_sending, asks_taking};
 ghost use Rattle.commands.specs.Reading.{asks_post, asks_body, asks_say, asks_saying, asks_sync};
 ghost use Rattle.commands.specs.Reading.{asks_tree, ends};
 ghost use Rattle.commands.specs.Reading.{IsReadAs, IsWithin, plain_in};
@@ -9,9 +9,9 @@ ghost use Rattle.sync_words.specs.Words.{texts};
 
 use crate::command::Command;
 use crate::fault::WordsFault;
-use crate::links::read_links;
+use crate::links::{MAX_LATENCY, read_links};
 use crate::words::{
-    descriptor_at, id_at, is_left_at, level_at, name_at, number_at, positive_at, stance_at,
+    descriptor_at, id_at, is_left_at, level_at, name_at, number_at, positive_at, stance_at, way_at,
 };
 use std::alloc::Global;
 use sync_ids::{GroupId, MAX_TIMESTAMP};
@@ -25,6 +25,9 @@ const MAX_MAJOR: u64 = 4_294_967_295;
 
 // The greatest place of a walk, and the most messages of it.
 const MAX_WALK: u64 = 4_294_967_295;
+
+/// The most outputs in a mailbox file.
+pub const MAX_OUTS: u64 = 1_000_000;
 
 /// The most turns of a run, and the most still turns behind which it is over.
 pub const MAX_TURNS: u64 = 1_000_000;
@@ -57,6 +60,7 @@ fn read_command(alloc: Global, word: &str, words: &[String]) -> Result<Command, 
         "tree" => read_tree(words),
         "say" => read_say(alloc, words),
         "agree" => read_agree(words),
+        "mailbox" => read_mailbox(words),
         "sync" => read_sync(alloc, words),
         word => match plain(word) {
             Some(command) => read_end(words, 1, command),
@@ -185,6 +189,39 @@ fn read_agree(words: &[String]) -> Result<Command, WordsFault>
     let contact = number_at(words, 1, MAX_CONTACT)?;
     let group = id_at(words, 2)?;
     read_end(words, 3, Command::Agree(contact as u8, group))
+}
+
+fn read_mailbox(words: &[String]) -> Result<Command, WordsFault>
+    ensures read { IsReadAs (asks_mailbox 1 (drop 1 (texts words.now))) result }
+    ensures within { IfOk result IsWithin }
+{
+    let inward = way_at(words, 1)?;
+    if inward {
+        read_taking(words)
+    } else {
+        read_sending(words)
+    }
+}
+
+// Reads whose file is read.
+fn read_taking(words: &[String]) -> Result<Command, WordsFault>
+    ensures read { IsReadAs (asks_taking 2 (drop 2 (texts words.now))) result }
+    ensures within { IfOk result IsWithin }
+{
+    let contact = number_at(words, 2, MAX_CONTACT)?;
+    read_end(words, 3, Command::MailboxIn(contact as u8))
+}
+
+// Reads for whom a file is written, and how.
+fn read_sending(words: &[String]) -> Result<Command, WordsFault>
+    ensures read { IsReadAs (asks_sending 2 (drop 2 (texts words.now))) result }
+    ensures within { IfOk result IsWithin }
+{
+    let contact = number_at(words, 2, MAX_CONTACT)?;
+    let latency = positive_at(words, 3, MAX_LATENCY)?;
+    let count = positive_at(words, 4, MAX_OUTS)?;
+    let asked = Command::MailboxOut(contact as u8, latency as u32, count as u32);
+    read_end(words, 5, asked)
 }
 
 fn read_sync(alloc: Global, words: &[String]) -> Result<Command, WordsFault>

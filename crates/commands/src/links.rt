@@ -12,8 +12,8 @@ use outside::LINKS;
 use std::alloc::Global;
 use sync_words::{LinkList, LinkWords, is_std};
 
-// The greatest latency of a session, in milliseconds.
-const MAX_LATENCY: u64 = 4_294_967_295;
+/// The greatest latency of a session, in milliseconds.
+pub const MAX_LATENCY: u64 = 4_294_967_295;
 
 // The place of the first word of the first link: behind the command's name and two numbers.
 const FIRST_LINK: usize = 3;

@@ -1,7 +1,7 @@
 // The words of a command line, one by one.
 ghost use Rattle.std.specs.Prelude.{◌≡◌, ◌+◌, ◌≤◌, ◌∷◌, [], drop, IfOk, IfErr, MatchOption};
 ghost use Rattle.commands.specs.Reading.{is_left, IsDescriptor, IsName, Reads, Stops};
-ghost use Rattle.commands.specs.Reading.{stance_in};
+ghost use Rattle.commands.specs.Reading.{stance_in, way_in};
 ghost use Rattle.sync_words.specs.Words.{name_in, descriptor_in, number_in, positive_in, id_in};
 ghost use Rattle.sync_words.specs.Words.{level_in, mode_in, spec_in, texts};
 
@@ -130,6 +130,28 @@ fn stance(word: &str) -> Option<bool>
     match word {
         "join" => Some(true),
         "leave" => Some(false),
+        _ => None,
+    }
+}
+
+/// Reads the word at this place as the way of a mailbox file: whether it comes in.
+pub fn way_at(words: &[String], place: usize) -> Result<bool, WordsFault>
+    ensures ok { IfOk result (Reads way_in (texts words.now) place) }
+    ensures err { IfErr result (Stops way_in (texts words.now) place) }
+{
+    match word_at(words, place) {
+        Some(word) => way(word).ok_or(WordsFault::Usage(place)),
+        None => Err(WordsFault::Usage(place)),
+    }
+}
+
+// The way that a word names: `in` or `out`.
+fn way(word: &str) -> Option<bool>
+    ensures { result ≡ way_in word.now }
+{
+    match word {
+        "in" => Some(true),
+        "out" => Some(false),
         _ => None,
     }
 }

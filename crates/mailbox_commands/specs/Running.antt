@@ -1,0 +1,182 @@
+-- What the running of an errand comes to: from a loaded store, and from the files.
+use Rattle.std.specs.Prelude.{◌≡◌, ◌⊎◌, ℕ, ◌<◌, Bool, true, false, List, Option, Some, None}
+use Rattle.std.specs.Io.KnownBytes.{Appends}
+use Rattle.outside.specs.Faults.{Rose}
+use Rattle.outside.specs.Files.{Two, File, read_files}
+use Rattle.outside.specs.Links.{sent_of}
+use Rattle.outside.specs.Outside.{DiskRun, IsNow, Moment, MomentsAre, Outside}
+use Rattle.outside.specs.Streams.{Stream, IsIdle, GetsFront}
+use Rattle.sync_rules.specs.declared.entries.Entry.{Entry}
+use Rattle.sync_rules.specs.declared.states.Refused.{Refused}
+use Rattle.sync_rules.specs.Clients.{Meaning}
+use Rattle.sync_rules.specs.Facts.{Facts, facts}
+use Rattle.sync_rules.specs.Steps.{IsSettled}
+use Rattle.entry_codec.specs.Standing.{Standing, no_store, damaged, journal, stands}
+use Rattle.sync_store.specs.Commits.{needed}
+use Rattle.sync_store.specs.Fitting.{Fits}
+use Rattle.sync_store.specs.Moments.{JournalMoment}
+use Rattle.sync_store.specs.Store.{IsStore, StoreValue}
+use Rattle.sync_words.specs.declared.outcome.Outcome.{Outcome}
+use Rattle.sync_words.specs.declared.outcome.Outcome.TheVariants as outcome
+use Rattle.mailbox_core.specs.Rooms.{ComesTo}
+use Rattle.store_commands.specs.Commit.{HasLastGeneration, WasSpent}
+use Rattle.store_commands.specs.Show.{Keeps, Rests}
+use Rattle.mailbox_commands.specs.Errands.{Errand, ErrandOn, IsCut, IsRun, mailbox_test}
+
+-- ---- an errand on a settled store
+
+-- for the batch that comes next there was no room in this store
+pub record LacksRoom (errand : Errand) (f : Facts) (s : StoreValue) (more : List (List Entry)) : Type 0 where
+  pub next : List Entry
+  pub follows : errand.next f more next
+  pub over : s.limit < needed s next
+
+-- by the outcome
+abbrev pub DoesSo : Meaning → Errand → Facts → StoreValue → List (List Entry) → Outcome → Type 0
+DoesSo clients errand f s more outcome.Done = (s.closed ≡ false) × IsSettled clients s.state.facts × errand.whole f more
+DoesSo clients errand f s more outcome.Full = (s.closed ≡ false) × LacksRoom errand f s more
+DoesSo clients errand f s more outcome.Memory = Unit {0}
+DoesSo clients errand f s more outcome.DiskFault = Unit {0}
+DoesSo clients errand f s more _ = ⊥
+
+-- the causes of an outcome of the disk
+abbrev pub DoesBy : (old new : Outside) → Outcome → Type 0
+DoesBy old new outcome.DiskFault = Rose old.disk_faults new.disk_faults
+DoesBy old new _ = Unit {0}
+
+-- a settled store came by some of the errand to this one, as far as the outcome says
+pub record DoesErrand (clients : Meaning) (errand : Errand) (s s' : StoreValue) (o o' : Outside) (came : Outcome) : Type 0 where
+  pub more : List (List Entry)
+  pub comes : ComesTo clients s s' o o' more
+  pub some : errand.some s.state.facts more
+  pub answer : DoesSo clients errand s.state.facts s' more came
+  pub by : DoesBy o o' came
+
+-- ---- the printing
+
+-- a text is printed, and then it comes to this outcome; memory may be wanting for it
+abbrev pub PrintsOut : Outcome → List ℕ → (out out' : Stream) → Outcome → Type 0
+PrintsOut comes text out out' outcome.Memory = IsIdle out out'
+PrintsOut comes text out out' outcome.WriteFault = Rose out.faults out'.faults × GetsFront out out' text
+PrintsOut comes text out out' came = (came ≡ comes) × Appends out.bytes out'.bytes text
+
+-- ---- the causes of an outcome, whatever the disk tells
+
+-- what all of an errand may come to
+abbrev pub is_end : Outcome → Bool
+is_end outcome.Done = true
+is_end (outcome.Inside place) = true
+is_end (outcome.Bad place why) = true
+is_end (outcome.NoVersion place) = true
+is_end _ = false
+
+-- a fault comes only where its count rose, and nothing is written but the text
+abbrev pub ErrandBy : Outcome → (old new : Outside) (out out' : Stream) → Outcome → Type 0
+ErrandBy comes old new out out' outcome.Done = comes ≡ outcome.Done
+ErrandBy comes old new out out' (outcome.Inside place) = comes ≡ outcome.Inside place
+ErrandBy comes old new out out' (outcome.Bad place why) = comes ≡ outcome.Bad place why
+ErrandBy comes old new out out' (outcome.NoVersion place) = comes ≡ outcome.NoVersion place
+ErrandBy comes old new out out' outcome.WriteFault = Rose out.faults out'.faults
+ErrandBy comes old new out out' outcome.DiskFault = Rose old.disk_faults new.disk_faults × IsIdle out out'
+ErrandBy comes old new out out' outcome.Full = IsIdle out out'
+ErrandBy comes old new out out' outcome.Memory = IsIdle out out'
+ErrandBy comes old new out out' _ = ⊥
+
+-- an outcome that comes once the whole errand stands
+abbrev pub is_whole : Outcome → Bool
+is_whole outcome.WriteFault = true
+is_whole came = is_end came
+
+-- ---- from a loaded store
+
+-- by the outcome
+abbrev pub ErrandEnds : Meaning → Errand → List (List Entry) → Two File → Two File → (out out' : Stream) → Outcome → Type 0
+ErrandEnds clients errand j two two' out out' outcome.Done = IsRun clients errand j two' (Appends out.bytes out'.bytes)
+ErrandEnds clients errand j two two' out out' (outcome.Inside place) = IsRun clients errand j two' (Appends out.bytes out'.bytes)
+ErrandEnds clients errand j two two' out out' (outcome.Bad place why) = IsRun clients errand j two' (Appends out.bytes out'.bytes)
+ErrandEnds clients errand j two two' out out' (outcome.NoVersion place) = IsRun clients errand j two' (Appends out.bytes out'.bytes)
+ErrandEnds clients errand j two two' out out' outcome.WriteFault = IsRun clients errand j two' (GetsFront out out')
+ErrandEnds clients errand j two two' out out' outcome.Full = IsCut clients errand j two' ⊎ WasSpent two two'
+ErrandEnds clients errand j two two' out out' _ = Unit {0}
+
+-- Each moment stands for the journal with settling and some of the errand, and in the end the files are so, which were `two`
+-- before. Where they had no generation left the errand is not done.
+pub record ErrandTold (clients : Meaning) (errand : Errand) (j : List (List Entry)) (two : Two File) (old new : Outside)
+    (out out' : Stream) (came : Outcome) : Type 0 where
+  pub moments : MomentsAre old new (JournalMoment clients (ErrandOn clients errand j) (sent_of old.links.told))
+  pub ends : (two' : Two File) → new.files ≡ Some two' → ErrandEnds clients errand j two two' out out' came
+  pub spent : HasLastGeneration (read_files two) → is_whole came ≡ false
+
+-- a store was migrated and settled, and the errand was run
+pub record RunsErrand (clients : Meaning) (errand : Errand) (s : StoreValue) (old new : Outside) (out out' : Stream)
+    (came : Outcome) : Type 0 where
+  pub run : DiskRun old new
+  pub by : ErrandBy errand.comes old new out out' came
+  pub told : (two : Two File) → old.files ≡ Some two → (j : List (List Entry)) → Fits clients s j two
+      → ErrandTold clients errand j two old new out out' came
+
+-- ---- from the files that were told
+
+-- the files stood for a journal over which the tests answer so
+pub record IsTested (contact : ℕ) (standing : Standing) (answer : Option Refused) : Type 0 where
+  pub before : List (List Entry)
+  pub stood : standing ≡ journal before
+  pub tested : mailbox_test (facts before) contact ≡ answer
+
+-- they hold over it, and it has this
+pub record MayRun (contact : ℕ) (standing : Standing) (P : List (List Entry) → Type 0) : Type 0 where
+  pub before : List (List Entry)
+  pub stood : standing ≡ journal before
+  pub tested : mailbox_test (facts before) contact ≡ None
+  pub leads : P before
+
+-- each moment is as a crash might have left the files before, or has batches of the errand
+pub record FilesTold (clients : Meaning) (contact : ℕ) (errand : Errand) (two : Two File) (old new : Outside)
+    (out out' : Stream) (came : Outcome) : Type 0 where
+  pub moments : MomentsAre old new
+      (λ m. IsNow two old.links m
+      ⊎ MayRun contact (stands clients (read_files two))
+      (λ j. JournalMoment clients (ErrandOn clients errand j) (sent_of old.links.told) m))
+  pub ends : (two' : Two File) → new.files ≡ Some two'
+      → MayRun contact (stands clients (read_files two)) (λ j. ErrandEnds clients errand j two two' out out' came)
+  pub spent : HasLastGeneration (read_files two) → is_whole came ≡ false
+
+-- a store was loaded over which the tests hold, and the errand was run
+pub record FilesRun (clients : Meaning) (contact : ℕ) (errand : Errand) (old new : Outside) (out out' : Stream)
+    (came : Outcome) : Type 0 where
+  pub by : ErrandBy errand.comes old new out out' came
+  pub told : (two : Two File) → old.files ≡ Some two → FilesTold clients contact errand two old new out out' came
+
+-- ---- a command that ended before its errand
+
+-- the causes
+abbrev pub StopsBy : (old new : Outside) → Outcome → Type 0
+StopsBy old new outcome.NoStore = Unit {0}
+StopsBy old new (outcome.Damaged place) = Unit {0}
+StopsBy old new (outcome.Refused why) = Unit {0}
+StopsBy old new outcome.DiskFault = Rose old.disk_faults new.disk_faults
+StopsBy old new outcome.Memory = Unit {0}
+StopsBy old new outcome.ReadFault = Unit {0}
+StopsBy old new outcome.TooMuch = Unit {0}
+StopsBy old new _ = ⊥
+
+-- by what the files stood for
+abbrev pub StopsEnds : Standing → ℕ → Outcome → Type 0
+StopsEnds standing contact outcome.NoStore = standing ≡ no_store
+StopsEnds standing contact (outcome.Damaged place) = standing ≡ damaged place.file place.at
+StopsEnds standing contact (outcome.Refused why) = IsTested contact standing (Some why)
+StopsEnds standing contact outcome.ReadFault = IsTested contact standing None
+StopsEnds standing contact outcome.TooMuch = IsTested contact standing None
+StopsEnds standing contact _ = Unit {0}
+
+-- what is so where the files are told: nothing was taken or sent
+pub record StopsTold (clients : Meaning) (contact : ℕ) (two : Two File) (old new : Outside) (came : Outcome) : Type 0 where
+  pub rests : Rests (Keeps came two) two old new
+  pub ends : StopsEnds (stands clients (read_files two)) contact came
+
+-- nothing was taken or sent, and nothing printed
+pub record StopsEarly (clients : Meaning) (contact : ℕ) (old new : Outside) (out out' : Stream) (came : Outcome) : Type 0 where
+  pub run : DiskRun old new
+  pub by : StopsBy old new came
+  pub quiet : IsIdle out out'
+  pub told : (two : Two File) → old.files ≡ Some two → StopsTold clients contact two old new came
