@@ -1,5 +1,5 @@
 -- What the running of an errand comes to: from a loaded store, and from the files.
-use Rattle.std.specs.Prelude.{◌≡◌, ◌⊎◌, ℕ, ◌<◌, Bool, true, false, List, Option, Some, None}
+use Rattle.std.specs.Prelude.{◌≡◌, ◌⊎◌, ℕ, ◌<◌, Bool, true, false, List, Option, Some, None, Result, Ok, Err}
 use Rattle.std.specs.Io.KnownBytes.{Appends}
 use Rattle.outside.specs.Faults.{Rose}
 use Rattle.outside.specs.Files.{Two, File, read_files}
@@ -19,7 +19,7 @@ use Rattle.sync_store.specs.Store.{IsStore, StoreValue}
 use Rattle.sync_words.specs.declared.outcome.Outcome.{Outcome}
 use Rattle.sync_words.specs.declared.outcome.Outcome.TheVariants as outcome
 use Rattle.mailbox_core.specs.Rooms.{ComesTo}
-use Rattle.store_commands.specs.Commit.{HasLastGeneration, WasSpent}
+use Rattle.store_commands.specs.Commit.{ExtendsBy, HasLastGeneration, WasSpent}
 use Rattle.store_commands.specs.Show.{Keeps, Rests}
 use Rattle.mailbox_commands.specs.Errands.{Errand, ErrandOn, IsCut, IsRun, mailbox_test}
 
@@ -31,44 +31,52 @@ pub record LacksRoom (errand : Errand) (f : Facts) (s : StoreValue) (more : List
   pub follows : errand.next f more next
   pub over : s.limit < needed s next
 
--- by the outcome
-abbrev pub DoesSo : Meaning → Errand → Facts → StoreValue → List (List Entry) → Outcome → Type 0
-DoesSo clients errand f s more outcome.Done = (s.closed ≡ false) × IsSettled clients s.state.facts × errand.whole f more
-DoesSo clients errand f s more outcome.Full = (s.closed ≡ false) × LacksRoom errand f s more
-DoesSo clients errand f s more outcome.Memory = Unit {0}
-DoesSo clients errand f s more outcome.DiskFault = Unit {0}
-DoesSo clients errand f s more _ = ⊥
+-- what ended with a value, or with an outcome before, but for the value
+abbrev pub ended_as : {V : Type 0} → Result V Outcome → Result (Unit {0}) Outcome
+ended_as (Ok v) = Ok tt
+ended_as (Err came) = Err came
 
--- the causes of an outcome of the disk
-abbrev pub DoesBy : (old new : Outside) → Outcome → Type 0
-DoesBy old new outcome.DiskFault = Rose old.disk_faults new.disk_faults
-DoesBy old new _ = Unit {0}
+-- by the answer
+abbrev pub DoesSo : Meaning → Errand → Facts → StoreValue → List (List Entry) → Result (Unit {0}) Outcome → Type 0
+DoesSo clients errand f s more (Ok _) = (s.closed ≡ false) × IsSettled clients s.state.facts × errand.whole f more
+DoesSo clients errand f s more (Err outcome.Full) = (s.closed ≡ false) × LacksRoom errand f s more
+DoesSo clients errand f s more (Err outcome.Memory) = Unit {0}
+DoesSo clients errand f s more (Err outcome.DiskFault) = Unit {0}
+DoesSo clients errand f s more (Err _) = ⊥
 
--- a settled store came by some of the errand to this one, as far as the outcome says
-pub record DoesErrand (clients : Meaning) (errand : Errand) (s s' : StoreValue) (o o' : Outside) (came : Outcome) : Type 0 where
+-- a settled store came by some of the errand to this one, as far as the answer says
+pub record DoesErrand (clients : Meaning) (errand : Errand) (s s' : StoreValue) (o o' : Outside)
+    (result : Result (Unit {0}) Outcome) : Type 0 where
   pub more : List (List Entry)
   pub comes : ComesTo clients s s' o o' more
   pub some : errand.some s.state.facts more
-  pub answer : DoesSo clients errand s.state.facts s' more came
-  pub by : DoesBy o o' came
+  pub answer : DoesSo clients errand s.state.facts s' more result
+  pub by : ExtendsBy o o' result
 
 -- ---- the printing
 
 -- a text is printed, and then it comes to this outcome; memory may be wanting for it
 abbrev pub PrintsOut : Outcome → List ℕ → (out out' : Stream) → Outcome → Type 0
-PrintsOut comes text out out' outcome.Memory = IsIdle out out'
+PrintsOut comes text out out' outcome.Done = (comes ≡ outcome.Done) × Appends out.bytes out'.bytes text
+PrintsOut comes text out out' (outcome.Inside place) = (comes ≡ outcome.Inside place) × Appends out.bytes out'.bytes text
+PrintsOut comes text out out' (outcome.Bad place why) = (comes ≡ outcome.Bad place why) × Appends out.bytes out'.bytes text
+PrintsOut comes text out out' (outcome.NoVersion place) = (comes ≡ outcome.NoVersion place) × Appends out.bytes out'.bytes text
 PrintsOut comes text out out' outcome.WriteFault = Rose out.faults out'.faults × GetsFront out out' text
-PrintsOut comes text out out' came = (came ≡ comes) × Appends out.bytes out'.bytes text
+PrintsOut comes text out out' outcome.Memory = IsIdle out out'
+PrintsOut comes text out out' _ = ⊥
+
+-- a text did not go out, or a front of it
+abbrev pub FailsToPrint : List ℕ → (out out' : Stream) → Outcome → Type 0
+FailsToPrint text out out' outcome.WriteFault = Rose out.faults out'.faults × GetsFront out out' text
+FailsToPrint text out out' outcome.Memory = IsIdle out out'
+FailsToPrint text out out' _ = ⊥
+
+-- by the answer of a call that prints
+abbrev pub PrintedSo : List ℕ → (out out' : Stream) → Result (Unit {0}) Outcome → Type 0
+PrintedSo text out out' (Ok u) = Appends out.bytes out'.bytes text
+PrintedSo text out out' (Err came) = FailsToPrint text out out' came
 
 -- ---- the causes of an outcome, whatever the disk tells
-
--- what all of an errand may come to
-abbrev pub is_end : Outcome → Bool
-is_end outcome.Done = true
-is_end (outcome.Inside place) = true
-is_end (outcome.Bad place why) = true
-is_end (outcome.NoVersion place) = true
-is_end _ = false
 
 -- a fault comes only where its count rose, and nothing is written but the text
 abbrev pub ErrandBy : Outcome → (old new : Outside) (out out' : Stream) → Outcome → Type 0
@@ -84,8 +92,12 @@ ErrandBy comes old new out out' _ = ⊥
 
 -- an outcome that comes once the whole errand stands
 abbrev pub is_whole : Outcome → Bool
+is_whole outcome.Done = true
+is_whole (outcome.Inside place) = true
+is_whole (outcome.Bad place why) = true
+is_whole (outcome.NoVersion place) = true
 is_whole outcome.WriteFault = true
-is_whole came = is_end came
+is_whole _ = false
 
 -- ---- from a loaded store
 

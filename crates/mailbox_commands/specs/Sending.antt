@@ -1,5 +1,5 @@
 -- What `mailbox out` does: it commits what is due to a contact, and writes the bytes of all that the session sends.
-use Rattle.std.specs.Prelude.{◌≡◌, ◌⊎◌, ℕ, ◌<◌, ◌≤◌, List, [], ◌∷◌, ◌++◌, length, is_some}
+use Rattle.std.specs.Prelude.{◌≡◌, ◌⊎◌, ℕ, ◌<◌, ◌≤◌, List, [], ◌∷◌, ◌++◌, length, is_some, Result, Ok, Err}
 use Rattle.outside.specs.Calls.{CallsGoOn}
 use Rattle.outside.specs.Disk.{Becomes}
 use Rattle.outside.specs.Host.{ReadsClock}
@@ -63,15 +63,15 @@ out_errand clients asked now = record {
 }
 
 -- where all was committed, its bytes were added
-abbrev pub AddsBytes : Facts → List (List Entry) → (to to' : List ℕ) → Outcome → Type 0
-AddsBytes f more to to' outcome.Done = to' ≡ to ++ spelled (output_of f f.begun more)
-AddsBytes f more to to' _ = Unit {0}
+abbrev pub AddsBytes : Facts → List (List Entry) → (to to' : List ℕ) → Result (Unit {0}) Outcome → Type 0
+AddsBytes f more to to' (Ok _) = to' ≡ to ++ spelled (output_of f f.begun more)
+AddsBytes f more to to' (Err _) = Unit {0}
 
--- what is due was committed to a settled store, as far as the outcome says
+-- what is due was committed to a settled store, as far as the answer says
 pub record TellsSent (clients : Meaning) (asked : Sending) (now : ℕ) (s s' : StoreValue) (o o' : Outside) (to to' : List ℕ)
-    (came : Outcome) : Type 0 where
-  pub does : DoesErrand clients (out_errand clients asked now) s s' o o' came
-  pub bytes : AddsBytes s.state.facts does.more to to' came
+    (result : Result (Unit {0}) Outcome) : Type 0 where
+  pub does : DoesErrand clients (out_errand clients asked now) s s' o o' result
+  pub bytes : AddsBytes s.state.facts does.more to to' result
 
 -- ---- the command
 

@@ -96,7 +96,7 @@ fn send_due<D: Disk, C: Clients>(
     requires begins { MayBegin store.old.state.facts asked.contact }
     requires latency { 1 ≤ asked.latency }
     ensures sent { TellsSent (C.meaning clients.now) asked now store.old store.new
-        (D.tells disk.old) (D.tells disk.new) to.old.items to.new.items (came_to result) }
+        (D.tells disk.old) (D.tells disk.new) to.old.items to.new.items result }
 {
     let sent = write_box(
         alloc,

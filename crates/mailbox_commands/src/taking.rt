@@ -8,16 +8,16 @@ ghost use Rattle.sync_words.specs.Outcomes.{came_to};
 ghost use Rattle.mailbox_core.specs.Files.{box_ending, box_records};
 ghost use Rattle.store_commands.specs.Load.{MayExtend};
 ghost use Rattle.mailbox_commands.specs.Errands.{MayBegin};
-ghost use Rattle.mailbox_commands.specs.Running.{DoesErrand, RunsErrand, PrintsOut};
+ghost use Rattle.mailbox_commands.specs.Running.{DoesErrand, PrintedSo, PrintsOut, RunsErrand, ended_as};
 ghost use Rattle.mailbox_commands.specs.Taking.{HasTakenMail, IsInput, TellsEnd, in_errand, outcome_at};
 ghost use Rattle.mailbox_commands.specs.Taking.{taken_text};
 
 use crate::tests::refusal;
 use mailbox_core::{BoxEnd, BoxEnding, read_box};
-use outside::{Disk, InputFault, Sink, Source, read_input};
+use outside::{Disk, InputFault, Sink, Source, read_input, write_all};
 use std::alloc::{AllocError, Global};
 use std::hash::RandomState;
-use store_commands::{load_store, migrate_and_settle, print_bytes};
+use store_commands::{load_store, migrate_and_settle};
 use sync_rules::Clients;
 use sync_store::{Store, StoreFault};
 use sync_words::Outcome;
@@ -99,7 +99,7 @@ fn take_records<D: Disk, C: Clients>(
     requires settled { IsSettled (C.meaning clients.now) store.old.state.facts }
     requires begins { MayBegin store.old.state.facts contact }
     ensures does { DoesErrand (C.meaning clients.now) (in_errand (C.meaning clients.now) contact
-        bytes.now) store.old store.new (D.tells disk.old) (D.tells disk.new) (came_to result) }
+        bytes.now) store.old store.new (D.tells disk.old) (D.tells disk.new) (ended_as result) }
     ensures end { IfOk result (TellsEnd bytes.now) }
 {
     match read_box(alloc, store, disk, clients, contact, bytes) {
@@ -118,8 +118,18 @@ fn print_end<W: Sink>(alloc: Global, end: BoxEnd, out: &mut W) -> Result<(), Out
 {
     let mut line = String::new(alloc);
     taken_line(end.taken, &mut line)?;
-    print_bytes(line.as_bytes(), out)?;
+    print_line(line.as_bytes(), out)?;
     ended(end.ending)
+}
+
+// Prints a line.
+fn print_line<W: Sink>(line: &[u8], out: &mut W) -> Result<(), Outcome>
+    ensures { PrintedSo line.now (W.tells out.old) (W.tells out.new) result }
+{
+    match write_all(out, line) {
+        Ok(()) => Ok(()),
+        Err(_) => Err(Outcome::WriteFault),
+    }
 }
 
 /// The line of `mailbox in`: how many records were taken. It fails only for want of memory, and

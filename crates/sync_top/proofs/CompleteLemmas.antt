@@ -13,6 +13,7 @@ use Rattle.record_grammar.specs.declared.stream.Ending.{Ending}
 use Rattle.record_grammar.specs.declared.stream.Ending.TheVariants as ends
 use Rattle.record_grammar.specs.declared.stream.Item.{Item}
 use Rattle.sync_rules.specs.declared.entries.Entry.{Entry}
+use Rattle.sync_rules.specs.declared.states.Refused.{Refused}
 use Rattle.sync_rules.specs.declared.states.Refused.TheVariants as refused
 use Rattle.sync_rules.specs.Clients.{Meaning}
 use Rattle.sync_rules.specs.Facts.{Facts, Id, facts, group_at}
@@ -44,10 +45,17 @@ use Rattle.sharing_commands.specs.Agreeing.{AreRoomy, HasAgreed, IsCut}
 use Rattle.sharing_commands.specs.Agreement.{agree_test}
 use Rattle.sharing_commands.specs.Sayings.{say_plan}
 use Rattle.sharing_commands.proofs.Fronts.{room_at}
+use Rattle.mailbox_core.specs.Files.{box_ending}
+use Rattle.mailbox_commands.specs.declared.sending.Sending.{Sending}
+use Rattle.mailbox_commands.specs.declared.taking.TheConstants.{MAX_MAIL}
+use Rattle.mailbox_commands.specs.Errands.{Errand, HasErrandRoom, IsCut as IsErrandCut, mailbox_test}
+use Rattle.mailbox_commands.specs.Running.{FilesRun, IsTested}
+use Rattle.mailbox_commands.specs.Sending.{HasSentMail, out_errand}
+use Rattle.mailbox_commands.specs.Taking.{HasTakenMail, IsMail, TakesMail, in_errand, outcome_at}
 use Rattle.store_commands.proofs.Stood.{last_lacks}
 use Rattle.sync_top.specs.declared.input.TheConstants.{MAX_INPUT}
-use Rattle.sync_top.specs.Complete.{BytesDecide, ComesOut, Complete, HasBriefRoom, HasRoom, HasRooms, MayAdd, MayAgreeOn, MayCompact, MayPost, MayShow, NothingFails, Serves, status_at, status_by}
-use Rattle.sync_top.specs.Run.{Comes, ComesOfStore, ReadsStream, ReadsWhole, Reports, Streams, TriesClient, outcome_of, speech_of}
+use Rattle.sync_top.specs.Complete.{BytesDecide, ComesOut, Complete, HasBriefRoom, HasRoom, HasRooms, MayAdd, MayAgreeOn, MayCompact, MayPost, MaySendMail, MayShow, MayTakeMail, MailDecides, NothingFails, mail_status, Serves, status_at, status_by}
+use Rattle.sync_top.specs.Run.{Comes, ComesOfStore, ReadsStream, ReadsWhole, Reports, Streams, TriesClient, outcome_of, sending_of, speech_of}
 use Rattle.sync_top.proofs.CompleteRuns.{run_comes_out}
 
 -- ---- the bytes decide
@@ -144,6 +152,14 @@ not_cut clients contact group files two two' j has next told (inl cut) =
     (room_at (j ++ cut.first) cut.front cut.next cut.rest roomy) in
     absurd (omega (arith, room, cut.over))
 not_cut clients contact group files two two' j has next told (inr spent) = not_spent files two two' next told spent
+
+-- there was room for the errand
+not_errand_cut : {P : Type 0} (clients : Meaning) (errand : Errand) (files : Option (Two File)) (two two' : Two File) (j : List (List Entry))
+    → HasErrandRoom clients errand j → MayMigrate files → files ≡ Some two → IsErrandCut clients errand j two' ⊎ WasSpent two two' → P
+not_errand_cut clients errand files two two' j has next told (inl cut) =
+    let room = has cut.first cut.rest cut.next cut.settles cut.settled cut.follows in
+    absurd (omega (arith, room, cut.over))
+not_errand_cut clients errand files two two' j has next told (inr spent) = not_spent files two two' next told spent
 
 -- there was room and a generation for the brief account
 not_brief_full : {P : Type 0} (clients : Meaning) (files : Option (Two File)) (two two' : Two File) (j : List (List Entry)) → HasBriefRoom clients j → MayRenew files → files ≡ Some two
@@ -251,6 +267,94 @@ module _ (clients : Meaning) (old new : Outside) (input input' out out' : Stream
       not_brief_full clients old.files may.stood.0 now.0 full.before has may.next may.stood.1 full.leads
   compacted_done _ did may = absurd did.by
 
+  -- the tests hold over the journal that the files stand for
+  not_tested : {P : Type 0} (contact : ℕ) (two : Two File) (j : List (List Entry)) (why : Refused) → stands clients (read_files two) ≡ journal j
+      → mailbox_test (facts j) contact ≡ None → IsTested contact (stands clients (read_files two)) (Some why) → P
+  not_tested contact two j why stood holds t =
+      let both : journal t.before ≡ journal j = sym t.stood ∙ stood in
+      let same : t.before ≡ j = cc in
+      let is : Some why ≡ None = sym t.tested ∙ ap (λ (i : List (List Entry)). mailbox_test (facts i) contact) same ∙ holds in
+      absurd (let no : Some why ≡ None = is in cc)
+
+  -- there was room for an errand
+  ran_not_full : {P : Type 0} (contact : ℕ) (errand : Errand) (before : List (List Entry)) (stood : ReadsAs clients old.files before) → HasErrandRoom clients errand before → MayMigrate old.files
+      → FilesRun clients contact errand old new out out' outcome.Full → is_some new.files ≡ is_some old.files → P
+  ran_not_full contact errand before stood room next did told_same =
+      let now = told_on old new stood.0 told_same stood.1 in
+      let full = (did.told stood.0 stood.1).ends now.0 now.1 in
+      let both : journal full.before ≡ journal before = sym full.stood ∙ stood.2 in
+      let same : full.before ≡ before = cc in
+      let has : HasErrandRoom clients errand full.before = subst (HasErrandRoom clients errand) (sym same) room in
+      not_errand_cut clients errand old.files stood.0 now.0 full.before has next stood.1 full.leads
+
+  mailed_done : (asked : Sending) (came : Outcome) → HasSentMail clients asked old new out out' came → MaySendMail clients asked old new → Done came
+  mailed_done asked outcome.Done did may = inl refl
+  mailed_done asked outcome.Memory did may = inr refl
+  mailed_done asked outcome.WriteFault did may = absurd (fails.sink did.did.by)
+  mailed_done asked outcome.DiskFault (inl did) may = absurd (fails.disk did.by)
+  mailed_done asked outcome.DiskFault (inr did) may = absurd (fails.disk did.did.by.0)
+  mailed_done asked outcome.NoStore did may =
+      let is : no_store ≡ journal may.before = sym (did.told may.stood.0 may.stood.1).ends ∙ may.stood.2 in
+      cc
+  mailed_done asked (outcome.Damaged place) did may =
+      let is : damaged place.file place.at ≡ journal may.before = sym (did.told may.stood.0 may.stood.1).ends ∙ may.stood.2 in
+      cc
+  mailed_done asked (outcome.Refused why) did may =
+      not_tested asked.contact may.stood.0 may.before why may.stood.2 may.tested (did.told may.stood.0 may.stood.1).ends
+  mailed_done asked outcome.Full did may =
+      ran_not_full asked.contact (out_errand clients asked did.now) may.before may.stood (may.room did.now did.reads.clock) may.next did.did did.reads.same_told
+  mailed_done asked (outcome.Inside place) did may = absurd (let is : outcome.Done ≡ outcome.Inside place = did.did.by in cc)
+  mailed_done asked (outcome.Bad place why) did may = absurd (let is : outcome.Done ≡ outcome.Bad place why = did.did.by in cc)
+  mailed_done asked (outcome.NoVersion place) did may = absurd (let is : outcome.Done ≡ outcome.NoVersion place = did.did.by in cc)
+  mailed_done asked _ did may = absurd did.did.by
+
+  abbrev Decided : Outcome → Type 0
+  Decided came = MailDecides input input' (status_of came) ⊎ (status_of came ≡ status.Memory)
+
+  -- the whole input was read
+  mail_decides : (read : List ℕ) (came : Outcome) → IsMail input input' read → outcome_at (box_ending read) ≡ came → Decided came
+  mail_decides read came mail is =
+      let few : nat_lt MAX_MAIL (length read) ≡ false = le-ltb MAX_MAIL (length read) mail.within in
+      inl (record {
+        read = read;
+        consumed = mail.consumed;
+        whole = inl (mail.at_end, mail.within);
+        decides =
+            sym (ap status_of is)
+            ∙ sym (test_by (nat_lt MAX_MAIL (length read)) status.TooMuch (status_of (outcome_at (box_ending read))) few);
+      })
+
+  taken_done : (contact : ℕ) (came : Outcome) → HasTakenMail clients contact old new input input' out out' came → MayTakeMail clients contact old.files input input' → Decided came
+  taken_done contact outcome.Done did may = mail_decides did.bytes outcome.Done did.reads did.did.by
+  taken_done contact (outcome.Inside place) did may = mail_decides did.bytes (outcome.Inside place) did.reads did.did.by
+  taken_done contact (outcome.Bad place why) did may = mail_decides did.bytes (outcome.Bad place why) did.reads did.did.by
+  taken_done contact (outcome.NoVersion place) did may = mail_decides did.bytes (outcome.NoVersion place) did.reads did.did.by
+  taken_done contact outcome.Memory did may = inr refl
+  taken_done contact outcome.TooMuch did may =
+      let past : MAX_MAIL < length did.1.read = omega (arith, did.1.past) in
+      let many : nat_lt MAX_MAIL (length did.1.read) ≡ true = lt-ltb MAX_MAIL (length did.1.read) past in
+      inl (record {
+        read = did.1.read;
+        consumed = did.1.consumed;
+        whole = inr did.1.past;
+        decides = sym (test_past (nat_lt MAX_MAIL (length did.1.read)) status.TooMuch (status_of (outcome_at (box_ending did.1.read))) many);
+      })
+  taken_done contact outcome.ReadFault did may = absurd (fails.source did.1)
+  taken_done contact outcome.WriteFault did may = absurd (fails.sink did.did.by)
+  taken_done contact outcome.DiskFault (inl did) may = absurd (fails.disk did.0.by)
+  taken_done contact outcome.DiskFault (inr did) may = absurd (fails.disk did.did.by.0)
+  taken_done contact outcome.NoStore did may =
+      let is : no_store ≡ journal may.before = sym (did.0.told may.stood.0 may.stood.1).ends ∙ may.stood.2 in
+      cc
+  taken_done contact (outcome.Damaged place) did may =
+      let is : damaged place.file place.at ≡ journal may.before = sym (did.0.told may.stood.0 may.stood.1).ends ∙ may.stood.2 in
+      cc
+  taken_done contact (outcome.Refused why) did may =
+      not_tested contact may.stood.0 may.before why may.stood.2 may.tested (did.0.told may.stood.0 may.stood.1).ends
+  taken_done contact outcome.Full did may =
+      ran_not_full contact (in_errand clients contact did.bytes) may.before may.stood (may.room did.bytes did.reads) may.next did.did did.run.same_told
+  taken_done contact _ did may = absurd did.did.by
+
   looked_done : (shown : Facts → Showing) (came : Outcome) → HasLooked clients shown old new out out' came → MayShow clients shown old.files → Done came
   looked_done shown outcome.Done did may = inl refl
   looked_done shown outcome.Memory did may = inr refl
@@ -344,6 +448,15 @@ command_comes_out clients (command.Agree contact group) old new input input' out
 command_comes_out clients command.Compact old new input input' out out' came comes serves fails =
     store_done clients old new input input' out out' fails (λ (o : Outcome). HasCompacted clients old new out out' o × IsIdle input input') came
     (λ did. compacted_done clients old new input input' out out' fails came did.0 serves) comes
+command_comes_out clients (command.MailboxIn contact) old new input input' out out' came comes serves fails =
+    elim comes [
+      | inl did ↦ taken_done clients old new input input' out out' fails contact came did serves
+      | inr none ↦ inr (ap status_of none.0)
+    ]
+command_comes_out clients (command.MailboxOut contact latency count) old new input input' out out' came comes serves fails =
+    store_done clients old new input input' out out' fails
+    (λ (o : Outcome). HasSentMail clients (sending_of contact latency count) old new out out' o × IsIdle input input') came
+    (λ did. mailed_done clients old new input input' out out' fails (sending_of contact latency count) came did.0 serves) comes
 command_comes_out clients (command.Sync turns quiet links) old new input input' out out' came comes serves fails =
     elim comes [
       | inl did ↦ run_comes_out clients (record { turns = turns; quiet = quiet }) links old new fails.disk fails.links came did.0 serves

@@ -45,5 +45,7 @@ module _ {H : Type 0} (tells : H → Outside) (clients : Meaning) (h h' : H) (in
   only_looks (Do (command.Post group timestamp)) comes keeps = λ reads. absurd (let e : true ≡ false = reads in cc)
   only_looks (Do (command.Say group timestamp join name major descriptor)) comes keeps = λ reads. absurd (let e : true ≡ false = reads in cc)
   only_looks (Do (command.Agree contact group)) comes keeps = λ reads. absurd (let e : true ≡ false = reads in cc)
+  only_looks (Do (command.MailboxIn contact)) comes keeps = λ reads. absurd (let e : true ≡ false = reads in cc)
+  only_looks (Do (command.MailboxOut contact latency count)) comes keeps = λ reads. absurd (let e : true ≡ false = reads in cc)
   only_looks (Do command.Compact) comes keeps = λ reads. absurd (let e : true ≡ false = reads in cc)
   only_looks (Do (command.Sync turns quiet links)) comes keeps = λ reads. absurd (let e : true ≡ false = reads in cc)

@@ -29,7 +29,13 @@ use Rattle.store_commands.specs.Shown.{Showing, body_shown, listing_shown}
 use Rattle.tree_commands.specs.Trees.{tree_shown}
 use Rattle.sharing_commands.specs.Agreeing.{AgreesMoment, HasAgreed}
 use Rattle.sharing_commands.specs.Sayings.{say_plan}
-use Rattle.sync_top.specs.Run.{Comes, ComesOfStore, Covered, KeepsHost, speech_of}
+use Rattle.mailbox_commands.specs.declared.sending.Sending.{Sending}
+use Rattle.mailbox_commands.specs.Errands.{Errand, ErrandOn}
+use Rattle.mailbox_commands.specs.Running.{FilesRun, MayRun, StopsEarly}
+use Rattle.mailbox_commands.specs.Sending.{HasSentMail, out_errand}
+use Rattle.mailbox_commands.specs.Taking.{HasTakenMail, in_errand}
+use Rattle.sync_store.specs.Moments.{JournalMoment}
+use Rattle.sync_top.specs.Run.{Comes, ComesOfStore, Covered, KeepsHost, sending_of, speech_of}
 use Rattle.sync_top.specs.Undamaged.{NeverDamaged, RunUndamaged, StandsForSome, Undamaged}
 use Rattle.sync_run.specs.Headline.{Headline}
 use Rattle.sync_words.specs.declared.link_words.LinkWords.{LinkWords}
@@ -98,6 +104,40 @@ module _ (clients : Meaning) (old new : Outside) where
 
   of_compacted : (out out' : Stream) (came : Outcome) → HasCompacted clients old new out out' came → Undamaged clients old new
   of_compacted out out' came did two files each = moments_map old new _ _ (compacted_moment _ came _ two each) (did.told two files).moments
+
+  ran_moment : (contact : ℕ) (errand : Errand) (standing : Standing) (sent : List (List ℕ)) (two : Two File) → ((left : Two (List ℕ)) → IsImage two left → StandsForSome clients left)
+      → (m : Moment) → IsNow two old.links m ⊎ MayRun contact standing (λ j. JournalMoment clients (ErrandOn clients errand j) sent m) → StandsForSome clients m.files
+  ran_moment contact errand standing sent two each m (inl now) = each m.files now.image
+  ran_moment contact errand standing sent two each m (inr on) = record { of = on.leads.whole; stands_for = on.leads.stands_for }
+
+  of_ran : (contact : ℕ) (errand : Errand) (out out' : Stream) (came : Outcome) → FilesRun clients contact errand old new out out' came → Undamaged clients old new
+  of_ran contact errand out out' came did two files each =
+      moments_map old new _ _ (ran_moment contact errand _ _ two each) (did.told two files).moments
+
+  of_early : (contact : ℕ) (out out' : Stream) (came : Outcome) → StopsEarly clients contact old new out out' came → Undamaged clients old new
+  of_early contact out out' came did = of_now (λ two files. (did.told two files).rests.moments)
+
+  of_taken : (contact : ℕ) (input input' out out' : Stream) (came : Outcome) → HasTakenMail clients contact old new input input' out out' came → Undamaged clients old new
+  of_taken contact input input' out out' outcome.NoStore did = of_early contact out out' outcome.NoStore did.0
+  of_taken contact input input' out out' (outcome.Damaged place) did = of_early contact out out' (outcome.Damaged place) did.0
+  of_taken contact input input' out out' (outcome.Refused why) did = of_early contact out out' (outcome.Refused why) did.0
+  of_taken contact input input' out out' outcome.ReadFault did = of_early contact out out' outcome.ReadFault did.0
+  of_taken contact input input' out out' outcome.TooMuch did = of_early contact out out' outcome.TooMuch did.0
+  of_taken contact input input' out out' outcome.DiskFault (inl did) = of_early contact out out' outcome.DiskFault did.0
+  of_taken contact input input' out out' outcome.DiskFault (inr did) = of_ran contact (in_errand clients contact did.bytes) out out' outcome.DiskFault did.did
+  of_taken contact input input' out out' outcome.Memory (inl did) = of_early contact out out' outcome.Memory did
+  of_taken contact input input' out out' outcome.Memory (inr did) = of_ran contact (in_errand clients contact did.bytes) out out' outcome.Memory did.did
+  of_taken contact input input' out out' came did = of_ran contact (in_errand clients contact did.bytes) out out' came did.did
+
+  of_mailed : (asked : Sending) (out out' : Stream) (came : Outcome) → HasSentMail clients asked old new out out' came → Undamaged clients old new
+  of_mailed asked out out' outcome.NoStore did = of_early asked.contact out out' outcome.NoStore did
+  of_mailed asked out out' (outcome.Damaged place) did = of_early asked.contact out out' (outcome.Damaged place) did
+  of_mailed asked out out' (outcome.Refused why) did = of_early asked.contact out out' (outcome.Refused why) did
+  of_mailed asked out out' outcome.DiskFault (inl did) = of_early asked.contact out out' outcome.DiskFault did
+  of_mailed asked out out' outcome.DiskFault (inr did) = of_ran asked.contact (out_errand clients asked did.now) out out' outcome.DiskFault did.did
+  of_mailed asked out out' outcome.Memory (inl did) = of_early asked.contact out out' outcome.Memory did
+  of_mailed asked out out' outcome.Memory (inr did) = of_ran asked.contact (out_errand clients asked did.now) out out' outcome.Memory did.did
+  of_mailed asked out out' came did = of_ran asked.contact (out_errand clients asked did.now) out out' came did.did
 
   module _ (group : Id) (timestamp : ℕ) (input input' out out' : Stream) where
     of_stopped : (came : Outcome) → StopsShort clients group old new input input' out out' came → Undamaged clients old new
@@ -179,4 +219,12 @@ module _ {H : Type 0} (tells : H → Outside) (clients : Meaning) (h h' : H) (in
   undamaged (Do command.Compact) comes keeps covered =
       of_store clients (tells h) (tells h') (λ o. HasCompacted clients (tells h) (tells h') out out' o × IsIdle input input') input input' out out' came
       (λ did. of_compacted clients (tells h) (tells h') out out' came did.0) comes
+  undamaged (Do (command.MailboxIn contact)) comes keeps covered =
+      of_store clients (tells h) (tells h')
+      (λ o. HasTakenMail clients contact (tells h) (tells h') input input' out out' o)
+      input input' out out' came (λ did. of_taken clients (tells h) (tells h') contact input input' out out' came did) comes
+  undamaged (Do (command.MailboxOut contact latency count)) comes keeps covered =
+      of_store clients (tells h) (tells h')
+      (λ o. HasSentMail clients (sending_of contact latency count) (tells h) (tells h') out out' o × IsIdle input input')
+      input input' out out' came (λ did. of_mailed clients (tells h) (tells h') (sending_of contact latency count) out out' came did.0) comes
   undamaged (Do (command.Sync turns quiet links)) comes keeps covered = of_run clients (tells h) (tells h') links covered

@@ -6,6 +6,7 @@ use Rattle.std.specs.List.{list_any}
 use Rattle.outside.specs.declared.limits.TheConstants.{MAX_JOURNAL}
 use Rattle.outside.specs.Faults.{Rose}
 use Rattle.outside.specs.Files.{Two, File}
+use Rattle.outside.specs.Host.{ReadsClock}
 use Rattle.outside.specs.Links.{HeardOn}
 use Rattle.outside.specs.Outside.{Outside}
 use Rattle.outside.specs.Streams.{Stream}
@@ -29,7 +30,7 @@ use Rattle.sync_words.specs.declared.link_words.LinkWords.{LinkWords}
 use Rattle.sync_course.specs.Closing.{Closing}
 use Rattle.sync_words.specs.declared.status.Status.{Status}
 use Rattle.sync_words.specs.declared.status.Status.TheVariants as status
-use Rattle.sync_words.specs.Outcomes.{links_status}
+use Rattle.sync_words.specs.Outcomes.{links_status, status_of}
 use Rattle.commands.specs.Reading.{Asked}
 use Rattle.commands.specs.Reading.Asked.{Usage, Do}
 use Rattle.store_commands.specs.declared.listing.Listing.TheVariants as listing
@@ -44,7 +45,13 @@ use Rattle.tree_commands.specs.Trees.{tree_shown}
 use Rattle.sharing_commands.specs.Agreeing.{AreRoomy}
 use Rattle.sharing_commands.specs.Agreement.{agree_test, agreed_batches}
 use Rattle.sharing_commands.specs.Sayings.{say_plan}
-use Rattle.sync_top.specs.Run.{speech_of}
+use Rattle.mailbox_core.specs.Files.{box_ending}
+use Rattle.mailbox_commands.specs.declared.sending.Sending.{Sending}
+use Rattle.mailbox_commands.specs.declared.taking.TheConstants.{MAX_MAIL}
+use Rattle.mailbox_commands.specs.Errands.{HasErrandRoom, mailbox_test}
+use Rattle.mailbox_commands.specs.Sending.{out_errand}
+use Rattle.mailbox_commands.specs.Taking.{IsMail, in_errand, outcome_at}
+use Rattle.sync_top.specs.Run.{sending_of, speech_of}
 use Rattle.sync_top.specs.declared.input.TheConstants.{MAX_INPUT}
 
 -- ---- nothing stands in the way
@@ -105,6 +112,22 @@ pub record MayCompact (clients : Meaning) (files : Option (Two File)) : Type 0 w
   pub room : HasBriefRoom clients before
   pub next : MayRenew files
 
+-- the files stand for a journal over which the tests of `mailbox in` hold, and there is room for the records of the input
+pub record MayTakeMail (clients : Meaning) (contact : ℕ) (files : Option (Two File)) (input input' : Stream) : Type 0 where
+  pub before : List (List Entry)
+  pub stood : ReadsAs clients files before
+  pub tested : mailbox_test (facts before) contact ≡ None
+  pub room : (bytes : List ℕ) → IsMail input input' bytes → HasErrandRoom clients (in_errand clients contact bytes) before
+  pub next : MayMigrate files
+
+-- the same of `mailbox out`, and for what is due when the clock is read
+pub record MaySendMail (clients : Meaning) (asked : Sending) (old new : Outside) : Type 0 where
+  pub before : List (List Entry)
+  pub stood : ReadsAs clients old.files before
+  pub tested : mailbox_test (facts before) asked.contact ≡ None
+  pub room : (now : ℕ) → ReadsClock now old.links new.links → HasErrandRoom clients (out_errand clients asked now) before
+  pub next : MayMigrate old.files
+
 -- the files stand for a journal of which the command has a text to show
 pub record MayShow (clients : Meaning) (shown : Facts → Showing) (files : Option (Two File)) : Type 0 where
   pub of : List (List Entry)
@@ -142,6 +165,9 @@ Serves clients (command.Say group timestamp join name major descriptor) old new 
     MayAdd clients (say_plan clients (speech_of group timestamp join name major descriptor)) old.files
 Serves clients (command.Agree contact group) old new input input' = MayAgreeOn clients contact group old.files
 Serves clients command.Compact old new input input' = MayCompact clients old.files
+Serves clients (command.MailboxIn contact) old new input input' = MayTakeMail clients contact old.files input input'
+Serves clients (command.MailboxOut contact latency count) old new input input' =
+    MaySendMail clients (sending_of contact latency count) old new
 Serves clients (command.Sync turns quiet links) old new input input' = MaySync clients (record { turns = turns; quiet = quiet }) links old new
 
 -- ---- what it then comes to
@@ -162,6 +188,17 @@ pub record BytesDecide (input input' : Stream) (given : Status) : Type 0 where
   pub consumed : Consumes input.bytes input'.bytes read
   pub whole : (IsAtEnd input'.bytes × (length read ≤ MAX_INPUT)) ⊎ (length read ≡ MAX_INPUT + 1)
   pub decides : given ≡ status_by read
+
+-- by the bytes of a mailbox file: they are too many, or it is how its reading ends
+abbrev pub mail_status : List ℕ → Status
+mail_status read = if nat_lt MAX_MAIL (length read) then status.TooMuch else status_of (outcome_at (box_ending read))
+
+-- The bytes decide: the whole input, or its first bytes, one more than the greatest length.
+pub record MailDecides (input input' : Stream) (given : Status) : Type 0 where
+  pub read : List ℕ
+  pub consumed : Consumes input.bytes input'.bytes read
+  pub whole : (IsAtEnd input'.bytes × (length read ≤ MAX_MAIL)) ⊎ (length read ≡ MAX_MAIL + 1)
+  pub decides : given ≡ mail_status read
 
 -- whole records were heard, and each VERSIONS among them has the version of this node
 pub record HeardWell (heard : List ℕ) : Type 0 where
@@ -198,6 +235,7 @@ pub record CourseDecides (clients : Meaning) (limits : Limits) (words : List Lin
 abbrev pub ComesOut : Meaning → Command → (old new : Outside) → (input input' : Stream) → Status → Type 0
 ComesOut clients (command.Try name descriptor) old new input input' given = BytesDecide input input' given
 ComesOut clients command.Records old new input input' given = BytesDecide input input' given
+ComesOut clients (command.MailboxIn contact) old new input input' given = MailDecides input input' given
 ComesOut clients (command.Sync turns quiet links) old new input input' given = CourseDecides clients (record { turns = turns; quiet = quiet }) links old new given
 ComesOut clients asked old new input input' given = given ≡ status.Done
 

@@ -36,6 +36,9 @@ use Rattle.tree_commands.specs.Trees.{tree_shown}
 use Rattle.sharing_commands.specs.declared.saying.Speech.{Speech}
 use Rattle.sharing_commands.specs.Agreeing.{HasAgreed}
 use Rattle.sharing_commands.specs.Sayings.{say_plan}
+use Rattle.mailbox_commands.specs.declared.sending.Sending.{Sending}
+use Rattle.mailbox_commands.specs.Sending.{HasSentMail}
+use Rattle.mailbox_commands.specs.Taking.{HasTakenMail}
 use Rattle.sync_top.specs.RecordText.{items_text}
 use Rattle.commands.specs.Reading.{Asked}
 use Rattle.commands.specs.Reading.Asked.{Usage, Do}
@@ -133,6 +136,10 @@ speech_of group timestamp join name major descriptor = record {
   def = record { name = name; major = major; descriptor = descriptor };
 }
 
+-- what the words of `mailbox out` ask for
+abbrev pub sending_of : (contact latency count : ℕ) → Sending
+sending_of contact latency count = record { contact = contact; latency = latency; count = count }
+
 -- what the words ask for, and what it comes to
 abbrev pub Comes : Meaning → Asked → (old new : Outside) → (input input' out out' : Stream) → Outcome → Type 0
 Comes clients (Usage place) old new input input' out out' came = Faulty place input input' out out' came
@@ -166,6 +173,11 @@ Comes clients (Do (command.Agree contact group)) old new input input' out out' c
     ComesOfStore (λ did. HasAgreed clients contact group old new out out' did × IsIdle input input') old new input input' out out' came
 Comes clients (Do command.Compact) old new input input' out out' came =
     ComesOfStore (λ did. HasCompacted clients old new out out' did × IsIdle input input') old new input input' out out' came
+Comes clients (Do (command.MailboxIn contact)) old new input input' out out' came =
+    ComesOfStore (λ did. HasTakenMail clients contact old new input input' out out' did) old new input input' out out' came
+Comes clients (Do (command.MailboxOut contact latency count)) old new input input' out out' came =
+    ComesOfStore (λ did. HasSentMail clients (sending_of contact latency count) old new out out' did × IsIdle input input')
+    old new input input' out out' came
 Comes clients (Do (command.Sync turns quiet links)) old new input input' out out' came =
     ComesOfStore (λ did. HasRun clients (record { turns = turns; quiet = quiet }) links old new did × Untouched input input' out out') old new input input' out out' came
 

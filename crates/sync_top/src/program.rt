@@ -15,6 +15,7 @@ use crate::laws::runs_are_sound;
 use crate::streams::{group_of, list_records, try_group};
 use commands::{Command, read_words};
 use journal_play::play_says;
+use mailbox_commands::{Sending, send_mail, take_mail};
 use outside::{Host, Sink, Source, write_text};
 use sharing_commands::{Speech, agree, say};
 use std::alloc::Global;
@@ -33,7 +34,8 @@ use tree_commands::{Window, print_tree};
 /// name; `hasher` is for the tables whose keys a stranger chooses. For the words of `sync` no link
 /// was made on the host. A failing `err` never changes the status. Where the tests of a command
 /// hold, its files serve, there is room and no call fails, it is done, unless memory is wanting;
-/// but that for `try` and `records` the bytes decide, and for `sync` its course.
+/// but that for `try`, `records`
+/// and `mailbox in` the bytes decide, and for `sync` its course.
 pub fn run<H: Host, S: Source, W: Sink, E: Sink, C: Clients>(
     alloc: Global,
     hasher: RandomState,
@@ -175,6 +177,17 @@ fn obey<H: Host, S: Source, W: Sink, C: Clients>(
             agree(alloc, hasher, contact, &group, host, out, clients)
         }
         Command::Compact => compact(alloc, hasher, host, out, clients),
+        Command::MailboxIn(contact) => {
+            take_mail(alloc, hasher, contact, host, input, out, clients)
+        }
+        Command::MailboxOut(contact, latency, count) => {
+            let sending = Sending {
+                contact,
+                latency,
+                count,
+            };
+            send_mail(alloc, hasher, sending, host, out, clients)
+        }
         Command::Sync(_, _, _) => unreachable!(),
     }
 }

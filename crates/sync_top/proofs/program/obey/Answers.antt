@@ -74,3 +74,14 @@ pub returns-in-Compact-clause-comes : goal.returns-in-Compact-clause-comes
 returns-in-Compact-clause-comes g c =
     as_command (g.C.Clients.meaning c.args.clients.now) c.args.asked command.Compact _ _ _ _ _ _ _ c.in-Compact.is
     (inl (c.compact.ensures, (record { same = refl; same_faults = refl })))
+
+pub returns-in-MailboxIn-clause-comes : goal.returns-in-MailboxIn-clause-comes
+returns-in-MailboxIn-clause-comes g c =
+    as_command (g.C.Clients.meaning c.args.clients.now) c.args.asked (command.MailboxIn c.in-MailboxIn.contact) _ _ _ _ _ _
+    _ c.in-MailboxIn.is (inl c.take_mail.ensures)
+
+pub returns-in-MailboxOut-clause-comes : goal.returns-in-MailboxOut-clause-comes
+returns-in-MailboxOut-clause-comes g c =
+    as_command (g.C.Clients.meaning c.args.clients.now) c.args.asked
+    (command.MailboxOut c.in-MailboxOut.contact c.in-MailboxOut.latency c.in-MailboxOut.count) _ _ _ _ _ _ _
+    c.in-MailboxOut.is (inl (c.send_mail.ensures, (record { same = refl; same_faults = refl })))

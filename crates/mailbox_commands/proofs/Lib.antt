@@ -1,0 +1,4 @@
+mod Errands
+mod Early
+mod Taken
+mod Sent
