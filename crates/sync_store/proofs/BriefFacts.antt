@@ -23,5 +23,4 @@ left_without f = left_same f f.held
 
 pub settled_without : (clients : Meaning) (f : Facts) → IsSettled clients f → IsSettled clients (without_sessions f)
 settled_without clients f settled =
-    same_next clients f (without_sessions f)
-    (record { groups = refl; held = refl; judged = refl; invalid = refl; delivered = refl }) ∙ settled
+    same_next clients f (without_sessions f) (record { groups = refl; held = refl; judged = refl; invalid = refl; delivered = refl }) ∙ settled

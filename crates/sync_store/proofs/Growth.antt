@@ -88,8 +88,7 @@ stepped_store clients s new es store settling facts end limit format =
     }
 
 -- a store that is ready is so once there is room for a batch
-pub ready_same : (clients : Meaning) (s new : StoreValue) (files : Option (Two File)) → IsReady clients s files
-    → IsSame s new → new.state.answers ≡ s.state.answers → new.closed ≡ false
+pub ready_same : (clients : Meaning) (s new : StoreValue) (files : Option (Two File)) → IsReady clients s files → IsSame s new → new.state.answers ≡ s.state.answers → new.closed ≡ false
     → IsReady clients new files
 ready_same clients s new files ready same answers still = record {
   still_open = still;

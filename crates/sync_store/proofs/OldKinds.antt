@@ -24,8 +24,7 @@ abbrev AreOld : List Entry → Type 0
 AreOld es = AllByRecursion IsOld es
 
 -- each format has the older kinds
-pub kinds_of : (format : Format) (batch : List Entry) → AllByRecursion IsOld batch
-    → AllByRecursion (IsOfFormat format) batch
+pub kinds_of : (format : Format) (batch : List Entry) → AllByRecursion IsOld batch → AllByRecursion (IsOfFormat format) batch
 kinds_of format [] old = tt
 kinds_of format (e ∷ es) old = (of_old format e old.0, kinds_of format es old.1)
 
@@ -52,17 +51,13 @@ one_old false e es one others = others
 
 acks_old : (f : Facts) (s c : ℕ) (ids : List Id) → AreOld (taken_acks f s c ids)
 acks_old f s c [] = tt
-acks_old f s c (id ∷ ids) =
-    one_old (is_shown f c id && not (row_at f.rows c id).seen) (entry.Seen s id) (taken_acks f s c ids) tt
-    (acks_old f s c ids)
+acks_old f s c (id ∷ ids) = one_old (is_shown f c id && not (row_at f.rows c id).seen) (entry.Seen s id) (taken_acks f s c ids) tt (acks_old f s c ids)
 
 requests_old : (f : Facts) (s c : ℕ) (ids : List Id) → AreOld (taken_requests f s c ids)
 requests_old f s c [] = tt
-requests_old f s c (id ∷ ids) =
-    one_old (is_shown f c id) (entry.Asked s id) (taken_requests f s c ids) tt (requests_old f s c ids)
+requests_old f s c (id ∷ ids) = one_old (is_shown f c id) (entry.Asked s id) (taken_requests f s c ids) tt (requests_old f s c ids)
 
-both_old : (a b : Bool) (d e : Entry) (es : List Entry) → IsOld d → IsOld e → AreOld es
-    → AreOld ((one_if a d ++ one_if b e) ++ es)
+both_old : (a b : Bool) (d e : Entry) (es : List Entry) → IsOld d → IsOld e → AreOld es → AreOld ((one_if a d ++ one_if b e) ++ es)
 both_old true true d e es first second others = (first, (second, others))
 both_old true false d e es first second others = (first, others)
 both_old false true d e es first second others = (second, others)
@@ -72,8 +67,7 @@ offers_old : (f : Facts) (s c room : ℕ) (ids : List Id) → AreOld (taken_offe
 offers_old f s c room [] = tt
 offers_old f s c room (id ∷ ids) =
     let later = room_after (is_remembered f c room id) room in
-    both_old (is_shown f c id) (is_remembered f c room id) (entry.Again s id) (entry.Offered s id)
-    (taken_offers f s c later ids) tt tt (offers_old f s c later ids)
+    both_old (is_shown f c id) (is_remembered f c room id) (entry.Again s id) (entry.Offered s id) (taken_offers f s c later ids) tt tt (offers_old f s c later ids)
 
 came_old : (b : Bool) (s : ℕ) (m : MessageValue) → AreOld (one_if b (entry.Again s (message_id_of m)))
 came_old true s m = (tt, tt)
@@ -85,8 +79,7 @@ held_old f s c m (Some h) = came_old (not (is_invisible (level_at f.levels c h.m
 
 message_old : (f : Facts) (s c : ℕ) (m : MessageValue) → AreOld (taken_message f s c m)
 message_old f s c m =
-    let came = taken_message_of f s c m (held_at f.held (message_id_of m)) in
-    elim (is_welcome f c m.group) as (λ b. AreOld (cond b came [])) [
+    elim (is_welcome f c m.group) as (λ b. AreOld (cond b (taken_message_of f s c m (held_at f.held (message_id_of m))) [])) [
       | true ↦ held_old f s c m (held_at f.held (message_id_of m))
       | false ↦ tt
     ]
@@ -104,15 +97,13 @@ taken_old f s c (record_kind.Priority nonce) = tt
 alone : (e : Entry) (rest : List Entry) → rest ≡ [] → IsOld e → AreOld (e ∷ rest)
 alone e rest none old = (old, subst AreOld (sym none) tt)
 
-pub allowed_old : (clients : Meaning) (f : Facts) (batch : List Entry) → Allowed clients f batch
-    → is_account_kind batch ≡ false → AllByRecursion IsOld batch
+pub allowed_old : (clients : Meaning) (f : Facts) (batch : List Entry) → Allowed clients f batch → is_account_kind batch ≡ false → AllByRecursion IsOld batch
 allowed_old clients f [] is plain = absurd is
 allowed_old clients f (entry.Contact c ∷ rest) is plain = alone (entry.Contact c) rest is.0 tt
 allowed_old clients f (entry.Group def ∷ rest) is plain = alone (entry.Group def) rest is.0 tt
 allowed_old clients f (entry.Level c g l ∷ rest) is plain = alone (entry.Level c g l) rest is.0 tt
 allowed_old clients f (entry.Session s ∷ rest) is plain = alone (entry.Session s) rest is.0 tt
-allowed_old clients f (entry.Take s k ∷ rest) is plain =
-    (tt, subst AreOld (sym is.1.taken_so) (taken_old f s (contact_of f.sessions s) is.1.read))
+allowed_old clients f (entry.Take s k ∷ rest) is plain = (tt, subst AreOld (sym is.1.taken_so) (taken_old f s (contact_of f.sessions s) is.1.read))
 allowed_old clients f (entry.Author m ∷ rest) is plain = alone (entry.Author m) rest is.0 tt
 allowed_old clients f (entry.Arrive s m ∷ rest) is plain = absurd is
 allowed_old clients f (entry.Judged id ∷ rest) is plain = settling_old clients f (entry.Judged id ∷ rest) is.2

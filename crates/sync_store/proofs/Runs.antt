@@ -169,32 +169,27 @@ between_or_brief j more whole (inl own) = inl (record { front = more; rest = [];
 between_or_brief j more whole (inr short) = inr short
 
 -- at each moment the files stand for the journal with a front of the batches, or for the brief account of it with all of them
-pub leads_compacted : (clients : Meaning) (s0 s1 s2 : StoreValue) (result : Result (Unit {0}) StoreFault)
-    (o0 o1 o2 : Outside) (more : List (List Entry)) → s1.closed ≡ false → DiskRun o0 o1
-    → LeadsBy clients s0 s1 o0 o1 more → LeadsToBrief clients s1 s2 result o1 o2
-    → (two : Two File) → o0.files ≡ Some two → (j : List (List Entry)) → Fits clients s0 j two
+pub leads_compacted : (clients : Meaning) (s0 s1 s2 : StoreValue) (result : Result (Unit {0}) StoreFault) (o0 o1 o2 : Outside) (more : List (List Entry)) → s1.closed ≡ false → DiskRun o0 o1
+    → LeadsBy clients s0 s1 o0 o1 more → LeadsToBrief clients s1 s2 result o1 o2 → (two : Two File) → o0.files ≡ Some two → (j : List (List Entry)) → Fits clients s0 j two
     → Leads clients (IsBetweenOrBrief j more) (λ whole. whole ≡ compacted_by (j ++ more) result) s2 o0 o2
 leads_compacted clients s0 s1 s2 result o0 o1 o2 more still run first second two told j fits =
     let begun = first two told j fits in
     let there = told_on o0 o1 two run.same_told told in
     let mid = begun.ends still there.0 there.1 in
-    let fits1 = subst (λ (k : List (List Entry)). Fits clients s1 k there.0) mid.1 mid.2 in
-    let later = second there.0 there.1 (j ++ more) fits1 in
+    let later = second there.0 there.1 (j ++ more) (subst (λ (k : List (List Entry)). Fits clients s1 k there.0) mid.1 mid.2) in
     let same : sent_of o1.links.told ≡ sent_of o0.links.told = ap (λ (l : Links). sent_of l.told) run.same_links in
     let sent0 = sent_of o0.links.told in
     record {
       moments =
           moments_then o0 o1 o2 (JournalMoment clients (IsBetweenOrBrief j more) sent0)
-          (moments_map o0 o1 (JournalMoment clients (IsBetween j more) sent0)
-          (JournalMoment clients (IsBetweenOrBrief j more) sent0)
+          (moments_map o0 o1 (JournalMoment clients (IsBetween j more) sent0) (JournalMoment clients (IsBetweenOrBrief j more) sent0)
           (λ m moment. record {
             whole = moment.whole;
             has = inl moment.has;
             stands_for = moment.stands_for;
             nothing_sent = moment.nothing_sent;
           }) begun.moments)
-          (moments_map o1 o2 (JournalMoment clients (IsOrBrief (j ++ more)) (sent_of o1.links.told))
-          (JournalMoment clients (IsBetweenOrBrief j more) sent0)
+          (moments_map o1 o2 (JournalMoment clients (IsOrBrief (j ++ more)) (sent_of o1.links.told)) (JournalMoment clients (IsBetweenOrBrief j more) sent0)
           (λ m moment. record {
             whole = moment.whole;
             has = between_or_brief j more moment.whole moment.has;

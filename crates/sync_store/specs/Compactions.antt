@@ -25,8 +25,8 @@ pub record MayShorten (clients : Meaning) (s : StoreValue) : Type 0 where
   pub generation : s.generation < 2 ^ 64 - 1
   pub roomy : compacted_len clients s.state.facts ≤ s.limit
 
--- The journal is the brief account, which is in the other file, in format 2 and with the next generation. No session goes
--- on, no step is left, and all else that contracts see of the store is as before.
+-- The journal is the brief account, which is in the other file, in format 2 and with the next generation. No session goes on, no
+-- step is left, and all else that contracts see of the store is as before.
 pub record Shortens (clients : Meaning) (old new : StoreValue) : Type 0 where
   pub may : MayShorten clients old
   pub facts : new.state.facts ≡ without_sessions old.state.facts
@@ -39,8 +39,8 @@ pub record Shortens (clients : Meaning) (old new : StoreValue) : Type 0 where
   pub limit : new.limit ≡ old.limit
   pub closed : new.closed ≡ false
 
--- Full comes exactly where the brief account is too long or has no generation, but that memory may be wanting before that
--- is known. After both all is as before, and after DiskFault too, but that the store is closed then.
+-- Full comes exactly where the brief account is too long or has no generation, but that memory may be wanting before that is
+-- known. After both all is as before, and after DiskFault too, but that the store is closed then.
 abbrev pub CompactsSo : Meaning → StoreValue → StoreValue → Result (Unit {0}) StoreFault → Type 0
 CompactsSo clients old new (Ok _) = Shortens clients old new
 CompactsSo clients old new (Err fault.Closed) = ⊥
@@ -61,15 +61,14 @@ IsOrBrief j whole = (whole ≡ j) ⊎ (whole ≡ brief j)
 abbrev pub IsBetweenOrBrief : List (List Entry) → List (List Entry) → List (List Entry) → Type 0
 IsBetweenOrBrief j more whole = IsBetween j more whole ⊎ (whole ≡ brief (j ++ more))
 
--- whatever journal the disk fits: at each moment the files stand for it or for its brief account, and in the end, unless
--- the store is closed, the disk fits the store with the one of the answer
+-- whatever journal the disk fits: at each moment the files stand for it or for its brief account, and in the end, unless the store
+-- is closed, the disk fits the store with the one of the answer
 abbrev pub LeadsToBrief : Meaning → StoreValue → StoreValue → Result (Unit {0}) StoreFault → Outside → Outside → Type 0
 LeadsToBrief clients old new result o o' =
     (two : Two File) → o.files ≡ Some two → (j : List (List Entry)) → Fits clients old j two
     → Leads clients (IsOrBrief j) (λ whole. whole ≡ compacted_by j result) new o o'
 
 -- a store that is not closed was compacted, as far as the answer says
-pub record HasCompacted (clients : Meaning) (old new : StoreValue) (result : Result (Unit {0}) StoreFault)
-    (o o' : Outside) : Type 0 where
+pub record HasCompacted (clients : Meaning) (old new : StoreValue) (result : Result (Unit {0}) StoreFault) (o o' : Outside) : Type 0 where
   pub answer : CompactsSo clients old new result
   pub leads : LeadsToBrief clients old new result o o'
