@@ -3,6 +3,7 @@ ghost use Rattle.std.specs.Prelude.{◌≡◌, ◌<◌, []};
 ghost use Rattle.outside.specs.declared.limits.TheConstants.{LINKS};
 ghost use Rattle.sync_node.specs.Node.{MayRun};
 ghost use Rattle.sync_rules.specs.Steps.{IsSettled};
+ghost use Rattle.sync_rules.specs.declared.limits.TheConstants.{MAX_SESSIONS};
 
 use crate::hosts::{CONTACT, LATENCY};
 use crate::opened::open;
@@ -70,6 +71,7 @@ impl<H: Host + Drop, C: Clients + Drop> NodeSide<H, C> {
 fn attach<H: Host, C: Clients>(node: &mut Node, host: &mut H, clients: &C) -> Result<(), Stop>
     requires may { MayRun (C.meaning clients.now) node.old (H.tells host.old) }
     requires settled { IsSettled (C.meaning clients.now) node.old.store.state.facts }
+    requires begun { node.old.store.state.facts.begun < MAX_SESSIONS }
     requires contact { 0 < node.old.store.state.facts.contacts }
     requires first { node.old.links ≡ [] }
     requires dialled { 0 < (H.tells host.old).links.dialled }

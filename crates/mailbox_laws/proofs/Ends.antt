@@ -73,7 +73,7 @@ module _ (clients : Meaning) (contact : ℕ) (s t f g : Facts) (rs qs : List Rec
   there_back id x e =
       elim (b.stands.came id x e) [
         | inl was ↦ inl (ap (λ (y : Effect). y.held x.message) alike.effect ∙ holds_at t.held x
-        (held_at-In t.held id x was))
+            (held_at-In t.held id x was))
         | inr c ↦ inr ((same (record_kind.Message x.message)).1 c.stands)
       ]
 
@@ -91,8 +91,12 @@ module _ (clients : Meaning) (contact : ℕ) (s t f g : Facts) (rs qs : List Rec
             let at : held_at g.held id ≡ Some x.it = ap (held_at g.held) c.named ∙ x.is in
             let one : message_id_of x.it.message ≡ message_id_of h.message = sym (b.end_names.each id x.it at).is_id
             ∙ c.named in
-            record { found = x.it; at = at; same = own x.it.message h.message (there_back id x.it at) (inr c.stands)
-                one }
+            record {
+              found = x.it;
+              at = at;
+              same = own x.it.message h.message (there_back id x.it at) (inr c.stands)
+                  one;
+            }
       ]
 
   holds_over : (m : MessageValue) → holds f.held m ≡ true → holds g.held m ≡ true
@@ -153,15 +157,14 @@ module _ (clients : Meaning) (contact : ℕ) (s t f g : Facts) (rs qs : List Rec
   seen_over : (id : Id) → (row_at f.rows contact id).seen ≡ true → (row_at g.rows contact id).seen ≡ true
   seen_over id h =
       b.stands.seen id
-      ∙ elim (or_cases (list_any (shows contact s id) rs) (row_at s.rows contact id).seen (sym (a.stands.seen id) ∙ h))
-      [
+      ∙ elim (or_cases (list_any (shows contact s id) rs) (row_at s.rows contact id).seen (sym (a.stands.seen id) ∙ h)) [
         | inl told ↦
             let x = finds (shows contact s id) rs told in
             or_left (list_any (shows contact t id) qs) (row_at t.rows contact id).seen
             (any_at (shows contact t id) qs x.found ((same x.found).0 x.inside) (shows_over id x.found x.passes))
         | inr was ↦
             or_right (list_any (shows contact t id) qs) (row_at t.rows contact id).seen
-                (ap (λ (y : Effect). y.seen id) (sym alike.effect) ∙ was)
+            (ap (λ (y : Effect). y.seen id) (sym alike.effect) ∙ was)
       ]
 
 -- ---- both ways

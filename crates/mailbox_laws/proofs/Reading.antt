@@ -120,7 +120,7 @@ found_last n [] x below is = ap (λ b. cond b (Some x) None) (eq-eqb x.number n 
 found_last n (s ∷ ss) x below is =
     elim (nat_eq s.number n) as (λ b. nat_eq s.number n ≡ b → cond b (Some s) (session_at (ss ++ x ∷ []) n) ≡ Some x) [
       | true ↦ λ e. let same : s.number ≡ n = eqb-true s.number n e in let less : s.number < n = below.0 in absurd
-      (omega (arith, same, less))
+          (omega (arith, same, less))
       | false ↦ λ e. found_last n ss x below.1 is
     ] refl
 
@@ -131,76 +131,76 @@ box_begun f contact has = found_last f.begun f.sessions (box_session f.begun con
 -- ---- what stands
 
 module _ (clients : Meaning) (contact : ℕ) (s : Facts) (all : List Record) (own : HaveOwnIds s all) (names : HasHeld s)
-    where
-  stands_all : (session k : ℕ) (old : List (List Entry)) (records : List Record) (new : List (List Entry))
-      (done : List Record)
-      → ((x : Record) → In x (done ++ records) → In x all) →
-          (known : is_some (session_at (facts old).sessions session) ≡ true)
-      → contact_of (facts old).sessions session ≡ contact → Stands contact s done (facts old)
-      → HearsAll clients session k old records new
-      → Stands contact s (done ++ records) (facts new)
-  stands_all session k old [] new done within known with_contact st e =
-      subst (λ (ds : List Record). Stands contact s ds (facts new)) (sym (append-nil done))
-      (subst (λ (j : List (List Entry)). Stands contact s done (facts j)) (sym e) st)
-  stands_all session k old (r ∷ rs) new done within known with_contact st h =
-      let mid : List (List Entry) = h.0 in
-      let pushed : List (List Entry) = old ++ take_batch old session k r ∷ [] in
-      let whole : (done ++ r ∷ []) ++ rs ≡ done ++ r ∷ rs = append_assoc done (r ∷ []) rs in
-      let heard_so : Stands contact s (done ++ r ∷ []) (heard (facts old) session k r) =
-      stands_heard contact s all own names done (facts old) st
-      (λ x i. within x (In-append_left x done (r ∷ rs) i)) session k r
-      (within r (In-append_right r done (r ∷ rs) (inl refl))) with_contact in
-      let taken_so : Stands contact s (done ++ r ∷ []) (facts pushed) =
-      subst (Stands contact s (done ++ r ∷ [])) (sym (facts-push old (take_batch old session k r))) heard_so in
-      let settled_so : Stands contact s (done ++ r ∷ []) (facts mid) =
-      stands_settled contact s (facts pushed) (facts mid) (done ++ r ∷ [])
-      (settles_only clients pushed mid (h.1).settles) taken_so in
-      let longer : Extends mid old = hears_extends clients session k r old mid h.1 in
-      let stays : Stays (facts old) (facts mid) session =
-      subst (λ (g : Facts). Stays (facts old) g session) (sym (facts_of_longer mid old longer))
-          (stays_batches (facts old) longer.0 session known) in
-      subst (λ (ds : List Record). Stands contact s ds (facts new)) whole
-      (stands_all session (k + 1) mid rs new (done ++ r ∷ []) (λ x i. within x (subst (In x) whole i)) stays.known
-      (stays.contact ∙ with_contact) settled_so h.2)
+  where
+    stands_all : (session k : ℕ) (old : List (List Entry)) (records : List Record) (new : List (List Entry))
+        (done : List Record)
+        → ((x : Record) → In x (done ++ records) → In x all) →
+        (known : is_some (session_at (facts old).sessions session) ≡ true)
+        → contact_of (facts old).sessions session ≡ contact → Stands contact s done (facts old)
+        → HearsAll clients session k old records new
+        → Stands contact s (done ++ records) (facts new)
+    stands_all session k old [] new done within known with_contact st e =
+        subst (λ (ds : List Record). Stands contact s ds (facts new)) (sym (append-nil done))
+        (subst (λ (j : List (List Entry)). Stands contact s done (facts j)) (sym e) st)
+    stands_all session k old (r ∷ rs) new done within known with_contact st h =
+        let mid : List (List Entry) = h.0 in
+        let pushed : List (List Entry) = old ++ take_batch old session k r ∷ [] in
+        let whole : (done ++ r ∷ []) ++ rs ≡ done ++ r ∷ rs = append_assoc done (r ∷ []) rs in
+        let heard_so : Stands contact s (done ++ r ∷ []) (heard (facts old) session k r) =
+        stands_heard contact s all own names done (facts old) st
+        (λ x i. within x (In-append_left x done (r ∷ rs) i)) session k r
+        (within r (In-append_right r done (r ∷ rs) (inl refl))) with_contact in
+        let taken_so : Stands contact s (done ++ r ∷ []) (facts pushed) =
+        subst (Stands contact s (done ++ r ∷ [])) (sym (facts-push old (take_batch old session k r))) heard_so in
+        let settled_so : Stands contact s (done ++ r ∷ []) (facts mid) =
+        stands_settled contact s (facts pushed) (facts mid) (done ++ r ∷ [])
+        (settles_only clients pushed mid (h.1).settles) taken_so in
+        let longer : Extends mid old = hears_extends clients session k r old mid h.1 in
+        let stays : Stays (facts old) (facts mid) session =
+        subst (λ (g : Facts). Stays (facts old) g session) (sym (facts_of_longer mid old longer))
+        (stays_batches (facts old) longer.0 session known) in
+        subst (λ (ds : List Record). Stands contact s ds (facts new)) whole
+        (stands_all session (k + 1) mid rs new (done ++ r ∷ []) (λ x i. within x (subst (In x) whole i)) stays.known
+        (stays.contact ∙ with_contact) settled_so h.2)
 
-  pub stands_box : (old : List (List Entry)) (records : List Record) (new : List (List Entry)) (done : List Record)
-      → ((x : Record) → In x (done ++ records) → In x all) → Legal clients new → Stands contact s done (facts old)
-          → ReadsBox clients contact old records new
-      → Stands contact s (done ++ records) (facts new)
-  stands_box old records new done within legal st box =
-      let f : Facts = facts box.before in
-      let g : Facts = facts (with_box contact box.before) in
-      let begun : g ≡ after f (entry.Session (box_session f.begun contact)) = with_box_facts contact box.before in
-      let before_legal : Legal clients box.before = prefix_legal clients new box.before
-      (box_extends clients contact old records new box) legal in
-      let found : session_at g.sessions f.begun ≡ Some (box_session f.begun contact) =
-      ap (λ (x : Facts). session_at x.sessions f.begun) begun ∙ box_begun f contact
-      (legal_sessions clients box.before before_legal) in
-      let settled_so : Stands contact s done f = stands_settled contact s (facts old) f done
-      (settles_only clients old box.before box.settles) st in
-      let begun_so : Stands contact s done (after f (entry.Session (box_session f.begun contact))) =
-      stands_same contact s f (after f (entry.Session (box_session f.begun contact)))
-      done refl refl refl refl settled_so in
-      stands_all f.begun 0 (with_box contact box.before) records new done within (ap is_some found)
-      (ap contact_in found)
-      (subst (Stands contact s done) (sym begun) begun_so) box.hears
+    pub stands_box : (old : List (List Entry)) (records : List Record) (new : List (List Entry)) (done : List Record)
+        → ((x : Record) → In x (done ++ records) → In x all) → Legal clients new → Stands contact s done (facts old)
+        → ReadsBox clients contact old records new
+        → Stands contact s (done ++ records) (facts new)
+    stands_box old records new done within legal st box =
+        let f : Facts = facts box.before in
+        let g : Facts = facts (with_box contact box.before) in
+        let begun : g ≡ after f (entry.Session (box_session f.begun contact)) = with_box_facts contact box.before in
+        let before_legal : Legal clients box.before = prefix_legal clients new box.before
+        (box_extends clients contact old records new box) legal in
+        let found : session_at g.sessions f.begun ≡ Some (box_session f.begun contact) =
+        ap (λ (x : Facts). session_at x.sessions f.begun) begun ∙ box_begun f contact
+        (legal_sessions clients box.before before_legal) in
+        let settled_so : Stands contact s done f = stands_settled contact s (facts old) f done
+        (settles_only clients old box.before box.settles) st in
+        let begun_so : Stands contact s done (after f (entry.Session (box_session f.begun contact))) =
+        stands_same contact s f (after f (entry.Session (box_session f.begun contact)))
+        done refl refl refl refl settled_so in
+        stands_all f.begun 0 (with_box contact box.before) records new done within (ap is_some found)
+        (ap contact_in found)
+        (subst (Stands contact s done) (sym begun) begun_so) box.hears
 
-  pub stands_boxes : (old : List (List Entry)) (files : List (List Record)) (new : List (List Entry))
-      (done : List Record)
-      → ((x : Record) → In x (done ++ joined files) → In x all) → Legal clients new → Stands contact s done (facts old)
-          → ReadsBoxes clients contact old files new
-      → Stands contact s (done ++ joined files) (facts new)
-  stands_boxes old [] new done within legal st e =
-      subst (λ (ds : List Record). Stands contact s ds (facts new)) (sym (append-nil done))
-      (subst (λ (j : List (List Entry)). Stands contact s done (facts j)) (sym e) st)
-  stands_boxes old (records ∷ rest) new done within legal st b =
-      let whole : (done ++ records) ++ joined rest ≡ done ++ (records ++ joined rest) = append_assoc done records
-      (joined rest) in
-      let mid_legal : Legal clients b.0 = prefix_legal clients new b.0 (boxes_extend clients contact b.0 rest new b.2)
-      legal in
-      let inside : (x : Record) → In x ((done ++ records) ++ joined rest) → In x all = λ x i. within x
-      (subst (In x) whole i) in
-      subst (λ (ds : List Record). Stands contact s ds (facts new)) whole
-      (stands_boxes b.0 rest new (done ++ records) inside legal
-      (stands_box old records b.0 done (λ x i. inside x (In-append_left x (done ++ records) (joined rest) i))
-      mid_legal st b.1) b.2)
+    pub stands_boxes : (old : List (List Entry)) (files : List (List Record)) (new : List (List Entry))
+        (done : List Record)
+        → ((x : Record) → In x (done ++ joined files) → In x all) → Legal clients new → Stands contact s done (facts old)
+        → ReadsBoxes clients contact old files new
+        → Stands contact s (done ++ joined files) (facts new)
+    stands_boxes old [] new done within legal st e =
+        subst (λ (ds : List Record). Stands contact s ds (facts new)) (sym (append-nil done))
+        (subst (λ (j : List (List Entry)). Stands contact s done (facts j)) (sym e) st)
+    stands_boxes old (records ∷ rest) new done within legal st b =
+        let whole : (done ++ records) ++ joined rest ≡ done ++ (records ++ joined rest) = append_assoc done records
+        (joined rest) in
+        let mid_legal : Legal clients b.0 = prefix_legal clients new b.0 (boxes_extend clients contact b.0 rest new b.2)
+        legal in
+        let inside : (x : Record) → In x ((done ++ records) ++ joined rest) → In x all = λ x i. within x
+        (subst (In x) whole i) in
+        subst (λ (ds : List Record). Stands contact s ds (facts new)) whole
+        (stands_boxes b.0 rest new (done ++ records) inside legal
+        (stands_box old records b.0 done (λ x i. inside x (In-append_left x (done ++ records) (joined rest) i))
+        mid_legal st b.1) b.2)

@@ -88,7 +88,6 @@ is_new_or_in : (o : Option Held) → (o ≡ None) ⊎ ((h : Held) × (o ≡ Some
 is_new_or_in None = inl refl
 is_new_or_in (Some h) = inr (h, refl)
 
-
 -- ---- one record more
 
 module _ (contact : ℕ) (s : Facts) (all : List Record) (own : HaveOwnIds s all) (names : HasHeld s) where
@@ -123,12 +122,12 @@ module _ (contact : ℕ) (s : Facts) (all : List Record) (own : HaveOwnIds s all
           | inl none ↦
               elim (is_new_or_in (held_at f.held id)) [
                 | inl still ↦ ap (λ b. b || list_any (shows contact s id) done)
-                (ap (is_shown_held f contact) still ∙ ap (is_shown_held s contact) (sym none))
+                    (ap (is_shown_held f contact) still ∙ ap (is_shown_held s contact) (sym none))
                 | inr h ↦
                     elim (st.came id h.0 h.1) [
                       | inl was ↦ absurd (false≢true (sym (ap is_some none) ∙ ap is_some was))
                       | inr c ↦ by_any (is_shown f contact id) (is_shown s contact id)
-                      (list_any (shows contact s id) done)
+                          (list_any (shows contact s id) done)
                           (any_at (shows contact s id) done (record_kind.Message h.0.message) c.stands
                           (and_from (same_id (message_id_of h.0.message) id) (is_welcome s contact h.0.message.group)
                           (ap (λ (x : Id). same_id x id) (sym c.named) ∙ same_id_itself id) c.welcome))
@@ -211,8 +210,12 @@ module _ (contact : ℕ) (s : Facts) (all : List Record) (own : HaveOwnIds s all
     earlier : (r : Record) (id : Id) (m : MessageValue) → CameIn contact s done id m → CameIn contact s (done ++ r ∷ [])
         id m
     earlier r id m c =
-        record { stands = In-append_left (record_kind.Message m) done (r ∷ [])
-            c.stands; welcome = c.welcome; named = c.named }
+        record {
+          stands = In-append_left (record_kind.Message m) done (r ∷ [])
+              c.stands;
+          welcome = c.welcome;
+          named = c.named;
+        }
 
     -- a message that arrived is in this record
     came_more : (r : Record) (id : Id) (h : Held) → held_at (held_by f contact r) id ≡ Some h
@@ -234,7 +237,7 @@ module _ (contact : ℕ) (s : Facts) (all : List Record) (own : HaveOwnIds s all
                 let parts = and_parts (is_welcome f contact m.group) (is_none (held_at f.held (message_id_of m))) a in
                 let stands : In (record_kind.Message h.message) (done ++ r ∷ []) =
                 In-append_right (record_kind.Message h.message) done (r ∷ [])
-                    (inl (ap (λ (x : MessageValue). record_kind.Message x) same ∙ sym is)) in
+                (inl (ap (λ (x : MessageValue). record_kind.Message x) same ∙ sym is)) in
                 inr (record {
                   stands = stands;
                   welcome =
@@ -296,7 +299,7 @@ module _ (contact : ℕ) (s : Facts) (all : List Record) (own : HaveOwnIds s all
         elim (In-push_cases (record_kind.Message m) r done inside) [
           | inl was ↦ still_held r (message_id_of m) (st.holds m was welcome)
           | inr is ↦ subst (λ (x : Record). is_held (held_by f contact x) (message_id_of m) ≡ true) is
-          (now_held m welcome)
+              (now_held m welcome)
         ]
 
     -- ---- together

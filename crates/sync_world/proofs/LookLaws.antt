@@ -160,6 +160,10 @@ entry_brings (entry.Offered s id) is = is.1
 entry_brings (entry.Seen s id) is = tt
 entry_brings (entry.Asked s id) is = tt
 entry_brings (entry.Out s now what) is = tt
+entry_brings (entry.Brief n) is = tt
+entry_brings (entry.Kept from m) is = is.1
+entry_brings (entry.Tried t) is = tt
+entry_brings (entry.Want contact id) is = is.1
 
 batch_brings : (batch rest : List Entry) → AllByRecursion IsEntry batch → AllByRecursion BringsWithin rest → AllByRecursion BringsWithin (batch ++ rest)
 batch_brings [] rest is later = later

@@ -212,22 +212,49 @@ fn counts_from(lines: Lines<'_>, line: &Line<'_>, contact: u8, id: &MessageId) -
     }
 }
 
-/// How many entries stand behind the last one from which tries are counted, or all; and what that
-/// says, if it is a Tried entry.
-fn count_behind(lines: Lines<'_>, contact: u8, id: &MessageId) -> (usize, Option<Tried>) {
+/// From where tries are counted: how many entries stand behind that place, and what is stated there.
+#[derive(Clone, Copy)]
+struct Counted {
+    behind: usize,
+    tries: u8,
+    expiry: u64,
+}
+
+/// Behind so many entries from the end tries are counted, and this is stated there.
+fn count_behind(behind: usize, tried: Option<Tried>) -> Counted {
+    match tried {
+        Some(tried) => Counted {
+            behind,
+            tries: tried.tries,
+            expiry: tried.expiry,
+        },
+        None => Counted {
+            behind,
+            tries: 0,
+            expiry: 0,
+        },
+    }
+}
+
+/// The last entry from which tries are counted, or the place before all.
+fn counted_from(lines: Lines<'_>, contact: u8, id: &MessageId) -> Counted {
     let mut behind = 0usize;
     for line in lines.iter().rev() {
         if counts_from(lines, line, contact, id) {
-            return (behind, tried_in(line, contact, id));
+            return count_behind(behind, tried_in(line, contact, id));
         }
         behind = behind.saturating_add(1);
     }
-    (behind, None)
+    count_behind(behind, None)
 }
 
 /// The time from which the message may be sent or offered to the contact again, in milliseconds.
 pub fn expiry(lines: Lines<'_>, contact: u8, id: &MessageId) -> u64 {
-    let (behind, tried) = count_behind(lines, contact, id);
+    let Counted {
+        behind,
+        tries: before,
+        expiry,
+    } = counted_from(lines, contact, id);
     let tries = lines
         .iter()
         .rev()
@@ -239,10 +266,10 @@ pub fn expiry(lines: Lines<'_>, contact: u8, id: &MessageId) -> u64 {
         .rev()
         .take(behind)
         .find(|line| is_try(lines, line, contact, id));
-    let before = tried.map_or(0, |tried| usize::from(tried.tries));
+    let tries = tries.saturating_add(usize::from(before));
     match last {
-        Some(line) => expiry_after(lines, line, tries.saturating_add(before).min(64) as u32),
-        None => tried.map_or(0, |tried| tried.expiry),
+        Some(line) => expiry_after(lines, line, tries.min(64) as u32),
+        None => expiry,
     }
 }
 
@@ -267,7 +294,10 @@ fn is_delivered(lines: Lines<'_>, id: &MessageId) -> bool {
 
 fn is_authored(lines: Lines<'_>, id: &MessageId) -> bool {
     lines.iter().any(|line| line.brings == Some(*id)
-        && matches!(line.entry, Entry::Author(_) | Entry::Kept(Origin::Author, _)))
+        && matches!(
+            line.entry,
+            Entry::Author(_) | Entry::Kept(Origin::Author, _)
+        ))
 }
 
 /// Whether the held message may be sent to the contact.

@@ -4,6 +4,7 @@ ghost use Rattle.std.specs.Prelude.{IfOk, IsSome, IsTrue};
 ghost use Rattle.std.specs.Option.{option_map};
 ghost use Rattle.journal_state.specs.Whole.{Knows};
 ghost use Rattle.outside.specs.declared.limits.TheConstants.{LINKS};
+ghost use Rattle.sync_rules.specs.declared.limits.TheConstants.{MAX_SESSIONS};
 ghost use Rattle.outside.specs.HostTold.{host_told};
 ghost use Rattle.sync_node.specs.Adding.{IsPlain};
 ghost use Rattle.sync_rules.specs.Allows.{is_settling_kind};
@@ -20,7 +21,7 @@ use std::marker::Model;
 use sync_ids::Nonce;
 use sync_node::{LinkEnd, Node, NodeFault, Plan, Turned};
 use sync_rules::laws::allows_is_allowed;
-use sync_rules::{Batch, Clients, Entry, Mode};
+use sync_rules::{Batch, Clients, Entry, MAX_SESSIONS, Mode};
 use sync_store::Store;
 
 /// A node with its host in memory and its clients. All links that there may be are dialled before
@@ -271,15 +272,17 @@ fn batch_of<C: Clients>(
 // Whether a session may begin on the next link.
 fn may_attach(store: &Store, plan: &Plan, nonce: &Option<Nonce>) -> bool
     ensures contact { IsTrue result → plan.now.contact < store.now.state.facts.contacts }
+    ensures begun { IsTrue result → store.now.state.facts.begun < MAX_SESSIONS }
     ensures latency { IsTrue result → 1 ≤ plan.now.latency }
     ensures nonce { IsTrue result → suits_nonce plan.now.mode nonce.now ≡ true }
     ensures settled { IsTrue result → (clients : Meaning) → Knows clients store.now.state
         → IsSettled clients store.now.state.facts }
 {
     let is_known = u32::from(plan.contact) < store.contacts();
+    let has_number = store.sessions() < MAX_SESSIONS;
     let is_timed = plan.latency >= 1;
     let suits = nonce.is_none() || plan.mode == Mode::Interactive;
-    is_known && is_timed && suits && store.state().is_settled()
+    is_known && has_number && is_timed && suits && store.state().is_settled()
 }
 
 // Whether an entry is one that is added to a node.

@@ -11,6 +11,7 @@ use std::alloc::{AllocError, Global};
 
 // How many bytes a header has, and where in it the generation stands.
 const HEADER: usize = 14;
+
 const GENERATION: usize = 6;
 
 // How many images had the journal that was compacted, and how many its brief account; and how many
@@ -85,7 +86,11 @@ fn look_at(alloc: Global, image: &MemDisk, done: &MemDisk, images: &mut Images) 
 // generation then is.
 fn ends_as(alloc: Global, image: &MemDisk, done: &MemDisk) -> Result<bool> {
     let shown = on(alloc, "show", Stage::over(alloc, copy_of(alloc, image)?)?)?;
-    let again = on(alloc, "compact", Stage::over(alloc, copy_of(alloc, image)?)?)?;
+    let again = on(
+        alloc,
+        "compact",
+        Stage::over(alloc, copy_of(alloc, image)?)?,
+    )?;
     let same = frames_of(again.host().disk())? == frames_of(done)?;
     Ok(same & (shown.status == 0) & (again.status == 0))
 }

@@ -8,13 +8,18 @@ use sync_ids::{Fixed, Message, MessageId};
 use sync_rules::{Batch, Entry, Origin, Tried};
 
 const BRIEF: u8 = 16;
+
 const KEPT: u8 = 17;
+
 const TRIED: u8 = 18;
+
 const WANT: u8 = 19;
+
 const AUTHOR: u8 = 6;
 
 /// How long an entry of the last two kinds is.
 const TRIED_LEN: usize = 16;
+
 const WANT_LEN: usize = 34;
 
 /// Whether a payload begins with one of these kinds.
@@ -60,7 +65,11 @@ fn read_rows(alloc: Global, payload: &[u8], ids: &[MessageId]) -> Result<Batch> 
     let mut rest = payload;
     for _ in 0..payload.len() {
         if !rest.is_empty() {
-            let len = if rest[0] == TRIED { TRIED_LEN } else { WANT_LEN };
+            let len = if rest[0] == TRIED {
+                TRIED_LEN
+            } else {
+                WANT_LEN
+            };
             let (front, behind) = rest.split_at_checked(len).context("a row")?;
             entries.push(read_row(front, ids)?)?;
             rest = behind;
@@ -83,9 +92,7 @@ fn read_row(row: &[u8], ids: &[MessageId]) -> Result<Entry> {
                 expiry: u64::from_be_bytes(<[u8; 8]>::try_from(expiry)?),
             }))
         }
-        [WANT, contact, id @ ..] => {
-            Ok(Entry::Want(*contact, Fixed(<[u8; 32]>::try_from(id)?)))
-        }
+        [WANT, contact, id @ ..] => { Ok(Entry::Want(*contact, Fixed(<[u8; 32]>::try_from(id)?))) }
         _ => bail!("no row"),
     }
 }

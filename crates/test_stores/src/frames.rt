@@ -43,7 +43,9 @@ pub(crate) fn read_whole(alloc: Global, whole: &[u8]) -> Result<Batch> {
 /// Adds the ids of the messages that entries bring.
 fn add_ids(ids: &mut Vec<MessageId>, entries: &[Entry]) -> Result<(), AllocError> {
     for entry in entries {
-        if let Entry::Author(message) | Entry::Arrive(_, message) | Entry::Kept(_, message) = entry
+        if let Entry::Author(message)
+        | Entry::Arrive(_, message)
+        | Entry::Kept(_, message) = entry
         {
             ids.push(id_of(message))?;
         }

@@ -1,6 +1,6 @@
 -- What is left of files where a call was given up: what a crash might have left when it was, or what came of that by settling.
 use Rattle.std.specs.Result.{IsErrAnd, IsErrOf}
-use Rattle.std.proofs.Common.{◌≡◌, ◌<◌, ℕ, List, [], ◌∷◌, refl, sym, ap, ◌∙◌, subst, inl, inr, append-nil, Option, Some, None, Result, Ok, Err, OnOk, OnErr}
+use Rattle.std.proofs.Common.{◌≡◌, ◌<◌, ℕ, List, [], ◌∷◌, refl, sym, ap, ◌∙◌, subst, inl, inr, append-nil, Option, Some, Result, Ok, Err, OnOk, OnErr}
 use Rattle.std.specs.declared.alloc.AllocError.{AllocError}
 use Rattle.outside.specs.Files.{Two, File, IsImage}
 use Rattle.outside.specs.HostTold.{host_told}
@@ -15,7 +15,7 @@ use Rattle.sync_node.specs.Node.{NodeValue}
 use Rattle.sync_node.specs.declared.fault.NodeFault.{NodeFault}
 use Rattle.sync_node.specs.declared.fault.NodeFault.TheVariants as node_fault
 use Rattle.world_devices.specs.Devices.{DeviceValue, HostGoesOn, IsAnew, IsRunning}
-use Rattle.world_devices.specs.Doing.{Adds, ComesOf, GivesUp, GivesUpIn, HasAtMost, HasSettling, HoldsSettling, IsAhead, IsNotFull, IsOver, Restarts, SettlesFrom}
+use Rattle.world_devices.specs.Doing.{Adds, ComesOf, HasAtMost, HasSettling, HoldsSettling, IsAhead, IsNotFull, IsOver, Restarts, SettlesFrom}
 use Rattle.world_devices.specs.Keeping.{Journal}
 use Rattle.world_devices.specs.Linking.{IsUnlinked}
 use Rattle.world_devices.specs.Refusals.{IsNotRefused}

@@ -7,7 +7,7 @@ use Rattle.outside.specs.Files.{Two, File, IsFileImage, read_files, settled}
 use Rattle.outside.specs.Links.{Link, HeardOn, sent_of}
 use Rattle.outside.specs.Outside.{Outside, Moment}
 use Rattle.outside.specs.Runs.{IsFront, Told, answers_at, heard_bytes, sent_at}
-use Rattle.outside.proofs.RunLaws.{front_same}
+use Rattle.outside.proofs.RunLaws.{front_then, front_same}
 use Rattle.frame_journal.specs.Gates.{AnyImage}
 use Rattle.client_basic.specs.Bodies.{bundle_meaning}
 use Rattle.record_grammar.specs.Spelling.{spelling}

@@ -1,7 +1,7 @@
 -- What a new device has: the journal of so many contacts.
 use Rattle.std.proofs.Common.{◌≡◌, ℕ, suc, ◌+◌, Bool, true, false, if◌then◌else◌, nat_lt, List, [], ◌∷◌, ◌++◌, refl, sym, ap, ◌∙◌, subst, arith, Option, Some, None, is_some, Result, Ok, Err, OnOk}
 use Rattle.std.specs.Result.{is_err}
-use Rattle.outside.specs.Files.{Two, File, read_files}
+use Rattle.outside.specs.Files.{read_files}
 use Rattle.outside.specs.HostTold.{host_told}
 use Rattle.outside.specs.MemHost.{MemHostValue}
 use Rattle.client_basic.specs.Bodies.{bundle_meaning}

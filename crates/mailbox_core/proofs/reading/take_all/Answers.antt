@@ -18,7 +18,10 @@ pub items-preserved : goal.items-preserved
 items-preserved g c = record {
   before = c.items.invariant.before;
   way = way_goes_on (g.C.Clients.meaning c.args.clients.now) c.args.session.now.number
-      c.args.store.now c.items.store c.take_next.new.store _ _ _ _ _ _ c.items.invariant.way
+      c.args.store.now c.items.store c.take_next.new.store (left_of c.args.reader.now c.args.piece.now)
+      (left_of c.items.reader c.items.piece) (left_of c.take_next.new.reader c.take_next.new.piece)
+      (g.D.Disk.tells c.args.disk.now) (g.D.Disk.tells c.items.disk)
+      (g.D.Disk.tells c.take_next.new.disk) c.items.invariant.way
       (rw c.in_default.is at c.in_ok-ending.ensures.read);
   able = c.in_ok-ending.ensures.able;
 }
@@ -28,7 +31,10 @@ overflow_sub-taken g c =
     let within : next_on c.args.store.now c.args.session.now.number
     ≤ next_on c.take_next.new.store c.args.session.now.number =
     way_within (g.C.Clients.meaning c.args.clients.now) c.args.session.now.number c.args.store.now
-    c.items.store c.take_next.new.store _ _ _ _ _ _ c.items.invariant.way c.in-Some.ending
+    c.items.store c.take_next.new.store (left_of c.args.reader.now c.args.piece.now)
+    (left_of c.items.reader c.items.piece) (left_of c.take_next.new.reader c.take_next.new.piece)
+    (g.D.Disk.tells c.args.disk.now) (g.D.Disk.tells c.items.disk)
+    (g.D.Disk.tells c.take_next.new.disk) c.items.invariant.way c.in-Some.ending
     (rw c.in-Some.is at c.in_ok-ending.ensures.read) in
     omega (
       arith,
@@ -43,7 +49,10 @@ returns-in-Some-clause-read g c =
     let now = c.takes.ensures
     ∙ ap (λ s. takes_of s.facts.takes c.args.session.now.number) c.state-in-Some.ensures in
     way_ends (g.C.Clients.meaning c.args.clients.now) c.args.session.now.number c.args.store.now
-    c.items.store c.take_next.new.store _ _ _ _ _ _ c.items.invariant.way c.in-Some.ending
+    c.items.store c.take_next.new.store (left_of c.args.reader.now c.args.piece.now)
+    (left_of c.items.reader c.items.piece) (left_of c.take_next.new.reader c.take_next.new.piece)
+    (g.D.Disk.tells c.args.disk.now) (g.D.Disk.tells c.items.disk)
+    (g.D.Disk.tells c.take_next.new.disk) c.items.invariant.way c.in-Some.ending
     (rw c.in-Some.is at c.in_ok-ending.ensures.read) c.in_ok-ending.ensures.able.settled _
     (omega (arith, now, c.items.invariant.before))
 
@@ -56,5 +65,8 @@ returns-in_err-ending-clause-read g c =
     (left_of c.args.reader.now c.args.piece.now) r o (g.D.Disk.tells c.take_next.new.disk))
     c.from_residual.ensures.1
     (way_stops clients c.args.session.now.number c.args.store.now c.items.store
-    c.take_next.new.store _ _ _ _ _ _ c.items.invariant.way c.in_err-ending.field-0.0
+    c.take_next.new.store (left_of c.args.reader.now c.args.piece.now)
+    (left_of c.items.reader c.items.piece) (left_of c.take_next.new.reader c.take_next.new.piece)
+    (g.D.Disk.tells c.args.disk.now) (g.D.Disk.tells c.items.disk)
+    (g.D.Disk.tells c.take_next.new.disk) c.items.invariant.way c.in_err-ending.field-0.0
     c.in_err-ending.ensures.read)

@@ -23,13 +23,17 @@ returns-in_err-put_next-clause-put g c =
     (g.D.Disk.tells c.put_next.new.disk))
     c.from_residual.ensures.1
     (way_stops clients c.args.session.now.number c.args.now c.args.store.now c.outs.store
-    c.put_next.new.store _ _ c.put_next.new.to.items c.outs.made _ _ _ c.outs.invariant.way
-    c.args.count c.in_err-put_next.field-0.0 (omega arith) c.in_err-put_next.ensures.put)
+    c.put_next.new.store c.args.to.now.items c.outs.to.items c.put_next.new.to.items
+    c.outs.made (g.D.Disk.tells c.args.disk.now)
+    (g.D.Disk.tells c.outs.disk) (g.D.Disk.tells c.put_next.new.disk)
+    c.outs.invariant.way c.args.count c.in_err-put_next.field-0.0 (omega arith) c.in_err-put_next.ensures.put)
 
 pub returns-then-not-branch-clause-put : goal.returns-then-not-branch-clause-put
 returns-then-not-branch-clause-put g c =
     way_ends (g.C.Clients.meaning c.args.clients.now) c.args.session.now.number c.args.now
-    c.args.store.now c.outs.store c.put_next.new.store _ _ c.put_next.new.to.items c.outs.made _ _ _
+    c.args.store.now c.outs.store c.put_next.new.store c.args.to.now.items c.outs.to.items
+    c.put_next.new.to.items c.outs.made (g.D.Disk.tells c.args.disk.now)
+    (g.D.Disk.tells c.outs.disk) (g.D.Disk.tells c.put_next.new.disk)
     c.outs.invariant.way c.args.count c.outs.invariant.few
     (rw c.if-not-branch.true at c.in_ok-put_next.ensures.put) c.in_ok-put_next.ensures.able.settled
 
@@ -37,15 +41,19 @@ pub outs-preserved : goal.outs-preserved
 outs-preserved g c = record {
   few = omega arith;
   way = way_goes_on (g.C.Clients.meaning c.args.clients.now) c.args.session.now.number c.args.now
-      c.args.store.now c.outs.store c.put_next.new.store _ _ c.put_next.new.to.items c.outs.made _
-      _ _ c.outs.invariant.way (rw c.if-not-branch.false at c.in_ok-put_next.ensures.put);
+      c.args.store.now c.outs.store c.put_next.new.store c.args.to.now.items c.outs.to.items
+      c.put_next.new.to.items c.outs.made (g.D.Disk.tells c.args.disk.now)
+      (g.D.Disk.tells c.outs.disk) (g.D.Disk.tells c.put_next.new.disk) c.outs.invariant.way
+      (rw c.if-not-branch.false at c.in_ok-put_next.ensures.put);
   able = c.in_ok-put_next.ensures.able;
 }
 
 pub returns-clause-put : goal.returns-clause-put
 returns-clause-put g c =
     way_full (g.C.Clients.meaning c.args.clients.now) c.args.session.now.number c.args.now
-    c.args.store.now c.outs.store c.outs.store _ _ c.outs.to.items c.outs.made _ _ (g.D.Disk.tells c.outs.disk)
+    c.args.store.now c.outs.store c.outs.store c.args.to.now.items c.outs.to.items c.outs.to.items c.outs.made
+    (g.D.Disk.tells c.args.disk.now)
+    (g.D.Disk.tells c.outs.disk) (g.D.Disk.tells c.outs.disk)
     c.outs.invariant.way c.args.count
     (let few : c.outs.made ≤ c.args.count = c.outs.invariant.few in omega arith)
     c.outs.invariant.able.settled

@@ -30,7 +30,7 @@ returns-in_err-made-clause-written g c = λ opened.
     c.from_residual-in_err-made.ensures.1
     (box_stopped clients c.args.contact c.args.latency c.args.now c.args.count s o to
     c.begin.new.store c.put_all.new.store c.in_ok-session.session (g.D.Disk.tells c.begin.new.disk)
-    o' _ _ c.in_ok-session.ensures.begun c.in_err-made.field-0.0 c.in_err-made.ensures.put)
+    o' c.in_ok-bytes.bytes.items c.put_all.new.to.items c.in_ok-session.ensures.begun c.in_err-made.field-0.0 c.in_err-made.ensures.put)
 
 pub returns-in_err-extend_from_slice-clause-written :
     goal.returns-in_err-extend_from_slice-clause-written
@@ -49,7 +49,7 @@ returns-in_err-extend_from_slice-clause-written g c = λ opened.
     (sym c.in_err-extend_from_slice.ensures.items)
     (box_unwritten clients c.args.contact c.args.latency c.args.now c.args.count s o to
     c.begin.new.store c.put_all.new.store c.in_ok-session.session (g.D.Disk.tells c.begin.new.disk)
-    o' _ _ c.in_ok-session.ensures.begun c.in_ok-made.made c.in_ok-made.ensures.put))
+    o' c.in_ok-bytes.bytes.items c.put_all.new.to.items c.in_ok-session.ensures.begun c.in_ok-made.made c.in_ok-made.ensures.put))
 
 pub returns-clause-written : goal.returns-clause-written
 returns-clause-written g c = λ opened.

@@ -1,4 +1,4 @@
-use Rattle.std.proofs.Common.{ap, inl, Err}
+use Rattle.std.proofs.Common.{ap, arith, inl, Err}
 use Rattle.sync_node.specs.Node.{NodeValue}
 use Rattle.sync_words.specs.declared.outcome.Outcome.TheVariants as outcome
 use Rattle.sync_run.specs.Parts.{RunsOver, sessions_from}

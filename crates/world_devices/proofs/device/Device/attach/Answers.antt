@@ -24,7 +24,7 @@ pub attach-requires-clause-begun : goal.attach-requires-clause-begun
 attach-requires-clause-begun c =
     let was = sym (ap (λ (d : DeviceValue). d.node) c.self.view_is) ∙ c.in-Some-node.is in
     let own = ready_store c.args.self.now.node c.in-Some-node.node c.in-Some.store.now was c.in-Some.ensures in
-    begun_few c.in-Some-node.node c.self.inside.host c.self.inside.links (subst IsStore own c.end-_end.ensures.numbers) c.self.invariant.1
+    begun_few c.in-Some-node.node c.self.inside.host c.self.inside.links (subst IsStore own c.end-end.ensures.numbers) c.self.invariant.1
     (running_of c.self.inside.node c.in-Some-node.node c.self.inside.host c.self.inside.links c.in-Some-node.is c.self.invariant.0)
 
 pub returns-in_default-clause-runs : goal.returns-in_default-clause-runs
