@@ -170,7 +170,7 @@ module _ (clients : Meaning) (contact : ℕ) (bytes : List ℕ) (s s' : StoreVal
     answer = (
       has.answer.0,
       lacks clients contact s.state.facts (box_records bytes) has.more bytes s' (has.comes.runs.facts has.answer.0) refl
-      has.answer.2,
+          has.answer.2,
     );
     by = tt;
   }

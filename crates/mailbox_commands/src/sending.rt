@@ -95,10 +95,10 @@ fn send_due<D: Disk, C: Clients>(
     requires settled { IsSettled (C.meaning clients.now) store.old.state.facts }
     requires begins { MayBegin store.old.state.facts asked.contact }
     requires latency { 1 ≤ asked.latency }
-    ensures sent { TellsSent (C.meaning clients.now) asked now store.old store.new
+    ensures { TellsSent (C.meaning clients.now) asked now store.old store.new
         (D.tells disk.old) (D.tells disk.new) to.old.items to.new.items result }
 {
-    let sent = write_box(
+    match write_box(
         alloc,
         store,
         disk,
@@ -108,8 +108,7 @@ fn send_due<D: Disk, C: Clients>(
         now,
         asked.count,
         to,
-    );
-    match sent {
+    ) {
         Ok(_) => Ok(()),
         Err(StoreFault::Full) => Err(Outcome::Full),
         Err(StoreFault::Memory) => Err(Outcome::Memory),

@@ -44,4 +44,4 @@ returns g c =
     sent_printed c.outputs_are_sent.ensures clients c.args.asked c.args.now c.args.store c.migrate_and_settle.new.store
     c.send_due.new.store _ _ _ _ _ _ _ _ _ c.as_slice.result.now _ c.requires.ready.limited
     c.in_ok-migrate_and_settle.ensures.run c.in_ok-migrate_and_settle.ensures.settled c.in_ok-send_due.ensures
-    c.new-bytes.ensures c.as_slice.ensures.value c.print_bytes.ensures
+    c.new-bytes.ensures.items c.as_slice.ensures.value c.print_bytes.ensures

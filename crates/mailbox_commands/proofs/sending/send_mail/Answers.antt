@@ -23,7 +23,7 @@ pub send_loaded-requires : goal.send_loaded-requires
 send_loaded-requires g c =
     let clients = g.C.Clients.meaning c.args.clients.now in
     record {
-      ready = ready_still clients c.in_ok-store.store _ _ c.now.ensures.call c.in_ok-store.ensures.opened;
+      ready = ready_still clients c.in_ok-store.store _ _ c.now-now.ensures.call c.in_ok-store.ensures.opened;
       begins =
           tested_begins c.in_ok-store.store.state.facts c.args.asked.contact (sym c.refusal.ensures ∙ c.in_default.is);
       latency = c.requires;
@@ -33,6 +33,6 @@ pub returns : goal.returns
 returns g c =
     let clients = g.C.Clients.meaning c.args.clients.now in
     let e = c.in_ok-store.ensures in
-    mailed_read clients c.args.asked c.now.result _ _ _ _ _ _ c.in_ok-store.store _ e.run e.rests
-    (ready_still clients c.in_ok-store.store _ _ c.now.ensures.call c.in_ok-store.ensures.opened)
-    (sym c.refusal.ensures ∙ c.in_default.is) c.now.ensures.call c.now.ensures.links c.send_loaded.ensures
+    mailed_read clients c.args.asked c.now-now.result _ _ _ _ _ _ c.in_ok-store.store _ e.run e.rests
+    (ready_still clients c.in_ok-store.store _ _ c.now-now.ensures.call c.in_ok-store.ensures.opened)
+    (sym c.refusal.ensures ∙ c.in_default.is) c.now-now.ensures.call c.now-now.ensures.links c.send_loaded.ensures

@@ -1,8 +1,6 @@
 use Rattle.std.proofs.Common.{refl, sym, ◌∙◌}
 use Rattle.mailbox_commands.proofs.Early.{early_memory, early_none, early_read_fault, early_refused, early_too_much, tested_begins}
-
 use Rattle.mailbox_commands.proofs.Taken.{taken_none, taken_on, taken_read, taken_unread}
-
 use Rattle.mailbox_commands.proofs.taking.take_mail.Goals as goal
 
 pub returns-in_err-store : goal.returns-in_err-store
@@ -17,8 +15,7 @@ returns-in_err-store g c =
 
 pub returns-in-Some : goal.returns-in-Some
 returns-in-Some g c =
-    let clients = g.C.Clients.meaning c.args.clients.now in
-    (
+    let clients = g.C.Clients.meaning c.args.clients.now in (
       early_refused clients c.args.contact _ _ _ _ c.in_ok-store.store c.in-Some.why c.in_ok-store.ensures.run
           c.in_ok-store.ensures.rests c.in_ok-store.ensures.loaded (sym c.refusal.ensures ∙ c.in-Some.is)
           (record { same = refl; same_faults = refl }),
