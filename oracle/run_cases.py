@@ -399,6 +399,69 @@ def odd_files():
     yield from (framed(header(1, 1), [entry]) for entry in (brief, mine, want(0, unknown[0])))
     yield framed(header(1, 1), [contact, group, row])
 
+def read_file(*records):
+    say('input ' + b''.join(records).hex(), 'mailbox in 0')
+
+
+def mailboxes():
+    versions = record_bytes(4, b'\0')
+    case('a file is written, and again when it is due')
+    one_contact()
+    post(NOTES, 0, b'x')
+    for now in (1000, 1000, 3000):
+        say('clock %d' % now, 'mailbox out 0 1000 10')
+
+    case('a file is read twice, and what it brought is acknowledged')
+    one_contact('visible')
+    for _ in range(2):
+        read_file(versions, message(NOTES, 0, b'x'))
+        say('states')
+    say('clock 1', 'mailbox out 0 1000 10', 'mailbox out 0 1000 10')
+
+    case('so many outputs, and the rest in another file')
+    one_contact()
+    for n in range(5):
+        post(NOTES, n, b'x')
+    say('clock 5', 'mailbox out 0 9 2', 'clock 5', 'mailbox out 0 9 1', 'clock 5', 'mailbox out 0 9 1000000', 'mailbox out 1 9 1')
+
+    case('files that are none, and files that end in the middle')
+    one_contact('visible')
+    read_file()
+    read_file(b'\1')
+    read_file(versions, message(NOTES, 0, b'x'), message(NOTES, 1, b'y')[:-1])
+    read_file(versions, message(NOTES, 2, b'z'), b'\1', message(NOTES, 3, b'z'))
+    read_file(record_bytes(9, b'passed over'), versions, record_bytes(5, b'n' * 16), ids_record(2, some_ids(0, 3)))
+    read_file(versions, record_bytes(4, b'\1'), message(NOTES, 4, b'behind'))
+    say('states', 'input 00', 'mailbox in 1', 'mailbox in 0', 'clock 7', 'mailbox out 0 1 9')
+
+    case('a file is read into a store of format 1')
+    say(old_file(heard()))
+    read_file(versions, message(NOTES, 9, b'new'))
+    say('states', old_file(heard()), 'clock 9', 'mailbox out 0 1 9', old_file(heard(), 2 ** 64 - 1), 'mailbox out 0 1 9')
+
+    root = reply([], b'root')
+    root_id = message_id(THREADS, 0, root)
+    files = [
+        (versions, message(NOTES, 0, b'one')),
+        (versions, message(THREADS, 1, reply([root_id], b'below')), message(NOTES, 0, b'one')),
+        (versions, message(NOTES, 1, b'two'), ids_record(0, [message_id(NOTES, 7, b'own')])),
+        (versions, message(THREADS, 0, root)),
+        (versions, message(THREADS, 2, b'none'), ids_record(2, some_ids(0, 2))),
+    ]
+    drawn = random.Random(45)
+    for number in range(30):
+        case('five files, read in the order %d' % number)
+        contacts(1)
+        group('note', NOTES, (0, 'shared'))
+        group('thread', THREADS, (0, 'visible'))
+        post(NOTES, 7, b'own')
+        order = list(range(5)) + [drawn.randrange(5) for _ in range(drawn.randrange(4))]
+        drawn.shuffle(order)
+        for n in order:
+            read_file(*files[n])
+        say('states')
+
+
 def compacted():
     case('a note is compacted, and the account is the longer one')
     contacts(1)
@@ -482,6 +545,7 @@ def main():
     for seed in range(40):
         case('drawn %d' % seed)
         Drawn(seed).play()
+    mailboxes()
     compacted()
     for seed in range(40, 70):
         case('drawn %d, compacted behind each run' % seed)

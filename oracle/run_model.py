@@ -644,22 +644,27 @@ class Run:
         return False
 
     def put(self, i, link):
-        now, j, made = self.host.now(), self.store.journal, 0
-        while made < 64 and link.stands in ('going', 'clean'):
-            due = j.due(link.session, now)
-            if not due:
-                break
-            what, ids = due
-            if what == 'send':
-                h = j.find(ids[0])
-                bytes_ = record_bytes(1, h.group + h.timestamp.to_bytes(8, 'big') + h.body)
-            else:
-                bytes_ = record_bytes({'acks': 0, 'requests': 3, 'offers': 2}[what], b''.join(ids))
-            self.store.commit([('out', link.session, now, what, ids)])
+        now, made = self.host.now(), 0
+        while made < 64 and link.stands in ('going', 'clean') and self.put_one(i, link, now):
             made += 1
-            if not self.send(i, bytes_):
-                link.stands = 'failed'
         return made
+
+    def put_one(self, i, link, now):
+        """Whether something was due."""
+        j = self.store.journal
+        due = j.due(link.session, now)
+        if not due:
+            return False
+        what, ids = due
+        if what == 'send':
+            h = j.find(ids[0])
+            bytes_ = record_bytes(1, h.group + h.timestamp.to_bytes(8, 'big') + h.body)
+        else:
+            bytes_ = record_bytes({'acks': 0, 'requests': 3, 'offers': 2}[what], b''.join(ids))
+        self.store.commit([('out', link.session, now, what, ids)])
+        if not self.send(i, bytes_):
+            link.stands = 'failed'
+        return True
 
     def close_redundant(self):
         for contact in range(256):
@@ -717,6 +722,9 @@ def short(bytes_):
 class Cases:
     def __init__(self, out):
         self.out = out
+        # what the same files left, read in another order
+        self.left = None
+        self.name = ''
         self.begin()
 
     def begin(self):
@@ -729,14 +737,18 @@ class Cases:
         kind = words[0]
         if kind == 'case':
             self.begin()
+            self.name = line
             print(line, file=self.out)
         elif kind == 'do':
             self.do(words[1:])
         elif kind == 'crossed':
             self.store.journal.crossed = [bytes.fromhex(w) for w in words[1:]]
         elif kind == 'states':
-            for h in self.store.journal.held:
-                print('message %s %s %s' % (h.id.hex(), h.group.hex(), self.store.journal.state(h)), file=self.out)
+            states = ['message %s %s %s' % (h.id.hex(), h.group.hex(), self.store.journal.state(h)) for h in self.store.journal.held]
+            self.out.write(''.join(state + '\n' for state in states))
+            if self.name.startswith('case five files'):
+                self.left = self.left or sorted(states)
+                assert self.left == sorted(states), self.name
         elif kind == 'old':
             self.store.read(bytes.fromhex(words[1]))
             self.twin = None
@@ -760,6 +772,8 @@ class Cases:
             self.host.failing_sends.add(int(words[1]))
         elif kind == 'sync':
             self.sync(words)
+        elif kind == 'mailbox':
+            self.mailbox(words)
         elif kind == 'load':
             print(loaded(bytes.fromhex(words[1])), file=self.out)
         elif line == 'stops compact':
@@ -776,6 +790,46 @@ class Cases:
         print(line or 'status 10', file=self.out)
         for name, content in zip(('file', 'other'), self.store.files):
             print(name, short(content), file=self.out)
+
+    def mailbox(self, words):
+        """A file that is read or written: the status, the line, the output, and both files."""
+        status, err, text = 4, 'refused: unknown contact\n', b''
+        if int(words[2]) < self.store.journal.contacts:
+            status, err, text = 10, 'full\n', b''
+            if self.store.migrate():
+                self.store.settle()
+                run = Run(self.store, self.host, 1, 1, [])
+                status, err, text = self.read_mail(run, words) if words[1] == 'in' else self.write_mail(run, words)
+        print('status %d' % status, file=self.out)
+        self.out.write(err)
+        print('out %s' % short(text), file=self.out)
+        for name, content in zip(('file', 'other'), self.store.files):
+            print(name, short(content), file=self.out)
+        self.host, self.input, self.twin = Host(), b'', None
+
+    def begin_mail(self, words, latency):
+        session = self.store.journal.begun
+        self.store.commit([('session', session, int(words[2]), 'batch', latency, None)])
+        return session
+
+    def read_mail(self, run, words):
+        link = Link(self.begin_mail(words, 1), None)
+        link.rest = self.input
+        run.items(link)
+        if link.stands == 'going':
+            link.stands = 'ended inside a record at %d' % link.place if link.rest else 'clean'
+        taken = self.store.journal.takes.get(link.session, 0)
+        status, err = (0, '') if link.stands == 'clean' else (9, link.stands + '\n')
+        return status, err, b'taken %d\n' % taken
+
+    def write_mail(self, run, words):
+        now = self.host.now()
+        link = Link(self.begin_mail(words, int(words[3])), None)
+        self.host.sent = [record_bytes(4, b'\0')]
+        made = 0
+        while made < int(words[4]) and run.put_one(0, link, now):
+            made += 1
+        return 0, '', self.host.sent[0]
 
     def do(self, words):
         self.do_on(self.store, words)

@@ -73,6 +73,7 @@ impl Case {
             "input" => self.set_input(rest),
             "crossed" => self.set_clients(rest),
             "sync" => self.run(line),
+            "mailbox" => self.carry(line),
             "stops" => self.stop(rest),
             _ => self.prepare(line),
         }
@@ -210,6 +211,18 @@ impl Case {
     fn run(&mut self, words: &str) -> Result<()> {
         let came = self.came(words)?;
         tell_run(self.alloc, &came, &mut self.told)
+    }
+
+    // A mailbox file is read or written: the status, the line, the output, and both files.
+    fn carry(&mut self, words: &str) -> Result<()> {
+        let came = self.came(words)?;
+        writeln!(self.told, "status {}", came.status)?;
+        self.told.push_str(came.err_text()?)?;
+        self.told.push_str("out ")?;
+        tell_bytes(self.alloc, came.out_bytes(), &mut self.told)?;
+        self.told.push_str("file ")?;
+        tell_bytes(self.alloc, self.disk.file(0), &mut self.told)?;
+        self.tell_other()
     }
 
     fn stop(&mut self, words: &str) -> Result<()> {

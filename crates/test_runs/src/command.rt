@@ -37,6 +37,11 @@ impl Came {
         Ok(str::from_utf8(self.out.bytes())?)
     }
 
+    /// The bytes that it wrote to the output.
+    pub(crate) fn out_bytes(&self) -> &[u8] {
+        self.out.bytes()
+    }
+
     /// What it wrote to the error output.
     pub(crate) fn err_text(&self) -> Result<&str> {
         Ok(str::from_utf8(self.err.bytes())?)

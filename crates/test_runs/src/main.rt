@@ -12,6 +12,8 @@
 //! - `crossed ID ID`: from now on there is a client of every group, for which a message of time 1
 //!   depends on the second of these ids, and any other one on the first.
 //! - `sync WORDS`: the run whose outcome is printed.
+//! - `mailbox WORDS`: a mailbox file is read or written, and what it came to is printed, and both
+//!   files.
 //! - `old HEX`: the files are this one, of either format, and an empty one.
 //! - `load HEX`: the files are this one and an empty one, and the status of `show` over them and what
 //!   it says of a fault are printed.
