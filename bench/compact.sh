@@ -31,7 +31,13 @@ from store_file import GROUP, HEADER, Note, first_batches, frame, framed, header
 bsp, folder, memory, runs, count = *sys.argv[1:4], int(sys.argv[4]), int(sys.argv[5])
 SIZE, SESSIONS, AT_ONCE, LATENCY, NOW = 200, 100, 1_000, 1_000, 5_000
 UNKNOWN = '0' * 64
-Used = namedtuple('Used', 'clock processor memory')
+Used = namedtuple('Used', 'clock processor')
+# the greatest memory of a command, told by a process that is itself small
+PEAK = """
+import os, subprocess, sys
+child = subprocess.Popen(sys.argv[2:], cwd=sys.argv[1], stdout=subprocess.DEVNULL, stderr=subprocess.DEVNULL)
+print(os.wait4(child.pid, 0)[2].ru_maxrss * 1024)
+"""
 
 
 def expect(holds, what):
@@ -116,7 +122,12 @@ def timed(here, words, given=b'', status=0, text=b''):
         clock = time.perf_counter() - start
     child.returncode = os.waitstatus_to_exitcode(ended)
     expect((child.returncode, told) == (status, text), f'{words[:2]}: status {child.returncode}, {told[:100]}')
-    return Used(clock, usage.ru_utime + usage.ru_stime, usage.ru_maxrss * 1024)
+    return Used(clock, usage.ru_utime + usage.ru_stime)
+
+
+def peak(here, content, *words):
+    put(here, content)
+    return int(subprocess.run((sys.executable, '-c', PEAK, here, *words), capture_output=True, check=True).stdout)
 
 
 def load(here, content):
@@ -156,13 +167,13 @@ used = in_turns({
     'before': lambda: load(memory, old), 'after': lambda: load(memory, new), 'once': lambda: load(memory, once),
     'compact': lambda: compact(memory, old, new)})
 least = {kind: min(it.processor for it in its) for kind, its in used.items()}
-most = {kind: max(it.memory for it in its) for kind, its in used.items()}
+most = {'load': peak(memory, old, bsp, 'body', UNKNOWN), 'compact': peak(memory, old, bsp, 'compact')}
 print('in memory, processor: ' + ', '.join(f'{kind} {seconds:.3f} s' for kind, seconds in least.items()))
 print('greatest memory: ' + ', '.join(f'{kind} {bytes_ / 1e6:.1f} MB' for kind, bytes_ in most.items()))
 lines.append(f'ratio compact_load {(least["compact"] - least["before"]) / least["before"]:.2f}')
 lines.append(f'ratio load_after_before {least["after"] / least["before"]:.2f}')
 lines.append(f'ratio load_after_once {least["after"] / least["once"]:.2f}')
-lines.append(f'ratio compact_memory {most["compact"] / most["before"]:.2f}')
+lines.append(f'ratio compact_memory {most["compact"] / most["load"]:.2f}')
 
 frames = b''.join(map(frame, payloads))
 used = in_turns({
