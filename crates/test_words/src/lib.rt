@@ -4,6 +4,8 @@
 #[cfg(test)]
 mod checks;
 #[cfg(test)]
+mod mailboxes;
+#[cfg(test)]
 mod sharing;
 #[cfg(test)]
 mod words;

@@ -147,6 +147,28 @@ fn show_agree(rt: &impl Abort, alloc: Global, contact: u8, group: &GroupId, to: 
     add(rt, to, &["agree ", contact.as_str(), "+", group.as_str()]);
 }
 
+fn show_mail(
+    rt: &impl Abort,
+    alloc: Global,
+    contact: u8,
+    latency: u32,
+    count: u32,
+    to: &mut String,
+) {
+    let contact = decimal(rt, alloc, u64::from(contact));
+    let latency = decimal(rt, alloc, u64::from(latency));
+    let count = decimal(rt, alloc, u64::from(count));
+    let parts = [
+        "mailbox out ",
+        contact.as_str(),
+        "+",
+        latency.as_str(),
+        "+",
+        count.as_str(),
+    ];
+    add(rt, to, &parts);
+}
+
 fn show_def(
     rt: &impl Abort,
     alloc: Global,
@@ -188,6 +210,13 @@ fn show(rt: &impl Abort, alloc: Global, command: &Command, to: &mut String) {
         }
         Command::Agree(contact, group) => show_agree(rt, alloc, *contact, group, to),
         Command::Compact => add(rt, to, &["compact"]),
+        Command::MailboxIn(contact) => {
+            let contact = decimal(rt, alloc, u64::from(*contact));
+            add(rt, to, &["mailbox in ", contact.as_str()]);
+        }
+        Command::MailboxOut(contact, latency, count) => {
+            show_mail(rt, alloc, *contact, *latency, *count, to);
+        }
         Command::Sync(turns, quiet, links) => {
             show_sync(rt, alloc, *turns, *quiet, to);
             for link in links.as_slice() {
