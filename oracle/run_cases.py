@@ -439,6 +439,15 @@ def mailboxes():
     read_file(versions, message(NOTES, 9, b'new'))
     say('states', old_file(heard()), 'clock 9', 'mailbox out 0 1 9', old_file(heard(), 2 ** 64 - 1), 'mailbox out 0 1 9')
 
+    case('a file is read and one is written, and both are stopped')
+    one_contact('visible')
+    post(NOTES, 5, b'mine')
+    theirs = (versions, message(NOTES, 0, b'x'), ids_record(3, some_ids(0, 1)), message(NOTES, 1, b'y'))
+    for _ in range(2):
+        say('input ' + b''.join(theirs).hex(), 'stops mailbox in 0')
+        say('clock 1000', 'stops mailbox out 0 1 10')
+        read_file(*theirs)
+
     root = reply([], b'root')
     root_id = message_id(THREADS, 0, root)
     files = [

@@ -880,12 +880,24 @@ class Cases:
         print('stopped: %d before, %d behind, 0 apart' % (before, behind), file=self.out)
 
     def stops(self, words):
-        """No image is apart; and was something acknowledged before the last call of the disk?"""
+        """No image is apart; and was something acknowledged by the end?"""
+        if words[0] == 'mailbox':
+            return self.stops_of_mailbox(words)
         links = [(int(words[i]), words[i + 1], int(words[i + 2]), words[i + 3]) for i in range(3, len(words), 4)]
         Run(self.store, self.host, int(words[1]), int(words[2]), links).play()
-        acked = any(kind == 0 for sent in self.host.sent for kind in kinds_of(sent))
-        print('stopped: 0 apart, acknowledged %s' % str(acked).lower(), file=self.out)
+        self.tell_stops(self.host.sent)
         self.host = Host()
+
+    def stops_of_mailbox(self, words):
+        """Only a file that is written acknowledges. The store stays as it was."""
+        before = copy.deepcopy(self.store)
+        run = Run(self.store, self.host, 1, 1, [])
+        self.tell_stops([self.write_mail(run, words)[2]] if words[1] == 'out' else [])
+        self.store, self.host, self.input = before, Host(), b''
+
+    def tell_stops(self, sent):
+        acked = any(kind == 0 for bytes_ in sent for kind in kinds_of(bytes_))
+        print('stopped: 0 apart, acknowledged %s' % str(acked).lower(), file=self.out)
 
 
 def loaded(content):

@@ -161,6 +161,11 @@ impl Case {
         self.disk.file(0)
     }
 
+    /// The input of the next command.
+    pub(crate) fn input(&self) -> &[u8] {
+        self.input.as_slice()
+    }
+
     // Runs a command. What was prepared for it is gone then.
     fn came(&mut self, words: &str) -> Result<Came> {
         let came = self.commanded(words)?;
@@ -231,6 +236,7 @@ impl Case {
             _ => play_stops(self.alloc, self, words)?,
         };
         self.tell(line.as_str())?;
+        self.input = Vec::new(self.alloc);
         self.prepared = Vec::new(self.alloc);
         Ok(())
     }

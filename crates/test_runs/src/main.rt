@@ -24,8 +24,8 @@
 //! - `stops compact`: the command is stopped at each call of the disk, and each image that a crash
 //!   then leaves is asked whether it has the journal or its brief account, opens, and can be
 //!   compacted to the same; how many had which is printed.
-//! - `stops WORDS`: the run is stopped at each call of the disk instead, and for each image that a
-//!   crash then leaves it is asked whether it opens to a journal that goes on from the old one and
+//! - `stops WORDS`: this run, or this mailbox file, is stopped at each call of the disk instead, and
+//!   behind the last, and for each image that a crash then leaves it is asked whether it opens to a journal that goes on from the old one and
 //!   holds each message that was acknowledged.
 #![tactic(auto)]
 

@@ -1,11 +1,11 @@
-//! A run that is stopped at each call of the disk, and what crashes then leave.
+//! A command that is stopped at each call of the disk, and what crashes then leave.
 
 use crate::case::Case;
 use crate::command::{Came, command};
 use crate::stage::Stage;
 use anyhow::{Context, Result};
 use client_basic::Bundle;
-use outside::{LINKS, MemDisk, MemHost, Pick};
+use outside::{LINKS, MemDisk, Pick};
 use record_grammar::{Found, read_one};
 use std::alloc::{AllocError, Global};
 use sync_ids::{MessageId, Record};
@@ -13,7 +13,7 @@ use sync_ids::{MessageId, Record};
 /// The images that a crash may leave.
 pub(crate) static PICKS: [Pick; 4] = [Pick::Old, Pick::New, Pick::Zero, Pick::Ones];
 
-// What the images of a run came to.
+// What the images of a command came to.
 #[derive(Clone, Copy)]
 struct Tally {
     apart: u64,
@@ -28,14 +28,14 @@ struct Image<'a> {
     holds: bool,
 }
 
-/// Stops the run of these words at each call that it makes, and tells whether an image was apart,
-/// and whether something was acknowledged before some stop.
+/// Stops the command of these words at each call that it makes, and behind the last, and tells
+/// whether an image was apart, and whether something was acknowledged before some stop.
 pub(crate) fn play_stops(alloc: Global, case: &Case, words: &str) -> Result<String> {
     let mut tally = Tally {
         apart: 0,
         acknowledged: 0,
     };
-    for call in 0..calls_of(alloc, case, words)? {
+    for call in 0..=calls_of(alloc, case, words)? {
         stop_at(alloc, case, words, call, &mut tally)?;
     }
     Ok(line_of(alloc, tally)?)
@@ -49,23 +49,23 @@ fn line_of(alloc: Global, tally: Tally) -> Result<String, AllocError> {
     )
 }
 
-// How many calls of the disk the run makes.
+// How many calls of the disk the command makes.
 fn calls_of(alloc: Global, case: &Case, words: &str) -> Result<u64> {
-    let whole = command(alloc, words, case.stage()?, &[], &Bundle::new())?;
+    let whole = command(alloc, words, case.stage()?, case.input(), &Bundle::new())?;
     Ok(whole.host().disk().calls())
 }
 
 fn stop_at(alloc: Global, case: &Case, words: &str, call: u64, tally: &mut Tally) -> Result<()> {
     let mut stage = case.stage()?;
     stage.stop_at(call);
-    let came = command(alloc, words, stage, &[], &Bundle::new())?;
-    look_at_images(alloc, case, came.host(), tally)
+    let came = command(alloc, words, stage, case.input(), &Bundle::new())?;
+    look_at_images(alloc, case, &came, tally)
 }
 
-// Looks at each image that a crash may leave of a host.
-fn look_at_images(alloc: Global, case: &Case, host: &MemHost, tally: &mut Tally) -> Result<()> {
+// Looks at each image that a crash may leave of a command.
+fn look_at_images(alloc: Global, case: &Case, came: &Came, tally: &mut Tally) -> Result<()> {
     for pick in &PICKS {
-        let image = host.disk().image(*pick)?;
+        let image = came.host().disk().image(*pick)?;
         let goes_on = goes_on(case.file(), &image);
         let shown = command(
             alloc,
@@ -74,7 +74,7 @@ fn look_at_images(alloc: Global, case: &Case, host: &MemHost, tally: &mut Tally)
             &[],
             &Bundle::new(),
         )?;
-        if !(goes_on & is_sound(alloc, host, &shown, tally)?) {
+        if !(goes_on & is_sound(alloc, came, &shown, tally)?) {
             tally.apart = tally.apart.saturating_add(1);
         }
     }
@@ -87,17 +87,18 @@ fn goes_on(before: &[u8], image: &MemDisk) -> bool {
     image.file(0).starts_with(front)
 }
 
-// Whether an image opens, by what `show` came to, and holds what was acknowledged on the links of
-// the host.
-fn is_sound(alloc: Global, host: &MemHost, shown: &Came, tally: &mut Tally) -> Result<bool> {
+// Whether an image opens, by what `show` came to, and holds what a command acknowledged on its links
+// and in the file that it wrote.
+fn is_sound(alloc: Global, came: &Came, shown: &Came, tally: &mut Tally) -> Result<bool> {
     let mut image = Image {
         shown: shown.out_text()?,
         acknowledged: tally.acknowledged,
         holds: shown.status == 0,
     };
     for link in 0..LINKS {
-        hear_all(alloc, host.sent(link as u8), &mut image)?;
+        hear_all(alloc, came.host().sent(link as u8), &mut image)?;
     }
+    hear_all(alloc, came.out_bytes(), &mut image)?;
     tally.acknowledged = image.acknowledged;
     Ok(image.holds)
 }
