@@ -303,15 +303,39 @@ class Drawn:
             say('clock %d' % now)
         say(' '.join(words))
 
+    def mail(self):
+        """Some mailbox files, one behind the other: a few are for a contact that there is not."""
+        now = self.draw.randint(0, 3000)
+        for _ in range(self.draw.randint(1, 3)):
+            contact = self.draw.choice([*range(self.contacts)] * 5 + [self.contacts])
+            if self.draw.random() < 0.5:
+                read_file(*[self.record() for _ in range(self.draw.randint(0, 12))], self.draw.choice([b'', b'', b'\x00\x04', b'\x01']),
+                          contact=contact)
+            else:
+                now += self.draw.choice([0, 1, 50, 1000])
+                say('clock %d' % now, 'mailbox out %d %d %d' % (contact, self.draw.choice([1, 10, 100]), self.draw.randint(1, 6)))
+
+    def carry(self):
+        """Runs and mailbox files in turns."""
+        self.begin()
+        for _ in range(self.draw.randint(2, 4)):
+            self.mail()
+            if self.draw.random() < 0.4:
+                self.run()
+        say('states')
+
     def play(self, after_run=()):
+        self.begin()
+        for _ in range(self.draw.randint(1, 3)):
+            self.run()
+            say(*after_run)
+
+    def begin(self):
         contacts(self.contacts)
         for name, gid in (('note', NOTES), ('thread', THREADS), ('feed', FEEDS)):
             if self.draw.random() < 0.9:
                 group(name, gid, *[(c, self.draw.choice(['shared', 'shared', 'visible', 'invisible']))
                                    for c in range(self.contacts)])
-        for _ in range(self.draw.randint(1, 3)):
-            self.run()
-            say(*after_run)
 
 
 def old_file(person, generation=1):
@@ -399,8 +423,8 @@ def odd_files():
     yield from (framed(header(1, 1), [entry]) for entry in (brief, mine, want(0, unknown[0])))
     yield framed(header(1, 1), [contact, group, row])
 
-def read_file(*records):
-    say('input ' + b''.join(records).hex(), 'mailbox in 0')
+def read_file(*records, contact=0):
+    say('input ' + b''.join(records).hex(), 'mailbox in %d' % contact)
 
 
 def mailboxes():
@@ -555,6 +579,9 @@ def main():
         case('drawn %d' % seed)
         Drawn(seed).play()
     mailboxes()
+    for seed in range(70, 110):
+        case('drawn %d, with mailbox files' % seed)
+        Drawn(seed).carry()
     compacted()
     for seed in range(40, 70):
         case('drawn %d, compacted behind each run' % seed)
