@@ -479,7 +479,7 @@ class Checks:
     def nothing_due_is_all_held(self, journals):
         now = self.world.clock
         for a, journal in enumerate(journals):
-            for session, (_, contact, *_) in enumerate(journal.sessions):
+            for session, (_, contact, *_) in journal.sessions.items():
                 rows = [journal.row(contact, held.id) for held in journal.held]
                 if journal.due(session, now) is None and all(row.expiry <= now for row in rows):
                     b = journals[self.other(a, contact)]
