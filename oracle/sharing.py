@@ -51,11 +51,14 @@ def judge_sharing(_, body):
     return ((said[1],) if any(said[1]) else ()), False
 
 
+ALL_CLIENTS = CLIENTS | {b'sharing': judge_sharing}
+
+
 class Person(Node):
     """A node with the client of `sharing` groups, whose commands print lines."""
 
     def __init__(self):
-        super().__init__(Store(CLIENTS | {b'sharing': judge_sharing}))
+        super().__init__(Store(ALL_CLIENTS))
 
     def unsettled(self, does):
         """Does something behind which nothing is settled."""

@@ -54,7 +54,7 @@ fn contacts_text(alloc: Global, count: u8) -> Result<String, AllocError> {
 
 // Every command that loads the files leaves them, with this line.
 fn refuse(files: Files<'_>, said: Said<'_>, tally: &mut Tally) -> Result<()> {
-    for words in ["show", "contact", "inbox", "group note 0 d"] {
+    for words in ["show", "contact", "inbox", "group note 0 d", "audit"] {
         expect(&Order::new(words, b""), files, said, files, tally)?;
     }
     Ok(())
