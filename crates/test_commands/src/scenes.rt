@@ -5,9 +5,11 @@ use crate::journals::{EMPTY, FRESH, HELD, NOTE, ONE};
 use crate::play::{Came, Failing, Order, play};
 use crate::want::{Files, Said};
 use anyhow::Result;
+use client_sharing::SharingBundle;
 use outside::MemDisk;
 use std::alloc::Global;
 use sync_top::Status;
+use test_audits::agree;
 
 /// A command over a journal. It appends so many frames, and each time the gate of a frame opens
 /// there is a new journal.
@@ -107,11 +109,12 @@ impl Scene {
     }
 }
 
-/// Whether `show` says this of a disk, and leaves its files.
+/// Whether `show` says this of a disk, and leaves its files; an audit says what a load tells.
 pub(crate) fn shows(alloc: Global, said: Said<'_>, disk: MemDisk) -> Result<bool> {
     let kept = Files::on(&disk).disk(alloc)?;
+    let agrees = agree(alloc, &kept, &SharingBundle::new());
     let came = play(alloc, &Order::new("show", b""), disk)?;
-    Ok(said.is_of(&came) & Files::on(&kept).are_on(came.disk()))
+    Ok(agrees & said.is_of(&came) & Files::on(&kept).are_on(came.disk()))
 }
 
 pub(crate) static SCENES: [Scene; 11] = [
