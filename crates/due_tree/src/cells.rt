@@ -62,7 +62,12 @@ pub(crate) fn put(cells: &mut [Option<u64>], leaves: usize, place: usize, number
     cells[leaves + place] = number;
     let mut node = (leaves + place) / 2;
     while node > 0 {
-        cells[node] = least_below(cells, node);
+        let least = least_below(cells, node);
+        // The cells above say what they did where this one does.
+        if cells[node] == least {
+            return;
+        }
+        cells[node] = least;
         node /= 2;
     }
 }
