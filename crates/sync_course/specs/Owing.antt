@@ -1,59 +1,38 @@
--- A machine that sends what it commits before it does anything else: beside its place stands what is owed on each link.
-use Rattle.std.specs.Prelude.{◌≡◌, ◌≢◌, ℕ, ◌+◌, List, [], ◌∷◌}
+-- A machine whose steps are acts: what a batch adds to the output of a session is owed on its link,
+-- and is sent before anything else is done.
+use Rattle.std.specs.Prelude.{◌≡◌, ℕ, ◌+◌, cond, nat_eq, List, []}
 use Rattle.record_grammar.specs.Spelling.{spelled}
 use Rattle.sync_rules.specs.Facts.{Facts}
 use Rattle.sync_rules.specs.Growth.{output_in}
 use Rattle.sync_course.specs.Acts.{Act, Does, Fail, Send}
-use Rattle.sync_course.specs.Events.{Event, Commit, Break, Pass}
+use Rattle.sync_course.specs.Events.{Break, Commit, Event, Pass}
 
--- a place of a machine, and the bytes that are owed on each link: they are committed, and not yet sent
+-- a place, and the bytes that are to go out next on the link of each number
 pub record Owing (P : Type 0) : Type 0 where
   pub at : P
   pub owed : ℕ → List ℕ
 
--- nothing is owed on any link
-abbrev pub IsClear : (ℕ → List ℕ) → Type 0
-IsClear owed = (link : ℕ) → owed link ≡ []
+-- a place at which nothing is owed
+abbrev pub paid : {P : Type 0} → P → Owing P
+paid p = record { at = p; owed = λ link. [] }
 
--- a place where nothing is owed
-abbrev pub clear : {P : Type 0} → P → Owing P
-clear p = record { at = p; owed = λ link. [] }
+-- what an event adds to the output of the session of a link, by the facts before it; the session of
+-- the link of number 0 is the first
+abbrev pub adds_to : Facts → ℕ → Event → ℕ → List ℕ
+adds_to f first (Commit batch) link = spelled (output_in f (first + link) batch)
+adds_to f first _ link = []
 
--- What an event makes owed on a link, by the facts before it: a batch that is committed, the output that it adds to the link's
--- session. The first link has this session.
-abbrev pub owed_by : ℕ → Facts → Event → ℕ → List ℕ
-owed_by first f (Commit batch) link = spelled (output_in f (first + link) batch)
-owed_by first f _ link = []
-
--- a machine with these steps, whose places have these facts
-module _ {P : Type 0} (step : P → Event → P → Type 0) (facts_of : P → Facts) (first : ℕ) where
-  -- nothing is owed, and a step is made by an event that breaks no send off; then is owed what it adds to the output
-  pub record DoesStep (e : Event) (p q : Owing P) : Type 0 where
-    pub is_clear : IsClear p.owed
-    pub no_break : (link : ℕ) → e ≢ Break link
-    pub steps : step p.at e q.at
-    pub owes : (link : ℕ) → q.owed link ≡ owed_by first (facts_of p.at) e link
-
-  -- all that is owed goes out on this link
-  pub record SendStep (link : ℕ) (bytes : List ℕ) (p q : Owing P) : Type 0 where
-    pub is_owed : p.owed link ≡ bytes
-    pub others : (i : ℕ) → i ≢ link → p.owed i ≡ []
-    pub steps : step p.at Pass q.at
-    pub is_clear : IsClear q.owed
-
-  -- some of it does, and the call fails
-  pub record FailStep (link : ℕ) (bytes : List ℕ) (p q : Owing P) : Type 0 where
-    pub is_owed : p.owed link ≡ bytes
-    pub others : (i : ℕ) → i ≢ link → p.owed i ≡ []
-    pub steps : step p.at (Break link) q.at
-    pub is_clear : IsClear q.owed
-
-  abbrev pub ActStep : Owing P → Act → Owing P → Type 0
-  ActStep p (Does e) q = DoesStep e p q
-  ActStep p (Send link bytes) q = SendStep link bytes p q
-  ActStep p (Fail link bytes count) q = FailStep link bytes p q
-
-  -- from one place by these acts to another
-  abbrev pub ActPath : Owing P → List Act → Owing P → Type 0
-  ActPath from [] to = to ≡ from
-  ActPath from (a ∷ acts) to = (next : Owing P) × ActStep from a next × ActPath next acts to
+-- An event happens where nothing is owed, and what it adds is owed behind it. All bytes that are
+-- owed on a link go out, or a front of them and the call fails; each is a step of the machine below
+-- as it is told.
+abbrev pub ActStep : {P : Type 0} → (P → Facts) → ℕ → (P → Event → P → Type 0) → Owing P → Act
+    → Owing P → Type 0
+ActStep facts_at first step p (Does e) q =
+    ((link : ℕ) → p.owed link ≡ []) × step p.at e q.at
+    × ((link : ℕ) → q.owed link ≡ adds_to (facts_at p.at) first e link)
+ActStep facts_at first step p (Send n bytes) q =
+    (bytes ≡ p.owed n) × step p.at Pass q.at
+    × ((link : ℕ) → q.owed link ≡ cond (nat_eq n link) [] (p.owed link))
+ActStep facts_at first step p (Fail n bytes count) q =
+    (bytes ≡ p.owed n) × step p.at (Break n) q.at
+    × ((link : ℕ) → q.owed link ≡ cond (nat_eq n link) [] (p.owed link))
