@@ -400,7 +400,8 @@ module _ (clients : Meaning) (first : ℕ) where
 
   pub free_fails : (p q : Free) (e : Event) → FreeStep clients first p e q → HoldsOpen p.hold p.links → StepFailsAll e p q
   free_fails p q e t o =
-      from_cases clients first (λ (x : Event). StepFailsAll x p q) p.hold e p q t (λ m. moves_fails p q m)
+      from_cases clients first (λ (x : Event). StepFailsAll x p q) p.hold e p q t
+      (λ same. at_free Pass p q p same (same_links Pass p p (λ i. refl) refl o)) (λ m. moves_fails p q m)
       (λ h. hold_fails p.hold e p q refl h o)
 
   -- just the links on which a call failed stand Failed, and the link in hand is open

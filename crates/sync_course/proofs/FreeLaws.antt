@@ -30,16 +30,16 @@ module _ (clients : Meaning) (terms : Terms) where
   by_link n doing (Miss on) p q s = s
   by_link n doing (Read on now) p q s = s
   by_link n doing (Break on) p q s = s
-  by_link n doing Pass p q s = inr s
+  by_link n doing Pass p q s = inr (inr s)
 
   ends_free : (n : ℕ) (doing : Doing) (e : Event) (p q : Place) → EndsTurn doing e p q
       → FreeFrom clients terms.first (Holds n doing) e (forget p) (forget q)
-  ends_free n Asks Pass p q t = inl (tt, inr (inr (ap forget t)))
+  ends_free n Asks Pass p q t = inr (inl (tt, inr (inr (ap forget t))))
   ends_free n _ _ p q t = absurd t
 
   next_free : (n : ℕ) (doing : Doing) (e : Event) (p q : Place) → GoesToNext n doing e p q
       → FreeFrom clients terms.first (Holds n doing) e (forget p) (forget q)
-  next_free n Done Pass p q t = inl (tt, inl (record { hold = Holds (suc n) Asks; idle = tt; leads = ap forget t }))
+  next_free n Done Pass p q t = inr (inl (tt, inl (record { hold = Holds (suc n) Asks; idle = tt; leads = ap forget t })))
   next_free n _ _ p q t = absurd t
 
   turn_free : (n : ℕ) (doing : Doing) (o : Option Link) (e : Event) (p q : Place) → slice_get p.links n ≡ o
@@ -53,17 +53,17 @@ module _ (clients : Meaning) (terms : Terms) where
 
   between_free : (p q : Place) (b : Bool) → q ≡ cond b (record p { stage = Ended }) (record p { stage = Works 0 Asks; moved = false })
       → FreeFrom clients terms.first Rests Pass (forget p) (forget q)
-  between_free p q true t = inl (tt, inl (record { hold = Rests; idle = tt; leads = ap forget t }))
-  between_free p q false t = inl (tt, inl (record { hold = Holds 0 Asks; idle = tt; leads = ap forget t }))
+  between_free p q true t = inr (inl (tt, inl (record { hold = Rests; idle = tt; leads = ap forget t })))
+  between_free p q false t = inr (inl (tt, inl (record { hold = Holds 0 Asks; idle = tt; leads = ap forget t })))
 
   stage_free : (stage : Stage) (e : Event) (p q : Place) → p.stage ≡ stage → StageStep clients terms stage e p q
       → FreeFrom clients terms.first (hold_at stage) e (forget p) (forget q)
   stage_free (Settles left) (Commit b) p q is t = inl (inl t.0, ap forget t.1)
-  stage_free (Settles left) Pass p q is t = inl (tt, inl (record { hold = Rests; idle = tt; leads = ap forget t.1 }))
+  stage_free (Settles left) Pass p q is t = inr (inl (tt, inl (record { hold = Rests; idle = tt; leads = ap forget t.1 })))
   stage_free (Attaches (x ∷ left)) (Commit b) p q is t =
       inr (record { session = x; is = t.0; allowed = t.1; leads = ap forget t.2 })
-  stage_free (Attaches []) Pass p q is t = inl (tt, inl (record { hold = Rests; idle = tt; leads = ap forget t }))
-  stage_free (Greets x left) Pass p q is t = inr (ap forget t)
+  stage_free (Attaches []) Pass p q is t = inr (inl (tt, inl (record { hold = Rests; idle = tt; leads = ap forget t })))
+  stage_free (Greets x left) Pass p q is t = inr (inr (ap forget t))
   stage_free (Greets x left) (Break on) p q is t = (t.0, ap forget t.1)
   stage_free Between Pass p q is t = between_free p q (is_at_end terms p) t
   stage_free (Works n doing) e p q is t = turn_free n doing (slice_get p.links n) e p q refl t

@@ -30,15 +30,19 @@ use Rattle.sync_course.proofs.LiftLaws.{get_other, get_set, get_within}
 use Rattle.sync_course.proofs.MoveLaws.{Moves as MovesOn, link_step_moves, moves_none, moves_one}
 use Rattle.sync_course.proofs.RunLaws.{IsClosedFrom, IsOfJournal, cond_same, ended_counted, get_push_cases, journal_moves, new_counted, redundant_get, settled_begun, untaken}
 
--- by an event: nothing that is told of happened, or what is in hand made a step
+-- by an event: nothing happened, or nothing that is told of, or what is in hand made a step
 pub from_cases : (clients : Meaning) (first : ℕ) (T : Event → Type 0) (hold : Hold) (e : Event) (p q : Free) → FreeFrom clients first hold e p q
-    → (Moves hold p q → T Pass) → (HoldStep clients first hold e p q → T e) → T e
-from_cases clients first T hold (Commit b) p q s quiet holds = holds s
-from_cases clients first T hold (Hear on reply) p q s quiet holds = holds s
-from_cases clients first T hold (Miss on) p q s quiet holds = holds s
-from_cases clients first T hold (Read on now) p q s quiet holds = holds s
-from_cases clients first T hold (Break on) p q s quiet holds = holds s
-from_cases clients first T hold Pass p q s quiet holds = elim s [ | inl m ↦ quiet m | inr h ↦ holds h ]
+    → (q ≡ p → T Pass) → (Moves hold p q → T Pass) → (HoldStep clients first hold e p q → T e) → T e
+from_cases clients first T hold (Commit b) p q s stays quiet holds = holds s
+from_cases clients first T hold (Hear on reply) p q s stays quiet holds = holds s
+from_cases clients first T hold (Miss on) p q s stays quiet holds = holds s
+from_cases clients first T hold (Read on now) p q s stays quiet holds = holds s
+from_cases clients first T hold (Break on) p q s stays quiet holds = holds s
+from_cases clients first T hold Pass p q s stays quiet holds =
+    elim s [
+      | inl same ↦ stays same
+      | inr others ↦ elim others [ | inl m ↦ quiet m | inr h ↦ holds h ]
+    ]
 
 -- nothing that is told of leaves the facts
 pub moves_facts : (hold : Hold) (p q : Free) → Moves hold p q → q.facts ≡ p.facts
@@ -74,6 +78,7 @@ module _ (clients : Meaning) (first : ℕ) where
   pub free_moves : (p q : Free) (e : Event) → FreeStep clients first p e q → MovesOn clients (batches_of (e ∷ [])) p.facts q.facts
   free_moves p q e s =
       from_cases clients first (λ (x : Event). MovesOn clients (batches_of (x ∷ [])) p.facts q.facts) p.hold e p q s
+      (λ same. moves_none clients p.facts q.facts (ap (λ (x : Free). x.facts) same))
       (λ m. moves_none clients p.facts q.facts (moves_facts p.hold p q m))
       (λ h. hold_moves p.hold e p q h)
 
@@ -362,7 +367,7 @@ module _ (go_on : StreamsGoOn) (join : RecordsJoin) (clients : Meaning) (first :
   free_sound p q e t s =
       let journal : IsOfJournal clients q.facts =
       journal_moves clients (batches_of (e ∷ [])) p.facts q.facts (free_moves clients first p q e t) s.of_journal in
-      from_cases clients first (λ (x : Event). Sound q) p.hold e p q t (λ m. moves_sound p q m s)
+      from_cases clients first (λ (x : Event). Sound q) p.hold e p q t (λ same. sound_at q p same s) (λ m. moves_sound p q m s)
       (λ h. hold_sound p.hold e p q refl h journal s)
 
   pub free_path_sound : (p q : Free) (es : List Event) → Path (FreeStep clients first) p es q → Sound p → Sound q

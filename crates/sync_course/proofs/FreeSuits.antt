@@ -89,7 +89,8 @@ module _ (clients : Meaning) (first : ℕ) where
 
   pub free_heard : (p q : Free) (e : Event) → FreeStep clients first p e q → FreeHeard p q
   free_heard p q e t =
-      from_cases clients first (λ (x : Event). FreeHeard p q) p.hold e p q t (λ m. moves_heard p q m) (λ h. hold_heard p.hold e p q h)
+      from_cases clients first (λ (x : Event). FreeHeard p q) p.hold e p q t (λ same. same_heard p q (ap (λ (x : Free). x.links) same))
+      (λ m. moves_heard p q m) (λ h. hold_heard p.hold e p q h)
 
   pub free_path_heard : (p q : Free) (es : List Event) → Path (FreeStep clients first) p es q → FreeHeard p q
   free_path_heard p q [] path = same_heard p q (ap (λ (x : Free). x.links) path)
@@ -180,6 +181,7 @@ module _ (clients : Meaning) (first : ℕ) where
   pub free_begins : (p q : Free) (e : Event) → FreeStep clients first p e q → BegunGrows e p q
   free_begins p q e t =
       from_cases clients first (λ (x : Event). BegunGrows x p q) p.hold e p q t
+      (λ same. none_begins Pass p q refl (ap (λ (x : Free). x.facts.begun) same))
       (λ m. none_begins Pass p q refl (ap (λ (f : Facts). f.begun) (moves_facts p.hold p q m)))
       (λ h. hold_begins p.hold e p q h)
 
@@ -272,7 +274,7 @@ module _ (fronts : FrontsHaveFronts) (clients : Meaning) (first : ℕ) (plans : 
       → Fit p.facts (e ∷ [])
   free_suits e p q t grows s planned =
       from_cases clients first
-      (λ (x : Event). Fit p.facts (x ∷ [])) p.hold e p q t (λ m. tt)
+      (λ (x : Event). Fit p.facts (x ∷ [])) p.hold e p q t (λ same. tt) (λ m. tt)
       (λ h. hold_suit p.hold e p q refl h grows s planned)
 
   suit_then : (f : Facts) (bs cs : List (List Entry)) → AllSuitNode clients first plans heard f bs
@@ -331,21 +333,27 @@ module _ (go_on : StreamsGoOn) (join : RecordsJoin) (fronts : FrontsHaveFronts) 
 
 -- ---- moments
 
+-- bytes that are a front of what is owed on a link
+owed_there : (n : ℕ) (bytes : List ℕ) (p : Owing Free) (i : ℕ) → runs.IsFront bytes (p.owed n)
+    → runs.IsFront (cond (nat_eq n i) bytes []) (p.owed i)
+owed_there n bytes p i front = to_link (nat_eq n i) refl
+  where
+    to_link : (t : Bool) → nat_eq n i ≡ t → runs.IsFront (cond t bytes []) (p.owed i)
+    to_link true is = subst (λ (k : ℕ). runs.IsFront bytes (p.owed k)) (eqb-true n i is) front
+    to_link false is = front_of_none (p.owed i)
+
 -- what the first of some acts is to send is owed before them
 next_owed : (clients : Meaning) (first : ℕ) (acts : List Act) (p q : Owing Free) (i : ℕ) → Path (ActsOn clients first) p acts q
     → runs.IsFront (next_bytes i acts) (p.owed i)
 next_owed clients first [] p q i path = front_of_none (p.owed i)
 next_owed clients first (Does e ∷ acts) p q i path = front_of_none (p.owed i)
-next_owed clients first (Send n bytes ∷ acts) p q i path = to_link (nat_eq n i) refl
-  where
-    to_link : (t : Bool) → nat_eq n i ≡ t → runs.IsFront (cond t bytes []) (p.owed i)
-    to_link true is = record { rest = []; whole = sym (path.1.0 ∙ ap p.owed (eqb-true n i is)) ∙ sym (append-nil bytes) }
-    to_link false is = front_of_none (p.owed i)
-next_owed clients first (Fail n bytes count ∷ acts) p q i path = to_link (nat_eq n i) refl
-  where
-    to_link : (t : Bool) → nat_eq n i ≡ t → runs.IsFront (cond t bytes []) (p.owed i)
-    to_link true is = record { rest = []; whole = sym (path.1.0 ∙ ap p.owed (eqb-true n i is)) ∙ sym (append-nil bytes) }
-    to_link false is = front_of_none (p.owed i)
+next_owed clients first (Send n bytes ∷ acts) p q i path =
+    owed_there n bytes p i
+    (elim path.1 [
+      | inl all ↦ record { rest = []; whole = sym all.0 ∙ sym (append-nil bytes) }
+      | inr some ↦ record { rest = some.rest; whole = some.parts }
+    ])
+next_owed clients first (Fail n bytes count ∷ acts) p q i path = owed_there n bytes p i path.1.0
 
 pub moment_stands : StreamsGoOn → RecordsJoin → FrontsHaveFronts → (clients : Meaning) (j : List (List Entry)) (acts : List Act)
     (to : Owing Free) (m : Moment) → Legal clients j → FreeActs clients j acts to → AtFront clients acts j (λ link. []) m

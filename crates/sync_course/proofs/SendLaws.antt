@@ -178,7 +178,7 @@ module _ (clients : Meaning) (first : ℕ) where
 pub under : (clients : Meaning) (first : ℕ) (a : Act) (p q : Owing Free)
     → ActStep (λ (x : Free). x.facts) first (FreeStep clients first) p a q → FreeStep clients first p.at (event_of a) q.at
 under clients first (Does e) p q s = s.1
-under clients first (Send n bytes) p q s = s.1
+under clients first (Send n bytes) p q s = elim s [ | inl all ↦ all.1 | inr some ↦ inl some.stays ]
 under clients first (Fail n bytes count) p q s = s.1
 
 module _ (clients : Meaning) (first : ℕ) where
@@ -195,11 +195,18 @@ module _ (clients : Meaning) (first : ℕ) where
       → sent_by i a ++ q.owed i ≡ p.owed i ++ adds_to p.at.facts first (event_of a) i
   act_whole (Does e) p q i s well = s.2 i ∙ ap (λ (l : List ℕ). l ++ adds_to p.at.facts first e i) (sym (s.0 i))
   act_whole (Send n bytes) p q i s well =
-      ap (λ (l : List ℕ). cond (nat_eq n i) bytes [] ++ l) (s.2 i) ∙ paid_by (nat_eq n i) refl
+      elim s [
+        | inl all ↦
+            ap (λ (l : List ℕ). cond (nat_eq n i) bytes [] ++ l) (all.2 i)
+            ∙ paid_by [] (sym all.0 ∙ sym (append-nil bytes)) (nat_eq n i) refl
+        | inr some ↦
+            ap (λ (l : List ℕ). cond (nat_eq n i) bytes [] ++ l) (some.left i) ∙ paid_by some.rest some.parts (nat_eq n i) refl
+      ]
     where
-      paid_by : (t : Bool) → nat_eq n i ≡ t → cond t bytes [] ++ cond t [] (p.owed i) ≡ p.owed i ++ []
-      paid_by true is = ap (λ (l : List ℕ). l ++ []) (s.0 ∙ ap p.owed (eqb-true n i is))
-      paid_by false is = sym (append-nil (p.owed i))
+      paid_by : (rest : List ℕ) → p.owed n ≡ bytes ++ rest → (t : Bool) → nat_eq n i ≡ t
+          → cond t bytes [] ++ cond t rest (p.owed i) ≡ p.owed i ++ []
+      paid_by rest parts true is = sym parts ∙ ap p.owed (eqb-true n i is) ∙ sym (append-nil (p.owed i))
+      paid_by rest parts false is = sym (append-nil (p.owed i))
   act_whole (Fail n bytes count) p q i s well =
       ap (λ (l : List ℕ). cond (nat_eq n i) (take count bytes) [] ++ l) (s.2 i) ∙ paid_by (nat_eq n i) well
     where
@@ -223,13 +230,14 @@ module _ (clients : Meaning) (first : ℕ) where
           (front_itself (q.owed i))
       failed (Send n bytes) s is = cc
       failed (Fail n bytes count) s is =
-          let same : bytes ≡ p.owed i = s.0 ∙ ap p.owed (eqb-true n i is) in
+          let there : IsFront bytes (p.owed i) = subst (λ (k : ℕ). IsFront bytes (p.owed k)) (eqb-true n i is) s.0 in
           let went : cond (nat_eq n i) (take count bytes) [] ++ q.owed i ≡ take count bytes =
           ap (λ (l : List ℕ). cond (nat_eq n i) (take count bytes) [] ++ l) (s.2 i)
           ∙ ap (λ (t : Bool). cond t (take count bytes) [] ++ cond t [] (p.owed i)) is
           ∙ append-nil (take count bytes) in
           subst (λ (l : List ℕ). IsFront l (p.owed i ++ [])) (sym went)
-          (subst (λ (l : List ℕ). IsFront (take count bytes) l) (same ∙ sym (append-nil (p.owed i))) (front_take count bytes))
+          (subst (λ (l : List ℕ). IsFront (take count bytes) l) (sym (append-nil (p.owed i)))
+          (front_after (take count bytes) bytes (p.owed i) (front_take count bytes) there))
 
 -- behind acts from a journal on: the journal, the place, and what was sent and is owed
 pub record HasSent (clients : Meaning) (first : ℕ) (j : List (List Entry)) (acts : List Act) (p : Owing Free) : Type 0 where

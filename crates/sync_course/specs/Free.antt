@@ -112,9 +112,9 @@ HoldStep clients first (Begins s) (Break on) p q = (on ≡ length p.links) × (q
 HoldStep clients first (Holds n doing) e p q = LinkMoves clients first n doing e p q
 HoldStep clients first _ _ p q = ⊥
 
--- the same, or nothing that is told of
+-- the same; or nothing that is told of: the place stays, or something else is taken in hand
 abbrev pub FreeFrom : Meaning → ℕ → Hold → Event → Free → Free → Type 0
-FreeFrom clients first hold Pass p q = Moves hold p q ⊎ HoldStep clients first hold Pass p q
+FreeFrom clients first hold Pass p q = (q ≡ p) ⊎ (Moves hold p q ⊎ HoldStep clients first hold Pass p q)
 FreeFrom clients first hold e p q = HoldStep clients first hold e p q
 
 -- a step of a node, whose first link has this session
