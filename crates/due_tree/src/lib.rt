@@ -7,4 +7,5 @@ mod cells;
 mod tree;
 
 pub use bits::Bits;
+pub use cells::{is_due, lesser};
 pub use tree::DueTree;
