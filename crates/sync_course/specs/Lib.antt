@@ -11,3 +11,7 @@ pub mod DueOutputs
 pub mod Redundant
 pub mod Idle
 pub mod Reading
+pub mod Acts
+pub mod Owing
+pub mod Free
+pub mod Story

@@ -65,7 +65,7 @@ impl Clients for Pair {
 pub(crate) fn wait(rt: &impl Print, alloc: Global) -> Result<()> {
     let device = hear_both(alloc)?;
     look(rt, &device);
-    let clients = pair(alloc)?;
+    let clients = make_pair(alloc)?;
     look_again(rt, alloc, device.load_again(alloc)?, &clients);
     say(
         rt,
@@ -74,7 +74,7 @@ pub(crate) fn wait(rt: &impl Print, alloc: Global) -> Result<()> {
 }
 
 /// The clients of both messages.
-fn pair(alloc: Global) -> Result<Pair> {
+fn make_pair(alloc: Global) -> Result<Pair> {
     let group = group_id(&group_def(alloc, "pair")?);
     Ok(Pair {
         first: id_of(&message(alloc, group, 0, b"first")?),
@@ -86,7 +86,7 @@ fn pair(alloc: Global) -> Result<Pair> {
 fn hear_both(alloc: Global) -> Result<Device<MemDisk, Pair>> {
     let def = group_def(alloc, "pair")?;
     let group = group_id(&def);
-    let mut device = begin(alloc, pair(alloc)?, def)?;
+    let mut device = begin(alloc, make_pair(alloc)?, def)?;
     hear_two(alloc, &mut device, group)?;
     Ok(device)
 }

@@ -597,12 +597,9 @@ fn lines_of_streams(rt: HostRuntime) {
     let alloc = rt.alloc();
     let id = id(&rt, ID);
     let mut to = String::new(alloc);
-    made(&rt, try_line(alloc, Fate::Delivered, &id, 0, 1, &mut to));
-    made(&rt, try_line(alloc, Fate::Invalid, &id, 7, 32_768, &mut to));
-    made(
-        &rt,
-        try_line(alloc, Fate::Pending, &id, u64::MAX / 2, 2, &mut to),
-    );
+    made(&rt, try_line(Fate::Delivered, &id, 0, 1, &mut to));
+    made(&rt, try_line(Fate::Invalid, &id, 7, 32_768, &mut to));
+    made(&rt, try_line(Fate::Pending, &id, u64::MAX / 2, 2, &mut to));
     add_records(&rt, alloc, &mut to);
     made(&rt, skipped_line(5, 9, 2, &mut to));
     same(&rt, 1, &to.as_str(), &STREAM_LINES);
