@@ -148,17 +148,17 @@ module _ (clients : Meaning) (first : ℕ) where
             ap (λ (x : List Entry). output_in p.facts (first + i) x) begins.is
             ∙ begins_adds p.facts begins.session (first + i)
             (λ same.
-                let at : begins.session.number ≡ first + i = same in
-                absurd (omega (arith, within, numbered, at, begun)))
+            let at : begins.session.number ≡ first + i = same in
+            absurd (omega (arith, within, numbered, at, begun)))
       ]
   hold_adds (Holds n doing) b p q i t begun o f =
       link_adds n i doing b (spot_in doing t.link t.moved p) t.spot
       (λ is_open same.
-          let there : slice_get p.links n ≡ Some f.link = subst (λ (k : ℕ). slice_get p.links k ≡ Some f.link) (sym same) f.there in
-          let both : Some t.link ≡ Some f.link = sym t.there ∙ there in
-          let is : t.link ≡ f.link = cc in
-          let failed : t.link.stands ≡ end.Failed = ap (λ (l : Link). l.stands) is ∙ f.failed in
-          absurd (false≢true (ap is_sent_to (sym failed) ∙ is_open)))
+      let there : slice_get p.links n ≡ Some f.link = subst (λ (k : ℕ). slice_get p.links k ≡ Some f.link) (sym same) f.there in
+      let both : Some t.link ≡ Some f.link = sym t.there ∙ there in
+      let is : t.link ≡ f.link = cc in
+      let failed : t.link.stands ≡ end.Failed = ap (λ (l : Link). l.stands) is ∙ f.failed in
+      absurd (false≢true (ap is_sent_to (sym failed) ∙ is_open)))
       t.steps (o t.link t.there)
   hold_adds _ b p q i t begun o f = absurd t
 
@@ -178,7 +178,7 @@ module _ (clients : Meaning) (first : ℕ) where
 pub under : (clients : Meaning) (first : ℕ) (a : Act) (p q : Owing Free)
     → ActStep (λ (x : Free). x.facts) first (FreeStep clients first) p a q → FreeStep clients first p.at (event_of a) q.at
 under clients first (Does e) p q s = s.1
-under clients first (Send n bytes) p q s = elim s [ | inl all ↦ all.1 | inr some ↦ inl some.stays ]
+under clients first (Send n bytes) p q s = elim s [ inl all ↦ all.1 | inr some ↦ inl some.stays ]
 under clients first (Fail n bytes count) p q s = s.1
 
 module _ (clients : Meaning) (first : ℕ) where
@@ -263,23 +263,23 @@ module _ (go_on : StreamsGoOn) (join : RecordsJoin) (clients : Meaning) (first :
       ap (λ (l : List (List Entry)). j ++ l) (batches_in-append acts (a ∷ [])) ∙ sym (append_assoc j (batches_in acts) new) in
       let events : events_of (acts ++ a ∷ []) ≡ events_of acts ++ e ∷ [] = events_of-append acts (a ∷ []) in
       let grown : (i : ℕ) → output (j ++ batches_in (acts ++ a ∷ [])) (first + i)
-          ≡ output old (first + i) ++ adds_to p.at.facts first e i =
+      ≡ output old (first + i) ++ adds_to p.at.facts first e i =
       λ i. ap (λ (l : List (List Entry)). output l (first + i)) is
-          ∙ event_adds clients first old e i k.legal goes
-          ∙ ap (λ (f : Facts). output old (first + i) ++ adds_to f first e i) k.same in
+      ∙ event_adds clients first old e i k.legal goes
+      ∙ ap (λ (f : Facts). output old (first + i) ++ adds_to f first e i) k.same in
       let sends : (i : ℕ) → sends_on i (acts ++ a ∷ []) ++ q.owed i ≡ sends_on i acts ++ (sent_by i a ++ q.owed i) =
       λ i. ap (λ (l : List ℕ). l ++ q.owed i)
-          (sends_on-append i acts (a ∷ []) ∙ ap (λ (l : List ℕ). sends_on i acts ++ l) (append-nil (sent_by i a)))
-          ∙ append_assoc (sends_on i acts) (sent_by i a) (q.owed i) in
+      (sends_on-append i acts (a ∷ []) ∙ ap (λ (l : List ℕ). sends_on i acts ++ l) (append-nil (sent_by i a)))
+      ∙ append_assoc (sends_on i acts) (sent_by i a) (q.owed i) in
       let was_whole : (i : ℕ) → has_failure i (events_of acts) ≡ false
-          → sends_on i acts ++ (p.owed i ++ adds_to p.at.facts first e i) ≡ output (j ++ batches_in (acts ++ a ∷ [])) (first + i) =
+      → sends_on i acts ++ (p.owed i ++ adds_to p.at.facts first e i) ≡ output (j ++ batches_in (acts ++ a ∷ [])) (first + i) =
       λ i well. sym (append_assoc (sends_on i acts) (p.owed i) (adds_to p.at.facts first e i))
-          ∙ ap (λ (l : List ℕ). l ++ adds_to p.at.facts first e i) (k.whole i well)
-          ∙ sym (grown i) in
+      ∙ ap (λ (l : List ℕ). l ++ adds_to p.at.facts first e i) (k.whole i well)
+      ∙ sym (grown i) in
       let was_front : (i : ℕ) (t : Bool) → has_failure i (events_of acts) ≡ t
-          → IsFront (sends_on i acts ++ (p.owed i ++ adds_to p.at.facts first e i)) (output (j ++ batches_in (acts ++ a ∷ [])) (first + i)) =
+      → IsFront (sends_on i acts ++ (p.owed i ++ adds_to p.at.facts first e i)) (output (j ++ batches_in (acts ++ a ∷ [])) (first + i)) =
       λ i t. elim t as (λ t. has_failure i (events_of acts) ≡ t
-          → IsFront (sends_on i acts ++ (p.owed i ++ adds_to p.at.facts first e i)) (output (j ++ batches_in (acts ++ a ∷ [])) (first + i))) [
+      → IsFront (sends_on i acts ++ (p.owed i ++ adds_to p.at.facts first e i)) (output (j ++ batches_in (acts ++ a ∷ [])) (first + i))) [
         | true ↦ λ failed.
             let none : adds_to p.at.facts first e i ≡ [] =
             event_spares clients first e p.at q.at i step k.sound k.fails.opens (k.fails.stays i failed) in

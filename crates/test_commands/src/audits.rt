@@ -20,12 +20,12 @@ pub(crate) struct Audit {
 /// Audits all.
 pub(crate) fn play_all(tally: &mut Tally) -> Result<()> {
     for row in &AUDITS {
-        audit(row, tally)?;
+        play_audit(row, tally)?;
     }
     Ok(())
 }
 
-fn audit(row: &Audit, tally: &mut Tally) -> Result<()> {
+fn play_audit(row: &Audit, tally: &mut Tally) -> Result<()> {
     let first = hex::decode(tally.alloc, row.first)?;
     let second = hex::decode(tally.alloc, row.second)?;
     let files = Files::new(first.as_slice(), second.as_slice());
