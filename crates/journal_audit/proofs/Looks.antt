@@ -4,7 +4,7 @@ use Rattle.std.specs.List.{cons_option, slice_get}
 use Rattle.std.specs.List.Sorted.{IsStrictlySortedBy}
 use Rattle.std.specs.Ordering.{nat_cmp}
 use Rattle.std.proofs.lemmas.Bool.{lt-leb, ltb-false, ltb-true, or_parts}
-use Rattle.std.proofs.lemmas.List.{append-assoc, append-nil, drop_all, take-append-le}
+use Rattle.std.proofs.lemmas.List.{append_assoc, append-nil, drop_all, take-append-le}
 use Rattle.sync_rules.specs.declared.entries.Mode.{Mode}
 use Rattle.sync_rules.specs.declared.entries.Mode.TheVariants as mode
 use Rattle.sync_rules.specs.Facts.{Held, Id, Row, is_level_shared, level_at, row_at}
@@ -108,7 +108,7 @@ list_here most test held n id o xs ys whole is by pushed so =
     let all : ids_where test (drop n held) ≡ id ∷ rest =
     ids_from test held n ∙ ap (λ (p : Option Id). cons_option p rest) (sym by ∙ is) in
     (λ i. take most (pushed i ++ ids_where test (drop (one i) held)))
-    ∙ (ap (take most) (append-assoc xs (id ∷ []) rest) ∙ (sym (ap (λ t. take most (xs ++ t)) all) ∙ so))
+    ∙ (ap (take most) (append_assoc xs (id ∷ []) rest) ∙ (sym (ap (λ t. take most (xs ++ t)) all) ∙ so))
 
 pub list_next : (most : ℕ) (test : Held → Bool) (held : List Held) (n : ℕ) (o : Option Id) (xs ys whole : List Id) → o ≡ None
     → o ≡ picked test (slice_get held n) → ys ≡ xs → take most (xs ++ ids_where test (drop n held)) ≡ whole

@@ -1,5 +1,5 @@
 -- Messages that are passed change nothing but cursors.
-use Rattle.std.proofs.Common.{◌≡◌, ◌≢◌, ℕ, ◌+◌, ◌<◌, ◌≤◌, Bool, true, false, cond, not, ◌&&◌, ◌||◌, nat_eq, nat_lt, List, length, Option, Some, refl, sym, ◌∙◌, ap, subst, arith, eq-eqb, eqb-true}
+use Rattle.std.proofs.Common.{◌≡◌, ◌≢◌, ℕ, zero, suc, ◌+◌, ◌<◌, ◌≤◌, Bool, true, false, cond, not, ◌&&◌, ◌||◌, nat_eq, nat_lt, List, length, replicate, slice_index_or, Option, Some, refl, sym, ◌∙◌, ap, subst, arith, eq-eqb, eqb-true}
 use Rattle.std.specs.List.{slice_get}
 use Rattle.std.proofs.lemmas.Bool.{false≢true, le-ltb, ltb-false}
 use Rattle.sync_rules.specs.declared.entries.Entry.{Entry}
@@ -14,6 +14,14 @@ use Rattle.journal_audit.specs.Plain.{IsSound, Knows, Passes, facts_of, is_awake
 use Rattle.journal_audit.specs.Playing.{IsOfLegal, Plays}
 
 -- ---- cursors
+
+abbrev zeros : ℕ → List ℕ
+zeros n = replicate n 0
+
+pub none_yet : (n contact : ℕ) → slice_index_or (zeros n) contact 0 ≡ zero
+none_yet zero contact = refl
+none_yet (suc n) zero = refl
+none_yet (suc n) (suc contact) = none_yet n contact
 
 -- what is asleep until a time is asleep until a sooner one
 asleep_sooner : (levels : LevelMap) (rows : Rows) (contact sooner until : ℕ) (h : Held) → sooner ≤ until → is_awake levels rows contact until h ≡ false

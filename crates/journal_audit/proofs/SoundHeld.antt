@@ -100,7 +100,7 @@ module _ (contacts : ℕ) (groups : List Known) (levels : LevelMap) (kept : Kept
   changed_so change held kept' n waiting' changed lines waits =
       let hs : held_in kept'.lines ≡ held_in kept.lines = ap held_in changed ∙ same_held change held n kept.lines in
       let same_length : length kept'.lines ≡ length kept.lines =
-      sym (length-map held_of kept'.lines) ∙ (ap length hs ∙ length-map held_of kept.lines) in
+      sym (length-map kept'.lines held_of) ∙ (ap length hs ∙ length-map kept.lines held_of) in
       record {
         lines = lines;
         levels_fit = s.levels_fit;

@@ -4,9 +4,9 @@ ghost use Rattle.sync_rules.specs.Clients.{Meaning};
 ghost use Rattle.sync_rules.specs.Facts.{nothing};
 ghost use Rattle.journal_audit.specs.Plain.{IsSound, Knows, facts_of};
 
+use crate::cursors::Cursors;
 use crate::groups::Groups;
 use crate::levels::Levels;
-use crate::cursors::Cursors;
 use crate::messages::Messages;
 use crate::numbers::{ByContact, Numbers};
 use crate::rows::Rows;

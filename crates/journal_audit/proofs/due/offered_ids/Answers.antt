@@ -31,7 +31,7 @@ returns c =
     let whole : List Id = take MAX_IDS (ids_where test (drop c.args.from held)) in
     elim c.loop-n-test.branch [
       | else-loop-n-test w ↦
-          let long = length-map held_of lines in
+          let long = length-map lines held_of in
           let end = c.len-n-end.ensures.value in
           let over = w.loop-n-test.false in
           let beyond : length held ≤ c.loop-n.n = omega (arith, long, end, over) in
