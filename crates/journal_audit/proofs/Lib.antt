@@ -9,6 +9,7 @@ mod Marks
 mod Named
 mod NumberSets
 mod Parts
+mod Passed
 mod Places
 mod SessionLists
 mod Plays

@@ -13,10 +13,9 @@ use Rattle.sync_rules.proofs.RowLaws.{hits, row_at_change}
 use Rattle.sync_rules.proofs.ScanLaws.{level_at_set}
 use Rattle.sync_rules.proofs.Sound.{group_at-push, held_at-push}
 use Rattle.journal_audit.specs.declared.messages.Line.{Line}
-use Rattle.journal_audit.specs.Changes.{is_in_group}
 use Rattle.journal_audit.specs.Lines.{AreLines, Kept, delivered_in, delivered_line, held_in, held_of, id_at, invalid_line, judged_line, line_changed}
-use Rattle.journal_audit.specs.Numbers.{has, has_for}
-use Rattle.journal_audit.specs.Plain.{AreGrouped, AreSound, HasLevels, HasRows, Opens, Owes, Waits}
+use Rattle.journal_audit.specs.Numbers.{CursorLists, from_of, has, has_for, until_of}
+use Rattle.journal_audit.specs.Plain.{AreGrouped, AreSound, HasLevels, HasRows, Owes, Waits, is_awake}
 use Rattle.journal_audit.proofs.Lines.{HasLine, OldOrNew, WasLine, held_get, old_or_new, place_own, same_held, same_place, was_line}
 use Rattle.journal_audit.proofs.Kept.{lines_changed, lines_delivered, lines_none, lines_push}
 use Rattle.journal_audit.proofs.Places.{held_push, place_found}
@@ -30,20 +29,14 @@ not_true : (b : Bool) → (b ≡ true → ⊥) → b ≡ false
 not_true true h = absurd (h refl)
 not_true false h = refl
 
--- a set to which numbers were added
-added : (t old : Bool) → cond t true old ≡ false → (t ≡ false) × (old ≡ false)
-added true old e = absurd (false≢true (sym e))
-added false old e = (refl, e)
-
 -- ---- nothing
 
-pub sound_none : (groups : List Known) (levels : LevelMap) (kept : Kept) (rows : Rows) (waiting : List ℕ) (owed unsent : List (List ℕ))
-    → levels ≡ fin_map.empty → kept.lines ≡ [] → kept.delivered ≡ [] → rows ≡ fin_map.empty → AreSound 0 groups levels kept rows waiting owed unsent
-sound_none groups levels kept rows waiting owed unsent no_levels no_lines no_delivered no_rows =
+pub sound_none : (groups : List Known) (levels : LevelMap) (kept : Kept) (rows : Rows) (waiting : List ℕ) (owed : List (List ℕ)) (cursors : CursorLists)
+    → levels ≡ fin_map.empty → kept.lines ≡ [] → kept.delivered ≡ [] → rows ≡ fin_map.empty → ((contact : ℕ) → from_of cursors contact ≡ 0) → AreSound 0 groups levels kept rows waiting owed cursors
+sound_none groups levels kept rows waiting owed cursors no_levels no_lines no_delivered no_rows no_cursor =
     let P : List Line → Type 0 = λ ls. Waits ls waiting in
     let R : List Line → Type 0 = λ ls. AreGrouped groups (held_in ls) in
     let O : List Line → Type 0 = λ ls. Owes (held_in ls) rows owed in
-    let U : List Line → Type 0 = λ ls. Opens (held_in ls) levels rows unsent in
     record {
       lines = lines_none kept no_lines no_delivered;
       levels_fit = record {
@@ -55,17 +48,18 @@ sound_none groups levels kept rows waiting owed unsent no_levels no_lines no_del
       rows_fit = λ contact id none. ap (λ (r : Rows). row_at r contact id) no_rows ∙ ap row_or (fin_map.get-empty pair_cmp (contact, id));
       waits = subst P (sym no_lines) (λ n l at. cc);
       owes = subst O (sym no_lines) (λ contact n h below at. cc);
-      opens = subst U (sym no_lines) (λ contact n h below at. cc);
+      sleeps = λ contact n h at below. let none = no_cursor contact in absurd (omega (arith, none, below));
+      within = λ contact. let none = no_cursor contact in omega (arith, none);
     }
   where
     unset : (contact : ℕ) (group : Id) → level_at levels contact group ≡ level.Invisible
     unset contact group = ap (λ (l : LevelMap). level_at l contact group) no_levels ∙ ap level_or (fin_map.get-empty pair_cmp (contact, group))
 
-module _ (contacts : ℕ) (groups : List Known) (levels : LevelMap) (kept : Kept) (rows : Rows) (waiting : List ℕ) (owed unsent : List (List ℕ))
-    (s : AreSound contacts groups levels kept rows waiting owed unsent) where
+module _ (contacts : ℕ) (groups : List Known) (levels : LevelMap) (kept : Kept) (rows : Rows) (waiting : List ℕ) (owed : List (List ℕ)) (cursors : CursorLists)
+    (s : AreSound contacts groups levels kept rows waiting owed cursors) where
   -- ---- contacts, groups and levels
 
-  pub sound_contact : contacts < 256 → AreSound (contacts + 1) groups levels kept rows waiting owed unsent
+  pub sound_contact : contacts < 256 → AreSound (contacts + 1) groups levels kept rows waiting owed cursors
   sound_contact below = record {
     lines = s.lines;
     levels_fit = record {
@@ -77,7 +71,8 @@ module _ (contacts : ℕ) (groups : List Known) (levels : LevelMap) (kept : Kept
     rows_fit = s.rows_fit;
     waits = s.waits;
     owes = s.owes;
-    opens = s.opens;
+    sleeps = s.sleeps;
+    within = s.within;
   }
 
   grouped_more : (x : Known) (hs : List Held) → AreGrouped groups hs → AreGrouped (groups ++ x ∷ []) hs
@@ -86,9 +81,9 @@ module _ (contacts : ℕ) (groups : List Known) (levels : LevelMap) (kept : Kept
       let parts = and_parts (is_some (group_at groups h.message.group)) _ all in
       and_from (is_some (group_at (groups ++ x ∷ []) h.message.group)) _ (ap is_some (group_at-push groups x h.message.group parts.0) ∙ parts.0) (grouped_more x hs parts.1)
 
-  pub sound_group : (x : Known) (groups' : List Known) → groups' ≡ groups ++ x ∷ [] → AreSound contacts groups' levels kept rows waiting owed unsent
+  pub sound_group : (x : Known) (groups' : List Known) → groups' ≡ groups ++ x ∷ [] → AreSound contacts groups' levels kept rows waiting owed cursors
   sound_group x groups' more =
-      let At : List Known → Type 0 = λ gs. AreSound contacts gs levels kept rows waiting owed unsent in
+      let At : List Known → Type 0 = λ gs. AreSound contacts gs levels kept rows waiting owed cursors in
       subst At (sym more)
       (record {
         lines = s.lines;
@@ -101,20 +96,22 @@ module _ (contacts : ℕ) (groups : List Known) (levels : LevelMap) (kept : Kept
         rows_fit = s.rows_fit;
         waits = s.waits;
         owes = s.owes;
-        opens = s.opens;
+        sleeps = s.sleeps;
+        within = s.within;
       })
 
-  pub sound_level : (c : ℕ) (g : Id) (l : Level) (levels' : LevelMap) (unsent' : List (List ℕ)) → c < contacts → is_some (group_at groups g) ≡ true → levels' ≡ put_level levels (c, g) l
-      → ((x m : ℕ) → has_for unsent' x m ≡ cond (nat_eq x c && (is_level_shared l && is_in_group g (slice_get kept.lines m))) true (has_for unsent x m))
-      → AreSound contacts groups levels' kept rows waiting owed unsent'
-  sound_level c g l levels' unsent' below known put opened = record {
+  pub sound_level : (c : ℕ) (g : Id) (l : Level) (levels' : LevelMap) (cursors' : CursorLists) → c < contacts → is_some (group_at groups g) ≡ true → levels' ≡ put_level levels (c, g) l
+      → ((x : ℕ) → from_of cursors' x ≡ cond (nat_eq x c) 0 (from_of cursors x)) → ((x : ℕ) → until_of cursors' x ≡ cond (nat_eq x c) 0 (until_of cursors x))
+      → AreSound contacts groups levels' kept rows waiting owed cursors'
+  sound_level c g l levels' cursors' below known put from_is until_is = record {
     lines = s.lines;
     levels_fit = record { few = s.levels_fit.few; shown = λ x group. shown x group _ refl; hidden = λ x group beyond. hidden x group beyond };
     grouped = s.grouped;
     rows_fit = s.rows_fit;
     waits = s.waits;
     owes = s.owes;
-    opens = λ x m h under at out. opens x m h under at (added _ _ (sym (opened x m) ∙ out)) (nat_eq x c && same_id h.message.group g) refl;
+    sleeps = λ x m h at under. sleeps x m h at under (nat_eq x c) refl;
+    within = λ x. within x (nat_eq x c) refl;
   }
     where
       is : (x : ℕ) (group : Id) → level_at levels' x group ≡ cond (nat_eq x c && same_id group g) l (level_at levels x group)
@@ -129,17 +126,22 @@ module _ (contacts : ℕ) (groups : List Known) (levels : LevelMap) (kept : Kept
           let other : nat_eq x c ≡ false = not_true (nat_eq x c) (λ e. let same : x ≡ c = eqb-true x c e in absurd (omega (arith, below, beyond, same))) in
           is x group ∙ ap (λ b. cond (b && same_id group g) l (level_at levels x group)) other ∙ s.levels_fit.hidden x group beyond
 
-      opens : (x m : ℕ) (h : Held) → x < 256 → slice_get (held_in kept.lines) m ≡ Some h
-          → ((nat_eq x c && (is_level_shared l && is_in_group g (slice_get kept.lines m))) ≡ false) × (has_for unsent x m ≡ false)
-          → (b : Bool) → (nat_eq x c && same_id h.message.group g) ≡ b → (is_level_shared (level_at levels' x h.message.group) && not (row_at rows x h.id).seen) ≡ false
-      opens x m h under at outs true e =
-          let both = and_parts (nat_eq x c) (same_id h.message.group g) e in
-          let line = held_get kept.lines m h at in
-          let inside : is_in_group g (slice_get kept.lines m) ≡ true = ap (is_in_group g) line.at ∙ (ap (λ (k : Held). same_id k.message.group g) (sym line.is) ∙ both.1) in
-          let unshared : is_level_shared l ≡ false =
-          not_true (is_level_shared l) (λ open_to. never _ (and_from (nat_eq x c) _ both.0 (and_from (is_level_shared l) _ open_to inside)) outs.0) in
-          ap (λ (v : Level). is_level_shared v && not (row_at rows x h.id).seen) (is x h.message.group ∙ ap (λ b. cond b l (level_at levels x h.message.group)) e)
-          ∙ ap (λ b. b && not (row_at rows x h.id).seen) unshared
-      opens x m h under at outs false e =
-          ap (λ (v : Level). is_level_shared v && not (row_at rows x h.id).seen) (is x h.message.group ∙ ap (λ b. cond b l (level_at levels x h.message.group)) e)
-          ∙ s.opens x m h under at outs.1
+      -- the contact begins anew, and nothing is changed for another
+      from_now : (x : ℕ) (b : Bool) → nat_eq x c ≡ b → from_of cursors' x ≡ cond b 0 (from_of cursors x)
+      from_now x b e = from_is x ∙ ap (λ t. cond t 0 (from_of cursors x)) e
+
+      within : (x : ℕ) (b : Bool) → nat_eq x c ≡ b → from_of cursors' x ≤ length kept.lines
+      within x true e = let none = from_now x true e in omega (arith, none)
+      within x false e = let same = from_now x false e in let old = s.within x in omega (arith, same, old)
+
+      sleeps : (x m : ℕ) (h : Held) → slice_get (held_in kept.lines) m ≡ Some h → m < from_of cursors' x → (b : Bool) → nat_eq x c ≡ b
+          → is_awake levels' rows x (until_of cursors' x) h ≡ false
+      sleeps x m h at under true e = let none = from_now x true e in absurd (omega (arith, none, under))
+      sleeps x m h at under false e =
+          let same = from_now x false e in
+          let was : m < from_of cursors x = omega (arith, same, under) in
+          let level_same : level_at levels' x h.message.group ≡ level_at levels x h.message.group =
+          is x h.message.group ∙ ap (λ b. cond (b && same_id h.message.group g) l (level_at levels x h.message.group)) e in
+          let until_same : until_of cursors' x ≡ until_of cursors x = until_is x ∙ ap (λ t. cond t 0 (until_of cursors x)) e in
+          (λ i. is_level_shared (level_same i)
+          && (not (row_at rows x h.id).seen && ((row_at rows x h.id).asked || nat_lt (row_at rows x h.id).expiry (until_same i)))) ∙ s.sleeps x m h at was

@@ -2,15 +2,15 @@
 use Rattle.std.proofs.Common.{◌≡◌, ℕ, ◌+◌, ◌<◌, ◌≤◌, ◌⊎◌, Bool, true, false, not, cond, ◌&&◌, ◌||◌, List, [], ◌∷◌, ◌++◌, length, Option, Some, None, refl, sym, ◌∙◌, ap, subst, inl, inr, arith, is_some, nat_eq, nat_lt, eq-eqb, eqb-true}
 use Rattle.std.specs.List.{slice_get}
 use Rattle.std.proofs.lemmas.Bool.{and_from, and_parts, false≢true, ltb-false, or_right}
-use Rattle.std.proofs.lemmas.List.{length-map}
+use Rattle.std.proofs.lemmas.List.{length-append, length-map}
 use Rattle.std.proofs.lemmas.Option.{slice_get_within}
 use Rattle.sync_rules.specs.declared.entries.Level.{Level}
 use Rattle.sync_rules.specs.Facts.{Held, Id, Known, LevelMap, Row, Rows, group_at, held_at, is_held, is_level_shared, level_at, row_at}
 use Rattle.sync_rules.proofs.Sound.{held_at-push}
 use Rattle.journal_audit.specs.declared.messages.Line.{Line}
 use Rattle.journal_audit.specs.Lines.{AreLines, Kept, delivered_line, held_in, held_of, invalid_line, judged_line, line_changed}
-use Rattle.journal_audit.specs.Numbers.{has, has_for}
-use Rattle.journal_audit.specs.Plain.{AreGrouped, AreSound, HasRows, Opens, Owes, Waits}
+use Rattle.journal_audit.specs.Numbers.{CursorLists, from_of, has, has_for}
+use Rattle.journal_audit.specs.Plain.{AreGrouped, AreSound, HasRows, Owes, Sleeps, Waits}
 use Rattle.journal_audit.proofs.Kept.{lines_changed, lines_delivered, lines_push}
 use Rattle.journal_audit.proofs.Lines.{HasLine, OldOrNew, WasLine, held_get, get_held, old_or_new, same_held, was_line}
 use Rattle.journal_audit.proofs.Places.{held_push}
@@ -39,15 +39,13 @@ still_held hs h id none = by (held_at hs id) refl where
   by None e = ap is_some e
   by (Some x) e = absurd (never (is_held (hs ++ h ∷ []) id) (ap is_some (held_at-push hs h id x e)) none)
 
-module _ (contacts : ℕ) (groups : List Known) (levels : LevelMap) (kept : Kept) (rows : Rows) (waiting : List ℕ) (owed unsent : List (List ℕ))
-    (s : AreSound contacts groups levels kept rows waiting owed unsent) where
+module _ (contacts : ℕ) (groups : List Known) (levels : LevelMap) (kept : Kept) (rows : Rows) (waiting : List ℕ) (owed : List (List ℕ)) (cursors : CursorLists)
+    (s : AreSound contacts groups levels kept rows waiting owed cursors) where
   -- ---- one message more
 
-  module _ (kept' : Kept) (waiting' : List ℕ) (unsent' : List (List ℕ)) (l : Line) (more : kept'.lines ≡ kept.lines ++ l ∷ []) (same : kept'.delivered ≡ kept.delivered)
+  module _ (kept' : Kept) (waiting' : List ℕ) (l : Line) (more : kept'.lines ≡ kept.lines ++ l ∷ []) (same : kept'.delivered ≡ kept.delivered)
       (known : is_some (group_at groups l.message.group) ≡ true) (new : is_held (held_in kept.lines) l.id ≡ false) (undelivered : l.delivered ≡ false)
-      (waits_too : (m : ℕ) → has waiting' m ≡ cond (nat_eq m (length kept.lines)) true (has waiting m))
-      (opened : (c m : ℕ) → has_for unsent' c m
-      ≡ cond (nat_eq m (length kept.lines) && (nat_lt c contacts && is_level_shared (level_at levels c l.message.group))) true (has_for unsent c m)) where
+      (waits_too : (m : ℕ) → has waiting' m ≡ cond (nat_eq m (length kept.lines)) true (has waiting m)) where
     held_more : held_in kept'.lines ≡ held_in kept.lines ++ held_of l ∷ []
     held_more = ap held_in more ∙ held_push kept.lines l
 
@@ -73,26 +71,17 @@ module _ (contacts : ℕ) (groups : List Known) (levels : LevelMap) (kept : Kept
           | inr both ↦ ap (λ (k : Held). (row_at rows c k.id).owed) both.1 ∙ ap (λ (r : Row). r.owed) (s.rows_fit c l.id new)
         ]
 
-    unshared : (c : ℕ) (b : Bool) → nat_lt c contacts ≡ b → (nat_lt c contacts && is_level_shared (level_at levels c l.message.group)) ≡ false
-        → is_level_shared (level_at levels c l.message.group) ≡ false
-    unshared c true e out = sym (ap (λ b. b && is_level_shared (level_at levels c l.message.group)) e) ∙ out
-    unshared c false e out = ap is_level_shared (s.levels_fit.hidden c l.message.group (ltb-false c contacts e))
-
-    apart : (m c : ℕ) → m ≡ length kept.lines → (nat_eq m (length kept.lines) && (nat_lt c contacts && is_level_shared (level_at levels c l.message.group))) ≡ false
-        → (nat_lt c contacts && is_level_shared (level_at levels c l.message.group)) ≡ false
-    apart m c e out = sym (ap (λ b. b && (nat_lt c contacts && is_level_shared (level_at levels c l.message.group))) (eq-eqb m (length kept.lines) e)) ∙ out
-
-    opens : Opens (held_in kept'.lines) levels rows unsent'
-    opens c m h under at out =
-        let outs = added _ _ (sym (opened c m) ∙ out) in
+    sleeps : Sleeps (held_in kept'.lines) levels rows cursors
+    sleeps c m h at under =
         elim (was m h at) [
-          | inl old ↦ s.opens c m h under old outs.1
-          | inr both ↦
-              ap (λ (k : Held). is_level_shared (level_at levels c k.message.group) && not (row_at rows c k.id).seen) both.1
-              ∙ ap (λ b. b && not (row_at rows c l.id).seen) (unshared c (nat_lt c contacts) refl (apart m c both.0 outs.0))
+          | inl old ↦ s.sleeps c m h old under
+          | inr both ↦ let last : m ≡ length kept.lines = both.0 in let most = s.within c in absurd (omega (arith, last, most, under))
         ]
 
-    pub sound_held : AreSound contacts groups levels kept' rows waiting' owed unsent'
+    longer : length kept'.lines ≡ length kept.lines + 1
+    longer = ap length more ∙ length-append kept.lines (l ∷ [])
+
+    pub sound_held : AreSound contacts groups levels kept' rows waiting' owed cursors
     sound_held = record {
       lines = lines_push kept kept' l s.lines more same new undelivered;
       levels_fit = s.levels_fit;
@@ -100,15 +89,18 @@ module _ (contacts : ℕ) (groups : List Known) (levels : LevelMap) (kept : Kept
       rows_fit = λ c id none. s.rows_fit c id (still_held (held_in kept.lines) (held_of l) id (ap (λ hs. is_held hs id) (sym held_more) ∙ none));
       waits = waits;
       owes = owes;
-      opens = opens;
+      sleeps = sleeps;
+      within = λ c. let most = s.within c in let more_is = longer in omega (arith, most, more_is);
     }
 
   -- ---- what became of a message
 
   changed_so : (change : Line → Line) → ((l : Line) → held_of (change l) ≡ held_of l) → (kept' : Kept) (n : ℕ) (waiting' : List ℕ) → kept'.lines ≡ line_changed change n kept.lines
-      → AreLines kept' → Waits kept'.lines waiting' → AreSound contacts groups levels kept' rows waiting' owed unsent
+      → AreLines kept' → Waits kept'.lines waiting' → AreSound contacts groups levels kept' rows waiting' owed cursors
   changed_so change held kept' n waiting' changed lines waits =
       let hs : held_in kept'.lines ≡ held_in kept.lines = ap held_in changed ∙ same_held change held n kept.lines in
+      let same_length : length kept'.lines ≡ length kept.lines =
+      sym (length-map kept'.lines held_of) ∙ (ap length hs ∙ length-map kept.lines held_of) in
       record {
         lines = lines;
         levels_fit = s.levels_fit;
@@ -116,11 +108,12 @@ module _ (contacts : ℕ) (groups : List Known) (levels : LevelMap) (kept : Kept
         rows_fit = subst (λ k. HasRows k rows) (sym hs) s.rows_fit;
         waits = waits;
         owes = subst (λ k. Owes k rows owed) (sym hs) s.owes;
-        opens = subst (λ k. Opens k levels rows unsent) (sym hs) s.opens;
+        sleeps = subst (λ k. Sleeps k levels rows cursors) (sym hs) s.sleeps;
+        within = λ c. let most = s.within c in let long = same_length in omega (arith, most, long);
       }
 
   pub sound_judged : (kept' : Kept) (n : ℕ) → kept'.lines ≡ line_changed judged_line n kept.lines → kept'.delivered ≡ kept.delivered
-      → AreSound contacts groups levels kept' rows waiting owed unsent
+      → AreSound contacts groups levels kept' rows waiting owed cursors
   sound_judged kept' n changed same =
       changed_so judged_line (λ l. refl) kept' n waiting changed (lines_changed judged_line (λ l. refl) (λ l. refl) kept kept' n s.lines changed same) waits
     where
@@ -139,7 +132,7 @@ module _ (contacts : ℕ) (groups : List Known) (levels : LevelMap) (kept : Kept
   ended_so : (change : Line → Line) → ((l : Line) → held_of (change l) ≡ held_of l) → ((l : Line) → (change l).judged ≡ l.judged)
       → ((l : Line) → ((change l).delivered || (change l).invalid) ≡ true) → (kept' : Kept) (n : ℕ) (l : Line) (waiting' : List ℕ) → slice_get kept.lines n ≡ Some l
       → kept'.lines ≡ line_changed change n kept.lines → AreLines kept'
-      → ((m : ℕ) → has waiting' m ≡ cond (nat_eq m n && l.judged) false (has waiting m)) → AreSound contacts groups levels kept' rows waiting' owed unsent
+      → ((m : ℕ) → has waiting' m ≡ cond (nat_eq m n && l.judged) false (has waiting m)) → AreSound contacts groups levels kept' rows waiting' owed cursors
   ended_so change held judged ends kept' n l waiting' here changed lines stops = changed_so change held kept' n waiting' changed lines waits
     where
       still : (m : ℕ) (b : Line) → slice_get kept.lines m ≡ Some b → (j : Bool) → b.judged ≡ j → (nat_eq m n && l.judged) ≡ false → has waiting' m ≡ false
@@ -179,14 +172,14 @@ module _ (contacts : ℕ) (groups : List Known) (levels : LevelMap) (kept : Kept
 
   pub sound_refused : (kept' : Kept) (n : ℕ) (l : Line) (waiting' : List ℕ) → slice_get kept.lines n ≡ Some l → kept'.lines ≡ line_changed invalid_line n kept.lines
       → kept'.delivered ≡ kept.delivered → ((m : ℕ) → has waiting' m ≡ cond (nat_eq m n && l.judged) false (has waiting m))
-      → AreSound contacts groups levels kept' rows waiting' owed unsent
+      → AreSound contacts groups levels kept' rows waiting' owed cursors
   sound_refused kept' n l waiting' here changed same stops =
       ended_so invalid_line (λ x. refl) (λ x. refl) invalid_ends kept' n l waiting' here changed
       (lines_changed invalid_line (λ x. refl) (λ x. refl) kept kept' n s.lines changed same) stops
 
   pub sound_delivered : (kept' : Kept) (n : ℕ) (l : Line) (waiting' : List ℕ) → slice_get kept.lines n ≡ Some l → kept'.lines ≡ line_changed delivered_line n kept.lines
       → kept'.delivered ≡ kept.delivered ++ n ∷ [] → ((m : ℕ) → has waiting' m ≡ cond (nat_eq m n && l.judged) false (has waiting m))
-      → AreSound contacts groups levels kept' rows waiting' owed unsent
+      → AreSound contacts groups levels kept' rows waiting' owed cursors
   sound_delivered kept' n l waiting' here changed pushed stops =
       ended_so delivered_line (λ x. refl) (λ x. refl) (λ x. refl) kept' n l waiting' here changed
       (lines_delivered kept kept' n l s.lines here (slice_get_within kept.lines n l here) changed pushed) stops

@@ -1,5 +1,5 @@
 -- What holds of plain facts stays so when a row changes.
-use Rattle.std.proofs.Common.{◌≡◌, ℕ, ◌<◌, ◌⊎◌, Bool, true, false, not, cond, ◌&&◌, List, Option, Some, None, refl, sym, ◌∙◌, ap, subst, inl, inr, nat_eq, eq-eqb, eqb-true, is_some}
+use Rattle.std.proofs.Common.{◌≡◌, ℕ, ◌<◌, ◌≤◌, ◌⊎◌, Bool, true, false, not, cond, ◌&&◌, ◌||◌, nat_lt, arith, List, Option, Some, None, refl, sym, ◌∙◌, ap, subst, inl, inr, nat_eq, eq-eqb, eqb-true, is_some}
 use Rattle.std.specs.List.{slice_get}
 use Rattle.std.proofs.lemmas.Bool.{and_from, and_parts, false≢true}
 use Rattle.sync_rules.specs.Facts.{Held, Id, Known, LevelMap, Row, Rows, change_row, held_at, is_held, is_level_shared, level_at, row_at}
@@ -8,8 +8,8 @@ use Rattle.sync_rules.specs.Views.{IsPlace, place_of}
 use Rattle.sync_rules.proofs.Elements.{same_id-is, same_id_itself}
 use Rattle.sync_rules.proofs.RowLaws.{hits, row_at_change}
 use Rattle.journal_audit.specs.Lines.{Kept, held_in}
-use Rattle.journal_audit.specs.Numbers.{has_for}
-use Rattle.journal_audit.specs.Plain.{AreSound, HasRows, Opens, Owes}
+use Rattle.journal_audit.specs.Numbers.{CursorLists, from_of, has_for, until_of}
+use Rattle.journal_audit.specs.Plain.{AreSound, AreWithin, HasRows, Owes, Sleeps, is_awake}
 use Rattle.journal_audit.proofs.Lines.{place_own}
 
 never : (b : Bool) → b ≡ true → b ≡ false → ⊥
@@ -19,12 +19,13 @@ not_true : (b : Bool) → (b ≡ true → ⊥) → b ≡ false
 not_true true h = absurd (h refl)
 not_true false h = refl
 
-module _ (contacts : ℕ) (groups : List Known) (levels : LevelMap) (kept : Kept) (rows : Rows) (waiting : List ℕ) (owed unsent : List (List ℕ))
-    (s : AreSound contacts groups levels kept rows waiting owed unsent) where
-  module _ (rows' : Rows) (owed' unsent' : List (List ℕ)) (c : ℕ) (id : Id) (n : ℕ) (change : Row → Row) (row : Row) (place : IsPlace (held_in kept.lines) id n)
-      (changed : rows' ≡ change_row rows c id change) (row_is : row ≡ change (row_at rows c id)) (keeps_seen : (r : Row) → r.seen ≡ true → (change r).seen ≡ true)
+module _ (contacts : ℕ) (groups : List Known) (levels : LevelMap) (kept : Kept) (rows : Rows) (waiting : List ℕ) (owed : List (List ℕ)) (cursors : CursorLists)
+    (s : AreSound contacts groups levels kept rows waiting owed cursors) where
+  module _ (rows' : Rows) (owed' : List (List ℕ)) (cursors' : CursorLists) (c : ℕ) (id : Id) (n : ℕ) (change : Row → Row) (row : Row) (place : IsPlace (held_in kept.lines) id n)
+      (changed : rows' ≡ change_row rows c id change) (row_is : row ≡ change (row_at rows c id))
       (owed_is : (x m : ℕ) → has_for owed' x m ≡ cond (nat_eq x c && nat_eq m n) row.owed (has_for owed x m))
-      (unsent_is : (x m : ℕ) → has_for unsent' x m ≡ cond (nat_eq x c && (nat_eq m n && row.seen)) false (has_for unsent x m)) where
+      (less : (x : ℕ) → from_of cursors' x ≤ from_of cursors x) (until_is : (x : ℕ) → until_of cursors' x ≡ until_of cursors x)
+      (back : row.seen ≡ false → from_of cursors' c ≤ n) where
     abbrev held : List Held
     held = held_in kept.lines
 
@@ -77,35 +78,36 @@ module _ (contacts : ℕ) (groups : List Known) (levels : LevelMap) (kept : Kept
       by true e = ap (λ (r : Row). r.owed) (made x m h at e) ∙ (sym (owed_is x m ∙ ap (λ b. cond b row.owed (has_for owed x m)) e) ∙ out)
       by false e = ap (λ (r : Row). r.owed) (left x m h at e) ∙ s.owes x m h under at (sym (owed_is x m ∙ ap (λ b. cond b row.owed (has_for owed x m)) e) ∙ out)
 
-    regroup : (a b d : Bool) → (a && (b && d)) ≡ ((a && b) && d)
-    regroup true b d = refl
-    regroup false b d = refl
+    sleeps : Sleeps held levels rows' cursors'
+    sleeps x m h at under = by (nat_eq x c && nat_eq m n) refl where
+      none : (t : Bool) → (t && false) ≡ false
+      none true = refl
+      none false = refl
 
-    opens : Opens held levels rows' unsent'
-    opens x m h under at out = by (nat_eq x c && nat_eq m n) refl where
-      is : (b : Bool) → (nat_eq x c && nat_eq m n) ≡ b → cond (b && row.seen) false (has_for unsent x m) ≡ false
-      is b e = ap (λ t. cond (t && row.seen) false (has_for unsent x m)) (sym e) ∙ (sym (unsent_is x m ∙ ap (λ t. cond t false (has_for unsent x m)) (regroup (nat_eq x c) (nat_eq m n) row.seen)) ∙ out)
-
-      sent : (b : Bool) → row.seen ≡ b → (nat_eq x c && nat_eq m n) ≡ true → (is_level_shared (level_at levels x h.message.group) && not row.seen) ≡ false
-      sent true e hits_it = ap (λ t. is_level_shared (level_at levels x h.message.group) && not t) e ∙ none (is_level_shared (level_at levels x h.message.group)) where
-        none : (t : Bool) → (t && false) ≡ false
-        none true = refl
-        none false = refl
-      sent false e hits_it =
+      hit_so : (b : Bool) → row.seen ≡ b → (nat_eq x c && nat_eq m n) ≡ true → is_awake levels rows' x (until_of cursors' x) h ≡ false
+      hit_so true e hits_it =
+          (λ i. is_level_shared (level_at levels x h.message.group)
+          && (not ((ap (λ (r : Row). r.seen) (made x m h at hits_it) ∙ e) i)
+          && ((row_at rows' x h.id).asked || nat_lt (row_at rows' x h.id).expiry (until_of cursors' x)))) ∙ none (is_level_shared (level_at levels x h.message.group))
+      hit_so false e hits_it =
           let both = and_parts (nat_eq x c) (nat_eq m n) hits_it in
           let contact : x ≡ c = eqb-true x c both.0 in
-          let named : id ≡ h.id = same_id-is id h.id (there m h at (eqb-true m n both.1)) in
-          let unseen : (row_at rows x h.id).seen ≡ false =
-          not_true (row_at rows x h.id).seen (λ seen. never row.seen
-          (ap (λ (r : Row). r.seen) (row_is ∙ (λ i. change (row_at rows (sym contact i) (named i)))) ∙ keeps_seen (row_at rows x h.id) seen) e) in
-          let old = s.opens x m h under at (sym (ap (λ t. cond (true && t) false (has_for unsent x m)) e) ∙ is true hits_it) in
-          ap (λ t. is_level_shared (level_at levels x h.message.group) && not t) (e ∙ sym unseen) ∙ old
+          let number : m ≡ n = eqb-true m n both.1 in
+          let most : from_of cursors' x ≤ n = subst (λ (k : ℕ). from_of cursors' k ≤ n) (sym contact) (back e) in
+          absurd (omega (arith, number, most, under))
 
-      by : (b : Bool) → (nat_eq x c && nat_eq m n) ≡ b → (is_level_shared (level_at levels x h.message.group) && not (row_at rows' x h.id).seen) ≡ false
-      by true e = ap (λ (r : Row). is_level_shared (level_at levels x h.message.group) && not r.seen) (made x m h at e) ∙ sent row.seen refl e
-      by false e = ap (λ (r : Row). is_level_shared (level_at levels x h.message.group) && not r.seen) (left x m h at e) ∙ s.opens x m h under at (is false e)
+      by : (b : Bool) → (nat_eq x c && nat_eq m n) ≡ b → is_awake levels rows' x (until_of cursors' x) h ≡ false
+      by true e = hit_so row.seen refl e
+      by false e =
+          let fewer = less x in
+          let was : m < from_of cursors x = omega (arith, fewer, under) in
+          (λ i. is_level_shared (level_at levels x h.message.group)
+          && (not (left x m h at e i).seen && ((left x m h at e i).asked || nat_lt (left x m h at e i).expiry (until_is x i)))) ∙ s.sleeps x m h at was
 
-    pub sound_row : AreSound contacts groups levels kept rows' waiting owed' unsent'
+    within : AreWithin kept.lines cursors'
+    within x = let fewer = less x in let old = s.within x in omega (arith, fewer, old)
+
+    pub sound_row : AreSound contacts groups levels kept rows' waiting owed' cursors'
     sound_row = record {
       lines = s.lines;
       levels_fit = s.levels_fit;
@@ -113,5 +115,6 @@ module _ (contacts : ℕ) (groups : List Known) (levels : LevelMap) (kept : Kept
       rows_fit = rows_fit;
       waits = s.waits;
       owes = owes;
-      opens = opens;
+      sleeps = sleeps;
+      within = within;
     }

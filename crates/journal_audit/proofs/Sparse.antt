@@ -147,7 +147,7 @@ ids_picked : (test : Held → Bool) (held : List Held) (ns : List ℕ) → ids_a
 ids_picked test held [] = refl
 ids_picked test held (n ∷ ns) = λ i. cons_option (picked_is test (slice_get held n) i) (ids_picked test held ns i)
 
-cons_cond : (b : Bool) (x : Id) (rest : List Id) → cons_option (cond b (Some x) None) rest ≡ cond b (x ∷ rest) rest
+pub cons_cond : (b : Bool) (x : Id) (rest : List Id) → cons_option (cond b (Some x) None) rest ≡ cond b (x ∷ rest) rest
 cons_cond true x rest = refl
 cons_cond false x rest = refl
 

@@ -19,8 +19,6 @@ use Rattle.sync_rules.proofs.PartsOfIds.{firsts_of_distinct}
 use Rattle.sync_rules.proofs.Sound.{held_at-push_new}
 use Rattle.journal_audit.specs.declared.facts.PlainFacts.{PlainFacts}
 use Rattle.journal_audit.specs.declared.messages.Line.{Line}
-use Rattle.journal_audit.specs.declared.rows.RowChange.{RowChange}
-use Rattle.journal_audit.specs.declared.rows.RowChange.TheVariants as change
 use Rattle.journal_audit.specs.Changes.{Becomes, BecomesKnown, FitsOut, with_rows}
 use Rattle.journal_audit.specs.Lines.{held_in, held_of}
 use Rattle.journal_audit.specs.Plain.{IsSound, Knows, facts_of, rest_after}
@@ -33,16 +31,6 @@ line_named ls id n l place at =
     let one : Some (held_of l) ≡ Some place.message = sym (get_held ls n l at) ∙ place.stands in
     let same : held_of l ≡ place.message = cc in
     ap (λ (h : Held). h.id) same ∙ place.named
-
--- no change takes back that a contact has a message
-pub keeps_seen : (c : RowChange) (r : Row) → r.seen ≡ true → (changed_by c r).seen ≡ true
-keeps_seen change.Heard r seen = refl
-keeps_seen change.Seen r seen = refl
-keeps_seen change.Acked r seen = seen
-keeps_seen change.Asked r seen = seen
-keeps_seen (change.Offered now latency) r seen = seen
-keeps_seen (change.Sent now latency) r seen = seen
-keeps_seen (change.Tried t) r seen = or_right t.seen r.seen seen
 
 -- ---- many rows
 

@@ -1,5 +1,5 @@
 -- When an entry may be taken into plain facts, and what taking it does beside the facts.
-use Rattle.std.specs.Prelude.{◌≡◌, ℕ, ◌<◌, Bool, true, false, List, Option, None, Some, is_some}
+use Rattle.std.specs.Prelude.{◌≡◌, ℕ, ◌<◌, true, false, List, is_some}
 use Rattle.std.specs.List.{list_all}
 use Rattle.sync_ids.specs.Values.{MessageValue}
 use Rattle.sync_ids.specs.Ids.{message_id_of}
@@ -9,9 +9,8 @@ use Rattle.sync_rules.specs.declared.entries.Out.{Out}
 use Rattle.sync_rules.specs.declared.entries.Out.TheVariants as out
 use Rattle.sync_rules.specs.Clients.{Meaning}
 use Rattle.sync_rules.specs.Facts.{Facts, Id, Rows, Wants, group_at, is_held}
-use Rattle.sync_rules.specs.Lists.{has_repeat, same_id}
+use Rattle.sync_rules.specs.Lists.{has_repeat}
 use Rattle.journal_audit.specs.declared.facts.PlainFacts.{PlainFacts}
-use Rattle.journal_audit.specs.declared.messages.Line.{Line}
 use Rattle.journal_audit.specs.Plain.{IsSound, Knows, facts_of}
 
 -- a message may be held: its group is known, and its id is not held
@@ -46,11 +45,6 @@ Fits f (entry.Asked s id) = is_held f.held id ≡ true
 Fits f (entry.Tried t) = is_held f.held t.id ≡ true
 Fits f (entry.Out s now what) = FitsOut f what
 Fits f _ = Unit {0}
-
--- a line's message is of this group
-abbrev pub is_in_group : Id → Option Line → Bool
-is_in_group group None = false
-is_in_group group (Some l) = same_id l.message.group group
 
 -- ---- what taking an entry does
 

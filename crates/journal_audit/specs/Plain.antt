@@ -1,5 +1,5 @@
 -- What plain facts stand for, and what holds of them.
-use Rattle.std.specs.Prelude.{◌≡◌, ℕ, ◌<◌, ◌≤◌, Bool, true, false, not, cond, ◌&&◌, ◌||◌, List, [], ◌∷◌, Some, is_some, slice_get}
+use Rattle.std.specs.Prelude.{◌≡◌, ℕ, ◌<◌, ◌≤◌, Bool, true, false, not, cond, ◌&&◌, ◌||◌, nat_lt, List, [], ◌∷◌, length, Some, is_some, slice_get}
 use Rattle.std.specs.List.{AllByRecursion, list_all}
 use Rattle.sync_rules.specs.declared.answers.Judgement.{Judgement}
 use Rattle.sync_rules.specs.declared.answers.Judgement.TheVariants as judgement
@@ -11,7 +11,7 @@ use Rattle.sync_rules.specs.Steps.{verdict_in}
 use Rattle.journal_audit.specs.declared.facts.PlainFacts.{PlainFacts}
 use Rattle.journal_audit.specs.declared.messages.Line.{Line}
 use Rattle.journal_audit.specs.Lines.{AreLines, Kept, delivered_in, held_in, ids_flagged, invalid_in, judged_in}
-use Rattle.journal_audit.specs.Numbers.{has, has_for}
+use Rattle.journal_audit.specs.Numbers.{CursorLists, from_of, has, has_for, until_of}
 
 -- ---- the facts
 
@@ -76,20 +76,36 @@ abbrev pub Owes : List Held → Rows → List (List ℕ) → Type 0
 Owes held rows owed =
     (contact n : ℕ) (h : Held) → contact < 256 → slice_get held n ≡ Some h → has_for owed contact n ≡ false → (row_at rows contact h.id).owed ≡ false
 
--- a message that is not among the open ones is in a group that is not Shared with the contact, or the contact has it
-abbrev pub Opens : List Held → LevelMap → Rows → List (List ℕ) → Type 0
-Opens held levels rows open_for =
-    (contact n : ℕ) (h : Held) → contact < 256 → slice_get held n ≡ Some h → has_for open_for contact n ≡ false
-    → (is_level_shared (level_at levels contact h.message.group) && not (row_at rows contact h.id).seen) ≡ false
+-- a message may be due to the contact at some time before this one: it is in a group that is Shared with the contact, the contact
+-- does not have it, and it was asked for, or its time comes before
+abbrev pub is_awake : LevelMap → Rows → ℕ → ℕ → Held → Bool
+is_awake levels rows contact until h =
+    is_level_shared (level_at levels contact h.message.group)
+    && (not (row_at rows contact h.id).seen && ((row_at rows contact h.id).asked || nat_lt (row_at rows contact h.id).expiry until))
 
-pub record AreSound (contacts : ℕ) (groups : List Known) (levels : LevelMap) (kept : Kept) (rows : Rows) (waiting : List ℕ) (owed open_for : List (List ℕ)) : Type 0 where
+-- nothing below a contact's cursor is due before its time
+abbrev pub Sleeps : List Held → LevelMap → Rows → CursorLists → Type 0
+Sleeps held levels rows cursors =
+    (contact n : ℕ) (h : Held) → slice_get held n ≡ Some h → n < from_of cursors contact → is_awake levels rows contact (until_of cursors contact) h ≡ false
+
+-- no cursor is beyond the messages
+abbrev pub AreWithin : List Line → CursorLists → Type 0
+AreWithin lines cursors = (contact : ℕ) → from_of cursors contact ≤ length lines
+
+pub record AreSound (contacts : ℕ) (groups : List Known) (levels : LevelMap) (kept : Kept) (rows : Rows) (waiting : List ℕ) (owed : List (List ℕ)) (cursors : CursorLists) : Type 0 where
   pub lines : AreLines kept
   pub levels_fit : HasLevels contacts groups levels
   pub grouped : AreGrouped groups (held_in kept.lines)
   pub rows_fit : HasRows (held_in kept.lines) rows
   pub waits : Waits kept.lines waiting
   pub owes : Owes (held_in kept.lines) rows owed
-  pub opens : Opens (held_in kept.lines) levels rows open_for
+  pub sleeps : Sleeps (held_in kept.lines) levels rows cursors
+  pub within : AreWithin kept.lines cursors
 
 abbrev pub IsSound : PlainFacts → Type 0
-IsSound p = AreSound p.contacts p.groups p.levels p.messages p.rows p.waiting p.owed p.unsent
+IsSound p = AreSound p.contacts p.groups p.levels p.messages p.rows p.waiting p.owed p.cursors
+
+-- a message of this number need not be looked at before this time
+pub record Passes (p : PlainFacts) (contact n until : ℕ) : Type 0 where
+  pub sooner : until ≤ until_of p.cursors contact
+  pub asleep : (h : Held) → slice_get (held_in p.messages.lines) n ≡ Some h → is_awake p.levels p.rows contact until h ≡ false

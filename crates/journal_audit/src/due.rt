@@ -1,8 +1,8 @@
 //! Which held messages are owed, sent and offered to a contact.
-ghost use Rattle.std.specs.Prelude.{◌≡◌, ◌&&◌, not, nat_le, IfOk, slice_get, take};
+ghost use Rattle.std.specs.Prelude.{◌≡◌, ◌&&◌, drop, not, nat_le, IfOk, slice_get, take};
 ghost use Rattle.std.specs.Option.{option_copied};
 ghost use Rattle.sync_rules.specs.Facts.{is_level_shared, level_at};
-ghost use Rattle.sync_rules.specs.Sessions.{first_id, is_author, is_ripe};
+ghost use Rattle.sync_rules.specs.Sessions.{first_id, ids_where, is_author, is_ripe};
 ghost use Rattle.sync_ids.specs.declared.lists.TheConstants.{MAX_IDS};
 ghost use Rattle.journal_audit.specs.Lines.{held_in};
 ghost use Rattle.journal_audit.specs.Looks.{ids_at, is_line_sendable, is_offered, is_owed, is_sent};
@@ -20,8 +20,8 @@ use sync_rules::{Judgement, Level, Mode, Origin};
 
 // ---- one message
 
-// Whether a group is Shared with the contact.
-fn is_shared(levels: &Levels, contact: u8, group: &GroupId) -> bool
+/// Whether a group is Shared with the contact.
+pub(crate) fn is_shared(levels: &Levels, contact: u8, group: &GroupId) -> bool
     ensures { result ≡ is_level_shared (level_at levels.now contact group.now) }
 {
     match levels.level(contact, group) {
@@ -128,7 +128,7 @@ fn offered_at(facts: &PlainFacts, contact: u8, now: u64, n: u32) -> Option<Messa
     }
 }
 
-// ---- those of a set
+// ---- all of them
 
 /// The ids of the messages of these numbers that wait for an acknowledgement to the contact, at
 /// most the first MAX_IDS of them.
@@ -155,46 +155,46 @@ pub(crate) fn owed_ids(
     Ok(ids)
 }
 
-/// The first message of these numbers that is to be sent to the contact.
+/// The first message from this number on that is to be sent to the contact.
 pub(crate) fn first_sent(
     facts: &PlainFacts,
     contact: u8,
     mode: Mode,
     now: u64,
-    numbers: &BTreeSet<u32>,
+    from: u32,
 ) -> Option<MessageId>
     requires { IsSound facts.now }
-    ensures { result ≡ first_id (ids_at (is_sent (seen_of facts.now) contact mode now)
-        (held_in facts.now.messages.lines) numbers.now.keys) }
+    ensures { result ≡ first_id (ids_where (is_sent (seen_of facts.now) contact mode now)
+        (drop from (held_in facts.now.messages.lines))) }
 {
-    for n in numbers {
-        if let Some(id) = sent_at(facts, contact, mode, now, *n) {
+    for n in from..facts.messages.len() {
+        if let Some(id) = sent_at(facts, contact, mode, now, n) {
             return Some(id);
         }
     }
     None
 }
 
-/// The ids of the messages of these numbers that are to be offered to the contact, at most the
+/// The ids of the messages from this number on that are to be offered to the contact, at most the
 /// first MAX_IDS of them.
 pub(crate) fn offered_ids(
     alloc: Global,
     facts: &PlainFacts,
     contact: u8,
     now: u64,
-    numbers: &BTreeSet<u32>,
+    from: u32,
 ) -> Result<Vec<MessageId>, AllocError>
     requires { IsSound facts.now }
-    ensures { IfOk result (λ ids. ids.items ≡ take MAX_IDS (ids_at
-        (is_offered (seen_of facts.now) contact now) (held_in facts.now.messages.lines)
-        numbers.now.keys)) }
+    ensures { IfOk result (λ ids. ids.items ≡ take MAX_IDS (ids_where
+        (is_offered (seen_of facts.now) contact now)
+        (drop from (held_in facts.now.messages.lines)))) }
 {
     let mut ids = Vec::new(alloc);
-    for n in numbers {
+    for n in from..facts.messages.len() {
         if ids.len() >= MAX_IDS {
             break;
         }
-        if let Some(id) = offered_at(facts, contact, now, *n) {
+        if let Some(id) = offered_at(facts, contact, now, n) {
             ids.push(id)?;
         }
     }

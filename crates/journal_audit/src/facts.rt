@@ -4,6 +4,7 @@ ghost use Rattle.sync_rules.specs.Clients.{Meaning};
 ghost use Rattle.sync_rules.specs.Facts.{nothing};
 ghost use Rattle.journal_audit.specs.Plain.{IsSound, Knows, facts_of};
 
+use crate::cursors::Cursors;
 use crate::groups::Groups;
 use crate::levels::Levels;
 use crate::messages::Messages;
@@ -14,8 +15,9 @@ use crate::wants::Wants;
 use std::alloc::{AllocError, Global};
 use sync_rules::Start;
 
-/// The facts of a journal as the definitions have them, in maps and sets, and three sets of arrival
-/// numbers that say where it is worth to look: each has the messages that matter, and maybe more.
+/// The facts of a journal as the definitions have them, in maps and sets. Two sets of arrival numbers
+/// say where it is worth to look for steps and for what is owed: each has the messages that matter,
+/// and maybe more. Cursors say from where on for what is due.
 #[derive(Drop)]
 pub(crate) struct PlainFacts {
     /// How the journal began.
@@ -38,8 +40,8 @@ pub(crate) struct PlainFacts {
     pub(crate) waiting: Numbers,
     /// For each contact the messages that may wait for our acknowledgement.
     pub(crate) owed: ByContact,
-    /// For each contact the messages that it may not have, in groups that are Shared with it.
-    pub(crate) unsent: ByContact,
+    /// For each contact the number below which no message is due to it for a while.
+    pub(crate) cursors: Cursors,
 }
 
 impl PlainFacts {
@@ -60,7 +62,7 @@ impl PlainFacts {
             wants: Wants::new(alloc),
             waiting: Numbers::new(alloc),
             owed: ByContact::new(alloc)?,
-            unsent: ByContact::new(alloc)?,
+            cursors: Cursors::new(alloc)?,
         })
     }
 }

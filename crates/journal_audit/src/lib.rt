@@ -2,6 +2,7 @@
 #![tactic(auto)]
 
 mod auditing;
+mod cursors;
 mod due;
 mod facts;
 mod fault;
@@ -12,7 +13,7 @@ mod levels;
 mod messages;
 mod names;
 mod numbers;
-mod opening;
+mod passing;
 mod playing;
 mod reading;
 mod report;

@@ -177,8 +177,8 @@ fn allows_other<C: Clients>(
     allows(alloc, &view, clients, settled, batch, id)
 }
 
-// Another batch.
-fn admit_other<C: Clients>(
+// Another batch, once what is not due for it was passed.
+fn admit_passed<C: Clients>(
     facts: &mut PlainFacts,
     alloc: Global,
     clients: &C,
@@ -197,6 +197,23 @@ fn admit_other<C: Clients>(
     allows_is_allowed();
     take_all(facts, alloc, clients, &id, batch.into_entries())?;
     Ok(true)
+}
+
+// Another batch.
+fn admit_other<C: Clients>(
+    facts: &mut PlainFacts,
+    alloc: Global,
+    clients: &C,
+    batch: Batch,
+) -> Result<bool, AllocError>
+    requires legal { IsOfLegal (C.meaning clients.now) facts.old }
+    requires kind { is_settling_kind batch ≡ false }
+    requires plain { is_rows_kind batch ≡ false }
+    ensures { IfOk result (Plays (C.meaning clients.now) facts.old facts.new
+        (allows (C.meaning clients.now) (facts_of facts.old) batch) batch) }
+{
+    facts.pass_for(batch.entries());
+    admit_passed(facts, alloc, clients, batch)
 }
 
 /// Tests whether a batch may follow the journal, and takes it where it may. It fails only for want

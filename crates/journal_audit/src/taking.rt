@@ -19,7 +19,6 @@ use crate::facts::PlainFacts;
 use crate::groups::Groups;
 use crate::messages::Line;
 use crate::numbers::{ByContact, Numbers};
-use crate::opening::{open_level, open_message};
 use crate::rows::RowChange;
 use batch_tests::id_known;
 use std::alloc::{AllocError, Global};
@@ -90,16 +89,6 @@ fn mark_owed(owed: &mut ByContact, contact: u8, n: u32, is_owed: bool) -> Result
     }
 }
 
-// A message that a contact has need not be sent to it.
-fn mark_seen(unsent: &mut ByContact, contact: u8, n: u32, is_seen: bool)
-    ensures { (c m : ℕ) → has_for unsent.new c m ≡ cond (nat_eq c contact && (nat_eq m n
-        && is_seen)) false (has_for unsent.old c m) }
-{
-    if is_seen {
-        unsent.remove(contact, n);
-    }
-}
-
 impl PlainFacts {
     // ---- contacts, groups and levels
 
@@ -130,7 +119,7 @@ impl PlainFacts {
             (entry.Level contact group level))) }
     {
         self.levels.set(contact, group, level)?;
-        open_level(&mut self.unsent, &self.messages, contact, &group, level)?;
+        self.cursors.clear(contact);
         Ok(())
     }
 
@@ -157,13 +146,6 @@ impl PlainFacts {
         let answer = judge(alloc, &self.groups, clients, &message)?;
         let n = self.messages.len();
         self.waiting.add(n)?;
-        open_message(
-            &mut self.unsent,
-            &self.levels,
-            self.contacts,
-            &message.group(),
-            n,
-        )?;
         self.wants.hold(&id);
         self.messages.hold(Line {
             id,
@@ -245,8 +227,8 @@ impl PlainFacts {
 
     // ---- rows and wanted ids
 
-    // The contact of a session.
-    fn contact_of(&self, session: u32) -> u8
+    /// The contact of a session.
+    pub(crate) fn contact_of(&self, session: u32) -> u8
         ensures { result ≡ contact_of (facts_of self.now).sessions session }
     {
         match self.sessions.find(session) {
@@ -282,7 +264,7 @@ impl PlainFacts {
         };
         let row = self.rows.change(contact, id, change)?;
         mark_owed(&mut self.owed, contact, n, row.owed)?;
-        mark_seen(&mut self.unsent, contact, n, row.seen);
+        self.cursors.fall_back(contact, n, row.seen);
         Ok(())
     }
 

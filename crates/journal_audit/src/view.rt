@@ -84,13 +84,13 @@ impl<'a> View for FactsView<'a> {
     }
 
     fn next_send(&self, contact: u8, mode: Mode, now: u64) -> Option<MessageId> {
-        let numbers = self.facts.unsent.of(contact);
-        first_sent(self.facts, contact, mode, now, numbers)
+        let from = self.facts.due_from(contact, now);
+        first_sent(self.facts, contact, mode, now, from)
     }
 
     fn offers(&self, alloc: Global, contact: u8, now: u64) -> Result<Vec<MessageId>, AllocError> {
-        let numbers = self.facts.unsent.of(contact);
-        offered_ids(alloc, self.facts, contact, now, numbers)
+        let from = self.facts.due_from(contact, now);
+        offered_ids(alloc, self.facts, contact, now, from)
     }
 }
 

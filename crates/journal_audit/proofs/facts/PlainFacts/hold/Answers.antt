@@ -1,8 +1,8 @@
-use Rattle.std.proofs.Common.{◌≡◌, ℕ, cond, ◌&&◌, true, false, length, nat_eq, nat_lt, refl, ap, ◌∙◌}
-use Rattle.sync_rules.specs.Facts.{Id, is_held, is_level_shared, level_at}
+use Rattle.std.proofs.Common.{◌≡◌, ℕ, cond, true, false, length, nat_eq, refl, ap, ◌∙◌}
+use Rattle.sync_rules.specs.Facts.{Id, is_held}
 use Rattle.journal_audit.specs.declared.messages.Line.{Line}
 use Rattle.journal_audit.specs.Lines.{held_in}
-use Rattle.journal_audit.specs.Numbers.{has, has_for}
+use Rattle.journal_audit.specs.Numbers.{has}
 use Rattle.journal_audit.proofs.Parts.{held_facts, knows_push, no_place, with_message}
 use Rattle.journal_audit.proofs.SoundHeld.{sound_held}
 use Rattle.journal_audit.proofs.facts.PlainFacts.hold.Goals as goal
@@ -32,11 +32,9 @@ returns-clause-held g c =
           held_facts p c.hold-2.new.self c.hold.new.self l c.requires.sound.lines c.in_ok-hold.ensures.lines c.in_ok-hold.ensures.delivered refl refl c.hold.ensures
           ∙ ap (λ (i : Id). with_message p i c.args.from m) c.id_known-id.ensures;
       sound =
-          sound_held p.contacts p.groups p.levels p.messages p.rows p.waiting p.owed p.unsent c.requires.sound c.hold-2.new.self c.add.new.self c.open_message.new.unsent l
+          sound_held p.contacts p.groups p.levels p.messages p.rows p.waiting p.owed p.cursors c.requires.sound c.hold-2.new.self c.add.new.self l
           c.in_ok-hold.ensures.lines c.in_ok-hold.ensures.delivered c.requires.fits.known_group
           (ap (is_held (held_in lines)) c.id_known-id.ensures ∙ c.requires.fits.new) refl
-          (λ n. c.in_ok-add.ensures n ∙ ap (λ (k : ℕ). cond (nat_eq n k) true (has p.waiting n)) long)
-          (λ contact n. c.in_ok-open_message.ensures contact n
-          ∙ (λ i. cond (nat_eq n (long i) && (nat_lt contact p.contacts && is_level_shared (level_at p.levels contact (c.group.ensures i)))) true (has_for p.unsent contact n)));
+          (λ n. c.in_ok-add.ensures n ∙ ap (λ (k : ℕ). cond (nat_eq n k) true (has p.waiting n)) long);
       knows = knows_push (g.C.Clients.meaning c.args.clients.now) p.groups lines c.hold-2.new.self.lines l c.in_ok-hold.ensures.lines c.requires.knows c.in_ok-answer.ensures;
     }

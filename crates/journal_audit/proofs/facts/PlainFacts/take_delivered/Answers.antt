@@ -19,7 +19,7 @@ returns c =
           delivered_facts p after c.in-Some.n l c.line.ensures changed c.in_ok-deliver.ensures.delivered
           ∙ ap (λ (id : Id). record (facts_of p) { delivered = delivered_in p.messages ++ id ∷ [] }) (line_named lines c.args.id.now c.in-Some.n l c.in-Some.ensures.found c.line.ensures);
       sound =
-          sound_delivered p.contacts p.groups p.levels p.messages p.rows p.waiting p.owed p.unsent c.requires.sound after c.in-Some.n l c.stop_waiting.new.waiting
+          sound_delivered p.contacts p.groups p.levels p.messages p.rows p.waiting p.owed p.cursors c.requires.sound after c.in-Some.n l c.stop_waiting.new.waiting
           c.line.ensures changed c.in_ok-deliver.ensures.delivered c.stop_waiting.ensures;
       knows = λ clients knows. knows_changed clients p.groups delivered_line (λ x. refl) (λ x. refl) c.in-Some.n lines after.lines changed knows;
     }

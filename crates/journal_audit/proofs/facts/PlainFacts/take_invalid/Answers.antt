@@ -19,7 +19,7 @@ returns c =
           invalid_facts p after c.in-Some.n l c.line.ensures c.refuse.ensures.lines c.refuse.ensures.delivered
           ∙ ap (λ (id : Id). record (facts_of p) { invalid = fin_set.insert (invalid_in lines) id }) (line_named lines c.args.id.now c.in-Some.n l c.in-Some.ensures.found c.line.ensures);
       sound =
-          sound_refused p.contacts p.groups p.levels p.messages p.rows p.waiting p.owed p.unsent c.requires.sound after c.in-Some.n l c.stop_waiting.new.waiting
+          sound_refused p.contacts p.groups p.levels p.messages p.rows p.waiting p.owed p.cursors c.requires.sound after c.in-Some.n l c.stop_waiting.new.waiting
           c.line.ensures c.refuse.ensures.lines c.refuse.ensures.delivered c.stop_waiting.ensures;
       knows = λ clients knows. knows_changed clients p.groups invalid_line (λ x. refl) (λ x. refl) c.in-Some.n lines after.lines c.refuse.ensures.lines knows;
     }

@@ -21,7 +21,7 @@ returns c =
           judged_facts p after c.in-Some.n line.line line.at c.judge.ensures.lines c.judge.ensures.delivered
           ∙ ap (λ (id : Id). record (facts_of p) { judged = fin_set.insert (judged_in lines) id }) (line_named lines c.args.id.now c.in-Some.n line.line place line.at);
       sound =
-          sound_judged p.contacts p.groups p.levels p.messages p.rows p.waiting p.owed p.unsent c.requires.sound after c.in-Some.n c.judge.ensures.lines
+          sound_judged p.contacts p.groups p.levels p.messages p.rows p.waiting p.owed p.cursors c.requires.sound after c.in-Some.n c.judge.ensures.lines
           c.judge.ensures.delivered;
       knows = λ clients knows. knows_changed clients p.groups judged_line (λ l. refl) (λ l. refl) c.in-Some.n lines after.lines c.judge.ensures.lines knows;
     }

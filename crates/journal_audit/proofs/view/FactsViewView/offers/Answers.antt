@@ -11,6 +11,6 @@ pub returns : goal.returns
 returns c =
     let p = c.self.inside.facts.now in
     let r = c.offered_ids.result in
-    let all = offered_all p c.args.contact c.args.now c.of-numbers.result.now.keys c.self.invariant c.ranges.contact.fits c.of-numbers.ensures.ascends c.of-numbers.ensures.value in
+    let all = offered_all p c.args.contact c.args.now c.due_from-from.result c.self.invariant c.due_from-from.ensures in
     subst (λ (q : PlainFacts). IfOk r (λ ids. ids.items ≡ offers_of (facts_of q) (shared_in q.messages.lines) c.args.contact c.args.now)) c.self.view_is
     (subst (λ (xs : List Id). IfOk r (λ ids. ids.items ≡ take MAX_IDS xs)) all c.offered_ids.ensures)
