@@ -1,8 +1,10 @@
 //! What an audit reports of the files of a disk, and what a load of them tells of the same.
+ghost use Rattle.std.specs.Prelude.{◌≡◌, false};
+ghost use Rattle.sync_store.specs.Ready.{IsReady};
 
-use crate::counts::{count, count_invalid};
+use crate::counts::{Counts, count, count_invalid};
 use journal_audit::{AuditFault, Report, audit};
-use outside::{MAX_JOURNAL, MemDisk, MemRandom, Pick};
+use outside::{Disk, MAX_JOURNAL, MemDisk, MemRandom, Pick};
 use std::alloc::Global;
 use std::hash::RandomState;
 use sync_rules::Clients;
@@ -31,7 +33,10 @@ pub fn told_by_load<C: Clients>(
         return Err(AuditFault::Memory);
     };
     match Store::load(alloc, hasher, &mut copy, clients, MAX_JOURNAL) {
-        Ok(store) => report_of(alloc, store, &mut copy, clients),
+        Ok(store) => {
+            let counts = count(alloc, &store, &copy)?;
+            report_of(store, &mut copy, clients, counts)
+        }
         Err(fault) => Err(fault_of(fault)),
     }
 }
@@ -41,15 +46,16 @@ pub fn agree<C: Clients>(alloc: Global, disk: &MemDisk, clients: &C) -> bool {
     audited(alloc, disk, clients) == told_by_load(alloc, disk, clients)
 }
 
-/// What a store tells of its journal, once it is settled.
-fn report_of<C: Clients>(
-    alloc: Global,
-    store: Store,
-    disk: &mut MemDisk,
+/// What a store tells of its journal, which has so many batches and entries, once it is settled.
+fn report_of<D: Disk, C: Clients>(
+    mut store: Store,
+    disk: &mut D,
     clients: &C,
-) -> Result<Report, AuditFault> {
-    let mut store = store;
-    let counts = count(alloc, &store, disk)?;
+    counts: Counts,
+) -> Result<Report, AuditFault>
+    requires { store.closed ≡ false
+        → IsReady (C.meaning clients.now) store (D.tells disk.old).files }
+{
     let settled = store.state().is_settled();
     if store.settle(disk, clients).is_err() {
         return Err(AuditFault::DiskFault);
