@@ -9,7 +9,7 @@ set -eu
 cd "$(dirname "$0")/.."
 (cd crates/bench_store && rt run -- load 50 200 1 >/dev/null)
 exec env PYTHONPATH=bench:oracle PYTHONDONTWRITEBYTECODE=1 python3 - "${RUNS:-3}" "${FEW:-5000}" "${MANY:-20000}" "${WORST:-5000}" <<'PY'
-import math, os, sys, tempfile
+import math, os, subprocess, sys, tempfile
 
 from journal import SHORT, entries, frames
 from journal_files import chain, heard, star
@@ -18,6 +18,12 @@ from store_file import HEADER, Note, framed
 
 PROGRAM = os.path.abspath("crates/bench_store/out/bench_store")
 SESSIONS, SIZE = 100, 200
+# the greatest memory of a step, told by a process that is itself small
+PEAK = """
+import os, subprocess, sys
+child = subprocess.Popen(sys.argv[2:], cwd=sys.argv[1], stdout=subprocess.DEVNULL, stderr=subprocess.DEVNULL)
+print(os.wait4(child.pid, 0)[2].ru_maxrss * 1024)
+"""
 runs, few, many, worst = map(int, sys.argv[1:])
 
 
@@ -25,6 +31,11 @@ def step(folder, want, *words):
     """One run, which must print what is wanted; its seconds are those of the step alone, as the program tells them."""
     told = run(PROGRAM, *words, folder=folder, want=want)
     return told._replace(seconds=int(told.err) / 1e6)
+
+
+def peak(folder, *words):
+    words = (sys.executable, "-c", PEAK, folder, PROGRAM, *words)
+    return int(subprocess.run(words, capture_output=True, check=True).stdout)
 
 
 def measure(payloads, messages):
@@ -41,7 +52,8 @@ def measure(payloads, messages):
             "audit": report,
         }
         asked = [lambda word=word, text=text: step(folder, text, word) for word, text in texts.items()]
-        return len(content), *least(runs, *asked)
+        seconds = [seconds for seconds, _ in least(runs, *asked)]
+        return len(content), *((time, peak(folder, word)) for time, word in zip(seconds, texts))
 
 
 def notes(count):
