@@ -58,6 +58,10 @@ ROWS = [
         '20,000 notes heard and sent on, in format 2 over format 1',
         '{migrate_two_loads:.2f}; {migrate_bare_clock:.2f}, {migrate_bare_processor:.2f}; {length_short_whole:.2f}',
         '0.5: a load; 1: the writes and syncs; the bodies'),
+    Row('audit', 'audit.sh', 'an audit of 20,000 notes of 200 bytes that were heard and sent on in 200 sessions, against one of 5,000, over '
+        'n log n; over a load of the same file; its memory over the length of the file; a chain of 5,000 messages in the worst order, and '
+        '5,000 that wait for one, over their loads',
+        '{audit_growth:.2f}; {audit_load:.1f}; {audit_memory:.2f}; {audit_chain:.0f}, {audit_star:.0f}', '1: n log n; none; 1: the file; none'),
     Row('tree', 'tree.sh', 'items added to a tree of replies, 200,000 against 50,000 of chains of 20,000, a star and random replies, over linear in the '
         'sum of their depths; `tree` of 20 messages in the middle of 200,000 of a star and of random replies, and of a chain of 20,000 and '
         'one of 100,000, over the load of their store; bytes an item',
