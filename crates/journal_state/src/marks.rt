@@ -2,7 +2,7 @@
 ghost use Rattle.std.specs.Prelude.{◌≡◌, ◌<◌, ◌≤◌, true, length};
 ghost use Rattle.std.specs.List.{list_all};
 ghost use Rattle.retry_table.specs.Table.{rows_of, kept_at, with_row, Keeps};
-ghost use Rattle.sync_rules.specs.Facts.{change_row, change_rows, is_held, row_heard};
+ghost use Rattle.sync_rules.specs.Facts.{change_row, change_rows, is_held};
 ghost use Rattle.journal_state.specs.Marks.{marked};
 ghost use Rattle.journal_state.specs.Room.{rows_room, KeepsRoom};
 ghost use Rattle.journal_state.specs.Whole.{id_at};
@@ -36,23 +36,13 @@ pub(crate) fn mark_row(retry: &mut Retry, contact: u8, n: u32, mark: Mark)
         (with_row (marked mark) (kept_at retry.old contact n)) }
 {
     match mark {
-        Mark::Heard => hear(retry, contact, n),
+        Mark::Heard => retry.hear(contact, n),
         Mark::Seen => retry.saw(contact, n),
         Mark::Asked => retry.ask(contact, n),
         Mark::Acked => retry.paid(contact, n),
         Mark::Offered(now, latency) => retry.offered(contact, n, now, latency),
         Mark::Sent(now, latency) => retry.sent(contact, n, now, latency),
     }
-}
-
-/// The contact has the message and waits for our acknowledgement.
-fn hear(retry: &mut Retry, contact: u8, n: u32)
-    requires { n < length (rows_of retry.old contact) }
-    ensures { Keeps retry.old retry.new contact n
-        (with_row row_heard (kept_at retry.old contact n)) }
-{
-    retry.saw(contact, n);
-    retry.owe(contact, n);
 }
 
 impl State {
