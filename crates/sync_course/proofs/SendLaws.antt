@@ -31,8 +31,8 @@ use Rattle.sync_course.specs.Owing.{ActStep, Owing, adds_to, paid}
 use Rattle.sync_course.specs.Paths.{Path}
 use Rattle.sync_course.specs.Story.{AllIsSent, FreeActs, LinkFailed}
 use Rattle.sync_course.proofs.ActLaws.{batches_in-append, events_of-append, sends_on-append}
-use Rattle.sync_course.proofs.FailLaws.{DoesOpen, FailsJust, HoldsOpen, fails_step, first_fails, push_failure}
-use Rattle.sync_course.proofs.FreeSound.{IsBegunAt, IsFreeSound, first_free_sound, free_moves, free_sound}
+use Rattle.sync_course.proofs.FailLaws.{DoesOpen, FailsJust, HoldsOpen, fails_step, first_fails, path_fails, push_failure}
+use Rattle.sync_course.proofs.FreeSound.{IsBegunAt, IsFreeSound, first_free_sound, free_moves, free_path_sound, free_sound}
 use Rattle.sync_course.proofs.LiftLaws.{get_within}
 use Rattle.sync_course.proofs.PathLaws.{path_keeps}
 
@@ -133,7 +133,7 @@ module _ (clients : Meaning) (first : ℕ) where
       (λ same. other o (let is : first + n ≡ first + i = same in let e : n ≡ i = omega (arith, is) in e)) s
   link_adds n i _ b p q other s o = absurd s
 
-  hold_adds : (hold : Hold) (b : List Entry) (p q : Free) (i : ℕ) → HoldStep clients first hold (Commit b) p q
+  pub hold_adds : (hold : Hold) (b : List Entry) (p q : Free) (i : ℕ) → HoldStep clients first hold (Commit b) p q
       → IsBegunAt first hold (length p.links) p.facts → HoldsOpen hold p.links → LinkFailed p.links i → output_in p.facts (first + i) b ≡ []
   hold_adds Rests b p q i t begun o f =
       elim t [
@@ -364,3 +364,12 @@ all_sent go_on join clients j acts to legal path clear link well =
     sym (append-nil (sends_on link acts))
     ∙ ap (λ (l : List ℕ). sends_on link acts ++ l) (sym (clear link))
     ∙ (acts_sent go_on join clients j acts to legal path).whole link well
+
+-- nothing is committed for a link on which a call failed
+pub failed_spared : StreamsGoOn → RecordsJoin → (clients : Meaning) (j : List (List Entry)) (es : List Event) (p q : Free) (b : List Entry)
+    (link : ℕ) → Legal clients j → Path (FreeStep clients (facts j).begun) (first_free (facts j)) es p
+    → FreeStep clients (facts j).begun p (Commit b) q → has_failure link es ≡ true → output_in p.facts ((facts j).begun + link) b ≡ []
+failed_spared go_on join clients j es p q b link legal path step failed =
+    let fails = path_fails clients (facts j).begun (facts j) p es path in
+    let sound = free_path_sound go_on join clients (facts j).begun (first_free (facts j)) p es path (first_free_sound clients j legal) in
+    hold_adds clients (facts j).begun p.hold b p q link step sound.begun fails.opens (fails.stays link failed)
