@@ -6,9 +6,9 @@ use Rattle.outside.specs.declared.pick.Pick.{Pick}
 use Rattle.outside.specs.declared.call.Call.{Call}
 use Rattle.outside.specs.declared.pick.Pick.TheVariants as pick
 use Rattle.outside.specs.Files.{Two, File, IsFileImage, IsImage, is_written}
-use Rattle.outside.specs.Images.{image_synced}
+use Rattle.outside.proofs.Images.{image_synced}
 use Rattle.outside.specs.MemDisk.{Change, wrote, wrote_not, cut, cut_not, synced, dialled, sent, answered, hosted, KeptFile, kept, changed, kept_after, both_kept, files_of, disk_files, MemDiskValue, change_of, fresh}
-use Rattle.outside.specs.MemTold.{IsSound, start_sound}
+use Rattle.outside.proofs.MemSound.{IsSound, start_sound}
 use Rattle.outside.specs.MemImage.{one_changed, one_after, PickOf, IsFilled, left_at, Pictures}
 
 chosen : {A : Type 0} (a b : Bool) (x y : A) → a ≡ true → b ≡ false → (if a && not b then x else y) ≡ x
