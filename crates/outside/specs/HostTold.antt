@@ -9,5 +9,7 @@ use Rattle.outside.specs.MemLaws.{each_told, each_heard}
 
 abbrev pub host_told : MemHostValue → Outside
 host_told host =
-    mem_told sent_by (calls_of host.disk) (links_told host.disk.calls host.silences host.faults host.clock host.scripts) host.disk.faults refl (each_told host.disk.calls)
+    mem_told sent_by (calls_of host.disk)
+    (links_told host.disk.calls host.silences host.faults host.clock host.scripts)
+    host.disk.faults refl (each_told host.disk.calls)
     (each_heard host.disk.calls (λ i. slice_index host.silences i))

@@ -11,7 +11,8 @@ sent_by calls = map (λ link. link.sent) (links_after [] calls)
 -- what was heard on each link, by its answers and its failures since the last of them
 abbrev pub heard_on : List (List Answered) → (ℕ → ℕ) → List HeardOn
 heard_on [] failures = []
-heard_on (answers ∷ links) failures = record { answers = answers; failures = failures 0 } ∷ heard_on links (λ i. failures (suc i))
+heard_on (answers ∷ links) failures =
+    record { answers = answers; failures = failures 0 } ∷ heard_on links (λ i. failures (suc i))
 
 abbrev pub links_told : List Change → List ℕ → List ℕ → Readings → List (List Planned) → Links
 links_told calls silences faults clock scripts = record {

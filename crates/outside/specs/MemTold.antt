@@ -5,9 +5,11 @@ use Rattle.outside.specs.Outside.{Outside}
 use Rattle.outside.specs.Calls.{Calls}
 use Rattle.outside.specs.MemDisk.{MemDiskValue, Change, calls_of}
 use Rattle.outside.specs.MemMoments.{WasAt, files_at}
-use Rattle.outside.specs.MemLaws.{told_now_is, told_is_now, told_reads, told_since, no_links_told, no_links_heard}
+use Rattle.outside.specs.MemLaws.{told_now_is, told_is_now, told_reads, told_since, no_links_told}
+use Rattle.outside.specs.MemLaws.{no_links_heard}
 
--- these files and these links, with the law that the bytes sent are those of the calls and that each link is told
+-- these files and these links, with the law that the bytes sent are those of the calls and that
+-- each link is told
 abbrev pub mem_told : (sent_by : List Change → List (List ℕ)) (calls : Calls) (links : Links) → ℕ
     → sent_by calls.changes ≡ sent_of links.told
     → ((links' : List Link) → links.told ≡ Some links' → length links' ≡ links.dialled)
@@ -30,4 +32,5 @@ mem_told sent_by calls links faults sent_is all_told all_heard = record {
 
 -- a disk in memory tells its files; it has no links
 abbrev pub disk_told : MemDiskValue → Outside
-disk_told disk = mem_told (λ _. []) (calls_of disk) no_links disk.faults refl no_links_told no_links_heard
+disk_told disk =
+    mem_told (λ _. []) (calls_of disk) no_links disk.faults refl no_links_told no_links_heard
