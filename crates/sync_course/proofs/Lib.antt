@@ -5,6 +5,7 @@ pub mod LiftLaws
 pub mod LinkLaws
 pub mod MoveLaws
 pub mod PathLaws
+pub mod ActLaws
 pub mod QuietLaws
 pub mod SuitLaws
 pub mod ToldLaws

@@ -11,3 +11,4 @@ pub mod DueOutputs
 pub mod Redundant
 pub mod Idle
 pub mod Reading
+pub mod Acts

@@ -89,7 +89,7 @@ reads_front clients s s' may o o' P Q fits told between leads = by_files o.files
 
 -- ---- one batch
 
-at_most_between : (batch : List Entry) (j whole : List (List Entry)) → WithAtMost j batch whole
+pub at_most_between : (batch : List Entry) (j whole : List (List Entry)) → WithAtMost j batch whole
     → IsBetween j (batch ∷ []) whole
 at_most_between batch j whole at_most =
     elim at_most [

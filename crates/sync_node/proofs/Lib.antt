@@ -25,3 +25,7 @@ mod CourseStart
 mod Undone
 pub mod Halts
 pub mod CourseLaws
+mod DidLaws
+mod WentLaws
+mod PrimLaws
+mod BatchLaws

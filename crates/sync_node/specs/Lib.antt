@@ -21,3 +21,6 @@ pub mod Plans
 pub mod Cited
 pub mod Courses
 pub mod Fulls
+pub mod Did
+pub mod Went
+pub mod Batches

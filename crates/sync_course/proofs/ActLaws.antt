@@ -1,0 +1,59 @@
+-- Lists of acts: what two parts of one add up to.
+use Rattle.std.proofs.Common.{◌≡◌, ℕ, cond, nat_eq, List, [], ◌∷◌, ◌++◌, append-nil, append_assoc, refl, sym, ◌∙◌, ap, subst}
+use Rattle.outside.specs.Runs.{IsFront}
+use Rattle.sync_rules.specs.declared.entries.Entry.{Entry}
+use Rattle.sync_course.specs.Acts.{Act, Does, Send, Fail, batches_in, commit_acts, event_of, events_of, next_bytes, sends_on, sent_by}
+use Rattle.sync_course.specs.Events.{Commit, Event, batches_of, commits}
+use Rattle.sync_course.proofs.ToldLaws.{batches_of-append, batches_of_commits}
+
+pub events_of-append : (as bs : List Act) → events_of (as ++ bs) ≡ events_of as ++ events_of bs
+events_of-append [] bs = refl
+events_of-append (a ∷ as) bs = ap (λ (es : List Event). event_of a ∷ es) (events_of-append as bs)
+
+pub batches_in-append : (as bs : List Act)
+    → batches_in (as ++ bs) ≡ batches_in as ++ batches_in bs
+batches_in-append as bs =
+    ap (λ (es : List Event). batches_of es) (events_of-append as bs)
+    ∙ batches_of-append (events_of as) (events_of bs)
+
+pub sends_on-append : (link : ℕ) (as bs : List Act)
+    → sends_on link (as ++ bs) ≡ sends_on link as ++ sends_on link bs
+sends_on-append link [] bs = refl
+sends_on-append link (a ∷ as) bs =
+    ap (λ (l : List ℕ). sent_by link a ++ l) (sends_on-append link as bs)
+    ∙ sym (append_assoc (sent_by link a) (sends_on link as) (sends_on link bs))
+
+pub commit_acts-append : (bs cs : List (List Entry))
+    → commit_acts (bs ++ cs) ≡ commit_acts bs ++ commit_acts cs
+commit_acts-append [] cs = refl
+commit_acts-append (b ∷ bs) cs =
+    ap (λ (l : List Act). Does (Commit b) ∷ l) (commit_acts-append bs cs)
+
+pub events_of_commits : (bs : List (List Entry)) → events_of (commit_acts bs) ≡ commits bs
+events_of_commits [] = refl
+events_of_commits (b ∷ bs) = ap (λ (es : List Event). Commit b ∷ es) (events_of_commits bs)
+
+pub batches_in_commits : (bs : List (List Entry)) → batches_in (commit_acts bs) ≡ bs
+batches_in_commits bs =
+    ap (λ (es : List Event). batches_of es) (events_of_commits bs) ∙ batches_of_commits bs
+
+pub commits_send : (link : ℕ) (bs : List (List Entry)) → sends_on link (commit_acts bs) ≡ []
+commits_send link [] = refl
+commits_send link (b ∷ bs) = commits_send link bs
+
+pub commits_next : (link : ℕ) (bs : List (List Entry)) → next_bytes link (commit_acts bs) ≡ []
+commits_next link [] = refl
+commits_next link (b ∷ bs) = refl
+
+-- a front of what the next act is to send, where more acts come behind
+pub next_wide : (link : ℕ) (part : List ℕ) (as bs : List Act) → IsFront part (next_bytes link as)
+    → IsFront part (next_bytes link (as ++ bs))
+next_wide link part [] bs front = record {
+  rest = next_bytes link bs;
+  whole = ap (λ (p : List ℕ). p ++ next_bytes link bs) (sym (none part front.rest front.whole));
+}
+  where
+    none : (part rest : List ℕ) → [] ≡ part ++ rest → part ≡ []
+    none [] rest whole = refl
+    none (x ∷ part) rest whole = cc
+next_wide link part (a ∷ as) bs front = front

@@ -1,0 +1,49 @@
+-- Acts: what the calls of a run did, one after the other. An event; the bytes that went out on a
+-- link; or a send that failed, with all that was to go out and how many bytes of it did.
+use Rattle.std.specs.Prelude.{ℕ, cond, nat_eq, List, [], ◌∷◌, ◌++◌, take}
+use Rattle.sync_rules.specs.declared.entries.Entry.{Entry}
+use Rattle.sync_course.specs.Events.{Break, Commit, Event, Pass, batches_of}
+
+pub data Act : Type 0 where
+  Does : Event → Act
+  Send : ℕ → List ℕ → Act
+  Fail : ℕ → List ℕ → ℕ → Act
+
+-- the event that is told of an act
+abbrev pub event_of : Act → Event
+event_of (Does e) = e
+event_of (Send link bytes) = Pass
+event_of (Fail link bytes count) = Break link
+
+abbrev pub events_of : List Act → List Event
+events_of [] = []
+events_of (a ∷ acts) = event_of a ∷ events_of acts
+
+-- batches that were committed, as acts
+abbrev pub commit_acts : List (List Entry) → List Act
+commit_acts [] = []
+commit_acts (b ∷ bs) = Does (Commit b) ∷ commit_acts bs
+
+-- the batches among acts, in order
+abbrev pub batches_in : List Act → List (List Entry)
+batches_in acts = batches_of (events_of acts)
+
+-- the bytes that went out on the link of this number
+abbrev pub sent_by : ℕ → Act → List ℕ
+sent_by link (Does e) = []
+sent_by link (Send n bytes) = cond (nat_eq n link) bytes []
+sent_by link (Fail n bytes count) = cond (nat_eq n link) (take count bytes) []
+
+abbrev pub sends_on : ℕ → List Act → List ℕ
+sends_on link [] = []
+sends_on link (a ∷ acts) = sent_by link a ++ sends_on link acts
+
+-- the bytes that the first of some acts is to send on the link, whether they all go out or not
+abbrev pub to_send : ℕ → Act → List ℕ
+to_send link (Does e) = []
+to_send link (Send n bytes) = cond (nat_eq n link) bytes []
+to_send link (Fail n bytes count) = cond (nat_eq n link) bytes []
+
+abbrev pub next_bytes : ℕ → List Act → List ℕ
+next_bytes link [] = []
+next_bytes link (a ∷ acts) = to_send link a
