@@ -12,3 +12,4 @@ pub mod Redundant
 pub mod Idle
 pub mod Reading
 pub mod Acts
+pub mod Owing

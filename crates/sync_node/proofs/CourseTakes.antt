@@ -371,7 +371,7 @@ end_same place (record_kind.Versions versions) old new c =
 end_same place (record_kind.Priority nonce) old new c = sym c
 
 -- what a record says of its link
-learned : (place : ℕ) (r : Record) (l l' : Link) (heard : List ℕ) → Learns place r l l'
+pub learned : (place : ℕ) (r : Record) (l l' : Link) (heard : List ℕ) → Learns place r l l'
     → link_after place r (link_at l heard) ≡ link_at l' heard
 learned place r l l' heard learns = λ i. record {
   contact = ap (λ x. x.contact) (sym learns.same_session) i;
@@ -391,7 +391,7 @@ closed_none place versions others heard left old new true is going c reading =
 closed_none place versions others heard left old new false is going c reading =
     subst (IsTaking heard left new []) (sym (c.1 (λ x. false≢true (sym is ∙ contains_zero versions x)))) refl
 
-to_come : (place : ℕ) (r : Record) (others : List Item) (heard left : List ℕ) (old new : Link)
+pub to_come : (place : ℕ) (r : Record) (others : List Item) (heard left : List ℕ) (old new : Link)
     → old.end ≡ link_end.Going
     → ClosesBy place r old.end new.end → IsReading heard left new.reader others
     → IsTaking heard left new (items_after r others) new.end
@@ -517,7 +517,7 @@ next_bad follow clients n place why piece left l l' s o going same_session end_i
     (λ heard has. closes_behind_bad heard l'.reader place why has bad ∙ sym end_is)
 
 -- a link as a course has it, whatever its reader
-same_at : (l l' : Link) → l'.session ≡ l.session → l'.end ≡ l.end → l'.nonce ≡ l.nonce
+pub same_at : (l l' : Link) → l'.session ≡ l.session → l'.end ≡ l.end → l'.nonce ≡ l.nonce
     → (heard : List ℕ) → link_at l heard ≡ link_at l' heard
 same_at l l' same_session same_end same_nonce heard = λ i. record {
   contact = ap (λ x. x.contact) (sym same_session) i;
@@ -569,7 +569,7 @@ next_stops_at_none clients n piece l l' s o same_session same_end same_nonce = r
 
 -- ---- a piece
 
-not_taking : (heard left : List ℕ) (l : Link) (its : List Item) (e : LinkEnd)
+pub not_taking : (heard left : List ℕ) (l : Link) (its : List Item) (e : LinkEnd)
     → (e ≡ link_end.Going → ⊥) → IsTaking heard left l its e → its ≡ []
 not_taking heard left l its link_end.Going closed t = absurd (closed refl)
 not_taking heard left l its link_end.Clean closed t = t
@@ -579,7 +579,7 @@ not_taking heard left l its (link_end.Bad place why) closed t = t
 not_taking heard left l its (link_end.NoVersion place) closed t = t
 not_taking heard left l its link_end.Failed closed t = t
 
-closed_behind : (e : LinkEnd) (x : Ending) → (e ≡ link_end.Going → ⊥) → stands_behind e x ≡ e
+pub closed_behind : (e : LinkEnd) (x : Ending) → (e ≡ link_end.Going → ⊥) → stands_behind e x ≡ e
 closed_behind link_end.Going x closed = absurd (closed refl)
 closed_behind link_end.Clean x closed = refl
 closed_behind link_end.Redundant x closed = refl

@@ -75,7 +75,7 @@ if_ok_then (Err e) P Q then p = tt
 
 -- ---- hearing
 
-going_end : (e : LinkEnd) → e ≡ link_end.Going → is_going e ≡ true
+pub going_end : (e : LinkEnd) → e ≡ link_end.Going → is_going e ≡ true
 going_end e going = ap (λ x. is_going x) going
 
 module _ (clients : Meaning) (n : ℕ) (l : Link) (s : StoreValue) (o o1 : Outside) (buf : List ℕ) (whole : length buf ≡ PIECE_LEN)
@@ -202,7 +202,7 @@ module _ (clients : Meaning) (n : ℕ) (l : Link) (s : StoreValue) (o o1 : Outsi
         (full.fills (heard ++ bytes) its true reading);
   }
 
-not_going_end : (e : LinkEnd) → (e ≡ link_end.Going → ⊥) → is_going e ≡ false
+pub not_going_end : (e : LinkEnd) → (e ≡ link_end.Going → ⊥) → is_going e ≡ false
 not_going_end link_end.Going closed = absurd (closed refl)
 not_going_end link_end.Clean closed = refl
 not_going_end link_end.Redundant closed = refl
@@ -381,7 +381,7 @@ outs_none clients n now l s o = record {
   end = inl refl;
 }
 
-end_then : (a b c : LinkEnd) → (b ≡ a) ⊎ (b ≡ link_end.Failed) → (c ≡ b) ⊎ (c ≡ link_end.Failed)
+pub end_then : (a b c : LinkEnd) → (b ≡ a) ⊎ (b ≡ link_end.Failed) → (c ≡ b) ⊎ (c ≡ link_end.Failed)
     → (c ≡ a) ⊎ (c ≡ link_end.Failed)
 end_then a b c first second =
     elim second [
@@ -390,7 +390,7 @@ end_then a b c first second =
     ]
 
 -- what goes on sends, unless the link is closed
-sends_yet : {A : Type 0} → (now room : ℕ) (doing : Doing) (l : Link)
+pub sends_yet : {A : Type 0} → (now room : ℕ) (doing : Doing) (l : Link)
     → GoesOnSending now room doing l → is_sent_to l.end ≡ true
     → ((doing ≡ Sends now room) → A) → A
 sends_yet now room doing l goes open_is then =

@@ -29,3 +29,8 @@ mod DidLaws
 mod WentLaws
 mod PrimLaws
 mod BatchLaws
+mod LinkActs
+mod PieceActs
+mod HearActs
+mod SendActs
+mod TurnActs

@@ -5,12 +5,16 @@ use Rattle.outside.specs.Outside.{Outside}
 use Rattle.sync_rules.specs.Clients.{Meaning}
 use Rattle.sync_store.specs.Ready.{IsReady}
 use Rattle.sync_store.specs.Store.{StoreValue}
-use Rattle.sync_course.specs.Acts.{Act}
+use Rattle.sync_rules.specs.declared.entries.Entry.{Entry}
+use Rattle.sync_course.specs.Acts.{Act, Does, commit_acts}
+use Rattle.sync_course.specs.Events.{Commit}
 use Rattle.sync_course.specs.Paths.{Path}
 use Rattle.sync_course.proofs.PathLaws.{path_one, path_then}
 use Rattle.sync_node.specs.declared.fault.Fault.{Fault}
 use Rattle.sync_node.specs.declared.fault.Fault.TheVariants as fault
+use Rattle.sync_node.specs.Batches.{CommitStops, StaysIdle}
 use Rattle.sync_node.specs.Did.{Did, DidSome}
+use Rattle.sync_node.specs.Output.{Journal}
 use Rattle.sync_node.specs.Went.{HasSoon, Stopped, StopsBroken, StopsFull, StopsReady, Went}
 use Rattle.sync_node.proofs.DidLaws.{did_none, did_then, some_then}
 use Rattle.sync_node.proofs.CauseLaws.{rose_before}
@@ -85,3 +89,70 @@ module _ {P : Type 0} (clients : Meaning) (step : P → Act → P → Type 0) wh
       stands = stands;
       ready = ready;
     }
+
+    -- a batch was to be committed, and what the code has stands behind it
+    module _ (p q : P) (b : List Entry) (steps : step p (Does (Commit b)) q) (has : Has q)
+        (s s' : StoreValue) (o o' : Outside) where
+      will_stand : HasSoon step Has p
+      will_stand = inr (record { batch = b; next = q; steps = steps; has = has })
+
+      no_calls : StaysIdle clients s s' o o' → Went clients step p p s s' o o'
+      no_calls idle = record { acts = []; path = refl; did = idle.did }
+
+      by_front : (front others : Journal) → b ∷ [] ≡ front ++ others
+          → DidSome clients (commit_acts front) others s s' o o'
+          → Rose o.disk_faults o'.disk_faults → StopsBroken clients step Has p s s' o o'
+      by_front [] others parts did rose = record {
+        to = p;
+        acts = [];
+        path = refl;
+        next = others;
+        beyond = q;
+        goes_on =
+            subst (λ (bs : Journal). Path step p (commit_acts bs) q) parts
+            (path_one step p q (Does (Commit b)) steps);
+        did = did;
+        stands = will_stand;
+        rose = rose;
+      }
+      by_front (x ∷ []) others parts did rose =
+          let one : b ∷ [] ≡ x ∷ others = parts in
+          let is : b ≡ x = cc in
+          let none : [] ≡ others = cc in
+          record {
+            to = q;
+            acts = Does (Commit x) ∷ [];
+            path =
+                subst (λ (y : List Entry). Path step p (Does (Commit y) ∷ []) q) is
+                (path_one step p q (Does (Commit b)) steps);
+            next = others;
+            beyond = q;
+            goes_on = subst (λ (bs : Journal). Path step q (commit_acts bs) q) none refl;
+            did = did;
+            stands = inl has;
+            rose = rose;
+          }
+      by_front (x ∷ (y ∷ ys)) others parts did rose =
+          let two : b ∷ [] ≡ x ∷ (y ∷ (ys ++ others)) = parts in
+          cc
+
+      pub commit_stopped : (e : Fault) → CommitStops clients b s s' o o' e
+          → Stopped clients step Has p s s' o o' e
+      commit_stopped fault.Memory stops = record {
+        to = p;
+        went = no_calls stops;
+        stands = will_stand;
+        ready = stops.ready;
+      }
+      commit_stopped fault.Full stops = record {
+        to = p;
+        went = no_calls stops.idle;
+        stands = will_stand;
+        ready = stops.idle.ready;
+        batch = b;
+        next = q;
+        steps = steps;
+        over = stops.over;
+      }
+      commit_stopped fault.DiskFault stops =
+          by_front stops.front stops.others stops.parts stops.did stops.rose

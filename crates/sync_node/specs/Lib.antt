@@ -24,3 +24,4 @@ pub mod Fulls
 pub mod Did
 pub mod Went
 pub mod Batches
+pub mod OnLinks

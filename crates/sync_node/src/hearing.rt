@@ -11,6 +11,8 @@ ghost use Rattle.sync_node.specs.Courses.{TakesAsCourse};
 ghost use Rattle.sync_node.specs.Fulls.{HearsFull, NextFull, TakesFull};
 ghost use Rattle.sync_node.specs.Going.{Goes};
 ghost use Rattle.sync_node.specs.Hearing.{Learns};
+ghost use Rattle.sync_node.specs.OnLinks.{HearingStopped, HearingWent, ItemsStopped, NextWent};
+ghost use Rattle.sync_node.specs.OnLinks.{PieceWent, RecordStopped, RecordTaken};
 ghost use Rattle.sync_node.specs.Taking.{IsOpenFor, LeavesLess, TakesOn, TakesSafe};
 ghost use Rattle.sync_node.specs.Working.{IsAble, StaysSafe, Waits, Works};
 ghost use Rattle.sync_node.specs.Stays.{KeepsReady};
@@ -44,6 +46,12 @@ pub(crate) fn receive_on<H: Host, C: Clients>(
     requires asked { link.old.end ≡ LinkEnd.Going }
     requires waits { Waits link.old }
     requires room { 0 < length buffer.old }
+    ensures went { length buffer.old ≡ PIECE_LEN → IfOk result (HearingWent
+        (C.meaning clients.now) number link.old link.new store.old store.new (H.tells host.old)
+        (H.tells host.new)) }
+    ensures stopped { length buffer.old ≡ PIECE_LEN → IfErr result (HearingStopped
+        (C.meaning clients.now) number link.old link.new store.old store.new (H.tells host.old)
+        (H.tells host.new)) }
     ensures ready { IfErr result (KeepsReady (C.meaning clients.now) store.new
         (H.tells host.new)) }
     ensures able { OnOk result (IsAble (C.meaning clients.now) number link.new.session store.new
@@ -103,6 +111,10 @@ fn take_piece<H: Host, C: Clients>(
     requires able { IsAble (C.meaning clients.now) number link.old.session store.old
         (H.tells host.old) }
     requires asked { link.old.end ≡ LinkEnd.Going }
+    ensures went { OnOk result (PieceWent (C.meaning clients.now) number piece.old link.old
+        link.new store.old store.new (H.tells host.old) (H.tells host.new)) }
+    ensures stopped { IfErr result (ItemsStopped (C.meaning clients.now) number piece.old link.old
+        link.new store.old store.new (H.tells host.old) (H.tells host.new)) }
     ensures ready { IfErr result (KeepsReady (C.meaning clients.now) store.new
         (H.tells host.new)) }
     ensures able { OnOk result (IsAble (C.meaning clients.now) number link.new.session store.new
@@ -148,6 +160,10 @@ fn take_next<H: Host, C: Clients>(
     requires able { IsAble (C.meaning clients.now) number link.old.session store.old
         (H.tells host.old) }
     requires asked { link.old.end ≡ LinkEnd.Going }
+    ensures went { IfOk result (NextWent (C.meaning clients.now) number piece.old piece.new
+        link.old link.new store.old store.new (H.tells host.old) (H.tells host.new)) }
+    ensures stopped { IfErr result (ItemsStopped (C.meaning clients.now) number piece.old link.old
+        link.new store.old store.new (H.tells host.old) (H.tells host.new)) }
     ensures ready { IfErr result (KeepsReady (C.meaning clients.now) store.new
         (H.tells host.new)) }
     ensures able { OnOk result (IsAble (C.meaning clients.now) number link.new.session store.new
@@ -217,6 +233,10 @@ fn take_one<H: Host, C: Clients>(
     rec: Record,
 ) -> Result<(), Fault>
     requires able { IsOpenFor (C.meaning clients.now) session.now store.old (H.tells host.old) }
+    ensures went { OnOk result (RecordTaken (C.meaning clients.now) session.now.number rec
+        store.old store.new (H.tells host.old) (H.tells host.new)) }
+    ensures stopped { IfErr result (RecordStopped (C.meaning clients.now) session.now.number rec
+        store.old store.new (H.tells host.old) (H.tells host.new)) }
     ensures ready { IfErr result (KeepsReady (C.meaning clients.now) store.new
         (H.tells host.new)) }
     ensures course { OnOk result (TakesAsCourse (C.meaning clients.now) session.now.number rec

@@ -8,6 +8,7 @@ ghost use Rattle.sync_node.specs.Causes.{LinkGoes};
 ghost use Rattle.sync_node.specs.Courses.{PutsAsCourse, PutsStop, SentAsCourse, SentStops};
 ghost use Rattle.sync_node.specs.Ends.{MaySend};
 ghost use Rattle.sync_node.specs.Fulls.{PutsFull, SentFull};
+ghost use Rattle.sync_node.specs.OnLinks.{DueStopped, DueWent, PutStopped, PutWent};
 ghost use Rattle.sync_node.specs.Sending.{SendsOn};
 ghost use Rattle.sync_node.specs.Working.{IsAble, StaysSafe, Waits, Works};
 ghost use Rattle.sync_node.specs.Stays.{KeepsReady};
@@ -37,6 +38,10 @@ pub(crate) fn send_all<H: Host, C: Clients>(
     requires able { IsAble (C.meaning clients.now) number link.old.session store.old
         (H.tells host.old) }
     requires waits { Waits link.old }
+    ensures went { MaySend link.old.end → IfOk result (DueWent (C.meaning clients.now) number now
+        link.old link.new store.old store.new (H.tells host.old) (H.tells host.new)) }
+    ensures stopped { MaySend link.old.end → IfErr result (DueStopped (C.meaning clients.now) number
+        now link.old link.new store.old store.new (H.tells host.old) (H.tells host.new)) }
     ensures ready { IfErr result (KeepsReady (C.meaning clients.now) store.new
         (H.tells host.new)) }
     ensures able { OnOk result (IsAble (C.meaning clients.now) number link.new.session store.new
@@ -90,6 +95,10 @@ fn put_out<H: Host, C: Clients>(
     requires unfailed { link.old.end ≢ LinkEnd.Failed }
     requires allowed { Allowed (C.meaning clients.now) store.old.state.facts
         (entry.Out link.old.session.number now out ∷ []) }
+    ensures went { OnOk result (PutWent (C.meaning clients.now) number now link.old link.new
+        store.old store.new (H.tells host.old) (H.tells host.new)) }
+    ensures stopped { IfErr result (PutStopped (C.meaning clients.now) number now link.old link.new
+        store.old store.new (H.tells host.old) (H.tells host.new)) }
     ensures ready { IfErr result (KeepsReady (C.meaning clients.now) store.new
         (H.tells host.new)) }
     ensures able { OnOk result (IsAble (C.meaning clients.now) number link.new.session store.new

@@ -14,6 +14,7 @@ ghost use Rattle.sync_store.specs.Moments.{Leads};
 ghost use Rattle.sync_store.specs.Ready.{IsReady};
 ghost use Rattle.sync_store.specs.Store.{IsStore};
 ghost use Rattle.sync_node.specs.Adding.{AddsAtMost, AddsSettled, AddsWithin, IsPlain};
+ghost use Rattle.sync_node.specs.Batches.{CommitStops, Committed, Settled, SettleStops};
 ghost use Rattle.sync_node.specs.Cited.{CitedLaws};
 ghost use Rattle.sync_node.specs.Courses.{Adds, AddsSettling, AddsSome, AddsSomeSettling};
 ghost use Rattle.sync_node.specs.Fulls.{IsOver};
@@ -60,6 +61,10 @@ pub(crate) fn commit<H: Host, C: Clients>(
     requires kind { is_settling_kind batch ≡ false }
     requires plain { is_account_kind batch ≡ false }
     requires named { IsOfAll id batch }
+    ensures went { OnOk result (Committed (C.meaning clients.now) batch store.old store.new
+        (H.tells host.old) (H.tells host.new)) }
+    ensures stopped { IfErr result (CommitStops (C.meaning clients.now) batch store.old store.new
+        (H.tells host.old) (H.tells host.new)) }
     ensures ready { IfErr result (KeepsReady (C.meaning clients.now) store.new
         (H.tells host.new)) }
     ensures commits { OnOk result (Commits (C.meaning clients.now) (batch ∷ []) store.old store.new
@@ -102,6 +107,10 @@ pub(crate) fn settle<H: Host, C: Clients>(
     clients: &C,
 ) -> Result<(), Fault>
     requires ready { IsReady (C.meaning clients.now) store.old (H.tells host.old).files }
+    ensures went { OnOk result (Settled (C.meaning clients.now) store.old store.new
+        (H.tells host.old) (H.tells host.new)) }
+    ensures stopped { IfErr result (SettleStops (C.meaning clients.now) store.old store.new
+        (H.tells host.old) (H.tells host.new)) }
     ensures ready { IfErr result (KeepsReady (C.meaning clients.now) store.new
         (H.tells host.new)) }
     ensures settles { OnOk result (SettlesStore (C.meaning clients.now) store.old store.new

@@ -10,6 +10,8 @@ ghost use Rattle.sync_node.specs.Courses.{TurnAsCourse, TurnsAsCourse, TurnsStop
 ghost use Rattle.sync_node.specs.Fulls.{FullTurn, HearsFull, SendsFull, TurnsFull};
 ghost use Rattle.outside.specs.declared.limits.TheConstants.{LINKS};
 ghost use Rattle.sync_node.specs.Node.{AreAttached, AreSome, LinksSafe, LinksWork, MayGoOn};
+ghost use Rattle.sync_node.specs.OnLinks.{HearingStopped, HearingWent, SendingStopped};
+ghost use Rattle.sync_node.specs.OnLinks.{SendingWent, TurnWent};
 ghost use Rattle.sync_node.specs.Working.{IsAble, StaysSafe, Waits, Works};
 ghost use Rattle.sync_node.specs.Stays.{KeepsReady};
 ghost use Rattle.sync_node.specs.Stops.{LinksSent, StopsSent};
@@ -142,6 +144,12 @@ fn turn_link<H: Host, C: Clients>(
         (H.tells host.old) }
     requires waits { Waits link.old }
     requires room { 0 < length buffer.old }
+    ensures went { length buffer.old ≡ PIECE_LEN → IfOk result (TurnWent
+        (C.meaning clients.now) number link.old link.new store.old store.new (H.tells host.old)
+        (H.tells host.new)) }
+    ensures stopped { length buffer.old ≡ PIECE_LEN → IfErr result (HearingStopped
+        (C.meaning clients.now) number link.old link.new store.old store.new (H.tells host.old)
+        (H.tells host.new)) }
     ensures ready { IfErr result (KeepsReady (C.meaning clients.now) store.new
         (H.tells host.new)) }
     ensures able { OnOk result (IsAble (C.meaning clients.now) number link.new.session store.new
@@ -187,6 +195,12 @@ fn hear_now<H: Host, C: Clients>(
         (H.tells host.old) }
     requires waits { Waits link.old }
     requires room { 0 < length buffer.old }
+    ensures went { length buffer.old ≡ PIECE_LEN → IfOk result (HearingWent
+        (C.meaning clients.now) number link.old link.new store.old store.new (H.tells host.old)
+        (H.tells host.new)) }
+    ensures stopped { length buffer.old ≡ PIECE_LEN → IfErr result (HearingStopped
+        (C.meaning clients.now) number link.old link.new store.old store.new (H.tells host.old)
+        (H.tells host.new)) }
     ensures ready { IfErr result (KeepsReady (C.meaning clients.now) store.new
         (H.tells host.new)) }
     ensures able { OnOk result (IsAble (C.meaning clients.now) number link.new.session store.new
@@ -232,6 +246,10 @@ fn send_now<H: Host, C: Clients>(
     requires able { IsAble (C.meaning clients.now) number link.old.session store.old
         (H.tells host.old) }
     requires waits { Waits link.old }
+    ensures went { IfOk result (SendingWent (C.meaning clients.now) number link.old link.new
+        store.old store.new (H.tells host.old) (H.tells host.new)) }
+    ensures stopped { IfErr result (SendingStopped (C.meaning clients.now) number link.old link.new
+        store.old store.new (H.tells host.old) (H.tells host.new)) }
     ensures ready { IfErr result (KeepsReady (C.meaning clients.now) store.new
         (H.tells host.new)) }
     ensures able { OnOk result (IsAble (C.meaning clients.now) number link.new.session store.new

@@ -11,6 +11,8 @@ use Rattle.sync_node.proofs.WorkLaws.{err_was}
 use Rattle.sync_node.proofs.CourseTurns.{hears_full}
 use Rattle.sync_node.proofs.StopLaws.{stops_then}
 use Rattle.sync_node.proofs.CourseLaws.{quiet_most}
+use Rattle.sync_node.proofs.HearActs.{hear_ended, hear_failed, hear_idle, hear_piece, hear_stops}
+use Rattle.sync_node.proofs.Undone.{if_err_was}
 use Rattle.sync_node.proofs.hearing.receive_on.Goals as goal
 
 pub recv-requires-clause-link : goal.recv-requires-clause-link
@@ -140,3 +142,27 @@ returns-in_err-take_piece-in-Got-clause-sent g c = λ is.
     stops_then _ _ _ _ _ _ _ _ _ _ _ _
     (works_heard c.cite_laws.ensures.fronts c.cite_laws.ensures.widen (g.C.Clients.meaning c.args.clients.now) c.args.number (heard.Got c.in-Got.count) c.recv.new.buf c.args.link.now c.args.store.now _ _ c.requires.able.dialled c.in-Got.ensures.call c.in-Got.ensures.links)
     (rw c.new-piece.ensures at (c.in_err-take_piece-in-Got.ensures.sent (ap (λ e. Err e) (err_was _ c.in_err-take_piece-in-Got.field-0.0 _ c.from_residual.ensures.1 is))))
+
+pub returns-in_err-take_piece-in-Got-clause-stopped : goal.returns-in_err-take_piece-in-Got-clause-stopped
+returns-in_err-take_piece-in-Got-clause-stopped g c = λ whole.
+    if_err_was _ c.in_err-take_piece-in-Got.field-0.0 _ c.from_residual.ensures.1
+    (hear_stops _ _ _ _ _ _ c.recv.new.buf (c.recv.auto.buf ∙ whole) c.requires.asked c.in-Got.ensures.call c.cite_laws.ensures.widen c.in-Got.count _ _ _ _
+    c.in-Got.ensures.links c.in-Got.ensures.answer (rw c.new-piece.ensures at c.in_err-take_piece-in-Got.ensures.stopped))
+
+pub returns-in_ok-take_piece-in-Got-clause-went : goal.returns-in_ok-take_piece-in-Got-clause-went
+returns-in_ok-take_piece-in-Got-clause-went g c = λ whole.
+    hear_piece _ _ _ _ _ _ c.recv.new.buf (c.recv.auto.buf ∙ whole) c.requires.asked c.in-Got.ensures.call c.cite_laws.ensures.widen c.in-Got.count _ _ _
+    c.in-Got.ensures.links c.in-Got.ensures.answer (rw c.new-piece.ensures at c.in_ok-take_piece-in-Got.ensures.went)
+
+pub returns-in-Idle-clause-went : goal.returns-in-Idle-clause-went
+returns-in-Idle-clause-went g c = λ whole.
+    hear_idle _ _ _ _ _ _ c.recv.new.buf (c.recv.auto.buf ∙ whole) c.requires.asked c.in-Idle.ensures.call c.in-Idle.ensures.links c.in-Idle.ensures.answer
+
+pub returns-in-End-clause-went : goal.returns-in-End-clause-went
+returns-in-End-clause-went g c = λ whole.
+    hear_ended _ _ _ _ _ _ c.recv.new.buf (c.recv.auto.buf ∙ whole) c.requires.asked c.in-End.ensures.call _
+    (c.ended-link.ensures ∙ ap stands_ended c.end.ensures.ending) c.in-End.ensures.links c.in-End.ensures.answer
+
+pub returns-in-Failed-clause-went : goal.returns-in-Failed-clause-went
+returns-in-Failed-clause-went g c = λ whole.
+    hear_failed _ _ _ _ _ _ c.recv.new.buf (c.recv.auto.buf ∙ whole) c.requires.asked c.in-Failed.ensures.call c.in-Failed.ensures.links c.in-Failed.ensures.answer

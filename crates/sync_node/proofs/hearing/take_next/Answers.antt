@@ -9,6 +9,9 @@ use Rattle.std.proofs.Common.{Err}
 use Rattle.sync_node.proofs.WorkLaws.{err_was}
 use Rattle.sync_node.proofs.CourseTakes.{next_full}
 use Rattle.sync_node.proofs.StopLaws.{stops_none}
+use Rattle.sync_node.specs.declared.fault.Fault.TheVariants as fault
+use Rattle.sync_node.proofs.PieceActs.{item_bad, item_more, item_no_memory, item_one, item_skipped, item_stops}
+use Rattle.sync_node.proofs.Undone.{if_err_was}
 use Rattle.sync_node.proofs.hearing.take_next.Goals as goal
 
 pub take_one-requires : goal.take_one-requires
@@ -132,3 +135,36 @@ pub returns-in_err-take_one-in-One-clause-sent : goal.returns-in_err-take_one-in
 returns-in_err-take_one-in-One-clause-sent g c = λ is.
     stops_none _ _ _ _ _ _ _ _ (λ failed. let asked = c.requires.asked in cc)
     (c.in_err-take_one-in-One.ensures.as_before (ap (λ e. Err e) (err_was _ c.in_err-take_one-in-One.field-0.0 _ c.from_residual-in_err-take_one-in-One.ensures.1 is)))
+
+pub returns-in_err-place-clause-stopped : goal.returns-in_err-place-clause-stopped
+returns-in_err-place-clause-stopped g c =
+    if_err_was _ fault.Memory _ c.from_residual.ensures.1
+    (item_no_memory _ _ _ _ _ _ _ c.requires.able.ready refl refl refl)
+
+pub returns-in_err-take_one-in-One-clause-stopped : goal.returns-in_err-take_one-in-One-clause-stopped
+returns-in_err-take_one-in-One-clause-stopped g c =
+    if_err_was _ c.in_err-take_one-in-One.field-0.0 _ c.from_residual-in_err-take_one-in-One.ensures.1
+    (item_stops c.cite_laws.ensures.follow _ _ c.in-One.place c.in-One.rec _ _ _ _ c.learn.new.link _ _ _ _ _ refl refl refl
+    (rw c.in-One.is at c.in_ok-place.ensures.stream) c.learn.ensures c.in_err-take_one-in-One.ensures.stopped)
+
+pub returns-in_ok-take_one-in-One-clause-went : goal.returns-in_ok-take_one-in-One-clause-went
+returns-in_ok-take_one-in-One-clause-went g c =
+    item_one c.cite_laws.ensures.follow _ _ c.in-One.place c.in-One.rec _ _ _ _ c.learn.new.link _ _ _ _ c.requires.asked refl refl refl
+    (rw c.in-One.is at c.in_ok-place.ensures.stream) c.learn.ensures c.in_ok-take_one-in-One.ensures.went
+
+pub returns-in-Skipped-clause-went : goal.returns-in-Skipped-clause-went
+returns-in-Skipped-clause-went g c =
+    item_skipped c.cite_laws.ensures.follow _ _ c.in-Skipped.field-0 c.in-Skipped.field-1 c.in-Skipped.field-2 _ _ _ _ _ _ c.requires.asked refl refl refl
+    c.requires.able.settled (rw c.in-Skipped.is at c.in_ok-place.ensures.stream)
+
+pub returns-in-More-clause-went : goal.returns-in-More-clause-went
+returns-in-More-clause-went g c =
+    let left = rw c.in-More.is at c.in_ok-place.ensures.left in
+    item_more c.cite_laws.ensures.follow c.cite_laws.ensures.ends c.cite_laws.ensures.rests_give _ _ _ _ _ _ _ _ c.requires.asked refl refl refl
+    c.requires.able.settled (rw c.in-More.is at c.in_ok-place.ensures.stream) left.0 left.1 left.3
+
+pub returns-in-Bad-clause-went : goal.returns-in-Bad-clause-went
+returns-in-Bad-clause-went g c =
+    let left = rw c.in-Bad.is at c.in_ok-place.ensures.left in
+    item_bad c.cite_laws.ensures.follow _ _ c.in-Bad.place c.in-Bad.reason _ _ _ _ _ _ c.requires.asked refl refl refl c.requires.able.settled
+    (rw c.in-Bad.is at c.in_ok-place.ensures.stream) left.0 left.1 left.2

@@ -9,6 +9,9 @@ use Rattle.std.proofs.Common.{Err, ap}
 use Rattle.sync_node.proofs.WorkLaws.{err_was}
 use Rattle.sync_node.proofs.CourseTurns.{puts_full}
 use Rattle.sync_node.proofs.StopLaws.{stops_none}
+use Rattle.sync_node.specs.declared.fault.Fault.TheVariants as fault
+use Rattle.sync_node.proofs.SendActs.{put_no_memory, put_stops, put_went}
+use Rattle.sync_node.proofs.Undone.{if_err_was}
 use Rattle.sync_node.proofs.sending.put_out.Goals as goal
 
 pub returns-in_err-bytes-clause-stays : goal.returns-in_err-bytes-clause-stays
@@ -79,3 +82,28 @@ returns-in_err-commit-clause-sent g c = λ is.
 
 pub commit-requires-clause-named : goal.commit-requires-clause-named
 commit-requires-clause-named g c = unknown c.in_ok-batch.batch
+
+pub returns-in_err-bytes-clause-stopped : goal.returns-in_err-bytes-clause-stopped
+returns-in_err-bytes-clause-stopped g c =
+    if_err_was _ fault.Memory _ c.from_residual.ensures.1
+    (put_no_memory _ _ c.args.now _ _ _ c.requires.able.ready)
+
+pub returns-in_err-batch-clause-stopped : goal.returns-in_err-batch-clause-stopped
+returns-in_err-batch-clause-stopped g c =
+    if_err_was _ fault.Memory _ c.from_residual-in_err-batch.ensures.1
+    (put_no_memory _ _ c.args.now _ _ _ c.requires.able.ready)
+
+pub returns-in_err-commit-clause-stopped : goal.returns-in_err-commit-clause-stopped
+returns-in_err-commit-clause-stopped g c =
+    if_err_was _ c.in_err-commit.field-0.0 _ c.from_residual-in_err-commit.ensures.1
+    (put_stops _ _ c.args.now c.args.out _ _ _ c.in_ok-batch.batch c.in_ok-batch.ensures
+    c.requires.allowed _ _ _ c.in_err-commit.ensures.stopped)
+
+pub returns-clause-went : goal.returns-clause-went
+returns-clause-went g c =
+    put_went _ _ c.args.now c.args.out _ _ _ c.in_ok-batch.batch c.in_ok-batch.ensures
+    c.requires.allowed c.cite_laws.ensures.images _ _ _ _ c.as_slice.result.now
+    c.in_ok-commit.ensures.went (c.as_slice.ensures.value ∙ c.in_ok-bytes.ensures)
+    c.in_ok-commit.ensures.numbers.roomy
+    (omega (arith, c.requires.able.dialled, c.in_ok-commit.ensures.commits.goes.links.dialled))
+    c.send_on.ensures

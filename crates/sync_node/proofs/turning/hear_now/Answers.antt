@@ -1,6 +1,7 @@
 use Rattle.sync_node.proofs.WorkLaws.{works_none}
 use Rattle.sync_node.proofs.CourseTurns.{hears_nothing}
 use Rattle.sync_node.proofs.CauseLaws.{link_none}
+use Rattle.sync_node.proofs.HearActs.{hear_nothing}
 use Rattle.sync_node.proofs.turning.hear_now.Goals as goal
 
 pub returns-then-not-is_asked-clause-able : goal.returns-then-not-is_asked-clause-able
@@ -45,3 +46,13 @@ returns-clause-full g c = c.receive_on.ensures.full
 
 pub returns-clause-sent : goal.returns-clause-sent
 returns-clause-sent g c = c.receive_on.ensures.sent
+
+pub returns-then-not-is_asked-clause-went : goal.returns-then-not-is_asked-clause-went
+returns-then-not-is_asked-clause-went g c = λ whole.
+    hear_nothing _ _ _ _ _ (λ going. let yes = c.is_asked.ensures.1 going in let no = c.if-not-is_asked.true in cc)
+
+pub returns-clause-went : goal.returns-clause-went
+returns-clause-went g c = c.receive_on.ensures.went
+
+pub returns-clause-stopped : goal.returns-clause-stopped
+returns-clause-stopped g c = c.receive_on.ensures.stopped

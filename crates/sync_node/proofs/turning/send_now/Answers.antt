@@ -6,6 +6,8 @@ use Rattle.sync_node.proofs.WorkLaws.{goes_read}
 use Rattle.sync_node.proofs.CourseTurns.{sends_full}
 use Rattle.sync_node.proofs.StopLaws.{stops_then}
 use Rattle.sync_node.proofs.CourseLaws.{quiet_most}
+use Rattle.sync_node.proofs.SendActs.{sending_closed, sending_read, sending_stops}
+use Rattle.sync_node.proofs.Undone.{if_err_then}
 use Rattle.sync_node.proofs.turning.send_now.Goals as goal
 
 pub returns-then-not-may_send-clause-able : goal.returns-then-not-may_send-clause-able
@@ -73,3 +75,21 @@ returns-clause-full g c = λ is.
 pub returns-clause-sent : goal.returns-clause-sent
 returns-clause-sent g c = λ is.
     stops_then _ _ _ _ _ _ _ _ _ _ _ _ (works_clock c.cite_laws.ensures.fronts _ _ _ _ _ _ _ _ c.now-now.ensures.call c.now-now.ensures.links) (c.send_all.ensures.sent is)
+
+pub returns-then-not-may_send-clause-went : goal.returns-then-not-may_send-clause-went
+returns-then-not-may_send-clause-went g c =
+    sending_closed _ _ _ _ _ (λ may. let yes = c.may_send.ensures.1 may in let no = c.if-not-may_send.true in cc)
+
+pub returns-clause-went : goal.returns-clause-went
+returns-clause-went g c =
+    let may = c.may_send.ensures.0 c.if-not-may_send.false in
+    if_ok_then c.send_all.result _ _
+    (λ made sent. sending_read _ _ _ _ _ _ _ may c.now-now.ensures.links c.now-now.ensures.call _ _ _ made sent)
+    (c.send_all.ensures.went may)
+
+pub returns-clause-stopped : goal.returns-clause-stopped
+returns-clause-stopped g c =
+    let may = c.may_send.ensures.0 c.if-not-may_send.false in
+    if_err_then c.send_all.result _ _
+    (λ e sent. sending_stops _ _ _ _ _ _ _ may c.now-now.ensures.links c.now-now.ensures.call _ _ _ e sent)
+    (c.send_all.ensures.stopped may)

@@ -1,0 +1,38 @@
+-- A machine whose steps are acts: what a batch adds to the output of a session is owed on its link,
+-- and is sent before anything else is done.
+use Rattle.std.specs.Prelude.{◌≡◌, ℕ, ◌+◌, cond, nat_eq, List, []}
+use Rattle.record_grammar.specs.Spelling.{spelled}
+use Rattle.sync_rules.specs.Facts.{Facts}
+use Rattle.sync_rules.specs.Growth.{output_in}
+use Rattle.sync_course.specs.Acts.{Act, Does, Fail, Send}
+use Rattle.sync_course.specs.Events.{Break, Commit, Event, Pass}
+
+-- a place, and the bytes that are to go out next on the link of each number
+pub record Owing (P : Type 0) : Type 0 where
+  pub at : P
+  pub owed : ℕ → List ℕ
+
+-- a place at which nothing is owed
+abbrev pub paid : {P : Type 0} → P → Owing P
+paid p = record { at = p; owed = λ link. [] }
+
+-- what an event adds to the output of the session of a link, by the facts before it; the session of
+-- the link of number 0 is the first
+abbrev pub adds_to : Facts → ℕ → Event → ℕ → List ℕ
+adds_to f first (Commit batch) link = spelled (output_in f (first + link) batch)
+adds_to f first _ link = []
+
+-- An event happens where nothing is owed, and what it adds is owed behind it. All bytes that are
+-- owed on a link go out, or a front of them and the call fails; each is a step of the machine below
+-- as it is told.
+abbrev pub ActStep : {P : Type 0} → (P → Facts) → ℕ → (P → Event → P → Type 0) → Owing P → Act
+    → Owing P → Type 0
+ActStep facts_at first step p (Does e) q =
+    ((link : ℕ) → p.owed link ≡ []) × step p.at e q.at
+    × ((link : ℕ) → q.owed link ≡ adds_to (facts_at p.at) first e link)
+ActStep facts_at first step p (Send n bytes) q =
+    (bytes ≡ p.owed n) × step p.at Pass q.at
+    × ((link : ℕ) → q.owed link ≡ cond (nat_eq n link) [] (p.owed link))
+ActStep facts_at first step p (Fail n bytes count) q =
+    (bytes ≡ p.owed n) × step p.at (Break n) q.at
+    × ((link : ℕ) → q.owed link ≡ cond (nat_eq n link) [] (p.owed link))
