@@ -227,9 +227,7 @@ module _ (clients : Meaning) (n now : ℕ) (what : Out) (l : Link) (s : StoreVal
         path = (
           owing_at first heard moved room,
           out_step first at heard moved room,
-          paid q,
-          steps first at,
-          refl,
+          (paid q, steps first at, refl),
         );
         did =
             did_then clients (commit_acts (out_batch l.session.number now what ∷ [])) (a ∷ []) s s1 s1
