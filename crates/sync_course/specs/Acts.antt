@@ -1,7 +1,11 @@
 -- Acts: what the calls of a run did, one after the other. An event; the bytes that went out on a
 -- link; or a send that failed, with all that was to go out and how many bytes of it did.
-use Rattle.std.specs.Prelude.{ℕ, cond, nat_eq, List, [], ◌∷◌, ◌++◌, take}
+use Rattle.std.specs.Prelude.{◌≡◌, ℕ, cond, nat_eq, List, [], ◌∷◌, ◌++◌, take, slice_index_or}
+use Rattle.outside.specs.Outside.{Moment}
+use Rattle.outside.specs.Runs.{IsFront}
+use Rattle.entry_codec.specs.Standing.{journal, stands}
 use Rattle.sync_rules.specs.declared.entries.Entry.{Entry}
+use Rattle.sync_rules.specs.Clients.{Meaning}
 use Rattle.sync_course.specs.Events.{Break, Commit, Event, Pass, batches_of}
 
 pub data Act : Type 0 where
@@ -47,3 +51,17 @@ to_send link (Fail n bytes count) = cond (nat_eq n link) bytes []
 abbrev pub next_bytes : ℕ → List Act → List ℕ
 next_bytes link [] = []
 next_bytes link (a ∷ acts) = to_send link a
+
+-- A moment between two of these acts, or in the middle of a send: the files stand for the journal j
+-- with the batches of the acts before it, and on each link has gone out what these acts sent, and a
+-- front of what the next one is to send.
+pub record AtFront (clients : Meaning) (acts : List Act) (j : List (List Entry)) (sent : ℕ → List ℕ)
+    (m : Moment) : Type 0 where
+  pub before : List Act
+  pub behind : List Act
+  pub parts : acts ≡ before ++ behind
+  pub stands_for : stands clients m.files ≡ journal (j ++ batches_in before)
+  pub part : ℕ → List ℕ
+  pub begun : (link : ℕ) → IsFront (part link) (next_bytes link behind)
+  pub has_sent : (link : ℕ)
+      → slice_index_or m.sent link [] ≡ sent link ++ (sends_on link before ++ part link)

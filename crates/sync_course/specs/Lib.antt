@@ -13,3 +13,5 @@ pub mod Idle
 pub mod Reading
 pub mod Acts
 pub mod Owing
+pub mod Free
+pub mod Story
