@@ -8,12 +8,12 @@ use Rattle.sync_rules.specs.declared.entries.Entry.{Entry}
 use Rattle.sync_rules.specs.Clients.{Meaning}
 use Rattle.entry_codec.specs.Standing.{journal, stands}
 use Rattle.sync_store.specs.Store.{StoreValue}
-use Rattle.sync_course.specs.Acts.{Act, batches_in, commit_acts, events_of, next_bytes, sends_on}
+use Rattle.sync_course.specs.Acts.{Act, AtFront, batches_in, commit_acts, events_of, next_bytes, sends_on}
 use Rattle.sync_course.specs.Events.{Event, Told as Tells}
 use Rattle.sync_course.proofs.ActLaws.{batches_in-append, events_of-append, next_wide, sends_on-append}
 use Rattle.sync_course.proofs.ToldLaws.{told_none, told_then}
 use Rattle.sync_node.specs.Courses.{FitsWith, ReadsAs}
-use Rattle.sync_node.specs.Did.{AtFront, ComesAtFronts, Did, DidSome, HasSentBy, SinceThen}
+use Rattle.sync_node.specs.Did.{ComesAtFronts, Did, DidSome, HasSentBy, SinceThen}
 use Rattle.sync_node.specs.Going.{Goes}
 use Rattle.sync_node.specs.Output.{Journal, sent_on}
 use Rattle.sync_node.proofs.SafeLaws.{goes_none}

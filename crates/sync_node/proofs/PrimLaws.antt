@@ -16,13 +16,13 @@ use Rattle.entry_codec.specs.Standing.{journal, room_of}
 use Rattle.sync_store.specs.Fitting.{Fits, FitsSome, ImagesStand}
 use Rattle.sync_store.specs.Moments.{IsBetween, JournalMoment, Leads}
 use Rattle.sync_store.specs.Store.{StoreValue, written_in}
-use Rattle.sync_course.specs.Acts.{Act, Fail, Send, batches_in, commit_acts, events_of, next_bytes, sends_on}
+use Rattle.sync_course.specs.Acts.{Act, AtFront, Fail, Send, batches_in, commit_acts, events_of, next_bytes, sends_on}
 use Rattle.sync_course.specs.Events.{Event, Told as Tells, commits}
 use Rattle.sync_course.proofs.ActLaws.{batches_in_commits, commit_acts-append, commits_send, events_of_commits}
 use Rattle.sync_course.proofs.CallLaws.{calls_parts}
 use Rattle.sync_course.proofs.ToldLaws.{told_broken, told_commits, told_sent}
 use Rattle.sync_node.specs.Courses.{FitsWith, ReadsAs, ReadsFront}
-use Rattle.sync_node.specs.Did.{AtFront, ComesAtFronts, Did, DidSome, HasSentBy, SinceThen}
+use Rattle.sync_node.specs.Did.{ComesAtFronts, Did, DidSome, HasSentBy, SinceThen}
 use Rattle.sync_node.specs.Going.{Goes, specs_of}
 use Rattle.sync_node.specs.Output.{Journal, sent_on}
 use Rattle.sync_node.proofs.CourseLaws.{fits_grown, fits_on, quiet_most}

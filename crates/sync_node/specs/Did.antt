@@ -1,13 +1,12 @@
 -- What calls of a store and a host did, as acts: what is told of them, what the files stand for
 -- behind them, what went out, and what a crash at each moment of them would leave. No place of a
 -- run stands in it.
-use Rattle.std.specs.Prelude.{◌≡◌, ◌⊎◌, ℕ, ◌*◌, ◌≤◌, List, [], ◌++◌, length, slice_index_or}
+use Rattle.std.specs.Prelude.{◌≡◌, ◌⊎◌, ℕ, ◌*◌, ◌≤◌, List, ◌++◌, length}
 use Rattle.outside.specs.Outside.{MakesAtMost, Moment, Outside}
-use Rattle.outside.specs.Runs.{IsFront, Told}
+use Rattle.outside.specs.Runs.{Told}
 use Rattle.sync_rules.specs.Clients.{Meaning}
-use Rattle.entry_codec.specs.Standing.{journal, stands}
 use Rattle.sync_store.specs.Store.{StoreValue}
-use Rattle.sync_course.specs.Acts.{Act, batches_in, commit_acts, events_of, next_bytes, sends_on}
+use Rattle.sync_course.specs.Acts.{Act, AtFront, batches_in, commit_acts, events_of, sends_on}
 use Rattle.sync_course.specs.Events.{Told as Tells}
 use Rattle.sync_node.specs.Courses.{FitsWith, ReadsAs}
 use Rattle.sync_node.specs.Going.{Goes}
@@ -18,20 +17,6 @@ use Rattle.sync_node.specs.Output.{Journal, sent_on}
 pub record SinceThen (old new : Outside) (P : Moment → Type 0) : Type 0 where
   pub later : old.clock ≤ new.clock
   pub before : (t : ℕ) (m : Moment) → t ≤ old.clock → new.moments t m → old.moments t m ⊎ P m
-
--- A moment between two of these acts, or in the middle of a send: the files stand for the journal j
--- with the batches of the acts before it, and on each link has gone out what these acts sent, and a
--- front of what the next one is to send.
-pub record AtFront (clients : Meaning) (acts : List Act) (j : Journal) (sent : ℕ → List ℕ)
-    (m : Moment) : Type 0 where
-  pub before : List Act
-  pub behind : List Act
-  pub parts : acts ≡ before ++ behind
-  pub stands_for : stands clients m.files ≡ journal (j ++ batches_in before)
-  pub part : ℕ → List ℕ
-  pub begun : (link : ℕ) → IsFront (part link) (next_bytes link behind)
-  pub has_sent : (link : ℕ)
-      → slice_index_or m.sent link [] ≡ sent link ++ (sends_on link before ++ part link)
 
 -- where files and links are told, each moment that came with calls on a store is at a front of these
 -- acts, whatever journal the files stood for
