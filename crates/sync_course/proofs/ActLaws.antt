@@ -55,5 +55,5 @@ next_wide link part [] bs front = record {
   where
     none : (part rest : List ℕ) → [] ≡ part ++ rest → part ≡ []
     none [] rest whole = refl
-    none (x ∷ part) rest whole = let e : [] ≡ x ∷ (part ++ rest) = whole in cc
+    none (x ∷ part) rest whole = cc
 next_wide link part (a ∷ as) bs front = front

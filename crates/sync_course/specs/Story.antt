@@ -9,20 +9,21 @@ use Rattle.sync_rules.specs.declared.entries.Entry.TheVariants as entry
 use Rattle.sync_rules.specs.declared.entries.Session.{Session}
 use Rattle.sync_rules.specs.Clients.{Meaning}
 use Rattle.sync_rules.specs.Facts.{Facts, after_all, facts}
-use Rattle.sync_rules.specs.Legal.{IsSettlingBatch, Legal}
+use Rattle.sync_rules.specs.Legal.{IsSettlingBatch}
 use Rattle.sync_rules.specs.Output.{sent}
 use Rattle.sync_course.specs.declared.ends.LinkEnd.TheVariants as end
-use Rattle.sync_course.specs.Acts.{Act, committed, events_of, sent_in}
-use Rattle.sync_course.specs.Events.{Event, has_failure}
+use Rattle.sync_course.specs.Acts.{Act, batches_in, events_of, sends_on}
+use Rattle.sync_course.specs.Events.{has_failure}
 use Rattle.sync_course.specs.Free.{Free, FreeStep, IsPlain, first_free}
 use Rattle.sync_course.specs.Links.{Link}
-use Rattle.sync_course.specs.Owing.{ActPath, Owing, clear}
+use Rattle.sync_course.specs.Owing.{ActStep, Owing, paid}
+use Rattle.sync_course.specs.Paths.{Path}
 use Rattle.sync_course.specs.Suits.{TakesHeard, heard_in}
 
 -- the acts of a node over a journal: they lead from where it begins, with nothing owed
 abbrev pub FreeActs : Meaning → List (List Entry) → List Act → Owing Free → Type 0
 FreeActs clients j acts to =
-    ActPath (FreeStep clients (facts j).begun) (λ (p : Free). p.facts) (facts j).begun (clear (first_free (facts j))) acts to
+    Path (ActStep (λ (p : Free). p.facts) (facts j).begun (FreeStep clients (facts j).begun)) (paid (first_free (facts j))) acts to
 
 -- the bytes heard on the link of a number
 abbrev pub heard_at : Free → ℕ → List ℕ
@@ -72,7 +73,7 @@ pub record MomentStands (clients : Meaning) (j : List (List Entry)) (plans : Lis
 abbrev pub AllIsSent : List (List Entry) → List Act → Type 0
 AllIsSent j acts =
     (link : ℕ) → has_failure link (events_of acts) ≡ false
-    → sent_in link acts ≡ spelled (sent (j ++ committed acts) ((facts j).begun + link))
+    → sends_on link acts ≡ spelled (sent (j ++ batches_in acts) ((facts j).begun + link))
 
 -- the link of this number stands Failed
 pub record LinkFailed (links : List Link) (number : ℕ) : Type 0 where
