@@ -7,7 +7,7 @@ use Rattle.sync_course.specs.Events.{Event, batches_of, commits, Told}
 -- from one place by these events to another; so also by acts
 abbrev pub Path : {E P : Type 0} → (P → E → P → Type 0) → P → List E → P → Type 0
 Path step from [] to = to ≡ from
-Path {_} {P} step from (e ∷ es) to = (next : P) × step from e next × Path step next es to
+Path {P} step from (e ∷ es) to = (next : P) × step from e next × Path step next es to
 
 -- What a call did: events that are told, and that lead from one place to another. Where the journal was j before, as `Before`
 -- says, it is j with the batches of the events afterwards, as `After` says. Each of these batches took at most four calls of the
