@@ -135,19 +135,19 @@ module _ (clients : Meaning) (terms : Terms) where
       (q, stage_at p q (Commit b) (Settles sessions) is (settling.0, refl), settling_path sessions q bs is settling.1)
 
   -- the next link has its turn
-  next_step : (n : ℕ) (link : Link) (p : Place) → p.stage ≡ Works n Done → slice_get p.links n ≡ Some link
+  pub next_step : (n : ℕ) (link : Link) (p : Place) → p.stage ≡ Works n Done → slice_get p.links n ≡ Some link
       → RunStep clients terms p Pass (record p { stage = Works (suc n) Asks })
   next_step n link p works at =
       let q : Place = record p { stage = Works (suc n) Asks } in
       stage_at p q Pass (Works n Done) works (subst (λ (o : Option Link). TurnStep clients terms n Done o Pass p q) (sym at) (inr refl))
 
   -- a turn ends
-  end_step : (p : Place) → p.stage ≡ Works (length p.links) Asks → RunStep clients terms p Pass (turn_ended p)
+  pub end_step : (p : Place) → p.stage ≡ Works (length p.links) Asks → RunStep clients terms p Pass (turn_ended p)
   end_step p works =
       stage_at p (turn_ended p) Pass (Works (length p.links) Asks) works
       (subst (λ (o : Option Link). TurnStep clients terms (length p.links) Asks o Pass p (turn_ended p)) (sym (get_past p.links)) refl)
 
-  begin_step : (p : Place) → p.stage ≡ Between → is_at_end terms p ≡ false
+  pub begin_step : (p : Place) → p.stage ≡ Between → is_at_end terms p ≡ false
       → RunStep clients terms p Pass (record p { stage = Works 0 Asks; moved = false })
   begin_step p between on =
       let q : Place = record p { stage = Works 0 Asks; moved = false } in

@@ -36,7 +36,7 @@ turn_begun clients terms links s o heard moved still made on =
     (place_at Between links heard moved still made s.state.facts) o refl on
 
 -- links that are closed have read what they are to have read
-closed_read : (mid links' : List Link) (heard : ℕ → List ℕ) → ClosesSome mid links'
+pub closed_read : (mid links' : List Link) (heard : ℕ → List ℕ) → ClosesSome mid links'
     → AllRead heard mid → AllRead heard links'
 closed_read mid links' heard closes read i l at =
     let one = closes.each i l at in
@@ -48,7 +48,7 @@ closed_read mid links' heard closes read i l at =
 module _ (clients : Meaning) (n : ℕ) (mid links' : List Link) (s : StoreValue) (o : Outside) (all : n ≡ length mid)
     (exact : (heard : ℕ → List ℕ) → links_from 0 links' heard ≡ without_redundant (links_from 0 mid heard)) where
   -- the place behind the last link, once the redundant ones are closed
-  ended_at : (heard : ℕ → List ℕ) (still made : ℕ) (quiet : Bool)
+  pub ended_at : (heard : ℕ → List ℕ) (still made : ℕ) (quiet : Bool)
       → turn_ended (place_at (Works n Asks) mid heard (cond quiet false true) still made s.state.facts)
       ≡ place_at Between links' heard (not quiet) (cond quiet (suc still) 0) (suc made) s.state.facts
   ended_at heard still made true =

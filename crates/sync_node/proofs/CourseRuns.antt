@@ -87,7 +87,7 @@ all_read n links heard l l' bytes at all read i x at_i =
 
 -- ---- the turn of one more link
 
-and_cond : (a b moved : Bool) → cond b (cond a moved true) true ≡ cond (a && b) moved true
+pub and_cond : (a b moved : Bool) → cond b (cond a moved true) true ≡ cond (a && b) moved true
 and_cond true true moved = refl
 and_cond true false moved = refl
 and_cond false true moved = refl
@@ -186,15 +186,15 @@ module _ (clients : Meaning) (first n : ℕ) (links : List Link) (l : Link) (s :
     (numbered : l.session.number ≡ first + n) where
   module _ (terms : Terms) (same : terms.first ≡ first) (heard : ℕ → List ℕ) (moved : Bool)
       (still made : ℕ) where
-    at_course : slice_get (links_from 0 links heard) n ≡ Some (link_at l (heard n))
+    pub at_course : slice_get (links_from 0 links heard) n ≡ Some (link_at l (heard n))
     at_course =
         let plain : 0 + n ≡ n = omega arith in
         get_at 0 n links heard l at ∙ ap (λ (j : ℕ). Some (link_at l (heard j))) plain
 
-    in_terms : l.session.number ≡ terms.first + n
+    pub in_terms : l.session.number ≡ terms.first + n
     in_terms = numbered ∙ ap (λ (f : ℕ). f + n) (sym same)
 
-    start_here : (doing : Doing)
+    pub start_here : (doing : Doing)
         → with_spot n (spot_at doing l (heard n) moved s.state.facts)
         (place_at (Works n doing) links heard moved still made s.state.facts)
         ≡ place_at (Works n doing) links heard moved still made s.state.facts
@@ -208,7 +208,7 @@ module _ (clients : Meaning) (first n : ℕ) (links : List Link) (l : Link) (s :
           facts = s.state.facts;
         }) (set_same (links_from 0 links heard) n (link_at l (heard n)) at_course)
 
-    end_there : (doing doing' : Doing) (l' : Link) (f : Facts) (bytes : List ℕ) (moved' : Bool)
+    pub end_there : (doing doing' : Doing) (l' : Link) (f : Facts) (bytes : List ℕ) (moved' : Bool)
         → with_spot n (spot_at doing' l' bytes moved' f)
         (place_at (Works n doing) links heard moved still made s.state.facts)
         ≡ place_at (Works n doing') (slice_set links n l') (heard_with n bytes heard) moved' still made f

@@ -34,3 +34,5 @@ mod PieceActs
 mod HearActs
 mod SendActs
 mod TurnActs
+mod RunActLaws
+mod NodeActs

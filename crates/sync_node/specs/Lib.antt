@@ -25,3 +25,4 @@ pub mod Did
 pub mod Went
 pub mod Batches
 pub mod OnLinks
+pub mod OnRuns

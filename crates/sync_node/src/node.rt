@@ -119,6 +119,8 @@ impl Node {
     ghost use Rattle.sync_node.specs.Courses.{HaltsReceiving, HaltsSending, HaltsTurn};
     ghost use Rattle.sync_node.specs.Courses.{MakesTurn, Receives, SendsDue, is_still};
     ghost use Rattle.sync_node.specs.Node.{IsNode};
+    ghost use Rattle.sync_node.specs.OnRuns.{ByFault, RoundStopped, RoundWent};
+    ghost use Rattle.std.specs.Prelude.{IfErr};
     ghost use Rattle.sync_node.specs.Stays.{IsUndone, IsUndoneAt, StaysReady};
     ghost use Rattle.sync_node.specs.Stops.{SendsAll};
     ghost use Rattle.sync_node.specs.Plans.{session_of};
@@ -438,6 +440,12 @@ impl Node {
         ensures may { MayRun (C.meaning clients.now) self.new (H.tells host.new) }
         ensures stays { self.old.closed ≡ false → StaysReady (C.meaning clients.now) self.new
             (H.tells host.new) result }
+        ensures went { self.old.closed ≡ false → IfOk result (λ turned. RoundWent
+            (C.meaning clients.now) self.old.first self.old.links self.new.links self.old.store
+            self.new.store (H.tells host.old) (H.tells host.new) (is_still turned)) }
+        ensures stopped { self.old.closed ≡ false → IfErr result (ByFault (RoundStopped
+            (C.meaning clients.now) self.old.first self.old.links self.new.links self.old.store
+            self.new.store (H.tells host.old) (H.tells host.new))) }
         ensures node { IsNode self.new }
         ensures course { self.old.closed ≡ false → IfOk result (λ turned. MakesTurn
             (C.meaning clients.now) self.old.first self.old.links self.new.links self.old.store

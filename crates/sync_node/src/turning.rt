@@ -12,6 +12,7 @@ ghost use Rattle.outside.specs.declared.limits.TheConstants.{LINKS};
 ghost use Rattle.sync_node.specs.Node.{AreAttached, AreSome, LinksSafe, LinksWork, MayGoOn};
 ghost use Rattle.sync_node.specs.OnLinks.{HearingStopped, HearingWent, SendingStopped};
 ghost use Rattle.sync_node.specs.OnLinks.{SendingWent, TurnWent};
+ghost use Rattle.sync_node.specs.OnRuns.{LinksStopped, LinksWent, RoundStopped, RoundWent};
 ghost use Rattle.sync_node.specs.Working.{IsAble, StaysSafe, Waits, Works};
 ghost use Rattle.sync_node.specs.Stays.{KeepsReady};
 ghost use Rattle.sync_node.specs.Stops.{LinksSent, StopsSent};
@@ -41,6 +42,12 @@ pub(crate) fn turn_all<H: Host, C: Clients>(
     requires few { length links.old ≤ LINKS }
     requires attached { AreSome links.old store.old.state.facts }
     requires room { 0 < length buffer.old }
+    ensures went { (first : ℕ) → AreAttached first links.old store.old.state.facts
+        → length buffer.old ≡ PIECE_LEN → IfOk result (RoundWent (C.meaning clients.now) first
+        links.old links.new store.old store.new (H.tells host.old) (H.tells host.new)) }
+    ensures stopped { (first : ℕ) → AreAttached first links.old store.old.state.facts
+        → length buffer.old ≡ PIECE_LEN → IfErr result (RoundStopped (C.meaning clients.now) first
+        links.old links.new store.old store.new (H.tells host.old) (H.tells host.new)) }
     ensures ready { IfErr result (KeepsReady (C.meaning clients.now) store.new
         (H.tells host.new)) }
     ensures may { OnOk result (MayGoOn (C.meaning clients.now) links.new store.new
@@ -89,6 +96,13 @@ fn turn_each<H: Host, C: Clients>(
     requires few { length links.old ≤ LINKS }
     requires attached { AreSome links.old store.old.state.facts }
     requires room { 0 < length buffer.old }
+    ensures went { (first : ℕ) → AreAttached first links.old store.old.state.facts
+        → length buffer.old ≡ PIECE_LEN → IfOk result (LinksWent (C.meaning clients.now) first
+        (length links.old) links.old links.new store.old store.new (H.tells host.old)
+        (H.tells host.new)) }
+    ensures stopped { (first : ℕ) → AreAttached first links.old store.old.state.facts
+        → length buffer.old ≡ PIECE_LEN → IfErr result (LinksStopped (C.meaning clients.now) first
+        links.old links.new store.old store.new (H.tells host.old) (H.tells host.new)) }
     ensures ready { IfErr result (KeepsReady (C.meaning clients.now) store.new
         (H.tells host.new)) }
     ensures may { OnOk result (MayGoOn (C.meaning clients.now) links.new store.new

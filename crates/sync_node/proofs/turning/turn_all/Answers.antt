@@ -6,6 +6,8 @@ use Rattle.sync_node.proofs.CauseLaws.{links_go_closed, sessions_closed}
 use Rattle.std.proofs.Common.{Err, ap}
 use Rattle.sync_node.proofs.WorkLaws.{err_was}
 use Rattle.sync_node.proofs.CourseCalls.{turn_limit}
+use Rattle.sync_node.proofs.RunActLaws.{round_stopped, round_went}
+use Rattle.sync_node.proofs.Undone.{if_err_was}
 use Rattle.sync_node.proofs.turning.turn_all.Goals as goal
 
 pub returns-in_err-still-clause-safe : goal.returns-in_err-still-clause-safe
@@ -47,3 +49,13 @@ returns-in_err-still-clause-sent g c = λ first attached is. c.in_err-still.ensu
 pub returns-clause-sessions : goal.returns-clause-sessions
 returns-clause-sessions g c =
     sessions_closed c.turn_each.new.links _ c.close_redundant.ensures.some ∙ c.turn_each.ensures.sessions
+
+pub returns-in_err-still-clause-stopped : goal.returns-in_err-still-clause-stopped
+returns-in_err-still-clause-stopped g c = λ first attached whole.
+    if_err_was _ c.in_err-still.field-0.0 _ c.from_residual.ensures.1
+    (round_stopped _ first _ _ _ _ _ _ _ (c.in_err-still.ensures.stopped first attached whole))
+
+pub returns-clause-went : goal.returns-clause-went
+returns-clause-went g c = λ first attached whole.
+    round_went _ first _ _ c.turn_each.new.links _ _ _ _ _ c.in_ok-still.still (omega (arith, c.turn_each.auto.links))
+    (c.in_ok-still.ensures.went first attached whole) c.close_redundant.ensures.some c.close_redundant.ensures.exact

@@ -1,0 +1,45 @@
+-- What a node's calls came to, as the node is seen.
+use Rattle.std.proofs.Common.{◌≡◌, ℕ, Bool, List, subst, sym}
+use Rattle.outside.specs.Outside.{Outside}
+use Rattle.sync_rules.specs.Clients.{Meaning}
+use Rattle.sync_store.specs.Store.{StoreValue}
+use Rattle.sync_node.specs.declared.fault.Fault.{Fault}
+use Rattle.sync_node.specs.declared.fault.Fault.TheVariants as fault
+use Rattle.sync_node.specs.declared.fault.NodeFault.{NodeFault}
+use Rattle.sync_node.specs.declared.link.Link.{Link}
+use Rattle.sync_node.specs.Faults.{fault_of}
+use Rattle.sync_node.specs.Node.{NodeValue}
+use Rattle.sync_node.specs.OnRuns.{ByFault, RoundStopped, RoundWent}
+use Rattle.sync_node.proofs.NodeLaws.{node_of}
+
+pub by_fault : (P : Fault → Type 0) (e : Fault) (answer : NodeFault) → answer ≡ fault_of e → P e
+    → ByFault P answer
+by_fault P e answer is p = subst (λ (x : NodeFault). ByFault P x) (sym is) (by_kind e p)
+  where
+    by_kind : (x : Fault) → P x → ByFault P (fault_of x)
+    by_kind fault.Memory p = p
+    by_kind fault.DiskFault p = p
+    by_kind fault.Full p = p
+
+module _ (clients : Meaning) (s : StoreValue) (first : ℕ) (links : List Link) (closed : Bool)
+    (n : NodeValue) (o o' : Outside) (is : node_of s first links closed ≡ n) where
+  -- a turn, over links that were lent
+  pub node_round : (s' : StoreValue) (lent new kept : List Link) (found quiet : Bool)
+      → lent ≡ links → kept ≡ new → found ≡ quiet
+      → RoundWent clients first lent new s s' o o' found
+      → RoundWent clients n.first n.links kept n.store s' o o' quiet
+  node_round s' lent new kept found quiet is_lent is_kept is_found went =
+      subst (λ (x : NodeValue). RoundWent clients x.first x.links kept x.store s' o o' quiet) is
+      (subst (λ (ls : List Link). RoundWent clients first ls kept s s' o o' quiet) is_lent
+      (subst (λ (ls : List Link). RoundWent clients first lent ls s s' o o' quiet) (sym is_kept)
+      (subst (λ (b : Bool). RoundWent clients first lent new s s' o o' b) is_found went)))
+
+  pub node_round_stopped : (s' : StoreValue) (lent new kept : List Link) (e : Fault)
+      (answer : NodeFault) → lent ≡ links → kept ≡ new → answer ≡ fault_of e
+      → RoundStopped clients first lent new s s' o o' e
+      → ByFault (RoundStopped clients n.first n.links kept n.store s' o o') answer
+  node_round_stopped s' lent new kept e answer is_lent is_kept is_answer stopped =
+      by_fault (RoundStopped clients n.first n.links kept n.store s' o o') e answer is_answer
+      (subst (λ (x : NodeValue). RoundStopped clients x.first x.links kept x.store s' o o' e) is
+      (subst (λ (ls : List Link). RoundStopped clients first ls kept s s' o o' e) is_lent
+      (subst (λ (ls : List Link). RoundStopped clients first lent ls s s' o o' e) (sym is_kept) stopped)))

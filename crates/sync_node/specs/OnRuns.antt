@@ -1,0 +1,93 @@
+-- What the calls of a node came to: where they led on the machine of a run, or where they stopped.
+use Rattle.std.specs.Prelude.{◌≡◌, ℕ, suc, Bool, true, false, cond, not, nat_lt, slice_get, List, [], ◌∷◌, length, Some}
+use Rattle.outside.specs.Outside.{Outside}
+use Rattle.sync_rules.specs.Clients.{Meaning}
+use Rattle.sync_store.specs.Store.{StoreValue}
+use Rattle.sync_course.specs.Acts.{Act, batches_in}
+use Rattle.sync_course.specs.Links as course_links
+use Rattle.sync_course.specs.LinkTurns.{Asks, Doing, Done, Sends}
+use Rattle.sync_course.specs.Owing.{ActStep, Owing, paid}
+use Rattle.sync_course.specs.Turns.{Between, Place, RunStep, Terms, Works, is_at_end}
+use Rattle.sync_course.specs.declared.TheConstants.{MAX_OUTPUTS}
+use Rattle.sync_node.specs.declared.fault.Fault.{Fault}
+use Rattle.sync_node.specs.declared.fault.Fault.TheVariants as fault
+use Rattle.sync_node.specs.declared.fault.NodeFault.{NodeFault}
+use Rattle.sync_node.specs.declared.fault.NodeFault.TheVariants as node
+use Rattle.sync_node.specs.declared.link.Link.{Link}
+use Rattle.sync_node.specs.Courses.{AllRead, IsReadyToSend, links_from, place_at}
+use Rattle.sync_node.specs.Went.{Stopped, Went}
+
+abbrev pub RunActs : Meaning → Terms → Owing Place → Act → Owing Place → Type 0
+RunActs clients terms = ActStep (λ (p : Place). p.facts) terms.first (RunStep clients terms)
+
+-- a run led from one place to another, and what was owed was sent
+abbrev pub RunWent : Meaning → Terms → Place → Place → StoreValue → StoreValue → Outside → Outside
+    → Type 0
+RunWent clients terms p q s s' o o' =
+    Went clients (RunActs clients terms) (paid p) (paid q) s s' o o'
+
+-- it stopped at a place at which the links stand so
+abbrev pub RunStopped : Meaning → Terms → Place → List course_links.Link → StoreValue → StoreValue
+    → Outside → Outside → Fault → Type 0
+RunStopped clients terms p links s s' o o' e =
+    Stopped clients (RunActs clients terms) (λ (q : Owing Place). q.at.links ≡ links) (paid p) s s' o o' e
+
+-- what is said by the fault of work on a store, by what a call of a node answers that was not closed
+abbrev pub ByFault : (Fault → Type 0) → NodeFault → Type 0
+ByFault P node.Memory = P fault.Memory
+ByFault P node.DiskFault = P fault.DiskFault
+ByFault P node.Full = P fault.Full
+ByFault P node.Closed = ⊥
+
+-- ---- all links, one after the other
+
+-- the first links, so many, had their turn
+pub record LinksTurnedTo (clients : Meaning) (terms : Terms) (n : ℕ) (links links' : List Link)
+    (s s' : StoreValue) (o o' : Outside) (heard : ℕ → List ℕ) (moved : Bool) (still made : ℕ)
+    (quiet : Bool) : Type 0 where
+  pub heard' : ℕ → List ℕ
+  pub has_read : AllRead heard' links'
+  pub went : RunWent clients terms
+      (place_at (Works 0 Asks) links heard moved still made s.state.facts)
+      (place_at (Works n Asks) links' heard' (cond quiet moved true) still made s'.state.facts) s s' o o'
+
+pub record LinksWent (clients : Meaning) (first n : ℕ) (links links' : List Link)
+    (s s' : StoreValue) (o o' : Outside) (quiet : Bool) : Type 0 where
+  pub leads : (terms : Terms) (heard : ℕ → List ℕ) (moved : Bool) (still made : ℕ)
+      → terms.first ≡ first → AllRead heard links
+      → LinksTurnedTo clients terms n links links' s s' o o' heard moved still made quiet
+
+pub record LinksStopped (clients : Meaning) (first : ℕ) (links links' : List Link)
+    (s s' : StoreValue) (o o' : Outside) (e : Fault) : Type 0 where
+  pub stops : (terms : Terms) (heard : ℕ → List ℕ) (moved : Bool) (still made : ℕ)
+      → terms.first ≡ first → AllRead heard links
+      → (heard' : ℕ → List ℕ) × RunStopped clients terms
+      (place_at (Works 0 Asks) links heard moved still made s.state.facts)
+      (links_from 0 links' heard') s s' o o' e
+
+-- ---- a whole turn
+
+pub record RoundWentTo (clients : Meaning) (terms : Terms) (links links' : List Link)
+    (s s' : StoreValue) (o o' : Outside) (heard : ℕ → List ℕ) (moved : Bool) (still made : ℕ)
+    (quiet : Bool) : Type 0 where
+  pub heard' : ℕ → List ℕ
+  pub has_read : AllRead heard' links'
+  pub went : RunWent clients terms (place_at Between links heard moved still made s.state.facts)
+      (place_at Between links' heard' (not quiet) (cond quiet (suc still) 0) (suc made) s'.state.facts) s s' o o'
+
+-- from a place between two turns that is not the end to the next one; it was still where nothing
+-- moved
+pub record RoundWent (clients : Meaning) (first : ℕ) (links links' : List Link)
+    (s s' : StoreValue) (o o' : Outside) (quiet : Bool) : Type 0 where
+  pub leads : (terms : Terms) (heard : ℕ → List ℕ) (moved : Bool) (still made : ℕ)
+      → terms.first ≡ first → AllRead heard links
+      → is_at_end terms (place_at Between links heard moved still made s.state.facts) ≡ false
+      → RoundWentTo clients terms links links' s s' o o' heard moved still made quiet
+
+pub record RoundStopped (clients : Meaning) (first : ℕ) (links links' : List Link)
+    (s s' : StoreValue) (o o' : Outside) (e : Fault) : Type 0 where
+  pub stops : (terms : Terms) (heard : ℕ → List ℕ) (moved : Bool) (still made : ℕ)
+      → terms.first ≡ first → AllRead heard links
+      → is_at_end terms (place_at Between links heard moved still made s.state.facts) ≡ false
+      → (heard' : ℕ → List ℕ) × RunStopped clients terms
+      (place_at Between links heard moved still made s.state.facts) (links_from 0 links' heard') s s' o o' e
