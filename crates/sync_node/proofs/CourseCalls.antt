@@ -128,14 +128,14 @@ turn_limit clients first links s s' o o' full = record {
 -- ---- one call on a link
 
 -- what was heard, as it was
-same_cond : (k n : ℕ) (heard : ℕ → List ℕ) → cond (nat_eq k n) (heard n) (heard k) ≡ heard k
+pub same_cond : (k n : ℕ) (heard : ℕ → List ℕ) → cond (nat_eq k n) (heard n) (heard k) ≡ heard k
 same_cond k n heard =
     elim (cases_eq k n) [
       | inl same ↦ ap (λ (b : Bool). cond b (heard n) (heard k)) (eq-eqb k n same) ∙ ap heard (sym same)
       | inr other ↦ ap (λ (b : Bool). cond b (heard n) (heard k)) (ne_eqb k n other)
     ]
 
-same_heard : (k n : ℕ) (links : List Link) (heard : ℕ → List ℕ)
+pub same_heard : (k n : ℕ) (links : List Link) (heard : ℕ → List ℕ)
     → links_from k links (heard_with n (heard n) heard) ≡ links_from k links heard
 same_heard k n [] heard = refl
 same_heard k n (x ∷ links) heard =

@@ -9,7 +9,7 @@ use Rattle.sync_node.specs.declared.fault.NodeFault.{NodeFault}
 use Rattle.sync_node.specs.declared.link.Link.{Link}
 use Rattle.sync_node.specs.Faults.{fault_of}
 use Rattle.sync_node.specs.Node.{NodeValue}
-use Rattle.sync_node.specs.OnRuns.{ByFault, RoundStopped, RoundWent}
+use Rattle.sync_node.specs.OnRuns.{AskingStopped, AskingWent, ByFault, OutsSent, OutsStopped, RoundStopped, RoundWent}
 use Rattle.sync_node.proofs.NodeLaws.{node_of}
 
 pub by_fault : (P : Fault → Type 0) (e : Fault) (answer : NodeFault) → answer ≡ fault_of e → P e
@@ -43,3 +43,32 @@ module _ (clients : Meaning) (s : StoreValue) (first : ℕ) (links : List Link) 
       (subst (λ (x : NodeValue). RoundStopped clients x.first x.links kept x.store s' o o' e) is
       (subst (λ (ls : List Link). RoundStopped clients first ls kept s s' o o' e) is_lent
       (subst (λ (ls : List Link). RoundStopped clients first lent ls s s' o o' e) (sym is_kept) stopped)))
+
+  -- a call on one link
+  pub node_asked : (link : ℕ) (s' : StoreValue) (links' : List Link) (idle : Bool)
+      → AskingWent clients first link links links' s s' o o' idle
+      → AskingWent clients n.first link n.links links' n.store s' o o' idle
+  node_asked link s' links' idle went =
+      subst (λ (x : NodeValue). AskingWent clients x.first link x.links links' x.store s' o o' idle) is went
+
+  pub node_asking_stopped : (link : ℕ) (s' : StoreValue) (links' : List Link) (e : Fault)
+      (answer : NodeFault) → answer ≡ fault_of e
+      → AskingStopped clients first link links links' s s' o o' e
+      → ByFault (AskingStopped clients n.first link n.links links' n.store s' o o') answer
+  node_asking_stopped link s' links' e answer is_answer stopped =
+      by_fault (AskingStopped clients n.first link n.links links' n.store s' o o') e answer is_answer
+      (subst (λ (x : NodeValue). AskingStopped clients x.first link x.links links' x.store s' o o' e) is stopped)
+
+  pub node_outs_sent : (link now : ℕ) (s' : StoreValue) (links' : List Link) (outs : ℕ)
+      → OutsSent clients first link now links links' s s' o o' outs
+      → OutsSent clients n.first link now n.links links' n.store s' o o' outs
+  node_outs_sent link now s' links' outs sent =
+      subst (λ (x : NodeValue). OutsSent clients x.first link now x.links links' x.store s' o o' outs) is sent
+
+  pub node_outs_stopped : (link now : ℕ) (s' : StoreValue) (links' : List Link) (e : Fault)
+      (answer : NodeFault) → answer ≡ fault_of e
+      → OutsStopped clients first link now links links' s s' o o' e
+      → ByFault (OutsStopped clients n.first link now n.links links' n.store s' o o') answer
+  node_outs_stopped link now s' links' e answer is_answer stopped =
+      by_fault (OutsStopped clients n.first link now n.links links' n.store s' o o') e answer is_answer
+      (subst (λ (x : NodeValue). OutsStopped clients x.first link now x.links links' x.store s' o o' e) is stopped)

@@ -1,6 +1,6 @@
 -- The turns of all links, and a whole turn, as paths of a run's acts.
 use Rattle.std.proofs.Common.{◌≡◌, ⊥, ℕ, zero, suc, ◌+◌, ◌<◌, Bool, true, false, cond, ◌&&◌, List, [], ◌∷◌, length, refl, sym, ◌∙◌, ap, subst, inl, inr, arith, Some}
-use Rattle.std.specs.Prelude.{not, slice_get, slice_set}
+use Rattle.std.specs.Prelude.{nat_lt, not, slice_get, slice_set}
 use Rattle.outside.specs.Outside.{Outside}
 use Rattle.sync_rules.specs.declared.entries.Entry.{Entry}
 use Rattle.sync_rules.specs.Clients.{Meaning}
@@ -10,9 +10,10 @@ use Rattle.sync_course.specs.Acts.{Act, Does, Fail, Send, commit_acts}
 use Rattle.sync_course.specs.Events.{Break, Commit, Event, Pass}
 use Rattle.sync_course.specs.Links as course_links
 use Rattle.sync_course.specs.Links.{without_redundant}
-use Rattle.sync_course.specs.LinkTurns.{Asks, Doing, Done, LinkStep, Spot}
+use Rattle.sync_course.specs.LinkTurns.{Asks, Doing, Done, LinkStep, Sends, Spot}
 use Rattle.sync_course.specs.Owing.{Owing, paid}
 use Rattle.sync_course.specs.Paths.{Path}
+use Rattle.sync_course.specs.declared.TheConstants.{MAX_OUTPUTS}
 use Rattle.sync_course.specs.Turns.{Between, Place, RunStep, Terms, Works, is_at_end, turn_ended, with_spot}
 use Rattle.sync_course.proofs.LiftLaws.{begin_step, end_step, get_set, get_within, lifted_step, next_step}
 use Rattle.sync_course.proofs.PathLaws.{path_maps}
@@ -20,13 +21,15 @@ use Rattle.sync_course.proofs.ToldLaws.{told_pass}
 use Rattle.sync_node.specs.declared.fault.Fault.{Fault}
 use Rattle.sync_node.specs.declared.fault.Fault.TheVariants as fault
 use Rattle.sync_node.specs.declared.link.Link.{Link}
-use Rattle.sync_node.specs.Courses.{AllRead, link_at, links_from, place_at, spot_at}
-use Rattle.sync_node.specs.OnLinks.{HearingStopped, LinkActs, LinkStopped, LinkWent, TurnWent}
-use Rattle.sync_node.specs.OnRuns.{LinksStopped, LinksWent, RoundStopped, RoundWent, RunActs, RunStopped, RunWent}
+use Rattle.sync_node.specs.Courses.{AllRead, IsRead, IsReadyToSend, link_at, links_from, place_at, spot_at}
+use Rattle.sync_node.specs.Ends.{MaySend}
+use Rattle.sync_node.specs.OnLinks.{DueStopped, DueWent, HearingStopped, HearingWent, LinkActs, LinkMakes, LinkStopped, LinkWent, TurnWent}
+use Rattle.sync_node.specs.OnRuns.{AskingStopped, AskingWent, LinksStopped, LinksWent, OutsSent, OutsStopped, RoundStopped, RoundWent, RunActs, RunMakes, RunStopped, RunWent}
 use Rattle.sync_node.specs.Redundant.{ClosesSome}
 use Rattle.sync_node.specs.Went.{HasSoon, Went}
-use Rattle.sync_node.proofs.CourseCalls.{closed_read, ended_at}
+use Rattle.sync_node.proofs.CourseCalls.{closed_read, ended_at, same_cond, same_heard}
 use Rattle.sync_node.proofs.CourseRuns.{all_read, and_cond, at_course, end_there, get_at, heard_with, in_terms, length_from, set_at, start_here}
+use Rattle.sync_node.proofs.CourseTurns.{may_end, read_on}
 use Rattle.sync_node.proofs.PrimLaws.{did_pass}
 use Rattle.sync_node.proofs.WentLaws.{stopped_then, went_none, went_one, went_then}
 
@@ -162,6 +165,32 @@ module _ (clients : Meaning) (first n : ℕ) (links : List Link) (l : Link) (s :
         subst (λ (x : Place). RunWent clients terms x (place_at (Works n doing') (slice_set links n l') (heard_with n bytes heard) moved' still made s'.state.facts) s s' o o')
         (start_here clients first n links l s o at numbered terms same heard moved still made doing)
         (subst (λ (x : Place). RunWent clients terms (with_spot n p place) x s s' o o')
+        (end_there clients first n links l s o at numbered terms same heard moved still made doing doing' l' s'.state.facts bytes moved') lifted)
+
+    -- the same, with the number of batches that were committed
+    pub link_makes : (doing doing' : Doing) (l' : Link) (s' : StoreValue) (o' : Outside)
+        (bytes : List ℕ) (moved' : Bool) (count : ℕ)
+        → LinkMakes clients n l.session.number (spot_at doing l (heard n) moved s.state.facts)
+        (spot_at doing' l' bytes moved' s'.state.facts) s s' o o' count
+        → RunMakes clients terms (place_at (Works n doing) links heard moved still made s.state.facts)
+        (place_at (Works n doing') (slice_set links n l') (heard_with n bytes heard) moved' still made s'.state.facts) s s' o o' count
+    link_makes doing doing' l' s' o' bytes moved' count makes =
+        let place : Place = place_at (Works n doing) links heard moved still made s.state.facts in
+        let p : Spot = spot_at doing l (heard n) moved s.state.facts in
+        let q : Spot = spot_at doing' l' bytes moved' s'.state.facts in
+        let by = makes terms.first (in_terms clients first n links l s o at numbered terms same heard moved still made) in
+        let lifted : RunMakes clients terms (with_spot n p place) (with_spot n q place) s s' o o' count =
+        record {
+          went = record {
+            acts = by.went.acts;
+            path = lift_path clients terms n place (link_within doing) (paid p) (paid q) by.went.acts by.went.path;
+            did = by.went.did;
+          };
+          counts = by.counts;
+        } in
+        subst (λ (x : Place). RunMakes clients terms x (place_at (Works n doing') (slice_set links n l') (heard_with n bytes heard) moved' still made s'.state.facts) s s' o o' count)
+        (start_here clients first n links l s o at numbered terms same heard moved still made doing)
+        (subst (λ (x : Place). RunMakes clients terms (with_spot n p place) x s s' o o' count)
         (end_there clients first n links l s o at numbered terms same heard moved still made doing doing' l' s'.state.facts bytes moved') lifted)
 
     pub link_stops : (doing : Doing) (l' : Link) (s' : StoreValue) (o' : Outside) (bytes : List ℕ)
@@ -331,3 +360,75 @@ round_stopped clients first links links' s s' o o' e stopped = record {
             (place_at (Works 0 Asks) links heard false still made s.state.facts) s s s' o o o' e (round_begun clients terms links s o heard moved still made on) halts.1,
       );
 }
+
+-- ---- one call on a link
+
+module _ (clients : Meaning) (first n : ℕ) (links : List Link) (l : Link) (s : StoreValue) (o : Outside) (at : slice_get links n ≡ Some l)
+    (numbered : l.session.number ≡ first + n) where
+  -- it was asked once
+  pub asking_went : (l' : Link) (s' : StoreValue) (o' : Outside) (idle : Bool)
+      → HearingWent clients n l l' s s' o o' idle
+      → AskingWent clients first n links (slice_set links n l') s s' o o' idle
+  asking_went l' s' o' idle hears = record {
+    leads = λ terms heard moved still made same read.
+        let to = hears.leads (heard n) moved (read n l at) in
+        record {
+          heard' = heard_with n to.heard' heard;
+          doing = to.doing;
+          has_read = all_read n links heard l l' to.heard' at read to.has_read;
+          ready = λ x there.
+              let both : Some l' ≡ Some x = sym (get_set links n l' (get_within links n l at)) ∙ there in
+              let is : l' ≡ x = cc in
+              subst (IsReadyToSend to.doing) is to.ready;
+          went = link_goes clients first n links l s o at numbered terms same heard moved still made Asks to.doing l' s' o' to.heard' (cond idle moved true) to.went;
+        };
+  }
+
+  pub asking_stopped : (l' : Link) (s' : StoreValue) (o' : Outside) (e : Fault)
+      → HearingStopped clients n l l' s s' o o' e
+      → AskingStopped clients first n links (slice_set links n l') s s' o o' e
+  asking_stopped l' s' o' e stopped = record {
+    stops = λ terms heard moved still made same read.
+        let halts = stopped.stops (heard n) moved (read n l at) in (
+          heard_with n halts.0 heard,
+          link_stops clients first n links l s o at numbered terms same heard moved still made Asks l' s' o' halts.0 e halts.1,
+        );
+  }
+
+  -- what is due on it was sent
+  module _ (now : ℕ) (may : MaySend l.end) where
+    pub outs_sent : (l' : Link) (s' : StoreValue) (o' : Outside) (outs : ℕ)
+        → DueWent clients n now l l' s s' o o' outs
+        → OutsSent clients first n now links (slice_set links n l') s s' o o' outs
+    outs_sent l' s' o' outs sent = record {
+      has_read = λ heard read i x there.
+          subst (λ (bytes : List ℕ). IsRead bytes x) (same_cond i n heard)
+          (all_read n links heard l l' (heard n) at read (read_on (heard n) l l' sent.same_reader sent.end (read n l at)) i x there);
+      makes = λ terms heard moved still made same.
+          let to : (h : ℕ → List ℕ) → Place = λ h. place_at (Works n Done) (slice_set links n l') h (cond (nat_lt 0 outs) true moved) still made s'.state.facts in
+          let from : Place = place_at (Works n (Sends now MAX_OUTPUTS)) links heard moved still made s.state.facts in
+          let is : to (heard_with n (heard n) heard) ≡ to heard =
+          ap (λ (ls : List course_links.Link). record {
+            stage = Works n Done;
+            links = ls;
+            moved = cond (nat_lt 0 outs) true moved;
+            still = still;
+            made = made;
+            facts = s'.state.facts;
+          }) (same_heard 0 n (slice_set links n l') heard) in
+          subst (λ (q : Place). RunMakes clients terms from q s s' o o' outs) is
+          (link_makes clients first n links l s o at numbered terms same heard moved still made (Sends now MAX_OUTPUTS) Done l' s' o' (heard n) (cond (nat_lt 0 outs) true moved) outs
+          (sent.makes (heard n) moved (may_end l.end may)));
+    }
+
+    pub outs_stopped : (l' : Link) (s' : StoreValue) (o' : Outside) (e : Fault)
+        → DueStopped clients n now l l' s s' o o' e
+        → OutsStopped clients first n now links (slice_set links n l') s s' o o' e
+    outs_stopped l' s' o' e stopped = record {
+      stops = λ terms heard moved still made same.
+          subst (λ (ls : List course_links.Link). RunStopped clients terms
+          (place_at (Works n (Sends now MAX_OUTPUTS)) links heard moved still made s.state.facts) ls s s' o o' e)
+          (same_heard 0 n (slice_set links n l') heard)
+          (link_stops clients first n links l s o at numbered terms same heard moved still made (Sends now MAX_OUTPUTS) l' s' o' (heard n) e
+          (stopped.stops (heard n) moved (may_end l.end may)));
+    }

@@ -91,3 +91,55 @@ pub record RoundStopped (clients : Meaning) (first : ℕ) (links links' : List L
       → is_at_end terms (place_at Between links heard moved still made s.state.facts) ≡ false
       → (heard' : ℕ → List ℕ) × RunStopped clients terms
       (place_at Between links heard moved still made s.state.facts) (links_from 0 links' heard') s s' o o' e
+
+-- ---- one call on the link of this number, in its turn
+
+pub record AskedTo (clients : Meaning) (terms : Terms) (n : ℕ) (links links' : List Link)
+    (s s' : StoreValue) (o o' : Outside) (heard : ℕ → List ℕ) (moved : Bool) (still made : ℕ)
+    (idle : Bool) : Type 0 where
+  pub heard' : ℕ → List ℕ
+  pub doing : Doing
+  pub has_read : AllRead heard' links'
+  pub ready : (l : Link) → slice_get links' n ≡ Some l → IsReadyToSend doing l
+  pub went : RunWent clients terms
+      (place_at (Works n Asks) links heard moved still made s.state.facts)
+      (place_at (Works n doing) links' heard' (cond idle moved true) still made s'.state.facts) s s' o o'
+
+-- it was asked once; then it waits for the clock, or it is closed and its turn is done
+pub record AskingWent (clients : Meaning) (first n : ℕ) (links links' : List Link)
+    (s s' : StoreValue) (o o' : Outside) (idle : Bool) : Type 0 where
+  pub leads : (terms : Terms) (heard : ℕ → List ℕ) (moved : Bool) (still made : ℕ)
+      → terms.first ≡ first → AllRead heard links
+      → AskedTo clients terms n links links' s s' o o' heard moved still made idle
+
+pub record AskingStopped (clients : Meaning) (first n : ℕ) (links links' : List Link)
+    (s s' : StoreValue) (o o' : Outside) (e : Fault) : Type 0 where
+  pub stops : (terms : Terms) (heard : ℕ → List ℕ) (moved : Bool) (still made : ℕ)
+      → terms.first ≡ first → AllRead heard links
+      → (heard' : ℕ → List ℕ) × RunStopped clients terms
+      (place_at (Works n Asks) links heard moved still made s.state.facts)
+      (links_from 0 links' heard') s s' o o' e
+
+-- so many outputs were committed and sent
+pub record RunMakes (clients : Meaning) (terms : Terms) (p q : Place) (s s' : StoreValue)
+    (o o' : Outside) (count : ℕ) : Type 0 where
+  pub went : RunWent clients terms p q s s' o o'
+  pub counts : length (batches_in went.acts) ≡ count
+
+-- all that is due on it at this reading was sent, so many outputs, and its turn is done
+pub record OutsSent (clients : Meaning) (first n now : ℕ) (links links' : List Link)
+    (s s' : StoreValue) (o o' : Outside) (outs : ℕ) : Type 0 where
+  pub has_read : (heard : ℕ → List ℕ) → AllRead heard links → AllRead heard links'
+  pub makes : (terms : Terms) (heard : ℕ → List ℕ) (moved : Bool) (still made : ℕ)
+      → terms.first ≡ first
+      → RunMakes clients terms
+      (place_at (Works n (Sends now MAX_OUTPUTS)) links heard moved still made s.state.facts)
+      (place_at (Works n Done) links' heard (cond (nat_lt 0 outs) true moved) still made s'.state.facts) s s' o o' outs
+
+pub record OutsStopped (clients : Meaning) (first n now : ℕ) (links links' : List Link)
+    (s s' : StoreValue) (o o' : Outside) (e : Fault) : Type 0 where
+  pub stops : (terms : Terms) (heard : ℕ → List ℕ) (moved : Bool) (still made : ℕ)
+      → terms.first ≡ first
+      → RunStopped clients terms
+      (place_at (Works n (Sends now MAX_OUTPUTS)) links heard moved still made s.state.facts)
+      (links_from 0 links' heard) s s' o o' e

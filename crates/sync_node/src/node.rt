@@ -119,7 +119,8 @@ impl Node {
     ghost use Rattle.sync_node.specs.Courses.{HaltsReceiving, HaltsSending, HaltsTurn};
     ghost use Rattle.sync_node.specs.Courses.{MakesTurn, Receives, SendsDue, is_still};
     ghost use Rattle.sync_node.specs.Node.{IsNode};
-    ghost use Rattle.sync_node.specs.OnRuns.{ByFault, RoundStopped, RoundWent};
+    ghost use Rattle.sync_node.specs.OnRuns.{AskingStopped, AskingWent, ByFault, OutsSent};
+    ghost use Rattle.sync_node.specs.OnRuns.{OutsStopped, RoundStopped, RoundWent};
     ghost use Rattle.std.specs.Prelude.{IfErr};
     ghost use Rattle.sync_node.specs.Stays.{IsUndone, IsUndoneAt, StaysReady};
     ghost use Rattle.sync_node.specs.Stops.{SendsAll};
@@ -327,6 +328,12 @@ impl Node {
         ensures may { MayRun (C.meaning clients.now) self.new (H.tells host.new) }
         ensures stays { self.old.closed ≡ false → StaysReady (C.meaning clients.now) self.new
             (H.tells host.new) result }
+        ensures went { self.old.closed ≡ false → IfOk result (AskingWent (C.meaning clients.now)
+            self.old.first link self.old.links self.new.links self.old.store self.new.store
+            (H.tells host.old) (H.tells host.new)) }
+        ensures stopped { self.old.closed ≡ false → IfErr result (ByFault (AskingStopped
+            (C.meaning clients.now) self.old.first link self.old.links self.new.links
+            self.old.store self.new.store (H.tells host.old) (H.tells host.new))) }
         ensures node { IsNode self.new }
         ensures course { self.old.closed ≡ false → IfOk result (Receives (C.meaning clients.now)
             self.old.first link self.old.links self.new.links self.old.store self.new.store
@@ -386,6 +393,12 @@ impl Node {
         ensures may { MayRun (C.meaning clients.now) self.new (H.tells host.new) }
         ensures stays { self.old.closed ≡ false → StaysReady (C.meaning clients.now) self.new
             (H.tells host.new) result }
+        ensures went { self.old.closed ≡ false → IfOk result (OutsSent (C.meaning clients.now)
+            self.old.first link now self.old.links self.new.links self.old.store self.new.store
+            (H.tells host.old) (H.tells host.new)) }
+        ensures stopped { self.old.closed ≡ false → IfErr result (ByFault (OutsStopped
+            (C.meaning clients.now) self.old.first link now self.old.links self.new.links
+            self.old.store self.new.store (H.tells host.old) (H.tells host.new))) }
         ensures node { IsNode self.new }
         ensures course { self.old.closed ≡ false → IfOk result (SendsDue (C.meaning clients.now)
             self.old.first link now self.old.links self.new.links self.old.store self.new.store

@@ -12,6 +12,8 @@ use Rattle.std.proofs.Common.{Err}
 use Rattle.sync_node.proofs.NodeLaws.{was_full}
 use Rattle.sync_node.proofs.CourseCalls.{receiving_full}
 use Rattle.sync_node.proofs.CourseNode.{node_receiving_full}
+use Rattle.sync_node.proofs.NodeActs.{node_asked, node_asking_stopped}
+use Rattle.sync_node.proofs.RunActLaws.{asking_stopped, asking_went}
 use Rattle.sync_node.proofs.node.Node.receive.Goals as goal
 
 pub same-self : goal.same-self
@@ -190,3 +192,27 @@ returns-in-Err-clause-kept g c =
     let within : c.args.link < length c.self.inside.links.items = omega (arith, c.requires.attached, ap (λ (n : NodeValue). length n.links) c.self.view_is) in
     let here = slice_get-get_or c.self.inside.links.items c.args.link c.index_mut.result.now within ∙ ap Some (sym c.index_mut.ensures.value) in
     record { same_first = ap (λ (n : NodeValue). n.first) c.self.view_is; same_sessions = sessions_set c.args.link c.self.inside.links.items _ c.receive_on.new.link here c.receive_on.ensures.run.same_session ∙ ap (λ (n : NodeValue). sessions_of n.links) c.self.view_is }
+
+pub returns-then-self-clause-went : goal.returns-then-self-clause-went
+returns-then-self-clause-went g c =
+    λ opened. absurd (let yes = ap (λ (n : NodeValue). n.closed) c.self.view_is in let is = c.if-self.true in cc)
+
+pub returns-then-self-clause-stopped : goal.returns-then-self-clause-stopped
+returns-then-self-clause-stopped g c =
+    λ opened. absurd (let yes = ap (λ (n : NodeValue). n.closed) c.self.view_is in let is = c.if-self.true in cc)
+
+pub returns-in-Ok-clause-went : goal.returns-in-Ok-clause-went
+returns-in-Ok-clause-went g c = λ opened.
+    let within : c.args.link < length c.self.inside.links.items = omega (arith, c.requires.attached, ap (λ (n : NodeValue). length n.links) c.self.view_is) in
+    let here = slice_get-get_or c.self.inside.links.items c.args.link c.index_mut.result.now within ∙ ap Some (sym c.index_mut.ensures.value) in
+    let numbered = ((c.self.invariant.1.attached c.if-self.false).each c.args.link _ here).numbered in
+    node_asked _ _ c.self.inside.first _ c.self.inside.closed _ _ _ c.self.view_is c.args.link _ _ c.in-Ok.idle
+    (asking_went _ c.self.inside.first c.args.link c.self.inside.links.items _ _ _ here numbered c.receive_on.new.link _ _ c.in-Ok.idle (c.in-Ok.ensures.went (ap (λ (b : List ℕ). length b) c.as_mut_slice.ensures.value ∙ c.self.invariant.0)))
+
+pub returns-in-Err-clause-stopped : goal.returns-in-Err-clause-stopped
+returns-in-Err-clause-stopped g c = λ opened.
+    let within : c.args.link < length c.self.inside.links.items = omega (arith, c.requires.attached, ap (λ (n : NodeValue). length n.links) c.self.view_is) in
+    let here = slice_get-get_or c.self.inside.links.items c.args.link c.index_mut.result.now within ∙ ap Some (sym c.index_mut.ensures.value) in
+    let numbered = ((c.self.invariant.1.attached c.if-self.false).each c.args.link _ here).numbered in
+    node_asking_stopped _ _ c.self.inside.first _ c.self.inside.closed _ _ _ c.self.view_is c.args.link _ _ c.in-Err.fault _ c.close.ensures.fault
+    (asking_stopped _ c.self.inside.first c.args.link c.self.inside.links.items _ _ _ here numbered c.receive_on.new.link _ _ _ (c.in-Err.ensures.stopped (ap (λ (b : List ℕ). length b) c.as_mut_slice.ensures.value ∙ c.self.invariant.0)))
