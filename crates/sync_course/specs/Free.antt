@@ -92,8 +92,8 @@ pub record TurnsToSend (p q : Free) : Type 0 where
   pub leads : q ≡ record p { hold = Holds number (Sends now MAX_OUTPUTS) }
 
 -- where nothing is under way: another link is taken in hand, or redundant ones are closed
-abbrev pub Moves : Free → Free → Type 0
-Moves p q = IsIdle p.hold × (Turns p q ⊎ (TurnsToSend p q ⊎ (q ≡ record p { hold = Rests; links = without_redundant p.links })))
+abbrev pub Moves : Hold → Free → Free → Type 0
+Moves hold p q = IsIdle hold × (Turns p q ⊎ (TurnsToSend p q ⊎ (q ≡ record p { hold = Rests; links = without_redundant p.links })))
 
 -- a step of the link that is in hand, whether or not the turn moved so far
 pub record LinkMoves (clients : Meaning) (first n : ℕ) (doing : Doing) (e : Event) (p q : Free) : Type 0 where
@@ -112,10 +112,14 @@ HoldStep clients first (Begins s) (Break on) p q = (on ≡ length p.links) × (q
 HoldStep clients first (Holds n doing) e p q = LinkMoves clients first n doing e p q
 HoldStep clients first _ _ p q = ⊥
 
+-- the same; or nothing that is told of: the place stays, or something else is taken in hand
+abbrev pub FreeFrom : Meaning → ℕ → Hold → Event → Free → Free → Type 0
+FreeFrom clients first hold Pass p q = (q ≡ p) ⊎ (Moves hold p q ⊎ HoldStep clients first hold Pass p q)
+FreeFrom clients first hold e p q = HoldStep clients first hold e p q
+
 -- a step of a node, whose first link has this session
 abbrev pub FreeStep : Meaning → ℕ → Free → Event → Free → Type 0
-FreeStep clients first p Pass q = Moves p q ⊎ HoldStep clients first p.hold Pass p q
-FreeStep clients first p e q = HoldStep clients first p.hold e p q
+FreeStep clients first p e q = FreeFrom clients first p.hold e p q
 
 -- ---- a run
 

@@ -43,8 +43,16 @@ module _ (clients : Meaning) (terms : Terms) (n : ℕ) (place : Place) (within :
       → RunActs clients terms (lift_spot p) a (lift_spot q)
   lift_act p q (Does e) step =
       (step.0, lifted_step clients terms n place within p.at q.at e step.1, step.2)
-  lift_act p q (Send link bytes) step =
-      (step.0, lifted_step clients terms n place within p.at q.at Pass step.1, step.2)
+  lift_act p q (Send link bytes) step = elim step [
+    | inl all ↦ inl (all.0, lifted_step clients terms n place within p.at q.at Pass all.1, all.2)
+    | inr some ↦
+        inr (record {
+          rest = some.rest;
+          parts = some.parts;
+          stays = ap (λ (s : Spot). with_spot n s place) some.stays;
+          left = some.left;
+        })
+  ]
   lift_act p q (Fail link bytes count) step =
       (step.0, lifted_step clients terms n place within p.at q.at (Break link) step.1, step.2)
 

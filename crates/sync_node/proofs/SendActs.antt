@@ -7,6 +7,7 @@ use Rattle.outside.specs.declared.failed.Failed.{Failed}
 use Rattle.outside.specs.declared.limits.TheConstants.{MAX_JOURNAL}
 use Rattle.outside.specs.Host.{ReadsClock, Sends as SendsBytes, SendsPart}
 use Rattle.outside.specs.Outside.{LinkCall, Outside, QuietCall}
+use Rattle.outside.proofs.RunLaws.{front_same}
 use Rattle.record_grammar.specs.Spelling.{spelled}
 use Rattle.sync_ids.specs.declared.records.Record.{Record}
 use Rattle.sync_rules.specs.declared.entries.Entry.{Entry}
@@ -247,7 +248,7 @@ module _ (clients : Meaning) (n now : ℕ) (what : Out) (l : Link) (s : StoreVal
           (subst (λ (f : Facts). LinkMakes clients n l.session.number (due_at heard moved room) (spot_at (Sends now room) l heard true f) s s1 o o' 1) facts_are
           (puts_by (Send n bytes) (record (put_at heard moved room) { doing = Sends now room }) heard moved room refl
           (did_send stand clients n bytes s1 o1 o' roomy within sends.call u went)
-          (λ first at. (owed_bytes first at, refl, all_paid first at))));
+          (λ first at. inl (owed_bytes first at, refl, all_paid first at))));
     }
     by_result (Err why) went ends heard moved room open_is = record {
       doing = Done;
@@ -257,7 +258,7 @@ module _ (clients : Meaning) (n now : ℕ) (what : Out) (l : Link) (s : StoreVal
           (subst (λ (f : Facts). LinkMakes clients n l.session.number (due_at heard moved room) (spot_at Done (record l { end = link_end.Failed }) heard true f) s s1 o o' 1) facts_are
           (puts_by (Fail n bytes went.sent.0) (failed_spot (put_at heard moved room)) heard moved room refl
           (did_fail stand clients n bytes s1 o1 o' roomy within sends.call why went)
-          (λ first at. (owed_bytes first at, (refl, refl), all_paid first at))));
+          (λ first at. (front_same _ _ (sym (owed_bytes first at)), (refl, refl), all_paid first at))));
     }
 
     pub put_went : PutWent clients n now l l' s s1 o o'

@@ -1,3 +1,7 @@
+use Rattle.sync_node.proofs.DidLaws.{did_then}
+use Rattle.sync_node.proofs.WentLaws.{went_then}
+use Rattle.sync_node.proofs.PrimLaws.{did_send}
+use Rattle.sync_node.proofs.BatchLaws.{settle_did}
 use Rattle.sync_node.proofs.CourseJoined.{joined_read}
 use Rattle.sync_node.proofs.laws.joined_links_have_read.Goals as goal
 
