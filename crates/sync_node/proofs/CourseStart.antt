@@ -83,7 +83,7 @@ session_last (y ∷ ss) x none =
     ] none
 
 -- the next number is free
-is_free : (clients : Meaning) (f : Facts) (x : Session) (j : List (List Entry)) → Legal clients j
+pub is_free : (clients : Meaning) (f : Facts) (x : Session) (j : List (List Entry)) → Legal clients j
     → facts j ≡ f → Allowed clients f (session_batch x)
     → session_at f.sessions x.number ≡ None
 is_free clients f x j legal is allowed =
@@ -93,7 +93,7 @@ is_free clients f x j legal is allowed =
     ap (λ (n : ℕ). session_at (facts j).sessions n) may.2.numbered ∙ none_below (facts j).begun (facts j).sessions has.below in
     subst (λ (g : Facts). session_at g.sessions x.number ≡ None) is none
 
-begun_is : (f f' : Facts) (x begun : Session) → session_at f.sessions x.number ≡ None
+pub begun_is : (f f' : Facts) (x begun : Session) → session_at f.sessions x.number ≡ None
     → f' ≡ after_all f (session_batch x)
     → Some begun ≡ session_at f'.sessions x.number → begun ≡ x
 begun_is f f' x begun free facts_are found =
@@ -124,7 +124,7 @@ module _ (clients : Meaning) (x : Session) (s : StoreValue) (o : Outside) (batch
         (subst (λ (b : List Entry). (j : List (List Entry)) → FitsWith clients s o.files j → FitsWith clients s1 o1.files (j ++ b ∷ [])) is adds.grows))
 
     -- the link behind the others, and the place once the greeting is over
-    begins_as : (begun : Session) (reader : ReaderState) → begun ≡ x
+    pub begins_as : (begun : Session) (reader : ReaderState) → begun ≡ x
         → (l : Link) (e : LinkEnd) (f : Facts)
         → l ≡ record { session = begun; reader = reader; nonce = begun.nonce; end = e }
         → attaching_at left (links ++ link_of x e ∷ []) moved still made f ≡ attaching_at left (links ++ link_at l [] ∷ []) moved still made f
@@ -239,7 +239,7 @@ start_none clients x s o = record {
 
 -- ---- behind the links of a node
 
-push_from : (k : ℕ) (links : List Link) (l : Link) (heard : ℕ → List ℕ)
+pub push_from : (k : ℕ) (links : List Link) (l : Link) (heard : ℕ → List ℕ)
     → links_from k (links ++ l ∷ []) heard ≡ links_from k links heard ++ link_at l (heard (k + length links)) ∷ []
 push_from k [] l heard =
     let here : k ≡ k + 0 = omega arith in

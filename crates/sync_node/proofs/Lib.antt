@@ -36,3 +36,4 @@ mod SendActs
 mod TurnActs
 mod RunActLaws
 mod NodeActs
+mod StartActs

@@ -1,6 +1,7 @@
 -- What a node's calls came to, as the node is seen.
 use Rattle.std.proofs.Common.{◌≡◌, ℕ, Bool, List, subst, sym}
 use Rattle.outside.specs.Outside.{Outside}
+use Rattle.sync_rules.specs.declared.entries.Session.{Session}
 use Rattle.sync_rules.specs.Clients.{Meaning}
 use Rattle.sync_store.specs.Store.{StoreValue}
 use Rattle.sync_node.specs.declared.fault.Fault.{Fault}
@@ -9,7 +10,7 @@ use Rattle.sync_node.specs.declared.fault.NodeFault.{NodeFault}
 use Rattle.sync_node.specs.declared.link.Link.{Link}
 use Rattle.sync_node.specs.Faults.{fault_of}
 use Rattle.sync_node.specs.Node.{NodeValue}
-use Rattle.sync_node.specs.OnRuns.{AskingStopped, AskingWent, ByFault, OutsSent, OutsStopped, RoundStopped, RoundWent}
+use Rattle.sync_node.specs.OnRuns.{AskingStopped, AskingWent, BeginStopped, BeginWent, ByFault, OutsSent, OutsStopped, RoundStopped, RoundWent}
 use Rattle.sync_node.proofs.NodeLaws.{node_of}
 
 pub by_fault : (P : Fault → Type 0) (e : Fault) (answer : NodeFault) → answer ≡ fault_of e → P e
@@ -72,3 +73,20 @@ module _ (clients : Meaning) (s : StoreValue) (first : ℕ) (links : List Link) 
   node_outs_stopped link now s' links' e answer is_answer stopped =
       by_fault (OutsStopped clients n.first link now n.links links' n.store s' o o') e answer is_answer
       (subst (λ (x : NodeValue). OutsStopped clients x.first link now x.links links' x.store s' o o' e) is stopped)
+
+  -- a session that begins
+  module _ (x y : Session) (same : x ≡ y) where
+    pub node_begin_went : (links' : List Link) (s' : StoreValue)
+        → BeginWent clients x links links' s s' o o' → BeginWent clients y n.links links' n.store s' o o'
+    node_begin_went links' s' went =
+        subst (λ (m : NodeValue). BeginWent clients y m.links links' m.store s' o o') is
+        (subst (λ (z : Session). BeginWent clients z links links' s s' o o') same went)
+
+    pub node_begin_stopped : (links' : List Link) (s' : StoreValue) (e : Fault)
+        (answer : NodeFault) → answer ≡ fault_of e
+        → BeginStopped clients x links links' s s' o o' e
+        → ByFault (BeginStopped clients y n.links links' n.store s' o o') answer
+    node_begin_stopped links' s' e answer is_answer stopped =
+        by_fault (BeginStopped clients y n.links links' n.store s' o o') e answer is_answer
+        (subst (λ (m : NodeValue). BeginStopped clients y m.links links' m.store s' o o' e) is
+        (subst (λ (z : Session). BeginStopped clients z links links' s s' o o' e) same stopped))

@@ -1,20 +1,26 @@
 -- What the calls of a node came to: where they led on the machine of a run, or where they stopped.
-use Rattle.std.specs.Prelude.{◌≡◌, ℕ, suc, Bool, true, false, cond, not, nat_lt, slice_get, List, [], ◌∷◌, length, Some}
+use Rattle.std.specs.Prelude.{◌≡◌, ◌⊎◌, ℕ, suc, ◌+◌, ◌≤◌, Bool, true, false, cond, not, nat_lt, slice_get, List, [], ◌∷◌, ◌++◌, length, Some}
+use Rattle.entry_codec.specs.Standing.{room_of}
+use Rattle.outside.specs.declared.limits.TheConstants.{MAX_JOURNAL}
+use Rattle.outside.specs.Files.{Two, File}
 use Rattle.outside.specs.Outside.{Outside}
+use Rattle.sync_rules.specs.declared.entries.Session.{Session}
 use Rattle.sync_rules.specs.Clients.{Meaning}
-use Rattle.sync_store.specs.Store.{StoreValue}
-use Rattle.sync_course.specs.Acts.{Act, batches_in}
+use Rattle.sync_store.specs.Store.{StoreValue, written_in}
+use Rattle.sync_course.specs.Acts.{Act, Fail, Send, batches_in}
 use Rattle.sync_course.specs.Links as course_links
 use Rattle.sync_course.specs.LinkTurns.{Asks, Doing, Done, Sends}
 use Rattle.sync_course.specs.Owing.{ActStep, Owing, paid}
-use Rattle.sync_course.specs.Turns.{Between, Place, RunStep, Terms, Works, is_at_end}
+use Rattle.sync_course.specs.Turns.{Attaches, Between, Place, RunStep, Terms, Works, is_at_end}
 use Rattle.sync_course.specs.declared.TheConstants.{MAX_OUTPUTS}
 use Rattle.sync_node.specs.declared.fault.Fault.{Fault}
 use Rattle.sync_node.specs.declared.fault.Fault.TheVariants as fault
 use Rattle.sync_node.specs.declared.fault.NodeFault.{NodeFault}
 use Rattle.sync_node.specs.declared.fault.NodeFault.TheVariants as node
 use Rattle.sync_node.specs.declared.link.Link.{Link}
-use Rattle.sync_node.specs.Courses.{AllRead, IsReadyToSend, links_from, place_at}
+use Rattle.sync_course.specs.declared.ends.LinkEnd.TheVariants as link_end
+use Rattle.sync_node.specs.Courses.{AllRead, IsRead, IsReadyToSend, attaching_at, link_at, links_from, place_at}
+use Rattle.sync_node.specs.Did.{Did}
 use Rattle.sync_node.specs.Went.{Stopped, Went}
 
 abbrev pub RunActs : Meaning → Terms → Owing Place → Act → Owing Place → Type 0
@@ -142,4 +148,67 @@ pub record OutsStopped (clients : Meaning) (first n now : ℕ) (links links' : L
       → terms.first ≡ first
       → RunStopped clients terms
       (place_at (Works n (Sends now MAX_OUTPUTS)) links heard moved still made s.state.facts)
+      (links_from 0 links' heard) s s' o o' e
+
+-- ---- a session that begins on the next link
+
+-- The acts of a greeting on the link of this number: both parts went out, the second perhaps empty;
+-- or a call failed, and the link is closed.
+abbrev pub IsGreeting : ℕ → List ℕ → List ℕ → Link → Link → List Act → Type 0
+IsGreeting n first second l l' acts =
+    ((acts ≡ Send n first ∷ []) × (second ≡ []) × (l' ≡ l))
+    ⊎ (((acts ≡ Send n first ∷ (Send n second ∷ [])) × (l' ≡ l))
+    ⊎ (((count : ℕ) × (acts ≡ Fail n first count ∷ []) × (l' ≡ record l { end = link_end.Failed }))
+    ⊎ ((count : ℕ) × (acts ≡ Send n first ∷ (Fail n second count ∷ [])) × (l' ≡ record l { end = link_end.Failed }))))
+
+pub record GreetsBy (n : ℕ) (first second : List ℕ) (l l' : Link) (o o' : Outside) : Type 0 where
+  pub acts : List Act
+  pub is : IsGreeting n first second l l' acts
+  pub did : (clients : Meaning) (s : StoreValue)
+      → s.end + room_of (written_in s) s.state.facts ≤ MAX_JOURNAL → Did clients acts s s o o'
+
+-- Where files are told, a session began on the link of this number, behind the others, and greeted
+-- there. Nothing was heard on it.
+pub record StartWent (clients : Meaning) (n : ℕ) (session : Session) (l : Link)
+    (s s' : StoreValue) (o o' : Outside) : Type 0 where
+  pub has_read : IsRead [] l
+  pub went : (two : Two File) → o.files ≡ Some two → (terms : Terms) (left : List Session)
+      (links : List course_links.Link) (moved : Bool) (still made : ℕ) → length links ≡ n
+      → session.number ≡ terms.first + n
+      → RunWent clients terms (attaching_at (session ∷ left) links moved still made s.state.facts)
+      (attaching_at left (links ++ link_at l [] ∷ []) moved still made s'.state.facts) s s' o o'
+
+pub record StartStopped (clients : Meaning) (session : Session) (s s' : StoreValue)
+    (o o' : Outside) (e : Fault) : Type 0 where
+  pub stops : (terms : Terms) (left : List Session) (links : List course_links.Link) (moved : Bool)
+      (still made : ℕ)
+      → RunStopped clients terms
+      (attaching_at (session ∷ left) links moved still made s.state.facts) links s s' o o' e
+
+-- that link stands behind the others
+pub record StartWentLast (clients : Meaning) (n : ℕ) (session : Session) (links links' : List Link)
+    (s s' : StoreValue) (o o' : Outside) : Type 0 where
+  pub link : Link
+  pub starts : StartWent clients n session link s s' o o'
+  pub pushed : links' ≡ links ++ link ∷ []
+
+-- where files are told, the next session began on the link behind those of a node, on which nothing
+-- was heard
+pub record BeginWent (clients : Meaning) (session : Session) (links links' : List Link)
+    (s s' : StoreValue) (o o' : Outside) : Type 0 where
+  pub has_read : (heard : ℕ → List ℕ) → heard (length links) ≡ [] → AllRead heard links
+      → AllRead heard links'
+  pub went : (two : Two File) → o.files ≡ Some two → (terms : Terms) (left : List Session)
+      (heard : ℕ → List ℕ) (moved : Bool) (still made : ℕ) → heard (length links) ≡ []
+      → session.number ≡ terms.first + length links
+      → RunWent clients terms
+      (place_at (Attaches (session ∷ left)) links heard moved still made s.state.facts)
+      (place_at (Attaches left) links' heard moved still made s'.state.facts) s s' o o'
+
+pub record BeginStopped (clients : Meaning) (session : Session) (links links' : List Link)
+    (s s' : StoreValue) (o o' : Outside) (e : Fault) : Type 0 where
+  pub stops : (terms : Terms) (left : List Session) (heard : ℕ → List ℕ) (moved : Bool)
+      (still made : ℕ)
+      → RunStopped clients terms
+      (place_at (Attaches (session ∷ left)) links heard moved still made s.state.facts)
       (links_from 0 links' heard) s s' o o' e

@@ -12,6 +12,7 @@ ghost use Rattle.sync_node.specs.Courses.{BreaksStart, GreetsAsCourse, StartsAsC
 ghost use Rattle.sync_node.specs.Courses.{StartsBehind};
 ghost use Rattle.sync_node.specs.Fulls.{FullStart};
 ghost use Rattle.sync_node.specs.Going.{Goes};
+ghost use Rattle.sync_node.specs.OnRuns.{GreetsBy, StartStopped, StartWent, StartWentLast};
 ghost use Rattle.sync_node.specs.Starting.{Greets, Starts, StartsLast, StartsSafe};
 ghost use Rattle.sync_node.specs.Stays.{IsUndoneBy, KeepsReady};
 ghost use Rattle.sync_node.specs.Stops.{StaysSame};
@@ -44,6 +45,11 @@ pub(crate) fn attach_on<H: Host, C: Clients>(
         (entry.Session session ∷ []) }
     requires last { length links.old.items ≡ number }
     requires dialled { number < (H.tells host.old).links.dialled }
+    ensures went { OnOk result (StartWentLast (C.meaning clients.now) number session
+        links.old.items links.new.items store.old store.new (H.tells host.old)
+        (H.tells host.new)) }
+    ensures stopped { IfErr result (StartStopped (C.meaning clients.now) session store.old
+        store.new (H.tells host.old) (H.tells host.new)) }
     ensures ready { IfErr result (KeepsReady (C.meaning clients.now) store.new
         (H.tells host.new)) }
     ensures starts { OnOk result (StartsLast (C.meaning clients.now) number session
@@ -94,6 +100,10 @@ fn start<H: Host, C: Clients>(
     requires fresh { reader ≡ fresh }
     requires waits { AwaitsBytes reader }
     requires dialled { number < (H.tells host.old).links.dialled }
+    ensures went { IfOk result (λ link. StartWent (C.meaning clients.now) number session link
+        store.old store.new (H.tells host.old) (H.tells host.new)) }
+    ensures stopped { IfErr result (StartStopped (C.meaning clients.now) session store.old
+        store.new (H.tells host.old) (H.tells host.new)) }
     ensures ready { IfErr result (KeepsReady (C.meaning clients.now) store.new
         (H.tells host.new)) }
     ensures course { IfOk result (λ link. StartsAsCourse (C.meaning clients.now) number session link
@@ -146,6 +156,8 @@ fn start<H: Host, C: Clients>(
 fn greet<H: Host>(host: &mut H, number: u8, link: &mut Link, versions: &[u8], priority: &[u8])
     requires dialled { number < (H.tells host.old).links.dialled }
     requires going { link.old.end ≡ LinkEnd.Going }
+    ensures went { GreetsBy number versions.now priority.now link.old link.new
+        (H.tells host.old) (H.tells host.new) }
     ensures run { LinkGoes number link.old link.new (H.tells host.old) (H.tells host.new) }
     ensures told { GreetsAsCourse number link.old link.new (H.tells host.old)
         (H.tells host.new) }

@@ -119,7 +119,8 @@ impl Node {
     ghost use Rattle.sync_node.specs.Courses.{HaltsReceiving, HaltsSending, HaltsTurn};
     ghost use Rattle.sync_node.specs.Courses.{MakesTurn, Receives, SendsDue, is_still};
     ghost use Rattle.sync_node.specs.Node.{IsNode};
-    ghost use Rattle.sync_node.specs.OnRuns.{AskingStopped, AskingWent, ByFault, OutsSent};
+    ghost use Rattle.sync_node.specs.OnRuns.{AskingStopped, AskingWent, BeginStopped, BeginWent};
+    ghost use Rattle.sync_node.specs.OnRuns.{ByFault, OutsSent};
     ghost use Rattle.sync_node.specs.OnRuns.{OutsStopped, RoundStopped, RoundWent};
     ghost use Rattle.std.specs.Prelude.{IfErr};
     ghost use Rattle.sync_node.specs.Stays.{IsUndone, IsUndoneAt, StaysReady};
@@ -254,6 +255,13 @@ impl Node {
         ensures may { MayRun (C.meaning clients.now) self.new (H.tells host.new) }
         ensures stays { self.old.closed ≡ false → StaysReady (C.meaning clients.now) self.new
             (H.tells host.new) result }
+        ensures went { self.old.closed ≡ false → OnOk result (BeginWent (C.meaning clients.now)
+            (session_of self.old.store.state.facts.begun plan.now nonce) self.old.links
+            self.new.links self.old.store self.new.store (H.tells host.old) (H.tells host.new)) }
+        ensures stopped { self.old.closed ≡ false → IfErr result (ByFault (BeginStopped
+            (C.meaning clients.now) (session_of self.old.store.state.facts.begun plan.now nonce)
+            self.old.links self.new.links self.old.store self.new.store (H.tells host.old)
+            (H.tells host.new))) }
         ensures node { IsNode self.new }
         ensures course { self.old.closed ≡ false → OnOk result (Begins (C.meaning clients.now)
             (session_of self.old.store.state.facts.begun plan.now nonce) self.old.links

@@ -12,6 +12,8 @@ use Rattle.std.proofs.Common.{Err, ap}
 use Rattle.sync_node.proofs.WorkLaws.{err_was}
 use Rattle.sync_node.proofs.CourseStart.{start_full}
 use Rattle.sync_node.proofs.StateLaws.{session_told}
+use Rattle.sync_node.specs.declared.fault.Fault.TheVariants as fault
+use Rattle.sync_node.proofs.StartActs.{start_no_memory, start_stopped, start_went}
 use Rattle.sync_node.proofs.attaching.start.Goals as goal
 
 pub returns-in_err-versions-clause-safe : goal.returns-in_err-versions-clause-safe
@@ -128,3 +130,30 @@ commit-requires-clause-named g c = unknown c.in_ok-batch.batch
 pub returns-in_err-commit-clause-undone : goal.returns-in_err-commit-clause-undone
 returns-in_err-commit-clause-undone g c =
     if_err_was _ c.in_err-commit.field-0.0 _ c.from_residual-in_err-commit.ensures.1 c.in_err-commit.ensures.undone
+
+pub returns-in_err-versions-clause-stopped : goal.returns-in_err-versions-clause-stopped
+returns-in_err-versions-clause-stopped g c =
+    if_err_was _ fault.Memory _ c.from_residual.ensures.1 (start_no_memory _ _ _ _ c.requires.ready)
+
+pub returns-in_err-priority-clause-stopped : goal.returns-in_err-priority-clause-stopped
+returns-in_err-priority-clause-stopped g c =
+    if_err_was _ fault.Memory _ c.from_residual-in_err-priority.ensures.1
+    (start_no_memory _ _ _ _ c.requires.ready)
+
+pub returns-in_err-batch-clause-stopped : goal.returns-in_err-batch-clause-stopped
+returns-in_err-batch-clause-stopped g c =
+    if_err_was _ fault.Memory _ c.from_residual-in_err-batch.ensures.1
+    (start_no_memory _ _ _ _ c.requires.ready)
+
+pub returns-in_err-commit-clause-stopped : goal.returns-in_err-commit-clause-stopped
+returns-in_err-commit-clause-stopped g c =
+    if_err_was _ c.in_err-commit.field-0.0 _ c.from_residual-in_err-commit.ensures.1
+    (start_stopped _ c.args.session _ _ c.in_ok-batch.batch c.in_ok-batch.ensures c.requires.allowed _ _ _ c.in_err-commit.ensures.stopped)
+
+pub returns-clause-went : goal.returns-clause-went
+returns-clause-went g c =
+    start_went _ c.args.session _ _ c.in_ok-batch.batch c.in_ok-batch.ensures c.requires.allowed _ _ _ c.in-Some.begun c.args.reader _ _ _ _
+    c.requires.ready c.in_ok-commit.ensures.went c.in_ok-commit.ensures.numbers.roomy
+    (first_bytes c.args.session _ _ (c.as_slice.ensures.value ∙ c.in_ok-versions.ensures) (c.as_slice-2.ensures.value ∙ c.in_ok-priority.ensures))
+    (sym c.in-Some.is ∙ session_told _ _ _ _ c.state.ensures c.session.ensures.value)
+    c.requires.fresh (subst (λ (r : ReaderState). AwaitsBytes r) c.requires.fresh c.requires.waits) c.greet.ensures.went
