@@ -112,81 +112,81 @@ did_none clients s o = record {
 }
 
 -- the calls of the batches of two lists, and of some that were next
-calls_add : (as bs : List Act) (next : Journal)
-    → 4 * length (batches_in as) + 4 * length (next ++ batches_in bs)
-    ≡ 4 * length (next ++ batches_in (as ++ bs))
-calls_add as bs next =
-    let both : length (batches_in (as ++ bs)) ≡ length (batches_in as) + length (batches_in bs) =
-    ap (λ (l : Journal). length l) (batches_in-append as bs) ∙ length-append (batches_in as) (batches_in bs) in
+calls_add : (acts bs : List Act) (next : Journal)
+    → 4 * length (batches_in acts) + 4 * length (next ++ batches_in bs)
+    ≡ 4 * length (next ++ batches_in (acts ++ bs))
+calls_add acts bs next =
+    let both : length (batches_in (acts ++ bs)) ≡ length (batches_in acts) + length (batches_in bs) =
+    ap (λ (l : Journal). length l) (batches_in-append acts bs) ∙ length-append (batches_in acts) (batches_in bs) in
     let first : length (next ++ batches_in bs) ≡ length next + length (batches_in bs) =
     length-append next (batches_in bs) in
-    let all : length (next ++ batches_in (as ++ bs)) ≡ length next + length (batches_in (as ++ bs)) =
-    length-append next (batches_in (as ++ bs)) in
+    let all : length (next ++ batches_in (acts ++ bs)) ≡ length next + length (batches_in (acts ++ bs)) =
+    length-append next (batches_in (acts ++ bs)) in
     omega (arith, both, first, all)
 
-sent_then : (as bs : List Act) (o o1 o2 : Outside) → Goes o o1 → HasSentBy as o o1
-    → HasSentBy bs o1 o2 → HasSentBy (as ++ bs) o o2
-sent_then as bs o o1 o2 goes first second told link =
+sent_then : (acts bs : List Act) (o o1 o2 : Outside) → Goes o o1 → HasSentBy acts o o1
+    → HasSentBy bs o1 o2 → HasSentBy (acts ++ bs) o o2
+sent_then acts bs o o1 o2 goes first second told link =
     second (told_on o o1 goes told) link
     ∙ ap (λ (l : List ℕ). l ++ sends_on link bs) (first told link)
-    ∙ append_assoc (sent_on o.links link) (sends_on link as) (sends_on link bs)
-    ∙ ap (λ (l : List ℕ). sent_on o.links link ++ l) (sym (sends_on-append link as bs))
+    ∙ append_assoc (sent_on o.links link) (sends_on link acts) (sends_on link bs)
+    ∙ ap (λ (l : List ℕ). sent_on o.links link ++ l) (sym (sends_on-append link acts bs))
 
-tells_then : (as bs : List Act) (o o1 o2 : Outside) → Tells (events_of as) o o1
-    → Tells (events_of bs) o1 o2 → Tells (events_of (as ++ bs)) o o2
-tells_then as bs o o1 o2 first second =
-    subst (λ (es : List Event). Tells es o o2) (sym (events_of-append as bs))
-    (told_then (events_of as) (events_of bs) o o1 o2 first second)
+tells_then : (acts bs : List Act) (o o1 o2 : Outside) → Tells (events_of acts) o o1
+    → Tells (events_of bs) o1 o2 → Tells (events_of (acts ++ bs)) o o2
+tells_then acts bs o o1 o2 first second =
+    subst (λ (es : List Event). Tells es o o2) (sym (events_of-append acts bs))
+    (told_then (events_of acts) (events_of bs) o o1 o2 first second)
 
 -- the moments of acts, and of further ones behind them
-fronts_then : (clients : Meaning) (as bs : List Act) (s s1 s2 : StoreValue) (o o1 o2 : Outside)
-    → Did clients as s s1 o o1 → ComesAtFronts clients bs s1 o1 o2
-    → ComesAtFronts clients (as ++ bs) s o o2
-fronts_then clients as bs s s1 s2 o o1 o2 first second told j fit =
-    since_then o o1 o2 _ _ (AtFront clients (as ++ bs) j (sent_on o.links))
-    (λ m at. front_wide clients as bs j (sent_on o.links) m at)
-    (λ m at. front_shift clients as bs j (sent_on o.links) (sent_on o1.links) m (first.sent told) at)
+fronts_then : (clients : Meaning) (acts bs : List Act) (s s1 s2 : StoreValue) (o o1 o2 : Outside)
+    → Did clients acts s s1 o o1 → ComesAtFronts clients bs s1 o1 o2
+    → ComesAtFronts clients (acts ++ bs) s o o2
+fronts_then clients acts bs s s1 s2 o o1 o2 first second told j fit =
+    since_then o o1 o2 _ _ (AtFront clients (acts ++ bs) j (sent_on o.links))
+    (λ m at. front_wide clients acts bs j (sent_on o.links) m at)
+    (λ m at. front_shift clients acts bs j (sent_on o.links) (sent_on o1.links) m (first.sent told) at)
     (first.moments told j fit)
-    (second (told_on o o1 first.goes told) (j ++ batches_in as) (first.fits j fit))
+    (second (told_on o o1 first.goes told) (j ++ batches_in acts) (first.fits j fit))
 
-pub did_then : (clients : Meaning) (as bs : List Act) (s s1 s2 : StoreValue) (o o1 o2 : Outside)
-    → Did clients as s s1 o o1 → Did clients bs s1 s2 o1 o2 → Did clients (as ++ bs) s s2 o o2
-did_then clients as bs s s1 s2 o o1 o2 first second = record {
+pub did_then : (clients : Meaning) (acts bs : List Act) (s s1 s2 : StoreValue) (o o1 o2 : Outside)
+    → Did clients acts s s1 o o1 → Did clients bs s1 s2 o1 o2 → Did clients (acts ++ bs) s s2 o o2
+did_then clients acts bs s s1 s2 o o1 o2 first second = record {
   goes = goes_then o o1 o2 first.goes second.goes;
-  tells = tells_then as bs o o1 o2 first.tells second.tells;
-  sent = sent_then as bs o o1 o2 first.goes first.sent second.sent;
+  tells = tells_then acts bs o o1 o2 first.tells second.tells;
+  sent = sent_then acts bs o o1 o2 first.goes first.sent second.sent;
   limit = second.limit ∙ first.limit;
   format = second.format ∙ first.format;
   fits = λ j fit.
       subst (λ (k : Journal). FitsWith clients s2 o2.files k)
-      (append_assoc j (batches_in as) (batches_in bs)
-      ∙ ap (λ (l : Journal). j ++ l) (sym (batches_in-append as bs)))
-      (second.fits (j ++ batches_in as) (first.fits j fit));
+      (append_assoc j (batches_in acts) (batches_in bs)
+      ∙ ap (λ (l : Journal). j ++ l) (sym (batches_in-append acts bs)))
+      (second.fits (j ++ batches_in acts) (first.fits j fit));
   calls =
-      subst (λ (n : ℕ). MakesAtMost n o o2) (calls_add as bs [])
-      (most_then (4 * length (batches_in as)) (4 * length (batches_in bs)) o o1 o2 first.calls second.calls);
-  moments = fronts_then clients as bs s s1 s2 o o1 o2 first second.moments;
+      subst (λ (n : ℕ). MakesAtMost n o o2) (calls_add acts bs [])
+      (most_then (4 * length (batches_in acts)) (4 * length (batches_in bs)) o o1 o2 first.calls second.calls);
+  moments = fronts_then clients acts bs s s1 s2 o o1 o2 first second.moments;
 }
 
-pub some_then : (clients : Meaning) (as bs : List Act) (next : Journal) (s s1 s2 : StoreValue)
-    (o o1 o2 : Outside) → Did clients as s s1 o o1 → DidSome clients bs next s1 s2 o1 o2
-    → DidSome clients (as ++ bs) next s s2 o o2
-some_then clients as bs next s s1 s2 o o1 o2 first second = record {
+pub some_then : (clients : Meaning) (acts bs : List Act) (next : Journal) (s s1 s2 : StoreValue)
+    (o o1 o2 : Outside) → Did clients acts s s1 o o1 → DidSome clients bs next s1 s2 o1 o2
+    → DidSome clients (acts ++ bs) next s s2 o o2
+some_then clients acts bs next s s1 s2 o o1 o2 first second = record {
   goes = goes_then o o1 o2 first.goes second.goes;
-  tells = tells_then as bs o o1 o2 first.tells second.tells;
-  sent = sent_then as bs o o1 o2 first.goes first.sent second.sent;
+  tells = tells_then acts bs o o1 o2 first.tells second.tells;
+  sent = sent_then acts bs o o1 o2 first.goes first.sent second.sent;
   limit = second.limit ∙ first.limit;
   format = second.format ∙ first.format;
   reads = λ j fit.
       subst (λ (k : Journal). ReadsAs clients o2.files k)
-      (append_assoc j (batches_in as) (batches_in bs)
-      ∙ ap (λ (l : Journal). j ++ l) (sym (batches_in-append as bs)))
-      (second.reads (j ++ batches_in as) (first.fits j fit));
+      (append_assoc j (batches_in acts) (batches_in bs)
+      ∙ ap (λ (l : Journal). j ++ l) (sym (batches_in-append acts bs)))
+      (second.reads (j ++ batches_in acts) (first.fits j fit));
   calls =
-      subst (λ (n : ℕ). MakesAtMost n o o2) (calls_add as bs next)
-      (most_then (4 * length (batches_in as)) (4 * length (next ++ batches_in bs)) o o1 o2 first.calls second.calls);
+      subst (λ (n : ℕ). MakesAtMost n o o2) (calls_add acts bs next)
+      (most_then (4 * length (batches_in acts)) (4 * length (next ++ batches_in bs)) o o1 o2 first.calls second.calls);
   moments =
       subst (λ (acts : List Act). ComesAtFronts clients acts s o o2)
-      (sym (append_assoc as bs (commit_acts next)))
-      (fronts_then clients as (bs ++ commit_acts next) s s1 s2 o o1 o2 first second.moments);
+      (sym (append_assoc acts bs (commit_acts next)))
+      (fronts_then clients acts (bs ++ commit_acts next) s s1 s2 o o1 o2 first second.moments);
 }

@@ -189,27 +189,27 @@ module _ (clients : Meaning) (x : Session) (s : StoreValue) (o : Outside) (batch
             sym (owed_here ∙ ap (λ (b : List ℕ). first ++ b) one.1 ∙ append-nil first) in
             inl (
               one.2,
-              subst (λ (as : List Act). Path (RunActs clients terms) owing_greeting as (paid (attached x left greets_at))) (sym one.0)
+              subst (λ (done : List Act). Path (RunActs clients terms) owing_greeting done (paid (attached x left greets_at))) (sym one.0)
                   (paid (attached x left greets_at), inl (bytes_are, refl, paid_once), refl),
             )
         | inr others ↦ elim others [
           | inl both ↦
               inl (
                 both.1,
-                subst (λ (as : List Act). Path (RunActs clients terms) owing_greeting as (paid (attached x left greets_at))) (sym both.0)
+                subst (λ (done : List Act). Path (RunActs clients terms) owing_greeting done (paid (attached x left greets_at))) (sym both.0)
                     (owing_second, sends_first, (paid (attached x left greets_at), inl (sym second_here, refl, paid_now second), refl)),
               )
           | inr failed ↦ elim failed [
             | inl at_first ↦
                 inr (
                   at_first.2,
-                  subst (λ (as : List Act). Path (RunActs clients terms) owing_greeting as (paid (unattached x left greets_at))) (sym at_first.1)
+                  subst (λ (done : List Act). Path (RunActs clients terms) owing_greeting done (paid (unattached x left greets_at))) (sym at_first.1)
                       (paid (unattached x left greets_at), (record { rest = second; whole = owed_here }, (sym long, refl), paid_once), refl),
                 )
             | inr at_second ↦
                 inr (
                   at_second.2,
-                  subst (λ (as : List Act). Path (RunActs clients terms) owing_greeting as (paid (unattached x left greets_at))) (sym at_second.1)
+                  subst (λ (done : List Act). Path (RunActs clients terms) owing_greeting done (paid (unattached x left greets_at))) (sym at_second.1)
                       (owing_second, sends_first, (paid (unattached x left greets_at), (front_same _ _ second_here, (sym long, refl), paid_now second), refl)),
                 )
           ]
