@@ -6,22 +6,22 @@ use Rattle.sync_course.specs.Acts.{Act, Does, Send, Fail, batches_in, commit_act
 use Rattle.sync_course.specs.Events.{Commit, Event, batches_of, commits}
 use Rattle.sync_course.proofs.ToldLaws.{batches_of-append, batches_of_commits}
 
-pub events_of-append : (as bs : List Act) → events_of (as ++ bs) ≡ events_of as ++ events_of bs
+pub events_of-append : (acts bs : List Act) → events_of (acts ++ bs) ≡ events_of acts ++ events_of bs
 events_of-append [] bs = refl
-events_of-append (a ∷ as) bs = ap (λ (es : List Event). event_of a ∷ es) (events_of-append as bs)
+events_of-append (a ∷ acts) bs = ap (λ (es : List Event). event_of a ∷ es) (events_of-append acts bs)
 
-pub batches_in-append : (as bs : List Act)
-    → batches_in (as ++ bs) ≡ batches_in as ++ batches_in bs
-batches_in-append as bs =
-    ap (λ (es : List Event). batches_of es) (events_of-append as bs)
-    ∙ batches_of-append (events_of as) (events_of bs)
+pub batches_in-append : (acts bs : List Act)
+    → batches_in (acts ++ bs) ≡ batches_in acts ++ batches_in bs
+batches_in-append acts bs =
+    ap (λ (es : List Event). batches_of es) (events_of-append acts bs)
+    ∙ batches_of-append (events_of acts) (events_of bs)
 
-pub sends_on-append : (link : ℕ) (as bs : List Act)
-    → sends_on link (as ++ bs) ≡ sends_on link as ++ sends_on link bs
+pub sends_on-append : (link : ℕ) (acts bs : List Act)
+    → sends_on link (acts ++ bs) ≡ sends_on link acts ++ sends_on link bs
 sends_on-append link [] bs = refl
-sends_on-append link (a ∷ as) bs =
-    ap (λ (l : List ℕ). sent_by link a ++ l) (sends_on-append link as bs)
-    ∙ sym (append_assoc (sent_by link a) (sends_on link as) (sends_on link bs))
+sends_on-append link (a ∷ acts) bs =
+    ap (λ (l : List ℕ). sent_by link a ++ l) (sends_on-append link acts bs)
+    ∙ sym (append_assoc (sent_by link a) (sends_on link acts) (sends_on link bs))
 
 pub commit_acts-append : (bs cs : List (List Entry))
     → commit_acts (bs ++ cs) ≡ commit_acts bs ++ commit_acts cs
@@ -46,8 +46,8 @@ commits_next link [] = refl
 commits_next link (b ∷ bs) = refl
 
 -- a front of what the next act is to send, where more acts come behind
-pub next_wide : (link : ℕ) (part : List ℕ) (as bs : List Act) → IsFront part (next_bytes link as)
-    → IsFront part (next_bytes link (as ++ bs))
+pub next_wide : (link : ℕ) (part : List ℕ) (acts bs : List Act) → IsFront part (next_bytes link acts)
+    → IsFront part (next_bytes link (acts ++ bs))
 next_wide link part [] bs front = record {
   rest = next_bytes link bs;
   whole = ap (λ (p : List ℕ). p ++ next_bytes link bs) (sym (none part front.rest front.whole));
@@ -56,4 +56,4 @@ next_wide link part [] bs front = record {
     none : (part rest : List ℕ) → [] ≡ part ++ rest → part ≡ []
     none [] rest whole = refl
     none (x ∷ part) rest whole = cc
-next_wide link part (a ∷ as) bs front = front
+next_wide link part (a ∷ acts) bs front = front

@@ -57,7 +57,7 @@ takes_here clients f session r allowed =
     let one : TakesOne f (after_all f (next_take f session r)) session = takes_one clients f session (takes_of f.takes session) (taken f session r) allowed in
     one.takes session ∙ ap (λ (b : Bool). cond b (takes_of f.takes session + 1) (takes_of f.takes session)) (eqb_itself session)
 
-settled_takes : (clients : Meaning) (f : Facts) (b : List Entry) (m : ℕ) → IsSettlingBatch clients f b → takes_of (after_all f b).takes m ≡ takes_of f.takes m
+pub settled_takes : (clients : Meaning) (f : Facts) (b : List Entry) (m : ℕ) → IsSettlingBatch clients f b → takes_of (after_all f b).takes m ≡ takes_of f.takes m
 settled_takes clients f b m settling = ap (λ t. takes_of t m) (settling_only clients f b settling.2).takes
 
 -- ---- counted links

@@ -6,7 +6,12 @@ pub mod LinkLaws
 pub mod MoveLaws
 pub mod PathLaws
 pub mod ActLaws
+pub mod FreeLaws
+pub mod FreeSound
+pub mod FailLaws
 pub mod QuietLaws
+pub mod SendLaws
+pub mod FreeSuits
 pub mod SuitLaws
 pub mod ToldLaws
 pub mod CountLaws

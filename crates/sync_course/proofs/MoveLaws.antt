@@ -21,10 +21,10 @@ pub record Moves (clients : Meaning) (batches : List (List Entry)) (old new : Fa
   pub goes_on : GoesOn clients old batches
   pub facts : new ≡ after_batches old batches
 
-moves_none : (clients : Meaning) (old new : Facts) → new ≡ old → Moves clients [] old new
+pub moves_none : (clients : Meaning) (old new : Facts) → new ≡ old → Moves clients [] old new
 moves_none clients old new same = record { goes_on = tt; facts = same }
 
-moves_one : (clients : Meaning) (b : List Entry) (old new : Facts) → Allowed clients old b → new ≡ after_all old b → Moves clients (b ∷ []) old new
+pub moves_one : (clients : Meaning) (b : List Entry) (old new : Facts) → Allowed clients old b → new ≡ after_all old b → Moves clients (b ∷ []) old new
 moves_one clients b old new allowed same = record { goes_on = (allowed, tt); facts = same }
 
 moves_then : (clients : Meaning) (bs cs : List (List Entry)) (f g h : Facts) → Moves clients bs f g → Moves clients cs g h → Moves clients (bs ++ cs) f h

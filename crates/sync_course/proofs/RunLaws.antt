@@ -62,7 +62,7 @@ pub record IsClosedFrom (i : ℕ) (links : List Link) (link : Link) : Type 0 whe
   pub going : beaten ≡ true → is_going was.stands ≡ true
   pub is : link ≡ record was { stands = cond beaten end.Redundant was.stands }
 
-beaten_going : (i k : ℕ) (links : List Link) (b : Link) → is_beaten i links k b ≡ true → is_going b.stands ≡ true
+pub beaten_going : (i k : ℕ) (links : List Link) (b : Link) → is_beaten i links k b ≡ true → is_going b.stands ≡ true
 beaten_going i k [] b is = cc
 beaten_going i k (a ∷ links) b is =
     elim (or_cases (beats i a k b) (is_beaten (suc i) links k b) is) [
@@ -113,7 +113,7 @@ pub record IsSound (clients : Meaning) (first : ℕ) (sessions : List Session) (
   pub attaching : IsAttaching first p.stage (length p.links) p.facts
   pub counted : AreCounted first p
 
-journal_moves : (clients : Meaning) (bs : List (List Entry)) (f g : Facts) → Moves clients bs f g → IsOfJournal clients f → IsOfJournal clients g
+pub journal_moves : (clients : Meaning) (bs : List (List Entry)) (f g : Facts) → Moves clients bs f g → IsOfJournal clients f → IsOfJournal clients g
 journal_moves clients bs f g m o = record {
   journal = o.journal ++ bs;
   legal = legal-append clients o.journal bs o.legal (subst (λ (x : Facts). GoesOn clients x bs) (sym o.facts_are) m.goes_on);
@@ -121,14 +121,14 @@ journal_moves clients bs f g m o = record {
 }
 
 -- ---- the stages before the first turn
-settled_begun : (clients : Meaning) (f : Facts) (b : List Entry) → IsSettlingBatch clients f b → (after_all f b).begun ≡ f.begun
+pub settled_begun : (clients : Meaning) (f : Facts) (b : List Entry) → IsSettlingBatch clients f b → (after_all f b).begun ≡ f.begun
 settled_begun clients f b settling = (settling_only clients f b settling.2).begun
 
 settled_takes : (clients : Meaning) (f : Facts) (b : List Entry) (m : ℕ) → IsSettlingBatch clients f b → takes_of (after_all f b).takes m ≡ takes_of f.takes m
 settled_takes clients f b m settling = ap (λ t. takes_of t m) (settling_only clients f b settling.2).takes
 
 -- a session that has not begun has taken nothing
-untaken : (clients : Meaning) (f : Facts) → IsOfJournal clients f → takes_of f.takes f.begun ≡ 0
+pub untaken : (clients : Meaning) (f : Facts) → IsOfJournal clients f → takes_of f.takes f.begun ≡ 0
 untaken clients f o =
     let has : HasSessions f = subst HasSessions o.facts_are (legal_sessions clients o.journal o.legal) in
     has.untaken f.begun (none_at has (session_at f.sessions f.begun) refl)
@@ -138,9 +138,25 @@ untaken clients f o =
     none_at has (Some s) at = let below : f.begun < f.begun = (has.each f.begun s at).begun in absurd (omega (arith, below))
 
 -- ---- the steps
-cond_same : {A : Type 0} (b : Bool) (x : A) → cond b x x ≡ x
+pub cond_same : {A : Type 0} (b : Bool) (x : A) → cond b x x ≡ x
 cond_same true x = refl
 cond_same false x = refl
+
+pub new_counted : (f : Facts) (session : ℕ) (x : Session) (stands : LinkEnd) → takes_of f.takes session ≡ 0 → IsCounted f session [] (link_of x stands)
+unfolding items parsed records_of
+new_counted f session x stands none = record { done = []; dropped = []; parts = refl; count = none; whole = λ k. refl }
+
+ended_keeps : (b : Bool) (stands : LinkEnd) → (b ≡ true → is_going stands ≡ true) → keeps_all (cond b end.Redundant stands) ≡ true
+    → keeps_all stands ≡ true
+ended_keeps true stands going k = going_keeps stands (going refl)
+ended_keeps false stands going k = k
+
+pub ended_counted : (f : Facts) (session : ℕ) (links : List Link) (i : ℕ) (link : Link) → (c : IsClosedFrom i links link) → IsCounted f session [] c.was
+    → IsCounted f session [] link
+ended_counted f session links i link c counted =
+    subst (IsCounted f session []) (sym c.is)
+    (counted_ends f session [] c.was (record c.was { stands = cond c.beaten end.Redundant c.was.stands }) refl
+    (ended_keeps c.beaten c.was.stands c.going) counted)
 
 module _ (go_on : StreamsGoOn) (join : RecordsJoin) (clients : Meaning) (terms : Terms) (sessions : List Session) where
   abbrev Sound : Place → Type 0
@@ -203,10 +219,6 @@ module _ (go_on : StreamsGoOn) (join : RecordsJoin) (clients : Meaning) (terms :
             (counted_idle p (Attaches (x ∷ left)) is (λ i. refl) s.counted i link at);
       }
 
-  new_counted : (f : Facts) (session : ℕ) (x : Session) (stands : LinkEnd) → takes_of f.takes session ≡ 0 → IsCounted f session [] (link_of x stands)
-  unfolding items parsed records_of
-  new_counted f session x stands none = record { done = []; dropped = []; parts = refl; count = none; whole = λ k. refl }
-
   sound_greets : (p : Place) (x : Session) (left : List Session) (stands : LinkEnd) → p.stage ≡ Greets x left → Sound p
       → Sound (record p { stage = Attaches left; links = p.links ++ link_of x stands ∷ [] })
   sound_greets p x left stands is s =
@@ -262,18 +274,6 @@ module _ (go_on : StreamsGoOn) (join : RecordsJoin) (clients : Meaning) (terms :
         subst (λ (its : List Item). IsCounted p.facts (terms.first + i) its link) (sym (cond_same (nat_eq (suc n) i) []))
         (counted_idle p (Works n Done) is (λ i. cond_same (nat_eq n i) []) s.counted i link at);
   }
-
-  ended_keeps : (b : Bool) (stands : LinkEnd) → (b ≡ true → is_going stands ≡ true) → keeps_all (cond b end.Redundant stands) ≡ true
-      → keeps_all stands ≡ true
-  ended_keeps true stands going k = going_keeps stands (going refl)
-  ended_keeps false stands going k = k
-
-  ended_counted : (f : Facts) (session : ℕ) (links : List Link) (i : ℕ) (link : Link) → (c : IsClosedFrom i links link) → IsCounted f session [] c.was
-      → IsCounted f session [] link
-  ended_counted f session links i link c counted =
-      subst (IsCounted f session []) (sym c.is)
-      (counted_ends f session [] c.was (record c.was { stands = cond c.beaten end.Redundant c.was.stands }) refl
-      (ended_keeps c.beaten c.was.stands c.going) counted)
 
   -- behind the last link no link of the place takes anything
   none_pending : (p : Place) (n i : ℕ) (doing : Doing) (link : Link) → slice_get p.links n ≡ None → slice_get p.links i ≡ Some link

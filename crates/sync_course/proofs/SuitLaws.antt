@@ -39,7 +39,7 @@ use Rattle.sync_course.specs.Suits.{AllSuit, IsCounted, Suits, heard_in, heard_o
 front_of : {A : Type 0} (xs ys zs : List A) → ys ≡ xs ++ zs → IsFront xs ys
 front_of xs ys zs goes = record { more = zs; goes_on = goes }
 
-front_same : {A : Type 0} (xs ys : List A) → ys ≡ xs → IsFront xs ys
+pub front_same : {A : Type 0} (xs ys : List A) → ys ≡ xs → IsFront xs ys
 front_same xs ys same = front_of xs ys [] (same ∙ sym (append-nil xs))
 
 abbrev HeardGrows : Spot → Spot → Type 0
@@ -67,7 +67,7 @@ sends_heard : (clients : Meaning) (session now room : ℕ) (b : List Entry) (p q
 sends_heard clients session now zero b p q s = absurd s
 sends_heard clients session now (suc room) b p q s = same_heard p q _ s.leads refl
 
-step_heard : (clients : Meaning) (n session : ℕ) (doing : Doing) (e : Event) (p q : Spot) → StepOf clients n session doing e p q → HeardGrows p q
+pub step_heard : (clients : Meaning) (n session : ℕ) (doing : Doing) (e : Event) (p q : Spot) → StepOf clients n session doing e p q → HeardGrows p q
 step_heard clients n session Asks (Hear on reply) p q s = reply_heard reply p q s.2
 step_heard clients n session Asks (Miss on) p q s = same_heard p q _ s.2 refl
 step_heard clients n session Asks Pass p q s = same_heard p q _ s.1 refl
@@ -92,7 +92,7 @@ AllHeardGrow p q = (i : ℕ) → IsFront (heard_on p i) (heard_on q i)
 heard_links : (p q : Place) → q.links ≡ p.links → AllHeardGrow p q
 heard_links p q same = λ i. front_same (heard_on p i) (heard_on q i) (ap (λ (l : List Link). heard_in (slice_get l i)) same)
 
-more_heard : (links : List Link) (new : Link) (i : ℕ) (o : Option Link) → slice_get links i ≡ o
+pub more_heard : (links : List Link) (new : Link) (i : ℕ) (o : Option Link) → slice_get links i ≡ o
     → IsFront (heard_in o) (heard_in (slice_get (links ++ new ∷ []) i))
 more_heard links new i None at = front_of [] (heard_in (slice_get (links ++ new ∷ []) i)) (heard_in (slice_get (links ++ new ∷ []) i)) refl
 more_heard links new i (Some link) at =
@@ -103,7 +103,7 @@ greets_heard p q new same = λ i.
     subst (λ (l : List Link). IsFront (heard_on p i) (heard_in (slice_get l i))) (sym same)
     (more_heard p.links new i (slice_get p.links i) refl)
 
-closed_heard : (all : List Link) (k : ℕ) (links : List Link) (i : ℕ) → heard_in (slice_get (closed_from all k links) i) ≡ heard_in (slice_get links i)
+pub closed_heard : (all : List Link) (k : ℕ) (links : List Link) (i : ℕ) → heard_in (slice_get (closed_from all k links) i) ≡ heard_in (slice_get links i)
 closed_heard all k [] i = refl
 closed_heard all k (b ∷ links) zero = refl
 closed_heard all k (b ∷ links) (suc i) = closed_heard all (suc k) links i
@@ -202,7 +202,7 @@ module _ (fronts : FrontsHaveFronts) (clients : Meaning) (first : ℕ) (sessions
       (subst (λ (k : ℕ). slice_get ((c.done ++ r ∷ behind) ++ later) k ≡ Some r) (sym c.count)
       (get_front (c.done ++ r ∷ behind) later (length c.done) r (get_middle c.done behind r)))
 
-  takes_suits : (n : ℕ) (its : List Item) (b : List Entry) (p q : Spot) → TakesNext clients (first + n) its b p q → IsFront p.link.heard (heard n)
+  pub takes_suits : (n : ℕ) (its : List Item) (b : List Entry) (p q : Spot) → TakesNext clients (first + n) its b p q → IsFront p.link.heard (heard n)
       → IsCounted p.facts (first + n) its p.link → Suits clients first sessions heard p.facts b
   takes_suits n [] b p q s front c = absurd s
   takes_suits n (item.Skipped place type_byte len ∷ its) b p q s front c = absurd s

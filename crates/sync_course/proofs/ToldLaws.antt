@@ -46,7 +46,7 @@ or_append : (a b c : Bool) → (a || (b || c)) ≡ ((a || b) || c)
 or_append true b c = refl
 or_append false b c = refl
 
-has_failure-append : (link : ℕ) (es fs : List Event) → has_failure link (es ++ fs) ≡ (has_failure link es || has_failure link fs)
+pub has_failure-append : (link : ℕ) (es fs : List Event) → has_failure link (es ++ fs) ≡ (has_failure link es || has_failure link fs)
 has_failure-append link [] fs = refl
 has_failure-append link (e ∷ es) fs =
     ap (λ (b : Bool). is_failure link e || b) (has_failure-append link es fs)

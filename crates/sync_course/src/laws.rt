@@ -13,7 +13,9 @@ ghost use Rattle.sync_rules.specs.declared.entries.Entry.{Entry};
 ghost use Rattle.sync_rules.specs.declared.entries.Entry.TheVariants as entry;
 ghost use Rattle.sync_rules.specs.declared.entries.Out.{Out};
 ghost use Rattle.sync_rules.specs.declared.entries.Session.{Session};
-ghost use Rattle.sync_course.specs.Events.{batches_of, Commit, Event};
+ghost use Rattle.outside.specs.Outside.{Moment};
+ghost use Rattle.sync_course.specs.Acts.{Act, AtFront, batches_in};
+ghost use Rattle.sync_course.specs.Events.{batches_of, Commit, Event, has_failure};
 ghost use Rattle.sync_course.specs.Closing.{closing};
 ghost use Rattle.sync_course.specs.Idle.{idle_end, idle_run};
 ghost use Rattle.sync_course.specs.Redundant.{closed_upto, KeptRather};
@@ -26,6 +28,10 @@ ghost use Rattle.sync_course.specs.Pending.{pending_at};
 ghost use Rattle.sync_course.specs.Suits.{AllSuit, heard_on, IsCounted};
 ghost use Rattle.sync_course.specs.Turns.{Broken, Course, first_place, is_over, Place};
 ghost use Rattle.sync_course.specs.Turns.{RunStep, Terms, with_spot};
+ghost use Rattle.sync_course.specs.Free.{first_free, forget, Free, FreeStep};
+ghost use Rattle.sync_course.specs.Owing.{Owing};
+ghost use Rattle.sync_course.specs.Story.{AllIsSent, begun_by, FreeActs, heard_at, LinkFailed};
+ghost use Rattle.sync_course.specs.Story.{MomentStands};
 
 use crate::ends::LinkEnd;
 use record_grammar::{fronts_have_fronts, records_join, streams_go_on};
@@ -179,4 +185,46 @@ pub fn idle_links_end_quiet()
         (idle_end s terms.turns (after_all f (entry.Session s ∷ [])))
         × (closing terms.quiet (idle_end s terms.turns (after_all f (entry.Session s ∷ [])))
         ≡ record { over = false; ends = LinkEnd.Going ∷ [] }) }
+{}
+
+/// Free: each path of a run is one of the machine without the order of a run.
+pub fn runs_are_free()
+    ensures { (clients : Meaning) (terms : Terms) (p q : Place) (es : List Event)
+        → Path (RunStep clients terms) p es q
+        → Path (FreeStep clients terms.first) (forget p) es (forget q) }
+{}
+
+/// Moments: in the middle of the acts of a node over a legal journal, in whatever order its calls
+/// are made, the files stand for the journal with batches that suit the node, and what was sent on
+/// a link is a front of what they have as output of its session.
+pub fn moments_stand()
+    ensures { (clients : Meaning) (j : List (List Entry)) (acts : List Act) (to : Owing Free)
+        (m : Moment) → Legal clients j → FreeActs clients j acts to
+        → AtFront clients acts j (λ link. []) m
+        → MomentStands clients j (begun_by (batches_in acts)) (heard_at to.at) m }
+{
+    streams_go_on();
+    records_join();
+    fronts_have_fronts();
+}
+
+/// Whole: where nothing is owed behind the acts of a node, all output was sent on each link on
+/// which no call failed.
+pub fn all_is_sent()
+    ensures { (clients : Meaning) (j : List (List Entry)) (acts : List Act) (to : Owing Free)
+        → Legal clients j → FreeActs clients j acts to → ((link : ℕ) → to.owed link ≡ [])
+        → AllIsSent j acts }
+{
+    streams_go_on();
+    records_join();
+}
+
+/// Failed: just the links on which a call failed stand Failed, whatever else a node does.
+pub fn failed_links_had_failures()
+    ensures stays { (clients : Meaning) (first : ℕ) (f : Facts) (es : List Event) (to : Free)
+        (link : ℕ) → Path (FreeStep clients first) (first_free f) es to
+        → has_failure link es ≡ true → LinkFailed to.links link }
+    ensures cause { (clients : Meaning) (first : ℕ) (f : Facts) (es : List Event) (to : Free)
+        (link : ℕ) → Path (FreeStep clients first) (first_free f) es to
+        → LinkFailed to.links link → has_failure link es ≡ true }
 {}

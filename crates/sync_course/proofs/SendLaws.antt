@@ -1,0 +1,366 @@
+-- What was sent and what is owed on a link is a front of its session's output, and all of it unless a call of the link failed.
+use Rattle.std.proofs.Common.{◌≡◌, ◌⊎◌, ℕ, zero, suc, ◌+◌, ◌<◌, Bool, true, false, cond, ◌||◌, nat_eq, eq-eqb, eqb-true, List, [], ◌∷◌, ◌++◌, length, take, drop, take-append-drop, append-nil, append_assoc, refl, sym, ◌∙◌, ap, subst, inl, inr, arith, Option, None, Some}
+use Rattle.std.specs.Prelude.{slice_get}
+use Rattle.std.proofs.lemmas.Bool.{cases_eq, false≢true, ne_eqb}
+use Rattle.std.proofs.lemmas.Grind.{flat_map-append}
+use Rattle.outside.specs.Runs.{IsFront}
+use Rattle.record_grammar.specs.Laws.{RecordsJoin, StreamsGoOn}
+use Rattle.record_grammar.specs.Spelling.{spelled, spelling}
+use Rattle.record_grammar.specs.declared.stream.Item.{Item}
+use Rattle.record_grammar.specs.declared.stream.Item.TheVariants as item
+use Rattle.sync_ids.specs.declared.records.Record.{Record}
+use Rattle.sync_rules.specs.declared.entries.Entry.{Entry}
+use Rattle.sync_rules.specs.declared.entries.Entry.TheVariants as entry
+use Rattle.sync_rules.specs.declared.entries.Session.{Session}
+use Rattle.sync_rules.specs.Clients.{Meaning}
+use Rattle.sync_rules.specs.Facts.{Facts, after_all, after_batches, facts, session_at}
+use Rattle.sync_rules.specs.Growth.{output_in}
+use Rattle.sync_rules.specs.Legal.{Allowed, GoesOn, IsSettlingBatch, Legal, MayBegin}
+use Rattle.sync_rules.specs.declared.entries.Out.{Out}
+use Rattle.sync_rules.specs.Output.{first_records, records_of, sent}
+use Rattle.sync_rules.proofs.Continuing.{facts-append, legal-append}
+use Rattle.sync_rules.proofs.OutputLaws.{not_begun_sent, sent_push, settling_silent, silent_adds_nothing, take_silent}
+use Rattle.sync_rules.proofs.SessionLaws.{legal_sessions}
+use Rattle.sync_course.specs.declared.ends.LinkEnd.TheVariants as end
+use Rattle.sync_course.specs.Acts.{Act, Does, Send, Fail, batches_in, event_of, events_of, next_bytes, sends_on, sent_by}
+use Rattle.sync_course.specs.Events.{Event, Commit, Hear, Miss, Read, Break, Pass, batches_of, has_failure, is_failure}
+use Rattle.sync_course.specs.Free.{Begins, Free, FreeStep, Hold, HoldStep, Holds, IsPlain, Rests, first_free, spot_in}
+use Rattle.sync_course.specs.Links.{Link, is_sent_to}
+use Rattle.sync_course.specs.LinkTurns.{Asks, Takes, Waits, Sends, Puts, Done, Doing, SendsNext, Spot, StepOf, TakesNext, next_take, out_batch}
+use Rattle.sync_course.specs.Owing.{ActStep, Owing, adds_to, paid}
+use Rattle.sync_course.specs.Paths.{Path}
+use Rattle.sync_course.specs.Story.{AllIsSent, FreeActs, LinkFailed}
+use Rattle.sync_course.proofs.ActLaws.{batches_in-append, events_of-append, sends_on-append}
+use Rattle.sync_course.proofs.FailLaws.{DoesOpen, FailsJust, HoldsOpen, fails_step, first_fails, push_failure}
+use Rattle.sync_course.proofs.FreeSound.{IsBegunAt, IsFreeSound, first_free_sound, free_moves, free_sound}
+use Rattle.sync_course.proofs.LiftLaws.{get_within}
+use Rattle.sync_course.proofs.PathLaws.{path_keeps}
+
+-- ---- fronts
+
+pub front_itself : (xs : List ℕ) → IsFront xs xs
+front_itself xs = record { rest = []; whole = sym (append-nil xs) }
+
+pub front_of_none : (xs : List ℕ) → IsFront [] xs
+front_of_none xs = record { rest = xs; whole = refl }
+
+pub front_before : (xs ys zs : List ℕ) → IsFront xs ys → IsFront (zs ++ xs) (zs ++ ys)
+front_before xs ys zs f = record { rest = f.rest; whole = ap (λ (l : List ℕ). zs ++ l) f.whole ∙ sym (append_assoc zs xs f.rest) }
+
+pub front_after : (xs ys zs : List ℕ) → IsFront xs ys → IsFront ys zs → IsFront xs zs
+front_after xs ys zs f g = record {
+  rest = f.rest ++ g.rest;
+  whole = g.whole ∙ ap (λ (l : List ℕ). l ++ g.rest) f.whole ∙ append_assoc xs f.rest g.rest;
+}
+
+front_take : (n : ℕ) (xs : List ℕ) → IsFront (take n xs) xs
+front_take n xs = record { rest = drop n xs; whole = sym (take-append-drop n xs) }
+
+-- ---- the output
+
+abbrev pub output : List (List Entry) → ℕ → List ℕ
+output j session = spelled (sent j session)
+
+-- a batch adds what it adds
+commit_adds : (clients : Meaning) (j : List (List Entry)) (b : List Entry) (session : ℕ) → Legal clients j → Allowed clients (facts j) b
+    → output (j ++ b ∷ []) session ≡ output j session ++ spelled (output_in (facts j) session b)
+commit_adds clients j b session legal allowed =
+    ap (λ (rs : List Record). spelled rs) (sent_push clients j b session legal allowed)
+    ∙ flat_map-append spelling (sent j session) (output_in (facts j) session b)
+
+-- so does each event
+none_added : (first : ℕ) (j : List (List Entry)) (link : ℕ) → output (j ++ []) (first + link) ≡ output j (first + link) ++ []
+none_added first j link =
+    ap (λ (k : List (List Entry)). output k (first + link)) (append-nil j) ∙ sym (append-nil (output j (first + link)))
+
+event_adds : (clients : Meaning) (first : ℕ) (j : List (List Entry)) (e : Event) (link : ℕ) → Legal clients j
+    → GoesOn clients (facts j) (batches_of (e ∷ []))
+    → output (j ++ batches_of (e ∷ [])) (first + link) ≡ output j (first + link) ++ adds_to (facts j) first e link
+event_adds clients first j (Commit b) link legal goes = commit_adds clients j b (first + link) legal goes.0
+event_adds clients first j (Hear on reply) link legal goes = none_added first j link
+event_adds clients first j (Miss on) link legal goes = none_added first j link
+event_adds clients first j (Read on now) link legal goes = none_added first j link
+event_adds clients first j (Break on) link legal goes = none_added first j link
+event_adds clients first j Pass link legal goes = none_added first j link
+
+-- ---- nothing is committed for a link that failed
+
+settling_adds : (clients : Meaning) (f : Facts) (b : List Entry) (session : ℕ) → IsSettlingBatch clients f b → output_in f session b ≡ []
+settling_adds clients f b session s = silent_adds_nothing f session b (settling_silent clients f b s.2)
+
+plain_adds : (f : Facts) (b : List Entry) (session : ℕ) → IsPlain b → output_in f session b ≡ []
+plain_adds f (entry.Contact c ∷ []) session is = refl
+plain_adds f (entry.Group def ∷ []) session is = refl
+plain_adds f (entry.Level c g l ∷ []) session is = refl
+plain_adds f (entry.Author m ∷ []) session is = refl
+plain_adds f _ session is = absurd is
+
+-- the session that begins is no other
+begins_adds : (f : Facts) (x : Session) (session : ℕ) → (x.number ≡ session → ⊥) → output_in f session (entry.Session x ∷ []) ≡ []
+begins_adds f x session other =
+    ap (λ (b : Bool). cond b (first_records x) [] ++ []) (ne_eqb x.number session other)
+
+out_adds : (f : Facts) (at session now : ℕ) (what : Out) → (at ≡ session → ⊥) → output_in f session (out_batch at now what) ≡ []
+out_adds f at session now what other =
+    ap (λ (b : Bool). cond b (records_of f.held what) [] ++ []) (ne_eqb at session other)
+
+take_adds : (clients : Meaning) (n session : ℕ) (its : List Item) (b : List Entry) (p q : Spot) → TakesNext clients n its b p q
+    → output_in p.facts session b ≡ []
+take_adds clients n session [] b p q s = absurd s
+take_adds clients n session (item.Skipped place type_byte len ∷ its) b p q s = absurd s
+take_adds clients n session (item.One place r ∷ its) b p q s =
+    let allowed : Allowed clients p.facts (next_take p.facts n r) = subst (Allowed clients p.facts) s.0 s.1 in
+    ap (λ (x : List Entry). output_in p.facts session x) s.0
+    ∙ silent_adds_nothing p.facts session (next_take p.facts n r) (take_silent clients p.facts n _ _ allowed)
+
+send_adds : (clients : Meaning) (n session now room : ℕ) (b : List Entry) (p q : Spot) → (n ≡ session → ⊥) → SendsNext clients n now room b p q
+    → output_in p.facts session b ≡ []
+send_adds clients n session now zero b p q other s = absurd s
+send_adds clients n session now (suc room) b p q other s =
+    ap (λ (x : List Entry). output_in p.facts session x) s.is ∙ out_adds p.facts n session now s.what other
+
+module _ (clients : Meaning) (first : ℕ) where
+  -- a link that failed is not the one that is in hand to send
+  link_adds : (n i : ℕ) (doing : Doing) (b : List Entry) (p q : Spot) → (is_sent_to p.link.stands ≡ true → n ≡ i → ⊥)
+      → StepOf clients n (first + n) doing (Commit b) p q → DoesOpen doing p.link.stands → output_in p.facts (first + i) b ≡ []
+  link_adds n i (Takes its) b p q other s o =
+      elim s [
+        | inl settles ↦ settling_adds clients p.facts b (first + i) settles.0
+        | inr takes ↦ take_adds clients (first + n) (first + i) its b p q takes
+      ]
+  link_adds n i (Sends now room) b p q other s o =
+      send_adds clients (first + n) (first + i) now room b p q
+      (λ same. other o (let is : first + n ≡ first + i = same in let e : n ≡ i = omega (arith, is) in e)) s
+  link_adds n i _ b p q other s o = absurd s
+
+  hold_adds : (hold : Hold) (b : List Entry) (p q : Free) (i : ℕ) → HoldStep clients first hold (Commit b) p q
+      → IsBegunAt first hold (length p.links) p.facts → HoldsOpen hold p.links → LinkFailed p.links i → output_in p.facts (first + i) b ≡ []
+  hold_adds Rests b p q i t begun o f =
+      elim t [
+        | inl adds ↦ elim adds.0 [
+          | inl settles ↦ settling_adds clients p.facts b (first + i) settles
+          | inr plain ↦ plain_adds p.facts b (first + i) plain.0
+        ]
+        | inr begins ↦
+            let may : MayBegin p.facts begins.session = (subst (Allowed clients p.facts) begins.is begins.allowed).2 in
+            let within : i < length p.links = get_within p.links i f.link f.there in
+            let numbered : begins.session.number ≡ p.facts.begun = may.numbered in
+            ap (λ (x : List Entry). output_in p.facts (first + i) x) begins.is
+            ∙ begins_adds p.facts begins.session (first + i)
+            (λ same.
+                let at : begins.session.number ≡ first + i = same in
+                absurd (omega (arith, within, numbered, at, begun)))
+      ]
+  hold_adds (Holds n doing) b p q i t begun o f =
+      link_adds n i doing b (spot_in doing t.link t.moved p) t.spot
+      (λ is_open same.
+          let there : slice_get p.links n ≡ Some f.link = subst (λ (k : ℕ). slice_get p.links k ≡ Some f.link) (sym same) f.there in
+          let both : Some t.link ≡ Some f.link = sym t.there ∙ there in
+          let is : t.link ≡ f.link = cc in
+          let failed : t.link.stands ≡ end.Failed = ap (λ (l : Link). l.stands) is ∙ f.failed in
+          absurd (false≢true (ap is_sent_to (sym failed) ∙ is_open)))
+      t.steps (o t.link t.there)
+  hold_adds _ b p q i t begun o f = absurd t
+
+  event_spares : (e : Event) (p q : Free) (i : ℕ) → FreeStep clients first p e q → IsFreeSound clients first p → HoldsOpen p.hold p.links
+      → LinkFailed p.links i → adds_to p.facts first e i ≡ []
+  event_spares (Commit b) p q i t s o f =
+      ap (λ (rs : List Record). spelled rs) (hold_adds p.hold b p q i t s.begun o f)
+  event_spares (Hear on reply) p q i t s o f = refl
+  event_spares (Miss on) p q i t s o f = refl
+  event_spares (Read on now) p q i t s o f = refl
+  event_spares (Break on) p q i t s o f = refl
+  event_spares Pass p q i t s o f = refl
+
+-- ---- acts
+
+-- an act is an event
+pub under : (clients : Meaning) (first : ℕ) (a : Act) (p q : Owing Free)
+    → ActStep (λ (x : Free). x.facts) first (FreeStep clients first) p a q → FreeStep clients first p.at (event_of a) q.at
+under clients first (Does e) p q s = s.1
+under clients first (Send n bytes) p q s = elim s [ | inl all ↦ all.1 | inr some ↦ inl some.stays ]
+under clients first (Fail n bytes count) p q s = s.1
+
+module _ (clients : Meaning) (first : ℕ) where
+  abbrev pub ActsOn : Owing Free → Act → Owing Free → Type 0
+  ActsOn p a q = ActStep (λ (x : Free). x.facts) first (FreeStep clients first) p a q
+
+  -- the path of the events
+  pub events_path : (p q : Owing Free) (acts : List Act) → Path ActsOn p acts q → Path (FreeStep clients first) p.at (events_of acts) q.at
+  events_path p q [] path = ap (λ (x : Owing Free). x.at) path
+  events_path p q (a ∷ acts) path = (path.0.at, under clients first a p path.0 path.1, events_path path.0 q acts path.2)
+
+  -- what an act sends and leaves owed is what was owed and what it adds, or a front of that where it fails
+  act_whole : (a : Act) (p q : Owing Free) (i : ℕ) → ActsOn p a q → is_failure i (event_of a) ≡ false
+      → sent_by i a ++ q.owed i ≡ p.owed i ++ adds_to p.at.facts first (event_of a) i
+  act_whole (Does e) p q i s well = s.2 i ∙ ap (λ (l : List ℕ). l ++ adds_to p.at.facts first e i) (sym (s.0 i))
+  act_whole (Send n bytes) p q i s well =
+      elim s [
+        | inl all ↦
+            ap (λ (l : List ℕ). cond (nat_eq n i) bytes [] ++ l) (all.2 i)
+            ∙ paid_by [] (sym all.0 ∙ sym (append-nil bytes)) (nat_eq n i) refl
+        | inr some ↦
+            ap (λ (l : List ℕ). cond (nat_eq n i) bytes [] ++ l) (some.left i) ∙ paid_by some.rest some.parts (nat_eq n i) refl
+      ]
+    where
+      paid_by : (rest : List ℕ) → p.owed n ≡ bytes ++ rest → (t : Bool) → nat_eq n i ≡ t
+          → cond t bytes [] ++ cond t rest (p.owed i) ≡ p.owed i ++ []
+      paid_by rest parts true is = sym parts ∙ ap p.owed (eqb-true n i is) ∙ sym (append-nil (p.owed i))
+      paid_by rest parts false is = sym (append-nil (p.owed i))
+  act_whole (Fail n bytes count) p q i s well =
+      ap (λ (l : List ℕ). cond (nat_eq n i) (take count bytes) [] ++ l) (s.2 i) ∙ paid_by (nat_eq n i) well
+    where
+      paid_by : (t : Bool) → t ≡ false → cond t (take count bytes) [] ++ cond t [] (p.owed i) ≡ p.owed i ++ []
+      paid_by true is = cc
+      paid_by false is = sym (append-nil (p.owed i))
+
+  act_front : (a : Act) (p q : Owing Free) (i : ℕ) → ActsOn p a q
+      → IsFront (sent_by i a ++ q.owed i) (p.owed i ++ adds_to p.at.facts first (event_of a) i)
+  act_front a p q i s =
+      elim (is_failure i (event_of a)) as (λ t. is_failure i (event_of a) ≡ t → IsFront (sent_by i a ++ q.owed i) (p.owed i ++ adds_to p.at.facts first (event_of a) i)) [
+        | true ↦ λ is. failed a s is
+        | false ↦ λ is.
+            subst (λ (l : List ℕ). IsFront (sent_by i a ++ q.owed i) l) (act_whole a p q i s is) (front_itself (sent_by i a ++ q.owed i))
+      ] refl
+    where
+      failed : (a : Act) → ActsOn p a q → is_failure i (event_of a) ≡ true
+          → IsFront (sent_by i a ++ q.owed i) (p.owed i ++ adds_to p.at.facts first (event_of a) i)
+      failed (Does e) s is =
+          subst (λ (l : List ℕ). IsFront (q.owed i) l) (s.2 i ∙ ap (λ (l : List ℕ). l ++ adds_to p.at.facts first e i) (sym (s.0 i)))
+          (front_itself (q.owed i))
+      failed (Send n bytes) s is = cc
+      failed (Fail n bytes count) s is =
+          let there : IsFront bytes (p.owed i) = subst (λ (k : ℕ). IsFront bytes (p.owed k)) (eqb-true n i is) s.0 in
+          let went : cond (nat_eq n i) (take count bytes) [] ++ q.owed i ≡ take count bytes =
+          ap (λ (l : List ℕ). cond (nat_eq n i) (take count bytes) [] ++ l) (s.2 i)
+          ∙ ap (λ (t : Bool). cond t (take count bytes) [] ++ cond t [] (p.owed i)) is
+          ∙ append-nil (take count bytes) in
+          subst (λ (l : List ℕ). IsFront l (p.owed i ++ [])) (sym went)
+          (subst (λ (l : List ℕ). IsFront (take count bytes) l) (sym (append-nil (p.owed i)))
+          (front_after (take count bytes) bytes (p.owed i) (front_take count bytes) there))
+
+-- behind acts from a journal on: the journal, the place, and what was sent and is owed
+pub record HasSent (clients : Meaning) (first : ℕ) (j : List (List Entry)) (acts : List Act) (p : Owing Free) : Type 0 where
+  pub legal : Legal clients (j ++ batches_in acts)
+  pub same : facts (j ++ batches_in acts) ≡ p.at.facts
+  pub sound : IsFreeSound clients first p.at
+  pub fails : FailsJust clients first (events_of acts) p.at
+  pub front : (i : ℕ) → IsFront (sends_on i acts ++ p.owed i) (output (j ++ batches_in acts) (first + i))
+  pub whole : (i : ℕ) → has_failure i (events_of acts) ≡ false
+      → sends_on i acts ++ p.owed i ≡ output (j ++ batches_in acts) (first + i)
+
+module _ (go_on : StreamsGoOn) (join : RecordsJoin) (clients : Meaning) (first : ℕ) (j : List (List Entry)) where
+  sent_step : (acts : List Act) (p q : Owing Free) (a : Act) → HasSent clients first j acts p → ActsOn clients first p a q
+      → HasSent clients first j (acts ++ a ∷ []) q
+  sent_step acts p q a k s =
+      let e : Event = event_of a in
+      let old : List (List Entry) = j ++ batches_in acts in
+      let new : List (List Entry) = batches_of (e ∷ []) in
+      let step : FreeStep clients first p.at e q.at = under clients first a p q s in
+      let m = free_moves clients first p.at q.at e step in
+      let goes : GoesOn clients (facts old) new = subst (λ (f : Facts). GoesOn clients f new) (sym k.same) m.goes_on in
+      let is : j ++ batches_in (acts ++ a ∷ []) ≡ old ++ new =
+      ap (λ (l : List (List Entry)). j ++ l) (batches_in-append acts (a ∷ [])) ∙ sym (append_assoc j (batches_in acts) new) in
+      let events : events_of (acts ++ a ∷ []) ≡ events_of acts ++ e ∷ [] = events_of-append acts (a ∷ []) in
+      let grown : (i : ℕ) → output (j ++ batches_in (acts ++ a ∷ [])) (first + i)
+          ≡ output old (first + i) ++ adds_to p.at.facts first e i =
+      λ i. ap (λ (l : List (List Entry)). output l (first + i)) is
+          ∙ event_adds clients first old e i k.legal goes
+          ∙ ap (λ (f : Facts). output old (first + i) ++ adds_to f first e i) k.same in
+      let sends : (i : ℕ) → sends_on i (acts ++ a ∷ []) ++ q.owed i ≡ sends_on i acts ++ (sent_by i a ++ q.owed i) =
+      λ i. ap (λ (l : List ℕ). l ++ q.owed i)
+          (sends_on-append i acts (a ∷ []) ∙ ap (λ (l : List ℕ). sends_on i acts ++ l) (append-nil (sent_by i a)))
+          ∙ append_assoc (sends_on i acts) (sent_by i a) (q.owed i) in
+      let was_whole : (i : ℕ) → has_failure i (events_of acts) ≡ false
+          → sends_on i acts ++ (p.owed i ++ adds_to p.at.facts first e i) ≡ output (j ++ batches_in (acts ++ a ∷ [])) (first + i) =
+      λ i well. sym (append_assoc (sends_on i acts) (p.owed i) (adds_to p.at.facts first e i))
+          ∙ ap (λ (l : List ℕ). l ++ adds_to p.at.facts first e i) (k.whole i well)
+          ∙ sym (grown i) in
+      let was_front : (i : ℕ) (t : Bool) → has_failure i (events_of acts) ≡ t
+          → IsFront (sends_on i acts ++ (p.owed i ++ adds_to p.at.facts first e i)) (output (j ++ batches_in (acts ++ a ∷ [])) (first + i)) =
+      λ i t. elim t as (λ t. has_failure i (events_of acts) ≡ t
+          → IsFront (sends_on i acts ++ (p.owed i ++ adds_to p.at.facts first e i)) (output (j ++ batches_in (acts ++ a ∷ [])) (first + i))) [
+        | true ↦ λ failed.
+            let none : adds_to p.at.facts first e i ≡ [] =
+            event_spares clients first e p.at q.at i step k.sound k.fails.opens (k.fails.stays i failed) in
+            let owed : sends_on i acts ++ p.owed i ≡ sends_on i acts ++ (p.owed i ++ adds_to p.at.facts first e i) =
+            ap (λ (l : List ℕ). sends_on i acts ++ l)
+            (sym (append-nil (p.owed i)) ∙ ap (λ (l : List ℕ). p.owed i ++ l) (sym none)) in
+            let out : output old (first + i) ≡ output (j ++ batches_in (acts ++ a ∷ [])) (first + i) =
+            sym (append-nil (output old (first + i))) ∙ ap (λ (l : List ℕ). output old (first + i) ++ l) (sym none) ∙ sym (grown i) in
+            subst (λ (l : List ℕ). IsFront l (output (j ++ batches_in (acts ++ a ∷ [])) (first + i))) owed
+            (subst (λ (l : List ℕ). IsFront (sends_on i acts ++ p.owed i) l) out (k.front i))
+        | false ↦ λ well.
+            subst (λ (l : List ℕ). IsFront (sends_on i acts ++ (p.owed i ++ adds_to p.at.facts first e i)) l) (was_whole i well)
+            (front_itself (sends_on i acts ++ (p.owed i ++ adds_to p.at.facts first e i)))
+      ] in
+      record {
+        legal = subst (Legal clients) (sym is) (legal-append clients old new k.legal goes);
+        same =
+            ap facts is ∙ facts-append old new ∙ ap (λ (f : Facts). after_batches f new) k.same ∙ sym m.facts;
+        sound = free_sound go_on join clients first p.at q.at e step k.sound;
+        fails =
+            subst (λ (l : List Event). FailsJust clients first l q.at) (sym events)
+            (fails_step clients first (events_of acts) p.at q.at e k.fails step);
+        front = λ i.
+            subst (λ (l : List ℕ). IsFront l (output (j ++ batches_in (acts ++ a ∷ [])) (first + i))) (sym (sends i))
+            (front_after (sends_on i acts ++ (sent_by i a ++ q.owed i))
+            (sends_on i acts ++ (p.owed i ++ adds_to p.at.facts first e i)) (output (j ++ batches_in (acts ++ a ∷ [])) (first + i))
+            (front_before (sent_by i a ++ q.owed i) (p.owed i ++ adds_to p.at.facts first e i) (sends_on i acts) (act_front clients first a p q i s))
+            (was_front i (has_failure i (events_of acts)) refl));
+        whole = λ i well.
+            let both : (has_failure i (events_of acts) || is_failure i e) ≡ false =
+            sym (push_failure clients first i (events_of acts) e) ∙ ap (has_failure i) (sym events) ∙ well in
+            let parts = or_false (has_failure i (events_of acts)) (is_failure i e) both in
+            sends i
+            ∙ ap (λ (l : List ℕ). sends_on i acts ++ l) (act_whole clients first a p q i s parts.1)
+            ∙ was_whole i parts.0;
+      }
+    where
+      or_false : (a b : Bool) → (a || b) ≡ false → (a ≡ false) × (b ≡ false)
+      or_false true b is = cc
+      or_false false b is = (refl, is)
+
+  pub path_sent : (acts : List Act) (p q : Owing Free) → HasSent clients first j [] p → Path (ActsOn clients first) p acts q
+      → HasSent clients first j acts q
+  path_sent acts p q k path = path_keeps (ActsOn clients first) (HasSent clients first j) sent_step [] acts p q k path
+
+-- where a node begins nothing was sent
+nothing_sent : (clients : Meaning) (j : List (List Entry)) (i : ℕ) → Legal clients j → output j ((facts j).begun + i) ≡ []
+nothing_sent clients j i legal =
+    ap (λ (rs : List Record). spelled rs)
+    (not_begun_sent clients j ((facts j).begun + i) legal
+    (none_at (session_at (facts j).sessions ((facts j).begun + i)) refl)).1
+  where
+    none_at : (x : Option Session) → session_at (facts j).sessions ((facts j).begun + i) ≡ x
+        → session_at (facts j).sessions ((facts j).begun + i) ≡ None
+    none_at None at = at
+    none_at (Some s) at =
+        let below : (facts j).begun + i < (facts j).begun = ((legal_sessions clients j legal).each ((facts j).begun + i) s at).begun in
+        absurd (omega (arith, below))
+
+first_sent : (clients : Meaning) (j : List (List Entry)) → Legal clients j
+    → HasSent clients (facts j).begun j [] (paid (first_free (facts j)))
+first_sent clients j legal =
+    let same : j ++ [] ≡ j = append-nil j in
+    record {
+      legal = subst (Legal clients) (sym same) legal;
+      same = ap facts same;
+      sound = first_free_sound clients j legal;
+      fails = first_fails clients (facts j).begun (facts j);
+      front = λ i. front_of_none (output (j ++ []) ((facts j).begun + i));
+      whole = λ i well. sym (ap (λ (l : List (List Entry)). output l ((facts j).begun + i)) same ∙ nothing_sent clients j i legal);
+    }
+
+-- behind the acts of a node
+pub acts_sent : StreamsGoOn → RecordsJoin → (clients : Meaning) (j : List (List Entry)) (acts : List Act) (to : Owing Free) → Legal clients j
+    → FreeActs clients j acts to → HasSent clients (facts j).begun j acts to
+acts_sent go_on join clients j acts to legal path =
+    path_sent go_on join clients (facts j).begun j acts (paid (first_free (facts j))) to (first_sent clients j legal) path
+
+pub all_sent : StreamsGoOn → RecordsJoin → (clients : Meaning) (j : List (List Entry)) (acts : List Act) (to : Owing Free) → Legal clients j
+    → FreeActs clients j acts to → ((link : ℕ) → to.owed link ≡ []) → AllIsSent j acts
+all_sent go_on join clients j acts to legal path clear link well =
+    sym (append-nil (sends_on link acts))
+    ∙ ap (λ (l : List ℕ). sends_on link acts ++ l) (sym (clear link))
+    ∙ (acts_sent go_on join clients j acts to legal path).whole link well
