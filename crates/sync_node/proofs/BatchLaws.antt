@@ -1,25 +1,28 @@
 -- What the calls of a store come to, as acts.
-use Rattle.std.proofs.Common.{◌≡◌, ℕ, ◌*◌, false, List, [], ◌∷◌, ◌++◌, append-nil, refl, sym, ◌∙◌, ap, subst, inl, inr, arith, Result, Ok, Err, Some}
+use Rattle.std.proofs.Common.{◌≡◌, ◌≢◌, ℕ, ◌*◌, ◌<◌, false, List, [], ◌∷◌, ◌++◌, append-nil, refl, sym, ◌∙◌, ap, subst, inl, inr, arith, Result, Ok, Err, Some}
 use Rattle.outside.specs.Faults.{Rose}
 use Rattle.outside.specs.Files.{Two, File}
 use Rattle.outside.specs.Outside.{DiskRun, MakesAtMost, Outside}
 use Rattle.sync_rules.specs.declared.entries.Entry.{Entry}
 use Rattle.sync_rules.specs.Clients.{Meaning}
 use Rattle.sync_store.specs.Commits as store_commits
+use Rattle.sync_store.specs.Commits.{needed}
 use Rattle.sync_store.specs.Fitting.{Fits}
 use Rattle.sync_store.specs.Moments as store_moments
 use Rattle.sync_store.specs.Moments.{IsBetween, WithAtMost, journal_with}
 use Rattle.sync_store.specs.Ready.{IsReady}
+use Rattle.sync_store.specs.Runs.{HasExtended}
 use Rattle.sync_store.specs.Settling.{HasSettled}
 use Rattle.sync_store.specs.Store.{StoreValue}
 use Rattle.sync_store.specs.declared.fault.StoreFault.{StoreFault}
 use Rattle.sync_store.specs.declared.fault.StoreFault.TheVariants as store_fault
-use Rattle.sync_node.specs.Batches.{Breaks, Committed, HasNoRoom, Settled, SettlesBy, SettlingBreaks, StaysIdle}
-use Rattle.sync_node.specs.Courses.{FitsWith}
+use Rattle.sync_course.specs.Acts.{commit_acts}
+use Rattle.sync_node.specs.Batches.{Added, AddingBreaks, AddingFull, AddsBy, Breaks, Committed, HasNoRoom, Settled, SettlesBy, SettlingBreaks, StaysIdle}
+use Rattle.sync_node.specs.Courses.{FitsWith, ReadsFront}
 use Rattle.sync_node.specs.Did.{Did}
 use Rattle.sync_node.specs.Fulls.{IsOver}
 use Rattle.sync_node.specs.Output.{Journal}
-use Rattle.sync_node.proofs.CourseLaws.{at_most_between, commit_reads, settle_reads, told_as}
+use Rattle.sync_node.proofs.CourseLaws.{at_most_between, commit_reads, reads_front, settle_reads, told_as}
 use Rattle.sync_node.proofs.PrimLaws.{did_batches, did_some, did_unasked}
 
 -- ---- one batch
@@ -133,3 +136,68 @@ settle_breaks clients s s' result o o' ready run has rose =
         rose = rose;
       };
     }
+
+-- ---- a batch that is added
+
+module _ (clients : Meaning) (batch : List Entry) (s s' : StoreValue)
+    (result : Result (Unit {0}) StoreFault) (o o' : Outside) (ready : IsReady clients s o.files)
+    (has : HasExtended clients s s' batch result o o') where
+  all_did : s'.closed ≡ false → Did clients (commit_acts has.more) s s' o o'
+  all_did still =
+      did_batches clients s s' has.more o o' (λ j whole. IsBetween j has.more whole)
+      (λ j whole. whole ≡ j ++ has.more) ready.fits has.runs.run has.runs.calls.most has.runs.limit
+      has.runs.format (λ j whole between. between) has.runs.leads still (λ j whole is. is)
+
+  pub add_by : s'.closed ≡ false → (s'.closed ≡ false → IsReady clients s' o'.files)
+      → AddsBy clients batch s s' o o'
+  add_by still ready' = record {
+    more = has.more;
+    adds = has.adds;
+    did = all_did still;
+    ready = ready' still;
+  }
+
+  pub add_breaks : Rose o.disk_faults o'.disk_faults → AddingBreaks clients batch s s' o o'
+  add_breaks rose =
+      let stood : ReadsFront clients has.more s o o' =
+      reads_front clients s s' has.more o o' (λ j whole. IsBetween j has.more whole)
+      (λ j whole. whole ≡ j ++ has.more) ready.fits has.runs.run.same_told (λ j whole between. between)
+      has.runs.leads in
+      record {
+        more = has.more;
+        adds = has.adds;
+        breaks = record {
+          front = stood.front;
+          others = stood.others;
+          parts = stood.parts;
+          did =
+              did_some clients s s' has.more o o' (λ j whole. IsBetween j has.more whole)
+              (λ j whole. whole ≡ j ++ has.more) ready.fits has.runs.run has.runs.calls.most
+              has.runs.limit has.runs.format (λ j whole between. between) has.runs.leads stood;
+          rose = rose;
+        };
+      }
+
+  pub add_full : has.more ≡ [] → s.limit < needed s batch → s'.closed ≡ false
+      → (s'.closed ≡ false → IsReady clients s' o'.files) → AddingFull clients batch s s' o o'
+  add_full none over still ready' = record {
+    idle = record {
+      did = subst (λ (bs : Journal). Did clients (commit_acts bs) s s' o o') none (all_did still);
+      ready = ready' still;
+    };
+    before = over;
+  }
+
+pub add_did : (clients : Meaning) (batch : List Entry) (s s' : StoreValue) (u : Unit {0})
+    (o o' : Outside) → IsReady clients s o.files → HasExtended clients s s' batch (Ok u) o o'
+    → (s'.closed ≡ false → IsReady clients s' o'.files) → Added clients batch s s' o o'
+add_did clients batch s s' u o o' ready has ready' = record {
+  by = record {
+    more = has.more;
+    adds = has.adds;
+    did = all_did clients batch s s' (Ok u) o o' ready has has.answer.0;
+    ready = ready' has.answer.0;
+  };
+  some = has.answer.2;
+  settled = has.answer.3;
+}

@@ -1,5 +1,5 @@
 -- What came of a batch that was to be committed, and of settling.
-use Rattle.std.specs.Prelude.{◌≡◌, ◌<◌, List, [], ◌∷◌, ◌++◌}
+use Rattle.std.specs.Prelude.{◌≡◌, ◌≢◌, ◌<◌, List, [], ◌∷◌, ◌++◌}
 use Rattle.outside.specs.Faults.{Rose}
 use Rattle.outside.specs.Outside.{Outside}
 use Rattle.sync_rules.specs.declared.entries.Entry.{Entry}
@@ -9,6 +9,7 @@ use Rattle.sync_rules.specs.Legal.{AllSettling}
 use Rattle.sync_rules.specs.Steps.{IsSettled}
 use Rattle.sync_store.specs.Commits.{needed}
 use Rattle.sync_store.specs.Ready.{IsReady}
+use Rattle.sync_store.specs.Runs.{AddsBatch}
 use Rattle.sync_store.specs.Store.{StoreValue}
 use Rattle.sync_course.specs.Acts.{commit_acts}
 use Rattle.sync_node.specs.declared.fault.Fault.{Fault}
@@ -75,3 +76,37 @@ abbrev pub SettleStops : Meaning → StoreValue → StoreValue → Outside → O
 SettleStops clients s s' o o' fault.Memory = SettlesBy clients s s' o o'
 SettleStops clients s s' o o' fault.Full = ⊥
 SettleStops clients s s' o o' fault.DiskFault = SettlingBreaks clients s s' o o'
+
+-- ---- a batch that is added beside the sessions
+
+-- nothing was committed, or the batch was and settling behind it
+pub record AddsBy (clients : Meaning) (batch : List Entry) (s s' : StoreValue)
+    (o o' : Outside) : Type 0 where
+  pub more : Journal
+  pub adds : AddsBatch clients s.state.facts batch more
+  pub did : Did clients (commit_acts more) s s' o o'
+  pub ready : IsReady clients s' o'.files
+
+-- it was, and nothing is left to be settled
+pub record Added (clients : Meaning) (batch : List Entry) (s s' : StoreValue)
+    (o o' : Outside) : Type 0 where
+  pub by : AddsBy clients batch s s' o o'
+  pub some : by.more ≢ []
+  pub settled : IsSettled clients s'.state.facts
+
+pub record AddingFull (clients : Meaning) (batch : List Entry) (s s' : StoreValue)
+    (o o' : Outside) : Type 0 where
+  pub idle : StaysIdle clients s s' o o'
+  pub before : s.limit < needed s batch
+
+pub record AddingBreaks (clients : Meaning) (batch : List Entry) (s s' : StoreValue)
+    (o o' : Outside) : Type 0 where
+  pub more : Journal
+  pub adds : AddsBatch clients s.state.facts batch more
+  pub breaks : Breaks clients more s s' o o'
+
+abbrev pub AddStops : Meaning → List Entry → StoreValue → StoreValue → Outside → Outside → Fault
+    → Type 0
+AddStops clients batch s s' o o' fault.Memory = AddsBy clients batch s s' o o'
+AddStops clients batch s s' o o' fault.Full = AddingFull clients batch s s' o o'
+AddStops clients batch s s' o o' fault.DiskFault = AddingBreaks clients batch s s' o o'

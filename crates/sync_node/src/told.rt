@@ -14,7 +14,8 @@ ghost use Rattle.sync_store.specs.Moments.{Leads};
 ghost use Rattle.sync_store.specs.Ready.{IsReady};
 ghost use Rattle.sync_store.specs.Store.{IsStore};
 ghost use Rattle.sync_node.specs.Adding.{AddsAtMost, AddsSettled, AddsWithin, IsPlain};
-ghost use Rattle.sync_node.specs.Batches.{CommitStops, Committed, Settled, SettleStops};
+ghost use Rattle.sync_node.specs.Batches.{Added, AddStops, CommitStops, Committed, Settled};
+ghost use Rattle.sync_node.specs.Batches.{SettleStops};
 ghost use Rattle.sync_node.specs.Cited.{CitedLaws};
 ghost use Rattle.sync_node.specs.Courses.{Adds, AddsSettling, AddsSome, AddsSomeSettling};
 ghost use Rattle.sync_node.specs.Fulls.{IsOver};
@@ -149,6 +150,10 @@ pub(crate) fn add_settled<H: Host, C: Clients>(
     requires ready { IsReady (C.meaning clients.now) store.old (H.tells host.old).files }
     requires allowed { Allowed (C.meaning clients.now) store.old.state.facts batch }
     requires plain { IsPlain batch }
+    ensures went { OnOk result (Added (C.meaning clients.now) batch store.old store.new
+        (H.tells host.old) (H.tells host.new)) }
+    ensures stopped { IfErr result (AddStops (C.meaning clients.now) batch store.old store.new
+        (H.tells host.old) (H.tells host.new)) }
     ensures ready { IfErr result (KeepsReady (C.meaning clients.now) store.new
         (H.tells host.new)) }
     ensures added { OnOk result (AddsSettled (C.meaning clients.now) batch store.old store.new
