@@ -1,6 +1,7 @@
 -- What a node's calls came to, as the node is seen.
 use Rattle.std.proofs.Common.{◌≡◌, ℕ, Bool, List, subst, sym}
 use Rattle.outside.specs.Outside.{Outside}
+use Rattle.sync_rules.specs.declared.entries.Entry.{Entry}
 use Rattle.sync_rules.specs.declared.entries.Session.{Session}
 use Rattle.sync_rules.specs.Clients.{Meaning}
 use Rattle.sync_store.specs.Store.{StoreValue}
@@ -8,6 +9,7 @@ use Rattle.sync_node.specs.declared.fault.Fault.{Fault}
 use Rattle.sync_node.specs.declared.fault.Fault.TheVariants as fault
 use Rattle.sync_node.specs.declared.fault.NodeFault.{NodeFault}
 use Rattle.sync_node.specs.declared.link.Link.{Link}
+use Rattle.sync_node.specs.Batches.{Added, AddStops}
 use Rattle.sync_node.specs.Faults.{fault_of}
 use Rattle.sync_node.specs.Node.{NodeValue}
 use Rattle.sync_node.specs.OnRuns.{AskingStopped, AskingWent, BeginStopped, BeginWent, ByFault, OutsSent, OutsStopped, RoundStopped, RoundWent}
@@ -90,3 +92,19 @@ module _ (clients : Meaning) (s : StoreValue) (first : ℕ) (links : List Link) 
         by_fault (BeginStopped clients y n.links links' n.store s' o o') e answer is_answer
         (subst (λ (m : NodeValue). BeginStopped clients y m.links links' m.store s' o o' e) is
         (subst (λ (z : Session). BeginStopped clients z links links' s s' o o' e) same stopped))
+
+-- a batch that is added
+pub node_added : (clients : Meaning) (s s' : StoreValue) (first : ℕ) (links : List Link)
+    (closed : Bool) (n : NodeValue) (batch : List Entry) (o o' : Outside)
+    → node_of s first links closed ≡ n → Added clients batch s s' o o'
+    → Added clients batch n.store s' o o'
+node_added clients s s' first links closed n batch o o' is added =
+    subst (λ (m : NodeValue). Added clients batch m.store s' o o') is added
+
+pub node_add_stops : (clients : Meaning) (s s' : StoreValue) (first : ℕ) (links : List Link)
+    (closed : Bool) (n : NodeValue) (batch : List Entry) (o o' : Outside) (e : Fault)
+    (answer : NodeFault) → node_of s first links closed ≡ n → answer ≡ fault_of e
+    → AddStops clients batch s s' o o' e → ByFault (AddStops clients batch n.store s' o o') answer
+node_add_stops clients s s' first links closed n batch o o' e answer is is_answer stops =
+    by_fault (AddStops clients batch n.store s' o o') e answer is_answer
+    (subst (λ (m : NodeValue). AddStops clients batch m.store s' o o' e) is stops)

@@ -119,6 +119,7 @@ impl Node {
     ghost use Rattle.sync_node.specs.Courses.{HaltsReceiving, HaltsSending, HaltsTurn};
     ghost use Rattle.sync_node.specs.Courses.{MakesTurn, Receives, SendsDue, is_still};
     ghost use Rattle.sync_node.specs.Node.{IsNode};
+    ghost use Rattle.sync_node.specs.Batches.{Added, AddStops};
     ghost use Rattle.sync_node.specs.OnRuns.{AskingStopped, AskingWent, BeginStopped, BeginWent};
     ghost use Rattle.sync_node.specs.OnRuns.{ByFault, OutsSent};
     ghost use Rattle.sync_node.specs.OnRuns.{OutsStopped, RoundStopped, RoundWent};
@@ -189,6 +190,11 @@ impl Node {
         ensures may { MayRun (C.meaning clients.now) self.new (H.tells host.new) }
         ensures stays { self.old.closed ≡ false → StaysReady (C.meaning clients.now) self.new
             (H.tells host.new) result }
+        ensures went { OnOk result (Added (C.meaning clients.now) batch self.old.store
+            self.new.store (H.tells host.old) (H.tells host.new)) }
+        ensures stopped { self.old.closed ≡ false → IfErr result (ByFault (AddStops
+            (C.meaning clients.now) batch self.old.store self.new.store (H.tells host.old)
+            (H.tells host.new))) }
         ensures node { IsNode self.new }
         ensures joined { OnOk result (KeepsJoined (C.meaning clients.now) self.old self.new
             (H.tells host.old) (H.tells host.new)) }
