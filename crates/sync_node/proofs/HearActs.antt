@@ -190,4 +190,3 @@ hear_nothing clients n l s o closed = record {
         (not_going_end l.end closed);
   };
 }
-

@@ -95,8 +95,7 @@ module _ (clients : Meaning) (n session : ℕ) where
       (paid (record p { facts = after_batches p.facts bs }))
   settle_path first is p its [] takes settling = refl
   settle_path first is p its (b ∷ bs) takes settling =
-      let q : Spot = record p { facts = after_all p.facts b } in
-      (
+      let q : Spot = record p { facts = after_all p.facts b } in (
         paid q,
         step_of first is p q (Commit b)
             (step_at clients n session p q (Commit b) (Takes its) takes (inl (settling.0, refl)))

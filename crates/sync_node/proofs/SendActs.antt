@@ -101,8 +101,7 @@ module _ (clients : Meaning) (n session : ℕ) where
     went = record {
       acts = Does Pass ∷ [];
       path =
-          path_one (LinkActs clients first n) (paid p) (paid (record p { doing = Done })) (Does Pass)
-          (
+          path_one (LinkActs clients first n) (paid p) (paid (record p { doing = Done })) (Does Pass) (
             λ link. refl,
             subst (λ (k : ℕ). LinkStep clients n k p Pass (record p { doing = Done })) is
                 (step_at clients n session p (record p { doing = Done }) Pass (Sends now room) sends
@@ -487,4 +486,3 @@ module _ (clients : Meaning) (n now : ℕ) (l : Link) (s : StoreValue) (o o1 : O
         link_stops_then clients n l.session.number (link_at l' heard) (spot_at doing l heard moved s.state.facts) (spot_at (Sends now MAX_OUTPUTS) l heard moved s.state.facts)
         s s s' o o1 o' e (read_at heard moved doing ready) (sent.stops heard moved (may_end l.end may));
   }
-
