@@ -24,7 +24,7 @@ use Rattle.sync_course.specs.LinkTurns.{Asks, Takes, Waits, Sends, Puts, Done, D
 use Rattle.sync_course.specs.Owing.{ActStep, Owing, paid}
 use Rattle.sync_course.specs.Paths.{Path}
 use Rattle.sync_course.specs.Pending.{pending}
-use Rattle.sync_course.specs.Story.{AllSuitNode, BeginsAsPlanned, FreeActs, IsOfNode, MomentStands, SuitsNode, begun_by, heard_at}
+use Rattle.sync_course.specs.Story.{AllSuitNode, BeginsAsPlanned, FreeActs, MomentStands, SuitsNode, begun_by, heard_at}
 use Rattle.sync_course.specs.Suits.{IsCounted, Suits, heard_in}
 use Rattle.sync_course.proofs.ActLaws.{batches_in-append}
 use Rattle.sync_course.proofs.FreeSound.{IsBegunAt, IsFreeSound, added, first_free_sound, free_moves, free_sound, from_cases, link_step_begun, moves_facts, pending_in}
@@ -99,7 +99,7 @@ module _ (clients : Meaning) (first : ℕ) where
 
 -- ---- which sessions began
 
-settling_begins : (clients : Meaning) (f : Facts) (b : List Entry) → IsSettlingBatch clients f b → begun_by (b ∷ []) ≡ []
+pub settling_begins : (clients : Meaning) (f : Facts) (b : List Entry) → IsSettlingBatch clients f b → begun_by (b ∷ []) ≡ []
 settling_begins clients f [] s = absurd (omega arith)
 settling_begins clients f (e ∷ es) s = none e es (next_is_settling clients f e s.2.0)
   where
@@ -127,7 +127,7 @@ sends_begins : (clients : Meaning) (session now room : ℕ) (b : List Entry) (p 
 sends_begins clients session now zero b p q s = absurd s
 sends_begins clients session now (suc room) b p q s = ap (λ (x : List Entry). begun_by (x ∷ [])) s.is
 
-link_begins : (clients : Meaning) (n session : ℕ) (doing : Doing) (e : Event) (p q : Spot) → StepOf clients n session doing e p q
+pub link_begins : (clients : Meaning) (n session : ℕ) (doing : Doing) (e : Event) (p q : Spot) → StepOf clients n session doing e p q
     → begun_by (batches_of (e ∷ [])) ≡ []
 link_begins clients n session (Takes its) (Commit b) p q s =
     elim s [
@@ -186,7 +186,7 @@ module _ (clients : Meaning) (first : ℕ) where
       (λ h. hold_begins p.hold e p q h)
 
 -- sessions of batches one behind the other
-begun_by-append : (bs cs : List (List Entry)) → begun_by (bs ++ cs) ≡ begun_by bs ++ begun_by cs
+pub begun_by-append : (bs cs : List (List Entry)) → begun_by (bs ++ cs) ≡ begun_by bs ++ begun_by cs
 begun_by-append [] cs = refl
 begun_by-append (b ∷ bs) cs = one b (begun_by-append bs cs)
   where
@@ -200,31 +200,24 @@ module _ (fronts : FrontsHaveFronts) (clients : Meaning) (first : ℕ) (plans : 
   abbrev Fit : Facts → List Event → Type 0
   Fit f es = AllSuitNode clients first plans heard f (batches_of es)
 
-  plain_suits : (f : Facts) (b : List Entry) → IsPlain b → IsOfNode first plans heard f b
-  plain_suits f (entry.Contact c ∷ []) is = tt
-  plain_suits f (entry.Group def ∷ []) is = tt
-  plain_suits f (entry.Level c g l ∷ []) is = tt
-  plain_suits f (entry.Author m ∷ []) is = tt
-  plain_suits f _ is = absurd is
-
   takes_suit : (n : ℕ) (its : List Item) (b : List Entry) (p q : Spot) → TakesNext clients (first + n) its b p q → IsFront p.link.heard (heard n)
       → IsCounted p.facts (first + n) its p.link → SuitsNode clients first plans heard p.facts b
   takes_suit n [] b p q s front c = absurd s
   takes_suit n (item.Skipped place type_byte len ∷ its) b p q s front c = absurd s
   takes_suit n (item.One place r ∷ its) b p q s front c =
       subst (SuitsNode clients first plans heard p.facts) (sym s.0)
-      (inr (subst (Suits clients first [] heard p.facts) s.0 (takes_suits fronts clients first [] heard n (item.One place r ∷ its) b p q s front c)))
+      (inr (inr (subst (Suits clients first [] heard p.facts) s.0 (takes_suits fronts clients first [] heard n (item.One place r ∷ its) b p q s front c))))
 
   sends_suit : (n now room : ℕ) (b : List Entry) (p q : Spot) → SendsNext clients (first + n) now room b p q
       → SuitsNode clients first plans heard p.facts b
   sends_suit n now zero b p q s = absurd s
-  sends_suit n now (suc room) b p q s = subst (SuitsNode clients first plans heard p.facts) (sym s.is) (inr (n, refl))
+  sends_suit n now (suc room) b p q s = subst (SuitsNode clients first plans heard p.facts) (sym s.is) (inr (inr (n, refl)))
 
   link_suit : (n : ℕ) (doing : Doing) (e : Event) (p q : Spot) → StepOf clients n (first + n) doing e p q → IsFront p.link.heard (heard n)
       → IsCounted p.facts (first + n) (pending doing) p.link → Fit p.facts (e ∷ [])
   link_suit n (Takes its) (Commit b) p q s front c =
       elim s [
-        | inl settles ↦ (inl settles.0, tt)
+        | inl settles ↦ (inr (inl settles.0), tt)
         | inr takes ↦ (takes_suit n its b p q takes front c, tt)
       ]
   link_suit n (Sends now room) (Commit b) p q s front c = (sends_suit n now room b p q s, tt)
@@ -245,8 +238,8 @@ module _ (fronts : FrontsHaveFronts) (clients : Meaning) (first : ℕ) (plans : 
   hold_suit Rests (Commit b) p q is t grows s planned =
       elim t [
         | inl adds ↦ elim adds.0 [
-          | inl settles ↦ (inl settles, tt)
-          | inr plain ↦ (inr (plain_suits p.facts b plain.0), tt)
+          | inl settles ↦ (inr (inl settles), tt)
+          | inr plain ↦ (inl plain.0, tt)
         ]
         | inr begins ↦
             let begun : p.facts.begun ≡ first + length p.links =
@@ -256,7 +249,7 @@ module _ (fronts : FrontsHaveFronts) (clients : Meaning) (first : ℕ) (plans : 
               on = begun;
               planned = planned begins.session (ap (λ (x : List Entry). Commit x) begins.is) begun;
             } in
-            (subst (SuitsNode clients first plans heard p.facts) (sym begins.is) (inr begins_so), tt)
+            (subst (SuitsNode clients first plans heard p.facts) (sym begins.is) (inr (inr begins_so)), tt)
       ]
   hold_suit (Begins x) Pass p q is t grows s planned = tt
   hold_suit (Begins x) (Break on) p q is t grows s planned = tt

@@ -43,16 +43,25 @@ pub record BeginsAsPlanned (first : ℕ) (plans : List Session) (f : Facts) (s :
   pub on : f.begun ≡ first + link
   pub planned : slice_get plans link ≡ Some s
 
--- what a node adds beside settling: a plain entry; the session of the next link; the next record heard on a link, taken; or an
--- output of the session of a link. The first link has this session
-abbrev pub IsOfNode : ℕ → List Session → (ℕ → List ℕ) → Facts → List Entry → Type 0
-IsOfNode first plans heard f (entry.Session s ∷ rest) = BeginsAsPlanned first plans f s
-IsOfNode first plans heard f (entry.Take s k ∷ rest) = TakesHeard first heard f s k rest
-IsOfNode first plans heard f (entry.Out s now what ∷ rest) = (link : ℕ) × (s ≡ first + link)
-IsOfNode first plans heard f batch = IsPlain batch
+-- what a run adds beside settling: the session of the next link; the next record heard on a link, taken; or an output of the
+-- session of a link. The first link has this session
+abbrev pub IsOfRun : ℕ → List Session → (ℕ → List ℕ) → Facts → List Entry → Type 0
+IsOfRun first plans heard f (entry.Session s ∷ rest) = BeginsAsPlanned first plans f s
+IsOfRun first plans heard f (entry.Take s k ∷ rest) = TakesHeard first heard f s k rest
+IsOfRun first plans heard f (entry.Out s now what ∷ rest) = (link : ℕ) × (s ≡ first + link)
+IsOfRun first plans heard f _ = ⊥
 
+abbrev pub SuitsPlanned : Meaning → ℕ → List Session → (ℕ → List ℕ) → Facts → List Entry → Type 0
+SuitsPlanned clients first plans heard f batch = IsSettlingBatch clients f batch ⊎ IsOfRun first plans heard f batch
+
+abbrev pub AllSuitPlanned : Meaning → ℕ → List Session → (ℕ → List ℕ) → Facts → List (List Entry) → Type 0
+AllSuitPlanned clients first plans heard f [] = Unit {0}
+AllSuitPlanned clients first plans heard f (b ∷ bs) =
+    SuitsPlanned clients first plans heard f b × AllSuitPlanned clients first plans heard (after_all f b) bs
+
+-- a node adds plain entries too
 abbrev pub SuitsNode : Meaning → ℕ → List Session → (ℕ → List ℕ) → Facts → List Entry → Type 0
-SuitsNode clients first plans heard f batch = IsSettlingBatch clients f batch ⊎ IsOfNode first plans heard f batch
+SuitsNode clients first plans heard f batch = IsPlain batch ⊎ SuitsPlanned clients first plans heard f batch
 
 abbrev pub AllSuitNode : Meaning → ℕ → List Session → (ℕ → List ℕ) → Facts → List (List Entry) → Type 0
 AllSuitNode clients first plans heard f [] = Unit {0}

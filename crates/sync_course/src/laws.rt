@@ -30,8 +30,8 @@ ghost use Rattle.sync_course.specs.Turns.{Broken, Course, first_place, is_over, 
 ghost use Rattle.sync_course.specs.Turns.{RunStep, Terms, with_spot};
 ghost use Rattle.sync_course.specs.Free.{first_free, forget, Free, FreeStep};
 ghost use Rattle.sync_course.specs.Owing.{Owing};
-ghost use Rattle.sync_course.specs.Story.{AllIsSent, begun_by, FreeActs, heard_at, LinkFailed};
-ghost use Rattle.sync_course.specs.Story.{MomentStands};
+ghost use Rattle.sync_course.specs.Story.{AllIsSent, AllSuitPlanned, begun_by, FreeActs};
+ghost use Rattle.sync_course.specs.Story.{heard_at, LinkFailed, MomentStands};
 
 use crate::ends::LinkEnd;
 use record_grammar::{fronts_have_fronts, records_join, streams_go_on};
@@ -91,6 +91,20 @@ pub fn batches_suit()
         (j : List (List Entry)) (events : List Event) (last : Place) → Legal clients j
         → Broken clients terms sessions (facts j) events last
         → AllSuit clients terms.first sessions (heard_on last) (facts j) (batches_of events) }
+{
+    streams_go_on();
+    records_join();
+    fronts_have_fronts();
+}
+
+/// Planned: the same as planned: the session that begins is that of the next link, the k-th of those
+/// that the run was given for the k-th link.
+pub fn batches_suit_as_planned()
+    ensures { (clients : Meaning) (terms : Terms) (sessions : List Session)
+        (j : List (List Entry)) (events : List Event) (last : Place) → Legal clients j
+        → Broken clients terms sessions (facts j) events last
+        → AllSuitPlanned clients terms.first sessions (heard_on last) (facts j)
+        (batches_of events) }
 {
     streams_go_on();
     records_join();

@@ -1,0 +1,228 @@
+-- The batches of a run suit it as planned: its k-th session is the k-th of those it was given, and no plain entry is among them.
+use Rattle.std.proofs.Common.{◌≡◌, ℕ, zero, suc, ◌+◌, Bool, true, false, cond, List, [], ◌∷◌, ◌++◌, append-nil, append_assoc, refl, sym, ◌∙◌, ap, subst, inl, inr, arith, Option, None, Some}
+use Rattle.std.specs.Prelude.{slice_get}
+use Rattle.record_grammar.specs.Laws.{FrontsHaveFronts, RecordsJoin, StreamsGoOn}
+use Rattle.record_grammar.specs.declared.stream.Item.{Item}
+use Rattle.record_grammar.specs.declared.stream.Item.TheVariants as item
+use Rattle.sync_rules.specs.declared.entries.Entry.{Entry}
+use Rattle.sync_rules.specs.declared.entries.Entry.TheVariants as entry
+use Rattle.sync_rules.specs.declared.entries.Session.{Session}
+use Rattle.sync_rules.specs.Clients.{Meaning}
+use Rattle.sync_rules.specs.Facts.{Facts, after_all, facts}
+use Rattle.sync_rules.specs.Growth.{IsFront}
+use Rattle.sync_rules.specs.Legal.{IsSettlingBatch, Legal}
+use Rattle.sync_rules.proofs.Continuing.{front_itself}
+use Rattle.sync_rules.proofs.StepLaws.{IsSettlingEntry, next_is_settling}
+use Rattle.sync_course.specs.Events.{Event, Commit, Hear, Miss, Read, Break, Pass, batches_of}
+use Rattle.sync_course.specs.Free.{Free, FreeStep, IsPlain, first_free, forget}
+use Rattle.sync_course.specs.Links.{Link}
+use Rattle.sync_course.specs.LinkTurns.{Asks, Takes, Waits, Sends, Puts, Done, Doing, SendsNext, Spot, StepOf, TakesNext}
+use Rattle.sync_course.specs.Paths.{Path}
+use Rattle.sync_course.specs.Story.{AllSuitNode, AllSuitPlanned, IsOfRun, begun_by}
+use Rattle.sync_course.specs.Suits.{heard_on}
+use Rattle.sync_course.specs.Turns.{Attaches, Between, Broken, Ended, EndsTurn, GoesToNext, Greets, Place, RunStep, Settles, Stage, StageStep, Terms, TurnStep, Works, first_place, is_at_end, spot_of, turn_ended, with_spot}
+use Rattle.sync_course.proofs.FreeLaws.{run_is_free}
+use Rattle.sync_course.proofs.FreeSound.{IsFreeSound, first_free_sound}
+use Rattle.sync_course.proofs.FreeSuits.{begun_by-append, free_path_suits, link_begins, settling_begins}
+use Rattle.sync_course.proofs.PathLaws.{path_keeps}
+use Rattle.sync_course.proofs.RunLaws.{get_front}
+use Rattle.sync_course.proofs.ToldLaws.{batches_of-append}
+
+-- ---- no plain entry
+
+abbrev pub NonePlain : List (List Entry) → Type 0
+NonePlain [] = Unit {0}
+NonePlain (b ∷ bs) = (IsPlain b → ⊥) × NonePlain bs
+
+none_plain_then : (bs cs : List (List Entry)) → NonePlain bs → NonePlain cs → NonePlain (bs ++ cs)
+none_plain_then [] cs a b = b
+none_plain_then (x ∷ bs) cs a b = (a.0, none_plain_then bs cs a.1 b)
+
+settling_not_plain : (clients : Meaning) (f : Facts) (b : List Entry) → IsSettlingBatch clients f b → IsPlain b → ⊥
+settling_not_plain clients f (entry.Contact c ∷ []) s is = absurd (next_is_settling clients f (entry.Contact c) s.2.0)
+settling_not_plain clients f (entry.Group def ∷ []) s is = absurd (next_is_settling clients f (entry.Group def) s.2.0)
+settling_not_plain clients f (entry.Level c g l ∷ []) s is = absurd (next_is_settling clients f (entry.Level c g l) s.2.0)
+settling_not_plain clients f (entry.Author m ∷ []) s is = absurd (next_is_settling clients f (entry.Author m) s.2.0)
+settling_not_plain clients f _ s is = absurd is
+
+takes_not_plain : (clients : Meaning) (session : ℕ) (its : List Item) (b : List Entry) (p q : Spot) → TakesNext clients session its b p q
+    → IsPlain b → ⊥
+takes_not_plain clients session [] b p q s = absurd s
+takes_not_plain clients session (item.Skipped place type_byte len ∷ its) b p q s = absurd s
+takes_not_plain clients session (item.One place r ∷ its) b p q s = λ is. subst IsPlain s.0 is
+
+sends_not_plain : (clients : Meaning) (session now room : ℕ) (b : List Entry) (p q : Spot) → SendsNext clients session now room b p q
+    → IsPlain b → ⊥
+sends_not_plain clients session now zero b p q s = absurd s
+sends_not_plain clients session now (suc room) b p q s = λ is. subst IsPlain s.is is
+
+link_not_plain : (clients : Meaning) (n session : ℕ) (doing : Doing) (e : Event) (p q : Spot) → StepOf clients n session doing e p q
+    → NonePlain (batches_of (e ∷ []))
+link_not_plain clients n session (Takes its) (Commit b) p q s =
+    elim s [
+      | inl settles ↦ (settling_not_plain clients p.facts b settles.0, tt)
+      | inr takes ↦ (takes_not_plain clients session its b p q takes, tt)
+    ]
+link_not_plain clients n session (Sends now room) (Commit b) p q s = (sends_not_plain clients session now room b p q s, tt)
+link_not_plain clients n session Asks (Commit b) p q s = absurd s
+link_not_plain clients n session Waits (Commit b) p q s = absurd s
+link_not_plain clients n session (Puts now room) (Commit b) p q s = absurd s
+link_not_plain clients n session Done (Commit b) p q s = absurd s
+link_not_plain clients n session doing (Hear on reply) p q s = tt
+link_not_plain clients n session doing (Miss on) p q s = tt
+link_not_plain clients n session doing (Read on now) p q s = tt
+link_not_plain clients n session doing (Break on) p q s = tt
+link_not_plain clients n session doing Pass p q s = tt
+
+-- ---- the sessions that began are the first of those given
+
+abbrev pub BegunFirst : List Session → List (List Entry) → Stage → Type 0
+BegunFirst sessions done (Settles left) = sessions ≡ begun_by done ++ left
+BegunFirst sessions done (Attaches left) = sessions ≡ begun_by done ++ left
+BegunFirst sessions done (Greets s left) = sessions ≡ begun_by done ++ left
+BegunFirst sessions done _ = IsFront (begun_by done) sessions
+
+module _ (clients : Meaning) (terms : Terms) (sessions : List Session) where
+  -- what a step adds, and where it leads
+  pub record StepPlans (done : List (List Entry)) (e : Event) (q : Place) : Type 0 where
+    pub none_plain : NonePlain (batches_of (e ∷ []))
+    pub begun : BegunFirst sessions (done ++ batches_of (e ∷ [])) q.stage
+
+  -- no session began
+  plans_same : (done : List (List Entry)) (e : Event) (p q : Place) → q ≡ p → NonePlain (batches_of (e ∷ [])) → begun_by (batches_of (e ∷ [])) ≡ []
+      → BegunFirst sessions done p.stage → StepPlans done e q
+  plans_same done e p q same plain none begun =
+      let list : begun_by (done ++ batches_of (e ∷ [])) ≡ begun_by done =
+      begun_by-append done (batches_of (e ∷ []))
+      ∙ ap (λ (l : List Session). begun_by done ++ l) none
+      ∙ append-nil (begun_by done) in
+      record {
+        none_plain = plain;
+        begun = subst (λ (x : Place). BegunFirst sessions (done ++ batches_of (e ∷ [])) x.stage) (sym same) (moved p.stage list begun);
+      }
+    where
+      moved : (stage : Stage) → begun_by (done ++ batches_of (e ∷ [])) ≡ begun_by done → BegunFirst sessions done stage
+          → BegunFirst sessions (done ++ batches_of (e ∷ [])) stage
+      moved (Settles left) list b = b ∙ ap (λ (l : List Session). l ++ left) (sym list)
+      moved (Attaches left) list b = b ∙ ap (λ (l : List Session). l ++ left) (sym list)
+      moved (Greets s left) list b = b ∙ ap (λ (l : List Session). l ++ left) (sym list)
+      moved Between list b = subst (λ (l : List Session). IsFront l sessions) (sym list) b
+      moved (Works n doing) list b = subst (λ (l : List Session). IsFront l sessions) (sym list) b
+      moved Ended list b = subst (λ (l : List Session). IsFront l sessions) (sym list) b
+
+  turn_plans : (done : List (List Entry)) (n : ℕ) (doing : Doing) (o : Option Link) (e : Event) (p q : Place)
+      → TurnStep clients terms n doing o e p q → IsFront (begun_by done) sessions → StepPlans done e q
+  turn_plans done n doing None e p q t b = ends doing e t
+    where
+      ends : (d : Doing) (e : Event) → EndsTurn d e p q → StepPlans done e q
+      ends Asks Pass t = plans_same done Pass (turn_ended p) q t tt refl b
+      ends _ _ t = absurd t
+  turn_plans done n doing (Some link) e p q t b =
+      elim t [
+        | inl works ↦
+            plans_same done e (with_spot n works.spot p) q works.leads
+            (link_not_plain clients n (terms.first + n) doing e (spot_of doing link p) works.spot works.steps)
+            (link_begins clients n (terms.first + n) doing e (spot_of doing link p) works.spot works.steps) b
+        | inr next ↦ goes doing e next
+      ]
+    where
+      goes : (d : Doing) (e : Event) → GoesToNext n d e p q → StepPlans done e q
+      goes Done Pass t = plans_same done Pass (record p { stage = Works (suc n) Asks }) q t tt refl b
+      goes _ _ t = absurd t
+
+  between_plans : (done : List (List Entry)) (p q : Place) (t : Bool)
+      → q ≡ cond t (record p { stage = Ended }) (record p { stage = Works 0 Asks; moved = false }) → IsFront (begun_by done) sessions
+      → StepPlans done Pass q
+  between_plans done p q true is b = plans_same done Pass (record p { stage = Ended }) q is tt refl b
+  between_plans done p q false is b = plans_same done Pass (record p { stage = Works 0 Asks; moved = false }) q is tt refl b
+
+  stage_plans : (done : List (List Entry)) (stage : Stage) (e : Event) (p q : Place) → p.stage ≡ stage → StageStep clients terms stage e p q
+      → BegunFirst sessions done stage → StepPlans done e q
+  stage_plans done (Settles left) (Commit b) p q is t begun =
+      plans_same done (Commit b) (record p { facts = after_all p.facts b }) q t.1 (settling_not_plain clients p.facts b t.0, tt)
+      (settling_begins clients p.facts b t.0) (subst (BegunFirst sessions done) (sym is) begun)
+  stage_plans done (Settles left) Pass p q is t begun = plans_same done Pass (record p { stage = Attaches left }) q t.1 tt refl begun
+  stage_plans done (Attaches (x ∷ left)) (Commit b) p q is t begun = record {
+    none_plain = (λ plain. subst IsPlain t.0 plain, tt);
+    begun =
+        subst (λ (y : Place). BegunFirst sessions (done ++ b ∷ []) y.stage) (sym t.2)
+        (begun
+        ∙ sym (append_assoc (begun_by done) (x ∷ []) left)
+        ∙ ap (λ (l : List Session). l ++ left)
+        (sym (ap (λ (y : List Entry). begun_by (done ++ y ∷ [])) t.0 ∙ begun_by-append done ((entry.Session x ∷ []) ∷ []))));
+  }
+  stage_plans done (Attaches []) Pass p q is t begun =
+      plans_same done Pass (record p { stage = Between }) q t tt refl (record { more = []; goes_on = begun })
+  stage_plans done (Greets x left) Pass p q is t begun = plans_same done Pass _ q t tt refl begun
+  stage_plans done (Greets x left) (Break on) p q is t begun = plans_same done (Break on) _ q t.1 tt refl begun
+  stage_plans done Between Pass p q is t begun = between_plans done p q (is_at_end terms p) t begun
+  stage_plans done (Works n doing) e p q is t begun = turn_plans done n doing (slice_get p.links n) e p q t begun
+  stage_plans done _ _ p q is t begun = absurd t
+
+  -- what every place of a run keeps
+  pub record KeepsPlans (before : List Event) (p : Place) : Type 0 where
+    pub none_plain : NonePlain (batches_of before)
+    pub begun : BegunFirst sessions (batches_of before) p.stage
+
+  plans_step : (before : List Event) (p q : Place) (e : Event) → KeepsPlans before p → RunStep clients terms p e q
+      → KeepsPlans (before ++ e ∷ []) q
+  plans_step before p q e k t =
+      let s = stage_plans (batches_of before) p.stage e p q refl t k.begun in
+      let parts : batches_of (before ++ e ∷ []) ≡ batches_of before ++ batches_of (e ∷ []) = batches_of-append before (e ∷ []) in
+      record {
+        none_plain =
+            subst NonePlain (sym parts) (none_plain_then (batches_of before) (batches_of (e ∷ [])) k.none_plain s.none_plain);
+        begun = subst (λ (bs : List (List Entry)). BegunFirst sessions bs q.stage) (sym parts) s.begun;
+      }
+
+  pub path_plans : (f : Facts) (q : Place) (es : List Event) → Path (RunStep clients terms) (first_place sessions f) es q → KeepsPlans es q
+  path_plans f q es path =
+      path_keeps (RunStep clients terms) KeepsPlans plans_step [] es (first_place sessions f) q
+      (record { none_plain = tt; begun = refl }) path
+
+begun_front : (sessions : List Session) (done : List (List Entry)) (stage : Stage) → BegunFirst sessions done stage
+    → IsFront (begun_by done) sessions
+begun_front sessions done (Settles left) b = record { more = left; goes_on = b }
+begun_front sessions done (Attaches left) b = record { more = left; goes_on = b }
+begun_front sessions done (Greets s left) b = record { more = left; goes_on = b }
+begun_front sessions done Between b = b
+begun_front sessions done (Works n doing) b = b
+begun_front sessions done Ended b = b
+
+-- ---- as planned
+
+module _ (clients : Meaning) (first : ℕ) (begun plans : List Session) (front : IsFront begun plans) (heard : ℕ → List ℕ) where
+  one_planned : (f : Facts) (b : List Entry) → IsOfRun first begun heard f b → IsOfRun first plans heard f b
+  one_planned f (entry.Session s ∷ rest) is = record {
+    link = is.link;
+    on = is.on;
+    planned =
+        subst (λ (l : List Session). slice_get l is.link ≡ Some s) (sym front.goes_on) (get_front begun front.more is.link s is.planned);
+  }
+  one_planned f (entry.Take s k ∷ rest) is = is
+  one_planned f (entry.Out s now what ∷ rest) is = is
+  one_planned f _ is = absurd is
+
+  all_planned : (f : Facts) (bs : List (List Entry)) → AllSuitNode clients first begun heard f bs → NonePlain bs
+      → AllSuitPlanned clients first plans heard f bs
+  all_planned f [] suits none = tt
+  all_planned f (b ∷ bs) suits none =
+      (elim suits.0 [
+        | inl plain ↦ absurd (none.0 plain)
+        | inr planned ↦ elim planned [ | inl settles ↦ inl settles | inr of_run ↦ inr (one_planned f b of_run) ]
+      ], all_planned (after_all f b) bs suits.1 none.1)
+
+pub run_suits : StreamsGoOn → RecordsJoin → FrontsHaveFronts → (clients : Meaning) (terms : Terms) (sessions : List Session)
+    (j : List (List Entry)) (events : List Event) (last : Place) → Legal clients j → Broken clients terms sessions (facts j) events last
+    → AllSuitPlanned clients terms.first sessions (heard_on last) (facts j) (batches_of events)
+run_suits go_on join fronts clients terms sessions j events last legal broken =
+    let plans = path_plans clients terms sessions (facts j) last events broken.path in
+    let start : Place = first_place sessions (facts j) in
+    let free : Path (FreeStep clients terms.first) (first_free (facts j)) events (forget last) =
+    run_is_free clients terms start last events broken.path in
+    let suits : AllSuitNode clients terms.first (begun_by (batches_of events)) (heard_on last) (facts j) (batches_of events) =
+    free_path_suits go_on join fronts clients terms.first (heard_on last) [] (first_free (facts j)) (forget last) events free
+    (λ i. front_itself (heard_on last i)) (subst (λ (k : ℕ). IsFreeSound clients k (first_free (facts j))) (sym broken.numbered) (first_free_sound clients j legal))
+    (let a : terms.first ≡ (facts j).begun = broken.numbered in let e : (facts j).begun ≡ terms.first + 0 = omega (arith, a) in e) in
+    all_planned clients terms.first (begun_by (batches_of events)) sessions
+    (begun_front sessions (batches_of events) last.stage plans.begun) (heard_on last) (facts j) (batches_of events) suits plans.none_plain
